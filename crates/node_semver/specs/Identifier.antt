@@ -1,0 +1,13 @@
+-- What a contract sees of an identifier.
+use Rattle.std.specs.Prelude.{ℕ, List, map, string_bytes}
+use Rattle.node_semver.specs.IdentifierValue.{IdentifierValue, numeric, alphanumeric}
+use Rattle.node_semver.specs.declared.identifier.Identifier.{Identifier}
+use Rattle.node_semver.specs.declared.identifier.Identifier.TheVariants.{Numeric, AlphaNumeric}
+
+-- an identifier without where it lies in memory
+abbrev pub value_of : Identifier → IdentifierValue
+value_of (Numeric n) = numeric n
+value_of (AlphaNumeric text) = alphanumeric (string_bytes text)
+
+abbrev pub values_of : List Identifier → List IdentifierValue
+values_of identifiers = map value_of identifiers

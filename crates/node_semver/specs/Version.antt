@@ -1,0 +1,21 @@
+-- Versions as values: SemVer 2.0.0, sections 2, 9 and 10.
+use Rattle.std.specs.Prelude.{ℕ, List, [], ◌≡◌, ◌≢◌}
+use Rattle.node_semver.specs.IdentifierValue.{IdentifierValue}
+
+-- a triple, a prerelease and a build
+pub record VersionValue : Type 0 where
+  pub major : ℕ
+  pub minor : ℕ
+  pub patch : ℕ
+  pub pre_release : List IdentifierValue
+  pub build : List IdentifierValue
+
+-- a version with prerelease identifiers; every other version is a release
+abbrev pub IsPrerelease : VersionValue → Type 0
+IsPrerelease v = v.pre_release ≢ []
+
+-- the two have one major, minor and patch
+pub record HasSameTriple (v w : VersionValue) : Type 0 where
+  pub major : v.major ≡ w.major
+  pub minor : v.minor ≡ w.minor
+  pub patch : v.patch ≡ w.patch

@@ -1,0 +1,6 @@
+//! Cuts of any total order: the places in a line of values.
+#![tactic(auto)]
+
+mod cut;
+
+pub use cut::Cut;

@@ -1,3 +1,11 @@
+pub mod Characters
+pub mod ComparatorText
+pub mod Division
 pub mod Identifier
+pub mod IdentifierText
 pub mod IdentifierValue
+pub mod Meaning
+pub mod NumberText
+pub mod Order
 pub mod Version
+pub mod VersionText

@@ -1,0 +1,59 @@
+-- What a written range means: npm's "Ranges" and "Prerelease Tags".
+use Rattle.std.specs.Prelude.{◌≡◌, ◌≢◌, ◌⊎◌, ℕ, List, [], ◌∷◌}
+use Rattle.std.specs.List.{AllByRecursion}
+use Rattle.semver_cuts.specs.declared.cut.Cut.{Cut}
+use Rattle.semver_cuts.specs.declared.cut.Cut.TheVariants.{Start, Before, After, End}
+use Rattle.semver_cuts.specs.Ends.{Ends, IsInSpan}
+use Rattle.node_semver.specs.ComparatorText.{Comparator}
+use Rattle.node_semver.specs.Division.{IsWritten}
+use Rattle.node_semver.specs.Order.{version_cmp}
+use Rattle.node_semver.specs.Version.{HasSameTriple, IsPrerelease, VersionValue}
+
+-- some element is so
+abbrev pub AnyByRecursion : {X : Type 0} → (X → Type 0) → List X → Type 0
+AnyByRecursion P [] = ⊥
+AnyByRecursion P (x ∷ xs) = P x ⊎ AnyByRecursion P xs
+
+-- a cut lies in a comparator
+abbrev pub Holds : Cut VersionValue → Comparator → Type 0
+Holds cut comparator = IsInSpan version_cmp comparator cut
+
+-- a version lies inside a comparator where the cut before it does
+abbrev pub IsInside : VersionValue → Comparator → Type 0
+IsInside v comparator = Holds (Before v) comparator
+
+-- the cut is before or after a prerelease of the version's triple: `>=1.2.3-rc.4` opens 1.2.3
+abbrev pub Opens : Cut VersionValue → VersionValue → Type 0
+Opens Start v = ⊥
+Opens (Before p) v = IsPrerelease p × HasSameTriple p v
+Opens (After p) v = IsPrerelease p × HasSameTriple p v
+Opens End v = ⊥
+
+-- an end of the comparator opens the version's triple
+abbrev pub HasOpenEnd : VersionValue → Comparator → Type 0
+HasOpenEnd v comparator = Opens comparator.lower v ⊎ Opens comparator.upper v
+
+-- the version lies inside all of the comparators and, if it is a prerelease, an end of one of them opens its triple
+pub record Admit (comparators : List Comparator) (v : VersionValue) : Type 0 where
+  pub inside : AllByRecursion (IsInside v) comparators
+  pub opened : IsPrerelease v → AnyByRecursion (HasOpenEnd v) comparators
+
+-- there are no comparators, or no cut is common to all of them
+abbrev pub AreVoid : List Comparator → Type 0
+AreVoid comparators = (comparators ≡ []) ⊎ ¬ ((cut : Cut VersionValue) × AllByRecursion (Holds cut) comparators)
+
+-- no alternative has a comparator and a cut common to all its comparators
+pub record IsRefused (text : List ℕ) : Type 0 where
+  pub alternatives : List (List Comparator)
+  pub written : IsWritten text alternatives
+  pub void : AllByRecursion AreVoid alternatives
+
+-- in some alternative with a comparator, its comparators admit the version
+pub record TextAdmits (text : List ℕ) (v : VersionValue) : Type 0 where
+  pub alternatives : List (List Comparator)
+  pub written : IsWritten text alternatives
+  pub admitted : AnyByRecursion (λ comparators. (comparators ≢ []) × Admit comparators v) alternatives
+
+-- what a range is seen as, a list of comparators, admits a version
+abbrev pub RangeAdmits : List Comparator → VersionValue → Type 0
+RangeAdmits comparators v = Admit comparators v

@@ -1,3 +1,4 @@
 pub mod Identifier
 pub mod IdentifierValue
 pub mod Version
+pub mod Error

@@ -1,11 +1,13 @@
 pub mod Characters
 pub mod ComparatorText
 pub mod Division
+pub mod Error
 pub mod Identifier
 pub mod IdentifierText
 pub mod IdentifierValue
 pub mod Meaning
 pub mod NumberText
 pub mod Order
+pub mod Reading
 pub mod Version
 pub mod VersionText

@@ -1,0 +1,46 @@
+-- What a contract sees of an error: its kind, the text that was parsed, and where the fault is.
+use Rattle.std.specs.Prelude.{◌≡◌, ℕ, List, [], string_bytes}
+use Rattle.node_semver.specs.declared.error.SemverErrorKind.{SemverErrorKind}
+use Rattle.node_semver.specs.declared.error.SemverErrorKind.TheVariants.{MaxLengthError, IncompleteInput, ParseIntError, MaxIntError, Context, NoValidRanges, Other, OutOfMemory}
+use Rattle.node_semver.specs.declared.error.SemverError.{SemverError}
+
+-- a kind as a value: the number of `MaxIntError`, the word of `Context` by its bytes
+pub data Kind : Type 0 where
+  max_length : Kind
+  incomplete : Kind
+  parse_int : Kind
+  max_int : ℕ → Kind
+  context : List ℕ → Kind
+  no_valid_ranges : Kind
+  other : Kind
+  out_of_memory : Kind
+
+-- a kind without where its word lies in memory
+abbrev pub kind_of : SemverErrorKind → Kind
+kind_of MaxLengthError = max_length
+kind_of IncompleteInput = incomplete
+kind_of (ParseIntError fault) = parse_int
+kind_of (MaxIntError value) = max_int value
+kind_of (Context word) = context word.now
+kind_of NoValidRanges = no_valid_ranges
+kind_of Other = other
+kind_of OutOfMemory = out_of_memory
+
+-- the text that was parsed, the byte offset of the fault from 0, the length of the span, and the kind
+pub record Refusal : Type 0 where
+  pub input : List ℕ
+  pub offset : ℕ
+  pub length : ℕ
+  pub kind : Kind
+
+-- an error as a value
+abbrev pub refusal_of : SemverError → Refusal
+refusal_of e = record { input = string_bytes e.input; offset = e.span.offset; length = e.span.length; kind = kind_of e.kind }
+
+-- e is the refusal of this text at this offset, with an empty span
+abbrev pub IsRefusalAt : List ℕ → Kind → ℕ → SemverError → Type 0
+IsRefusalAt text kind offset e = refusal_of e ≡ record { input = text; offset = offset; length = 0; kind = kind }
+
+-- e says that memory was refused: no text, offset 0
+abbrev pub IsOutOfMemory : SemverError → Type 0
+IsOutOfMemory e = IsRefusalAt [] out_of_memory 0 e

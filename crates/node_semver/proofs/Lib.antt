@@ -1,0 +1,4 @@
+pub mod Fronts
+pub mod NumberReading
+pub mod IdentifierReading
+pub mod VersionReading

@@ -1,2 +1,3 @@
 pub mod Cut
+pub mod CutLaws
 pub mod Ends

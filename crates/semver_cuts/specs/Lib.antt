@@ -1,3 +1,6 @@
+pub mod Common
+pub mod CommonLaws
 pub mod Cut
 pub mod CutLaws
 pub mod Ends
+pub mod EndsLaws

@@ -60,3 +60,6 @@ impl<T: Ord> Ord for Cut<T> {
         }
     }
 }
+
+#[cfg(test)]
+mod tests;

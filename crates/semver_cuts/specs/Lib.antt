@@ -1,2 +1,7 @@
+pub mod Common
+pub mod CommonLaws
 pub mod Cut
+pub mod CutLaws
+pub mod CutPlaces
 pub mod Ends
+pub mod EndsLaws

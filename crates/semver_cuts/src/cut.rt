@@ -1,3 +1,11 @@
+ghost use Rattle.std.specs.Cmp.{partial_equiv_from_equiv, eq_by_cmp_equiv, partial_order_from_total};
+ghost use Rattle.std.specs.Ordering.{eq_by_cmp, as_partial_cmp};
+ghost use Rattle.std.proofs.Common.{refl};
+ghost use Rattle.semver_cuts.specs.Cut.{cut_cmp};
+ghost use Rattle.semver_cuts.specs.CutLaws.{cut_total};
+
+use std::cmp::Ordering;
+
 /// A place in the line of the values of `T`: before all of them, just before one, just after one, or after all.
 #[derive(Debug, Drop)]
 pub enum Cut<T: Ord> {
@@ -6,3 +14,52 @@ pub enum Cut<T: Ord> {
     After(T),
     End,
 }
+
+impl<T: Ord> PartialEq for Cut<T> {
+    ghost eq = { eq_by_cmp (cut_cmp T.cmp) };
+
+    ghost laws = { partial_equiv_from_equiv (eq_by_cmp_equiv (cut_total T.total)) };
+
+    fn eq(&self, other: &Cut<T>) -> bool {
+        self.cmp(other).is_eq()
+    }
+}
+
+impl<T: Ord> Eq for Cut<T> {
+    ghost laws = { eq_by_cmp_equiv (cut_total T.total) };
+}
+
+impl<T: Ord> PartialOrd for Cut<T> {
+    ghost partial_cmp = { as_partial_cmp (cut_cmp T.cmp) };
+
+    ghost laws = { partial_order_from_total (cut_total T.total) };
+
+    fn partial_cmp(&self, other: &Cut<T>) -> Option<Ordering> {
+        Some(self.cmp(other))
+    }
+}
+
+impl<T: Ord> Ord for Cut<T> {
+    ghost cmp = { cut_cmp T.cmp };
+
+    ghost total = { cut_total T.total };
+
+    ghost matches_partial_cmp = { λ c d. refl };
+
+    ghost matches_eq = { λ c d. refl };
+
+    #[inline]
+    fn cmp(&self, other: &Cut<T>) -> Ordering {
+        match (self, other) {
+            (Cut::Before(v), Cut::Before(w)) | (Cut::After(v), Cut::After(w)) => v.cmp(w),
+            (Cut::Before(v), Cut::After(w)) => v.cmp(w).then(Ordering::Less),
+            (Cut::After(v), Cut::Before(w)) => v.cmp(w).then(Ordering::Greater),
+            (Cut::Start, Cut::Start) | (Cut::End, Cut::End) => Ordering::Equal,
+            (Cut::Start, _) | (_, Cut::End) => Ordering::Less,
+            (_, Cut::Start) | (Cut::End, _) => Ordering::Greater,
+        }
+    }
+}
+
+#[cfg(test)]
+mod tests;

@@ -2,5 +2,6 @@
 #![tactic(auto)]
 
 mod cut;
+pub mod laws;
 
 pub use cut::Cut;

@@ -1,0 +1,129 @@
+-- What follows for cuts and their comparisons wherever the order of the values is total.
+use Rattle.std.specs.Prelude.{◌≡◌, ◌⊎◌, refl, true, false}
+use mathlib.Core.Path.{sym, ap, ◌∙◌}
+use mathlib.Core.Logic.{inl, inr}
+use mathlib.Core.Bool.{true≢false}
+use Rattle.std.specs.declared.cmp.Ordering.{Ordering}
+use Rattle.std.specs.declared.cmp.Ordering.TheVariants.{Less, Equal, Greater}
+use Rattle.std.specs.Ordering.{is_lt, is_le, ordering_reverse}
+use Rattle.std.specs.Cmp.{IsTotalOrder, tied_itself, tied_back, alike_right}
+use Rattle.semver_cuts.specs.declared.cut.Cut.{Cut}
+use Rattle.semver_cuts.specs.Cut.{cut_cmp}
+use Rattle.semver_cuts.specs.CutLaws.{cut_total}
+use Rattle.semver_cuts.specs.Ends.{IsCutBelow, IsCutAtMost}
+
+less≢equal : (r : Ordering) → r ≡ Less → r ≡ Equal → ⊥
+less≢equal r p q = true≢false (ap is_lt (sym p ∙ q))
+
+less≢greater : (r : Ordering) → r ≡ Less → r ≡ Greater → ⊥
+less≢greater r p q = true≢false (ap is_lt (sym p ∙ q))
+
+module _ {T : Type 0} {cmp : T → T → Ordering} (o : IsTotalOrder cmp) where
+  -- a cut is the same cut as itself
+  pub cut_cmp-refl : (c : Cut T) → cut_cmp cmp c c ≡ Equal
+  cut_cmp-refl c = tied_itself (cut_total o) c
+
+  -- the comparison the other way round
+  pub cut_cmp-reverse : (c d : Cut T) → cut_cmp cmp c d ≡ ordering_reverse (cut_cmp cmp d c)
+  cut_cmp-reverse c d = (cut_total o).antisymm c d
+
+  -- the same cut either way round
+  pub cut_cmp-equal_back : (c d : Cut T) → cut_cmp cmp c d ≡ Equal → cut_cmp cmp d c ≡ Equal
+  cut_cmp-equal_back c d p = tied_back (cut_total o) c d p
+
+  -- the same cut on the left compares alike
+  pub cut_cmp-equal_left : (c d e : Cut T) → cut_cmp cmp c d ≡ Equal → cut_cmp cmp c e ≡ cut_cmp cmp d e
+  cut_cmp-equal_left c d e p = (cut_total o).congr c d e p
+
+  -- the same cut on the right compares alike
+  pub cut_cmp-equal_right : (c d e : Cut T) → cut_cmp cmp c d ≡ Equal → cut_cmp cmp e c ≡ cut_cmp cmp e d
+  cut_cmp-equal_right c d e p = alike_right (cut_total o) c d e p
+
+  -- greater is less the other way round
+  pub below-from_greater : (c d : Cut T) → cut_cmp cmp c d ≡ Greater → IsCutBelow cmp d c
+  below-from_greater c d p = cut_cmp-reverse d c ∙ ap ordering_reverse p
+
+  -- and less is greater
+  pub greater-from_below : (c d : Cut T) → IsCutBelow cmp d c → cut_cmp cmp c d ≡ Greater
+  greater-from_below c d p = cut_cmp-reverse c d ∙ ap ordering_reverse p
+
+  -- no cut is below itself
+  pub below_irrefl : (c : Cut T) → ¬ (IsCutBelow cmp c c)
+  below_irrefl c p = less≢equal (cut_cmp cmp c c) p (cut_cmp-refl c)
+
+  pub below_trans : (c d e : Cut T) → IsCutBelow cmp c d → IsCutBelow cmp d e → IsCutBelow cmp c e
+  below_trans c d e p q = (cut_total o).trans c d e p q
+
+  pub at_most_refl : (c : Cut T) → IsCutAtMost cmp c c
+  at_most_refl c = inr (cut_cmp-refl c)
+
+  pub below-at_most : (c d e : Cut T) → IsCutBelow cmp c d → IsCutAtMost cmp d e → IsCutBelow cmp c e
+  below-at_most c d e p (inl q) = below_trans c d e p q
+  below-at_most c d e p (inr q) = sym (cut_cmp-equal_right d e c q) ∙ p
+
+  pub at_most-below : (c d e : Cut T) → IsCutAtMost cmp c d → IsCutBelow cmp d e → IsCutBelow cmp c e
+  at_most-below c d e (inl p) q = below_trans c d e p q
+  at_most-below c d e (inr p) q = cut_cmp-equal_left c d e p ∙ q
+
+  pub at_most_trans : (c d e : Cut T) → IsCutAtMost cmp c d → IsCutAtMost cmp d e → IsCutAtMost cmp c e
+  at_most_trans c d e (inl p) q = inl (below-at_most c d e p q)
+  at_most_trans c d e (inr p) (inl q) = inl (cut_cmp-equal_left c d e p ∙ q)
+  at_most_trans c d e (inr p) (inr q) = inr (cut_cmp-equal_left c d e p ∙ q)
+
+  either_by : (c d : Cut T) (r : Ordering) → cut_cmp cmp c d ≡ r → IsCutAtMost cmp c d ⊎ IsCutBelow cmp d c
+  either_by c d Less p = inl (inl p)
+  either_by c d Equal p = inl (inr p)
+  either_by c d Greater p = inr (below-from_greater c d p)
+
+  -- any two cuts compare
+  pub at_most-or-below : (c d : Cut T) → IsCutAtMost cmp c d ⊎ IsCutBelow cmp d c
+  at_most-or-below c d = either_by c d (cut_cmp cmp c d) refl
+
+  -- and only one way
+  pub below-not-at_most : (c d : Cut T) → IsCutBelow cmp c d → ¬ (IsCutAtMost cmp d c)
+  below-not-at_most c d p q = below_irrefl c (below-at_most c d c p q)
+
+  not_below_by : (c d : Cut T) (r : Ordering) → cut_cmp cmp c d ≡ r → is_lt r ≡ false → IsCutAtMost cmp d c
+  not_below_by c d Less p h = absurd (true≢false h)
+  not_below_by c d Equal p h = inr (cut_cmp-equal_back c d p)
+  not_below_by c d Greater p h = inl (below-from_greater c d p)
+
+  -- what the test `c < d` says where it fails
+  pub at_most-from_not_lt : (c d : Cut T) → is_lt (cut_cmp cmp c d) ≡ false → IsCutAtMost cmp d c
+  at_most-from_not_lt c d h = not_below_by c d (cut_cmp cmp c d) refl h
+
+  not_at_most_by : (c d : Cut T) (r : Ordering) → cut_cmp cmp c d ≡ r → is_le r ≡ false → IsCutBelow cmp d c
+  not_at_most_by c d Less p h = absurd (true≢false h)
+  not_at_most_by c d Equal p h = absurd (true≢false h)
+  not_at_most_by c d Greater p h = below-from_greater c d p
+
+  -- what the test `c <= d` says where it fails
+  pub below-from_not_le : (c d : Cut T) → is_le (cut_cmp cmp c d) ≡ false → IsCutBelow cmp d c
+  below-from_not_le c d h = not_at_most_by c d (cut_cmp cmp c d) refl h
+
+module _ {T : Type 0} (cmp : T → T → Ordering) where
+  below_by : (r : Ordering) → is_lt r ≡ true → r ≡ Less
+  below_by Less h = refl
+  below_by Equal h = absurd (true≢false (sym h))
+  below_by Greater h = absurd (true≢false (sym h))
+
+  -- what the test `c < d` says where it holds
+  pub below-from_lt : (c d : Cut T) → is_lt (cut_cmp cmp c d) ≡ true → IsCutBelow cmp c d
+  below-from_lt c d h = below_by (cut_cmp cmp c d) h
+
+  at_most_by : (r : Ordering) → is_le r ≡ true → (r ≡ Less) ⊎ (r ≡ Equal)
+  at_most_by Less h = inl refl
+  at_most_by Equal h = inr refl
+  at_most_by Greater h = absurd (true≢false (sym h))
+
+  -- what the test `c <= d` says where it holds
+  pub at_most-from_le : (c d : Cut T) → is_le (cut_cmp cmp c d) ≡ true → IsCutAtMost cmp c d
+  at_most-from_le c d h = at_most_by (cut_cmp cmp c d) h
+
+  -- and what the test answers where the fact holds
+  pub lt-from_below : (c d : Cut T) → IsCutBelow cmp c d → is_lt (cut_cmp cmp c d) ≡ true
+  lt-from_below c d p = ap is_lt p
+
+  pub le-from_at_most : (c d : Cut T) → IsCutAtMost cmp c d → is_le (cut_cmp cmp c d) ≡ true
+  le-from_at_most c d (inl p) = ap is_le p
+  le-from_at_most c d (inr p) = ap is_le p

@@ -1,3 +1,5 @@
 pub mod Identifier
 pub mod IdentifierValue
+pub mod Order
+pub mod OrderLaws
 pub mod Version

@@ -1,6 +1,7 @@
 ghost use Rattle.std.specs.Prelude.{◌≡◌, ◌↔◌, IsTrue};
 ghost use Rattle.node_semver.specs.Version.{IsPrerelease, release};
 
+mod copy;
 mod order;
 
 use crate::Identifier;

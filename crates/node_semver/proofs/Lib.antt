@@ -2,3 +2,4 @@ pub mod Fronts
 pub mod NumberReading
 pub mod IdentifierReading
 pub mod VersionReading
+mod Prereleases

@@ -1,5 +1,5 @@
 -- What a contract sees of an identifier.
-use Rattle.std.specs.Prelude.{ℕ, List, map, string_bytes}
+use Rattle.std.specs.Prelude.{List, map, string_bytes}
 use Rattle.node_semver.specs.IdentifierValue.{IdentifierValue, numeric, alphanumeric}
 use Rattle.node_semver.specs.declared.identifier.Identifier.{Identifier}
 use Rattle.node_semver.specs.declared.identifier.Identifier.TheVariants.{Numeric, AlphaNumeric}

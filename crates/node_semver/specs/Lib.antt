@@ -9,5 +9,7 @@ pub mod Meaning
 pub mod NumberText
 pub mod Order
 pub mod Reading
+pub mod Order
+pub mod OrderLaws
 pub mod Version
 pub mod VersionText

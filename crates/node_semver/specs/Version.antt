@@ -19,3 +19,11 @@ pub record HasSameTriple (v w : VersionValue) : Type 0 where
   pub major : v.major ≡ w.major
   pub minor : v.minor ≡ w.minor
   pub patch : v.patch ≡ w.patch
+
+-- the release with this triple, and no build
+abbrev pub release : ℕ → ℕ → ℕ → VersionValue
+release m n p = record { major = m; minor = n; patch = p; pre_release = []; build = [] }
+
+-- the same version with no build: `1.2.3-rc.1` of `1.2.3-rc.1+7`
+abbrev pub without_build : VersionValue → VersionValue
+without_build v = record v { build = [] }

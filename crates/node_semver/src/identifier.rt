@@ -1,5 +1,14 @@
+pub(crate) mod copy;
+mod order;
+
 /// One part of a prerelease or of a build, as `alpha` and `1` of `1.2.3-alpha.1`.
-#[derive(Debug, PartialEq, Eq, PartialOrd, Ord, Drop)]
+///
+/// Every value is right, also `AlphaNumeric` of the empty text or of `1`: it is compared and printed as it stands.
+///
+/// # Source
+///
+/// SemVer 2.0.0, sections 9 and 10.
+#[derive(Debug, Drop)]
 pub enum Identifier {
     /// A number.
     Numeric(u64),

@@ -1,7 +1,21 @@
+ghost use Rattle.std.specs.Prelude.{◌≡◌, ◌↔◌, IsTrue};
+ghost use Rattle.node_semver.specs.Version.{IsPrerelease, release};
+
+mod copy;
+mod order;
+
 use crate::Identifier;
+use std::alloc::Global;
 use std::marker::Model;
 
 /// A version: a triple of numbers, a prerelease and a build.
+///
+/// Every value of each field is right: an identifier may hold any text, and is compared and printed as it stands.
+/// Versions are equal, are ordered and hash by the triple and the prerelease alone: the build is not looked at.
+///
+/// # Source
+///
+/// SemVer 2.0.0, sections 2, 9 and 10.
 #[derive(Debug, Drop)]
 pub struct Version {
     pub major: u64,
@@ -18,10 +32,50 @@ impl Model for Version {
     ghost Value = { VersionValue };
 
     ghost view = { λ v. record {
-        major = v.major;
-        minor = v.minor;
-        patch = v.patch;
-        pre_release = values_of v.pre_release.items;
-        build = values_of v.build.items;
+      major = v.major;
+      minor = v.minor;
+      patch = v.patch;
+      pre_release = values_of v.pre_release.items;
+      build = values_of v.build.items;
     } };
+}
+
+impl Version {
+    /// The release with this triple, and no build.
+    ///
+    /// # Memory
+    ///
+    /// Takes none.
+    ///
+    /// # Examples
+    ///
+    /// `Version::new(alloc, 1, 2, 3)` is `1.2.3`.
+    #[inline]
+    pub fn new(alloc: Global, major: u64, minor: u64, patch: u64) -> Version
+        ensures { result ≡ release major minor patch }
+    {
+        Version {
+            major,
+            minor,
+            patch,
+            build: Vec::new(alloc),
+            pre_release: Vec::new(alloc),
+        }
+    }
+
+    /// Whether the version has prerelease identifiers. Every other version is a release.
+    ///
+    /// # Memory
+    ///
+    /// Takes none.
+    ///
+    /// # Examples
+    ///
+    /// True of `1.2.3-rc.1`, false of `1.2.3` and of `1.2.3+rc.1`, whose identifiers are those of its build.
+    #[inline]
+    pub fn is_prerelease(&self) -> bool
+        ensures { IsTrue result ↔ IsPrerelease self.now }
+    {
+        !self.pre_release.is_empty()
+    }
 }

@@ -1,0 +1,6 @@
+use Rattle.std.proofs.Common.{rules}
+use Rattle.node_semver.proofs.Prereleases.{slice_cmp-values}
+use Rattle.node_semver.proofs.version.order.cmp_prereleases.Goals as goal
+
+pub returns-in-false-false : goal.returns-in-false-false
+returns-in-false-false c = search (rules, slice_cmp-values)

@@ -1,0 +1,73 @@
+//! The order of identifiers.
+
+ghost use Rattle.std.specs.Prelude.{◌≡◌, ◌↔◌, Some, IfSome, IsTrue, refl};
+ghost use Rattle.std.specs.Cmp.{eq_by_cmp_equiv, on_equiv, on_total, partial_equiv_from_equiv, po};
+ghost use Rattle.std.specs.Ordering.{eq_by_cmp, on};
+ghost use Rattle.node_semver.specs.Identifier.{value_of};
+ghost use Rattle.node_semver.specs.Order.{identifier_cmp, IdentifierOrderMeans};
+ghost use Rattle.node_semver.specs.OrderLaws.{identifier_total};
+
+use crate::Identifier;
+use std::cmp::Ordering;
+
+impl PartialEq for Identifier {
+    ghost eq = { on value_of (eq_by_cmp identifier_cmp) };
+
+    ghost laws = { partial_equiv_from_equiv (on_equiv value_of (eq_by_cmp_equiv identifier_total)) };
+
+    #[inline]
+    fn eq(&self, other: &Identifier) -> bool
+        ensures answer { result ≡ eq_by_cmp identifier_cmp (value_of self.now) (value_of other.now) }
+        ensures same { IsTrue result ↔ (value_of self.now ≡ value_of other.now) }
+    {
+        match (self, other) {
+            (Identifier::Numeric(a), Identifier::Numeric(b)) => *a == *b,
+            (Identifier::AlphaNumeric(a), Identifier::AlphaNumeric(b)) => a.as_str() == b.as_str(),
+            (Identifier::Numeric(_), Identifier::AlphaNumeric(_)) => false,
+            (Identifier::AlphaNumeric(_), Identifier::Numeric(_)) => false,
+        }
+    }
+}
+
+impl Eq for Identifier {
+    ghost laws = { on_equiv value_of (eq_by_cmp_equiv identifier_total) };
+}
+
+impl PartialOrd for Identifier {
+    ghost partial_cmp = { λ a b. Some (on value_of identifier_cmp a b) };
+
+    ghost laws = { po (on_total value_of identifier_total) (λ a b. refl) };
+
+    #[inline]
+    fn partial_cmp(&self, other: &Identifier) -> Option<Ordering>
+        ensures answer { result ≡ Some (identifier_cmp (value_of self.now) (value_of other.now)) }
+        ensures order { IfSome result (IdentifierOrderMeans (value_of self.now) (value_of other.now)) }
+    {
+        Some(self.cmp(other))
+    }
+}
+
+impl Ord for Identifier {
+    ghost cmp = { on value_of identifier_cmp };
+
+    ghost total = { on_total value_of identifier_total };
+
+    ghost matches_partial_cmp = { λ a b. refl };
+
+    ghost matches_eq = { λ a b. refl };
+
+    #[inline]
+    fn cmp(&self, other: &Identifier) -> Ordering
+        ensures answer { result ≡ identifier_cmp (value_of self.now) (value_of other.now) }
+        ensures order { IdentifierOrderMeans (value_of self.now) (value_of other.now) result }
+    {
+        match (self, other) {
+            (Identifier::Numeric(a), Identifier::Numeric(b)) => a.cmp(b),
+            (Identifier::Numeric(_), Identifier::AlphaNumeric(_)) => Ordering::Less,
+            (Identifier::AlphaNumeric(_), Identifier::Numeric(_)) => Ordering::Greater,
+            (Identifier::AlphaNumeric(a), Identifier::AlphaNumeric(b)) => a
+                .as_str()
+                .cmp(b.as_str()),
+        }
+    }
+}

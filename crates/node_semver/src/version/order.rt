@@ -1,0 +1,85 @@
+//! The order of versions.
+
+ghost use Rattle.std.specs.Prelude.{◌≡◌, ◌↔◌, Some, IfSome, IsTrue, refl};
+ghost use Rattle.std.specs.Cmp.{eq_by_cmp_equiv, partial_equiv_from_equiv, po};
+ghost use Rattle.std.specs.Ordering.{eq_by_cmp};
+ghost use Rattle.node_semver.specs.Identifier.{values_of};
+ghost use Rattle.node_semver.specs.Order.{IsSame, OrderMeans, prerelease_cmp, version_cmp};
+ghost use Rattle.node_semver.specs.OrderLaws.{version_total};
+
+use crate::{Identifier, Version};
+use std::cmp::Ordering;
+
+impl PartialEq for Version {
+    ghost eq = { eq_by_cmp version_cmp };
+
+    ghost laws = { partial_equiv_from_equiv (eq_by_cmp_equiv version_total) };
+
+    #[inline]
+    #[tactic(auto, using(crate::specs::OrderLaws::version_same))]
+    fn eq(&self, other: &Version) -> bool
+        ensures answer { result ≡ eq_by_cmp version_cmp self.now other.now }
+        ensures same { IsTrue result ↔ IsSame self.now other.now }
+    {
+        self.cmp(other).is_eq()
+    }
+}
+
+impl Eq for Version {
+    ghost laws = { eq_by_cmp_equiv version_total };
+}
+
+impl PartialOrd for Version {
+    ghost partial_cmp = { λ v w. Some (version_cmp v w) };
+
+    ghost laws = { po version_total (λ v w. refl) };
+
+    #[inline]
+    fn partial_cmp(&self, other: &Version) -> Option<Ordering>
+        ensures answer { result ≡ Some (version_cmp self.now other.now) }
+        ensures order { IfSome result (OrderMeans self.now other.now) }
+    {
+        Some(self.cmp(other))
+    }
+}
+
+impl Ord for Version {
+    ghost cmp = { version_cmp };
+
+    ghost total = { version_total };
+
+    ghost matches_partial_cmp = { λ v w. refl };
+
+    ghost matches_eq = { λ v w. refl };
+
+    #[inline]
+    #[tactic(auto, using(crate::specs::OrderLaws::version_order))]
+    fn cmp(&self, other: &Version) -> Ordering
+        ensures answer { result ≡ version_cmp self.now other.now }
+        ensures order { OrderMeans self.now other.now result }
+    {
+        if self.major != other.major {
+            return self.major.cmp(&other.major);
+        }
+        if self.minor != other.minor {
+            return self.minor.cmp(&other.minor);
+        }
+        if self.patch != other.patch {
+            return self.patch.cmp(&other.patch);
+        }
+        cmp_prereleases(&self.pre_release, &other.pre_release)
+    }
+}
+
+// A release, which has no identifiers, is above each prerelease.
+#[inline]
+fn cmp_prereleases(a: &[Identifier], b: &[Identifier]) -> Ordering
+    ensures { result ≡ prerelease_cmp (values_of a.now) (values_of b.now) }
+{
+    match (a.is_empty(), b.is_empty()) {
+        (true, true) => Ordering::Equal,
+        (true, false) => Ordering::Greater,
+        (false, true) => Ordering::Less,
+        (false, false) => a.cmp(b),
+    }
+}

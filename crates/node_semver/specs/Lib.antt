@@ -2,3 +2,4 @@ pub mod Identifier
 pub mod IdentifierValue
 pub mod Version
 pub mod Error
+pub mod ErrorLocation

@@ -13,3 +13,4 @@ pub mod Order
 pub mod OrderLaws
 pub mod Version
 pub mod VersionText
+pub mod ErrorLocation

@@ -1,5 +1,5 @@
-pub mod Fronts
-pub mod NumberReading
-pub mod IdentifierReading
-pub mod VersionReading
 mod Prereleases
+pub mod Fronts
+pub mod IdentifierReading
+pub mod NumberReading
+pub mod VersionReading

@@ -2,15 +2,14 @@ pub mod Characters
 pub mod ComparatorText
 pub mod Division
 pub mod Error
+pub mod ErrorLocation
 pub mod Identifier
 pub mod IdentifierText
 pub mod IdentifierValue
 pub mod Meaning
 pub mod NumberText
 pub mod Order
-pub mod Reading
-pub mod Order
 pub mod OrderLaws
+pub mod Reading
 pub mod Version
 pub mod VersionText
-pub mod ErrorLocation

@@ -1,5 +1,7 @@
 mod Prereleases
+pub mod Digits
 pub mod Fronts
 pub mod IdentifierReading
 pub mod NumberReading
+pub mod Places
 pub mod VersionReading

@@ -13,3 +13,4 @@ pub mod OrderLaws
 pub mod Reading
 pub mod Version
 pub mod VersionText
+pub mod ReadingViews

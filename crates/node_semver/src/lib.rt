@@ -3,6 +3,7 @@
 
 mod error;
 mod identifier;
+mod reading;
 mod version;
 
 pub use error::{SemverError, SemverErrorKind, SourceSpan};

@@ -1,14 +1,14 @@
 -- Numbers, as a loop goes over their digits.
-use Rattle.std.proofs.Common.{◌≡◌, ◌+◌, ◌-◌, ◌*◌, ◌<◌, ◌≤◌, ◌^◌, ℕ, Bool, true, false, List, [], ◌∷◌, ◌++◌, length, get_or, take, drop, Ok, Err, refl, sym, ap, ◌∙◌, inl, inr, subst, arith, rules, zero, suc, length-append}
-use Rattle.std.proofs.lemmas.Bool.{and_parts, cases_Bool, le-leb, lt-leb, lt-ltb, ltb-true}
+use Rattle.std.proofs.Common.{◌≡◌, ◌+◌, ◌-◌, ◌*◌, ◌<◌, ◌≤◌, ◌^◌, ℕ, Bool, true, false, List, [], ◌∷◌, ◌++◌, length, get_or, take, drop, Ok, Err, Option, Some, None, refl, sym, ap, ◌∙◌, inl, inr, subst, arith, rules, zero, suc, length-append}
+use Rattle.std.proofs.lemmas.Bool.{and_from, and_parts, and_right, cases_Bool, le-leb, le-ltb, lt-leb, lt-ltb, ltb-false, ltb-true}
 use Rattle.std.proofs.lemmas.Int.Digits.{digits_value_more}
-use Rattle.std.proofs.lemmas.List.{length-take-le, take_at}
+use Rattle.std.proofs.lemmas.List.{length-take-le, take_all, take_at}
 use Rattle.std.proofs.lemmas.Str.Parse.{IsNumeralModel, digits_value-take-le, numerals_by_value, parse_digits}
 use Rattle.std.proofs.lemmas.Result.{OkIff-at_err, OkIff-at_ok}
 use Rattle.std.proofs.lemmas.Bool.Decides.{nat_tests}
 use Rattle.std.specs.Char.{digit_value}
 use Rattle.std.specs.List.{list_all}
-use Rattle.std.specs.Prelude.{nat_le, nat_lt, if◌then◌else◌, Result}
+use Rattle.std.specs.Prelude.{◌&&◌, nat_le, nat_lt, if◌then◌else◌, Result}
 use Rattle.std.specs.Str.Parse.{ParsesUnsigned}
 use Rattle.std.specs.declared.num.ParseIntError.{ParseIntError}
 use Rattle.std.specs.Str.{IsAscii}
@@ -21,7 +21,7 @@ use Rattle.node_semver.specs.Error.{max_int, parse_int}
 use Rattle.node_semver.proofs.NumberReading.{answer}
 use Rattle.node_semver.proofs.Places.{Over, Through, over-step, to-end}
 use Rattle.node_semver.proofs.Fronts.{front-all}
-use Rattle.node_semver.proofs.IdentifierReading.{pick-false}
+use Rattle.node_semver.proofs.IdentifierReading.{pick-false, pick-true}
 
 -- the value of a digit
 digit-value : (b : ℕ) → is_digit b ≡ true → digit_value b ≡ b - 48
@@ -127,3 +127,41 @@ large-err s r error h all some e =
       | inl fits ↦ absurd (none (some-length s some, ltb-true _ _ fits))
       | inr large ↦ rw large refl
     ]
+
+-- what `checked` arithmetic says of a number of 64 bits
+abbrev Bounded : ℕ → Option ℕ
+Bounded n = if nat_lt n (2 ^ 64) then Some n else None
+
+pub larger : (n : ℕ) → None ≡ Bounded n → 2 ^ 64 ≤ n
+larger n h = elim (cases_Bool (nat_lt n (2 ^ 64))) [
+  | inl fits ↦ cc (h ∙ pick-true _ (Some n) None fits)
+  | inr large ↦ ltb-false _ _ large
+]
+
+pub within-64 : (n m : ℕ) → Some m ≡ Bounded n → (m ≡ n) × (m < 2 ^ 64)
+within-64 n m h = elim (cases_Bool (nat_lt n (2 ^ 64))) [
+  | inl fits ↦
+      let same : m ≡ n = cc (h ∙ pick-true _ (Some n) None fits) in
+      (same, subst (λ (k : ℕ). k < 2 ^ 64) (sym same) (ltb-true _ _ fits))
+  | inr large ↦ cc (h ∙ pick-false _ (Some n) None large)
+]
+
+-- the number that a text of digits writes, where it has at most 64 bits
+abbrev Numeric : List ℕ → Option ℕ
+Numeric s = if list_all is_digit s && nat_lt (number_of s) (2 ^ 64) then Some (number_of s) else None
+
+-- some digits of it are too many
+pub number-none : (s : List ℕ) (i : ℕ) → 2 ^ 64 ≤ number_of (take i s) → None ≡ Numeric s
+number-none s i large =
+    let all : number_of (take i s) ≤ number_of s = digits_value-take-le 10 s i (omega arith) in
+    let above : nat_lt (number_of s) (2 ^ 64) ≡ false = le-ltb _ _ (omega arith) in
+    sym (pick-false _ (Some (number_of s)) None (and_right (list_all is_digit s) _ above))
+
+-- all of it are digits, and not too many
+pub number-some : (s : List ℕ) (i n : ℕ) → length s ≤ i → n ≡ number_of (take i s) → Through is_digit s i → n < 2 ^ 64 → Some n ≡ Numeric s
+number-some s i n end value through fits =
+    let whole : take i s ≡ s = take_all i s end in
+    let all : AreAll is_digit s = subst (λ (l : List ℕ). AreAll is_digit l) (through.front ∙ whole) (front-all is_digit s) in
+    let same : n ≡ number_of s = value ∙ ap (λ (l : List ℕ). number_of l) whole in
+    let small : nat_lt (number_of s) (2 ^ 64) ≡ true = lt-ltb _ _ (subst (λ (m : ℕ). m < 2 ^ 64) same fits) in
+    ap Some same ∙ sym (pick-true _ (Some (number_of s)) None (and_from _ _ all small))

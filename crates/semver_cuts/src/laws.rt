@@ -10,6 +10,7 @@ ghost use Rattle.semver_cuts.specs.CutOrder.{StandsInLine, NoneBetween};
 /// Values that compare as equal have the same two cuts, and no cut lies between the two. No other order of the cuts has these laws.
 pub fn cuts_stand_in_order<T: Ord>()
     ensures order { StandsInLine T.cmp (cut_cmp T.cmp) }
-    ensures only { (order : Cut T → Cut T → Ordering) → StandsInLine T.cmp order → (c d : Cut T) → order c d ≡ cut_cmp T.cmp c d }
+    ensures only { (order : Cut T → Cut T → Ordering) → StandsInLine T.cmp order →
+        (c d : Cut T) → order c d ≡ cut_cmp T.cmp c d }
     ensures between { (v : T) → NoneBetween (cut_cmp T.cmp) v }
 {}

@@ -160,3 +160,6 @@ impl fmt::Display for SemverError {
 }
 
 impl std::error::Error for SemverError {}
+
+#[cfg(test)]
+mod tests;

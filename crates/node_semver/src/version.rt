@@ -3,6 +3,7 @@ ghost use Rattle.node_semver.specs.Version.{IsPrerelease, release};
 
 mod copy;
 mod order;
+mod print;
 
 use crate::Identifier;
 use std::alloc::Global;

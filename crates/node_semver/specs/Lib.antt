@@ -1,3 +1,5 @@
+pub mod Hash
+pub mod HashLaws
 pub mod Identifier
 pub mod IdentifierValue
 pub mod Order

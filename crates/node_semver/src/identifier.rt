@@ -1,4 +1,5 @@
 pub(crate) mod copy;
+mod hash;
 mod order;
 mod print;
 

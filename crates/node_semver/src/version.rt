@@ -2,6 +2,7 @@ ghost use Rattle.std.specs.Prelude.{◌≡◌, ◌↔◌, IsTrue};
 ghost use Rattle.node_semver.specs.Version.{IsPrerelease, release};
 
 mod copy;
+mod hash;
 mod order;
 mod print;
 

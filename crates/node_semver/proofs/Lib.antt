@@ -1,1 +1,3 @@
+mod OrderExamples
 mod Prereleases
+mod PrintExamples

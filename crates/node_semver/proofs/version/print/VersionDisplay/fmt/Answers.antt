@@ -1,4 +1,4 @@
-use Rattle.std.proofs.Common.{rules, arith}
+use Rattle.std.proofs.Common.{arith}
 use Rattle.std.proofs.lemmas.Grind.{common_steps}
 use Rattle.node_semver.specs.PrintLaws.{led_text-marked}
 use Rattle.node_semver.proofs.version.print.VersionDisplay.fmt.Goals as goal

@@ -5,6 +5,8 @@ mod copy;
 mod hash;
 mod order;
 mod print;
+#[cfg(test)]
+mod tests;
 
 use crate::Identifier;
 use std::alloc::Global;

@@ -1,3 +1,4 @@
+mod OrderExamples
 mod Prereleases
 pub mod Characters
 pub mod Digits
@@ -7,3 +8,4 @@ pub mod ListReading
 pub mod NumberReading
 pub mod Places
 pub mod VersionReading
+mod PrintExamples

@@ -3,6 +3,8 @@ pub mod ComparatorText
 pub mod Division
 pub mod Error
 pub mod ErrorLocation
+pub mod Hash
+pub mod HashLaws
 pub mod Identifier
 pub mod IdentifierText
 pub mod IdentifierValue
@@ -11,6 +13,8 @@ pub mod NumberText
 pub mod Order
 pub mod OrderLaws
 pub mod Reading
+pub mod Print
+pub mod PrintLaws
 pub mod Version
 pub mod VersionText
 pub mod ReadingViews

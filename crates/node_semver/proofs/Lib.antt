@@ -2,4 +2,5 @@ mod Prereleases
 pub mod Fronts
 pub mod IdentifierReading
 pub mod NumberReading
+pub mod OneReading
 pub mod VersionReading

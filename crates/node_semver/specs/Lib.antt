@@ -3,6 +3,7 @@ pub mod ComparatorText
 pub mod Division
 pub mod Error
 pub mod ErrorLocation
+pub mod Fault
 pub mod Identifier
 pub mod IdentifierText
 pub mod IdentifierValue

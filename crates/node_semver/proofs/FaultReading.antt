@@ -94,3 +94,129 @@ number-fault text before rest count f short front h = elim (number-fails rest f 
   | inr l ↦ told-fault text before rest (too_large (number_of l.digits)) f front.whole l.told
       (large_number before l.digits l.rest count short (subst (λ (r : List ℕ). IsFront text before r count) l.whole front) l.all l.large)
 ]
+
+-- where a point is asked for behind a front and a number
+point-fault : (text before rest : List ℕ) (count : ℕ) (read : ℕ × List ℕ) (f : Fault) → length text ≤ MAX_LENGTH → IsFront text before rest count → count < 2
+    → number_at rest ≡ Ok read → point_at read.1 ≡ Err f → IsFault text f.kind (length text - f.left)
+point-fault text before rest count read f short front few number h =
+    let t = number-takes rest read.0 read.1 number in
+    let p = point-fails read.1 f h in
+    let here : IsFront text before (t.digits ++ read.1) count = subst (λ (r : List ℕ). IsFront text before r count) t.whole front in
+    let all : IsAllDigits t.digits read.1 = record { some = t.read.some; all = t.read.digits; end = t.ends } in
+    let limit : number_of t.digits ≤ MAX_SAFE_INTEGER = subst (λ (n : ℕ). n ≤ MAX_SAFE_INTEGER) t.read.value t.read.limit in
+    let whole : text ≡ (before ++ t.digits) ++ read.1 = here.whole ∙ sym (append_assoc before t.digits read.1) in
+    told-fault text (before ++ t.digits) read.1 (context (codes "version")) f whole p.1 (no_point before t.digits read.1 count short here few all limit p.0)
+
+-- one more text with a point
+with_points-more : (texts : List (List ℕ)) (text : List ℕ) → with_points (texts ++ (text ∷ [])) ≡ with_points texts ++ (text ++ (point ∷ []))
+with_points-more [] text = refl
+with_points-more (t ∷ texts) text = ap (λ (l : List ℕ). t ++ (point ∷ l)) (with_points-more texts text) ∙ sym (append_assoc t (point ∷ with_points texts) (text ++ (point ∷ [])))
+
+-- numbers as they are written
+abbrev AreNumbers : List (List ℕ) → Type 0
+AreNumbers texts = AllByRecursion (λ digits. (number : ℕ) × IsNumberText digits number) texts
+
+numbers-more : (texts : List (List ℕ)) (text : List ℕ) (number : ℕ) → AreNumbers texts → IsNumberText text number → AreNumbers (texts ++ (text ∷ []))
+numbers-more [] text number all one = ((number, one), tt)
+numbers-more (t ∷ texts) text number all one = (all.0, numbers-more texts text number all.1 one)
+
+-- a front, one more number and its point
+front-more : (text before digits rest : List ℕ) (count number : ℕ) → IsFront text before (digits ++ (point ∷ rest)) count → count < 2 → IsNumberText digits number
+    → IsFront text (before ++ (digits ++ (point ∷ []))) rest (count + 1)
+front-more text before digits rest count number front few read =
+    let points = with_points-more front.numbers digits in
+    record {
+      whole = front.whole ∙ simp append_assoc;
+      mark = front.mark;
+      blanks = front.blanks;
+      numbers = front.numbers ++ (digits ∷ []);
+      pieces = rw (front.pieces, points) (simp append_assoc);
+      marked = front.marked;
+      blank = front.blank;
+      blanks_end = rw points (subst (λ (l : List ℕ). BeginsWithNo is_blank l) (simp append_assoc) front.blanks_end);
+      read = numbers-more front.numbers digits number front.read read;
+      counted = length-append front.numbers (digits ∷ []) ∙ ap (λ (n : ℕ). n + 1) front.counted;
+      few = omega arith;
+    }
+
+-- behind a front, a number and its point, a longer front
+pub record LongerFront (text rest : List ℕ) (count : ℕ) : Type 0 where
+  pub before : List ℕ
+  pub front : IsFront text before rest count
+
+front-on : (text before rest behind : List ℕ) (count : ℕ) (read : ℕ × List ℕ) → IsFront text before rest count → count < 2
+    → number_at rest ≡ Ok read → point_at read.1 ≡ Ok behind → LongerFront text behind (count + 1)
+front-on text before rest behind count read front few number point =
+    let t = number-takes rest read.0 read.1 number in
+    let e = t.whole ∙ ap (λ (l : List ℕ). t.digits ++ l) (point-takes read.1 behind point) in
+    record { before = _; front = front-more text before t.digits behind count read.0 (subst (λ (r : List ℕ). IsFront text before r count) e front) few t.read }
+
+-- the mark of a text stands before the bytes behind it
+pub record MarkOf (text rest : List ℕ) : Type 0 where
+  pub mark : List ℕ
+  pub whole : text ≡ mark ++ rest
+  pub marked : IsMarkOf text mark
+
+mark-of : (text : List ℕ) → MarkOf text (after_mark is_version_mark text)
+unfolding after_mark
+mark-of [] = record { mark = []; whole = refl; marked = inl (refl, tt) }
+mark-of (b ∷ rest) = elim (cases_Bool (is_version_mark b)) [
+  | inl mark ↦ rw mark (record { mark = b ∷ []; whole = refl; marked = inr (b, refl, mark) })
+  | inr none ↦ rw none (record { mark = []; whole = refl; marked = inl (refl, none) })
+]
+
+-- the front with no number
+front-first : (text : List ℕ) → LongerFront text (after is_blank (after_mark is_version_mark text)) 0
+front-first text =
+    let m = mark-of text in
+    let unmarked = after_mark is_version_mark text in
+    let split = m.whole ∙ ap (λ (l : List ℕ). m.mark ++ l) (sym (front-after is_blank unmarked)) in
+    record {
+      before = m.mark ++ (front is_blank unmarked ++ []);
+      front = record {
+        whole = split ∙ simp append_assoc;
+        mark = m.mark;
+        blanks = front is_blank unmarked;
+        numbers = [];
+        pieces = refl;
+        marked = m.marked;
+        blank = front-all is_blank unmarked;
+        blanks_end = after-no is_blank unmarked;
+        read = tt;
+        counted = refl;
+        few = omega arith;
+      };
+    }
+
+numbers-fault : (text before rest : List ℕ) (f : Fault) → length text ≤ MAX_LENGTH → IsFront text before rest 0 → numbers_at rest ≡ Err f → IsFault text f.kind (length text - f.left)
+unfolding numbers_at
+numbers-fault text before rest f short front h = elim (bind-err (number_at rest) _ f h) [
+  | inl e ↦ number-fault text before rest 0 f short front e
+  | inr m ↦ elim (bind-err (point_at m.0.1) _ f m.2) [
+    | inl e ↦ point-fault text before rest 0 m.0 f short front (omega arith) m.1 e
+    | inr p ↦
+        let second = front-on text before rest p.0 0 m.0 front (omega arith) m.1 p.1 in
+        elim (bind-err (number_at p.0) _ f p.2) [
+          | inl e ↦ number-fault text second.before p.0 1 f short second.front e
+          | inr n ↦ elim (bind-err (point_at n.0.1) _ f n.2) [
+            | inl e ↦ point-fault text second.before p.0 1 n.0 f short second.front (omega arith) n.1 e
+            | inr q ↦
+                let third = front-on text second.before p.0 q.0 1 n.0 second.front (omega arith) n.1 q.1 in
+                elim (bind-err (number_at q.0) _ f q.2) [
+                  | inl e ↦ number-fault text third.before q.0 2 f short third.front e
+                  | inr r ↦ cc r.2
+                ]
+          ]
+        ]
+  ]
+]
+
+-- where the reader gives a fault, the text has it
+pub fault-takes : (text : List ℕ) (f : Fault) → length text ≤ MAX_LENGTH → marked_at is_version_mark text ≡ Err f → IsFault text f.kind (length text - f.left)
+unfolding marked_at triple_at
+fault-takes text f short h =
+    let first = front-first text in
+    elim (bind-err (numbers_at (after is_blank (after_mark is_version_mark text))) _ f h) [
+      | inl e ↦ numbers-fault text first.before (after is_blank (after_mark is_version_mark text)) f short first.front e
+      | inr n ↦ cc n.2
+    ]

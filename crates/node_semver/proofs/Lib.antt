@@ -2,6 +2,7 @@ mod Prereleases
 pub mod FaultReading
 pub mod Fronts
 pub mod IdentifierReading
+pub mod LongestReading
 pub mod NumberReading
 pub mod OneReading
 pub mod VersionReading

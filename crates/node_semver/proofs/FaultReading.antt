@@ -6,14 +6,17 @@ use Rattle.std.specs.Prelude.{Result, ◌==◌, codes, nat_le}
 use Rattle.std.specs.List.{AllByRecursion}
 use Rattle.node_semver.specs.declared.TheConstants.{MAX_LENGTH, MAX_SAFE_INTEGER}
 use Rattle.node_semver.specs.Characters.{AreAll, BeginsWith, BeginsWithNo, is_blank, is_digit, point}
-use Rattle.node_semver.specs.Error.{Kind, context}
-use Rattle.node_semver.specs.Fault.{IsAllDigits, IsFault, IsFront, IsMarkOf, large_number, no_number, no_point, too_large, with_points}
+use Rattle.node_semver.specs.Error.{Kind, context, other}
+use Rattle.node_semver.specs.Fault.{IsAllDigits, IsFault, IsFront, IsMarkOf, large_number, left_over, no_number, no_point, too_large, with_points}
 use Rattle.node_semver.specs.NumberText.{IsNumberText, number_of}
 use Rattle.node_semver.specs.Version.{VersionValue}
-use Rattle.node_semver.specs.VersionText.{is_version_mark}
+use Rattle.node_semver.specs.VersionText.{IsVersionText, is_version_mark}
 use Rattle.node_semver.specs.Reading.{◌>>=◌, Fault, after, after_mark, begins, extras_at, front, marked_at, number_at, numbers_at, point_at, triple_at, version_of}
 use Rattle.node_semver.proofs.Fronts.{after-no, begins-with, begins-with_no, front-after, front-all, front-begins}
-use Rattle.node_semver.proofs.NumberReading.{TakesNumber, answer, number-takes, point-takes}
+use Rattle.node_semver.proofs.LongestReading.{marked-longest, marked-no_digit}
+use Rattle.node_semver.proofs.NumberReading.{number-takes, point-takes}
+use Rattle.node_semver.proofs.OneReading.{version-mark}
+use Rattle.node_semver.proofs.VersionReading.{marked-takes}
 
 -- a chain that gave a fault
 pub bind-err : {A B : Type 0} (r : Result A Fault) (f : A → Result B Fault) (e : Fault) → (r >>= f) ≡ Err e
@@ -73,9 +76,9 @@ unfolding point_at
 point-fails [] f h = (tt, fault-value {A = List ℕ} _ f h)
 point-fails (b ∷ rest) f h = elim (cases_Bool (b == point)) [
   | inl here ↦ cc (rw here at h)
-  | inr other ↦
-      let told : refusal {A = List ℕ} (missing_at (b ∷ rest)) ≡ refusal f = rw other at h in
-      (other, fault-value (missing_at (b ∷ rest)) f told)
+  | inr none ↦
+      let told : refusal {A = List ℕ} (missing_at (b ∷ rest)) ≡ refusal f = rw none at h in
+      (none, fault-value (missing_at (b ∷ rest)) f told)
 ]
 
 -- the length of a beginning is that of the text less that of the rest
@@ -220,3 +223,16 @@ fault-takes text f short h =
       | inl e ↦ numbers-fault text first.before (after is_blank (after_mark is_version_mark text)) f short first.front e
       | inr n ↦ cc n.2
     ]
+
+-- where the reader leaves something behind a version, the text has that fault
+pub left-takes : (text : List ℕ) (v : VersionValue) (b : ℕ) (rest : List ℕ) → length text ≤ MAX_LENGTH → marked_at is_version_mark text ≡ Ok (v, b ∷ rest)
+    → IsFault text other (length text - length (b ∷ rest))
+left-takes text v b rest short h =
+    let t = marked-takes is_version_mark text v (b ∷ rest) h in
+    let version : IsVersionText t.taken v = record { short = omega (arith, ap length t.whole, length-append t.taken (b ∷ rest)); fields = t.read } in
+    let longest : (shorter behind : List ℕ) (w : VersionValue) → text ≡ shorter ++ behind → IsVersionText shorter w → length shorter ≤ length t.taken =
+        λ shorter behind w e g.
+            let l = marked-longest is_version_mark version-mark shorter behind (b ∷ rest) v w g.fields (ap (λ (l : List ℕ). marked_at is_version_mark l) (sym e) ∙ h) in
+            omega (arith, ap length e, ap length t.whole, length-append shorter behind, length-append t.taken (b ∷ rest)) in
+    subst (λ (n : ℕ). IsFault text other n) (front-length text t.taken (b ∷ rest) t.whole)
+        (left_over t.taken v b rest short t.whole version (marked-no_digit is_version_mark text (b ∷ rest) v h) longest)

@@ -32,7 +32,7 @@ glue : (text a1 b1 a2 b2 rest major minor patch : List ℕ) → text ≡ major +
 glue text a1 b1 a2 b2 rest major minor patch h1 h2 h3 h4 h5 =
     h1 ∙ ap (λ (l : List ℕ). major ++ l) (h2 ∙ ap (λ (l : List ℕ). point ∷ l) (h3 ∙ ap (λ (l : List ℕ). minor ++ l) (h4 ∙ ap (λ (l : List ℕ). point ∷ l) h5)))
 
-numbers-takes : (text : List ℕ) (numbers : ℕ × ℕ × ℕ) (rest : List ℕ) → numbers_at text ≡ Ok (numbers, rest) → TakesNumbers text numbers rest
+pub numbers-takes : (text : List ℕ) (numbers : ℕ × ℕ × ℕ) (rest : List ℕ) → numbers_at text ≡ Ok (numbers, rest) → TakesNumbers text numbers rest
 unfolding numbers_at
 numbers-takes text numbers rest h =
     let m1 = bind-ok (number_at text) _ (numbers, rest) h in

@@ -32,11 +32,11 @@ fault-value : {A : Type 0} (e f : Fault) → refusal {A = A} e ≡ refusal f →
 fault-value e f h = cc h
 
 -- a fault of this kind where this text begins
-abbrev fault_at : Kind → List ℕ → Fault
+abbrev pub fault_at : Kind → List ℕ → Fault
 fault_at kind text = record { kind = kind; left = length text }
 
 -- a word is missing where this text begins
-abbrev missing_at : List ℕ → Fault
+abbrev pub missing_at : List ℕ → Fault
 missing_at text = fault_at (context (codes "version")) text
 
 -- a number that is too large begins the text

@@ -1,4 +1,5 @@
 mod Prereleases
+pub mod FaultLaws
 pub mod FaultReading
 pub mod Fronts
 pub mod IdentifierReading

@@ -65,7 +65,7 @@ numbers-takes text numbers rest h =
 pub bind-on : {A B : Type 0} (r : Result A Fault) (x : A) (f : A → Result B Fault) → r ≡ Ok x → (r >>= f) ≡ f x
 bind-on r x f e = rw e refl
 
-numbers-again : (major minor patch rest : List ℕ) (a b c : ℕ) → IsNumberText major a → IsNumberText minor b → IsNumberText patch c → BeginsWithNo is_digit rest
+pub numbers-again : (major minor patch rest : List ℕ) (a b c : ℕ) → IsNumberText major a → IsNumberText minor b → IsNumberText patch c → BeginsWithNo is_digit rest
     → numbers_at (major ++ (point ∷ (minor ++ (point ∷ (patch ++ rest))))) ≡ Ok ((a, b, c), rest)
 unfolding numbers_at
 numbers-again major minor patch rest a b c x y z ends =

@@ -216,3 +216,14 @@ read_or_faulty text = elim (cases_Bool (nat_le (length text) MAX_LENGTH)) [
   | inl short ↦ result-takes text (marked_at is_version_mark text) (leb-true _ _ short) refl
   | inr long ↦ inr (max_length, length text - 1, too_long (leb-false _ _ long))
 ]
+
+-- what is told, taken from a pair
+some-told : (a b : Kind × ℕ) → Some a ≡ Some b → a ≡ b
+some-told a b h = cc h
+
+-- what the reader tells is a fault
+pub fault-computed : (text : List ℕ) (kind : Kind) (offset : ℕ) → fault_of text ≡ Some (kind, offset) → IsFault text kind offset
+fault-computed text kind offset h = elim (read_or_faulty text) [
+  | inl read ↦ cc (sym (version-none text read.0 read.1) ∙ h)
+  | inr faulty ↦ subst (λ (p : Kind × ℕ). IsFault text p.0 p.1) (some-told (faulty.0, faulty.1) (kind, offset) (sym (fault-again text faulty.0 faulty.1 faulty.2) ∙ h)) faulty.2
+]

@@ -1,4 +1,5 @@
 mod Prereleases
+pub mod FaultExamples
 pub mod FaultLaws
 pub mod FaultReading
 pub mod Fronts

@@ -13,4 +13,5 @@ pub mod Order
 pub mod OrderLaws
 pub mod Reading
 pub mod Version
+pub mod VersionLaws
 pub mod VersionText

@@ -4,6 +4,7 @@
 mod error;
 mod identifier;
 mod version;
+pub mod version_laws;
 
 pub use error::{SemverError, SemverErrorKind, SourceSpan};
 pub use identifier::Identifier;

@@ -18,7 +18,7 @@ pub record GoOn (parts : List (List ℕ)) : Type 0 where
   pub identifiers : AllByRecursion IsIdentifierText others
 
 -- a text has at least one part
-parts-shape : (text : List ℕ) → (first : List ℕ) × (others : List (List ℕ)) × (parts_of text ≡ first ∷ others)
+pub parts-shape : (text : List ℕ) → (first : List ℕ) × (others : List (List ℕ)) × (parts_of text ≡ first ∷ others)
 parts-shape [] = ([], [], refl)
 parts-shape (b ∷ rest) = elim (cases_Bool (b == point)) [
   | inl here ↦ ([], parts_of rest, rw here refl)
@@ -83,7 +83,7 @@ first-begins (b ∷ rest) first others shape h =
     let f : b ∷ r.0 ≡ first = cc e in
     subst (λ (l : List ℕ). BeginsWith is_identifier_character l) f h
 
-begins-first : (text first : List ℕ) (others : List (List ℕ)) → parts_of text ≡ first ∷ others → BeginsWith is_identifier_character first → BeginsWith is_identifier_character text
+pub begins-first : (text first : List ℕ) (others : List (List ℕ)) → parts_of text ≡ first ∷ others → BeginsWith is_identifier_character first → BeginsWith is_identifier_character text
 begins-first [] first others shape h =
     let e : [] ≡ first = cc shape in
     absurd (subst (λ (l : List ℕ). BeginsWith is_identifier_character l) (sym e) h)
@@ -240,10 +240,10 @@ pick-false true x y h = cc h
 pick-false false x y h = refl
 
 -- what is read in each case
-list_or-some : (otherwise text : List ℕ) → begins is_identifier_character text ≡ true → list_or otherwise text ≡ (list_values text, list_after text)
+pub list_or-some : (otherwise text : List ℕ) → begins is_identifier_character text ≡ true → list_or otherwise text ≡ (list_values text, list_after text)
 list_or-some otherwise text h = pick-true _ _ _ h
 
-list_or-none : (otherwise text : List ℕ) → begins is_identifier_character text ≡ false → list_or otherwise text ≡ ([], otherwise)
+pub list_or-none : (otherwise text : List ℕ) → begins is_identifier_character text ≡ false → list_or otherwise text ≡ ([], otherwise)
 list_or-none otherwise text h = pick-false _ _ _ h
 
 -- where no identifiers are read, none stand there
@@ -275,19 +275,19 @@ listed-prerelease : (taken list : List ℕ) (identifiers : List IdentifierValue)
 listed-prerelease taken list [] some how read = cc some.2
 listed-prerelease taken list (i ∷ is) some how read = (list, how, read)
 
-prerelease_at-hyphen : (b : ℕ) (rest : List ℕ) → (b == hyphen) ≡ true → prerelease_at (b ∷ rest) ≡ list_or (b ∷ rest) rest
+pub prerelease_at-hyphen : (b : ℕ) (rest : List ℕ) → (b == hyphen) ≡ true → prerelease_at (b ∷ rest) ≡ list_or (b ∷ rest) rest
 unfolding prerelease_at after_mark
 prerelease_at-hyphen b rest h = ap (list_or (b ∷ rest)) (pick-true (b == hyphen) rest (b ∷ rest) h)
 
-prerelease_at-other : (b : ℕ) (rest : List ℕ) → (b == hyphen) ≡ false → prerelease_at (b ∷ rest) ≡ list_or (b ∷ rest) (b ∷ rest)
+pub prerelease_at-other : (b : ℕ) (rest : List ℕ) → (b == hyphen) ≡ false → prerelease_at (b ∷ rest) ≡ list_or (b ∷ rest) (b ∷ rest)
 unfolding prerelease_at after_mark
 prerelease_at-other b rest h = ap (list_or (b ∷ rest)) (pick-false (b == hyphen) rest (b ∷ rest) h)
 
-build_at-plus : (b : ℕ) (rest : List ℕ) → (b == plus) ≡ true → build_at (b ∷ rest) ≡ list_or (b ∷ rest) rest
+pub build_at-plus : (b : ℕ) (rest : List ℕ) → (b == plus) ≡ true → build_at (b ∷ rest) ≡ list_or (b ∷ rest) rest
 unfolding build_at after_plus
 build_at-plus b rest h = ap (list_or (b ∷ rest)) (pick-true (b == plus) rest [] h)
 
-build_at-other : (b : ℕ) (rest : List ℕ) → (b == plus) ≡ false → build_at (b ∷ rest) ≡ ([], b ∷ rest)
+pub build_at-other : (b : ℕ) (rest : List ℕ) → (b == plus) ≡ false → build_at (b ∷ rest) ≡ ([], b ∷ rest)
 unfolding build_at after_plus
 build_at-other b rest h = ap (list_or (b ∷ rest)) (pick-false (b == plus) rest [] h)
 
@@ -295,7 +295,7 @@ build_at-other b rest h = ap (list_or (b ∷ rest)) (pick-false (b == plus) rest
 abbrev Takes : List ℕ → List IdentifierValue × List ℕ → Type 0
 Takes text read = TakesPrerelease text read.0 read.1
 
-prerelease-takes : (text : List ℕ) → Takes text (prerelease_at text)
+pub prerelease-takes : (text : List ℕ) → Takes text (prerelease_at text)
 unfolding prerelease_at after_mark
 prerelease-takes [] = no-prerelease []
 prerelease-takes (b ∷ rest) = elim (cases_Bool (b == hyphen)) [
@@ -336,7 +336,7 @@ listed-build : (list : List ℕ) (identifiers : List IdentifierValue) → (first
 listed-build list [] some read = cc some.2
 listed-build list (i ∷ is) some read = (list, refl, read)
 
-build-takes : (text : List ℕ) → TakesBuild text (build_at text)
+pub build-takes : (text : List ℕ) → TakesBuild text (build_at text)
 unfolding build_at after_plus
 build-takes [] = no-build []
 build-takes (b ∷ rest) = elim (cases_Bool (b == plus)) [
@@ -395,7 +395,7 @@ prerelease-behind : (list rest : List ℕ) → begins is_identifier_character (l
 prerelease-behind list rest starts = prerelease_at-hyphen hyphen (list ++ rest) refl ∙ list_or-some (hyphen ∷ (list ++ rest)) (list ++ rest) starts
 
 -- a list behind a hyphen or without one is read
-prerelease-listed : (text list rest : List ℕ) → (text ≡ hyphen ∷ list) ⊎ ((text ≡ list) × BeginsWithNo (λ b. b == hyphen) list) → BeginsWith is_identifier_character list
+pub prerelease-listed : (text list rest : List ℕ) → (text ≡ hyphen ∷ list) ⊎ ((text ≡ list) × BeginsWithNo (λ b. b == hyphen) list) → BeginsWith is_identifier_character list
     → prerelease_at (text ++ rest) ≡ (list_values (list ++ rest), list_after (list ++ rest))
 prerelease-listed text list rest how begin =
     let starts : begins is_identifier_character (list ++ rest) ≡ true = with-begins is_identifier_character (list ++ rest) (begins-append is_identifier_character list rest begin) in
@@ -405,7 +405,7 @@ prerelease-listed text list rest how begin =
     ]
 
 -- a prerelease text is read
-prerelease-again : (text rest : List ℕ) (identifiers : List IdentifierValue) → IsPrereleaseText text identifiers → BeginsWithNo is_of_list rest → prerelease_at (text ++ rest) ≡ (identifiers, rest)
+pub prerelease-again : (text rest : List ℕ) (identifiers : List IdentifierValue) → IsPrereleaseText text identifiers → BeginsWithNo is_of_list rest → prerelease_at (text ++ rest) ≡ (identifiers, rest)
 unfolding prerelease_at after_mark
 prerelease-again text [] [] h ends = rw h refl
 prerelease-again text (c ∷ rest) [] h ends =

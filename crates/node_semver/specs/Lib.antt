@@ -5,6 +5,7 @@ pub mod Error
 pub mod ErrorLocation
 pub mod Hash
 pub mod HashLaws
+pub mod Fault
 pub mod Identifier
 pub mod IdentifierText
 pub mod IdentifierValue
@@ -16,5 +17,6 @@ pub mod Reading
 pub mod Print
 pub mod PrintLaws
 pub mod Version
+pub mod VersionLaws
 pub mod VersionText
 pub mod ReadingViews

@@ -4,7 +4,8 @@ use Rattle.std.specs.Prelude.{◌≡◌, ℕ, ◌==◌, ◌^◌, nat_le, nat_lt,
 use Rattle.std.specs.Borrow.{Bor}
 use Rattle.node_semver.specs.declared.TheConstants.{MAX_SAFE_INTEGER}
 use Rattle.node_semver.specs.Characters.{hyphen, is_blank, is_digit, is_identifier_character, plus, point}
-use Rattle.node_semver.specs.Error.{Kind, context, max_int, other, parse_int}
+use Rattle.node_semver.specs.Error.{Kind, context}
+pub use Rattle.node_semver.specs.Fault.{too_large}
 use Rattle.node_semver.specs.IdentifierText.{identifier_of, parts_of}
 use Rattle.node_semver.specs.IdentifierValue.{IdentifierValue}
 use Rattle.node_semver.specs.NumberText.{number_of}
@@ -42,10 +43,6 @@ begins test (b ∷ rest) = test b
 -- a word is missing here
 abbrev pub missing : {A : Type 0} → List ℕ → Result A Fault
 missing text = Err (record { kind = context (codes "version"); left = length text })
-
--- why a number that is too large is refused, at its first digit
-abbrev pub too_large : ℕ → Kind
-too_large number = if nat_lt number (2 ^ 64) then max_int number else parse_int
 
 -- all the digits that stand together, at most MAX_SAFE_INTEGER
 unfoldable pub number_at : List ℕ → Read ℕ

@@ -5,6 +5,7 @@ mod error;
 mod identifier;
 mod reading;
 mod version;
+pub mod version_laws;
 
 pub use error::{SemverError, SemverErrorKind, SourceSpan};
 pub use identifier::Identifier;

@@ -1,5 +1,8 @@
-pub mod Fronts
-pub mod NumberReading
-pub mod IdentifierReading
-pub mod VersionReading
 mod Prereleases
+pub mod ComparatorReading
+pub mod DivisionLaws
+pub mod Fronts
+pub mod IdentifierReading
+pub mod MeaningLaws
+pub mod NumberReading
+pub mod VersionReading

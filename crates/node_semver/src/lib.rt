@@ -3,6 +3,7 @@
 
 mod error;
 mod identifier;
+pub mod laws;
 mod version;
 
 pub use error::{SemverError, SemverErrorKind, SourceSpan};

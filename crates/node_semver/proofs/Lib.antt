@@ -6,3 +6,4 @@ pub mod IdentifierReading
 pub mod MeaningLaws
 pub mod NumberReading
 pub mod VersionReading
+pub mod SomeElement

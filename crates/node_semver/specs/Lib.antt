@@ -12,6 +12,8 @@ pub mod NumberText
 pub mod Order
 pub mod OrderLaws
 pub mod Reading
+pub mod ReadingViews
 pub mod Version
 pub mod VersionText
+pub mod Word
 pub mod WordReading

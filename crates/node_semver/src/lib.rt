@@ -1,13 +1,18 @@
 //! npm's versions and version ranges.
 #![tactic(auto)]
 
+mod comparator;
 mod error;
 mod identifier;
 pub mod laws;
+mod range;
+mod reading;
 mod version;
+mod word;
 
 pub use error::{SemverError, SemverErrorKind, SourceSpan};
 pub use identifier::Identifier;
+pub use range::Range;
 pub use version::Version;
 
 /// The greatest number that a version text or a range text may hold as major, minor or patch.

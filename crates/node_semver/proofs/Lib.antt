@@ -7,3 +7,4 @@ pub mod MeaningLaws
 pub mod NumberReading
 pub mod VersionReading
 pub mod SomeElement
+pub mod CommonCut

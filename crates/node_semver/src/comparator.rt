@@ -1,8 +1,9 @@
 //! Comparators: what one word of a range text asks of a version.
-ghost use Rattle.std.specs.Prelude.{◌↔◌, IsTrue};
+ghost use Rattle.std.specs.Prelude.{◌↔◌, ◌∷◌, IsTrue};
 ghost use Rattle.semver_cuts.specs.declared.cut.Cut.TheVariants.{Before};
+ghost use Rattle.semver_cuts.specs.Common.{AreOuterEnds, IsGreaterCut, IsLesserCut};
 ghost use Rattle.semver_cuts.specs.Ends.{IsCutAtMost, IsCutBelow};
-ghost use Rattle.node_semver.specs.Meaning.{HasOpenEnd, IsInside, Opens};
+ghost use Rattle.node_semver.specs.Meaning.{AreVoid, HasOpenEnd, IsInside, Opens};
 ghost use Rattle.node_semver.specs.Order.{version_cmp};
 ghost use Rattle.node_semver.specs.Version.{HasSameTriple};
 
@@ -84,4 +85,47 @@ fn has_same_triple(one: &Version, other: &Version) -> bool
     ensures { IsTrue result ↔ HasSameTriple one.now other.now }
 {
     one.major == other.major && one.minor == other.minor && one.patch == other.patch
+}
+
+// Whether there are no comparators, or no cut lies in all of them.
+pub(crate) fn are_void(comparators: &[Comparator]) -> bool
+    ensures { IsTrue result ↔ AreVoid comparators.now }
+{
+    let Some((first, others)) = comparators.split_first() else {
+        return true;
+    };
+    let (lower, upper) = outer_ends(first, others);
+    !lower.cmp(upper).is_lt()
+}
+
+// The greatest lower end and the least upper one.
+fn outer_ends<'a>(
+    first: &'a Comparator,
+    others: &'a [Comparator],
+) -> (&'a Cut<Version>, &'a Cut<Version>)
+    ensures { AreOuterEnds version_cmp (first.now ∷ others.now) result.0.now result.1.now }
+{
+    let mut lower = &first.lower;
+    let mut upper = &first.upper;
+    for comparator in others {
+        lower = greater(lower, &comparator.lower);
+        upper = lesser(upper, &comparator.upper);
+    }
+    (lower, upper)
+}
+
+#[inline]
+#[tactic(auto, using(crate::proofs::CommonCut::greater_then, crate::proofs::CommonCut::greater_else))]
+fn greater<'a>(one: &'a Cut<Version>, other: &'a Cut<Version>) -> &'a Cut<Version>
+    ensures { IsGreaterCut version_cmp one.now other.now result.now }
+{
+    if one.cmp(other).is_lt() { other } else { one }
+}
+
+#[inline]
+#[tactic(auto, using(crate::proofs::CommonCut::lesser_then, crate::proofs::CommonCut::lesser_else))]
+fn lesser<'a>(one: &'a Cut<Version>, other: &'a Cut<Version>) -> &'a Cut<Version>
+    ensures { IsLesserCut version_cmp one.now other.now result.now }
+{
+    if other.cmp(one).is_lt() { other } else { one }
 }

@@ -4,7 +4,7 @@ use Rattle.std.specs.Prelude.{codes}
 use Rattle.node_semver.specs.Error.{Kind, context, max_int, other, parse_int}
 use Rattle.node_semver.specs.Fault.{IsFault}
 use Rattle.node_semver.specs.IdentifierValue.{IdentifierValue, alphanumeric, numeric}
-use Rattle.node_semver.specs.Reading.{after, after_mark, build_at, extras_at, front, list_after, list_front, marked_at, number_at, numbers_at, point_at, prerelease_at, triple_at}
+use Rattle.node_semver.specs.Reading.{after, after_mark, after_plus, build_at, extras_at, front, list_after, list_front, marked_at, number_at, numbers_at, point_at, prerelease_at, triple_at}
 use Rattle.node_semver.specs.Version.{VersionValue}
 use Rattle.node_semver.specs.VersionText.{IsVersionText}
 use Rattle.node_semver.proofs.FaultLaws.{fault-computed}
@@ -49,7 +49,7 @@ left-there : IsFault (codes "1.2.3.4") other 5
     × IsFault (codes "1.2.3-a.") other 7
     × IsFault (codes "1.2.3-a.+b") other 7
     × IsFault (codes "1.2.3-a+") other 7
-unfolding after after_mark build_at extras_at front list_after list_front marked_at number_at numbers_at point_at prerelease_at triple_at
+unfolding after after_mark after_plus build_at extras_at front list_after list_front marked_at number_at numbers_at point_at prerelease_at triple_at
 left-there =
     ( fault-computed _ _ _ refl
     , fault-computed _ _ _ refl
@@ -73,7 +73,7 @@ version-there : IsVersionText (codes "v 01.02.03") (version 1 2 3 [] [])
     × IsVersionText (codes "1.2.3--") (version 1 2 3 (word (codes "-") ∷ []) [])
     × IsVersionText (codes "1.0.0-rc.2-migration") (version 1 0 0 (word (codes "rc") ∷ word (codes "2-migration") ∷ []) [])
     × IsVersionText (codes "0.0.900719925474099+a.007") (version 0 0 900719925474099 [] (word (codes "a") ∷ numeric 7 ∷ []))
-unfolding after after_mark build_at extras_at front list_after list_front marked_at number_at numbers_at point_at prerelease_at triple_at
+unfolding after after_mark after_plus build_at extras_at front list_after list_front marked_at number_at numbers_at point_at prerelease_at triple_at
 version-there =
     ( read-version _ _ (omega arith) refl
     , read-version _ _ (omega arith) refl

@@ -1,7 +1,11 @@
 mod OrderExamples
 mod Prereleases
+mod PrintExamples
 pub mod Characters
+pub mod CommonCut
+pub mod ComparatorReading
 pub mod Digits
+pub mod DivisionLaws
 pub mod FaultExamples
 pub mod FaultLaws
 pub mod FaultReading
@@ -9,8 +13,9 @@ pub mod Fronts
 pub mod IdentifierReading
 pub mod ListReading
 pub mod LongestReading
+pub mod MeaningLaws
 pub mod NumberReading
-pub mod Places
 pub mod OneReading
+pub mod Places
+pub mod SomeElement
 pub mod VersionReading
-mod PrintExamples

@@ -11,7 +11,7 @@ use Rattle.node_semver.specs.IdentifierValue.{IdentifierValue}
 use Rattle.node_semver.specs.NumberText.{IsNumberText, number_of}
 use Rattle.node_semver.specs.Version.{VersionValue}
 use Rattle.node_semver.specs.VersionText.{IsMarkedTriple, IsTripleText}
-use Rattle.node_semver.specs.Reading.{◌>>=◌, after, after_mark, begins, build_at, extras_at, front, goes_on, list_after, list_or, list_values, marked_at, number_at, numbers_at, point_at, prerelease_at, triple_at, version_of}
+use Rattle.node_semver.specs.Reading.{◌>>=◌, after, after_mark, after_plus, begins, build_at, extras_at, front, goes_on, list_after, list_or, list_values, marked_at, number_at, numbers_at, point_at, prerelease_at, triple_at, version_of}
 use Rattle.node_semver.proofs.Fronts.{after-again, begins-append, front-after, with-begins}
 use Rattle.node_semver.proofs.IdentifierReading.{GoOn, begins-first, build-takes, build_at-other, build_at-plus, goes_on-character, goes_on-point, list-whole, list_or-none, list_or-some, parts-other, parts-point, parts-shape, prerelease-again, prerelease-listed, prerelease-takes, prerelease_at-hyphen, prerelease_at-other}
 use Rattle.node_semver.proofs.NumberReading.{answer, bind-ok, number-again, ok-value, point-again}
@@ -192,7 +192,7 @@ list_or-no_digit otherwise text h = elim (cases_Bool (begins is_identifier_chara
 ]
 
 prerelease-no_digit : (text : List ℕ) → BeginsWithNo is_digit text → BeginsWithNo is_digit (prerelease_at text).1
-unfolding prerelease_at
+unfolding prerelease_at after_mark
 prerelease-no_digit [] h = tt
 prerelease-no_digit (b ∷ rest) h = elim (cases_Bool (b == hyphen)) [
   | inl here ↦ rw (prerelease_at-hyphen b rest here) (list_or-no_digit (b ∷ rest) rest h)
@@ -200,7 +200,7 @@ prerelease-no_digit (b ∷ rest) h = elim (cases_Bool (b == hyphen)) [
 ]
 
 build-no_digit : (text : List ℕ) → BeginsWithNo is_digit text → BeginsWithNo is_digit (build_at text).1
-unfolding build_at
+unfolding build_at after_plus
 build-no_digit [] h = tt
 build-no_digit (b ∷ rest) h = elim (cases_Bool (b == plus)) [
   | inl here ↦ rw (build_at-plus b rest here) (list_or-no_digit (b ∷ rest) rest h)

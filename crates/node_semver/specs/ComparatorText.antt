@@ -1,10 +1,10 @@
 -- Partials and comparators, as they are written: npm's range syntax.
-use Rattle.std.specs.Prelude.{◌≡◌, ℕ, ◌==◌, Bool, List, [], ◌∷◌, ◌++◌, Option, Some, None, codes}
+use Rattle.std.specs.Prelude.{◌≡◌, ℕ, ◌==◌, Bool, List, ◌++◌, Option, Some, None, codes}
 use Rattle.semver_cuts.specs.declared.cut.Cut.{Cut}
 use Rattle.semver_cuts.specs.declared.cut.Cut.TheVariants.{Start, Before, After, End}
 use Rattle.semver_cuts.specs.Ends.{Ends}
 use Rattle.node_semver.specs.Characters.{AreAll, is_blank}
-use Rattle.node_semver.specs.Version.{VersionValue}
+use Rattle.node_semver.specs.Version.{VersionValue, without_build}
 use Rattle.node_semver.specs.VersionText.{IsMarkedTriple}
 
 -- what a partial says, by its shape: all three numbers are given
@@ -42,10 +42,6 @@ Comparator = Ends VersionValue
 -- the comparator between two cuts
 abbrev pub between : Cut VersionValue → Cut VersionValue → Option Comparator
 between lower upper = Some (record { lower = lower; upper = upper })
-
--- the same version with no build
-abbrev pub without_build : VersionValue → VersionValue
-without_build v = record v { build = [] }
 
 -- What an operator makes of a partial. `=` drops the build; the others keep it.
 abbrev pub operator_comparator : Operator → Partial → Option Comparator

@@ -4,7 +4,8 @@ use Rattle.std.specs.Prelude.{◌≡◌, ◌⊎◌, ℕ, ◌^◌, ◌-◌, ◌==
 use Rattle.std.specs.List.{AllByRecursion}
 use Rattle.node_semver.specs.declared.TheConstants.{MAX_LENGTH, MAX_SAFE_INTEGER}
 use Rattle.node_semver.specs.Characters.{AreAll, BeginsWith, BeginsWithNo, is_blank, is_digit, point}
-use Rattle.node_semver.specs.Error.{Kind, context, max_int, max_length, other, parse_int}
+use Rattle.node_semver.specs.Error.{IsRefusalAt, Kind, context, max_int, max_length, other, parse_int}
+use Rattle.node_semver.specs.declared.error.SemverError.{SemverError}
 use Rattle.node_semver.specs.NumberText.{IsNumberText, number_of}
 use Rattle.node_semver.specs.Version.{VersionValue}
 use Rattle.node_semver.specs.VersionText.{IsVersionText, is_version_mark}
@@ -64,3 +65,7 @@ pub data IsFault (text : List ℕ) : Kind → ℕ → Type 0 where
       → text ≡ version ++ (b ∷ rest) → IsVersionText version v → is_digit b ≡ false
       → ((shorter behind : List ℕ) (w : VersionValue) → text ≡ shorter ++ behind → IsVersionText shorter w → length shorter ≤ length version)
       → IsFault text other (length version)
+
+-- an error tells the fault of this text
+abbrev pub IsFaultOf : List ℕ → SemverError → Type 0
+IsFaultOf text e = (kind : Kind) × (offset : ℕ) × IsFault text kind offset × IsRefusalAt text kind offset e

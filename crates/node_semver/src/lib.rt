@@ -1,14 +1,19 @@
 //! npm's versions and version ranges.
 #![tactic(auto)]
 
+mod comparator;
 mod error;
 mod identifier;
+pub mod laws;
+mod range;
 mod reading;
 mod version;
 pub mod version_laws;
+mod word;
 
 pub use error::{SemverError, SemverErrorKind, SourceSpan};
 pub use identifier::Identifier;
+pub use range::Range;
 pub use version::Version;
 
 /// The greatest major, minor or patch of a text.

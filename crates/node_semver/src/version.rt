@@ -4,6 +4,7 @@ ghost use Rattle.node_semver.specs.Version.{IsPrerelease, release};
 mod copy;
 mod hash;
 mod order;
+mod parse;
 mod print;
 #[cfg(test)]
 mod tests;

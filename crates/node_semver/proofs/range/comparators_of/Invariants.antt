@@ -1,0 +1,9 @@
+use Rattle.std.proofs.Common.{length}
+use Rattle.node_semver.proofs.DivisionLaws.{Completes}
+use Rattle.node_semver.proofs.range.comparators_of.Given as goal
+
+abbrev pub invariant-loop-rest : goal.invariant-loop-rest
+invariant-loop-rest l = Completes l.text l.comparators.items l.rest
+
+abbrev pub decreases-loop-rest : goal.decreases-loop-rest
+decreases-loop-rest l = length l.rest

@@ -1,8 +1,8 @@
 -- Worked examples: what the definitions of a version text and of a fault say of some texts.
-use Rattle.std.proofs.Common.{ℕ, List, [], ◌∷◌, refl, arith}
+use Rattle.std.proofs.Common.{◌≡◌, ℕ, ◌-◌, List, [], ◌∷◌, length, refl, ap, arith, subst}
 use Rattle.std.specs.Prelude.{codes}
-use Rattle.node_semver.specs.Error.{Kind, context, max_int, other, parse_int}
-use Rattle.node_semver.specs.Fault.{IsFault}
+use Rattle.node_semver.specs.Error.{Kind, context, max_int, max_length, other, parse_int}
+use Rattle.node_semver.specs.Fault.{IsFault, too_long}
 use Rattle.node_semver.specs.IdentifierValue.{IdentifierValue, alphanumeric, numeric}
 use Rattle.node_semver.specs.Reading.{after, after_mark, after_plus, build_at, extras_at, front, list_after, list_front, marked_at, number_at, numbers_at, point_at, prerelease_at, triple_at}
 use Rattle.node_semver.specs.Version.{VersionValue}
@@ -20,9 +20,11 @@ missing-there : IsFault (codes "") missing 0
     × IsFault (codes "1.2") missing 3
     × IsFault (codes "1 .2.3") missing 1
     × IsFault (codes "vv1.2.3") missing 1
+    × IsFault (codes "\n1.2.3") missing 0
 unfolding after after_mark front marked_at number_at numbers_at point_at triple_at
 missing-there =
     ( fault-computed _ _ _ refl
+    , fault-computed _ _ _ refl
     , fault-computed _ _ _ refl
     , fault-computed _ _ _ refl
     , fault-computed _ _ _ refl
@@ -58,6 +60,10 @@ left-there =
     , fault-computed _ _ _ refl
     , fault-computed _ _ _ refl
     , fault-computed _ _ _ refl )
+
+-- a text of 257 bytes, whatever it holds
+long-there : (text : List ℕ) → length text ≡ 257 → IsFault text max_length 256
+long-there text long = subst (λ (n : ℕ). IsFault text max_length n) (ap (λ (n : ℕ). n - 1) long) (too_long (omega arith))
 
 -- a version of these fields
 abbrev version : ℕ → ℕ → ℕ → List IdentifierValue → List IdentifierValue → VersionValue

@@ -1,17 +1,17 @@
 -- Laws of faults: each text is a version text or has a fault, never both, and one fault at most.
-use Rattle.std.proofs.Common.{◌≡◌, ◌⊎◌, ◌≤◌, ◌<◌, ℕ, ◌-◌, Bool, true, false, List, [], ◌∷◌, ◌++◌, length, Ok, Err, refl, sym, ap, ◌∙◌, inl, inr, arith, subst, append_assoc, append-nil}
+use Rattle.std.proofs.Common.{◌≡◌, ◌⊎◌, ◌≤◌, ◌<◌, ℕ, ◌-◌, true, List, [], ◌∷◌, ◌++◌, length, Ok, Err, refl, sym, ap, ◌∙◌, inl, inr, arith, subst, append_assoc, append-nil}
 use Rattle.std.proofs.lemmas.Bool.{cases_Bool, le-leb, leb-false, leb-true, lt-leb}
 use Rattle.std.proofs.lemmas.List.{length-append}
-use Rattle.std.specs.Prelude.{Option, Some, None, Result, ◌==◌, codes, if◌then◌else◌, nat_le}
+use Rattle.std.specs.Prelude.{Option, Some, None, Result, ◌==◌, if◌then◌else◌, nat_le}
 use Rattle.std.specs.List.{AllByRecursion}
 use Rattle.node_semver.specs.declared.TheConstants.{MAX_LENGTH, MAX_SAFE_INTEGER}
-use Rattle.node_semver.specs.Characters.{AreAll, BeginsWith, BeginsWithNo, is_blank, is_digit, point}
-use Rattle.node_semver.specs.Error.{Kind, context, max_length, other}
+use Rattle.node_semver.specs.Characters.{BeginsWithNo, is_blank, is_digit, point}
+use Rattle.node_semver.specs.Error.{Kind, max_length, other}
 use Rattle.node_semver.specs.Fault.{IsAllDigits, IsFault, IsFront, IsMarkOf, large_number, left_over, no_number, no_point, too_large, too_long, with_points}
 use Rattle.node_semver.specs.NumberText.{IsNumberText, number_of}
 use Rattle.node_semver.specs.Version.{VersionValue}
 use Rattle.node_semver.specs.VersionText.{IsMarkedTriple, IsVersionText, is_version_mark}
-use Rattle.node_semver.specs.Reading.{◌>>=◌, Fault, after, after_mark, begins, extras_at, front, marked_at, number_at, numbers_at, point_at, triple_at, version_of}
+use Rattle.node_semver.specs.Reading.{Fault, after, after_mark, begins, extras_at, front, marked_at, number_at, numbers_at, point_at, triple_at, version_of}
 use Rattle.node_semver.proofs.FaultReading.{fault-takes, fault_at, front-length, left-takes, missing_at}
 use Rattle.node_semver.proofs.Fronts.{after-again, begins-append, front-again, no-append, with-begins, with_no-begins}
 use Rattle.node_semver.proofs.IdentifierReading.{pick-false, pick-true}
@@ -180,7 +180,7 @@ fault-again text kind offset (no_point before digits rest count short h few all 
     let stops = points-stop h.numbers digits rest h.read (omega (arith, h.counted)) all limit none in
     stopped-told text (before ++ digits) rest kind short (h.whole ∙ sym (append_assoc before digits rest))
         (stopped text (with_points h.numbers ++ (digits ++ rest)) (missing_at rest) (front-taken text before (digits ++ rest) count h) stops)
-fault-again text kind offset (left_over version v b rest short whole h none longest) =
+fault-again text kind offset (left_over version v b rest short whole none h longest) =
     let s = version-opens version (b ∷ rest) v h.fields none in
     let read : marked_at is_version_mark text ≡ Ok (s.v, s.left) = ap (λ (l : List ℕ). marked_at is_version_mark l) whole ∙ s.read in
     short-told text short ∙ ap (λ (r : Result (VersionValue × List ℕ) Fault). told (length text) r) read ∙ left-told text version v s.v b rest s.left short whole h longest read

@@ -1,17 +1,17 @@
 -- Faults: where the reader gives a fault, the text has that fault.
-use Rattle.std.proofs.Common.{◌≡◌, ◌⊎◌, ◌≤◌, ◌<◌, ℕ, ◌+◌, ◌-◌, Bool, true, false, List, [], ◌∷◌, ◌++◌, length, Ok, Err, refl, sym, ap, ◌∙◌, inl, inr, arith, subst, append_assoc}
+use Rattle.std.proofs.Common.{◌≡◌, ◌⊎◌, ◌≤◌, ◌<◌, ℕ, ◌+◌, ◌-◌, List, [], ◌∷◌, ◌++◌, length, Ok, Err, refl, sym, ap, ◌∙◌, inl, inr, arith, subst, append_assoc}
 use Rattle.std.proofs.lemmas.Bool.{cases_Bool, leb-false}
 use Rattle.std.proofs.lemmas.List.{length-append}
 use Rattle.std.specs.Prelude.{Result, ◌==◌, codes, nat_le}
 use Rattle.std.specs.List.{AllByRecursion}
 use Rattle.node_semver.specs.declared.TheConstants.{MAX_LENGTH, MAX_SAFE_INTEGER}
-use Rattle.node_semver.specs.Characters.{AreAll, BeginsWith, BeginsWithNo, is_blank, is_digit, point}
+use Rattle.node_semver.specs.Characters.{BeginsWithNo, is_blank, is_digit, point}
 use Rattle.node_semver.specs.Error.{Kind, context, other}
 use Rattle.node_semver.specs.Fault.{IsAllDigits, IsFault, IsFront, IsMarkOf, large_number, left_over, no_number, no_point, too_large, with_points}
 use Rattle.node_semver.specs.NumberText.{IsNumberText, number_of}
 use Rattle.node_semver.specs.Version.{VersionValue}
 use Rattle.node_semver.specs.VersionText.{IsVersionText, is_version_mark}
-use Rattle.node_semver.specs.Reading.{◌>>=◌, Fault, after, after_mark, begins, extras_at, front, marked_at, number_at, numbers_at, point_at, triple_at, version_of}
+use Rattle.node_semver.specs.Reading.{◌>>=◌, Fault, after, after_mark, begins, front, marked_at, number_at, numbers_at, point_at, triple_at}
 use Rattle.node_semver.proofs.Fronts.{after-no, begins-with, begins-with_no, front-after, front-all, front-begins}
 use Rattle.node_semver.proofs.LongestReading.{marked-longest, marked-no_digit}
 use Rattle.node_semver.proofs.NumberReading.{number-takes, point-takes}
@@ -235,4 +235,4 @@ left-takes text v b rest short h =
             let l = marked-longest is_version_mark version-mark shorter behind (b ∷ rest) v w g.fields (ap (λ (l : List ℕ). marked_at is_version_mark l) (sym e) ∙ h) in
             omega (arith, ap length e, ap length t.whole, length-append shorter behind, length-append t.taken (b ∷ rest)) in
     subst (λ (n : ℕ). IsFault text other n) (front-length text t.taken (b ∷ rest) t.whole)
-        (left_over t.taken v b rest short t.whole version (marked-no_digit is_version_mark text (b ∷ rest) v h) longest)
+        (left_over t.taken v b rest short t.whole (marked-no_digit is_version_mark text (b ∷ rest) v h) version longest)

@@ -1,21 +1,21 @@
 -- What is read is the longest: behind it no more is left than behind any beginning that is such a text.
-use Rattle.std.proofs.Common.{◌≡◌, ◌≤◌, ℕ, Bool, true, false, List, [], ◌∷◌, ◌++◌, length, Ok, Err, refl, sym, ap, ◌∙◌, inl, inr, arith, subst, append_assoc}
+use Rattle.std.proofs.Common.{◌≡◌, ◌≤◌, ℕ, Bool, true, List, [], ◌∷◌, ◌++◌, length, Ok, refl, sym, ap, ◌∙◌, inl, inr, arith, subst, append_assoc}
 use Rattle.std.proofs.lemmas.Bool.{and_parts, cases_Bool}
 use Rattle.std.proofs.lemmas.List.{length-append}
-use Rattle.std.specs.Prelude.{Result, ◌==◌, ◌||◌, map, nat_le, if◌then◌else◌}
+use Rattle.std.specs.Prelude.{◌==◌, nat_le}
 use Rattle.std.specs.List.{AllByRecursion, list_all}
 use Rattle.node_semver.specs.declared.TheConstants.{MAX_SAFE_INTEGER}
 use Rattle.node_semver.specs.Characters.{AreAll, BeginsWith, BeginsWithNo, hyphen, is_blank, is_digit, is_identifier_character, plus, point}
-use Rattle.node_semver.specs.IdentifierText.{IsBuildText, IsExtrasText, IsIdentifierList, IsIdentifierText, IsPrereleaseText, identifier_of, parts_of}
+use Rattle.node_semver.specs.IdentifierText.{IsBuildText, IsExtrasText, IsIdentifierList, IsIdentifierText, IsPrereleaseText, parts_of}
 use Rattle.node_semver.specs.IdentifierValue.{IdentifierValue}
 use Rattle.node_semver.specs.NumberText.{IsNumberText, number_of}
 use Rattle.node_semver.specs.Version.{VersionValue}
 use Rattle.node_semver.specs.VersionText.{IsMarkedTriple, IsTripleText}
-use Rattle.node_semver.specs.Reading.{◌>>=◌, after, after_mark, after_plus, begins, build_at, extras_at, front, goes_on, list_after, list_or, list_values, marked_at, number_at, numbers_at, point_at, prerelease_at, triple_at, version_of}
+use Rattle.node_semver.specs.Reading.{after, after_mark, after_plus, begins, build_at, extras_at, front, goes_on, list_after, list_or, marked_at, number_at, numbers_at, prerelease_at, triple_at, version_of}
 use Rattle.node_semver.proofs.Fronts.{after-again, begins-append, front-after, with-begins}
 use Rattle.node_semver.proofs.IdentifierReading.{GoOn, begins-first, build-takes, build_at-other, build_at-plus, goes_on-character, goes_on-point, list-whole, list_or-none, list_or-some, parts-other, parts-point, parts-shape, prerelease-again, prerelease-listed, prerelease-takes, prerelease_at-hyphen, prerelease_at-other}
 use Rattle.node_semver.proofs.NumberReading.{answer, bind-ok, number-again, ok-value, point-again}
-use Rattle.node_semver.proofs.VersionReading.{IsMarkTest, bind-on, digit-no_blank, mark-again, numbers-takes, regroup, triple-begins}
+use Rattle.node_semver.proofs.VersionReading.{IsMarkTest, digit-no_blank, mark-again, numbers-takes, regroup, triple-begins}
 
 -- a rest is no longer than the whole
 pub rest-short : (text taken rest : List ℕ) → text ≡ taken ++ rest → length rest ≤ length text

@@ -1,6 +1,6 @@
--- The fault of a text that is no version text: what is told, and at which byte offset. It is the first fault from the
--- left, where the text is followed as a version text is written: SemVer 2.0.0, section 2, in npm's loose form.
-use Rattle.std.specs.Prelude.{◌≡◌, ◌⊎◌, ℕ, ◌^◌, ◌-◌, ◌==◌, ◌<◌, ◌≤◌, nat_lt, if◌then◌else◌, Bool, true, false, List, [], ◌∷◌, ◌++◌, length, codes}
+-- The fault of a text that is no version text: a kind, and a byte offset from 0. It is the first fault from the left,
+-- where the text is followed as a version text is written: SemVer 2.0.0, section 2, in npm's loose form.
+use Rattle.std.specs.Prelude.{◌≡◌, ◌⊎◌, ℕ, ◌^◌, ◌-◌, ◌==◌, ◌<◌, ◌≤◌, nat_lt, if◌then◌else◌, true, false, List, [], ◌∷◌, ◌++◌, length, codes}
 use Rattle.std.specs.List.{AllByRecursion}
 use Rattle.node_semver.specs.declared.TheConstants.{MAX_LENGTH, MAX_SAFE_INTEGER}
 use Rattle.node_semver.specs.Characters.{AreAll, BeginsWith, BeginsWithNo, is_blank, is_digit, point}
@@ -43,7 +43,7 @@ pub record IsAllDigits (digits rest : List ℕ) : Type 0 where
 abbrev pub too_large : ℕ → Kind
 too_large number = if nat_lt number (2 ^ 64) then max_int number else parse_int
 
--- The kind and the byte offset of what is wrong with a text that is no version text
+-- the kind and the byte offset of what is wrong with a text that is no version text
 pub data IsFault (text : List ℕ) : Kind → ℕ → Type 0 where
   -- more than 256 bytes: at the length less one
   too_long : MAX_LENGTH < length text → IsFault text max_length (length text - 1)
@@ -51,7 +51,7 @@ pub data IsFault (text : List ℕ) : Kind → ℕ → Type 0 where
   no_number : (front rest : List ℕ) (count : ℕ) → length text ≤ MAX_LENGTH
       → IsFront text front rest count → BeginsWithNo is_digit rest
       → IsFault text (context (codes "version")) (length front)
-  -- a number, all its digits, above MAX_SAFE_INTEGER, whatever follows it: `1.900719925474100.a` at 2
+  -- a number, all its digits, above MAX_SAFE_INTEGER, whatever follows it: `1.99999999999999999999.a` at 2
   large_number : (front digits rest : List ℕ) (count : ℕ) → length text ≤ MAX_LENGTH
       → IsFront text front (digits ++ rest) count → IsAllDigits digits rest → MAX_SAFE_INTEGER < number_of digits
       → IsFault text (too_large (number_of digits)) (length front)
@@ -60,11 +60,12 @@ pub data IsFault (text : List ℕ) : Kind → ℕ → Type 0 where
       → IsFront text front (digits ++ rest) count → count < 2 → IsAllDigits digits rest → number_of digits ≤ MAX_SAFE_INTEGER
       → BeginsWithNo (λ b. b == point) rest
       → IsFault text (context (codes "version")) (length (front ++ digits))
-  -- something left behind the longest beginning that is a version text, and not the rest of a number: `1.2.3 ` at 5
-  left_over : (version : List ℕ) (v : VersionValue) (b : ℕ) (rest : List ℕ) → length text ≤ MAX_LENGTH
-      → text ≡ version ++ (b ∷ rest) → IsVersionText version v → is_digit b ≡ false
-      → ((shorter behind : List ℕ) (w : VersionValue) → text ≡ shorter ++ behind → IsVersionText shorter w → length shorter ≤ length version)
-      → IsFault text other (length version)
+  -- Else a byte is left behind the longest beginning that is a version text: `1.2.3 ` at 5. It is no digit, since the
+  -- third number takes all its digits: `1.2.99999999999999999999` begins with a version text, and its third number is too large.
+  left_over : (beginning : List ℕ) (v : VersionValue) (b : ℕ) (rest : List ℕ) → length text ≤ MAX_LENGTH
+      → text ≡ beginning ++ (b ∷ rest) → is_digit b ≡ false → IsVersionText beginning v
+      → ((other_beginning behind : List ℕ) (w : VersionValue) → text ≡ other_beginning ++ behind → IsVersionText other_beginning w → length other_beginning ≤ length beginning)
+      → IsFault text other (length beginning)
 
 -- an error tells the fault of this text
 abbrev pub IsFaultOf : List ℕ → SemverError → Type 0

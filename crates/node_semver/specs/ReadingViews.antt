@@ -1,9 +1,10 @@
 -- What is seen of what the private readers answer.
-use Rattle.std.specs.Prelude.{◌≡◌, ◌⊎◌, ℕ, List, [], length, Result, Ok, Err, IsOk, codes}
+use Rattle.std.specs.Prelude.{◌≡◌, ◌-◌, ◌⊎◌, ℕ, List, [], length, Result, Ok, Err, IsOk, codes}
 use Rattle.node_semver.specs.Version.{VersionValue}
 use Rattle.std.specs.Borrow.{Bor}
 use Rattle.node_semver.specs.Characters.{is_digit}
 use Rattle.node_semver.specs.Error.{context, kind_of, out_of_memory}
+use Rattle.node_semver.specs.Fault.{IsFault}
 use Rattle.node_semver.specs.NumberText.{number_of}
 use Rattle.node_semver.specs.Reading.{Fault, Read, front, too_large}
 use Rattle.std.specs.declared.vec.Vec.{Vec}
@@ -55,3 +56,7 @@ IsPlainOk r (Err f) = Unit {0}
 -- a list of identifiers and the bytes behind it
 abbrev pub IsListRead : List IdentifierValue × List ℕ → Vec Identifier Global × Bor (List ℕ) → Type 0
 IsListRead read x = (values_of x.0.items ≡ read.0) × (x.1.now ≡ read.1)
+
+-- memory ran out, or the fault is that of the text
+abbrev pub IsMemoryOr : List ℕ → CodeFault → Type 0
+IsMemoryOr text f = (kind_of f.kind ≡ out_of_memory) ⊎ IsFault text (kind_of f.kind) (length text - f.left)

@@ -1,10 +1,12 @@
-ghost use Rattle.std.specs.Prelude.{◌≡◌, ◌⊎◌, [], IfOk, IfErr, IsOk};
-ghost use Rattle.node_semver.specs.Error.{IsOutOfMemory, kind_of};
+ghost use Rattle.std.specs.Prelude.{◌≡◌, ◌-◌, ◌⊎◌, [], length, IfOk, IfErr, IsOk};
+ghost use Rattle.node_semver.specs.Error.{IsOutOfMemory, IsRefusalAt, kind_of};
 ghost use Rattle.node_semver.specs.Fault.{IsFaultOf};
+ghost use Rattle.node_semver.specs.ReadingViews.{IsMemoryOr};
 ghost use Rattle.node_semver.specs.Version.{VersionValue};
 ghost use Rattle.node_semver.specs.VersionText.{IsReadAs, IsVersionText};
 
-use crate::{MAX_LENGTH, SemverError, SemverErrorKind, Version, reading};
+use crate::reading::{self, Fault};
+use crate::{MAX_LENGTH, SemverError, SemverErrorKind, Version};
 use std::alloc::Global;
 
 impl Version {
@@ -17,24 +19,46 @@ impl Version {
         ensures plain { (v : VersionValue) → IsVersionText text.now v → v.pre_release ≡ []
             → v.build ≡ [] → IsOk result }
     {
-        let bytes = text.as_bytes();
-        if bytes.len() > MAX_LENGTH {
-            let kind = SemverErrorKind::MaxLengthError;
-            return Err(SemverError::new(alloc, text, bytes.len() - 1, kind));
+        match whole(alloc, text.as_bytes()) {
+            Ok(version) => Ok(version),
+            Err(fault) => Err(refusal(alloc, text, fault)),
         }
-        match reading::version(alloc, bytes) {
-            Ok((version, [])) => Ok(version),
-            Ok((_, rest)) => {
-                let offset = bytes.len().saturating_sub(rest.len());
-                Err(SemverError::new(alloc, text, offset, SemverErrorKind::Other))
-            }
-            Err(fault) => match fault.kind {
-                SemverErrorKind::OutOfMemory => Err(SemverError::out_of_memory(alloc)),
-                kind => {
-                    let offset = bytes.len().saturating_sub(fault.left);
-                    Err(SemverError::new(alloc, text, offset, kind))
-                }
-            },
-        }
+    }
+}
+
+// The version that a whole text is.
+#[inline(always)]
+fn whole(alloc: Global, text: &[u8]) -> Result<Version, Fault>
+    ensures found { IfOk result (λ v. IsVersionText text.now v) }
+    ensures fault { IfErr result (IsMemoryOr text.now) }
+    ensures plain { (v : VersionValue) → IsVersionText text.now v → v.pre_release ≡ []
+        → v.build ≡ [] → IsOk result }
+{
+    if text.len() > MAX_LENGTH {
+        return Err(Fault {
+            kind: SemverErrorKind::MaxLengthError,
+            left: 1,
+        });
+    }
+    let (version, rest) = reading::version(alloc, text)?;
+    if !rest.is_empty() {
+        return Err(Fault {
+            kind: SemverErrorKind::Other,
+            left: rest.len(),
+        });
+    }
+    Ok(version)
+}
+
+// The error that tells a fault of this text.
+#[cold]
+fn refusal(alloc: Global, text: &str, fault: Fault) -> SemverError
+    ensures { IsOutOfMemory result
+        ⊎ IsRefusalAt text.now (kind_of fault.kind) (length text.now - fault.left) result }
+{
+    let offset = text.len().saturating_sub(fault.left);
+    match fault.kind {
+        SemverErrorKind::OutOfMemory => SemverError::out_of_memory(alloc),
+        kind => SemverError::new(alloc, text, offset, kind),
     }
 }

@@ -18,4 +18,5 @@ pub mod NumberReading
 pub mod OneReading
 pub mod Places
 pub mod SomeElement
+pub mod VersionParse
 pub mod VersionReading

@@ -1,5 +1,5 @@
 ghost use Rattle.std.specs.Prelude.{◌≡◌, ◌-◌, ◌⊎◌, [], length, IfOk, IfErr, IsOk};
-ghost use Rattle.node_semver.specs.Error.{IsOutOfMemory, IsRefusalAt, kind_of};
+ghost use Rattle.node_semver.specs.Error.{IsOutOfMemory, IsRefusalAt, kind_of, out_of_memory};
 ghost use Rattle.node_semver.specs.Fault.{IsFaultOf};
 ghost use Rattle.node_semver.specs.ReadingViews.{IsMemoryOr};
 ghost use Rattle.node_semver.specs.Version.{VersionValue};
@@ -40,20 +40,21 @@ fn whole(alloc: Global, text: &[u8]) -> Result<Version, Fault>
             left: 1,
         });
     }
-    let (version, rest) = reading::version(alloc, text)?;
-    if !rest.is_empty() {
-        return Err(Fault {
+    match reading::version(alloc, text) {
+        Ok((version, [])) => Ok(version),
+        Ok((_, rest)) => Err(Fault {
             kind: SemverErrorKind::Other,
             left: rest.len(),
-        });
+        }),
+        Err(fault) => Err(fault),
     }
-    Ok(version)
 }
 
 // The error that tells a fault of this text.
 #[cold]
 fn refusal(alloc: Global, text: &str, fault: Fault) -> SemverError
-    ensures { IsOutOfMemory result
+    ensures memory { kind_of fault.kind ≡ out_of_memory → IsOutOfMemory result }
+    ensures fault { IsOutOfMemory result
         ⊎ IsRefusalAt text.now (kind_of fault.kind) (length text.now - fault.left) result }
 {
     let offset = text.len().saturating_sub(fault.left);

@@ -8,3 +8,5 @@ pub mod NumberReading
 pub mod VersionReading
 pub mod SomeElement
 pub mod CommonCut
+pub mod RangeComputing
+pub mod RangeExamples

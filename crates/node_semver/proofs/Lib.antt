@@ -20,3 +20,6 @@ pub mod Places
 pub mod SomeElement
 pub mod VersionParse
 pub mod VersionReading
+pub mod CommonCut
+pub mod RangeComputing
+pub mod RangeExamples

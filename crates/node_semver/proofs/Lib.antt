@@ -17,9 +17,8 @@ pub mod MeaningLaws
 pub mod NumberReading
 pub mod OneReading
 pub mod Places
+pub mod RangeComputing
+pub mod RangeExamples
 pub mod SomeElement
 pub mod VersionParse
 pub mod VersionReading
-pub mod CommonCut
-pub mod RangeComputing
-pub mod RangeExamples

@@ -5,6 +5,9 @@ ghost use Rattle.node_semver.specs.ReadingViews.{IsMemoryOr};
 ghost use Rattle.node_semver.specs.Version.{VersionValue};
 ghost use Rattle.node_semver.specs.VersionText.{IsReadAs, IsVersionText};
 
+#[cfg(test)]
+mod tests;
+
 use crate::reading::{self, Fault};
 use crate::{MAX_LENGTH, SemverError, SemverErrorKind, Version};
 use std::alloc::Global;

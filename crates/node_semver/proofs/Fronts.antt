@@ -80,3 +80,13 @@ begins-append test (b ∷ text) rest h = h
 pub no-append : (test : ℕ → Bool) (text rest : List ℕ) → BeginsWithNo test text → BeginsWithNo test rest → BeginsWithNo test (text ++ rest)
 no-append test [] rest h g = g
 no-append test (b ∷ text) rest h g = h
+
+-- a first character that does not pass
+pub front-none : (test : ℕ → Bool) (b : ℕ) (rest : List ℕ) → test b ≡ false → front test (b ∷ rest) ≡ []
+unfolding front
+front-none test b rest stops = rw stops refl
+
+-- no character at all
+pub front-nil : (test : ℕ → Bool) → front test [] ≡ []
+unfolding front
+front-nil test = refl

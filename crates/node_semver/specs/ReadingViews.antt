@@ -3,7 +3,7 @@ use Rattle.std.specs.Prelude.{◌≡◌, ◌-◌, ◌⊎◌, ℕ, List, [], leng
 use Rattle.node_semver.specs.Version.{VersionValue}
 use Rattle.std.specs.Borrow.{Bor}
 use Rattle.node_semver.specs.Characters.{is_digit}
-use Rattle.node_semver.specs.Error.{context, kind_of, out_of_memory}
+use Rattle.node_semver.specs.Error.{Kind, context, max_length, other, out_of_memory}
 use Rattle.node_semver.specs.Fault.{IsFault}
 use Rattle.node_semver.specs.NumberText.{number_of}
 use Rattle.node_semver.specs.Reading.{Fault, Read, front, too_large}
@@ -13,10 +13,24 @@ use Rattle.node_semver.specs.Identifier.{values_of}
 use Rattle.node_semver.specs.IdentifierValue.{IdentifierValue}
 use Rattle.node_semver.specs.declared.identifier.Identifier.{Identifier}
 use Rattle.node_semver.specs.declared.reading.Fault.{Fault as CodeFault}
+use Rattle.node_semver.specs.declared.reading.FaultKind.{FaultKind}
+use Rattle.node_semver.specs.declared.reading.FaultKind.TheVariants.{LeftOver, Missing, OutOfMemory, TooLarge, TooLong}
 
--- a fault without where its word lies in memory
+-- the kind of a fault, from the text where it lies
+abbrev pub kind_at : FaultKind → List ℕ → Kind
+kind_at TooLong rest = max_length
+kind_at Missing rest = context (codes "version")
+kind_at TooLarge rest = too_large (number_of (front is_digit rest))
+kind_at LeftOver rest = other
+kind_at OutOfMemory rest = out_of_memory
+
+-- a fault without where its text lies in memory
 abbrev pub fault_of : CodeFault → Fault
-fault_of f = record { kind = kind_of f.kind; left = f.left }
+fault_of f = record { kind = kind_at f.kind f.rest.now; left = length f.rest.now }
+
+-- no fault: memory was refused
+abbrev pub IsWantOfMemory : CodeFault → Type 0
+IsWantOfMemory f = f.kind ≡ OutOfMemory
 
 -- what a reader that takes no memory answered
 abbrev pub seen : {A : Type 0} → Result (A × Bor (List ℕ)) CodeFault → Read A
@@ -37,7 +51,7 @@ large_fault text = record { kind = too_large (number_of (front is_digit text)); 
 -- what a reader answered, seen by a view, is what reading gives, unless memory ran out
 abbrev pub Gives : {X A : Type 0} → (X → A) → Result X CodeFault → Result A Fault → Type 0
 Gives view (Ok x) read = read ≡ Ok (view x)
-Gives view (Err f) read = (kind_of f.kind ≡ out_of_memory) ⊎ (read ≡ Err (fault_of f))
+Gives view (Err f) read = IsWantOfMemory f ⊎ (read ≡ Err (fault_of f))
 
 -- the bytes behind a point
 abbrev pub point_seen : Result (Bor (List ℕ)) CodeFault → Result (List ℕ) Fault
@@ -59,4 +73,4 @@ IsListRead read x = (values_of x.0.items ≡ read.0) × (x.1.now ≡ read.1)
 
 -- memory ran out, or the fault is that of the text
 abbrev pub IsMemoryOr : List ℕ → CodeFault → Type 0
-IsMemoryOr text f = (kind_of f.kind ≡ out_of_memory) ⊎ IsFault text (kind_of f.kind) (length text - f.left)
+IsMemoryOr text f = IsWantOfMemory f ⊎ IsFault text (kind_at f.kind f.rest.now) (length text - length f.rest.now)

@@ -1,8 +1,7 @@
 //! The readers of texts: each takes the bytes that are left, and gives a value and the bytes behind it.
 ghost use Rattle.std.specs.Prelude.{◌≡◌};
-ghost use Rattle.node_semver.specs.declared.error.SemverErrorKind.TheVariants.{OutOfMemory};
+ghost use Rattle.node_semver.specs.ReadingViews.{IsWantOfMemory};
 
-use crate::SemverErrorKind;
 use std::alloc::AllocError;
 
 mod blanks;
@@ -10,22 +9,39 @@ mod identifiers;
 mod number;
 mod triple;
 
+pub(crate) use blanks::{behind_blanks, is_blank};
+pub(crate) use number::large_kind;
 pub(crate) use triple::{partial, version};
 
-/// What is wrong with a text, and how many of its bytes stand from there on.
-#[derive(Debug, Drop)]
-pub(crate) struct Fault {
-    pub(crate) kind: SemverErrorKind,
-    pub(crate) left: usize,
+/// What is wrong with a text.
+#[derive(Clone, Copy, Debug, PartialEq, Eq)]
+pub(crate) enum FaultKind {
+    /// It has too many bytes.
+    TooLong,
+    /// A number or a point is missing.
+    Missing,
+    /// A number is too large.
+    TooLarge,
+    /// Bytes are left.
+    LeftOver,
+    /// Nothing: memory was refused.
+    OutOfMemory,
 }
 
-impl From<AllocError> for Fault {
-    ghost from_gives = { λ _ f. f ≡ record { kind = OutOfMemory; left = 0 } };
+/// What is wrong with a text, and its bytes from there on.
+#[derive(Clone, Copy, Debug)]
+pub(crate) struct Fault<'a> {
+    pub(crate) kind: FaultKind,
+    pub(crate) rest: &'a [u8],
+}
 
-    fn from(_error: AllocError) -> Fault {
+impl<'a> From<AllocError> for Fault<'a> {
+    ghost from_gives = { λ _ f. IsWantOfMemory f };
+
+    fn from(_error: AllocError) -> Fault<'a> {
         Fault {
-            kind: SemverErrorKind::OutOfMemory,
-            left: 0,
+            kind: FaultKind::OutOfMemory,
+            rest: b"",
         }
     }
 }

@@ -8,8 +8,8 @@ ghost use Rattle.node_semver.specs.Word.{operator_of, operator_seen, word_seen};
 ghost use Rattle.node_semver.specs.WordReading.{is_clean, is_solid, next_word, operator_at, with_equals, word_at};
 
 use crate::comparator::Comparator;
-use crate::reading::partial;
-use crate::{SemverErrorKind, Version};
+use crate::reading::{FaultKind, partial};
+use crate::Version;
 use semver_cuts::Cut;
 use std::alloc::{AllocError, Global};
 
@@ -50,7 +50,7 @@ fn word(alloc: Global, text: &[u8]) -> Result<Option<(Comparator, &[u8])>, Alloc
         }
         Ok(_) => Ok(None),
         Err(fault) => match fault.kind {
-            SemverErrorKind::OutOfMemory => Err(AllocError),
+            FaultKind::OutOfMemory => Err(AllocError),
             _ => Ok(None),
         },
     }

@@ -5,13 +5,13 @@ ghost use Rattle.node_semver.specs.Error.{kind_of};
 ghost use Rattle.node_semver.specs.Reading.{front, number_at, too_large as too_large_kind};
 ghost use Rattle.node_semver.specs.ReadingViews.{fault_of, large_fault, missing_fault, seen};
 
-use crate::reading::Fault;
+use crate::reading::{Fault, FaultKind};
 use crate::{MAX_SAFE_INTEGER, SemverErrorKind};
 use std::str;
 
 // `12` of `12.3`: all the digits that stand together
 #[inline(always)]
-pub(crate) fn number(text: &[u8]) -> Result<(u64, &[u8]), Fault>
+pub(crate) fn number(text: &[u8]) -> Result<(u64, &[u8]), Fault<'_>>
     ensures { seen result ≡ number_at text.now }
 {
     let mut value: u64 = 0;
@@ -35,34 +35,33 @@ pub(crate) fn number(text: &[u8]) -> Result<(u64, &[u8]), Fault>
 }
 
 // A number or a point must stand here.
-#[cold]
-pub(crate) fn missing(text: &[u8]) -> Fault
+#[inline(always)]
+pub(crate) fn missing(text: &[u8]) -> Fault<'_>
     ensures { fault_of result ≡ missing_fault text.now }
 {
     Fault {
-        kind: SemverErrorKind::Context("version"),
-        left: text.len(),
+        kind: FaultKind::Missing,
+        rest: text,
     }
 }
 
 // The digits at the front write a number that is too large.
-#[cold]
-fn too_large(text: &[u8]) -> Fault
-    requires { BeginsWith is_digit text.now }
+#[inline(always)]
+fn too_large(text: &[u8]) -> Fault<'_>
     ensures { fault_of result ≡ large_fault text.now }
 {
     Fault {
-        kind: large_kind(digits(text)),
-        left: text.len(),
+        kind: FaultKind::TooLarge,
+        rest: text,
     }
 }
 
 // Why such a number is refused: `900719925474100`, `18446744073709551616`
-fn large_kind(digits: &[u8]) -> SemverErrorKind
-    requires some { BeginsWith is_digit digits.now }
-    requires all { AreAll is_digit digits.now }
-    ensures { kind_of result ≡ too_large_kind (number_of digits.now) }
+pub(crate) fn large_kind(text: &[u8]) -> SemverErrorKind
+    requires { BeginsWith is_digit text.now }
+    ensures { kind_of result ≡ too_large_kind (number_of (front is_digit text.now)) }
 {
+    let digits = digits(text);
     // Digits are ASCII.
     let digits = unsafe { str::from_utf8_unchecked(digits) };
     match digits.parse::<u64>() {

@@ -14,7 +14,7 @@ use std::alloc::Global;
 // The bytes behind a point.
 #[inline(always)]
 #[tactic(auto, unfolding(crate::specs::Reading::point_at))]
-fn point(text: &[u8]) -> Result<&[u8], Fault>
+fn point(text: &[u8]) -> Result<&[u8], Fault<'_>>
     ensures { point_seen result ≡ point_at text.now }
 {
     match text {
@@ -26,7 +26,7 @@ fn point(text: &[u8]) -> Result<&[u8], Fault>
 // `1.2.3` of `1.2.3-alpha`
 #[inline(always)]
 #[tactic(auto, unfolding(crate::specs::Reading::numbers_at))]
-fn numbers(text: &[u8]) -> Result<((u64, u64, u64), &[u8]), Fault>
+fn numbers(text: &[u8]) -> Result<((u64, u64, u64), &[u8]), Fault<'_>>
     ensures { seen result ≡ numbers_at text.now }
 {
     let (major, rest) = number(text)?;
@@ -40,7 +40,7 @@ fn numbers(text: &[u8]) -> Result<((u64, u64, u64), &[u8]), Fault>
 // `1.2.3-alpha+5` of `1.2.3-alpha+5 <2.0.0`
 #[inline(always)]
 #[tactic(auto, unfolding(crate::specs::Reading::triple_at, crate::specs::Reading::extras_at))]
-fn triple(alloc: Global, text: &[u8]) -> Result<(Version, &[u8]), Fault>
+fn triple(alloc: Global, text: &[u8]) -> Result<(Version, &[u8]), Fault<'_>>
     ensures read { Gives version_seen result (triple_at text.now) }
     ensures plain { IsPlainOk result (triple_at text.now) }
 {
@@ -60,7 +60,7 @@ fn triple(alloc: Global, text: &[u8]) -> Result<(Version, &[u8]), Fault>
 // A version at the front of a text: `V 1.2.3`
 #[inline(always)]
 #[tactic(auto, unfolding(crate::specs::Reading::marked_at))]
-pub(crate) fn version(alloc: Global, text: &[u8]) -> Result<(Version, &[u8]), Fault>
+pub(crate) fn version(alloc: Global, text: &[u8]) -> Result<(Version, &[u8]), Fault<'_>>
     ensures read { Gives version_seen result (marked_at is_version_mark text.now) }
     ensures plain { IsPlainOk result (marked_at is_version_mark text.now) }
 {
@@ -70,7 +70,7 @@ pub(crate) fn version(alloc: Global, text: &[u8]) -> Result<(Version, &[u8]), Fa
 // A partial at the front of a text: `v 1.2.3`
 #[inline(always)]
 #[tactic(auto, unfolding(crate::specs::Reading::marked_at))]
-pub(crate) fn partial(alloc: Global, text: &[u8]) -> Result<(Version, &[u8]), Fault>
+pub(crate) fn partial(alloc: Global, text: &[u8]) -> Result<(Version, &[u8]), Fault<'_>>
     ensures read { Gives version_seen result (marked_at is_partial_mark text.now) }
 {
     triple(alloc, behind_blanks(behind_partial_mark(text)))

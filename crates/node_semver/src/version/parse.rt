@@ -1,14 +1,14 @@
 ghost use Rattle.std.specs.Prelude.{◌≡◌, ◌-◌, ◌⊎◌, [], length, IfOk, IfErr, IsOk};
-ghost use Rattle.node_semver.specs.Error.{IsOutOfMemory, IsRefusalAt, kind_of, out_of_memory};
+ghost use Rattle.node_semver.specs.Error.{IsOutOfMemory, IsRefusalAt};
 ghost use Rattle.node_semver.specs.Fault.{IsFaultOf};
-ghost use Rattle.node_semver.specs.ReadingViews.{IsMemoryOr};
+ghost use Rattle.node_semver.specs.ReadingViews.{IsMemoryOr, IsWantOfMemory, kind_at};
 ghost use Rattle.node_semver.specs.Version.{VersionValue};
 ghost use Rattle.node_semver.specs.VersionText.{IsReadAs, IsVersionText};
 
 #[cfg(test)]
 mod tests;
 
-use crate::reading::{self, Fault};
+use crate::reading::{self, Fault, FaultKind};
 use crate::{MAX_LENGTH, SemverError, SemverErrorKind, Version};
 use std::alloc::Global;
 
@@ -31,7 +31,7 @@ impl Version {
 
 // The version that a whole text is.
 #[inline(always)]
-fn whole(alloc: Global, text: &[u8]) -> Result<Version, Fault>
+fn whole(alloc: Global, text: &[u8]) -> Result<Version, Fault<'_>>
     ensures found { IfOk result (λ v. IsVersionText text.now v) }
     ensures fault { IfErr result (IsMemoryOr text.now) }
     ensures plain { (v : VersionValue) → IsVersionText text.now v → v.pre_release ≡ []
@@ -39,15 +39,15 @@ fn whole(alloc: Global, text: &[u8]) -> Result<Version, Fault>
 {
     if text.len() > MAX_LENGTH {
         return Err(Fault {
-            kind: SemverErrorKind::MaxLengthError,
-            left: 1,
+            kind: FaultKind::TooLong,
+            rest: &text[text.len() - 1..],
         });
     }
     match reading::version(alloc, text) {
         Ok((version, [])) => Ok(version),
         Ok((_, rest)) => Err(Fault {
-            kind: SemverErrorKind::Other,
-            left: rest.len(),
+            kind: FaultKind::LeftOver,
+            rest,
         }),
         Err(fault) => Err(fault),
     }
@@ -55,14 +55,20 @@ fn whole(alloc: Global, text: &[u8]) -> Result<Version, Fault>
 
 // The error that tells a fault of this text.
 #[cold]
-fn refusal(alloc: Global, text: &str, fault: Fault) -> SemverError
-    ensures memory { kind_of fault.kind ≡ out_of_memory → IsOutOfMemory result }
+#[inline(never)]
+fn refusal(alloc: Global, text: &str, fault: Fault<'_>) -> SemverError
+    requires { IsMemoryOr text.now fault }
+    ensures memory { IsWantOfMemory fault.entry → IsOutOfMemory result }
     ensures fault { IsOutOfMemory result
-        ⊎ IsRefusalAt text.now (kind_of fault.kind) (length text.now - fault.left) result }
+        ⊎ IsRefusalAt text.now (kind_at fault.entry.kind fault.entry.rest.now) (length text.now - length fault.entry.rest.now) result }
 {
-    let offset = text.len().saturating_sub(fault.left);
-    match fault.kind {
-        SemverErrorKind::OutOfMemory => SemverError::out_of_memory(alloc),
-        kind => SemverError::new(alloc, text, offset, kind),
-    }
+    let offset = text.len().saturating_sub(fault.rest.len());
+    let kind = match fault.kind {
+        FaultKind::OutOfMemory => return SemverError::out_of_memory(alloc),
+        FaultKind::TooLong => SemverErrorKind::MaxLengthError,
+        FaultKind::Missing => SemverErrorKind::Context("version"),
+        FaultKind::TooLarge => reading::large_kind(fault.rest),
+        FaultKind::LeftOver => SemverErrorKind::Other,
+    };
+    SemverError::new(alloc, text, offset, kind)
 }

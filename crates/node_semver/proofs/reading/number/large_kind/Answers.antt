@@ -1,12 +1,20 @@
-use Rattle.std.proofs.Common.{◌≡◌, ◌<◌, ◌^◌, ap, arith, sym, ◌∙◌}
+use Rattle.std.proofs.Common.{◌≡◌, List, ℕ, ◌∙◌, sym, ap}
 use Rattle.std.proofs.lemmas.Str.{IsUtf8-from_ascii}
+use Rattle.node_semver.specs.Characters.{is_digit}
+use Rattle.node_semver.specs.Reading.{front}
 use Rattle.node_semver.proofs.Digits.{ascii-digits, large-err, large-ok}
+use Rattle.node_semver.proofs.Fronts.{front-all, front-begins}
 use Rattle.node_semver.proofs.reading.number.large_kind.Goals as goal
 
 pub from_utf8_unchecked-digits-requires : goal.from_utf8_unchecked-digits-requires
-from_utf8_unchecked-digits-requires c = IsUtf8-from_ascii c.args.digits.now (ascii-digits c.args.digits.now c.requires.all)
+from_utf8_unchecked-digits-requires c = rw c.digits-digits.ensures (IsUtf8-from_ascii (front is_digit c.args.text.now) (ascii-digits _ (front-all is_digit c.args.text.now)))
+
+pub returns-in-Ok : goal.returns-in-Ok
+returns-in-Ok c =
+    let text : c.from_utf8_unchecked-digits.result.now ≡ front is_digit c.args.text.now = c.from_utf8_unchecked-digits.ensures ∙ c.digits-digits.ensures in
+    large-ok (front is_digit c.args.text.now) c.parse.result c.in-Ok.value (rw text at c.parse.ensures.value.0) (front-all is_digit c.args.text.now) c.in-Ok.is
 
 pub returns-in-Err : goal.returns-in-Err
 returns-in-Err c =
-    let text : c.from_utf8_unchecked-digits.result.now ≡ c.args.digits.now = c.from_utf8_unchecked-digits.ensures in
-    large-err c.args.digits.now c.parse.result c.in-Err.error (rw text at c.parse.ensures.value.0) c.requires.all c.requires.some c.in-Err.is
+    let text : c.from_utf8_unchecked-digits.result.now ≡ front is_digit c.args.text.now = c.from_utf8_unchecked-digits.ensures ∙ c.digits-digits.ensures in
+    large-err (front is_digit c.args.text.now) c.parse.result c.in-Err.error (rw text at c.parse.ensures.value.0) (front-all is_digit c.args.text.now) (front-begins is_digit c.args.text.now c.requires) c.in-Err.is

@@ -7,7 +7,6 @@ use Rattle.node_semver.specs.Reading.{front, number_at}
 use Rattle.node_semver.specs.ReadingViews.{fault_of}
 use Rattle.node_semver.proofs.Digits.{answers, over-begins, front-number-le, none-at, none-empty, number_at-large, number_at-none, number_at-through, number_of-more, refuses}
 use Rattle.node_semver.proofs.Places.{over-end, over-step, over-stop, to-end}
-use Rattle.node_semver.proofs.Fronts.{begins-with}
 use Rattle.node_semver.proofs.reading.number.number.Goals as goal
 
 pub returns-then-i-eq0 : goal.returns-then-i-eq0
@@ -25,11 +24,6 @@ digits-preserved c = record {
   value = rw (number_of-more c.args.text.now c.digits.i c.digits-test.true (grind arith), ← c.digits.invariant.value, c.from.ensures) refl;
   limit = omega arith;
 }
-
-pub too_large-requires : goal.too_large-requires
-too_large-requires c =
-    let over = over-step is_digit c.args.text.now c.digits.i c.digits-test.true (grind arith) c.digits.invariant.over in
-    begins-with is_digit c.args.text.now (over-begins c.args.text.now (c.digits.i + 1) over (omega arith) (omega arith))
 
 pub returns-then-value-gt-MAX_SAFE_INTEGER : goal.returns-then-value-gt-MAX_SAFE_INTEGER
 returns-then-value-gt-MAX_SAFE_INTEGER c =

@@ -1,4 +1,4 @@
--- How identifiers and versions print: SemVer 2.0.0, section 2, 9 and 10.
+-- How identifiers and versions print: SemVer 2.0.0, sections 2, 9 and 10.
 use Rattle.std.specs.Prelude.{ℕ, List, [], ◌∷◌, ◌++◌, map}
 use Rattle.std.specs.Fmt.{decimal}
 use Rattle.std.specs.List.{join_with_byte}

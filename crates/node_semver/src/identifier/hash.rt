@@ -7,6 +7,11 @@ ghost use Rattle.node_semver.specs.Identifier.{value_of};
 use crate::Identifier;
 use std::hash::{Hash, Hasher};
 
+/// Equal identifiers hash alike. A number and a text are fed behind different marks.
+///
+/// # Memory
+///
+/// Takes none.
 impl Hash for Identifier {
     ghost hash_input = { λ a. identifier_writes (value_of a) };
 

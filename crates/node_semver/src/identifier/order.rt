@@ -10,6 +10,11 @@ ghost use Rattle.node_semver.specs.OrderLaws.{identifier_total};
 use crate::Identifier;
 use std::cmp::Ordering;
 
+/// Two identifiers are equal where they are the same number or the same text; `Numeric(1)` is not `AlphaNumeric` of `1`.
+///
+/// # Memory
+///
+/// Takes none.
 impl PartialEq for Identifier {
     ghost eq = { on value_of (eq_by_cmp identifier_cmp) };
 
@@ -33,6 +38,7 @@ impl Eq for Identifier {
     ghost laws = { on_equiv value_of (eq_by_cmp_equiv identifier_total) };
 }
 
+/// What `cmp` answers: any two identifiers compare.
 impl PartialOrd for Identifier {
     ghost partial_cmp = { λ a b. Some (on value_of identifier_cmp a b) };
 
@@ -47,6 +53,19 @@ impl PartialOrd for Identifier {
     }
 }
 
+/// Numbers by size, texts by bytes, and a number below each text.
+///
+/// # Memory
+///
+/// Takes none.
+///
+/// # Examples
+///
+/// `2` is below `11`, `11` is below `alpha`, and `Beta` is below `alpha`.
+///
+/// # Source
+///
+/// SemVer 2.0.0, section 11.4.
 impl Ord for Identifier {
     ghost cmp = { on value_of identifier_cmp };
 

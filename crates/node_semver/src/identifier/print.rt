@@ -7,6 +7,13 @@ ghost use Rattle.node_semver.specs.Print.{identifier_text};
 use crate::Identifier;
 use std::fmt;
 
+/// The number in decimal without leading zeros, or the text.
+///
+/// A width or a fill is not looked at.
+///
+/// # Examples
+///
+/// `Numeric(1)` prints `1`, also by `{:>9}`.
 impl fmt::Display for Identifier {
     ghost output = { λ i. Some (identifier_text (value_of i)) };
 

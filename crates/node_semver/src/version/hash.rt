@@ -6,6 +6,11 @@ ghost use Rattle.node_semver.specs.HashLaws.{version_alike};
 use crate::Version;
 use std::hash::{Hash, Hasher};
 
+/// Equal versions hash alike: major, minor, patch and the prerelease are fed, and the build is not.
+///
+/// # Memory
+///
+/// Takes none.
 impl Hash for Version {
     ghost hash_input = { version_writes };
 

@@ -10,6 +10,21 @@ ghost use Rattle.node_semver.specs.OrderLaws.{version_total};
 use crate::{Identifier, Version};
 use std::cmp::Ordering;
 
+/// Two versions are equal where their triples and their prereleases are: `v == w` is true exactly where `v.cmp(w)` is `Equal`.
+///
+/// The build is not looked at, so equal versions may print differently.
+///
+/// # Memory
+///
+/// Takes none.
+///
+/// # Examples
+///
+/// `1.0.0-rc.1+7` equals `1.0.0-rc.1`, and not `1.0.0-rc.2+7`.
+///
+/// # Source
+///
+/// SemVer 2.0.0, section 10.
 impl PartialEq for Version {
     ghost eq = { eq_by_cmp version_cmp };
 
@@ -29,6 +44,7 @@ impl Eq for Version {
     ghost laws = { eq_by_cmp_equiv version_total };
 }
 
+/// What `cmp` answers: any two versions compare.
 impl PartialOrd for Version {
     ghost partial_cmp = { λ v w. Some (version_cmp v w) };
 
@@ -43,6 +59,22 @@ impl PartialOrd for Version {
     }
 }
 
+/// The precedence of versions, a total order: major, minor and patch by number, and then the prerelease.
+///
+/// With equal triples a release is above each prerelease. Two prereleases go by their identifiers from the left: numbers by
+/// size, texts by bytes, a number below each text, and a list that ends first below the longer one. The build is not looked at.
+///
+/// # Memory
+///
+/// Takes none.
+///
+/// # Examples
+///
+/// `1.0.0-alpha` is below `1.0.0-alpha.1`, that is below `1.0.0-beta`, and that below `1.0.0`; `1.0.0+7` is not above `1.0.0`.
+///
+/// # Source
+///
+/// SemVer 2.0.0, section 11.
 impl Ord for Version {
     ghost cmp = { version_cmp };
 

@@ -8,6 +8,17 @@ ghost use Rattle.node_semver.specs.PrintLaws.{dotted_text, led_text};
 use crate::{Identifier, Version};
 use std::fmt;
 
+/// Major, minor and patch with dots between, the prerelease behind `-` and the build behind `+`, identifiers joined by dots.
+///
+/// A width or a fill is not looked at. Identifiers that no text gives print as they stand.
+///
+/// # Examples
+///
+/// `1.2.34-abc.213+2` prints itself, also by `{:>40}`.
+///
+/// # Source
+///
+/// SemVer 2.0.0, sections 2, 9 and 10.
 impl fmt::Display for Version {
     ghost output = { λ v. Some (version_text v) };
 

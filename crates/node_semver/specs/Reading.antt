@@ -128,11 +128,15 @@ version_of numbers extras = record {
   build = extras.1;
 }
 
+-- the extras behind three numbers
+abbrev pub extended_at : ℕ × ℕ × ℕ → List ℕ → Read VersionValue
+extended_at numbers text =
+    let extras = extras_at text in
+    Ok (version_of numbers extras.0, extras.1)
+
 -- three numbers and extras
 unfoldable pub triple_at : List ℕ → Read VersionValue
-triple_at text = numbers_at text >>= λ numbers.
-    let extras = extras_at numbers.1 in
-    Ok (version_of numbers.0 extras.0, extras.1)
+triple_at text = numbers_at text >>= λ numbers. extended_at numbers.0 numbers.1
 
 -- a mark or none, blanks or none, and a triple
 unfoldable pub marked_at : (ℕ → Bool) → List ℕ → Read VersionValue

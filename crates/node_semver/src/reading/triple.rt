@@ -1,6 +1,6 @@
 ghost use Rattle.std.specs.Prelude.{◌≡◌, Ok, IsOk, []};
 ghost use Rattle.node_semver.specs.ComparatorText.{is_partial_mark};
-ghost use Rattle.node_semver.specs.Reading.{marked_at, numbers_at, point_at, triple_at};
+ghost use Rattle.node_semver.specs.Reading.{extended_at, marked_at, numbers_at, point_at, triple_at};
 ghost use Rattle.node_semver.specs.ReadingViews.{Gives, IsPlainOk, point_seen, seen, version_seen};
 ghost use Rattle.node_semver.specs.VersionText.{is_version_mark};
 
@@ -39,13 +39,31 @@ fn numbers(text: &[u8]) -> Result<((u64, u64, u64), &[u8]), Fault<'_>>
 
 // `1.2.3-alpha+5` of `1.2.3-alpha+5 <2.0.0`
 #[inline(always)]
-#[tactic(auto, unfolding(crate::specs::Reading::triple_at, crate::specs::Reading::extras_at))]
+#[tactic(auto, unfolding(crate::specs::Reading::triple_at, crate::specs::Reading::extras_at, crate::specs::Reading::prerelease_at, crate::specs::Reading::build_at, crate::specs::Reading::after_mark, crate::specs::Reading::after_plus))]
 fn triple(alloc: Global, text: &[u8]) -> Result<(Version, &[u8]), Fault<'_>>
     ensures read { Gives version_seen result (triple_at text.now) }
     ensures plain { IsPlainOk result (triple_at text.now) }
 {
-    let ((major, minor, patch), rest) = numbers(text)?;
-    let (pre_release, rest) = prerelease(alloc, rest)?;
+    let (numbers, rest) = numbers(text)?;
+    if let [] = rest {
+        return Ok((Version::new(alloc, numbers.0, numbers.1, numbers.2), rest));
+    }
+    extended(alloc, numbers, rest)
+}
+
+// A triple, and the prerelease and the build that stand behind it.
+#[inline(never)]
+#[tactic(auto, unfolding(crate::specs::Reading::extras_at))]
+fn extended(
+    alloc: Global,
+    triple: (u64, u64, u64),
+    text: &[u8],
+) -> Result<(Version, &[u8]), Fault<'_>>
+    ensures read { Gives version_seen result (extended_at triple text.now) }
+    ensures plain { IsPlainOk result (extended_at triple text.now) }
+{
+    let (major, minor, patch) = triple;
+    let (pre_release, rest) = prerelease(alloc, text)?;
     let (build, rest) = build(alloc, rest)?;
     let version = Version {
         major,

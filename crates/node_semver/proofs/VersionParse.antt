@@ -11,9 +11,9 @@ use Rattle.node_semver.specs.Characters.{BeginsWith, is_digit}
 use Rattle.node_semver.specs.Fault.{IsFault, large_number, left_over, no_number, no_point, too_large, too_long}
 use Rattle.node_semver.specs.NumberText.{number_of}
 use Rattle.node_semver.specs.Reading.{Fault, Read, front, marked_at}
-use Rattle.node_semver.specs.ReadingViews.{IsMemoryOr, IsPlainOk, IsWantOfMemory, fault_of, kind_at}
-use Rattle.node_semver.specs.declared.reading.FaultKind.{FaultKind}
-use Rattle.node_semver.specs.declared.reading.FaultKind.TheVariants.{OutOfMemory, TooLarge}
+use Rattle.node_semver.specs.ReadingViews.{IsMemoryOr, IsPlainOk, IsWantOfMemory, fault_of}
+use Rattle.std.specs.Borrow.{Bor}
+use Rattle.node_semver.specs.declared.reading.Fault.TheVariants.{TooLarge}
 use Rattle.node_semver.specs.Version.{VersionValue}
 use Rattle.node_semver.specs.VersionText.{IsVersionText, is_version_mark}
 use Rattle.node_semver.specs.declared.reading.Fault.{Fault as CodeFault}
@@ -100,7 +100,6 @@ large-begins text (b ∷ rest) offset h = elim (cases_Bool (is_digit b)) [
       absurd (omega (arith, large-fault text _ offset (number_of (front is_digit (b ∷ rest))) h refl))
 ]
 
-pub large-refused : (text : List ℕ) (f : CodeFault) → IsMemoryOr text f → f.kind ≡ TooLarge → BeginsWith is_digit f.rest.now
-large-refused text f (inl memory) large = absurd (cc (sym memory ∙ large))
-large-refused text f (inr fault) large =
-    large-begins text f.rest.now (length text - length f.rest.now) (subst (λ (k : FaultKind). IsFault text (kind_at k f.rest.now) (length text - length f.rest.now)) large fault)
+pub large-refused : (text : List ℕ) (rest : Bor (List ℕ)) → IsMemoryOr text (TooLarge rest) → BeginsWith is_digit rest.now
+large-refused text rest (inl memory) = absurd (cc memory)
+large-refused text rest (inr fault) = large-begins text rest.now (length text - length rest.now) fault

@@ -13,24 +13,19 @@ use Rattle.node_semver.specs.Identifier.{values_of}
 use Rattle.node_semver.specs.IdentifierValue.{IdentifierValue}
 use Rattle.node_semver.specs.declared.identifier.Identifier.{Identifier}
 use Rattle.node_semver.specs.declared.reading.Fault.{Fault as CodeFault}
-use Rattle.node_semver.specs.declared.reading.FaultKind.{FaultKind}
-use Rattle.node_semver.specs.declared.reading.FaultKind.TheVariants.{LeftOver, Missing, OutOfMemory, TooLarge, TooLong}
-
--- the kind of a fault, from the text where it lies
-abbrev pub kind_at : FaultKind → List ℕ → Kind
-kind_at TooLong rest = max_length
-kind_at Missing rest = context (codes "version")
-kind_at TooLarge rest = too_large (number_of (front is_digit rest))
-kind_at LeftOver rest = other
-kind_at OutOfMemory rest = out_of_memory
+use Rattle.node_semver.specs.declared.reading.Fault.TheVariants.{LeftOver, Missing, OutOfMemory, TooLarge, TooLong}
 
 -- a fault without where its text lies in memory
 abbrev pub fault_of : CodeFault → Fault
-fault_of f = record { kind = kind_at f.kind f.rest.now; left = length f.rest.now }
+fault_of (TooLong rest) = record { kind = max_length; left = length rest.now }
+fault_of (Missing rest) = record { kind = context (codes "version"); left = length rest.now }
+fault_of (TooLarge rest) = record { kind = too_large (number_of (front is_digit rest.now)); left = length rest.now }
+fault_of (LeftOver rest) = record { kind = other; left = length rest.now }
+fault_of OutOfMemory = record { kind = out_of_memory; left = 0 }
 
 -- no fault: memory was refused
 abbrev pub IsWantOfMemory : CodeFault → Type 0
-IsWantOfMemory f = f.kind ≡ OutOfMemory
+IsWantOfMemory f = f ≡ OutOfMemory
 
 -- what a reader that takes no memory answered
 abbrev pub seen : {A : Type 0} → Result (A × Bor (List ℕ)) CodeFault → Read A
@@ -73,4 +68,4 @@ IsListRead read x = (values_of x.0.items ≡ read.0) × (x.1.now ≡ read.1)
 
 -- memory ran out, or the fault is that of the text
 abbrev pub IsMemoryOr : List ℕ → CodeFault → Type 0
-IsMemoryOr text f = IsWantOfMemory f ⊎ IsFault text (kind_at f.kind f.rest.now) (length text - length f.rest.now)
+IsMemoryOr text f = IsWantOfMemory f ⊎ IsFault text (fault_of f).kind (length text - (fault_of f).left)

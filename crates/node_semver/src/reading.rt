@@ -1,6 +1,6 @@
 //! The readers of texts: each takes the bytes that are left, and gives a value and the bytes behind it.
 ghost use Rattle.std.specs.Prelude.{◌≡◌};
-ghost use Rattle.node_semver.specs.ReadingViews.{IsWantOfMemory};
+ghost use Rattle.node_semver.specs.declared.reading.Fault.TheVariants.{OutOfMemory};
 
 use std::alloc::AllocError;
 
@@ -13,35 +13,25 @@ pub(crate) use blanks::{behind_blanks, is_blank};
 pub(crate) use number::large_kind;
 pub(crate) use triple::{partial, version};
 
-/// What is wrong with a text.
-#[derive(Clone, Copy, Debug, PartialEq, Eq)]
-pub(crate) enum FaultKind {
+/// What is wrong with a text, and its bytes from there on.
+#[derive(Clone, Copy, Debug)]
+pub(crate) enum Fault<'a> {
     /// It has too many bytes.
-    TooLong,
+    TooLong(&'a [u8]),
     /// A number or a point is missing.
-    Missing,
+    Missing(&'a [u8]),
     /// A number is too large.
-    TooLarge,
+    TooLarge(&'a [u8]),
     /// Bytes are left.
-    LeftOver,
-    /// Nothing: memory was refused.
+    LeftOver(&'a [u8]),
+    /// Nothing is wrong: memory was refused.
     OutOfMemory,
 }
 
-/// What is wrong with a text, and its bytes from there on.
-#[derive(Clone, Copy, Debug)]
-pub(crate) struct Fault<'a> {
-    pub(crate) kind: FaultKind,
-    pub(crate) rest: &'a [u8],
-}
-
 impl<'a> From<AllocError> for Fault<'a> {
-    ghost from_gives = { λ _ f. IsWantOfMemory f };
+    ghost from_gives = { λ _ f. f ≡ OutOfMemory };
 
     fn from(_error: AllocError) -> Fault<'a> {
-        Fault {
-            kind: FaultKind::OutOfMemory,
-            rest: b"",
-        }
+        Fault::OutOfMemory
     }
 }

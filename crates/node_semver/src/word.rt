@@ -8,7 +8,7 @@ ghost use Rattle.node_semver.specs.Word.{operator_of, operator_seen, word_seen};
 ghost use Rattle.node_semver.specs.WordReading.{is_clean, is_solid, next_word, operator_at, with_equals, word_at};
 
 use crate::comparator::Comparator;
-use crate::reading::{FaultKind, partial};
+use crate::reading::{Fault, partial};
 use crate::Version;
 use semver_cuts::Cut;
 use std::alloc::{AllocError, Global};
@@ -49,10 +49,8 @@ fn word(alloc: Global, text: &[u8]) -> Result<Option<(Comparator, &[u8])>, Alloc
             Ok(Some((comparator(alloc, operator, version)?, rest)))
         }
         Ok(_) => Ok(None),
-        Err(fault) => match fault.kind {
-            FaultKind::OutOfMemory => Err(AllocError),
-            _ => Ok(None),
-        },
+        Err(Fault::OutOfMemory) => Err(AllocError),
+        Err(_) => Ok(None),
     }
 }
 

@@ -5,7 +5,7 @@ ghost use Rattle.node_semver.specs.Error.{kind_of};
 ghost use Rattle.node_semver.specs.Reading.{front, number_at, too_large as too_large_kind};
 ghost use Rattle.node_semver.specs.ReadingViews.{fault_of, large_fault, missing_fault, seen};
 
-use crate::reading::{Fault, FaultKind};
+use crate::reading::Fault;
 use crate::{MAX_SAFE_INTEGER, SemverErrorKind};
 use std::str;
 
@@ -39,10 +39,7 @@ pub(crate) fn number(text: &[u8]) -> Result<(u64, &[u8]), Fault<'_>>
 pub(crate) fn missing(text: &[u8]) -> Fault<'_>
     ensures { fault_of result ≡ missing_fault text.now }
 {
-    Fault {
-        kind: FaultKind::Missing,
-        rest: text,
-    }
+    Fault::Missing(text)
 }
 
 // The digits at the front write a number that is too large.
@@ -50,10 +47,7 @@ pub(crate) fn missing(text: &[u8]) -> Fault<'_>
 fn too_large(text: &[u8]) -> Fault<'_>
     ensures { fault_of result ≡ large_fault text.now }
 {
-    Fault {
-        kind: FaultKind::TooLarge,
-        rest: text,
-    }
+    Fault::TooLarge(text)
 }
 
 // Why such a number is refused: `900719925474100`, `18446744073709551616`

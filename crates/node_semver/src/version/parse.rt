@@ -1,14 +1,14 @@
 ghost use Rattle.std.specs.Prelude.{◌≡◌, ◌-◌, ◌⊎◌, [], length, IfOk, IfErr, IsOk};
 ghost use Rattle.node_semver.specs.Error.{IsOutOfMemory, IsRefusalAt};
 ghost use Rattle.node_semver.specs.Fault.{IsFaultOf};
-ghost use Rattle.node_semver.specs.ReadingViews.{IsMemoryOr, IsWantOfMemory, kind_at};
+ghost use Rattle.node_semver.specs.ReadingViews.{IsMemoryOr, IsWantOfMemory, fault_of};
 ghost use Rattle.node_semver.specs.Version.{VersionValue};
 ghost use Rattle.node_semver.specs.VersionText.{IsReadAs, IsVersionText};
 
 #[cfg(test)]
 mod tests;
 
-use crate::reading::{self, Fault, FaultKind};
+use crate::reading::{self, Fault};
 use crate::{MAX_LENGTH, SemverError, SemverErrorKind, Version};
 use std::alloc::Global;
 
@@ -38,17 +38,11 @@ fn whole(alloc: Global, text: &[u8]) -> Result<Version, Fault<'_>>
         → v.build ≡ [] → IsOk result }
 {
     if text.len() > MAX_LENGTH {
-        return Err(Fault {
-            kind: FaultKind::TooLong,
-            rest: &text[text.len() - 1..],
-        });
+        return Err(Fault::TooLong(&text[text.len() - 1..]));
     }
     match reading::version(alloc, text) {
         Ok((version, [])) => Ok(version),
-        Ok((_, rest)) => Err(Fault {
-            kind: FaultKind::LeftOver,
-            rest,
-        }),
+        Ok((_, rest)) => Err(Fault::LeftOver(rest)),
         Err(fault) => Err(fault),
     }
 }
@@ -60,15 +54,14 @@ fn refusal(alloc: Global, text: &str, fault: Fault<'_>) -> SemverError
     requires { IsMemoryOr text.now fault }
     ensures memory { IsWantOfMemory fault.entry → IsOutOfMemory result }
     ensures fault { IsOutOfMemory result
-        ⊎ IsRefusalAt text.now (kind_at fault.entry.kind fault.entry.rest.now) (length text.now - length fault.entry.rest.now) result }
+        ⊎ IsRefusalAt text.now (fault_of fault.entry).kind (length text.now - (fault_of fault.entry).left) result }
 {
-    let offset = text.len().saturating_sub(fault.rest.len());
-    let kind = match fault.kind {
-        FaultKind::OutOfMemory => return SemverError::out_of_memory(alloc),
-        FaultKind::TooLong => SemverErrorKind::MaxLengthError,
-        FaultKind::Missing => SemverErrorKind::Context("version"),
-        FaultKind::TooLarge => reading::large_kind(fault.rest),
-        FaultKind::LeftOver => SemverErrorKind::Other,
+    let (kind, rest) = match fault {
+        Fault::TooLong(rest) => (SemverErrorKind::MaxLengthError, rest),
+        Fault::Missing(rest) => (SemverErrorKind::Context("version"), rest),
+        Fault::TooLarge(rest) => (reading::large_kind(rest), rest),
+        Fault::LeftOver(rest) => (SemverErrorKind::Other, rest),
+        Fault::OutOfMemory => return SemverError::out_of_memory(alloc),
     };
-    SemverError::new(alloc, text, offset, kind)
+    SemverError::new(alloc, text, text.len().saturating_sub(rest.len()), kind)
 }

@@ -2,6 +2,7 @@
 ghost use Rattle.node_semver.specs.ComparatorText.{is_partial_mark};
 ghost use Rattle.node_semver.specs.Reading.{marked_at};
 ghost use Rattle.node_semver.specs.ReadingViews.{Gives};
+
 use crate::{SemverErrorKind, Version};
 use std::alloc::Global;
 

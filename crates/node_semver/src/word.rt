@@ -24,10 +24,7 @@ enum Operator {
 
 // `>=1.2.3` of `>=1.2.3 <2.0.0`, or nothing of `foo`, and the bytes behind the word
 #[tactic(auto, unfolding(crate::specs::WordReading::next_word))]
-pub(crate) fn next(
-    alloc: Global,
-    text: &[u8],
-) -> Result<(Option<Comparator>, &[u8]), AllocError>
+pub(crate) fn next(alloc: Global, text: &[u8]) -> Result<(Option<Comparator>, &[u8]), AllocError>
     ensures { IfOk result (λ w. (w.0, w.1.now) ≡ next_word text.now) }
 {
     match word(alloc, text)? {
@@ -83,11 +80,7 @@ fn with_equals(longer: Operator, shorter: Operator, text: &[u8]) -> (Operator, &
 }
 
 #[inline]
-fn comparator(
-    alloc: Global,
-    operator: Operator,
-    version: Version,
-) -> Result<Comparator, AllocError>
+fn comparator(alloc: Global, operator: Operator, version: Version) -> Result<Comparator, AllocError>
     ensures { IfOk result (λ c. Some c ≡ operator_comparator (operator_of operator) (full version)) }
 {
     let (lower, upper) = match operator {
@@ -132,7 +125,9 @@ pub(crate) fn after_blanks(text: &[u8]) -> &[u8]
     ensures { result.now ≡ after is_blank text.now }
 {
     let mut rest = text;
-    while let Some((byte, behind)) = rest.split_first() && is_blank_byte(*byte) {
+    while let Some((byte, behind)) = rest.split_first()
+        && is_blank_byte(*byte)
+    {
         rest = behind;
     }
     rest
@@ -145,7 +140,9 @@ fn thrown_away(text: &[u8]) -> &[u8]
     ensures { result.now ≡ after is_solid text.now }
 {
     let mut rest = text;
-    while let Some((byte, behind)) = rest.split_first() && !is_blank_byte(*byte) {
+    while let Some((byte, behind)) = rest.split_first()
+        && !is_blank_byte(*byte)
+    {
         rest = behind;
     }
     rest

@@ -6,7 +6,7 @@ use Rattle.std.specs.List.{AllByRecursion, list_all, onto_first, slice_split}
 use Rattle.node_semver.specs.Characters.{AreAll, BeginsWith, BeginsWithNo, hyphen, is_identifier_character, plus, point}
 use Rattle.node_semver.specs.IdentifierText.{IsBuildText, IsExtrasText, IsIdentifierList, IsIdentifierText, IsPrereleaseText, identifier_of, parts_of}
 use Rattle.node_semver.specs.IdentifierValue.{IdentifierValue}
-use Rattle.node_semver.specs.Reading.{begins, build_at, extras_at, goes_on, list_after, list_front, list_or, list_values, prerelease_at}
+use Rattle.node_semver.specs.Reading.{after_mark, after_plus, begins, build_at, extras_at, goes_on, list_after, list_front, list_or, list_values, prerelease_at}
 use Rattle.node_semver.proofs.Fronts.{begins-append, begins-with, begins-with_no, no-append, with-begins}
 
 -- The parts of a list that goes on from some earlier characters: the first part may be empty, the others are identifiers.
@@ -18,7 +18,7 @@ pub record GoOn (parts : List (List ℕ)) : Type 0 where
   pub identifiers : AllByRecursion IsIdentifierText others
 
 -- a text has at least one part
-parts-shape : (text : List ℕ) → (first : List ℕ) × (others : List (List ℕ)) × (parts_of text ≡ first ∷ others)
+pub parts-shape : (text : List ℕ) → (first : List ℕ) × (others : List (List ℕ)) × (parts_of text ≡ first ∷ others)
 parts-shape [] = ([], [], refl)
 parts-shape (b ∷ rest) = elim (cases_Bool (b == point)) [
   | inl here ↦ ([], parts_of rest, rw here refl)
@@ -28,24 +28,24 @@ parts-shape (b ∷ rest) = elim (cases_Bool (b == point)) [
 ]
 
 -- the parts from a point on, and from any other character on
-parts-point : (b : ℕ) (rest : List ℕ) → (b == point) ≡ true → parts_of (b ∷ rest) ≡ [] ∷ parts_of rest
+pub parts-point : (b : ℕ) (rest : List ℕ) → (b == point) ≡ true → parts_of (b ∷ rest) ≡ [] ∷ parts_of rest
 parts-point b rest here = rw here refl
 
-parts-other : (b : ℕ) (rest first : List ℕ) (others : List (List ℕ)) → (b == point) ≡ false → parts_of rest ≡ first ∷ others → parts_of (b ∷ rest) ≡ (b ∷ first) ∷ others
+pub parts-other : (b : ℕ) (rest first : List ℕ) (others : List (List ℕ)) → (b == point) ≡ false → parts_of rest ≡ first ∷ others → parts_of (b ∷ rest) ≡ (b ∷ first) ∷ others
 parts-other b rest first others other shape = rw (other, shape) refl
 
 -- an identifier character is no point
-no-point : (b : ℕ) → is_identifier_character b ≡ true → (b == point) ≡ false
+pub no-point : (b : ℕ) → is_identifier_character b ≡ true → (b == point) ≡ false
 no-point b h = elim (cases_Bool (b == point)) [
   | inl here ↦ cc (rw (eqb-true b point here) at h)
   | inr other ↦ other
 ]
 
 -- a list goes on at an identifier character, and at a point before one
-goes_on-character : (b : ℕ) (rest : List ℕ) → is_identifier_character b ≡ true → goes_on (b ∷ rest) ≡ true
+pub goes_on-character : (b : ℕ) (rest : List ℕ) → is_identifier_character b ≡ true → goes_on (b ∷ rest) ≡ true
 goes_on-character b rest h = rw h refl
 
-goes_on-point : (b : ℕ) (rest : List ℕ) → (b == point) ≡ true → begins is_identifier_character rest ≡ true → goes_on (b ∷ rest) ≡ true
+pub goes_on-point : (b : ℕ) (rest : List ℕ) → (b == point) ≡ true → begins is_identifier_character rest ≡ true → goes_on (b ∷ rest) ≡ true
 goes_on-point b rest here h = rw (eqb-true b point here, h) refl
 
 -- and nowhere else
@@ -83,7 +83,7 @@ first-begins (b ∷ rest) first others shape h =
     let f : b ∷ r.0 ≡ first = cc e in
     subst (λ (l : List ℕ). BeginsWith is_identifier_character l) f h
 
-begins-first : (text first : List ℕ) (others : List (List ℕ)) → parts_of text ≡ first ∷ others → BeginsWith is_identifier_character first → BeginsWith is_identifier_character text
+pub begins-first : (text first : List ℕ) (others : List (List ℕ)) → parts_of text ≡ first ∷ others → BeginsWith is_identifier_character first → BeginsWith is_identifier_character text
 begins-first [] first others shape h =
     let e : [] ≡ first = cc shape in
     absurd (subst (λ (l : List ℕ). BeginsWith is_identifier_character l) (sym e) h)
@@ -231,6 +231,30 @@ some-values text =
     let r = parts-shape (list_front text) in
     (identifier_of r.0, map identifier_of r.1, ap (λ (l : List (List ℕ)). map identifier_of l) r.2)
 
+pub pick-true : {T : Type 0} (test : Bool) (x y : T) → test ≡ true → (if test then x else y) ≡ x
+pick-true true x y h = refl
+pick-true false x y h = cc h
+
+pub pick-false : {T : Type 0} (test : Bool) (x y : T) → test ≡ false → (if test then x else y) ≡ y
+pick-false true x y h = cc h
+pick-false false x y h = refl
+
+-- what is read in each case
+pub list_or-some : (otherwise text : List ℕ) → begins is_identifier_character text ≡ true → list_or otherwise text ≡ (list_values text, list_after text)
+list_or-some otherwise text h = pick-true _ _ _ h
+
+pub list_or-none : (otherwise text : List ℕ) → begins is_identifier_character text ≡ false → list_or otherwise text ≡ ([], otherwise)
+list_or-none otherwise text h = pick-false _ _ _ h
+
+-- where no identifiers are read, none stand there
+pub list_or-plain : (otherwise text : List ℕ) → (list_or otherwise text).0 ≡ [] → begins is_identifier_character text ≡ false
+list_or-plain otherwise text h = elim (cases_Bool (begins is_identifier_character text)) [
+  | inr none ↦ none
+  | inl some ↦
+      let v = some-values text in
+      cc (sym v.2 ∙ ap (λ (p : List IdentifierValue × List ℕ). p.0) (sym (list_or-some otherwise text some)) ∙ h)
+]
+
 -- what is read is a prerelease text
 pub record TakesPrerelease (text : List ℕ) (identifiers : List IdentifierValue) (rest : List ℕ) : Type 0 where
   pub taken : List ℕ
@@ -251,43 +275,28 @@ listed-prerelease : (taken list : List ℕ) (identifiers : List IdentifierValue)
 listed-prerelease taken list [] some how read = cc some.2
 listed-prerelease taken list (i ∷ is) some how read = (list, how, read)
 
-pub pick-true : {T : Type 0} (test : Bool) (x y : T) → test ≡ true → (if test then x else y) ≡ x
-pick-true true x y h = refl
-pick-true false x y h = cc h
+pub prerelease_at-hyphen : (b : ℕ) (rest : List ℕ) → (b == hyphen) ≡ true → prerelease_at (b ∷ rest) ≡ list_or (b ∷ rest) rest
+unfolding prerelease_at after_mark
+prerelease_at-hyphen b rest h = ap (list_or (b ∷ rest)) (pick-true (b == hyphen) rest (b ∷ rest) h)
 
-pub pick-false : {T : Type 0} (test : Bool) (x y : T) → test ≡ false → (if test then x else y) ≡ y
-pick-false true x y h = cc h
-pick-false false x y h = refl
+pub prerelease_at-other : (b : ℕ) (rest : List ℕ) → (b == hyphen) ≡ false → prerelease_at (b ∷ rest) ≡ list_or (b ∷ rest) (b ∷ rest)
+unfolding prerelease_at after_mark
+prerelease_at-other b rest h = ap (list_or (b ∷ rest)) (pick-false (b == hyphen) rest (b ∷ rest) h)
 
--- what is read in each case
-list_or-some : (otherwise text : List ℕ) → begins is_identifier_character text ≡ true → list_or otherwise text ≡ (list_values text, list_after text)
-list_or-some otherwise text h = pick-true _ _ _ h
+pub build_at-plus : (b : ℕ) (rest : List ℕ) → (b == plus) ≡ true → build_at (b ∷ rest) ≡ list_or (b ∷ rest) rest
+unfolding build_at after_plus
+build_at-plus b rest h = ap (list_or (b ∷ rest)) (pick-true (b == plus) rest [] h)
 
-list_or-none : (otherwise text : List ℕ) → begins is_identifier_character text ≡ false → list_or otherwise text ≡ ([], otherwise)
-list_or-none otherwise text h = pick-false _ _ _ h
-
-prerelease_at-hyphen : (b : ℕ) (rest : List ℕ) → (b == hyphen) ≡ true → prerelease_at (b ∷ rest) ≡ list_or (b ∷ rest) rest
-unfolding prerelease_at
-prerelease_at-hyphen b rest h = pick-true _ _ _ h
-
-prerelease_at-other : (b : ℕ) (rest : List ℕ) → (b == hyphen) ≡ false → prerelease_at (b ∷ rest) ≡ list_or (b ∷ rest) (b ∷ rest)
-unfolding prerelease_at
-prerelease_at-other b rest h = pick-false _ _ _ h
-
-build_at-plus : (b : ℕ) (rest : List ℕ) → (b == plus) ≡ true → build_at (b ∷ rest) ≡ list_or (b ∷ rest) rest
-unfolding build_at
-build_at-plus b rest h = pick-true _ _ _ h
-
-build_at-other : (b : ℕ) (rest : List ℕ) → (b == plus) ≡ false → build_at (b ∷ rest) ≡ ([], b ∷ rest)
-unfolding build_at
-build_at-other b rest h = pick-false _ _ _ h
+pub build_at-other : (b : ℕ) (rest : List ℕ) → (b == plus) ≡ false → build_at (b ∷ rest) ≡ ([], b ∷ rest)
+unfolding build_at after_plus
+build_at-other b rest h = ap (list_or (b ∷ rest)) (pick-false (b == plus) rest [] h)
 
 -- as read
 abbrev Takes : List ℕ → List IdentifierValue × List ℕ → Type 0
 Takes text read = TakesPrerelease text read.0 read.1
 
-prerelease-takes : (text : List ℕ) → Takes text (prerelease_at text)
-unfolding prerelease_at
+pub prerelease-takes : (text : List ℕ) → Takes text (prerelease_at text)
+unfolding prerelease_at after_mark
 prerelease-takes [] = no-prerelease []
 prerelease-takes (b ∷ rest) = elim (cases_Bool (b == hyphen)) [
   | inl here ↦
@@ -327,8 +336,8 @@ listed-build : (list : List ℕ) (identifiers : List IdentifierValue) → (first
 listed-build list [] some read = cc some.2
 listed-build list (i ∷ is) some read = (list, refl, read)
 
-build-takes : (text : List ℕ) → TakesBuild text (build_at text)
-unfolding build_at
+pub build-takes : (text : List ℕ) → TakesBuild text (build_at text)
+unfolding build_at after_plus
 build-takes [] = no-build []
 build-takes (b ∷ rest) = elim (cases_Bool (b == plus)) [
   | inr other ↦ subst (TakesBuild (b ∷ rest)) (sym (build_at-other b rest other)) (no-build (b ∷ rest))
@@ -363,7 +372,7 @@ extras-takes text =
 
 -- a build text is read
 build-again : (text rest : List ℕ) (identifiers : List IdentifierValue) → IsBuildText text identifiers → EndsExtras rest → build_at (text ++ rest) ≡ (identifiers, rest)
-unfolding build_at
+unfolding build_at after_plus
 build-again text [] [] h ends = rw h refl
 build-again text (c ∷ rest) [] h ends = rw h (build_at-other c rest (ends-plus (c ∷ rest) ends))
 build-again text rest (i ∷ is) h ends =
@@ -386,7 +395,7 @@ prerelease-behind : (list rest : List ℕ) → begins is_identifier_character (l
 prerelease-behind list rest starts = prerelease_at-hyphen hyphen (list ++ rest) refl ∙ list_or-some (hyphen ∷ (list ++ rest)) (list ++ rest) starts
 
 -- a list behind a hyphen or without one is read
-prerelease-listed : (text list rest : List ℕ) → (text ≡ hyphen ∷ list) ⊎ ((text ≡ list) × BeginsWithNo (λ b. b == hyphen) list) → BeginsWith is_identifier_character list
+pub prerelease-listed : (text list rest : List ℕ) → (text ≡ hyphen ∷ list) ⊎ ((text ≡ list) × BeginsWithNo (λ b. b == hyphen) list) → BeginsWith is_identifier_character list
     → prerelease_at (text ++ rest) ≡ (list_values (list ++ rest), list_after (list ++ rest))
 prerelease-listed text list rest how begin =
     let starts : begins is_identifier_character (list ++ rest) ≡ true = with-begins is_identifier_character (list ++ rest) (begins-append is_identifier_character list rest begin) in
@@ -396,8 +405,8 @@ prerelease-listed text list rest how begin =
     ]
 
 -- a prerelease text is read
-prerelease-again : (text rest : List ℕ) (identifiers : List IdentifierValue) → IsPrereleaseText text identifiers → BeginsWithNo is_of_list rest → prerelease_at (text ++ rest) ≡ (identifiers, rest)
-unfolding prerelease_at
+pub prerelease-again : (text rest : List ℕ) (identifiers : List IdentifierValue) → IsPrereleaseText text identifiers → BeginsWithNo is_of_list rest → prerelease_at (text ++ rest) ≡ (identifiers, rest)
+unfolding prerelease_at after_mark
 prerelease-again text [] [] h ends = rw h refl
 prerelease-again text (c ∷ rest) [] h ends =
     let none : is_identifier_character c ≡ false = or-left (is_identifier_character c) (c == point) ends in

@@ -32,7 +32,7 @@ glue : (text a1 b1 a2 b2 rest major minor patch : List ℕ) → text ≡ major +
 glue text a1 b1 a2 b2 rest major minor patch h1 h2 h3 h4 h5 =
     h1 ∙ ap (λ (l : List ℕ). major ++ l) (h2 ∙ ap (λ (l : List ℕ). point ∷ l) (h3 ∙ ap (λ (l : List ℕ). minor ++ l) (h4 ∙ ap (λ (l : List ℕ). point ∷ l) h5)))
 
-numbers-takes : (text : List ℕ) (numbers : ℕ × ℕ × ℕ) (rest : List ℕ) → numbers_at text ≡ Ok (numbers, rest) → TakesNumbers text numbers rest
+pub numbers-takes : (text : List ℕ) (numbers : ℕ × ℕ × ℕ) (rest : List ℕ) → numbers_at text ≡ Ok (numbers, rest) → TakesNumbers text numbers rest
 unfolding numbers_at
 numbers-takes text numbers rest h =
     let m1 = bind-ok (number_at text) _ (numbers, rest) h in
@@ -62,10 +62,10 @@ numbers-takes text numbers rest h =
     }
 
 -- a chain whose step is known
-bind-on : {A B : Type 0} (r : Result A Fault) (x : A) (f : A → Result B Fault) → r ≡ Ok x → (r >>= f) ≡ f x
+pub bind-on : {A B : Type 0} (r : Result A Fault) (x : A) (f : A → Result B Fault) → r ≡ Ok x → (r >>= f) ≡ f x
 bind-on r x f e = rw e refl
 
-numbers-again : (major minor patch rest : List ℕ) (a b c : ℕ) → IsNumberText major a → IsNumberText minor b → IsNumberText patch c → BeginsWithNo is_digit rest
+pub numbers-again : (major minor patch rest : List ℕ) (a b c : ℕ) → IsNumberText major a → IsNumberText minor b → IsNumberText patch c → BeginsWithNo is_digit rest
     → numbers_at (major ++ (point ∷ (minor ++ (point ∷ (patch ++ rest))))) ≡ Ok ((a, b, c), rest)
 unfolding numbers_at
 numbers-again major minor patch rest a b c x y z ends =
@@ -90,7 +90,7 @@ front-no test [] rest h = tt
 front-no test (b ∷ text) rest h = h
 
 -- the pieces of the extras, put into the triple
-regroup : (major minor patch extras rest : List ℕ)
+pub regroup : (major minor patch extras rest : List ℕ)
     → major ++ (point ∷ (minor ++ (point ∷ (patch ++ (extras ++ rest))))) ≡ (major ++ (point ∷ (minor ++ (point ∷ (patch ++ extras))))) ++ rest
 regroup major minor patch extras rest = simp append_assoc
 
@@ -189,11 +189,11 @@ marked-takes is_mark text v rest h =
     }
 
 -- a triple begins with a digit
-triple-begins : (text : List ℕ) (v : VersionValue) → IsTripleText text v → BeginsWith is_digit text
+pub triple-begins : (text : List ℕ) (v : VersionValue) → IsTripleText text v → BeginsWith is_digit text
 triple-begins text v h = rw h.whole (begins-append is_digit h.major _ h.first.some)
 
 -- a digit is no blank
-digit-no_blank : (text : List ℕ) → BeginsWith is_digit text → BeginsWithNo is_blank text
+pub digit-no_blank : (text : List ℕ) → BeginsWith is_digit text → BeginsWithNo is_blank text
 digit-no_blank [] h = absurd h
 digit-no_blank (b ∷ rest) h = elim (cases_Bool (is_blank b)) [
   | inr other ↦ other
@@ -213,7 +213,7 @@ unmarked is_mark test [] (b ∷ text) all h = rw (test.digit b h) refl
 unmarked is_mark test (c ∷ blanks) text all h = rw (test.blank c (and_parts (is_blank c) (list_all is_blank blanks) all).0) refl
 
 -- a mark is taken
-mark-again : (is_mark : ℕ → Bool) → IsMarkTest is_mark → (mark blanks text : List ℕ) → IsMark is_mark mark → AreAll is_blank blanks → BeginsWith is_digit text
+pub mark-again : (is_mark : ℕ → Bool) → IsMarkTest is_mark → (mark blanks text : List ℕ) → IsMark is_mark mark → AreAll is_blank blanks → BeginsWith is_digit text
     → after_mark is_mark (mark ++ (blanks ++ text)) ≡ blanks ++ text
 unfolding after_mark
 mark-again is_mark test mark blanks text marked all h = elim marked [

@@ -3,6 +3,9 @@ pub mod ComparatorText
 pub mod Division
 pub mod Error
 pub mod ErrorLocation
+pub mod Fault
+pub mod Hash
+pub mod HashLaws
 pub mod Identifier
 pub mod IdentifierText
 pub mod IdentifierValue
@@ -11,9 +14,12 @@ pub mod Meaning
 pub mod NumberText
 pub mod Order
 pub mod OrderLaws
+pub mod Print
+pub mod PrintLaws
 pub mod Reading
 pub mod ReadingViews
 pub mod Version
+pub mod VersionLaws
 pub mod VersionText
 pub mod Word
 pub mod WordReading

@@ -4,7 +4,8 @@ use Rattle.std.specs.Prelude.{◌≡◌, ℕ, ◌==◌, ◌^◌, nat_le, nat_lt,
 use Rattle.std.specs.Borrow.{Bor}
 use Rattle.node_semver.specs.declared.TheConstants.{MAX_SAFE_INTEGER}
 use Rattle.node_semver.specs.Characters.{hyphen, is_blank, is_digit, is_identifier_character, plus, point}
-use Rattle.node_semver.specs.Error.{Kind, context, max_int, other, parse_int}
+use Rattle.node_semver.specs.Error.{Kind, context}
+pub use Rattle.node_semver.specs.Fault.{too_large}
 use Rattle.node_semver.specs.IdentifierText.{identifier_of, parts_of}
 use Rattle.node_semver.specs.IdentifierValue.{IdentifierValue}
 use Rattle.node_semver.specs.NumberText.{number_of}
@@ -43,10 +44,6 @@ begins test (b ∷ rest) = test b
 abbrev pub missing : {A : Type 0} → List ℕ → Result A Fault
 missing text = Err (record { kind = context (codes "version"); left = length text })
 
--- why a number that is too large is refused, at its first digit
-abbrev pub too_large : ℕ → Kind
-too_large number = if nat_lt number (2 ^ 64) then max_int number else parse_int
-
 -- all the digits that stand together, at most MAX_SAFE_INTEGER
 unfoldable pub number_at : List ℕ → Read ℕ
 number_at text =
@@ -82,15 +79,27 @@ list_values text = map identifier_of (parts_of (list_front text))
 abbrev pub list_or : List ℕ → List ℕ → List IdentifierValue × List ℕ
 list_or otherwise text = if begins is_identifier_character text then (list_values text, list_after text) else ([], otherwise)
 
+-- the bytes behind a mark, where there is one
+unfoldable pub after_mark : (ℕ → Bool) → List ℕ → List ℕ
+after_mark is_mark [] = []
+after_mark is_mark (b ∷ rest) = if is_mark b then rest else b ∷ rest
+
+-- `-`
+abbrev pub is_hyphen : ℕ → Bool
+is_hyphen b = b == hyphen
+
 -- a prerelease, which may be missing
 unfoldable pub prerelease_at : List ℕ → List IdentifierValue × List ℕ
-prerelease_at [] = ([], [])
-prerelease_at (b ∷ rest) = if b == hyphen then list_or (b ∷ rest) rest else list_or (b ∷ rest) (b ∷ rest)
+prerelease_at text = list_or text (after_mark is_hyphen text)
+
+-- the bytes behind a plus; none where there is no plus
+unfoldable pub after_plus : List ℕ → List ℕ
+after_plus [] = []
+after_plus (b ∷ rest) = if b == plus then rest else []
 
 -- a build, which may be missing
 unfoldable pub build_at : List ℕ → List IdentifierValue × List ℕ
-build_at [] = ([], [])
-build_at (b ∷ rest) = if b == plus then list_or (b ∷ rest) rest else ([], b ∷ rest)
+build_at text = list_or text (after_plus text)
 
 -- a prerelease and a build
 unfoldable pub extras_at : List ℕ → (List IdentifierValue × List IdentifierValue) × List ℕ
@@ -124,11 +133,6 @@ unfoldable pub triple_at : List ℕ → Read VersionValue
 triple_at text = numbers_at text >>= λ numbers.
     let extras = extras_at numbers.1 in
     Ok (version_of numbers.0 extras.0, extras.1)
-
--- the bytes behind a mark, where there is one
-unfoldable pub after_mark : (ℕ → Bool) → List ℕ → List ℕ
-after_mark is_mark [] = []
-after_mark is_mark (b ∷ rest) = if is_mark b then rest else b ∷ rest
 
 -- a mark or none, blanks or none, and a triple
 unfoldable pub marked_at : (ℕ → Bool) → List ℕ → Read VersionValue

@@ -1,10 +1,17 @@
 -- What is seen of what the private readers answer.
-use Rattle.std.specs.Prelude.{◌≡◌, ◌⊎◌, ℕ, List, length, Result, Ok, Err, codes}
+use Rattle.std.specs.Prelude.{◌≡◌, ◌-◌, ◌⊎◌, ℕ, List, [], length, Result, Ok, Err, IsOk, codes}
+use Rattle.node_semver.specs.Version.{VersionValue}
 use Rattle.std.specs.Borrow.{Bor}
 use Rattle.node_semver.specs.Characters.{is_digit}
 use Rattle.node_semver.specs.Error.{context, kind_of, out_of_memory}
+use Rattle.node_semver.specs.Fault.{IsFault}
 use Rattle.node_semver.specs.NumberText.{number_of}
 use Rattle.node_semver.specs.Reading.{Fault, Read, front, too_large}
+use Rattle.std.specs.declared.vec.Vec.{Vec}
+use Rattle.std.specs.declared.alloc.Global.{Global}
+use Rattle.node_semver.specs.Identifier.{values_of}
+use Rattle.node_semver.specs.IdentifierValue.{IdentifierValue}
+use Rattle.node_semver.specs.declared.identifier.Identifier.{Identifier}
 use Rattle.node_semver.specs.declared.reading.Fault.{Fault as CodeFault}
 
 -- a fault without where its word lies in memory
@@ -31,3 +38,25 @@ large_fault text = record { kind = too_large (number_of (front is_digit text)); 
 abbrev pub Gives : {X A : Type 0} → (X → A) → Result X CodeFault → Result A Fault → Type 0
 Gives view (Ok x) read = read ≡ Ok (view x)
 Gives view (Err f) read = (kind_of f.kind ≡ out_of_memory) ⊎ (read ≡ Err (fault_of f))
+
+-- the bytes behind a point
+abbrev pub point_seen : Result (Bor (List ℕ)) CodeFault → Result (List ℕ) Fault
+point_seen (Ok rest) = Ok rest.now
+point_seen (Err f) = Err (fault_of f)
+
+-- a version and the bytes behind it
+abbrev pub version_seen : VersionValue × Bor (List ℕ) → VersionValue × List ℕ
+version_seen x = (x.0, x.1.now)
+
+-- where a version with no prerelease and no build is read, the answer is not want of memory
+abbrev pub IsPlainOk : {X : Type 0} → Result X CodeFault → Read VersionValue → Type 0
+IsPlainOk r (Ok x) = x.0.pre_release ≡ [] → x.0.build ≡ [] → IsOk r
+IsPlainOk r (Err f) = Unit {0}
+
+-- a list of identifiers and the bytes behind it
+abbrev pub IsListRead : List IdentifierValue × List ℕ → Vec Identifier Global × Bor (List ℕ) → Type 0
+IsListRead read x = (values_of x.0.items ≡ read.0) × (x.1.now ≡ read.1)
+
+-- memory ran out, or the fault is that of the text
+abbrev pub IsMemoryOr : List ℕ → CodeFault → Type 0
+IsMemoryOr text f = (kind_of f.kind ≡ out_of_memory) ⊎ IsFault text (kind_of f.kind) (length text - f.left)

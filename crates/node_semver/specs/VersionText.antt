@@ -1,10 +1,12 @@
 -- Version texts: SemVer 2.0.0, sections 2, 9 and 10, in npm's loose form.
-use Rattle.std.specs.Prelude.{◌≡◌, ◌⊎◌, ℕ, ◌==◌, ◌||◌, ◌≤◌, Bool, true, List, [], ◌∷◌, ◌++◌, length}
+use Rattle.std.specs.Prelude.{◌≡◌, ◌⊎◌, ℕ, ◌==◌, ◌||◌, ◌≤◌, Bool, true, List, [], ◌∷◌, ◌++◌, length, Result, Ok, Err}
 use Rattle.node_semver.specs.declared.TheConstants.{MAX_LENGTH}
 use Rattle.node_semver.specs.Characters.{AreAll, BeginsWithNo, is_blank, is_digit, point}
+use Rattle.node_semver.specs.Error.{IsOutOfMemory}
 use Rattle.node_semver.specs.IdentifierText.{IsExtrasText}
 use Rattle.node_semver.specs.NumberText.{IsNumberText}
 use Rattle.node_semver.specs.Version.{VersionValue}
+use Rattle.node_semver.specs.declared.error.SemverError.{SemverError}
 
 -- Three numbers with points between them, and extras. The third number takes all its digits: `1.2.34-alpha+5`
 pub record IsTripleText (text : List ℕ) (v : VersionValue) : Type 0 where
@@ -41,3 +43,8 @@ is_version_mark b = (b == 118) || (b == 86)
 pub record IsVersionText (text : List ℕ) (v : VersionValue) : Type 0 where
   pub short : length text ≤ MAX_LENGTH
   pub fields : IsMarkedTriple is_version_mark text v
+
+-- the answer is this version, or want of memory
+abbrev pub IsReadAs : VersionValue → Result VersionValue SemverError → Type 0
+IsReadAs v (Ok w) = w ≡ v
+IsReadAs v (Err e) = IsOutOfMemory e

@@ -8,6 +8,7 @@ pub mod laws;
 mod range;
 mod reading;
 mod version;
+pub mod version_laws;
 mod word;
 
 pub use error::{SemverError, SemverErrorKind, SourceSpan};
@@ -15,10 +16,18 @@ pub use identifier::Identifier;
 pub use range::Range;
 pub use version::Version;
 
-/// The greatest number that a version text or a range text may hold as major, minor or patch.
+/// The greatest major, minor or patch of a text.
 ///
-/// It lacks the last digit of JavaScript's `Number.MAX_SAFE_INTEGER`, as in the crate of this name.
+/// It lacks the last digit of JavaScript's `Number.MAX_SAFE_INTEGER`, 9007199254740991.
+///
+/// # Source
+///
+/// The Rust crate `node-semver` 2.2.0.
 pub const MAX_SAFE_INTEGER: u64 = 900719925474099;
 
-/// The greatest length of a version text, in bytes.
+/// The greatest length of a version text, in bytes. A range text has no limit.
+///
+/// # Source
+///
+/// The Rust crate `node-semver` 2.2.0.
 pub const MAX_LENGTH: usize = 256;

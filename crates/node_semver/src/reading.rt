@@ -1,10 +1,16 @@
-//! STUB until the readers are merged
-ghost use Rattle.node_semver.specs.ComparatorText.{is_partial_mark};
-ghost use Rattle.node_semver.specs.Reading.{marked_at};
-ghost use Rattle.node_semver.specs.ReadingViews.{Gives};
+//! The readers of texts: each takes the bytes that are left, and gives a value and the bytes behind it.
+ghost use Rattle.std.specs.Prelude.{◌≡◌};
+ghost use Rattle.node_semver.specs.declared.error.SemverErrorKind.TheVariants.{OutOfMemory};
 
-use crate::{SemverErrorKind, Version};
-use std::alloc::Global;
+use crate::SemverErrorKind;
+use std::alloc::AllocError;
+
+mod blanks;
+mod identifiers;
+mod number;
+mod triple;
+
+pub(crate) use triple::{partial, version};
 
 /// What is wrong with a text, and how many of its bytes stand from there on.
 #[derive(Debug, Drop)]
@@ -13,11 +19,13 @@ pub(crate) struct Fault {
     pub(crate) left: usize,
 }
 
-pub(crate) fn partial(alloc: Global, text: &[u8]) -> Result<(Version, &[u8]), Fault>
-    ensures { Gives (λ p. (p.0, p.1.now)) result (marked_at is_partial_mark text.now) }
-{
-    Err(Fault {
-        kind: SemverErrorKind::OutOfMemory,
-        left: 0,
-    })
+impl From<AllocError> for Fault {
+    ghost from_gives = { λ _ f. f ≡ record { kind = OutOfMemory; left = 0 } };
+
+    fn from(_error: AllocError) -> Fault {
+        Fault {
+            kind: SemverErrorKind::OutOfMemory,
+            left: 0,
+        }
+    }
 }

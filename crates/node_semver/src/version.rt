@@ -2,7 +2,12 @@ ghost use Rattle.std.specs.Prelude.{◌≡◌, ◌↔◌, IsTrue};
 ghost use Rattle.node_semver.specs.Version.{IsPrerelease, release};
 
 mod copy;
+mod hash;
 mod order;
+mod parse;
+mod print;
+#[cfg(test)]
+mod tests;
 
 use crate::Identifier;
 use std::alloc::Global;

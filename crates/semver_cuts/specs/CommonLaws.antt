@@ -35,15 +35,19 @@ all_both P Q R f (x ∷ xs) a b = (f x a.0 b.0, all_both P Q R f xs a.1 b.1)
 -- ---- the greater and the lesser of two cuts
 
 module _ {T : Type 0} {cmp : T → T → Ordering} (o : IsTotalOrder cmp) where
+  -- the second of two is the greater where the first is at most it
   pub greater-second : (c d : Cut T) → IsCutAtMost cmp c d → IsGreaterCut cmp c d d
   greater-second c d h = record { either = inr refl; above_first = h; above_second = at_most_refl o d }
 
+  -- the first of two is the greater where the second is at most it
   pub greater-first : (c d : Cut T) → IsCutAtMost cmp d c → IsGreaterCut cmp c d c
   greater-first c d h = record { either = inl refl; above_first = at_most_refl o c; above_second = h }
 
+  -- the second of two is the lesser where it is at most the first
   pub lesser-second : (c d : Cut T) → IsCutAtMost cmp d c → IsLesserCut cmp c d d
   lesser-second c d h = record { either = inr refl; below_first = h; below_second = at_most_refl o d }
 
+  -- the first of two is the lesser where it is at most the second
   pub lesser-first : (c d : Cut T) → IsCutAtMost cmp c d → IsLesserCut cmp c d c
   lesser-first c d h = record { either = inl refl; below_first = at_most_refl o c; below_second = h }
 
@@ -80,26 +84,28 @@ module _ {T : Type 0} {cmp : T → T → Ordering} (o : IsTotalOrder cmp) where
   upper_below : (spans : List (Ends T)) (span : Ends T) (c d : Cut T) → IsLeastUpper cmp spans c → IsLesserCut cmp c span.upper d → AllByRecursion (λ (e : Ends T). IsCutAtMost cmp d e.upper) spans
   upper_below spans span c d g h = all_map (λ (e : Ends T). IsCutAtMost cmp c e.upper) (λ (e : Ends T). IsCutAtMost cmp d e.upper) (λ e p. at_most_trans o d c e.upper h.below_first p) spans g.below_all
 
-  -- with one more span behind the list
+  -- the greatest lower end, with one more span behind the list
   pub IsGreatestLower-push : (spans : List (Ends T)) (span : Ends T) (c d : Cut T) → IsGreatestLower cmp spans c → IsGreaterCut cmp c span.lower d → IsGreatestLower cmp (spans ++ span ∷ []) d
   IsGreatestLower-push spans span c d g h = record {
     of_one = lower_of_one spans (spans ++ span ∷ []) span c d (Contains-push spans span) (λ e m. Contains-append_left spans (span ∷ []) e m) g h.either;
     above_all = all_push (λ (e : Ends T). IsCutAtMost cmp e.lower d) spans span (lower_above spans span c d g h) h.above_second;
   }
 
+  -- the same of the upper ends
   pub IsLeastUpper-push : (spans : List (Ends T)) (span : Ends T) (c d : Cut T) → IsLeastUpper cmp spans c → IsLesserCut cmp c span.upper d → IsLeastUpper cmp (spans ++ span ∷ []) d
   IsLeastUpper-push spans span c d g h = record {
     of_one = upper_of_one spans (spans ++ span ∷ []) span c d (Contains-push spans span) (λ e m. Contains-append_left spans (span ∷ []) e m) g h.either;
     below_all = all_push (λ (e : Ends T). IsCutAtMost cmp d e.upper) spans span (upper_below spans span c d g h) h.below_second;
   }
 
+  -- and of both
   pub AreOuterEnds-push : (spans : List (Ends T)) (span : Ends T) (lower upper lower' upper' : Cut T) → AreOuterEnds cmp spans lower upper → IsGreaterCut cmp lower span.lower lower' → IsLesserCut cmp upper span.upper upper' → AreOuterEnds cmp (spans ++ span ∷ []) lower' upper'
   AreOuterEnds-push spans span lower upper lower' upper' a g h = record {
     lower = IsGreatestLower-push spans span lower lower' a.lower g;
     upper = IsLeastUpper-push spans span upper upper' a.upper h;
   }
 
-  -- with one more span before the list
+  -- both outer ends, with one more span before the list
   pub AreOuterEnds-cons : (span : Ends T) (spans : List (Ends T)) (lower upper lower' upper' : Cut T) → AreOuterEnds cmp spans lower upper → IsGreaterCut cmp lower span.lower lower' → IsLesserCut cmp upper span.upper upper' → AreOuterEnds cmp (span ∷ spans) lower' upper'
   AreOuterEnds-cons span spans lower upper lower' upper' a g h = record {
     lower = record {

@@ -51,20 +51,25 @@ module _ {T : Type 0} {cmp : T → T → Ordering} (o : IsTotalOrder cmp) where
   pub below_irrefl : (c : Cut T) → ¬ (IsCutBelow cmp c c)
   below_irrefl c p = less≢equal (cut_cmp cmp c c) p (cut_cmp-refl c)
 
+  -- below goes on from cut to cut
   pub below_trans : (c d e : Cut T) → IsCutBelow cmp c d → IsCutBelow cmp d e → IsCutBelow cmp c e
   below_trans c d e p q = (cut_total o).trans c d e p q
 
+  -- each cut is at most itself
   pub at_most_refl : (c : Cut T) → IsCutAtMost cmp c c
   at_most_refl c = inr (cut_cmp-refl c)
 
+  -- below one that is at most a third is below the third
   pub below-at_most : (c d e : Cut T) → IsCutBelow cmp c d → IsCutAtMost cmp d e → IsCutBelow cmp c e
   below-at_most c d e p (inl q) = below_trans c d e p q
   below-at_most c d e p (inr q) = sym (cut_cmp-equal_right d e c q) ∙ p
 
+  -- at most one that is below a third is below the third
   pub at_most-below : (c d e : Cut T) → IsCutAtMost cmp c d → IsCutBelow cmp d e → IsCutBelow cmp c e
   at_most-below c d e (inl p) q = below_trans c d e p q
   at_most-below c d e (inr p) q = cut_cmp-equal_left c d e p ∙ q
 
+  -- at most goes on from cut to cut
   pub at_most_trans : (c d e : Cut T) → IsCutAtMost cmp c d → IsCutAtMost cmp d e → IsCutAtMost cmp c e
   at_most_trans c d e (inl p) q = inl (below-at_most c d e p q)
   at_most_trans c d e (inr p) (inl q) = inl (cut_cmp-equal_left c d e p ∙ q)
@@ -124,6 +129,7 @@ module _ {T : Type 0} (cmp : T → T → Ordering) where
   pub lt-from_below : (c d : Cut T) → IsCutBelow cmp c d → is_lt (cut_cmp cmp c d) ≡ true
   lt-from_below c d p = ap is_lt p
 
+  -- the same of the test `c <= d`
   pub le-from_at_most : (c d : Cut T) → IsCutAtMost cmp c d → is_le (cut_cmp cmp c d) ≡ true
   le-from_at_most c d (inl p) = ap is_le p
   le-from_at_most c d (inr p) = ap is_le p

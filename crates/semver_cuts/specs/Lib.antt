@@ -2,6 +2,6 @@ pub mod Common
 pub mod CommonLaws
 pub mod Cut
 pub mod CutLaws
-pub mod CutPlaces
+pub mod CutOrder
 pub mod Ends
 pub mod EndsLaws

@@ -7,11 +7,22 @@ ghost use Rattle.semver_cuts.specs.CutLaws.{cut_total};
 use std::cmp::Ordering;
 
 /// A place in the line of the values of `T`: before all of them, just before one, just after one, or after all.
+///
+/// Cuts are ordered as they stand: for values `v` less than `w`, `Start`, `Before(v)`, `After(v)`, `Before(w)`, `After(w)`, `End`.
+/// Cuts of one kind are equal where `T`'s order finds their values equal, whatever else tells the values apart.
+///
+/// # Examples
+///
+/// `Cut::Before(3) < Cut::After(3)`, `Cut::After(3) < Cut::Before(5)`, and not `Cut::After(3) < Cut::Before(3)`.
 #[derive(Debug, Drop)]
 pub enum Cut<T: Ord> {
+    /// Before every value: less than each other cut.
     Start,
+    /// Just before the value: `Before(3)` is greater than `After(2)` and less than `After(3)`.
     Before(T),
+    /// Just after the value: `After(3)` is greater than `Before(3)` and less than `Before(4)`.
     After(T),
+    /// After every value: greater than each other cut.
     End,
 }
 
@@ -20,6 +31,7 @@ impl<T: Ord> PartialEq for Cut<T> {
 
     ghost laws = { partial_equiv_from_equiv (eq_by_cmp_equiv (cut_total T.total)) };
 
+    #[inline]
     fn eq(&self, other: &Cut<T>) -> bool {
         self.cmp(other).is_eq()
     }
@@ -34,6 +46,7 @@ impl<T: Ord> PartialOrd for Cut<T> {
 
     ghost laws = { partial_order_from_total (cut_total T.total) };
 
+    #[inline]
     fn partial_cmp(&self, other: &Cut<T>) -> Option<Ordering> {
         Some(self.cmp(other))
     }

@@ -12,13 +12,19 @@ impl Identifier {
     {
         match self {
             Identifier::Numeric(n) => Ok(Identifier::Numeric(*n)),
-            Identifier::AlphaNumeric(text) => Ok(Identifier::AlphaNumeric(String::from_str(alloc, text.as_str())?)),
+            Identifier::AlphaNumeric(text) => Ok(Identifier::AlphaNumeric(String::from_str(
+                alloc,
+                text.as_str(),
+            )?)),
         }
     }
 }
 
 // Takes no memory for no identifiers.
-pub(crate) fn copies_of(alloc: Global, identifiers: &[Identifier]) -> Result<Vec<Identifier>, AllocError>
+pub(crate) fn copies_of(
+    alloc: Global,
+    identifiers: &[Identifier],
+) -> Result<Vec<Identifier>, AllocError>
     ensures copies { IfOk result (λ v. values_of v.items ≡ values_of identifiers.now) }
     ensures plain { identifiers.now ≡ [] → IsOk result }
 {

@@ -1,0 +1,89 @@
+-- Worked examples: what the definitions of a version text and of a fault say of some texts.
+use Rattle.std.proofs.Common.{◌≡◌, ℕ, ◌-◌, List, [], ◌∷◌, length, refl, ap, arith, subst}
+use Rattle.std.specs.Prelude.{codes}
+use Rattle.node_semver.specs.Error.{Kind, context, max_int, max_length, other, parse_int}
+use Rattle.node_semver.specs.Fault.{IsFault, too_long}
+use Rattle.node_semver.specs.IdentifierValue.{IdentifierValue, alphanumeric, numeric}
+use Rattle.node_semver.specs.Reading.{after, after_mark, after_plus, build_at, extras_at, front, list_after, list_front, marked_at, number_at, numbers_at, point_at, prerelease_at, triple_at}
+use Rattle.node_semver.specs.Version.{VersionValue}
+use Rattle.node_semver.specs.VersionText.{IsVersionText}
+use Rattle.node_semver.proofs.FaultLaws.{fault-computed}
+use Rattle.node_semver.proofs.OneReading.{read-version}
+
+-- a number or a point is missing
+abbrev missing : Kind
+missing = context (codes "version")
+
+missing-there : IsFault (codes "") missing 0
+    × IsFault (codes "v") missing 1
+    × IsFault (codes "1.") missing 2
+    × IsFault (codes "1.2") missing 3
+    × IsFault (codes "1 .2.3") missing 1
+    × IsFault (codes "vv1.2.3") missing 1
+    × IsFault (codes "\n1.2.3") missing 0
+unfolding after after_mark front marked_at number_at numbers_at point_at triple_at
+missing-there =
+    ( fault-computed _ _ _ refl
+    , fault-computed _ _ _ refl
+    , fault-computed _ _ _ refl
+    , fault-computed _ _ _ refl
+    , fault-computed _ _ _ refl
+    , fault-computed _ _ _ refl
+    , fault-computed _ _ _ refl )
+
+-- a number is too large, whatever follows it
+large-there : IsFault (codes "1.2.900719925474100") (max_int 900719925474100) 4
+    × IsFault (codes "900719925474100.a") (max_int 900719925474100) 0
+    × IsFault (codes "0.18446744073709551615.0") (max_int 18446744073709551615) 2
+    × IsFault (codes "18446744073709551616.0.0") parse_int 0
+unfolding after after_mark front marked_at number_at numbers_at point_at triple_at
+large-there =
+    ( fault-computed _ _ _ refl
+    , fault-computed _ _ _ refl
+    , fault-computed _ _ _ refl
+    , fault-computed _ _ _ refl )
+
+-- something is left behind a version
+left-there : IsFault (codes "1.2.3.4") other 5
+    × IsFault (codes "1.2.3 ") other 5
+    × IsFault (codes "1.2.3-") other 5
+    × IsFault (codes "1.2.3-+a") other 5
+    × IsFault (codes "1.2.3-a.") other 7
+    × IsFault (codes "1.2.3-a.+b") other 7
+    × IsFault (codes "1.2.3-a+") other 7
+unfolding after after_mark after_plus build_at extras_at front list_after list_front marked_at number_at numbers_at point_at prerelease_at triple_at
+left-there =
+    ( fault-computed _ _ _ refl
+    , fault-computed _ _ _ refl
+    , fault-computed _ _ _ refl
+    , fault-computed _ _ _ refl
+    , fault-computed _ _ _ refl
+    , fault-computed _ _ _ refl
+    , fault-computed _ _ _ refl )
+
+-- a text of 257 bytes, whatever it holds
+long-there : (text : List ℕ) → length text ≡ 257 → IsFault text max_length 256
+long-there text long = subst (λ (n : ℕ). IsFault text max_length n) (ap (λ (n : ℕ). n - 1) long) (too_long (omega arith))
+
+-- a version of these fields
+abbrev version : ℕ → ℕ → ℕ → List IdentifierValue → List IdentifierValue → VersionValue
+version major minor patch pre_release build = record { major = major; minor = minor; patch = patch; pre_release = pre_release; build = build }
+
+-- a text as an identifier
+abbrev word : List ℕ → IdentifierValue
+word text = alphanumeric text
+
+version-there : IsVersionText (codes "v 01.02.03") (version 1 2 3 [] [])
+    × IsVersionText (codes "1.2.34-abc.123+1") (version 1 2 34 (word (codes "abc") ∷ numeric 123 ∷ []) (numeric 1 ∷ []))
+    × IsVersionText (codes "1.2.3beta") (version 1 2 3 (word (codes "beta") ∷ []) [])
+    × IsVersionText (codes "1.2.3--") (version 1 2 3 (word (codes "-") ∷ []) [])
+    × IsVersionText (codes "1.0.0-rc.2-migration") (version 1 0 0 (word (codes "rc") ∷ word (codes "2-migration") ∷ []) [])
+    × IsVersionText (codes "0.0.900719925474099+a.007") (version 0 0 900719925474099 [] (word (codes "a") ∷ numeric 7 ∷ []))
+unfolding after after_mark after_plus build_at extras_at front list_after list_front marked_at number_at numbers_at point_at prerelease_at triple_at
+version-there =
+    ( read-version _ _ (omega arith) refl
+    , read-version _ _ (omega arith) refl
+    , read-version _ _ (omega arith) refl
+    , read-version _ _ (omega arith) refl
+    , read-version _ _ (omega arith) refl
+    , read-version _ _ (omega arith) refl )

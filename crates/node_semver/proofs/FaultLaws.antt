@@ -1,0 +1,229 @@
+-- Laws of faults: each text is a version text or has a fault, never both, and one fault at most.
+use Rattle.std.proofs.Common.{◌≡◌, ◌⊎◌, ◌≤◌, ◌<◌, ℕ, ◌-◌, true, List, [], ◌∷◌, ◌++◌, length, Ok, Err, refl, sym, ap, ◌∙◌, inl, inr, arith, subst, append_assoc, append-nil}
+use Rattle.std.proofs.lemmas.Bool.{cases_Bool, le-leb, leb-false, leb-true, lt-leb}
+use Rattle.std.proofs.lemmas.List.{length-append}
+use Rattle.std.specs.Prelude.{Option, Some, None, Result, ◌==◌, if◌then◌else◌, nat_le}
+use Rattle.std.specs.List.{AllByRecursion}
+use Rattle.node_semver.specs.declared.TheConstants.{MAX_LENGTH, MAX_SAFE_INTEGER}
+use Rattle.node_semver.specs.Characters.{BeginsWithNo, is_blank, is_digit, point}
+use Rattle.node_semver.specs.Error.{Kind, max_length, other}
+use Rattle.node_semver.specs.Fault.{IsAllDigits, IsFault, IsFront, IsMarkOf, large_number, left_over, no_number, no_point, too_large, too_long, with_points}
+use Rattle.node_semver.specs.NumberText.{IsNumberText, number_of}
+use Rattle.node_semver.specs.Version.{VersionValue}
+use Rattle.node_semver.specs.VersionText.{IsMarkedTriple, IsVersionText, is_version_mark}
+use Rattle.node_semver.specs.Reading.{Fault, after, after_mark, begins, extras_at, front, marked_at, number_at, numbers_at, point_at, triple_at, version_of}
+use Rattle.node_semver.proofs.FaultReading.{fault-takes, fault_at, front-length, left-takes, missing_at}
+use Rattle.node_semver.proofs.Fronts.{after-again, begins-append, front-again, no-append, with-begins, with_no-begins}
+use Rattle.node_semver.proofs.IdentifierReading.{pick-false, pick-true}
+use Rattle.node_semver.proofs.LongestReading.{marked-longest}
+use Rattle.node_semver.proofs.NumberReading.{number-again, point-again}
+use Rattle.node_semver.proofs.OneReading.{read-version, version-mark, version-read}
+use Rattle.node_semver.proofs.VersionReading.{digit-no_blank, mark-again, marked-takes, numbers-again, regroup, triple-begins}
+
+-- The fault that a text of this length is told where this is left behind a version
+abbrev left_told : ℕ → List ℕ → Option (Kind × ℕ)
+left_told n [] = None
+left_told n (b ∷ rest) = Some (other, n - length (b ∷ rest))
+
+-- or where this is read
+abbrev told : ℕ → Result (VersionValue × List ℕ) Fault → Option (Kind × ℕ)
+told n (Ok read) = left_told n read.1
+told n (Err f) = Some (f.kind, n - f.left)
+
+-- the kind and the offset that a text is refused with, by the reader
+abbrev pub fault_of : List ℕ → Option (Kind × ℕ)
+fault_of text = if nat_le (length text) MAX_LENGTH then told (length text) (marked_at is_version_mark text) else Some (max_length, length text - 1)
+
+-- of a text that is short
+short-told : (text : List ℕ) → length text ≤ MAX_LENGTH → fault_of text ≡ told (length text) (marked_at is_version_mark text)
+short-told text short = pick-true _ _ _ (le-leb _ _ short)
+
+-- no number is read
+no-number : (text : List ℕ) → BeginsWithNo is_digit text → number_at text ≡ Err (missing_at text)
+unfolding number_at
+no-number text h = rw (with_no-begins is_digit text h) refl
+
+too-large : (digits rest : List ℕ) → IsAllDigits digits rest → MAX_SAFE_INTEGER < number_of digits → number_at (digits ++ rest) ≡ Err (fault_at (too_large (number_of digits)) (digits ++ rest))
+unfolding number_at
+too-large digits rest all large =
+    let some : begins is_digit (digits ++ rest) ≡ true = with-begins is_digit (digits ++ rest) (begins-append is_digit digits rest all.some) in
+    let here : front is_digit (digits ++ rest) ≡ digits = front-again is_digit digits rest all.all all.end in
+    rw (some, here, lt-leb _ _ large) refl
+
+-- no point is read
+no-point : (text : List ℕ) → BeginsWithNo (λ b. b == point) text → point_at text ≡ Err (missing_at text)
+unfolding point_at
+no-point [] h = refl
+no-point (b ∷ rest) h = rw h refl
+
+-- numbers as they are written
+abbrev AreNumbers : List (List ℕ) → Type 0
+AreNumbers texts = AllByRecursion (λ digits. (number : ℕ) × IsNumberText digits number) texts
+
+-- behind a number and its point
+one-point : (a rest : List ℕ) → with_points (a ∷ []) ++ rest ≡ a ++ (point ∷ rest)
+one-point a rest = append_assoc a (point ∷ []) rest
+
+two-points : (a b rest : List ℕ) → with_points (a ∷ b ∷ []) ++ rest ≡ a ++ (point ∷ (b ++ (point ∷ rest)))
+two-points a b rest = append_assoc a (point ∷ (b ++ (point ∷ []))) rest ∙ ap (λ (l : List ℕ). a ++ (point ∷ l)) (append_assoc b (point ∷ []) rest)
+
+-- where no number is read behind numbers and their points
+numbers-stop : (texts : List (List ℕ)) (rest : List ℕ) (e : Fault) → AreNumbers texts → length texts ≤ 2 → number_at rest ≡ Err e → numbers_at (with_points texts ++ rest) ≡ Err e
+unfolding numbers_at
+numbers-stop [] rest e all few h = rw h refl
+numbers-stop (a ∷ []) rest e all few h =
+    let r = number-again a (point ∷ rest) all.0.0 all.0.1 refl in
+    rw (one-point a rest, r, point-again rest, h) refl
+numbers-stop (a ∷ b ∷ []) rest e all few h =
+    let r = number-again a (point ∷ (b ++ (point ∷ rest))) all.0.0 all.0.1 refl in
+    let s = number-again b (point ∷ rest) all.1.0.0 all.1.0.1 refl in
+    rw (two-points a b rest, r, point-again (b ++ (point ∷ rest)), s, point-again rest, h) refl
+numbers-stop (a ∷ b ∷ c ∷ texts) rest e all few h = absurd (omega arith)
+
+-- where no point is read
+points-stop : (texts : List (List ℕ)) (digits rest : List ℕ) → AreNumbers texts → length texts < 2 → IsAllDigits digits rest → number_of digits ≤ MAX_SAFE_INTEGER
+    → BeginsWithNo (λ b. b == point) rest → numbers_at (with_points texts ++ (digits ++ rest)) ≡ Err (missing_at rest)
+unfolding numbers_at
+points-stop [] digits rest all few here limit none =
+    let n = number-again digits rest (number_of digits) (record { some = here.some; digits = here.all; value = refl; limit = limit }) here.end in
+    rw (n, no-point rest none) refl
+points-stop (a ∷ []) digits rest all few here limit none =
+    let n = number-again digits rest (number_of digits) (record { some = here.some; digits = here.all; value = refl; limit = limit }) here.end in
+    let r = number-again a (point ∷ (digits ++ rest)) all.0.0 all.0.1 refl in
+    rw (one-point a (digits ++ rest), r, point-again (digits ++ rest), n, no-point rest none) refl
+points-stop (a ∷ b ∷ texts) digits rest all few here limit none = absurd (omega arith)
+
+-- no mark is taken where there is none
+unmarked : (text : List ℕ) → BeginsWithNo is_version_mark text → after_mark is_version_mark text ≡ text
+unfolding after_mark
+unmarked [] h = refl
+unmarked (b ∷ rest) h = rw h refl
+
+-- a mark is taken
+one-mark : (b : ℕ) (rest : List ℕ) → is_version_mark b ≡ true → after_mark is_version_mark (b ∷ rest) ≡ rest
+unfolding after_mark
+one-mark b rest h = pick-true _ _ _ h
+
+mark-taken : (text mark rest : List ℕ) → IsMarkOf text mark → text ≡ mark ++ rest → after_mark is_version_mark text ≡ rest
+mark-taken text mark rest (inl none) whole = unmarked text none.1 ∙ whole ∙ ap (λ (l : List ℕ). l ++ rest) none.0
+mark-taken text mark rest (inr some) whole =
+    ap (λ (l : List ℕ). after_mark is_version_mark l) (whole ∙ ap (λ (l : List ℕ). l ++ rest) some.1) ∙ one-mark some.0 rest some.2
+
+-- a mark and blanks are taken before the numbers of a front
+front-taken : (text before rest : List ℕ) (count : ℕ) (h : IsFront text before rest count) → after is_blank (after_mark is_version_mark text) ≡ with_points h.numbers ++ rest
+front-taken text before rest count h =
+    let whole : text ≡ h.mark ++ (h.blanks ++ (with_points h.numbers ++ rest)) = h.whole ∙ ap (λ (l : List ℕ). l ++ rest) h.pieces ∙ simp append_assoc in
+    ap (λ (l : List ℕ). after is_blank l) (mark-taken text h.mark (h.blanks ++ (with_points h.numbers ++ rest)) h.marked whole)
+        ∙ after-again is_blank h.blanks (with_points h.numbers ++ rest) h.blank h.blanks_end
+
+-- a fault in the numbers is a fault of the whole
+stopped : (text numbers : List ℕ) (f : Fault) → after is_blank (after_mark is_version_mark text) ≡ numbers → numbers_at numbers ≡ Err f → marked_at is_version_mark text ≡ Err f
+unfolding marked_at triple_at
+stopped text numbers f e h = rw (e, h) refl
+
+-- so it is told where the rest behind a beginning starts
+stopped-told : (text beginning rest : List ℕ) (kind : Kind) → length text ≤ MAX_LENGTH → text ≡ beginning ++ rest → marked_at is_version_mark text ≡ Err (fault_at kind rest)
+    → fault_of text ≡ Some (kind, length beginning)
+stopped-told text beginning rest kind short whole h =
+    short-told text short ∙ ap (λ (r : Result (VersionValue × List ℕ) Fault). told (length text) r) h ∙ ap (λ (n : ℕ). Some (kind, n)) (sym (front-length text beginning rest whole))
+
+-- a version with more behind it is read, and something may be left
+pub record ReadsSome (text : List ℕ) : Type 0 where
+  pub v : VersionValue
+  pub left : List ℕ
+  pub read : marked_at is_version_mark text ≡ Ok (v, left)
+
+version-opens : (text more : List ℕ) (w : VersionValue) → IsMarkedTriple is_version_mark text w → BeginsWithNo is_digit more → ReadsSome (text ++ more)
+unfolding marked_at triple_at
+version-opens text more w h none =
+    let t = h.read in
+    let starts = begins-append is_digit h.triple more (triple-begins h.triple w t) in
+    let e : text ++ more ≡ h.mark ++ (h.blanks ++ (h.triple ++ more)) = ap (λ (l : List ℕ). l ++ more) h.whole ∙ simp append_assoc in
+    let m = mark-again is_version_mark version-mark h.mark h.blanks (h.triple ++ more) h.marked h.blank starts in
+    let b = after-again is_blank h.blanks (h.triple ++ more) h.blank (digit-no_blank (h.triple ++ more) starts) in
+    let split : h.triple ++ more ≡ t.major ++ (point ∷ (t.minor ++ (point ∷ (t.patch ++ (t.extras ++ more))))) =
+        ap (λ (l : List ℕ). l ++ more) t.whole ∙ sym (regroup t.major t.minor t.patch t.extras more) in
+    let n = numbers-again t.major t.minor t.patch (t.extras ++ more) w.major w.minor w.patch t.first t.second t.third (no-append is_digit t.extras more t.digits_end none) in
+    record {
+      v = version_of (w.major, w.minor, w.patch) (extras_at (t.extras ++ more)).0;
+      left = (extras_at (t.extras ++ more)).1;
+      read = rw (e, m, b, split, n) refl;
+    }
+
+-- what is left behind the longest version is told
+left-told : (text version : List ℕ) (v w : VersionValue) (b : ℕ) (rest left : List ℕ) → length text ≤ MAX_LENGTH → text ≡ version ++ (b ∷ rest) → IsVersionText version v
+    → ((shorter behind : List ℕ) (u : VersionValue) → text ≡ shorter ++ behind → IsVersionText shorter u → length shorter ≤ length version)
+    → marked_at is_version_mark text ≡ Ok (w, left) → left_told (length text) left ≡ Some (other, length version)
+left-told text version v w b rest [] short whole h longest read =
+    let all = longest text [] w (sym (append-nil text)) (read-version text w short read) in
+    absurd (omega (arith, ap length whole, length-append version (b ∷ rest)))
+left-told text version v w b rest (c ∷ left) short whole h longest read =
+    let t = marked-takes is_version_mark text w (c ∷ left) read in
+    let taken : IsVersionText t.taken w = record { short = omega (arith, ap length t.whole, length-append t.taken (c ∷ left)); fields = t.read } in
+    let below : length t.taken ≤ length version = longest t.taken (c ∷ left) w t.whole taken in
+    let above : length (c ∷ left) ≤ length (b ∷ rest) = marked-longest is_version_mark version-mark version (b ∷ rest) (c ∷ left) w v h.fields (ap (λ (l : List ℕ). marked_at is_version_mark l) (sym whole) ∙ read) in
+    let same : length text - length (c ∷ left) ≡ length version =
+        omega (arith, ap length whole, ap length t.whole, length-append version (b ∷ rest), length-append t.taken (c ∷ left)) in
+    ap (λ (n : ℕ). Some (other, n)) same
+
+-- a fault is what the reader tells
+pub fault-again : (text : List ℕ) (kind : Kind) (offset : ℕ) → IsFault text kind offset → fault_of text ≡ Some (kind, offset)
+fault-again text kind offset (too_long long) = pick-false _ _ _ (lt-leb _ _ long)
+fault-again text kind offset (no_number before rest count short h none) =
+    let stops = numbers-stop h.numbers rest (missing_at rest) h.read (omega (arith, h.few, h.counted)) (no-number rest none) in
+    stopped-told text before rest kind short h.whole (stopped text (with_points h.numbers ++ rest) (missing_at rest) (front-taken text before rest count h) stops)
+fault-again text kind offset (large_number before digits rest count short h all large) =
+    let e = fault_at (too_large (number_of digits)) (digits ++ rest) in
+    let stops = numbers-stop h.numbers (digits ++ rest) e h.read (omega (arith, h.few, h.counted)) (too-large digits rest all large) in
+    stopped-told text before (digits ++ rest) kind short h.whole (stopped text (with_points h.numbers ++ (digits ++ rest)) e (front-taken text before (digits ++ rest) count h) stops)
+fault-again text kind offset (no_point before digits rest count short h few all limit none) =
+    let stops = points-stop h.numbers digits rest h.read (omega (arith, h.counted)) all limit none in
+    stopped-told text (before ++ digits) rest kind short (h.whole ∙ sym (append_assoc before digits rest))
+        (stopped text (with_points h.numbers ++ (digits ++ rest)) (missing_at rest) (front-taken text before (digits ++ rest) count h) stops)
+fault-again text kind offset (left_over version v b rest short whole none h longest) =
+    let s = version-opens version (b ∷ rest) v h.fields none in
+    let read : marked_at is_version_mark text ≡ Ok (s.v, s.left) = ap (λ (l : List ℕ). marked_at is_version_mark l) whole ∙ s.read in
+    short-told text short ∙ ap (λ (r : Result (VersionValue × List ℕ) Fault). told (length text) r) read ∙ left-told text version v s.v b rest s.left short whole h longest read
+
+-- a version text is told no fault
+pub version-none : (text : List ℕ) (v : VersionValue) → IsVersionText text v → fault_of text ≡ None
+version-none text v h =
+    short-told text h.short ∙ ap (λ (r : Result (VersionValue × List ℕ) Fault). told (length text) r) (version-read text v h)
+
+-- a text has one fault at most
+pub one_fault : (text : List ℕ) (k l : Kind) (m n : ℕ) → IsFault text k m → IsFault text l n → (k ≡ l) × (m ≡ n)
+one_fault text k l m n h g =
+    let e : Some (k, m) ≡ Some (l, n) = sym (fault-again text k m h) ∙ fault-again text l n g in
+    let f : (k, m) ≡ (l, n) = cc e in
+    (ap (λ (p : Kind × ℕ). p.0) f, ap (λ (p : Kind × ℕ). p.1) f)
+
+-- and a version text none
+pub version-no_fault : (text : List ℕ) (v : VersionValue) (kind : Kind) (offset : ℕ) → IsVersionText text v → IsFault text kind offset → ⊥
+version-no_fault text v kind offset h g = cc (sym (version-none text v h) ∙ fault-again text kind offset g)
+
+-- what is read is a version text or tells a fault
+abbrev ReadOrFaulty : List ℕ → Type 0
+ReadOrFaulty text = ((v : VersionValue) × IsVersionText text v) ⊎ ((kind : Kind) × (offset : ℕ) × IsFault text kind offset)
+
+result-takes : (text : List ℕ) (r : Result (VersionValue × List ℕ) Fault) → length text ≤ MAX_LENGTH → marked_at is_version_mark text ≡ r → ReadOrFaulty text
+result-takes text (Err f) short h = inr (f.kind, length text - f.left, fault-takes text f short h)
+result-takes text (Ok (v, [])) short h = inl (v, read-version text v short h)
+result-takes text (Ok (v, b ∷ rest)) short h = inr (other, length text - length (b ∷ rest), left-takes text v b rest short h)
+
+-- each text is a version text or has a fault
+pub read_or_faulty : (text : List ℕ) → ReadOrFaulty text
+read_or_faulty text = elim (cases_Bool (nat_le (length text) MAX_LENGTH)) [
+  | inl short ↦ result-takes text (marked_at is_version_mark text) (leb-true _ _ short) refl
+  | inr long ↦ inr (max_length, length text - 1, too_long (leb-false _ _ long))
+]
+
+-- what is told, taken from a pair
+some-told : (a b : Kind × ℕ) → Some a ≡ Some b → a ≡ b
+some-told a b h = cc h
+
+-- what the reader tells is a fault
+pub fault-computed : (text : List ℕ) (kind : Kind) (offset : ℕ) → fault_of text ≡ Some (kind, offset) → IsFault text kind offset
+fault-computed text kind offset h = elim (read_or_faulty text) [
+  | inl read ↦ cc (sym (version-none text read.0 read.1) ∙ h)
+  | inr faulty ↦ subst (λ (p : Kind × ℕ). IsFault text p.0 p.1) (some-told (faulty.0, faulty.1) (kind, offset) (sym (fault-again text faulty.0 faulty.1 faulty.2) ∙ h)) faulty.2
+]

@@ -1,0 +1,17 @@
+use Rattle.std.proofs.Common.{◌≡◌, ◌⊎◌, inl, inr}
+use Rattle.node_semver.specs.VersionText.{IsVersionText}
+use Rattle.node_semver.proofs.FaultLaws.{version-no_fault}
+use Rattle.node_semver.proofs.OneReading.{one_reading}
+use Rattle.node_semver.proofs.version.Version.parse.Goals as goal
+
+pub returns-in-Ok-clause-only : goal.returns-in-Ok-clause-only
+returns-in-Ok-clause-only c = λ v h. one_reading c.args.text.now c.in-Ok.version v (rw (← c.as_bytes.ensures.value) c.in-Ok.ensures.found) h
+
+pub returns-in-Err-clause-only : goal.returns-in-Err-clause-only
+returns-in-Err-clause-only c = λ v h. elim c.in-Err.ensures.fault [
+  | inl memory ↦ c.refusal.ensures.memory memory
+  | inr fault ↦ absurd (version-no_fault _ v _ _ (rw c.as_bytes.ensures.value h) fault)
+]
+
+pub returns-in-Err-clause-plain : goal.returns-in-Err-clause-plain
+returns-in-Err-clause-plain c = λ v h. c.in-Err.ensures.plain v (rw c.as_bytes.ensures.value h)

@@ -1,0 +1,22 @@
+-- The laws of version texts: what makes "the version of a text" and "the fault of a text" well said.
+use Rattle.std.specs.Prelude.{◌≡◌, ◌⊎◌, ℕ, List}
+use Rattle.node_semver.specs.Error.{Kind}
+use Rattle.node_semver.specs.Fault.{IsFault}
+use Rattle.node_semver.specs.Version.{VersionValue}
+use Rattle.node_semver.specs.VersionText.{IsVersionText}
+
+-- the text is no two versions
+abbrev pub HasOneReading : List ℕ → Type 0
+HasOneReading text = (v w : VersionValue) → IsVersionText text v → IsVersionText text w → v ≡ w
+
+-- the text is a version text, or has a fault
+abbrev pub IsReadOrFaulty : List ℕ → Type 0
+IsReadOrFaulty text = ((v : VersionValue) × IsVersionText text v) ⊎ ((kind : Kind) × (offset : ℕ) × IsFault text kind offset)
+
+-- and not both
+abbrev pub IsNeverBoth : List ℕ → Type 0
+IsNeverBoth text = (v : VersionValue) (kind : Kind) (offset : ℕ) → IsVersionText text v → ¬ IsFault text kind offset
+
+-- the text has no two faults
+abbrev pub HasOneFault : List ℕ → Type 0
+HasOneFault text = (k l : Kind) (m n : ℕ) → IsFault text k m → IsFault text l n → (k ≡ l) × (m ≡ n)

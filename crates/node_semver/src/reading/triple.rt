@@ -1,0 +1,77 @@
+ghost use Rattle.std.specs.Prelude.{◌≡◌, Ok, IsOk, []};
+ghost use Rattle.node_semver.specs.ComparatorText.{is_partial_mark};
+ghost use Rattle.node_semver.specs.Reading.{marked_at, numbers_at, point_at, triple_at};
+ghost use Rattle.node_semver.specs.ReadingViews.{Gives, IsPlainOk, point_seen, seen, version_seen};
+ghost use Rattle.node_semver.specs.VersionText.{is_version_mark};
+
+use crate::Version;
+use crate::reading::blanks::{behind_blanks, behind_partial_mark, behind_version_mark};
+use crate::reading::identifiers::{build, prerelease};
+use crate::reading::number::{missing, number};
+use crate::reading::Fault;
+use std::alloc::Global;
+
+// The bytes behind a point.
+#[inline(always)]
+#[tactic(auto, unfolding(crate::specs::Reading::point_at))]
+fn point(text: &[u8]) -> Result<&[u8], Fault>
+    ensures { point_seen result ≡ point_at text.now }
+{
+    match text {
+        [b'.', rest @ ..] => Ok(rest),
+        _ => Err(missing(text)),
+    }
+}
+
+// `1.2.3` of `1.2.3-alpha`
+#[inline(always)]
+#[tactic(auto, unfolding(crate::specs::Reading::numbers_at))]
+fn numbers(text: &[u8]) -> Result<((u64, u64, u64), &[u8]), Fault>
+    ensures { seen result ≡ numbers_at text.now }
+{
+    let (major, rest) = number(text)?;
+    let rest = point(rest)?;
+    let (minor, rest) = number(rest)?;
+    let rest = point(rest)?;
+    let (patch, rest) = number(rest)?;
+    Ok(((major, minor, patch), rest))
+}
+
+// `1.2.3-alpha+5` of `1.2.3-alpha+5 <2.0.0`
+#[inline(always)]
+#[tactic(auto, unfolding(crate::specs::Reading::triple_at, crate::specs::Reading::extras_at))]
+fn triple(alloc: Global, text: &[u8]) -> Result<(Version, &[u8]), Fault>
+    ensures read { Gives version_seen result (triple_at text.now) }
+    ensures plain { IsPlainOk result (triple_at text.now) }
+{
+    let ((major, minor, patch), rest) = numbers(text)?;
+    let (pre_release, rest) = prerelease(alloc, rest)?;
+    let (build, rest) = build(alloc, rest)?;
+    let version = Version {
+        major,
+        minor,
+        patch,
+        build,
+        pre_release,
+    };
+    Ok((version, rest))
+}
+
+// A version at the front of a text: `V 1.2.3`
+#[inline(always)]
+#[tactic(auto, unfolding(crate::specs::Reading::marked_at))]
+pub(crate) fn version(alloc: Global, text: &[u8]) -> Result<(Version, &[u8]), Fault>
+    ensures read { Gives version_seen result (marked_at is_version_mark text.now) }
+    ensures plain { IsPlainOk result (marked_at is_version_mark text.now) }
+{
+    triple(alloc, behind_blanks(behind_version_mark(text)))
+}
+
+// A partial at the front of a text: `v 1.2.3`
+#[inline(always)]
+#[tactic(auto, unfolding(crate::specs::Reading::marked_at))]
+pub(crate) fn partial(alloc: Global, text: &[u8]) -> Result<(Version, &[u8]), Fault>
+    ensures read { Gives version_seen result (marked_at is_partial_mark text.now) }
+{
+    triple(alloc, behind_blanks(behind_partial_mark(text)))
+}

@@ -1,0 +1,142 @@
+use crate::{Identifier, SemverErrorKind, Version};
+use std::alloc::{AllocError, Global};
+use std::test::Fail;
+
+// `alpha,#1` of `alpha.1`: a `#` stands before a number
+fn shape(alloc: Global, identifiers: &[Identifier]) -> Result<String, AllocError> {
+    let mut text = String::new(alloc);
+    for identifier in identifiers {
+        if !text.is_empty() {
+            text.push_str(",")?;
+        }
+        if matches!(identifier, Identifier::Numeric(_)) {
+            text.push_str("#")?;
+        }
+        write!(text, "{identifier}")?;
+    }
+    Ok(text)
+}
+
+// A text, and a piece some times behind it.
+fn repeated(alloc: Global, text: &str, piece: &str, times: usize) -> Result<String, AllocError> {
+    let mut whole = String::from_str(alloc, text)?;
+    for _ in 0..times {
+        whole.push_str(piece)?;
+    }
+    Ok(whole)
+}
+
+// SemVer 2.0.0, sections 2, 9 and 10, and npm's loose form: a mark, blanks, leading zeros, no hyphen.
+#[test]
+fn reads_versions(rt: HostRuntime) -> Result<(), Fail> {
+    let alloc = rt.alloc();
+    for (text, triple, pre_release, build) in [
+        ("1.2.3", (1, 2, 3), "", ""),
+        ("1.2.34", (1, 2, 34), "", ""),
+        ("v1.2.3", (1, 2, 3), "", ""),
+        ("V1.2.3", (1, 2, 3), "", ""),
+        ("v 1.2.3", (1, 2, 3), "", ""),
+        ("v\t 01.02.03", (1, 2, 3), "", ""),
+        (" 1.2.3", (1, 2, 3), "", ""),
+        ("000000000000000000000000000000007.0.0", (7, 0, 0), "", ""),
+        ("0.900719925474099.0", (0, 900719925474099, 0), "", ""),
+        ("1.2.34-abc.123+1", (1, 2, 34), "abc,#123", "#1"),
+        ("1.2.34+123.456", (1, 2, 34), "", "#123,#456"),
+        ("1.2.3beta", (1, 2, 3), "beta", ""),
+        ("1.2.3-001+007.x", (1, 2, 3), "#1", "#7,x"),
+        ("1.2.3--", (1, 2, 3), "-", ""),
+        ("1.0.0--a", (1, 0, 0), "-a", ""),
+        ("1.0.0-rc.2-migration", (1, 0, 0), "rc,2-migration", ""),
+        ("1.0.0-18446744073709551615", (1, 0, 0), "#18446744073709551615", ""),
+        ("1.0.0-18446744073709551616", (1, 0, 0), "18446744073709551616", ""),
+        ("1.0.0-99999999999999999999", (1, 0, 0), "99999999999999999999", ""),
+    ] {
+        let version = Version::parse(alloc, text)?;
+        assert_eq!(rt; (version.major, version.minor, version.patch), triple, "{text}");
+        assert_eq!(rt; shape(alloc, &version.pre_release)?.as_str(), pre_release, "{text}");
+        assert_eq!(rt; shape(alloc, &version.build)?.as_str(), build, "{text}");
+    }
+    Ok(())
+}
+
+// At most 256 bytes, whatever is printed of them.
+#[test]
+fn reads_at_most_256_bytes(rt: HostRuntime) -> Result<(), Fail> {
+    let alloc = rt.alloc();
+    for (text, piece, times, read) in [
+        ("1.1.1-", "X", 249, true),
+        ("1.1.1-", "X", 250, true),
+        ("1.1.1-", "X", 251, false),
+        ("1.1.1-", "X", 257, false),
+        ("1.0.0", "a", 251, true),
+    ] {
+        let whole = repeated(alloc, text, piece, times)?;
+        assert_eq!(rt; Version::parse(alloc, &whole).is_ok(), read, "{text} and {times} times {piece}");
+    }
+    let printed = Version::parse(alloc, &repeated(alloc, "1.0.0", "a", 251)?)?.to_string(alloc)?;
+    assert_eq!(rt; printed.len(), 257);
+    let error = Version::parse(alloc, &printed).err().ok_or("257 bytes were read")?;
+    assert_eq!(rt; error.kind(), &SemverErrorKind::MaxLengthError);
+    assert_eq!(rt; error.offset(), 256);
+    Ok(())
+}
+
+// What is wrong, its byte offset, the lines before it and the bytes before it in its line.
+#[test]
+fn refuses_versions_at_the_first_fault(rt: HostRuntime) -> Result<(), Fail> {
+    let alloc = rt.alloc();
+    let too_large = "18446744073709551616".parse::<u64>().err().ok_or("64 bits")?;
+    let long_lines = repeated(alloc, "a\n", "b", 298)?;
+    let long_characters = repeated(alloc, "a", "\u{161}", 128)?;
+    for (text, kind, offset, location) in [
+        ("", SemverErrorKind::Context("version"), 0, (0, 0)),
+        ("v", SemverErrorKind::Context("version"), 1, (0, 1)),
+        (" v1.2.3", SemverErrorKind::Context("version"), 1, (0, 1)),
+        ("1.", SemverErrorKind::Context("version"), 2, (0, 2)),
+        ("1.2", SemverErrorKind::Context("version"), 3, (0, 3)),
+        ("\n1.2.3", SemverErrorKind::Context("version"), 0, (0, 0)),
+        ("\u{ff11}.2.3", SemverErrorKind::Context("version"), 0, (0, 0)),
+        ("1.2.900719925474100", SemverErrorKind::MaxIntError(900719925474100), 4, (0, 4)),
+        ("900719925474100.a", SemverErrorKind::MaxIntError(900719925474100), 0, (0, 0)),
+        ("18446744073709551616.0.0", SemverErrorKind::ParseIntError(too_large), 0, (0, 0)),
+        ("1.2.3 ", SemverErrorKind::Other, 5, (0, 5)),
+        ("1.2.3.4", SemverErrorKind::Other, 5, (0, 5)),
+        ("1.2.3-", SemverErrorKind::Other, 5, (0, 5)),
+        ("1.2.3+", SemverErrorKind::Other, 5, (0, 5)),
+        ("1.2.3-+a", SemverErrorKind::Other, 5, (0, 5)),
+        ("1.2.3-\u{161}", SemverErrorKind::Other, 5, (0, 5)),
+        ("1.2.3\n4", SemverErrorKind::Other, 5, (0, 5)),
+        ("1.2.3-a.", SemverErrorKind::Other, 7, (0, 7)),
+        ("1.2.3-a+", SemverErrorKind::Other, 7, (0, 7)),
+        ("1.2.3-a.+b", SemverErrorKind::Other, 7, (0, 7)),
+        (&long_lines, SemverErrorKind::MaxLengthError, 299, (1, 297)),
+        (&long_characters, SemverErrorKind::MaxLengthError, 256, (0, 256)),
+    ] {
+        let error = Version::parse(alloc, text).err().ok_or("read")?;
+        assert_eq!(rt; error.kind(), &kind, "{text}");
+        assert_eq!(rt; error.offset(), offset, "{text}");
+        assert_eq!(rt; error.span().len(), 0, "{text}");
+        assert_eq!(rt; error.location(), location, "{text}");
+        assert_eq!(rt; error.input(), text, "{text}");
+    }
+    Ok(())
+}
+
+// Each text prints as the other, and an equal version is read from that.
+#[test]
+fn prints_what_it_read(rt: HostRuntime) -> Result<(), Fail> {
+    let alloc = rt.alloc();
+    for (text, print) in [
+        ("1.2.34-abc.213+2", "1.2.34-abc.213+2"),
+        ("v 01.02.03", "1.2.3"),
+        ("1.2.3beta", "1.2.3-beta"),
+        ("1.2.3-001+007.x", "1.2.3-1+7.x"),
+    ] {
+        let version = Version::parse(alloc, text)?;
+        assert_eq!(rt; version.to_string(alloc)?.as_str(), print, "{text}");
+        let again = Version::parse(alloc, print)?;
+        assert_eq!(rt; again.to_string(alloc)?.as_str(), print, "{text}");
+        assert!(rt; again == version, "{text}");
+    }
+    Ok(())
+}

@@ -1,0 +1,158 @@
+use crate::{Identifier, Version};
+use std::alloc::{AllocError, Global};
+use std::cmp::Ordering;
+use std::hash::{DefaultHasher, Hash, Hasher};
+use std::test::Fail;
+
+// The identifiers between the dots of a text, and none of the empty text.
+fn identifiers(alloc: Global, text: &str) -> Result<Vec<Identifier>, AllocError> {
+    let mut parts = Vec::new(alloc);
+    if text.is_empty() {
+        return Ok(parts);
+    }
+    for part in text.split('.') {
+        parts.push(match part.parse::<u64>() {
+            Ok(n) => Identifier::Numeric(n),
+            Err(_) => Identifier::AlphaNumeric(String::from_str(alloc, part)?),
+        })?;
+    }
+    Ok(parts)
+}
+
+fn version(
+    alloc: Global,
+    triple: (u64, u64, u64),
+    pre_release: &str,
+    build: &str,
+) -> Result<Version, AllocError> {
+    let mut version = Version::new(alloc, triple.0, triple.1, triple.2);
+    version.pre_release = identifiers(alloc, pre_release)?;
+    version.build = identifiers(alloc, build)?;
+    Ok(version)
+}
+
+fn hash_of(version: &Version) -> u64 {
+    let mut state = DefaultHasher::new();
+    version.hash(&mut state);
+    state.finish()
+}
+
+// SemVer 2.0.0, section 11.4: the prereleases of `1.0.0`, and `1.0.0` itself.
+#[test]
+fn orders_the_standards_chain(rt: HostRuntime) -> Result<(), Fail> {
+    let alloc = rt.alloc();
+    let chain = [
+        "alpha",
+        "alpha.1",
+        "alpha.beta",
+        "beta",
+        "beta.2",
+        "beta.11",
+        "rc.1",
+        "",
+    ];
+    for i in 0..chain.len() {
+        for j in 0..chain.len() {
+            let (v, w) = (
+                version(alloc, (1, 0, 0), chain[i], "")?,
+                version(alloc, (1, 0, 0), chain[j], "")?,
+            );
+            assert_eq!(rt; v.cmp(&w), i.cmp(&j), "{v} and {w}");
+            assert_eq!(rt; v.partial_cmp(&w), Some(i.cmp(&j)), "{v} and {w}");
+            assert_eq!(rt; v == w, i == j, "{v} and {w}");
+            assert_eq!(rt; v < w, i < j, "{v} and {w}");
+        }
+    }
+    Ok(())
+}
+
+// Numbers come first, by size, and a number is below each text.
+#[test]
+fn orders_by_the_triple_and_then_by_identifiers(rt: HostRuntime) -> Result<(), Fail> {
+    let alloc = rt.alloc();
+    for (below, low, above, high) in [
+        ((1, 2, 34), "abc.123", (2, 2, 34), "abc.123"),
+        ((1, 2, 34), "abc.123", (1, 3, 34), "abc.123"),
+        ((1, 2, 34), "abc.123", (1, 2, 56), "abc.123"),
+        ((1, 0, 0), "", (2, 0, 0), "alpha"),
+        ((1, 9, 9), "", (2, 0, 0), ""),
+        (
+            (1, 0, 0),
+            "18446744073709551615",
+            (1, 0, 0),
+            "99999999999999999999",
+        ),
+        ((1, 0, 0), "Beta", (1, 0, 0), "alpha"),
+    ] {
+        let (v, w) = (
+            version(alloc, below, low, "")?,
+            version(alloc, above, high, "")?,
+        );
+        assert_eq!(rt; v.cmp(&w), Ordering::Less, "{v} and {w}");
+        assert_eq!(rt; w.cmp(&v), Ordering::Greater, "{w} and {v}");
+        assert!(rt; v < w && w > v && v != w, "{v} and {w}");
+    }
+    Ok(())
+}
+
+// SemVer 2.0.0, section 10.
+#[test]
+fn equality_order_and_hash_ignore_the_build(rt: HostRuntime) -> Result<(), Fail> {
+    let alloc = rt.alloc();
+    let v = version(alloc, (1, 0, 0), "rc.1", "7")?;
+    for (pre_release, build, same) in [
+        ("rc.1", "7", true),
+        ("rc.1", "", true),
+        ("rc.1", "other.8", true),
+        ("rc.2", "7", false),
+        ("", "7", false),
+    ] {
+        let w = version(alloc, (1, 0, 0), pre_release, build)?;
+        assert_eq!(rt; v == w, same, "{v} and {w}");
+        assert_eq!(rt; v.cmp(&w) == Ordering::Equal, same, "{v} and {w}");
+        assert_eq!(rt; hash_of(&v) == hash_of(&w), same, "{v} and {w}");
+    }
+    Ok(())
+}
+
+// A width is not looked at.
+#[test]
+fn prints_versions_and_identifiers(rt: HostRuntime) -> Result<(), Fail> {
+    let alloc = rt.alloc();
+    for (triple, pre_release, build, text) in [
+        ((1, 2, 34), "abc.213", "2", "1.2.34-abc.213+2"),
+        ((1, 2, 3), "", "", "1.2.3"),
+        (
+            (0, 0, 18446744073709551615),
+            "",
+            "x.y",
+            "0.0.18446744073709551615+x.y",
+        ),
+        ((1, 0, 0), "rc-1", "", "1.0.0-rc-1"),
+    ] {
+        let v = version(alloc, triple, pre_release, build)?;
+        assert_eq!(rt; format!(in alloc; "{v}")?.as_str(), text);
+        assert_eq!(rt; format!(in alloc; "{v:>9}")?.as_str(), text);
+    }
+    let (number, word) = (
+        Identifier::Numeric(1),
+        Identifier::AlphaNumeric(String::from_str(alloc, "rc")?),
+    );
+    assert_eq!(rt; format!(in alloc; "{number}{number:>9}")?.as_str(), "11");
+    assert_eq!(rt; format!(in alloc; "{word}{word:*^9}")?.as_str(), "rcrc");
+    Ok(())
+}
+
+#[test]
+fn makes_and_copies_versions(rt: HostRuntime) -> Result<(), Fail> {
+    let alloc = rt.alloc();
+    let plain = Version::new(alloc, 1, 2, 3);
+    assert!(rt; !plain.is_prerelease());
+    assert_eq!(rt; format!(in alloc; "{plain}")?.as_str(), "1.2.3");
+    let v = version(alloc, (1, 2, 3), "rc.1", "b.7")?;
+    assert!(rt; v.is_prerelease());
+    let (copy, shorter) = (v.copy_of(alloc)?, v.without_build_of(alloc)?);
+    assert_eq!(rt; format!(in alloc; "{copy}")?.as_str(), "1.2.3-rc.1+b.7");
+    assert_eq!(rt; format!(in alloc; "{shorter}")?.as_str(), "1.2.3-rc.1");
+    Ok(())
+}

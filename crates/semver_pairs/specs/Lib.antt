@@ -1,0 +1,3 @@
+pub mod GaugeValue
+pub mod Lines
+pub mod Output

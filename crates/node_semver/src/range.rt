@@ -7,7 +7,8 @@ ghost use Rattle.node_semver.specs.Meaning.{AreVoid, HasOpenEnd, IsInside, IsRef
 ghost use Rattle.node_semver.specs.Version.{VersionValue};
 
 use crate::comparator::{Comparator, are_void};
-use crate::word::{self, after_blanks};
+use crate::reading::behind_blanks;
+use crate::word;
 use crate::{SemverError, SemverErrorKind, Version};
 use std::alloc::{AllocError, Global};
 use std::marker::Model;
@@ -142,13 +143,16 @@ fn comparators_of(alloc: Global, text: &[u8]) -> Result<Vec<Comparator>, AllocEr
     ensures { IfOk result (λ v. IsWritten text.now (v.items ∷ [])) }
 {
     let mut comparators = Vec::new(alloc);
-    let mut rest = after_blanks(text);
+    let mut rest = behind_blanks(text);
     while !rest.is_empty() {
         let (comparator, behind) = word::next(alloc, rest)?;
         if let Some(comparator) = comparator {
             comparators.push(comparator)?;
         }
-        rest = after_blanks(behind);
+        rest = behind_blanks(behind);
     }
     Ok(comparators)
 }
+
+#[cfg(test)]
+mod tests;

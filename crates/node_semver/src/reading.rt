@@ -10,6 +10,7 @@ mod identifiers;
 mod number;
 mod triple;
 
+pub(crate) use blanks::{behind_blanks, is_blank};
 pub(crate) use triple::{partial, version};
 
 /// What is wrong with a text, and how many of its bytes stand from there on.

@@ -1,14 +1,12 @@
 //! The words of a range text.
-ghost use Rattle.std.specs.Prelude.{◌≡◌, ◌↔◌, Some, IfOk, IsTrue};
-ghost use Rattle.node_semver.specs.Characters.{is_blank};
+ghost use Rattle.std.specs.Prelude.{◌≡◌, Some, IfOk};
 ghost use Rattle.node_semver.specs.ComparatorText.{full, operator_comparator};
-ghost use Rattle.node_semver.specs.Division.{IsCleanEnd};
 ghost use Rattle.node_semver.specs.Reading.{after};
 ghost use Rattle.node_semver.specs.Word.{operator_of, operator_seen, word_seen};
 ghost use Rattle.node_semver.specs.WordReading.{is_clean, is_solid, next_word, operator_at, with_equals, word_at};
 
 use crate::comparator::Comparator;
-use crate::reading::partial;
+use crate::reading::{behind_blanks, is_blank, partial};
 use crate::{SemverErrorKind, Version};
 use semver_cuts::Cut;
 use std::alloc::{AllocError, Global};
@@ -41,7 +39,7 @@ fn word(alloc: Global, text: &[u8]) -> Result<Option<(Comparator, &[u8])>, Alloc
     let Some((operator, operand)) = longest_operator(text) else {
         return Ok(None);
     };
-    match partial(alloc, after_blanks(operand)) {
+    match partial(alloc, behind_blanks(operand)) {
         Ok((version, rest)) if ends_word(rest) => {
             Ok(Some((comparator(alloc, operator, version)?, rest)))
         }
@@ -106,31 +104,9 @@ fn ends_word(text: &[u8]) -> bool
     ensures { result ≡ is_clean text.now }
 {
     match text.split_first() {
-        Some((byte, _)) => is_blank_byte(*byte),
+        Some((byte, _)) => is_blank(*byte),
         None => true,
     }
-}
-
-#[inline]
-fn is_blank_byte(byte: u8) -> bool
-    ensures { result ≡ is_blank byte }
-{
-    byte == b' ' || byte == b'\t'
-}
-
-// The bytes from the first one on that is no blank.
-#[inline]
-#[tactic(auto, unfolding(crate::specs::Reading::after))]
-pub(crate) fn after_blanks(text: &[u8]) -> &[u8]
-    ensures { result.now ≡ after is_blank text.now }
-{
-    let mut rest = text;
-    while let Some((byte, behind)) = rest.split_first()
-        && is_blank_byte(*byte)
-    {
-        rest = behind;
-    }
-    rest
 }
 
 // The bytes from the next blank on.
@@ -141,7 +117,7 @@ fn thrown_away(text: &[u8]) -> &[u8]
 {
     let mut rest = text;
     while let Some((byte, behind)) = rest.split_first()
-        && !is_blank_byte(*byte)
+        && !is_blank(*byte)
     {
         rest = behind;
     }

@@ -40,7 +40,7 @@ pub outer-more : (first : Comparator) (others : List Comparator) (i : ℕ) (c : 
 outer-more first others i c lower upper lower' upper' from to within here ends outer greater lesser =
     let span : Comparator = record { lower = from; upper = to } in
     let more : take (i + 1) others ≡ take i others ++ span ∷ [] =
-        take_more others i c within ∙ ap (λ (d : Comparator). take i others ++ d ∷ []) (sym here ∙ sym ends) in
+    take_more others i c within ∙ ap (λ (d : Comparator). take i others ++ d ∷ []) (sym here ∙ sym ends) in
     subst (λ (l : List Comparator). AreOuterEnds version_cmp (first ∷ l) lower' upper') (sym more)
     (AreOuterEnds-push version_total (first ∷ take i others) span lower upper lower' upper' outer greater lesser)
 
@@ -50,7 +50,7 @@ pub void-iff : (list : List Comparator) (first : Comparator) (others : List Comp
     → IsTrue (not below) ↔ AreVoid list
 void-iff list first others lower upper order below whole outer compared test =
     let iff : IsTrue (is_lt (cut_cmp version_cmp lower upper)) ↔ HasCommonCut version_cmp list =
-        subst (λ (l : List Comparator). IsTrue (is_lt (cut_cmp version_cmp lower upper)) ↔ HasCommonCut version_cmp l) (sym whole) (common-lt version_total (first ∷ others) lower upper outer) in
+    subst (λ (l : List Comparator). IsTrue (is_lt (cut_cmp version_cmp lower upper)) ↔ HasCommonCut version_cmp l) (sym whole) (common-lt version_total (first ∷ others) lower upper outer) in
     let same : below ≡ is_lt (cut_cmp version_cmp lower upper) = test ∙ ap is_lt compared in
     elim (cases_Bool below) [
       | inl met ↦ (

@@ -219,9 +219,9 @@ operand-again : (o : Operator) (blanks operand rest : List ℕ) (partial : Parti
 operand-again o blanks operand rest (full v) all read clean =
     let marked : marked_at is_partial_mark (operand ++ rest) ≡ Ok (v, rest) = marked-again is_partial_mark partial_mark operand rest v read clean in
     let behind : operator_at (operator_text o ++ (blanks ++ (operand ++ rest))) ≡ Some (o, blanks ++ (operand ++ rest)) =
-        operator-again o (blanks ++ (operand ++ rest)) (blanks-no_equals blanks (operand ++ rest) all (marked-no_equals (operand ++ rest) (v, rest) marked)) in
+    operator-again o (blanks ++ (operand ++ rest)) (blanks-no_equals blanks (operand ++ rest) all (marked-no_equals (operand ++ rest) (v, rest) marked)) in
     let unblanked : marked_at is_partial_mark (after is_blank (blanks ++ (operand ++ rest))) ≡ Ok (v, rest) =
-        ap (marked_at is_partial_mark) (after-skips is_blank blanks (operand ++ rest) all) ∙ marked-unblanked (operand ++ rest) (v, rest) marked in
+    ap (marked_at is_partial_mark) (after-skips is_blank blanks (operand ++ rest) all) ∙ marked-unblanked (operand ++ rest) (v, rest) marked in
     rw (behind, unblanked, is-clean rest clean) refl
 
 -- and a comparator text with a clean end is read
@@ -230,8 +230,8 @@ pub word-again : (word rest : List ℕ) (comparator : Option Comparator) → IsC
 unfolding word_at
 word-again word rest comparator read clean =
     let whole : word ++ rest ≡ operator_text read.operator ++ (read.blanks ++ (read.operand ++ rest)) =
-        ap (λ (l : List ℕ). l ++ rest) read.whole ∙ append_assoc (operator_text read.operator) (read.blanks ++ read.operand) rest
-        ∙ ap (λ (l : List ℕ). operator_text read.operator ++ l) (append_assoc read.blanks read.operand rest) in
+    ap (λ (l : List ℕ). l ++ rest) read.whole ∙ append_assoc (operator_text read.operator) (read.blanks ++ read.operand) rest
+    ∙ ap (λ (l : List ℕ). operator_text read.operator ++ l) (append_assoc read.blanks read.operand rest) in
     ap (λ (l : List ℕ). with_operator (operator_at l)) whole
     ∙ operand-again read.operator read.blanks read.operand rest read.partial read.blank read.read clean
     ∙ ap (λ (c : Option Comparator). Some (c, rest)) (sym read.says)

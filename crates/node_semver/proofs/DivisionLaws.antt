@@ -57,11 +57,14 @@ next-takes text None r =
     record {
       word = front is_solid text;
       whole = whole;
-      is_word = inr (refl, record {
-        solid = front-all is_solid text;
-        clean = clean;
-        none = λ word back comparator e. thrown-from_none text r word back comparator (whole ∙ e);
-      });
+      is_word = inr (
+        refl,
+        record {
+          solid = front-all is_solid text;
+          clean = clean;
+          none = λ word back comparator e. thrown-from_none text r word back comparator (whole ∙ e);
+        },
+      );
       clean = clean;
     }
 
@@ -85,13 +88,16 @@ divide-more : (text : List ℕ) (c : Option Comparator) (rest : List ℕ) (b : �
     → IsDivision (after is_blank (b ∷ rest)) words → IsDivision text (c ∷ words)
 divide-more text c rest b [] w d = absurd d
 divide-more text c rest b (x ∷ words) w d =
-    let whole : b ∷ rest ≡ front is_blank (b ∷ rest) ++ after is_blank (b ∷ rest) = sym (front-after is_blank (b ∷ rest)) in
-    (w.word, front is_blank (b ∷ rest), after is_blank (b ∷ rest),
-    w.whole ∙ ap (λ (l : List ℕ). w.word ++ l) whole,
-    subst (λ (l : List ℕ). IsWord w.word l c) whole w.is_word,
-    (front-begins is_blank (b ∷ rest) w.clean, front-all is_blank (b ∷ rest)),
-    after-no is_blank (b ∷ rest),
-    d)
+    let whole : b ∷ rest ≡ front is_blank (b ∷ rest) ++ after is_blank (b ∷ rest) = sym (front-after is_blank (b ∷ rest)) in (
+      w.word,
+      front is_blank (b ∷ rest),
+      after is_blank (b ∷ rest),
+      w.whole ∙ ap (λ (l : List ℕ). w.word ++ l) whole,
+      subst (λ (l : List ℕ). IsWord w.word l c) whole w.is_word,
+      (front-begins is_blank (b ∷ rest) w.clean, front-all is_blank (b ∷ rest)),
+      after-no is_blank (b ∷ rest),
+      d,
+    )
 
 divide-last : (text : List ℕ) (c : Option Comparator) → HasWord text c [] → IsDivision text (c ∷ [])
 divide-last text c w =
@@ -179,7 +185,7 @@ division-unique text (w ∷ z ∷ ws) (x ∷ y ∷ xs) d e =
     let behind : one.b ∷ one.behind ≡ two.b ∷ two.behind = ap (λ (p : Word). p.1) same in
     let first : w ≡ x = ap (λ (p : Word). p.0) same in
     let others : z ∷ ws ≡ y ∷ xs = division-unique (after is_blank (two.b ∷ two.behind)) (z ∷ ws) (y ∷ xs)
-        (subst (λ (l : List ℕ). IsDivision (after is_blank l) (z ∷ ws)) behind one.division) two.division in
+    (subst (λ (l : List ℕ). IsDivision (after is_blank l) (z ∷ ws)) behind one.division) two.division in
     ap (λ (c : Option Comparator). c ∷ z ∷ ws) first ∙ ap (λ (l : List (Option Comparator)). x ∷ l) others
 
 -- ---- a text read word by word
@@ -236,10 +242,12 @@ unfolding after
 completes-more text done rest c [] completes read = record {
   whole = λ words d.
       let all = completes.whole (c ∷ []) (divide-last rest c (has-word rest c [] read)) in
-      let none : comparators_of words ≡ [] = division-of_end words d in
-      (all.0, all.1,
-      all.2 ∙ ap (λ (l : List Comparator). done ++ l) (comparators-more c []) ∙ sym (append_assoc done (listed c) [])
-      ∙ ap (λ (l : List Comparator). (done ++ listed c) ++ l) (sym none));
+      let none : comparators_of words ≡ [] = division-of_end words d in (
+        all.0,
+        all.1,
+        all.2 ∙ ap (λ (l : List Comparator). done ++ l) (comparators-more c []) ∙ sym (append_assoc done (listed c) [])
+            ∙ ap (λ (l : List Comparator). (done ++ listed c) ++ l) (sym none),
+      );
 }
 completes-more text done rest c (b ∷ behind) completes read = record {
   whole = λ words d.

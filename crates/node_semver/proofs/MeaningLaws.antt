@@ -16,7 +16,7 @@ refused-from_void text comparators written void = record { alternatives = compar
 pub void-from_refused : (text : List ℕ) (comparators : List Comparator) → IsWritten text (comparators ∷ []) → IsRefused text → AreVoid comparators
 void-from_refused text comparators written refused =
     let all : AllByRecursion AreVoid (comparators ∷ []) =
-        subst (AllByRecursion AreVoid) (written-unique text refused.alternatives (comparators ∷ []) refused.written written) refused.void in
+    subst (AllByRecursion AreVoid) (written-unique text refused.alternatives (comparators ∷ []) refused.written written) refused.void in
     all.0
 
 -- the alternative is not empty, and its comparators admit the version
@@ -30,7 +30,7 @@ admits-iff text comparators written full v = (
   λ admit. record { alternatives = comparators ∷ []; written = written; admitted = inl (λ none. full (inl none), admit) },
   λ admits.
       let some : AnyByRecursion (AdmitSome v) (comparators ∷ []) =
-          subst (AnyByRecursion (AdmitSome v)) (written-unique text admits.alternatives (comparators ∷ []) admits.written written) admits.admitted in
+      subst (AnyByRecursion (AdmitSome v)) (written-unique text admits.alternatives (comparators ∷ []) admits.written written) admits.admitted in
       elim some [ inl here ↦ here.1 | inr nowhere ↦ absurd nowhere ],
 )
 

@@ -58,7 +58,7 @@ are_crossed (c ∷ cs) = list_any (λ one. list_any (crosses one) (c ∷ cs)) (c
 uncrossed : (one other : Comparator) (cut : Cut VersionValue) → Holds cut one → Holds cut other → crosses one other ≡ true → ⊥
 uncrossed one other cut h k crossed =
     let below : is_lt (cut_cmp version_cmp one.lower other.upper) ≡ true =
-        lt-from_below version_cmp one.lower other.upper (at_most-below version_total one.lower cut other.upper h.lower k.upper) in
+    lt-from_below version_cmp one.lower other.upper (at_most-below version_total one.lower cut other.upper h.lower k.upper) in
     cc (rw below at crossed)
 
 none-crosses : (one : Comparator) (others : List Comparator) (cut : Cut VersionValue) → Holds cut one → AllByRecursion (Holds cut) others → list_any (crosses one) others ≡ true → ⊥
@@ -116,9 +116,10 @@ opens_by-iff p v = (
   λ h.
       let a = and_parts (has_identifiers p.pre_release) (same_triple p v) h in
       let b = and_parts (p.major == v.major) ((p.minor == v.minor) && (p.patch == v.patch)) a.1 in
-      let c = and_parts (p.minor == v.minor) (p.patch == v.patch) b.1 in
-      ((identifiers-iff p.pre_release).0 a.0,
-      record { major = eqb-true p.major v.major b.0; minor = eqb-true p.minor v.minor c.0; patch = eqb-true p.patch v.patch c.1 }),
+      let c = and_parts (p.minor == v.minor) (p.patch == v.patch) b.1 in (
+        (identifiers-iff p.pre_release).0 a.0,
+        record { major = eqb-true p.major v.major b.0; minor = eqb-true p.minor v.minor c.0; patch = eqb-true p.patch v.patch c.1 },
+      ),
   λ h. and_from _ _ ((identifiers-iff p.pre_release).1 h.0) (and_from _ _ (eq-eqb p.major v.major h.1.major) (and_from _ _ (eq-eqb p.minor v.minor h.1.minor) (eq-eqb p.patch v.patch h.1.patch))),
 )
 
@@ -200,7 +201,7 @@ admits-by text c cs v written passes = record {
 pub turns_away-by : (text : List ℕ) (all : List Comparator) (v : VersionValue) → IsWritten text (all ∷ []) → admit all v ≡ false → ¬ TextAdmits text v
 turns_away-by text all v written fails = λ admits.
     let some : AnyByRecursion (λ comparators. (comparators ≢ []) × Admit comparators v) (all ∷ []) =
-        subst (AnyByRecursion (λ comparators. (comparators ≢ []) × Admit comparators v)) (written-unique text admits.alternatives (all ∷ []) admits.written written) admits.admitted in
+    subst (AnyByRecursion (λ comparators. (comparators ≢ []) × Admit comparators v)) (written-unique text admits.alternatives (all ∷ []) admits.written written) admits.admitted in
     elim some [
       | inl here ↦ let passes : admit all v ≡ true = (admit-iff all v).1 here.1 in cc (passes, fails)
       | inr nowhere ↦ absurd nowhere

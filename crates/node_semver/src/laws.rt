@@ -6,12 +6,10 @@ ghost use Rattle.node_semver.specs.Laws.{HasWriting, IsOneComparator, IsOneParti
 pub fn every_range_text_is_written_one_way()
     ensures exists { (text : List ℕ) → HasWriting text }
     ensures only { (text : List ℕ) → IsWrittenOneWay text }
-{
-}
+{}
 
 /// A text is at most one partial, and at most one comparator.
 pub fn a_text_is_at_most_one_partial()
     ensures partial { (text : List ℕ) → IsOnePartial text }
     ensures comparator { (text : List ℕ) → IsOneComparator text }
-{
-}
+{}

@@ -7,12 +7,31 @@ ghost use Rattle.node_semver.specs.Meaning.{AreVoid, HasOpenEnd, IsInside, IsRef
 ghost use Rattle.node_semver.specs.Version.{VersionValue};
 
 use crate::comparator::{Comparator, are_void};
-use crate::word::{self, after_blanks};
+use crate::reading::behind_blanks;
+use crate::word;
 use crate::{SemverError, SemverErrorKind, Version};
 use std::alloc::{AllocError, Global};
 use std::marker::Model;
 
-/// A set of versions, as a range text writes it.
+/// The versions that a range text asks for: npm's ranges, in their loose form.
+///
+/// A range text is words with blanks between them. Each comparator among the words asks something of a version:
+///
+/// | word | asks for |
+/// |---|---|
+/// | `>=I.J.K-pre` | I.J.K-pre and what is above it |
+/// | `>I.J.K-pre` | what is above I.J.K-pre |
+/// | `<=I.J.K-pre` | I.J.K-pre and what is below it |
+/// | `<I.J.K-pre` | what is below I.J.K-pre |
+/// | `=I.J.K-pre` | `>=I.J.K-pre <=I.J.K-pre` |
+///
+/// Blanks may stand behind the operator, and a `v` and blanks before the numbers: `>= v 1.0.0`. A build may stand at
+/// the end, and changes nothing. Every other word is thrown away: `foo >=1.0.0` is `>=1.0.0`. Spaces and tabs are
+/// blanks, and newlines are not.
+///
+/// # Source
+///
+/// npm's `semver`, "Ranges" and "Range Grammar", in loose mode.
 #[derive(Debug, Drop)]
 pub struct Range {
     comparators: Vec<Comparator>,
@@ -28,6 +47,22 @@ impl Model for Range {
 }
 
 impl Range {
+    /// Reads a range text of any length, in one pass.
+    ///
+    /// # Errors
+    ///
+    /// - the empty text, `foo`: `NoValidRanges` at 0, since no word is a comparator;
+    /// - `>4.0.0 <3.0.0`: `NoValidRanges` at 0, since the comparators have no cut in common. `>1.0.0-a <1.0.0-a.0` has
+    ///   one, and is read, though no version lies there;
+    /// - any text: `OutOfMemory` at 0, with no text, where memory is refused.
+    ///
+    /// # Memory
+    ///
+    /// Takes a list of the comparators and the identifiers of their ends. An error holds a copy of the text.
+    ///
+    /// # Examples
+    ///
+    /// `>=1.2.3 <2.0.0` and `foo >= v 1.0.0` are read, `foo` is refused.
     pub fn parse(alloc: Global, text: &str) -> Result<Range, SemverError>
         ensures refused { IfErr result (λ e. IsOutOfMemory e ⊎ (IsRefusalAt text.now no_valid_ranges 0 e × IsRefused text.now)) }
         ensures accepted { OnOk result (¬ IsRefused text.now) }
@@ -43,6 +78,23 @@ impl Range {
         Ok(Range { comparators })
     }
 
+    /// Whether the range admits a version.
+    ///
+    /// The version lies inside each comparator and, if it is a prerelease, a prerelease of its triple stands in one of
+    /// them. So `<1.0.1-beta` admits `1.0.1-0` and `1.0.0`, and not `1.0.0-a`.
+    ///
+    /// # Memory
+    ///
+    /// Takes none.
+    ///
+    /// # Examples
+    ///
+    /// `>=1.2.3-rc.4 <2.0.0` admits `1.9.0` and `1.2.3-rc.5`. It does not admit `2.0.0`, nor `1.2.4-rc.6`, a prerelease
+    /// of another triple.
+    ///
+    /// # Source
+    ///
+    /// npm's `semver`, "Prerelease Tags".
     pub fn satisfies(&self, version: &Version) -> bool
         ensures { IsTrue result ↔ RangeAdmits self.now version.now }
     {
@@ -52,6 +104,15 @@ impl Range {
 }
 
 impl Version {
+    /// Whether a range admits the version: [`Range::satisfies`].
+    ///
+    /// # Memory
+    ///
+    /// Takes none.
+    ///
+    /// # Examples
+    ///
+    /// `1.2.3+b` satisfies `=1.2.3+a`, since builds are not looked at. `1.2.4` does not.
     pub fn satisfies(&self, range: &Range) -> bool
         ensures { IsTrue result ↔ RangeAdmits range.now self.now }
     {
@@ -63,7 +124,9 @@ impl Version {
 fn all_hold(comparators: &[Comparator], version: &Version) -> bool
     ensures { IsTrue result ↔ AllByRecursion (IsInside version.now) comparators.now }
 {
-    comparators.iter().all(|comparator| comparator.holds(version))
+    comparators
+        .iter()
+        .all(|comparator| comparator.holds(version))
 }
 
 #[inline]
@@ -80,13 +143,16 @@ fn comparators_of(alloc: Global, text: &[u8]) -> Result<Vec<Comparator>, AllocEr
     ensures { IfOk result (λ v. IsWritten text.now (v.items ∷ [])) }
 {
     let mut comparators = Vec::new(alloc);
-    let mut rest = after_blanks(text);
+    let mut rest = behind_blanks(text);
     while !rest.is_empty() {
         let (comparator, behind) = word::next(alloc, rest)?;
         if let Some(comparator) = comparator {
             comparators.push(comparator)?;
         }
-        rest = after_blanks(behind);
+        rest = behind_blanks(behind);
     }
     Ok(comparators)
 }
+
+#[cfg(test)]
+mod tests;

@@ -1,15 +1,13 @@
 //! The words of a range text.
-ghost use Rattle.std.specs.Prelude.{◌≡◌, ◌↔◌, Some, IfOk, IsTrue};
-ghost use Rattle.node_semver.specs.Characters.{is_blank};
+ghost use Rattle.std.specs.Prelude.{◌≡◌, Some, IfOk};
 ghost use Rattle.node_semver.specs.ComparatorText.{full, operator_comparator};
-ghost use Rattle.node_semver.specs.Division.{IsCleanEnd};
 ghost use Rattle.node_semver.specs.Reading.{after};
 ghost use Rattle.node_semver.specs.Word.{operator_of, operator_seen, word_seen};
 ghost use Rattle.node_semver.specs.WordReading.{is_clean, is_solid, next_word, operator_at, with_equals, word_at};
 
 use crate::comparator::Comparator;
-use crate::reading::{Fault, partial};
 use crate::Version;
+use crate::reading::{Fault, behind_blanks, is_blank, partial};
 use semver_cuts::Cut;
 use std::alloc::{AllocError, Global};
 
@@ -24,10 +22,7 @@ enum Operator {
 
 // `>=1.2.3` of `>=1.2.3 <2.0.0`, or nothing of `foo`, and the bytes behind the word
 #[tactic(auto, unfolding(crate::specs::WordReading::next_word))]
-pub(crate) fn next(
-    alloc: Global,
-    text: &[u8],
-) -> Result<(Option<Comparator>, &[u8]), AllocError>
+pub(crate) fn next(alloc: Global, text: &[u8]) -> Result<(Option<Comparator>, &[u8]), AllocError>
     ensures { IfOk result (λ w. (w.0, w.1.now) ≡ next_word text.now) }
 {
     match word(alloc, text)? {
@@ -44,7 +39,7 @@ fn word(alloc: Global, text: &[u8]) -> Result<Option<(Comparator, &[u8])>, Alloc
     let Some((operator, operand)) = longest_operator(text) else {
         return Ok(None);
     };
-    match partial(alloc, after_blanks(operand)) {
+    match partial(alloc, behind_blanks(operand)) {
         Ok((version, rest)) if ends_word(rest) => {
             Ok(Some((comparator(alloc, operator, version)?, rest)))
         }
@@ -81,11 +76,7 @@ fn with_equals(longer: Operator, shorter: Operator, text: &[u8]) -> (Operator, &
 }
 
 #[inline]
-fn comparator(
-    alloc: Global,
-    operator: Operator,
-    version: Version,
-) -> Result<Comparator, AllocError>
+fn comparator(alloc: Global, operator: Operator, version: Version) -> Result<Comparator, AllocError>
     ensures { IfOk result (λ c. Some c ≡ operator_comparator (operator_of operator) (full version)) }
 {
     let (lower, upper) = match operator {
@@ -111,29 +102,9 @@ fn ends_word(text: &[u8]) -> bool
     ensures { result ≡ is_clean text.now }
 {
     match text.split_first() {
-        Some((byte, _)) => is_blank_byte(*byte),
+        Some((byte, _)) => is_blank(*byte),
         None => true,
     }
-}
-
-#[inline]
-fn is_blank_byte(byte: u8) -> bool
-    ensures { result ≡ is_blank byte }
-{
-    byte == b' ' || byte == b'\t'
-}
-
-// The bytes from the first one on that is no blank.
-#[inline]
-#[tactic(auto, unfolding(crate::specs::Reading::after))]
-pub(crate) fn after_blanks(text: &[u8]) -> &[u8]
-    ensures { result.now ≡ after is_blank text.now }
-{
-    let mut rest = text;
-    while let Some((byte, behind)) = rest.split_first() && is_blank_byte(*byte) {
-        rest = behind;
-    }
-    rest
 }
 
 // The bytes from the next blank on.
@@ -143,7 +114,9 @@ fn thrown_away(text: &[u8]) -> &[u8]
     ensures { result.now ≡ after is_solid text.now }
 {
     let mut rest = text;
-    while let Some((byte, behind)) = rest.split_first() && !is_blank_byte(*byte) {
+    while let Some((byte, behind)) = rest.split_first()
+        && !is_blank(*byte)
+    {
         rest = behind;
     }
     rest

@@ -9,13 +9,13 @@ pub mod HashLaws
 pub mod Identifier
 pub mod IdentifierText
 pub mod IdentifierValue
-pub mod Laws
 pub mod Meaning
 pub mod NumberText
 pub mod Order
 pub mod OrderLaws
 pub mod Print
 pub mod PrintLaws
+pub mod RangeLaws
 pub mod Reading
 pub mod ReadingViews
 pub mod Version

@@ -1,6 +1,26 @@
 //! The laws of versions and ranges. Each function here does nothing: its contract is the law.
 ghost use Rattle.std.specs.Prelude.{ℕ, List};
-ghost use Rattle.node_semver.specs.Laws.{HasWriting, IsOneComparator, IsOnePartial, IsWrittenOneWay};
+ghost use Rattle.node_semver.specs.VersionLaws.{HasOneFault, HasOneReading, IsNeverBoth, IsReadOrFaulty};
+ghost use Rattle.node_semver.specs.RangeLaws.{HasWriting, IsOneComparator, IsOnePartial, IsWrittenOneWay};
+
+/// A text is at most one version.
+pub fn a_version_text_has_one_reading()
+    ensures only { (text : List ℕ) → HasOneReading text }
+{
+}
+
+/// Each text is a version text, or has a fault that [`Version::parse`](crate::Version::parse) refuses it with, and never both.
+pub fn every_text_is_read_or_faulty()
+    ensures one { (text : List ℕ) → IsReadOrFaulty text }
+    ensures never_both { (text : List ℕ) → IsNeverBoth text }
+{
+}
+
+/// A text has at most one fault: one kind at one byte offset.
+pub fn a_text_has_one_fault()
+    ensures only { (text : List ℕ) → HasOneFault text }
+{
+}
 
 /// Each text is divided into words in one way: it has one list of comparators.
 pub fn every_range_text_is_written_one_way()

@@ -8,7 +8,6 @@ pub mod laws;
 mod range;
 mod reading;
 mod version;
-pub mod version_laws;
 mod word;
 
 pub use error::{SemverError, SemverErrorKind, SourceSpan};

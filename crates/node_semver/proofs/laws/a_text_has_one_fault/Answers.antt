@@ -1,5 +1,5 @@
 use Rattle.node_semver.proofs.FaultLaws.{one_fault}
-use Rattle.node_semver.proofs.version_laws.a_text_has_one_fault.Goals as goal
+use Rattle.node_semver.proofs.laws.a_text_has_one_fault.Goals as goal
 
 pub returns : goal.returns
 returns c = record { only = one_fault }

@@ -1,5 +1,5 @@
 use Rattle.node_semver.proofs.OneReading.{one_reading}
-use Rattle.node_semver.proofs.version_laws.a_version_text_has_one_reading.Goals as goal
+use Rattle.node_semver.proofs.laws.a_version_text_has_one_reading.Goals as goal
 
 pub returns : goal.returns
 returns c = record { only = one_reading }

@@ -84,15 +84,6 @@ pub none-empty : (s : List ℕ) → length s ≡ 0 → begins is_digit s ≡ fal
 none-empty [] h = refl
 none-empty (b ∷ s) h = absurd (omega arith)
 
--- digits are ASCII
-ascii-digit : (b : ℕ) → is_digit b ≡ true → b < 128
-ascii-digit b h = grind (arith, nat_tests)
-
-pub ascii-digits : (s : List ℕ) → AreAll is_digit s → IsAscii s
-ascii-digits [] all i = omega arith
-ascii-digits (b ∷ s) all zero = ascii-digit b (and_parts (is_digit b) (list_all is_digit s) all).0
-ascii-digits (b ∷ s) all (suc i) = ascii-digits s (and_parts (is_digit b) (list_all is_digit s) all).1 i
-
 -- the answer at a place
 pub answers : (s : List ℕ) (i n : ℕ) → number_at s ≡ Ok (n, drop i s) → answer (n, take (length s - i) (drop i s)) ≡ number_at s
 answers s i n h = ap (λ (l : List ℕ). answer (n, l)) (to-end s i) ∙ sym h

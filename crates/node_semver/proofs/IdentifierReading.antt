@@ -135,19 +135,18 @@ list-takes text h =
       values = refl;
     }
 
--- a list that goes on is read to its end, where nothing goes on behind it
-list-on : (list rest : List ℕ) → GoOn (parts_of list) → goes_on rest ≡ false → (list_front (list ++ rest) ≡ list) × (list_after (list ++ rest) ≡ rest)
+-- a list that goes on is gone over, whatever stands behind it
+pub list-through : (list rest : List ℕ) → GoOn (parts_of list) → (list_front (list ++ rest) ≡ list ++ list_front rest) × (list_after (list ++ rest) ≡ list_after rest)
 unfolding list_front list_after
-list-on [] [] g stops = (refl, refl)
-list-on [] (c ∷ rest) g stops = (rw stops refl, rw stops refl)
-list-on (b ∷ list) rest g stops = elim (cases_Bool (b == point)) [
+list-through [] rest g = (refl, refl)
+list-through (b ∷ list) rest g = elim (cases_Bool (b == point)) [
   | inl here ↦
       let others : parts_of list ≡ g.others = cc (sym (parts-point b list here) ∙ g.whole) in
       let r = parts-shape list in
       let all : AllByRecursion IsIdentifierText (r.0 ∷ r.1) = subst (λ (l : List (List ℕ)). AllByRecursion IsIdentifierText l) (sym others ∙ r.2) g.identifiers in
       let first : BeginsWith is_identifier_character list = begins-first list r.0 r.1 r.2 all.0.0 in
       let goes : goes_on (b ∷ (list ++ rest)) ≡ true = goes_on-point b (list ++ rest) here (with-begins _ (list ++ rest) (begins-append _ list rest first)) in
-      let on = list-on list rest (record { first = r.0; others = r.1; whole = r.2; characters = all.0.1; identifiers = all.1 }) stops in
+      let on = list-through list rest (record { first = r.0; others = r.1; whole = r.2; characters = all.0.1; identifiers = all.1 }) in
       (rw goes (ap (λ (l : List ℕ). b ∷ l) on.0), rw goes on.1)
   | inr other ↦
       let r = parts-shape list in
@@ -156,9 +155,22 @@ list-on (b ∷ list) rest g stops = elim (cases_Bool (b == point)) [
       let o : g.others ≡ r.1 = cc e in
       let characters = and_parts (is_identifier_character b) (list_all is_identifier_character r.0) (subst (λ (l : List ℕ). AreAll is_identifier_character l) f g.characters) in
       let goes : goes_on (b ∷ (list ++ rest)) ≡ true = goes_on-character b (list ++ rest) characters.0 in
-      let on = list-on list rest (record { first = r.0; others = r.1; whole = r.2; characters = characters.1; identifiers = subst (λ (l : List (List ℕ)). AllByRecursion IsIdentifierText l) o g.identifiers }) stops in
+      let on = list-through list rest (record { first = r.0; others = r.1; whole = r.2; characters = characters.1; identifiers = subst (λ (l : List (List ℕ)). AllByRecursion IsIdentifierText l) o g.identifiers }) in
       (rw goes (ap (λ (l : List ℕ). b ∷ l) on.0), rw goes on.1)
 ]
+
+-- where a list stops
+pub list-none : (rest : List ℕ) → goes_on rest ≡ false → (list_front rest ≡ []) × (list_after rest ≡ rest)
+unfolding list_front list_after
+list-none [] stops = (refl, refl)
+list-none (b ∷ rest) stops = (rw stops refl, rw stops refl)
+
+-- a list that goes on is read to its end, where nothing goes on behind it
+list-on : (list rest : List ℕ) → GoOn (parts_of list) → goes_on rest ≡ false → (list_front (list ++ rest) ≡ list) × (list_after (list ++ rest) ≡ rest)
+list-on list rest g stops =
+    let t = list-through list rest g in
+    let n = list-none rest stops in
+    (t.0 ∙ ap (λ (l : List ℕ). list ++ l) n.0 ∙ append-nil list, t.1 ∙ n.1)
 
 -- what a list of identifiers is read as
 pub record ReadsList (list rest : List ℕ) (identifiers : List IdentifierValue) : Type 0 where

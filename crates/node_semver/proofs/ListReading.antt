@@ -11,17 +11,7 @@ use Rattle.node_semver.specs.declared.identifier.Identifier.{Identifier}
 use Rattle.std.proofs.lemmas.List.{map-append}
 use Rattle.node_semver.specs.Reading.{after, begins, front, goes_on, list_after, list_front, list_values}
 use Rattle.node_semver.proofs.Fronts.{front-after, front-all}
-use Rattle.node_semver.proofs.IdentifierReading.{goes_on-character, goes_on-point, no-point, parts-other, parts-point}
-
--- identifier characters are gone over
-list-over : (text rest : List ℕ) → AreAll is_identifier_character text → (list_front (text ++ rest) ≡ text ++ list_front rest) × (list_after (text ++ rest) ≡ list_after rest)
-unfolding list_front list_after
-list-over [] rest all = (refl, refl)
-list-over (b ∷ text) rest all =
-    let parts = and_parts (is_identifier_character b) (list_all is_identifier_character text) all in
-    let goes : goes_on (b ∷ (text ++ rest)) ≡ true = goes_on-character b (text ++ rest) parts.0 in
-    let on = list-over text rest parts.1 in
-    (rw goes (ap (λ (l : List ℕ). b ∷ l) on.0), rw goes on.1)
+use Rattle.node_semver.proofs.IdentifierReading.{goes_on-point, list-none, list-through, no-point, parts-other, parts-point}
 
 -- the parts of identifier characters, with a point behind them or nothing
 parts-before : (text rest : List ℕ) → AreAll is_identifier_character text → parts_of (text ++ (point ∷ rest)) ≡ text ∷ parts_of rest
@@ -36,11 +26,9 @@ parts-alone (b ∷ text) all =
     let both = and_parts (is_identifier_character b) (list_all is_identifier_character text) all in
     parts-other b text text [] (no-point b both.0) (parts-alone text both.1)
 
--- where a list stops
-list-none : (rest : List ℕ) → goes_on rest ≡ false → (list_front rest ≡ []) × (list_after rest ≡ rest)
-unfolding list_front list_after
-list-none [] stops = (refl, refl)
-list-none (b ∷ rest) stops = (rw stops refl, rw stops refl)
+-- identifier characters are gone over
+list-over : (text rest : List ℕ) → AreAll is_identifier_character text → (list_front (text ++ rest) ≡ text ++ list_front rest) × (list_after (text ++ rest) ≡ list_after rest)
+list-over text rest all = list-through text rest (record { first = text; others = []; whole = parts-alone text all; characters = all; identifiers = tt })
 
 -- where a point and an identifier follow
 list-point : (rest : List ℕ) → begins is_identifier_character rest ≡ true → (list_front (point ∷ rest) ≡ point ∷ list_front rest) × (list_after (point ∷ rest) ≡ list_after rest)

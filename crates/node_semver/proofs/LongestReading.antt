@@ -13,7 +13,7 @@ use Rattle.node_semver.specs.Version.{VersionValue}
 use Rattle.node_semver.specs.VersionText.{IsMarkedTriple, IsTripleText}
 use Rattle.node_semver.specs.Reading.{after, after_mark, after_plus, begins, build_at, extras_at, front, goes_on, list_after, list_or, marked_at, number_at, numbers_at, prerelease_at, triple_at, version_of}
 use Rattle.node_semver.proofs.Fronts.{after-again, begins-append, front-after, with-begins}
-use Rattle.node_semver.proofs.IdentifierReading.{GoOn, begins-first, build-takes, build_at-other, build_at-plus, goes_on-character, goes_on-point, list-whole, list_or-none, list_or-some, parts-other, parts-point, parts-shape, prerelease-again, prerelease-listed, prerelease-takes, prerelease_at-hyphen, prerelease_at-other}
+use Rattle.node_semver.proofs.IdentifierReading.{GoOn, begins-first, build-takes, build_at-other, build_at-plus, goes_on-character, goes_on-point, list-through, list-whole, list_or-none, list_or-some, parts-other, parts-point, parts-shape, prerelease-again, prerelease-listed, prerelease-takes, prerelease_at-hyphen, prerelease_at-other}
 use Rattle.node_semver.proofs.NumberReading.{answer, bind-ok, number-again, ok-value, point-again}
 use Rattle.node_semver.proofs.VersionReading.{IsMarkTest, digit-no_blank, mark-again, numbers-takes, regroup, triple-begins}
 
@@ -29,25 +29,7 @@ list-short text = rest-short text _ (list_after text) (sym (list-whole text))
 
 -- a list that goes on is read at least to its end
 list-longest : (list more : List ℕ) → GoOn (parts_of list) → length (list_after (list ++ more)) ≤ length more
-unfolding list_after
-list-longest [] more g = list-short more
-list-longest (b ∷ list) more g = elim (cases_Bool (b == point)) [
-  | inl here ↦
-      let others : parts_of list ≡ g.others = cc (sym (parts-point b list here) ∙ g.whole) in
-      let r = parts-shape list in
-      let all : AllByRecursion IsIdentifierText (r.0 ∷ r.1) = subst (λ (l : List (List ℕ)). AllByRecursion IsIdentifierText l) (sym others ∙ r.2) g.identifiers in
-      let first : BeginsWith is_identifier_character list = begins-first list r.0 r.1 r.2 all.0.0 in
-      let goes : goes_on (b ∷ (list ++ more)) ≡ true = goes_on-point b (list ++ more) here (with-begins _ (list ++ more) (begins-append _ list more first)) in
-      rw goes (list-longest list more (record { first = r.0; others = r.1; whole = r.2; characters = all.0.1; identifiers = all.1 }))
-  | inr other ↦
-      let r = parts-shape list in
-      let e : (b ∷ r.0) ∷ r.1 ≡ g.first ∷ g.others = sym (parts-other b list r.0 r.1 other r.2) ∙ g.whole in
-      let f : g.first ≡ b ∷ r.0 = cc e in
-      let o : g.others ≡ r.1 = cc e in
-      let characters = and_parts (is_identifier_character b) (list_all is_identifier_character r.0) (subst (λ (l : List ℕ). AreAll is_identifier_character l) f g.characters) in
-      let goes : goes_on (b ∷ (list ++ more)) ≡ true = goes_on-character b (list ++ more) characters.0 in
-      rw goes (list-longest list more (record { first = r.0; others = r.1; whole = r.2; characters = characters.1; identifiers = subst (λ (l : List (List ℕ)). AllByRecursion IsIdentifierText l) o g.identifiers }))
-]
+list-longest list more g = rw (list-through list more g).1 (list-short more)
 
 -- a list of identifiers, with more behind it
 pub record ReadsOn (list more : List ℕ) : Type 0 where

@@ -2,7 +2,8 @@ use Rattle.std.proofs.Common.{◌≡◌, List, ℕ, ◌∙◌, sym, ap}
 use Rattle.std.proofs.lemmas.Str.{IsUtf8-from_ascii}
 use Rattle.node_semver.specs.Characters.{is_digit}
 use Rattle.node_semver.specs.Reading.{front}
-use Rattle.node_semver.proofs.Digits.{ascii-digits, large-err, large-ok}
+use Rattle.node_semver.proofs.Characters.{ascii-digits}
+use Rattle.node_semver.proofs.Digits.{large-err, large-ok}
 use Rattle.node_semver.proofs.Fronts.{front-all, front-begins}
 use Rattle.node_semver.proofs.reading.number.large_kind.Goals as goal
 

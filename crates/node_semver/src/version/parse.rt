@@ -13,7 +13,36 @@ use crate::{MAX_LENGTH, SemverError, SemverErrorKind, Version};
 use std::alloc::Global;
 
 impl Version {
-    /// Reads a version text: `1.2.3`, `v1.2.3-alpha.1+build.5`.
+    /// Reads a version text.
+    ///
+    /// A text is a version in one way, or it has one fault, the first one from the left. Read in npm's loose form: a `v` or
+    /// `V` and blanks may stand in front, numbers and identifiers may have leading zeros, and the `-` of a prerelease may be
+    /// left out. No blank may stand behind. An identifier of digits above the greatest `u64` is a text.
+    ///
+    /// # Errors
+    ///
+    /// Byte offsets from 0.
+    ///
+    /// - 257 times `1`: `MaxLengthError` at 256, the length less one.
+    /// - `1.`: `Context("version")` at 2, a number is missing.
+    /// - `1.2`: `Context("version")` at 3, a point is missing.
+    /// - `18446744073709551616.0.0`: `ParseIntError` at 0, the number is above the greatest `u64`.
+    /// - `1.2.900719925474100`: `MaxIntError(900719925474100)` at 4, the number is above `MAX_SAFE_INTEGER`.
+    /// - `1.2.3 `: `Other` at 5, bytes are left.
+    /// - no memory for the version or for the error's copy of the text: `OutOfMemory` at 0, with no text.
+    ///
+    /// # Memory
+    ///
+    /// Takes none for a version without prerelease and build. Else a list of identifiers and the text of each one that is no
+    /// number; for an error a copy of the text.
+    ///
+    /// # Examples
+    ///
+    /// `1.2.3-alpha.1+5` and `v 01.2.3alpha.1+5` are read as equal versions, `1.2.3.4` is refused.
+    ///
+    /// # Source
+    ///
+    /// SemVer 2.0.0, sections 2, 9 and 10; the Rust crate `node-semver` 2.2.0.
     pub fn parse(alloc: Global, text: &str) -> Result<Version, SemverError>
         ensures found { IfOk result (λ v. IsVersionText text.now v) }
         ensures only { (v : VersionValue) → IsVersionText text.now v → IsReadAs v result }

@@ -1,5 +1,5 @@
 -- What a text means, from the one list of comparators that it writes.
-use Rattle.std.proofs.Common.{◌≡◌, ◌≢◌, ◌⊎◌, ◌↔◌, List, [], ◌∷◌, refl, sym, subst, inl, inr, ℕ}
+use Rattle.std.proofs.Common.{◌≢◌, ◌↔◌, List, [], ◌∷◌, subst, inl, inr, ℕ}
 use Rattle.std.specs.List.{AllByRecursion}
 use Rattle.node_semver.specs.ComparatorText.{Comparator}
 use Rattle.node_semver.specs.Division.{IsWritten}

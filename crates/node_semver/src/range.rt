@@ -8,8 +8,7 @@ ghost use Rattle.node_semver.specs.Version.{VersionValue};
 
 use crate::comparator::{Comparator, are_void};
 use crate::reading::behind_blanks;
-use crate::word;
-use crate::{SemverError, SemverErrorKind, Version};
+use crate::{SemverError, SemverErrorKind, Version, word};
 use std::alloc::{AllocError, Global};
 use std::marker::Model;
 

@@ -2,13 +2,12 @@
 use Rattle.std.proofs.Common.{◌≡◌, ℕ, Bool, true, false, List, [], ◌∷◌, ◌++◌, Option, Some, None, Ok, Err, append_assoc, refl, sym, ap, subst, ◌∙◌, inl, inr}
 use Rattle.std.proofs.lemmas.Bool.{and_parts, cases_Bool, eqb-true, or_cases}
 use Rattle.std.specs.List.{list_all}
-use Rattle.std.specs.Prelude.{◌==◌, ◌||◌, Result}
-use Rattle.node_semver.specs.Characters.{AreAll, BeginsWith, BeginsWithNo, is_blank, is_digit}
-use Rattle.node_semver.specs.ComparatorText.{Comparator, IsComparatorText, IsOperatorText, IsPartialText, Operator, Partial, above, at_least, at_most, below, exactly, full, is_partial_mark, operator_comparator, operator_text}
+use Rattle.std.specs.Prelude.{◌==◌, Result}
+use Rattle.node_semver.specs.Characters.{AreAll, BeginsWithNo, is_blank, is_digit}
+use Rattle.node_semver.specs.ComparatorText.{Comparator, IsComparatorText, IsPartialText, Operator, Partial, above, at_least, at_most, below, exactly, full, is_partial_mark, operator_comparator, operator_text}
 use Rattle.node_semver.specs.Division.{IsCleanEnd}
-use Rattle.node_semver.specs.Reading.{◌>>=◌, Fault, Read, after, after_mark, begins, front, marked_at, missing, number_at, numbers_at, triple_at}
+use Rattle.node_semver.specs.Reading.{Fault, Read, after, after_mark, begins, front, marked_at, number_at, numbers_at, triple_at}
 use Rattle.node_semver.specs.Version.{VersionValue}
-use Rattle.node_semver.specs.VersionText.{IsMarkedTriple}
 use Rattle.node_semver.specs.WordReading.{Word, is_clean, operator_at, with_equals, with_operand, with_operator, word_at}
 use Rattle.node_semver.proofs.Fronts.{front-after, front-all}
 use Rattle.node_semver.proofs.VersionReading.{IsMarkTest, marked-again, marked-takes}

@@ -1,14 +1,14 @@
 -- Range texts: each is divided into words in exactly one way.
-use Rattle.std.proofs.Common.{◌≡◌, ◌<◌, ◌≤◌, ◌+◌, ℕ, zero, suc, Bool, true, false, List, [], ◌∷◌, ◌++◌, length, Option, Some, None, append_assoc, length-append, arith, refl, sym, ap, subst, ◌∙◌, inl, inr}
+use Rattle.std.proofs.Common.{◌≡◌, ◌<◌, ◌≤◌, ℕ, zero, suc, Bool, true, List, [], ◌∷◌, ◌++◌, length, Option, Some, None, append_assoc, length-append, arith, refl, sym, ap, subst, ◌∙◌, inl, inr}
 use Rattle.std.proofs.lemmas.Bool.{cases_Bool, eqb-true, or_cases}
 use Rattle.std.proofs.lemmas.List.{append-nil}
-use Rattle.std.specs.Prelude.{◌==◌, not}
+use Rattle.std.specs.Prelude.{◌==◌}
 use Rattle.node_semver.specs.Characters.{AreAll, BeginsWith, BeginsWithNo, is_blank}
 use Rattle.node_semver.specs.ComparatorText.{Comparator, IsComparatorText}
 use Rattle.node_semver.specs.Division.{IsCleanEnd, IsDivision, IsThrownAway, IsWord, IsWritten, comparators_of}
 use Rattle.node_semver.specs.Reading.{after, front}
-use Rattle.node_semver.specs.WordReading.{Word, is_clean, is_solid, next_word, operator_at, or_thrown_away, word_at}
-use Rattle.node_semver.proofs.ComparatorReading.{after-none, after-skips, TakesWord, word-again, word-takes}
+use Rattle.node_semver.specs.WordReading.{Word, is_solid, next_word, operator_at, or_thrown_away, word_at}
+use Rattle.node_semver.proofs.ComparatorReading.{word-again, word-takes}
 use Rattle.node_semver.proofs.Fronts.{after-again, after-no, front-after, front-all, front-begins}
 
 -- ---- one word

@@ -1,5 +1,5 @@
 -- Worked examples: what some texts mean, on both sides. Each is computed over the definitions.
-use Rattle.std.proofs.Common.{◌≡◌, ℕ, List, [], ◌∷◌, ◌++◌, Option, Some, refl, codes}
+use Rattle.std.proofs.Common.{◌≡◌, ℕ, List, [], ◌∷◌, ◌++◌, Some, refl, codes}
 use Rattle.semver_cuts.specs.declared.cut.Cut.TheVariants.{Start, Before, After, End}
 use Rattle.node_semver.specs.ComparatorText.{Comparator}
 use Rattle.node_semver.specs.IdentifierValue.{IdentifierValue, alphanumeric, numeric}

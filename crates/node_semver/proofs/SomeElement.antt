@@ -17,5 +17,5 @@ from-recursion P (y ∷ xs) (inr a) =
     let within : more.0 < length xs = more.2 in
     (suc more.0, more.1, omega arith, more.3, more.4)
 
-pub any-recursion : {X : Type 0} (P : X → Type 0) (xs : List X) → Any P xs ↔ AnyByRecursion P xs
-any-recursion P xs = (λ a. any-at P xs a.0 a.1 a.2 a.3 a.4, from-recursion P xs)
+pub some_by_recursion : {X : Type 0} (P : X → Type 0) (xs : List X) → Any P xs ↔ AnyByRecursion P xs
+some_by_recursion P xs = (λ a. any-at P xs a.0 a.1 a.2 a.3 a.4, from-recursion P xs)

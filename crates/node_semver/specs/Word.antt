@@ -1,5 +1,5 @@
 -- What is seen of what the private reader of words answers.
-use Rattle.std.specs.Prelude.{◌≡◌, ℕ, List, Option, Some, None}
+use Rattle.std.specs.Prelude.{ℕ, List, Option, Some, None}
 use Rattle.std.specs.Borrow.{Bor}
 use Rattle.node_semver.specs.ComparatorText.{Comparator, Operator, above, at_least, at_most, below, exactly}
 use Rattle.node_semver.specs.WordReading.{Word}

@@ -1,15 +1,14 @@
 //! Ranges: which versions a text asks for.
 ghost use Rattle.std.specs.Prelude.{◌⊎◌, ◌↔◌, [], ◌∷◌, IfErr, IfOk, IsTrue, OnOk};
-ghost use Rattle.std.specs.List.{AllByRecursion, Any};
+ghost use Rattle.std.specs.List.{AllByRecursion};
 ghost use Rattle.node_semver.specs.Division.{IsWritten};
 ghost use Rattle.node_semver.specs.Error.{IsOutOfMemory, IsRefusalAt, no_valid_ranges};
-ghost use Rattle.node_semver.specs.Meaning.{AreVoid, HasOpenEnd, IsInside, IsRefused, RangeAdmits, TextAdmits};
+ghost use Rattle.node_semver.specs.Meaning.{AnyByRecursion, AreVoid, HasOpenEnd, IsInside, IsRefused, RangeAdmits, TextAdmits};
 ghost use Rattle.node_semver.specs.Version.{VersionValue};
 
 use crate::comparator::{Comparator, are_void};
 use crate::reading::behind_blanks;
-use crate::word;
-use crate::{SemverError, SemverErrorKind, Version};
+use crate::{SemverError, SemverErrorKind, Version, word};
 use std::alloc::{AllocError, Global};
 use std::marker::Model;
 
@@ -130,8 +129,9 @@ fn all_hold(comparators: &[Comparator], version: &Version) -> bool
 }
 
 #[inline]
+#[tactic(auto, using(crate::proofs::SomeElement::some_by_recursion))]
 fn any_has_open_end(comparators: &[Comparator], version: &Version) -> bool
-    ensures { IsTrue result ↔ Any (HasOpenEnd version.now) comparators.now }
+    ensures { IsTrue result ↔ AnyByRecursion (HasOpenEnd version.now) comparators.now }
 {
     comparators
         .iter()

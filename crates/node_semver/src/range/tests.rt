@@ -87,7 +87,7 @@ fn refuses_what_has_no_comparator_or_no_common_cut(rt: HostRuntime) -> Result<()
         let error = Range::parse(rt.alloc(), text).err().ok_or(text)?;
         assert_eq!(rt; error.kind(), &SemverErrorKind::NoValidRanges, "{text}");
         assert_eq!(rt; error.offset(), 0, "{text}");
-        assert_eq!(rt; error.input(), text);
+        assert_eq!(rt; error.input().as_bytes(), text.as_bytes(), "{text}");
     }
     Ok(())
 }

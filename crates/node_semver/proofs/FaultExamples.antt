@@ -22,14 +22,15 @@ missing-there : IsFault (codes "") missing 0
     × IsFault (codes "vv1.2.3") missing 1
     × IsFault (codes "\n1.2.3") missing 0
 unfolding after after_mark front marked_at number_at numbers_at point_at triple_at
-missing-there =
-    ( fault-computed _ _ _ refl
-    , fault-computed _ _ _ refl
-    , fault-computed _ _ _ refl
-    , fault-computed _ _ _ refl
-    , fault-computed _ _ _ refl
-    , fault-computed _ _ _ refl
-    , fault-computed _ _ _ refl )
+missing-there = (
+  fault-computed _ _ _ refl,
+  fault-computed _ _ _ refl,
+  fault-computed _ _ _ refl,
+  fault-computed _ _ _ refl,
+  fault-computed _ _ _ refl,
+  fault-computed _ _ _ refl,
+  fault-computed _ _ _ refl,
+)
 
 -- a number is too large, whatever follows it
 large-there : IsFault (codes "1.2.900719925474100") (max_int 900719925474100) 4
@@ -37,11 +38,12 @@ large-there : IsFault (codes "1.2.900719925474100") (max_int 900719925474100) 4
     × IsFault (codes "0.18446744073709551615.0") (max_int 18446744073709551615) 2
     × IsFault (codes "18446744073709551616.0.0") parse_int 0
 unfolding after after_mark front marked_at number_at numbers_at point_at triple_at
-large-there =
-    ( fault-computed _ _ _ refl
-    , fault-computed _ _ _ refl
-    , fault-computed _ _ _ refl
-    , fault-computed _ _ _ refl )
+large-there = (
+  fault-computed _ _ _ refl,
+  fault-computed _ _ _ refl,
+  fault-computed _ _ _ refl,
+  fault-computed _ _ _ refl,
+)
 
 -- something is left behind a version
 left-there : IsFault (codes "1.2.3.4") other 5
@@ -52,14 +54,15 @@ left-there : IsFault (codes "1.2.3.4") other 5
     × IsFault (codes "1.2.3-a.+b") other 7
     × IsFault (codes "1.2.3-a+") other 7
 unfolding after after_mark after_plus build_at extras_at front list_after list_front marked_at number_at numbers_at point_at prerelease_at triple_at
-left-there =
-    ( fault-computed _ _ _ refl
-    , fault-computed _ _ _ refl
-    , fault-computed _ _ _ refl
-    , fault-computed _ _ _ refl
-    , fault-computed _ _ _ refl
-    , fault-computed _ _ _ refl
-    , fault-computed _ _ _ refl )
+left-there = (
+  fault-computed _ _ _ refl,
+  fault-computed _ _ _ refl,
+  fault-computed _ _ _ refl,
+  fault-computed _ _ _ refl,
+  fault-computed _ _ _ refl,
+  fault-computed _ _ _ refl,
+  fault-computed _ _ _ refl,
+)
 
 -- a text of 257 bytes, whatever it holds
 long-there : (text : List ℕ) → length text ≡ 257 → IsFault text max_length 256
@@ -80,10 +83,11 @@ version-there : IsVersionText (codes "v 01.02.03") (version 1 2 3 [] [])
     × IsVersionText (codes "1.0.0-rc.2-migration") (version 1 0 0 (word (codes "rc") ∷ word (codes "2-migration") ∷ []) [])
     × IsVersionText (codes "0.0.900719925474099+a.007") (version 0 0 900719925474099 [] (word (codes "a") ∷ numeric 7 ∷ []))
 unfolding after after_mark after_plus build_at extras_at front list_after list_front marked_at number_at numbers_at point_at prerelease_at triple_at
-version-there =
-    ( read-version _ _ (omega arith) refl
-    , read-version _ _ (omega arith) refl
-    , read-version _ _ (omega arith) refl
-    , read-version _ _ (omega arith) refl
-    , read-version _ _ (omega arith) refl
-    , read-version _ _ (omega arith) refl )
+version-there = (
+  read-version _ _ (omega arith) refl,
+  read-version _ _ (omega arith) refl,
+  read-version _ _ (omega arith) refl,
+  read-version _ _ (omega arith) refl,
+  read-version _ _ (omega arith) refl,
+  read-version _ _ (omega arith) refl,
+)

@@ -114,7 +114,7 @@ front-taken : (text before rest : List ℕ) (count : ℕ) (h : IsFront text befo
 front-taken text before rest count h =
     let whole : text ≡ h.mark ++ (h.blanks ++ (with_points h.numbers ++ rest)) = h.whole ∙ ap (λ (l : List ℕ). l ++ rest) h.pieces ∙ simp append_assoc in
     ap (λ (l : List ℕ). after is_blank l) (mark-taken text h.mark (h.blanks ++ (with_points h.numbers ++ rest)) h.marked whole)
-        ∙ after-again is_blank h.blanks (with_points h.numbers ++ rest) h.blank h.blanks_end
+    ∙ after-again is_blank h.blanks (with_points h.numbers ++ rest) h.blank h.blanks_end
 
 -- a fault in the numbers is a fault of the whole
 stopped : (text numbers : List ℕ) (f : Fault) → after is_blank (after_mark is_version_mark text) ≡ numbers → numbers_at numbers ≡ Err f → marked_at is_version_mark text ≡ Err f
@@ -142,7 +142,7 @@ version-opens text more w h none =
     let m = mark-again is_version_mark version-mark h.mark h.blanks (h.triple ++ more) h.marked h.blank starts in
     let b = after-again is_blank h.blanks (h.triple ++ more) h.blank (digit-no_blank (h.triple ++ more) starts) in
     let split : h.triple ++ more ≡ t.major ++ (point ∷ (t.minor ++ (point ∷ (t.patch ++ (t.extras ++ more))))) =
-        ap (λ (l : List ℕ). l ++ more) t.whole ∙ sym (regroup t.major t.minor t.patch t.extras more) in
+    ap (λ (l : List ℕ). l ++ more) t.whole ∙ sym (regroup t.major t.minor t.patch t.extras more) in
     let n = numbers-again t.major t.minor t.patch (t.extras ++ more) w.major w.minor w.patch t.first t.second t.third (no-append is_digit t.extras more t.digits_end none) in
     record {
       v = version_of (w.major, w.minor, w.patch) (extras_at (t.extras ++ more)).0;
@@ -163,7 +163,7 @@ left-told text version v w b rest (c ∷ left) short whole h longest read =
     let below : length t.taken ≤ length version = longest t.taken (c ∷ left) w t.whole taken in
     let above : length (c ∷ left) ≤ length (b ∷ rest) = marked-longest is_version_mark version-mark version (b ∷ rest) (c ∷ left) w v h.fields (ap (λ (l : List ℕ). marked_at is_version_mark l) (sym whole) ∙ read) in
     let same : length text - length (c ∷ left) ≡ length version =
-        omega (arith, ap length whole, ap length t.whole, length-append version (b ∷ rest), length-append t.taken (c ∷ left)) in
+    omega (arith, ap length whole, ap length t.whole, length-append version (b ∷ rest), length-append t.taken (c ∷ left)) in
     ap (λ (n : ℕ). Some (other, n)) same
 
 -- a fault is what the reader tells
@@ -179,7 +179,7 @@ fault-again text kind offset (large_number before digits rest count short h all 
 fault-again text kind offset (no_point before digits rest count short h few all limit none) =
     let stops = points-stop h.numbers digits rest h.read (omega (arith, h.counted)) all limit none in
     stopped-told text (before ++ digits) rest kind short (h.whole ∙ sym (append_assoc before digits rest))
-        (stopped text (with_points h.numbers ++ (digits ++ rest)) (missing_at rest) (front-taken text before (digits ++ rest) count h) stops)
+    (stopped text (with_points h.numbers ++ (digits ++ rest)) (missing_at rest) (front-taken text before (digits ++ rest) count h) stops)
 fault-again text kind offset (left_over version v b rest short whole none h longest) =
     let s = version-opens version (b ∷ rest) v h.fields none in
     let read : marked_at is_version_mark text ≡ Ok (s.v, s.left) = ap (λ (l : List ℕ). marked_at is_version_mark l) whole ∙ s.read in

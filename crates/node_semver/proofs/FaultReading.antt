@@ -231,8 +231,8 @@ left-takes text v b rest short h =
     let t = marked-takes is_version_mark text v (b ∷ rest) h in
     let version : IsVersionText t.taken v = record { short = omega (arith, ap length t.whole, length-append t.taken (b ∷ rest)); fields = t.read } in
     let longest : (shorter behind : List ℕ) (w : VersionValue) → text ≡ shorter ++ behind → IsVersionText shorter w → length shorter ≤ length t.taken =
-        λ shorter behind w e g.
-            let l = marked-longest is_version_mark version-mark shorter behind (b ∷ rest) v w g.fields (ap (λ (l : List ℕ). marked_at is_version_mark l) (sym e) ∙ h) in
-            omega (arith, ap length e, ap length t.whole, length-append shorter behind, length-append t.taken (b ∷ rest)) in
+    λ shorter behind w e g.
+    let l = marked-longest is_version_mark version-mark shorter behind (b ∷ rest) v w g.fields (ap (λ (l : List ℕ). marked_at is_version_mark l) (sym e) ∙ h) in
+    omega (arith, ap length e, ap length t.whole, length-append shorter behind, length-append t.taken (b ∷ rest)) in
     subst (λ (n : ℕ). IsFault text other n) (front-length text t.taken (b ∷ rest) t.whole)
-        (left_over t.taken v b rest short t.whole (marked-no_digit is_version_mark text (b ∷ rest) v h) version longest)
+    (left_over t.taken v b rest short t.whole (marked-no_digit is_version_mark text (b ∷ rest) v h) version longest)

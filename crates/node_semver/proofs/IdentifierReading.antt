@@ -390,7 +390,7 @@ build-again text (c ∷ rest) [] h ends = rw h (build_at-other c rest (ends-plus
 build-again text rest (i ∷ is) h ends =
     let r = list-again h.0 rest (i ∷ is) h.2 (stops-list rest (ends-list rest ends)) in
     rw h.1 (list_or-some (plus ∷ (h.0 ++ rest)) (h.0 ++ rest) (with-begins _ (h.0 ++ rest) (begins-append _ h.0 rest r.starts))
-        ∙ ap (λ (l : List IdentifierValue). (l, list_after (h.0 ++ rest))) r.values ∙ ap (λ (l : List ℕ). (i ∷ is, l)) r.behind)
+    ∙ ap (λ (l : List IdentifierValue). (l, list_after (h.0 ++ rest))) r.values ∙ ap (λ (l : List ℕ). (i ∷ is, l)) r.behind)
 
 -- what follows a prerelease begins with nothing of a list
 build-ends : (text rest : List ℕ) (identifiers : List IdentifierValue) → IsBuildText text identifiers → EndsExtras rest → BeginsWithNo is_of_list (text ++ rest)
@@ -432,7 +432,7 @@ pub extras-again : (text rest : List ℕ) (prerelease build : List IdentifierVal
 unfolding extras_at
 extras-again text rest prerelease build h ends =
     let p : prerelease_at (h.front ++ (h.back ++ rest)) ≡ (prerelease, h.back ++ rest) =
-        prerelease-again h.front (h.back ++ rest) prerelease h.before (build-ends h.back rest build h.behind ends) in
+    prerelease-again h.front (h.back ++ rest) prerelease h.before (build-ends h.back rest build h.behind ends) in
     let b = build-again h.back rest build h.behind ends in
     let e : text ++ rest ≡ h.front ++ (h.back ++ rest) = ap (λ (l : List ℕ). l ++ rest) h.whole ∙ append_assoc h.front h.back rest in
     rw (e, p, b) refl

@@ -114,7 +114,7 @@ numbers-after major minor patch more a b read x y all h =
     let r1 = number-again major (point ∷ (minor ++ (point ∷ (patch ++ more)))) a x refl in
     let r2 = number-again minor (point ∷ (patch ++ more)) b y refl in
     let m = bind-ok (number_at (patch ++ more)) (λ (third : ℕ × List ℕ). Ok ((a, b, third.0), third.1)) read
-        (rw (r1, point-again (minor ++ (point ∷ (patch ++ more))), r2, point-again (patch ++ more)) at h) in
+    (rw (r1, point-again (minor ++ (point ∷ (patch ++ more))), r2, point-again (patch ++ more)) at h) in
     let e : ((a, b, m.0.0), m.0.1) ≡ read = ok-value _ _ m.2 in
     sym (ap (λ (r : (ℕ × ℕ × ℕ) × List ℕ). r.1) e) ∙ number-after (patch ++ more) m.0 m.1 ∙ after-all is_digit patch more all
 
@@ -133,9 +133,9 @@ unfolding triple_at
 triple-longest text more rest v w t h =
     let n = bind-ok (numbers_at (text ++ more)) _ (v, rest) h in
     let split : text ++ more ≡ t.major ++ (point ∷ (t.minor ++ (point ∷ (t.patch ++ (t.extras ++ more))))) =
-        ap (λ (l : List ℕ). l ++ more) t.whole ∙ sym (regroup t.major t.minor t.patch t.extras more) in
+    ap (λ (l : List ℕ). l ++ more) t.whole ∙ sym (regroup t.major t.minor t.patch t.extras more) in
     let behind : n.0.1 ≡ after is_digit (t.extras ++ more) =
-        numbers-after t.major t.minor t.patch (t.extras ++ more) w.major w.minor n.0 t.first t.second t.third.digits (ap numbers_at (sym split) ∙ n.1) in
+    numbers-after t.major t.minor t.patch (t.extras ++ more) w.major w.minor n.0 t.first t.second t.third.digits (ap numbers_at (sym split) ∙ n.1) in
     let left : (extras_at n.0.1).1 ≡ rest = ap (λ (p : VersionValue × List ℕ). p.1) (ok-value (version_of n.0.0 (extras_at n.0.1).0, (extras_at n.0.1).1) (v, rest) n.2) in
     let short : length (extras_at (after is_digit (t.extras ++ more))).1 ≤ length more = rest-longest t.extras more w.pre_release w.build t.digits_end t.rest in
     subst (λ (l : List ℕ). length l ≤ length more) (ap (λ (l : List ℕ). (extras_at l).1) (sym behind) ∙ left) short

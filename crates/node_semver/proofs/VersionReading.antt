@@ -141,7 +141,7 @@ triple-again : (text rest : List ℕ) (v : VersionValue) → IsTripleText text v
 unfolding triple_at
 triple-again text rest v h clean =
     let e : text ++ rest ≡ h.major ++ (point ∷ (h.minor ++ (point ∷ (h.patch ++ (h.extras ++ rest))))) =
-        ap (λ (l : List ℕ). l ++ rest) h.whole ∙ sym (regroup h.major h.minor h.patch h.extras rest) in
+    ap (λ (l : List ℕ). l ++ rest) h.whole ∙ sym (regroup h.major h.minor h.patch h.extras rest) in
     let n = numbers-again h.major h.minor h.patch (h.extras ++ rest) v.major v.minor v.patch h.first h.second h.third (no-append is_digit h.extras rest h.digits_end (clean-no_digit rest clean)) in
     let x = extras-again h.extras rest v.pre_release v.build h.rest (clean-ends_extras rest clean) in
     rw (e, n, x) refl
@@ -173,7 +173,7 @@ marked-takes is_mark text v rest h =
     let t = triple-takes (after is_blank (after_mark is_mark text)) v rest h in
     let blanks = front is_blank (after_mark is_mark text) in
     let split : after_mark is_mark text ≡ blanks ++ (t.taken ++ rest) =
-        sym (front-after is_blank (after_mark is_mark text)) ∙ ap (λ (l : List ℕ). blanks ++ l) t.whole in
+    sym (front-after is_blank (after_mark is_mark text)) ∙ ap (λ (l : List ℕ). blanks ++ l) t.whole in
     record {
       taken = m.mark ++ (blanks ++ t.taken);
       whole = m.whole ∙ ap (λ (l : List ℕ). m.mark ++ l) split ∙ simp append_assoc;

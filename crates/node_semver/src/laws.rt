@@ -6,21 +6,18 @@ ghost use Rattle.node_semver.specs.RangeLaws.{HasWriting, IsOneComparator, IsOne
 /// A text is at most one version.
 pub fn a_version_text_has_one_reading()
     ensures only { (text : List ℕ) → HasOneReading text }
-{
-}
+{}
 
 /// Each text is a version text, or has a fault that [`Version::parse`](crate::Version::parse) refuses it with, and never both.
 pub fn every_text_is_read_or_faulty()
     ensures one { (text : List ℕ) → IsReadOrFaulty text }
     ensures never_both { (text : List ℕ) → IsNeverBoth text }
-{
-}
+{}
 
 /// A text has at most one fault: one kind at one byte offset.
 pub fn a_text_has_one_fault()
     ensures only { (text : List ℕ) → HasOneFault text }
-{
-}
+{}
 
 /// Each text is divided into words in one way: it has one list of comparators.
 pub fn every_range_text_is_written_one_way()

@@ -5,8 +5,8 @@ ghost use Rattle.node_semver.specs.Reading.{after};
 ghost use Rattle.node_semver.specs.Word.{operator_of, operator_seen, word_seen};
 ghost use Rattle.node_semver.specs.WordReading.{is_clean, is_solid, next_word, operator_at, with_equals, word_at};
 
-use crate::comparator::Comparator;
 use crate::Version;
+use crate::comparator::Comparator;
 use crate::reading::{Fault, behind_blanks, is_blank, partial};
 use semver_cuts::Cut;
 use std::alloc::{AllocError, Global};

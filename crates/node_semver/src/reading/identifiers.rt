@@ -160,10 +160,7 @@ fn behind_plus(text: &[u8]) -> &[u8]
 // A prerelease, which may be missing: `-alpha.1`, `alpha.1`
 #[inline(always)]
 #[tactic(auto, unfolding(crate::specs::Reading::prerelease_at))]
-pub(crate) fn prerelease(
-    alloc: Global,
-    text: &[u8],
-) -> Result<(Vec<Identifier>, &[u8]), AllocError>
+pub(crate) fn prerelease(alloc: Global, text: &[u8]) -> Result<(Vec<Identifier>, &[u8]), AllocError>
     ensures read { IfOk result (IsListRead (prerelease_at text.now)) }
     ensures plain { (prerelease_at text.now).0 ≡ [] → IsOk result }
 {

@@ -5,10 +5,10 @@ ghost use Rattle.node_semver.specs.ReadingViews.{Gives, IsPlainOk, point_seen, s
 ghost use Rattle.node_semver.specs.VersionText.{is_version_mark};
 
 use crate::Version;
+use crate::reading::Fault;
 use crate::reading::blanks::{behind_blanks, behind_partial_mark, behind_version_mark};
 use crate::reading::identifiers::{build, prerelease};
 use crate::reading::number::{missing, number};
-use crate::reading::Fault;
 use std::alloc::Global;
 
 // The bytes behind a point.

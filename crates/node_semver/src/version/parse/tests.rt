@@ -47,13 +47,36 @@ fn reads_versions(rt: HostRuntime) -> Result<(), Fail> {
         ("1.2.3--", (1, 2, 3), "-", ""),
         ("1.0.0--a", (1, 0, 0), "-a", ""),
         ("1.0.0-rc.2-migration", (1, 0, 0), "rc,2-migration", ""),
-        ("1.0.0-18446744073709551615", (1, 0, 0), "#18446744073709551615", ""),
-        ("1.0.0-18446744073709551616", (1, 0, 0), "18446744073709551616", ""),
-        ("1.0.0-99999999999999999999", (1, 0, 0), "99999999999999999999", ""),
+        (
+            "1.0.0-18446744073709551615",
+            (1, 0, 0),
+            "#18446744073709551615",
+            "",
+        ),
+        (
+            "1.0.0-18446744073709551616",
+            (1, 0, 0),
+            "18446744073709551616",
+            "",
+        ),
+        (
+            "1.0.0-99999999999999999999",
+            (1, 0, 0),
+            "99999999999999999999",
+            "",
+        ),
     ] {
         let version = Version::parse(alloc, text)?;
-        assert_eq!(rt; (version.major, version.minor, version.patch), triple, "{text}");
-        assert_eq!(rt; shape(alloc, &version.pre_release)?.as_str(), pre_release, "{text}");
+        assert_eq!(rt;
+            (version.major, version.minor, version.patch),
+            triple,
+            "{text}"
+        );
+        assert_eq!(rt;
+            shape(alloc, &version.pre_release)?.as_str(),
+            pre_release,
+            "{text}"
+        );
         assert_eq!(rt; shape(alloc, &version.build)?.as_str(), build, "{text}");
     }
     Ok(())
@@ -71,11 +94,17 @@ fn reads_at_most_256_bytes(rt: HostRuntime) -> Result<(), Fail> {
         ("1.0.0", "a", 251, true),
     ] {
         let whole = repeated(alloc, text, piece, times)?;
-        assert_eq!(rt; Version::parse(alloc, &whole).is_ok(), read, "{text} and {times} times {piece}");
+        assert_eq!(rt;
+            Version::parse(alloc, &whole).is_ok(),
+            read,
+            "{text} and {times} times {piece}"
+        );
     }
     let printed = Version::parse(alloc, &repeated(alloc, "1.0.0", "a", 251)?)?.to_string(alloc)?;
     assert_eq!(rt; printed.len(), 257);
-    let error = Version::parse(alloc, &printed).err().ok_or("257 bytes were read")?;
+    let error = Version::parse(alloc, &printed)
+        .err()
+        .ok_or("257 bytes were read")?;
     assert_eq!(rt; error.kind(), &SemverErrorKind::MaxLengthError);
     assert_eq!(rt; error.offset(), 256);
     Ok(())
@@ -85,7 +114,10 @@ fn reads_at_most_256_bytes(rt: HostRuntime) -> Result<(), Fail> {
 #[test]
 fn refuses_versions_at_the_first_fault(rt: HostRuntime) -> Result<(), Fail> {
     let alloc = rt.alloc();
-    let too_large = "18446744073709551616".parse::<u64>().err().ok_or("64 bits")?;
+    let too_large = "18446744073709551616"
+        .parse::<u64>()
+        .err()
+        .ok_or("64 bits")?;
     let long_lines = repeated(alloc, "a\n", "b", 298)?;
     let long_characters = repeated(alloc, "a", "\u{161}", 128)?;
     for (text, kind, offset, location) in [
@@ -95,10 +127,30 @@ fn refuses_versions_at_the_first_fault(rt: HostRuntime) -> Result<(), Fail> {
         ("1.", SemverErrorKind::Context("version"), 2, (0, 2)),
         ("1.2", SemverErrorKind::Context("version"), 3, (0, 3)),
         ("\n1.2.3", SemverErrorKind::Context("version"), 0, (0, 0)),
-        ("\u{ff11}.2.3", SemverErrorKind::Context("version"), 0, (0, 0)),
-        ("1.2.900719925474100", SemverErrorKind::MaxIntError(900719925474100), 4, (0, 4)),
-        ("900719925474100.a", SemverErrorKind::MaxIntError(900719925474100), 0, (0, 0)),
-        ("18446744073709551616.0.0", SemverErrorKind::ParseIntError(too_large), 0, (0, 0)),
+        (
+            "\u{ff11}.2.3",
+            SemverErrorKind::Context("version"),
+            0,
+            (0, 0),
+        ),
+        (
+            "1.2.900719925474100",
+            SemverErrorKind::MaxIntError(900719925474100),
+            4,
+            (0, 4),
+        ),
+        (
+            "900719925474100.a",
+            SemverErrorKind::MaxIntError(900719925474100),
+            0,
+            (0, 0),
+        ),
+        (
+            "18446744073709551616.0.0",
+            SemverErrorKind::ParseIntError(too_large),
+            0,
+            (0, 0),
+        ),
         ("1.2.3 ", SemverErrorKind::Other, 5, (0, 5)),
         ("1.2.3.4", SemverErrorKind::Other, 5, (0, 5)),
         ("1.2.3-", SemverErrorKind::Other, 5, (0, 5)),
@@ -110,14 +162,19 @@ fn refuses_versions_at_the_first_fault(rt: HostRuntime) -> Result<(), Fail> {
         ("1.2.3-a+", SemverErrorKind::Other, 7, (0, 7)),
         ("1.2.3-a.+b", SemverErrorKind::Other, 7, (0, 7)),
         (&long_lines, SemverErrorKind::MaxLengthError, 299, (1, 297)),
-        (&long_characters, SemverErrorKind::MaxLengthError, 256, (0, 256)),
+        (
+            &long_characters,
+            SemverErrorKind::MaxLengthError,
+            256,
+            (0, 256),
+        ),
     ] {
         let error = Version::parse(alloc, text).err().ok_or("read")?;
         assert_eq!(rt; error.kind(), &kind, "{text}");
         assert_eq!(rt; error.offset(), offset, "{text}");
         assert_eq!(rt; error.span().len(), 0, "{text}");
         assert_eq!(rt; error.location(), location, "{text}");
-        assert_eq!(rt; error.input(), text, "{text}");
+        assert_eq!(rt; error.input().as_bytes(), text.as_bytes(), "{text}");
     }
     Ok(())
 }

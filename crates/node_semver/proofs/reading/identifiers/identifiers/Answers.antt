@@ -16,7 +16,7 @@ identifier-requires c = rw c.split_identifier.ensures.identifier (front-all is_i
 pub identifiers-smaller : goal.identifiers-smaller
 identifiers-smaller c =
     let whole = ap length (front-after is_identifier_character c.identifiers.rest.now)
-        ∙ sym (ap length (front-after is_identifier_character c.identifiers.rest.now)) in
+    ∙ sym (ap length (front-after is_identifier_character c.identifiers.rest.now)) in
     let behind : length (after is_identifier_character c.identifiers.rest.now) ≡ length (point ∷ c.in-Some.next.now) = ap length (sym c.split_identifier.ensures.behind ∙ c.in-Some.ensures.next.0) in
     let parts = ap length (sym (front-after is_identifier_character c.identifiers.rest.now)) ∙ length-append (front is_identifier_character c.identifiers.rest.now) (after is_identifier_character c.identifiers.rest.now) in
     omega arith
@@ -36,8 +36,7 @@ pub returns-in-None : goal.returns-in-None
 returns-in-None c =
     let no = subst (λ (l : List ℕ). BeginsWithNo is_identifier_character l) (sym c.split_identifier.ensures.behind) (after-no is_identifier_character c.identifiers.rest.now) in
     let stops = rw c.split_identifier.ensures.behind at (c.in-None.ensures.none no) in
-    let last = list-last c.identifiers.rest.now stops in
-    (
+    let last = list-last c.identifiers.rest.now stops in (
       sym (append-nil _) ∙ values-more c.identifiers.list.items c.in_ok-identifier.field-0 c.push.new.self.items [] (list_values c.identifiers.rest.now)
           (front is_identifier_character c.identifiers.rest.now) c.in_ok-push.ensures.items (c.in_ok-identifier.ensures ∙ ap (λ (l : List ℕ). identifier_of l) c.split_identifier.ensures.identifier) last.0 ∙ c.identifiers.invariant.read,
       c.split_identifier.ensures.behind ∙ sym last.1 ∙ c.identifiers.invariant.behind,

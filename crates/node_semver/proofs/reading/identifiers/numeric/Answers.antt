@@ -10,7 +10,7 @@ pub returns-in-None : goal.returns-in-None
 returns-in-None c =
     let digit : is_digit (get_or c.args.text.now c.digits.i 0) ≡ true = grind arith in
     let large : 2 ^ 64 ≤ number_of (take (c.digits.i + 1) c.args.text.now) =
-        rw (number_of-more c.args.text.now c.digits.i c.digits-test.true digit, ← c.digits.invariant.value) (larger _ c.in-None.ensures) in
+    rw (number_of-more c.args.text.now c.digits.i c.digits-test.true digit, ← c.digits.invariant.value) (larger _ c.in-None.ensures) in
     number-none c.args.text.now (c.digits.i + 1) large
 
 pub digits-preserved : goal.digits-preserved

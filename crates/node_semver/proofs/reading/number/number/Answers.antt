@@ -30,7 +30,7 @@ returns-then-value-gt-MAX_SAFE_INTEGER c =
     let digit : is_digit (get_or c.args.text.now c.digits.i 0) ≡ true = grind arith in
     let over = over-step is_digit c.args.text.now c.digits.i c.digits-test.true digit c.digits.invariant.over in
     let value : number_of (take (c.digits.i + 1) c.args.text.now) ≡ c.digits.value * 10 + (get_or c.args.text.now c.digits.i 0 - 48) =
-        rw (number_of-more c.args.text.now c.digits.i c.digits-test.true digit, ← c.digits.invariant.value) refl in
+    rw (number_of-more c.args.text.now c.digits.i c.digits-test.true digit, ← c.digits.invariant.value) refl in
     refuses c.args.text.now _ _ c.too_large.ensures (number_at-large c.args.text.now (c.digits.i + 1) over (omega arith) (omega arith) (omega (arith, c.from.ensures)))
 
 pub returns-then-is_empty : goal.returns-then-is_empty

@@ -1,3 +1,4 @@
 pub mod ByteLemmas
 pub mod LineLemmas
 pub mod OutputLemmas
+pub mod WorkedRows

@@ -52,6 +52,11 @@ span_offset span = span.offset
 abbrev pub span_len : SourceSpan → ℕ
 span_len span = span.length
 
+-- the two places are one: the same bytes of a text
+pub record IsSamePlace (s t : SourceSpan) : Type 0 where
+  pub offset : span_offset s ≡ span_offset t
+  pub length : span_len s ≡ span_len t
+
 -- the text that was parsed, the byte offset of the fault from 0, the length of the span, and the kind
 pub record Refusal : Type 0 where
   pub input : List ℕ

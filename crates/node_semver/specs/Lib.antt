@@ -2,6 +2,7 @@ pub mod Characters
 pub mod ComparatorText
 pub mod Division
 pub mod Error
+pub mod ErrorEquality
 pub mod ErrorLocation
 pub mod Fault
 pub mod Hash

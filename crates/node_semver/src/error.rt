@@ -3,6 +3,8 @@ ghost use Rattle.std.specs.Prelude.{◌≡◌, ◌⊎◌};
 ghost use Rattle.node_semver.specs.Error.{kind_of, refusal_of, error_kind_of, span_offset, span_len, IsOutOfMemory, IsRefusalAt, IsSameError};
 ghost use Rattle.node_semver.specs.ErrorLocation.{lines_before, column_at};
 
+mod equality;
+
 use std::alloc::{AllocError, Global};
 use std::fmt;
 use std::num::ParseIntError;
@@ -12,7 +14,7 @@ use thiserror::Error;
 ///
 /// Two places are equal exactly where both numbers are. Every place that this crate answers has no bytes: it stands
 /// before the byte at its offset, or at the text's end.
-#[derive(Clone, Copy, Debug, PartialEq, Eq)]
+#[derive(Clone, Copy, Debug)]
 pub struct SourceSpan {
     offset: usize,
     length: usize,
@@ -53,7 +55,7 @@ impl SourceSpan {
 /// # Examples
 ///
 /// `Context("version")` is shown as `Failed to parse version.`, and is not equal to `Context("range")`.
-#[derive(Debug, PartialEq, Eq, Clone, Drop, Error)]
+#[derive(Debug, Clone, Drop, Error)]
 pub enum SemverErrorKind {
     /// A version text of more than 256 bytes, at its last byte.
     #[error("Semver string can't be longer than {max} characters.", max = crate::MAX_LENGTH)]
@@ -94,7 +96,7 @@ pub enum SemverErrorKind {
 ///
 /// - The version `1.2` is refused with `Context("version")` at 3, its end: the third number is missing.
 /// - The version `1.2.3 ` (a blank last) is refused with `Other` at 5.
-#[derive(Debug, PartialEq, Eq, Drop)]
+#[derive(Debug, Drop)]
 pub struct SemverError {
     input: String,
     span: SourceSpan,

@@ -5,7 +5,7 @@ ghost use Rattle.node_semver.specs.ReadingViews.{Gives, IsPlainOk, extras_seen, 
 ghost use Rattle.node_semver.specs.VersionText.{is_version_mark};
 
 use crate::reading::Fault;
-use crate::reading::blanks::{behind_blanks, behind_partial_mark, behind_version_mark};
+use crate::reading::blanks::{behind_blanks, behind_partial_mark, unmarked};
 use crate::reading::identifiers::{build, prerelease};
 use crate::reading::number::{missing, number};
 use crate::{Identifier, Version};
@@ -96,7 +96,7 @@ pub(crate) fn version(alloc: Global, text: &[u8]) -> Result<(Version, &[u8]), Fa
     ensures read { Gives version_seen result (marked_at is_version_mark text.now) }
     ensures plain { IsPlainOk result (marked_at is_version_mark text.now) }
 {
-    triple(alloc, behind_blanks(behind_version_mark(text)))
+    triple(alloc, unmarked(text))
 }
 
 // A partial at the front of a text: `v 1.2.3`

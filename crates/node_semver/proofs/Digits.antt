@@ -31,6 +31,13 @@ digit-value b h = grind (arith, nat_tests)
 pub number_of-more : (s : List ℕ) (i : ℕ) → i < length s → is_digit (get_or s i 0) ≡ true → number_of (take (i + 1) s) ≡ number_of (take i s) * 10 + (get_or s i 0 - 48)
 number_of-more s i h digit = digits_value_more 10 s i h ∙ ap (λ (d : ℕ). number_of (take i s) * 10 + d) (digit-value (get_or s i 0) digit)
 
+-- what the first digit writes
+pub number_of-first : (s : List ℕ) → 0 < length s → is_digit (get_or s 0 0) ≡ true → number_of (take 1 s) ≡ get_or s 0 0 - 48
+number_of-first [] some digit = absurd (omega arith)
+number_of-first (b ∷ s) some digit =
+    let more : number_of (take 1 (b ∷ s)) ≡ 0 + (b - 48) = number_of-more (b ∷ s) 0 some digit in
+    more ∙ omega arith
+
 -- a beginning of a beginning
 take-front : (i : ℕ) (s more : List ℕ) → i ≤ length s → take i (take i s ++ more) ≡ take i s
 take-front i s more h = take_at (take i s) more i (length-take-le i s h)

@@ -1,5 +1,5 @@
 -- Triples and versions: what is read is such a text, and such a text is read.
-use Rattle.std.proofs.Common.{◌≡◌, ◌⊎◌, ℕ, Bool, true, false, List, [], ◌∷◌, ◌++◌, Ok, Err, refl, sym, ap, ◌∙◌, inl, inr, subst, append_assoc}
+use Rattle.std.proofs.Common.{◌≡◌, ◌⊎◌, ◌<◌, ℕ, Bool, true, false, List, [], ◌∷◌, ◌++◌, arith, get_or, length, Ok, Err, refl, sym, ap, ◌∙◌, inl, inr, subst, append_assoc}
 use Rattle.std.proofs.lemmas.Bool.{and_parts, cases_Bool, eqb-true, or_cases}
 use Rattle.std.specs.Prelude.{Result, ◌==◌, ◌||◌}
 use Rattle.std.specs.List.{list_all}
@@ -211,6 +211,12 @@ unfolding after_mark
 unmarked is_mark test [] [] all h = absurd h
 unmarked is_mark test [] (b ∷ text) all h = rw (test.digit b h) refl
 unmarked is_mark test (c ∷ blanks) text all h = rw (test.blank c (and_parts (is_blank c) (list_all is_blank blanks) all).0) refl
+
+-- where a digit stands first, there is neither a mark nor a blank
+pub digit-first : (is_mark : ℕ → Bool) → IsMarkTest is_mark → (text : List ℕ) → 0 < length text → is_digit (get_or text 0 0) ≡ true → text ≡ after is_blank (after_mark is_mark text)
+unfolding after after_mark
+digit-first is_mark test [] some digit = absurd (omega arith)
+digit-first is_mark test (b ∷ text) some digit = rw (test.digit b digit, digit-no_blank (b ∷ text) digit) refl
 
 -- a mark is taken
 pub mark-again : (is_mark : ℕ → Bool) → IsMarkTest is_mark → (mark blanks text : List ℕ) → IsMark is_mark mark → AreAll is_blank blanks → BeginsWith is_digit text

@@ -57,6 +57,10 @@ point_seen (Err f) = Err (fault_of f)
 abbrev pub version_seen : VersionValue × Bor (List ℕ) → VersionValue × List ℕ
 version_seen x = (x.0, x.1.now)
 
+-- a prerelease and a build, and the bytes behind them
+abbrev pub extras_seen : (Vec Identifier Global × Vec Identifier Global) × Bor (List ℕ) → (List IdentifierValue × List IdentifierValue) × List ℕ
+extras_seen x = ((values_of x.0.0.items, values_of x.0.1.items), x.1.now)
+
 -- where a version with no prerelease and no build is read, the answer is not want of memory
 abbrev pub IsPlainOk : {X : Type 0} → Result X CodeFault → Read VersionValue → Type 0
 IsPlainOk r (Ok x) = x.0.pre_release ≡ [] → x.0.build ≡ [] → IsOk r

@@ -28,12 +28,23 @@ pub(crate) fn behind_blanks(text: &[u8]) -> &[u8]
 // The bytes behind a `v` or a `V`, where there is one.
 #[inline(always)]
 #[tactic(auto, unfolding(crate::specs::Reading::after_mark))]
-pub(crate) fn behind_version_mark(text: &[u8]) -> &[u8]
+fn behind_version_mark(text: &[u8]) -> &[u8]
     ensures { result.now ≡ after_mark is_version_mark text.now }
 {
     match text {
         [b'v' | b'V', rest @ ..] => rest,
         _ => text,
+    }
+}
+
+// `1.2.3` of `V 1.2.3`: the bytes behind a mark and blanks. Most texts have neither, and begin with a digit.
+#[inline(always)]
+pub(crate) fn unmarked(text: &[u8]) -> &[u8]
+    ensures { result.now ≡ after is_a_blank (after_mark is_version_mark text.now) }
+{
+    match text {
+        [first, ..] if first.is_ascii_digit() => text,
+        _ => behind_blanks(behind_version_mark(text)),
     }
 }
 

@@ -14,22 +14,22 @@ use std::str;
 pub(crate) fn number(text: &[u8]) -> Result<(u64, &[u8]), Fault<'_>>
     ensures { seen result ≡ number_at text.now }
 {
-    let mut value: u64 = 0;
-    'digits: for i in 0..text.len() {
+    let [first, ..] = text else {
+        return Err(missing(text));
+    };
+    if !first.is_ascii_digit() {
+        return Err(missing(text));
+    }
+    let mut value = u64::from(*first - b'0');
+    'digits: for i in 1..text.len() {
         let byte = text[i];
         if !byte.is_ascii_digit() {
-            if i == 0 {
-                return Err(missing(text));
-            }
             return Ok((value, &text[i..]));
         }
         value = value * 10 + u64::from(byte - b'0');
         if value > MAX_SAFE_INTEGER {
             return Err(too_large(text));
         }
-    }
-    if text.is_empty() {
-        return Err(missing(text));
     }
     Ok((value, &text[text.len()..]))
 }

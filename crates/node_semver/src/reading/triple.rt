@@ -1,15 +1,15 @@
-ghost use Rattle.std.specs.Prelude.{◌≡◌, Ok, IsOk, []};
+ghost use Rattle.std.specs.Prelude.{◌≡◌, Ok, IfOk, IsOk, []};
 ghost use Rattle.node_semver.specs.ComparatorText.{is_partial_mark};
-ghost use Rattle.node_semver.specs.Reading.{extended_at, marked_at, numbers_at, point_at, triple_at};
-ghost use Rattle.node_semver.specs.ReadingViews.{Gives, IsPlainOk, point_seen, seen, version_seen};
+ghost use Rattle.node_semver.specs.Reading.{extended_at, extras_at, marked_at, numbers_at, point_at, triple_at};
+ghost use Rattle.node_semver.specs.ReadingViews.{Gives, IsPlainOk, extras_seen, point_seen, seen, version_seen};
 ghost use Rattle.node_semver.specs.VersionText.{is_version_mark};
 
-use crate::Version;
 use crate::reading::Fault;
-use crate::reading::blanks::{behind_blanks, behind_partial_mark, behind_version_mark};
+use crate::reading::blanks::{behind_blanks, behind_partial_mark, unmarked};
 use crate::reading::identifiers::{build, prerelease};
 use crate::reading::number::{missing, number};
-use std::alloc::Global;
+use crate::{Identifier, Version};
+use std::alloc::{AllocError, Global};
 
 // The bytes behind a point.
 #[inline(always)]
@@ -52,7 +52,7 @@ fn triple(alloc: Global, text: &[u8]) -> Result<(Version, &[u8]), Fault<'_>>
 }
 
 // A triple, and the prerelease and the build that stand behind it.
-#[inline(never)]
+#[inline(always)]
 #[tactic(auto, unfolding(crate::specs::Reading::extras_at))]
 fn extended(
     alloc: Global,
@@ -63,8 +63,7 @@ fn extended(
     ensures plain { IsPlainOk result (extended_at triple text.now) }
 {
     let (major, minor, patch) = triple;
-    let (pre_release, rest) = prerelease(alloc, text)?;
-    let (build, rest) = build(alloc, rest)?;
+    let ((pre_release, build), rest) = extras(alloc, text)?;
     let version = Version {
         major,
         minor,
@@ -75,6 +74,21 @@ fn extended(
     Ok((version, rest))
 }
 
+// `-alpha+5` of `-alpha+5 <2.0.0`: a prerelease and a build
+#[inline(never)]
+#[tactic(auto, unfolding(crate::specs::Reading::extras_at))]
+fn extras(
+    alloc: Global,
+    text: &[u8],
+) -> Result<((Vec<Identifier>, Vec<Identifier>), &[u8]), AllocError>
+    ensures read { IfOk result (λ x. extras_seen x ≡ extras_at text.now) }
+    ensures plain { (extras_at text.now).0 ≡ ([], []) → IsOk result }
+{
+    let (pre_release, rest) = prerelease(alloc, text)?;
+    let (build, rest) = build(alloc, rest)?;
+    Ok(((pre_release, build), rest))
+}
+
 // A version at the front of a text: `V 1.2.3`
 #[inline(always)]
 #[tactic(auto, unfolding(crate::specs::Reading::marked_at))]
@@ -82,7 +96,7 @@ pub(crate) fn version(alloc: Global, text: &[u8]) -> Result<(Version, &[u8]), Fa
     ensures read { Gives version_seen result (marked_at is_version_mark text.now) }
     ensures plain { IsPlainOk result (marked_at is_version_mark text.now) }
 {
-    triple(alloc, behind_blanks(behind_version_mark(text)))
+    triple(alloc, unmarked(text))
 }
 
 // A partial at the front of a text: `v 1.2.3`

@@ -53,7 +53,7 @@ impl Version {
     {
         match whole(alloc, text.as_bytes()) {
             Ok(version) => Ok(version),
-            Err(fault) => Err(refusal(alloc, text, fault)),
+            Err(fault) => Err(refused(alloc, text, fault)),
         }
     }
 }
@@ -74,6 +74,17 @@ fn whole(alloc: Global, text: &[u8]) -> Result<Version, Fault<'_>>
         Ok((_, rest)) => Err(Fault::LeftOver(rest)),
         Err(fault) => Err(fault),
     }
+}
+
+// The same as `refusal`. Where nothing is wrong, `parse` then pays nothing for the places of the fault and the error.
+#[inline(always)]
+fn refused(alloc: Global, text: &str, fault: Fault<'_>) -> SemverError
+    requires { IsMemoryOr text.now fault }
+    ensures memory { IsWantOfMemory fault.entry → IsOutOfMemory result }
+    ensures fault { IsOutOfMemory result
+        ⊎ IsRefusalAt text.now (fault_of fault.entry).kind (length text.now - (fault_of fault.entry).left) result }
+{
+    refusal(alloc, text, fault)
 }
 
 // The error that tells a fault of this text.

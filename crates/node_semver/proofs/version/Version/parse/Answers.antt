@@ -9,7 +9,7 @@ returns-in-Ok-clause-only c = λ v h. one_reading c.args.text.now c.in-Ok.versio
 
 pub returns-in-Err-clause-only : goal.returns-in-Err-clause-only
 returns-in-Err-clause-only c = λ v h. elim c.in-Err.ensures.fault [
-  | inl memory ↦ c.refusal.ensures.memory memory
+  | inl memory ↦ c.refused.ensures.memory memory
   | inr fault ↦ absurd (version-no_fault _ v _ _ (rw c.as_bytes.ensures.value h) fault)
 ]
 

@@ -76,7 +76,7 @@ fn extended(
 
 // `-alpha+5` of `-alpha+5 <2.0.0`: a prerelease and a build
 #[inline(never)]
-#[tactic(auto, unfolding(crate::specs::Reading::extras_at))]
+#[tactic(auto, unfolding(crate::specs::Reading::extras_at, crate::specs::Reading::build_at, crate::specs::Reading::after_plus))]
 fn extras(
     alloc: Global,
     text: &[u8],
@@ -85,6 +85,9 @@ fn extras(
     ensures plain { (extras_at text.now).0 ≡ ([], []) → IsOk result }
 {
     let (pre_release, rest) = prerelease(alloc, text)?;
+    if let [] = rest {
+        return Ok(((pre_release, Vec::new(alloc)), rest));
+    }
     let (build, rest) = build(alloc, rest)?;
     Ok(((pre_release, build), rest))
 }

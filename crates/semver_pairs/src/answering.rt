@@ -1,6 +1,6 @@
 //! What is read, and the answer to it.
-ghost use Rattle.std.specs.Prelude.{◌≡◌, ◌⊎◌, ◌↔◌, ℕ, ◌==◌, ◌^◌, ◌-◌, ◌<◌, ◌≤◌, List, [], ◌∷◌, length, take, IfOk, IfErr, OnOk, OnErr, IfSome, IfNone, IsErr, IsErrOf, IsTrue, MatchOption, position};
-ghost use Rattle.std.specs.Io.KnownBytes.{Appends, Consumes, IsAtEnd, Keeps};
+ghost use Rattle.std.specs.Prelude.{◌≡◌, ◌↔◌, ℕ, ◌==◌, ◌^◌, ◌-◌, ◌<◌, ◌≤◌, List, [], ◌∷◌, length, take, IfOk, IfErr, OnOk, OnErr, IfSome, IfNone, IsErr, IsErrOf, IsTrue, position};
+ghost use Rattle.std.specs.Io.KnownBytes.{Appends, Consumes, IsAtEnd};
 ghost use Rattle.node_semver.specs.Error.{out_of_memory, refusal_of};
 ghost use Rattle.node_semver.specs.Meaning.{RangeAdmits, TextAdmits};
 ghost use Rattle.node_semver.specs.Version.{VersionValue};

@@ -4,9 +4,9 @@ ghost use Rattle.node_semver.specs.Error.{kind_of, refusal_of, error_kind_of, sp
 ghost use Rattle.node_semver.specs.ErrorLocation.{lines_before, column_at};
 
 mod equality;
+mod print;
 
 use std::alloc::{AllocError, Global};
-use std::fmt;
 use std::num::ParseIntError;
 use thiserror::Error;
 
@@ -58,28 +58,20 @@ impl SourceSpan {
 #[derive(Debug, Clone, Drop, Error)]
 pub enum SemverErrorKind {
     /// A version text of more than 256 bytes, at its last byte.
-    #[error("Semver string can't be longer than {max} characters.", max = crate::MAX_LENGTH)]
     MaxLengthError,
     /// Kept from the Rust crate of this name: no call answers it.
-    #[error("Incomplete input to semver parser.")]
     IncompleteInput,
     /// A major, minor or patch of a version text above the greatest `u64`, at its first digit.
-    #[error("Failed to parse an integer component of a semver string: {0}")]
     ParseIntError(ParseIntError),
     /// A major, minor or patch that fits `u64` and is above `MAX_SAFE_INTEGER`, at its first digit.
-    #[error("Integer component of semver string is larger than JavaScript's Number.MAX_SAFE_INTEGER: {0}")]
     MaxIntError(u64),
     /// A number or a point that is missing from a version text, at that place. The word is `version`.
-    #[error("Failed to parse {0}.")]
     Context(&'static str),
     /// A range text of which no alternative gives a set, at 0.
-    #[error("No valid ranges could be parsed")]
     NoValidRanges,
     /// A version text that goes on after the version, at the first byte that is left.
-    #[error("An unspecified error occurred.")]
     Other,
     /// Memory was refused.
-    #[error("Out of memory.")]
     OutOfMemory,
 }
 
@@ -96,7 +88,7 @@ pub enum SemverErrorKind {
 ///
 /// - The version `1.2` is refused with `Context("version")` at 3, its end: the third number is missing.
 /// - The version `1.2.3 ` (a blank last) is refused with `Other` at 5.
-#[derive(Debug, Drop)]
+#[derive(Debug, Drop, Error)]
 pub struct SemverError {
     input: String,
     span: SourceSpan,
@@ -223,14 +215,6 @@ impl Clone for SemverError {
         })
     }
 }
-
-impl fmt::Display for SemverError {
-    fn fmt<W: fmt::Write>(&self, f: &mut fmt::Formatter<W>) -> fmt::Result {
-        self.kind.fmt(f)
-    }
-}
-
-impl std::error::Error for SemverError {}
 
 #[cfg(test)]
 mod tests;

@@ -117,14 +117,21 @@ fn equal_errors_have_one_text_one_place_and_one_kind(rt: HostRuntime) -> Result<
         assert_ne!(rt; other, &error);
         assert_eq!(rt; &other.clone()?, other);
     }
-    assert_ne!(rt;
-        SemverErrorKind::MaxIntError(1),
-        SemverErrorKind::MaxIntError(2)
-    );
+    let large = SemverErrorKind::MaxIntError(7);
+    assert_eq!(rt; large, SemverErrorKind::MaxIntError(7));
+    assert_ne!(rt; large, SemverErrorKind::MaxIntError(8));
+    assert_ne!(rt; large, SemverErrorKind::Other);
     assert_ne!(rt;
         SemverErrorKind::Context("version"),
         SemverErrorKind::Context("range")
     );
+    let missing = SemverError::new(rt.alloc(), "1.2", 3, SemverErrorKind::Context("version"));
+    let alike = SemverError::new(rt.alloc(), "3.4", 3, SemverErrorKind::Context("version"));
+    let before = SemverError::new(rt.alloc(), "1.", 2, SemverErrorKind::Context("version"));
+    assert_eq!(rt; missing.span(), alike.span());
+    assert_eq!(rt; missing.kind(), alike.kind());
+    assert_ne!(rt; missing, alike);
+    assert_ne!(rt; missing.span(), before.span());
     Ok(())
 }
 

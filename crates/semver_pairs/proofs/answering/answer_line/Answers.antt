@@ -26,6 +26,6 @@ returns-clause-answer c =
     let version = rw c.in-Some-2.is at c.in_ok-version.ensures.good in
     let means = rw c.in-Some.is at c.in_ok-range.ensures.means in
     let turns_away = λ (text : TextAdmits c.args.range.now c.in-Some-2.version).
-        let told : c.satisfies.result ≡ true = c.satisfies.ensures.1 ((means c.in-Some-2.version).1 text) in
-        absurd (cc (told, c.if-satisfies.false)) in
+    let told : c.satisfies.result ≡ true = c.satisfies.ensures.1 ((means c.in-Some-2.version).1 text) in
+    absurd (cc (told, c.if-satisfies.false)) in
     (codes "no", turned_away c.in-Some-2.version range version turns_away, refl)

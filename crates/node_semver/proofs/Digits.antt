@@ -1,6 +1,6 @@
 -- Numbers, as a loop goes over their digits.
-use Rattle.std.proofs.Common.{◌≡◌, ◌+◌, ◌-◌, ◌*◌, ◌<◌, ◌≤◌, ◌^◌, ℕ, Bool, true, false, List, [], ◌∷◌, ◌++◌, length, get_or, take, drop, Ok, Err, Option, Some, None, refl, sym, ap, ◌∙◌, inl, inr, subst, arith, rules, zero, suc, length-append}
-use Rattle.std.proofs.lemmas.Bool.{and_from, and_parts, and_right, cases_Bool, le-leb, le-ltb, lt-leb, lt-ltb, ltb-false, ltb-true}
+use Rattle.std.proofs.Common.{◌≡◌, ◌+◌, ◌-◌, ◌*◌, ◌<◌, ◌≤◌, ◌^◌, ℕ, true, false, List, [], ◌∷◌, ◌++◌, length, get_or, take, drop, Ok, Err, Option, Some, None, refl, sym, ap, ◌∙◌, inl, inr, subst, arith, rules, length-append}
+use Rattle.std.proofs.lemmas.Bool.{and_from, and_right, cases_Bool, le-leb, le-ltb, lt-leb, lt-ltb, ltb-false, ltb-true}
 use Rattle.std.proofs.lemmas.Int.Digits.{digits_value_more}
 use Rattle.std.proofs.lemmas.List.{length-take-le, take_all, take_at}
 use Rattle.std.proofs.lemmas.Str.Parse.{IsNumeralModel, digits_value-take-le, numerals_by_value, parse_digits}
@@ -11,15 +11,14 @@ use Rattle.std.specs.List.{list_all}
 use Rattle.std.specs.Prelude.{◌&&◌, nat_le, nat_lt, if◌then◌else◌, Result}
 use Rattle.std.specs.Str.Parse.{ParsesUnsigned}
 use Rattle.std.specs.declared.num.ParseIntError.{ParseIntError}
-use Rattle.std.specs.Str.{IsAscii}
 use Rattle.node_semver.specs.declared.TheConstants.{MAX_SAFE_INTEGER}
-use Rattle.node_semver.specs.Characters.{AreAll, BeginsWith, BeginsWithNo, is_digit}
+use Rattle.node_semver.specs.Characters.{AreAll, BeginsWith, is_digit}
 use Rattle.node_semver.specs.NumberText.{number_of}
-use Rattle.node_semver.specs.Reading.{Fault, Read, after, begins, front, missing, number_at, too_large}
+use Rattle.node_semver.specs.Reading.{Fault, begins, front, missing, number_at, too_large}
 use Rattle.node_semver.specs.ReadingViews.{large_fault}
 use Rattle.node_semver.specs.Error.{max_int, parse_int}
 use Rattle.node_semver.proofs.NumberReading.{answer}
-use Rattle.node_semver.proofs.Places.{Over, Through, over-step, to-end}
+use Rattle.node_semver.proofs.Places.{Over, Through, to-end}
 use Rattle.node_semver.proofs.Fronts.{front-all}
 use Rattle.node_semver.proofs.IdentifierReading.{pick-false, pick-true}
 

@@ -1,13 +1,13 @@
 -- Lists of identifiers and extras: what is read is such a text, and such a text is read.
-use Rattle.std.proofs.Common.{◌≡◌, ◌≢◌, ◌⊎◌, ℕ, Bool, true, false, List, [], ◌∷◌, ◌++◌, refl, sym, ap, ◌∙◌, inl, inr, subst, append_assoc, append-nil}
+use Rattle.std.proofs.Common.{◌≡◌, ◌⊎◌, ℕ, Bool, true, false, List, [], ◌∷◌, ◌++◌, refl, sym, ap, ◌∙◌, inl, inr, subst, append_assoc, append-nil}
 use Rattle.std.proofs.lemmas.Bool.{and_from, and_parts, cases_Bool, eqb-true}
 use Rattle.std.specs.Prelude.{◌==◌, ◌||◌, if◌then◌else◌, map}
-use Rattle.std.specs.List.{AllByRecursion, list_all, onto_first, slice_split}
+use Rattle.std.specs.List.{AllByRecursion, list_all}
 use Rattle.node_semver.specs.Characters.{AreAll, BeginsWith, BeginsWithNo, hyphen, is_identifier_character, plus, point}
 use Rattle.node_semver.specs.IdentifierText.{IsBuildText, IsExtrasText, IsIdentifierList, IsIdentifierText, IsPrereleaseText, identifier_of, parts_of}
 use Rattle.node_semver.specs.IdentifierValue.{IdentifierValue}
 use Rattle.node_semver.specs.Reading.{after_mark, after_plus, begins, build_at, extras_at, goes_on, list_after, list_front, list_or, list_values, prerelease_at}
-use Rattle.node_semver.proofs.Fronts.{begins-append, begins-with, begins-with_no, no-append, with-begins}
+use Rattle.node_semver.proofs.Fronts.{begins-append, with-begins}
 
 -- The parts of a list that goes on from some earlier characters: the first part may be empty, the others are identifiers.
 pub record GoOn (parts : List (List ℕ)) : Type 0 where

@@ -1,9 +1,9 @@
 -- A list of identifiers, one identifier after another.
-use Rattle.std.proofs.Common.{◌≡◌, ℕ, Bool, true, false, List, [], ◌∷◌, ◌++◌, refl, sym, ap, ◌∙◌, subst, append-nil, append_assoc}
+use Rattle.std.proofs.Common.{◌≡◌, ℕ, true, false, List, [], ◌∷◌, ◌++◌, refl, sym, ap, ◌∙◌, append-nil, append_assoc}
 use Rattle.std.proofs.lemmas.Bool.{and_parts}
-use Rattle.std.specs.Prelude.{◌==◌, map}
+use Rattle.std.specs.Prelude.{map}
 use Rattle.std.specs.List.{list_all}
-use Rattle.node_semver.specs.Characters.{AreAll, BeginsWith, BeginsWithNo, is_identifier_character, point}
+use Rattle.node_semver.specs.Characters.{AreAll, is_identifier_character, point}
 use Rattle.node_semver.specs.IdentifierText.{identifier_of, parts_of}
 use Rattle.node_semver.specs.Identifier.{value_of, values_of}
 use Rattle.node_semver.specs.IdentifierValue.{IdentifierValue}

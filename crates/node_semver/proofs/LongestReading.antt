@@ -13,7 +13,7 @@ use Rattle.node_semver.specs.Version.{VersionValue}
 use Rattle.node_semver.specs.VersionText.{IsMarkedTriple, IsTripleText}
 use Rattle.node_semver.specs.Reading.{after, after_mark, after_plus, begins, build_at, extras_at, front, goes_on, list_after, list_or, marked_at, number_at, numbers_at, prerelease_at, triple_at, version_of}
 use Rattle.node_semver.proofs.Fronts.{after-again, begins-append, front-after, with-begins}
-use Rattle.node_semver.proofs.IdentifierReading.{GoOn, begins-first, build-takes, build_at-other, build_at-plus, goes_on-character, goes_on-point, list-through, list-whole, list_or-none, list_or-some, parts-other, parts-point, parts-shape, prerelease-again, prerelease-listed, prerelease-takes, prerelease_at-hyphen, prerelease_at-other}
+use Rattle.node_semver.proofs.IdentifierReading.{GoOn, begins-first, build-takes, build_at-other, build_at-plus, goes_on-character, list-through, list-whole, list_or-none, list_or-some, parts-shape, prerelease-again, prerelease-listed, prerelease-takes, prerelease_at-hyphen, prerelease_at-other}
 use Rattle.node_semver.proofs.NumberReading.{answer, bind-ok, number-again, ok-value, point-again}
 use Rattle.node_semver.proofs.VersionReading.{IsMarkTest, digit-no_blank, mark-again, numbers-takes, regroup, triple-begins}
 

@@ -1,11 +1,11 @@
 -- Numbers: what is read is a number text, and a number text is read.
-use Rattle.std.proofs.Common.{◌≡◌, ◌≤◌, ◌<◌, ℕ, Bool, true, false, List, [], ◌∷◌, ◌++◌, length, Ok, Err, refl, sym, ap, ◌∙◌, inl, inr, arith, subst}
+use Rattle.std.proofs.Common.{◌≡◌, ◌≤◌, ℕ, true, List, [], ◌∷◌, ◌++◌, Ok, Err, refl, sym, ap, ◌∙◌, inl, inr, subst}
 use Rattle.std.proofs.lemmas.Bool.{cases_Bool, eqb-true, le-leb, leb-true}
-use Rattle.std.specs.Prelude.{◌==◌, Result, if◌then◌else◌, nat_le}
+use Rattle.std.specs.Prelude.{◌==◌, Result, nat_le}
 use Rattle.node_semver.specs.declared.TheConstants.{MAX_SAFE_INTEGER}
-use Rattle.node_semver.specs.Characters.{AreAll, BeginsWith, BeginsWithNo, is_digit, point}
+use Rattle.node_semver.specs.Characters.{BeginsWithNo, is_digit, point}
 use Rattle.node_semver.specs.NumberText.{IsNumberText, number_of}
-use Rattle.node_semver.specs.Reading.{◌>>=◌, Fault, Read, after, begins, front, missing, number_at, point_at}
+use Rattle.node_semver.specs.Reading.{◌>>=◌, Fault, after, begins, front, number_at, point_at}
 use Rattle.node_semver.proofs.Fronts.{after-again, after-no, begins-append, begins-with, front-after, front-again, front-all, front-begins, with-begins}
 
 -- a chain that gave an answer

@@ -1,11 +1,8 @@
 -- The longest beginning whose characters all pass, from place to place, as a loop goes over a text.
-use Rattle.std.proofs.Common.{◌≡◌, ◌+◌, ◌-◌, ◌<◌, ◌≤◌, ℕ, Bool, true, false, List, [], ◌∷◌, ◌++◌, length, get_or, take, drop, refl, sym, ap, ◌∙◌, inl, inr, subst, arith, add-one, append-nil, append_assoc, drop-cons}
-use Rattle.std.proofs.lemmas.Bool.{and_from, and_parts, cases_Bool}
+use Rattle.std.proofs.Common.{◌≡◌, ◌+◌, ◌-◌, ◌<◌, ◌≤◌, ℕ, Bool, true, false, List, [], ◌∷◌, ◌++◌, length, get_or, take, drop, refl, sym, ap, ◌∙◌, add-one, append-nil, append_assoc, drop-cons}
 use Rattle.std.proofs.lemmas.List.{drop_all, take_rest}
 use Rattle.std.proofs.Math.Seq.{take-suc}
-use Rattle.std.specs.List.{list_all}
-use Rattle.node_semver.specs.Characters.{AreAll, BeginsWith, BeginsWithNo, is_digit}
-use Rattle.node_semver.specs.Reading.{after, begins, front}
+use Rattle.node_semver.specs.Reading.{after, front}
 
 -- the text from a place on
 pub at-place : (s : List ℕ) (i : ℕ) → i < length s → drop i s ≡ get_or s i 0 ∷ drop (i + 1) s

@@ -1,7 +1,7 @@
 -- What a reader at the front of a text says of the whole text.
-use Rattle.std.proofs.Common.{◌≡◌, ◌-◌, ◌<◌, ◌≤◌, ◌^◌, ◌⊎◌, ℕ, true, false, List, [], ◌∷◌, length, Ok, Err, refl, sym, ap, ◌∙◌, inl, inr, subst, arith, take, drop, length-drop}
+use Rattle.std.proofs.Common.{◌≡◌, ◌-◌, ◌<◌, ◌≤◌, ◌^◌, ◌⊎◌, ℕ, List, [], ◌∷◌, length, Ok, Err, refl, sym, ap, ◌∙◌, inl, inr, subst, arith, take, drop, length-drop}
 use Rattle.std.proofs.lemmas.Bool.{cases_Bool, ltb-false}
-use Rattle.std.specs.Prelude.{IsOk, Result, codes, nat_lt, if◌then◌else◌}
+use Rattle.std.specs.Prelude.{IsOk, Result, codes, nat_lt}
 use Rattle.node_semver.proofs.IdentifierReading.{pick-false, pick-true}
 use Rattle.node_semver.proofs.Places.{to-end}
 use Rattle.node_semver.proofs.Fronts.{front-nil, front-none}
@@ -10,7 +10,7 @@ use Rattle.node_semver.specs.Error.{Kind, context, max_int, max_length, other, p
 use Rattle.node_semver.specs.Characters.{BeginsWith, is_digit}
 use Rattle.node_semver.specs.Fault.{IsFault, large_number, left_over, no_number, no_point, too_large, too_long}
 use Rattle.node_semver.specs.NumberText.{number_of}
-use Rattle.node_semver.specs.Reading.{Fault, Read, front, marked_at}
+use Rattle.node_semver.specs.Reading.{Read, front, marked_at}
 use Rattle.node_semver.specs.ReadingViews.{IsMemoryOr, IsPlainOk, IsWantOfMemory, fault_of}
 use Rattle.std.specs.Borrow.{Bor}
 use Rattle.node_semver.specs.declared.reading.Fault.TheVariants.{TooLarge}
@@ -18,7 +18,7 @@ use Rattle.node_semver.specs.Version.{VersionValue}
 use Rattle.node_semver.specs.VersionText.{IsVersionText, is_version_mark}
 use Rattle.node_semver.specs.declared.reading.Fault.{Fault as CodeFault}
 use Rattle.node_semver.proofs.FaultReading.{fault-takes, left-takes}
-use Rattle.node_semver.proofs.NumberReading.{answer, ok-value}
+use Rattle.node_semver.proofs.NumberReading.{ok-value}
 use Rattle.node_semver.proofs.OneReading.{read-version, version-read}
 
 -- what reads a text with nothing behind it

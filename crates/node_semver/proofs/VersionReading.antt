@@ -1,19 +1,17 @@
 -- Triples and versions: what is read is such a text, and such a text is read.
-use Rattle.std.proofs.Common.{◌≡◌, ◌⊎◌, ◌<◌, ℕ, Bool, true, false, List, [], ◌∷◌, ◌++◌, arith, get_or, length, Ok, Err, refl, sym, ap, ◌∙◌, inl, inr, subst, append_assoc}
+use Rattle.std.proofs.Common.{◌≡◌, ◌<◌, ℕ, Bool, true, false, List, [], ◌∷◌, ◌++◌, arith, get_or, length, Ok, refl, sym, ap, ◌∙◌, inl, inr, subst, append_assoc}
 use Rattle.std.proofs.lemmas.Bool.{and_parts, cases_Bool, eqb-true, or_cases}
 use Rattle.std.specs.Prelude.{Result, ◌==◌, ◌||◌}
 use Rattle.std.specs.List.{list_all}
 use Rattle.node_semver.specs.Characters.{AreAll, BeginsWith, BeginsWithNo, is_blank, is_digit, is_identifier_character, plus, point}
 use Rattle.node_semver.specs.Division.{IsCleanEnd}
-use Rattle.node_semver.specs.IdentifierText.{IsExtrasText}
-use Rattle.node_semver.specs.IdentifierValue.{IdentifierValue}
 use Rattle.node_semver.specs.NumberText.{IsNumberText}
 use Rattle.node_semver.specs.Version.{VersionValue}
 use Rattle.node_semver.specs.VersionText.{IsMark, IsMarkedTriple, IsTripleText}
-use Rattle.node_semver.specs.Reading.{◌>>=◌, Fault, Read, after, after_mark, begins, extras_at, front, marked_at, number_at, numbers_at, point_at, triple_at, version_of}
+use Rattle.node_semver.specs.Reading.{◌>>=◌, Fault, after, after_mark, extras_at, front, marked_at, number_at, numbers_at, point_at, triple_at, version_of}
 use Rattle.node_semver.proofs.Fronts.{after-again, begins-append, front-after, front-all, no-append}
 use Rattle.node_semver.proofs.IdentifierReading.{EndsExtras, extras-again, extras-takes, pick-true}
-use Rattle.node_semver.proofs.NumberReading.{TakesNumber, answer, bind-ok, number-again, number-takes, ok-value, point-again, point-takes}
+use Rattle.node_semver.proofs.NumberReading.{bind-ok, number-again, number-takes, ok-value, point-again, point-takes}
 
 -- three numbers with points between them, at the front of a text
 pub record TakesNumbers (text : List ℕ) (numbers : ℕ × ℕ × ℕ) (rest : List ℕ) : Type 0 where

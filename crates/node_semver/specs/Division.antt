@@ -1,5 +1,5 @@
 -- How a range text is divided: npm's range grammar, in its loose form.
-use Rattle.std.specs.Prelude.{◌≡◌, ◌⊎◌, ℕ, Bool, true, not, List, [], ◌∷◌, ◌++◌, Option, Some, None}
+use Rattle.std.specs.Prelude.{◌≡◌, ◌⊎◌, ℕ, true, not, List, [], ◌∷◌, ◌++◌, Option, None}
 use Rattle.std.specs.List.{filter_map}
 use Rattle.node_semver.specs.Characters.{AreAll, BeginsWith, BeginsWithNo, is_blank}
 use Rattle.node_semver.specs.ComparatorText.{Comparator, IsComparatorText}

@@ -10,7 +10,6 @@ use Rattle.std.specs.declared.num.IntErrorKind.TheVariants.{Empty, InvalidDigit,
 use Rattle.std.proofs.lemmas.Bool.Decides.{Decides-and, Decides-at, Decides-eqb, Decides-like}
 use lib.Pointwise.{pointwise}
 use Rattle.node_semver.specs.declared.error.SemverErrorKind.{SemverErrorKind}
-use Rattle.node_semver.specs.declared.error.SemverErrorKind.TheVariants.{MaxLengthError, IncompleteInput, ParseIntError, MaxIntError, Context, NoValidRanges, Other, OutOfMemory}
 use Rattle.node_semver.specs.declared.error.SemverError.{SemverError}
 use Rattle.node_semver.specs.declared.error.SourceSpan.{SourceSpan}
 use Rattle.node_semver.specs.Error.{Kind, max_length, incomplete, parse_int, max_int, context, no_valid_ranges, other, out_of_memory, kind_of, int_fault_of, IsSameKind, span_offset, span_len, IsSamePlace, Refusal, IsSameError}

@@ -3,7 +3,7 @@ use Rattle.std.specs.Prelude.{◌≡◌, ◌≢◌, ◌⊎◌, ℕ, List, [], �
 use Rattle.std.specs.List.{AllByRecursion}
 use Rattle.semver_cuts.specs.declared.cut.Cut.{Cut}
 use Rattle.semver_cuts.specs.declared.cut.Cut.TheVariants.{Start, Before, After, End}
-use Rattle.semver_cuts.specs.Ends.{Ends, IsInSpan}
+use Rattle.semver_cuts.specs.Ends.{IsInSpan}
 use Rattle.node_semver.specs.ComparatorText.{Comparator}
 use Rattle.node_semver.specs.Division.{IsWritten}
 use Rattle.node_semver.specs.Order.{version_cmp}

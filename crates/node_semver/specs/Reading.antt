@@ -1,7 +1,6 @@
 -- What the private readers compute, on lists of bytes: a value and the bytes behind it, or a fault. The lemmas of
 -- `proofs/` tie it to what the texts mean; no public contract speaks of it.
-use Rattle.std.specs.Prelude.{◌≡◌, ℕ, ◌==◌, ◌^◌, nat_le, nat_lt, if◌then◌else◌, Bool, true, false, List, [], ◌∷◌, length, map, Option, Some, None, Result, Ok, Err, codes}
-use Rattle.std.specs.Borrow.{Bor}
+use Rattle.std.specs.Prelude.{ℕ, ◌==◌, nat_le, if◌then◌else◌, Bool, true, false, List, [], ◌∷◌, length, map, Result, Ok, Err, codes}
 use Rattle.node_semver.specs.declared.TheConstants.{MAX_SAFE_INTEGER}
 use Rattle.node_semver.specs.Characters.{hyphen, is_blank, is_digit, is_identifier_character, plus, point}
 use Rattle.node_semver.specs.Error.{Kind, context}

@@ -3,7 +3,7 @@ use Rattle.std.specs.Prelude.{◌≡◌, ◌-◌, ◌⊎◌, ℕ, List, [], leng
 use Rattle.node_semver.specs.Version.{VersionValue}
 use Rattle.std.specs.Borrow.{Bor}
 use Rattle.node_semver.specs.Characters.{is_digit}
-use Rattle.node_semver.specs.Error.{Kind, context, max_length, other, out_of_memory}
+use Rattle.node_semver.specs.Error.{context, max_length, other, out_of_memory}
 use Rattle.node_semver.specs.Fault.{IsFault}
 use Rattle.node_semver.specs.NumberText.{number_of}
 use Rattle.node_semver.specs.Reading.{Fault, Read, front, too_large}

@@ -1,4 +1,4 @@
-use Rattle.std.proofs.Common.{◌≡◌, arith, length, sym, ◌∙◌, ap, List, ℕ, drop}
+use Rattle.std.proofs.Common.{◌≡◌, arith, length, sym, ◌∙◌, ap, ℕ, drop}
 use Rattle.node_semver.specs.Characters.{is_blank}
 use Rattle.node_semver.proofs.Places.{over-end, over-step, over-stop, to-end}
 use Rattle.node_semver.proofs.reading.blanks.behind_blanks.Goals as goal

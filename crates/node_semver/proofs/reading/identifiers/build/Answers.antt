@@ -1,4 +1,3 @@
-use Rattle.std.proofs.Common.{◌≡◌}
 use Rattle.node_semver.specs.Reading.{build_at}
 use Rattle.node_semver.proofs.IdentifierReading.{list_or-plain}
 use Rattle.node_semver.proofs.reading.identifiers.build.Goals as goal

@@ -1,11 +1,7 @@
-use Rattle.std.proofs.Common.{◌≡◌, ◌<◌, ◌++◌, ◌∷◌, [], ℕ, List, arith, ap, sym, ◌∙◌, length, append_assoc, append-nil, subst, true, false, refl, length-append}
-use Rattle.std.specs.Prelude.{map}
-use Rattle.std.proofs.lemmas.List.{map-append}
-use Rattle.node_semver.specs.Characters.{AreAll, BeginsWith, BeginsWithNo, is_identifier_character, point}
-use Rattle.node_semver.specs.Identifier.{value_of, values_of}
+use Rattle.std.proofs.Common.{◌≡◌, ◌∷◌, [], ℕ, List, arith, ap, sym, ◌∙◌, length, append-nil, subst, length-append}
+use Rattle.node_semver.specs.Characters.{BeginsWithNo, is_identifier_character, point}
 use Rattle.node_semver.specs.IdentifierText.{identifier_of}
-use Rattle.node_semver.specs.IdentifierValue.{IdentifierValue}
-use Rattle.node_semver.specs.Reading.{after, begins, front, goes_on, list_after, list_values}
+use Rattle.node_semver.specs.Reading.{after, front, list_values}
 use Rattle.node_semver.proofs.Fronts.{after-no, begins-with, front-after, front-all}
 use Rattle.node_semver.proofs.ListReading.{list-last, list-more, values-more}
 use Rattle.node_semver.proofs.reading.identifiers.identifiers.Goals as goal

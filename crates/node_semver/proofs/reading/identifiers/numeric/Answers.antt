@@ -1,5 +1,4 @@
-use Rattle.std.proofs.Common.{◌≡◌, ◌+◌, ◌-◌, ◌*◌, ◌<◌, ◌≤◌, ◌^◌, ℕ, List, arith, false, get_or, length, Option, Some, None, rules, sym, ap, take, true, ◌∙◌}
-use Rattle.std.proofs.lemmas.Bool.Decides.{nat_tests}
+use Rattle.std.proofs.Common.{◌≡◌, ◌+◌, ◌≤◌, ◌^◌, arith, get_or, take, true}
 use Rattle.node_semver.specs.Characters.{is_digit}
 use Rattle.node_semver.specs.NumberText.{number_of}
 use Rattle.node_semver.proofs.Digits.{larger, number-none, number-some, number_of-more, within-64}

@@ -1,4 +1,3 @@
-use Rattle.std.proofs.Common.{◌≡◌}
 use Rattle.node_semver.specs.Reading.{prerelease_at}
 use Rattle.node_semver.proofs.IdentifierReading.{list_or-plain}
 use Rattle.node_semver.proofs.reading.identifiers.prerelease.Goals as goal

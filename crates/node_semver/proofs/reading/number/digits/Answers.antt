@@ -1,4 +1,4 @@
-use Rattle.std.proofs.Common.{◌≡◌, ◌+◌, ◌<◌, ◌≤◌, arith, false, get_or, sym, true, ◌∙◌, length, ap, take}
+use Rattle.std.proofs.Common.{arith, sym, ◌∙◌}
 use Rattle.std.proofs.lemmas.List.{take_all}
 use Rattle.node_semver.specs.Characters.{is_digit}
 use Rattle.node_semver.proofs.Places.{over-end, over-step, over-stop}

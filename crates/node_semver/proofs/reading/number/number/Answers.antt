@@ -1,12 +1,8 @@
-use Rattle.std.proofs.Common.{◌≡◌, ◌+◌, ◌-◌, ◌*◌, ◌<◌, ◌≤◌, arith, false, get_or, sym, true, ◌∙◌, length, ap, take, drop, subst, ℕ, List, refl}
-use Rattle.std.proofs.lemmas.List.{drop_all, take_all}
-use Rattle.node_semver.specs.declared.TheConstants.{MAX_SAFE_INTEGER}
+use Rattle.std.proofs.Common.{◌≡◌, ◌+◌, ◌-◌, ◌*◌, arith, get_or, sym, true, ◌∙◌, length, take, refl}
 use Rattle.node_semver.specs.Characters.{is_digit}
 use Rattle.node_semver.specs.NumberText.{number_of}
-use Rattle.node_semver.specs.Reading.{front, number_at}
-use Rattle.node_semver.specs.ReadingViews.{fault_of}
-use Rattle.node_semver.proofs.Digits.{answers, over-begins, front-number-le, none-at, none-empty, number_at-large, number_at-none, number_at-through, number_of-first, number_of-more, refuses}
-use Rattle.node_semver.proofs.Places.{over-end, over-start, over-step, over-stop, to-end}
+use Rattle.node_semver.proofs.Digits.{answers, over-begins, none-at, none-empty, number_at-large, number_at-none, number_at-through, number_of-first, number_of-more, refuses}
+use Rattle.node_semver.proofs.Places.{over-end, over-start, over-step, over-stop}
 use Rattle.node_semver.proofs.reading.number.number.Goals as goal
 
 pub returns-in_default : goal.returns-in_default

@@ -1,4 +1,3 @@
-use Rattle.node_semver.specs.ReadingViews.{IsMemoryOr}
 use Rattle.node_semver.proofs.VersionParse.{large-refused}
 use Rattle.node_semver.proofs.version.parse.refusal.Goals as goal
 

@@ -1,6 +1,7 @@
 -- The longest beginning of a text whose characters all pass, and what stands behind it.
-use Rattle.std.proofs.Common.{◌≡◌, ℕ, Bool, true, false, List, [], ◌∷◌, ◌++◌, refl, ap, inl, inr}
-use Rattle.std.proofs.lemmas.Bool.{and_from, and_parts, cases_Bool}
+use Rattle.std.proofs.Common.{◌≡◌, ℕ, Bool, true, false, List, [], ◌∷◌, ◌++◌, arith, length, refl, ap, inl, inr}
+use Rattle.std.proofs.lemmas.Bool.{and_from, and_parts, cases_Bool, eqb-true}
+use Rattle.std.specs.Prelude.{◌==◌}
 use Rattle.std.specs.List.{list_all}
 use Rattle.node_semver.specs.Characters.{AreAll, BeginsWith, BeginsWithNo}
 use Rattle.node_semver.specs.Reading.{after, begins, front}
@@ -81,12 +82,21 @@ pub no-append : (test : ℕ → Bool) (text rest : List ℕ) → BeginsWithNo te
 no-append test [] rest h g = g
 no-append test (b ∷ text) rest h g = h
 
--- a first character that does not pass
-pub front-none : (test : ℕ → Bool) (b : ℕ) (rest : List ℕ) → test b ≡ false → front test (b ∷ rest) ≡ []
+-- the longest beginning is empty exactly where no character that passes stands first
+pub front-empty : (test : ℕ → Bool) (text : List ℕ) → (length (front test text) == 0) ≡ true → begins test text ≡ false
 unfolding front
-front-none test b rest stops = rw stops refl
+front-empty test [] h = refl
+front-empty test (b ∷ rest) h = elim (cases_Bool (test b)) [
+  | inl passes ↦
+      let none : length (b ∷ front test rest) ≡ 0 = eqb-true _ _ (rw passes at h) in
+      absurd (omega arith)
+  | inr stops ↦ stops
+]
 
--- no character at all
-pub front-nil : (test : ℕ → Bool) → front test [] ≡ []
+pub front-some : (test : ℕ → Bool) (text : List ℕ) → (length (front test text) == 0) ≡ false → begins test text ≡ true
 unfolding front
-front-nil test = refl
+front-some test [] h = cc h
+front-some test (b ∷ rest) h = elim (cases_Bool (test b)) [
+  | inl passes ↦ passes
+  | inr stops ↦ cc (rw stops at h)
+]

@@ -1,6 +1,7 @@
 mod OrderExamples
 mod Prereleases
 mod PrintExamples
+pub mod ByteTable
 pub mod Characters
 pub mod CommonCut
 pub mod ComparatorReading

@@ -1,7 +1,7 @@
 -- A list of identifiers, one identifier after another.
 use Rattle.std.proofs.Common.{◌≡◌, ℕ, true, false, List, [], ◌∷◌, ◌++◌, refl, sym, ap, ◌∙◌, append-nil, append_assoc}
 use Rattle.std.proofs.lemmas.Bool.{and_parts}
-use Rattle.std.specs.Prelude.{map}
+use Rattle.std.specs.Prelude.{◌==◌, length, map}
 use Rattle.std.specs.List.{list_all}
 use Rattle.node_semver.specs.Characters.{AreAll, is_identifier_character, point}
 use Rattle.node_semver.specs.IdentifierText.{identifier_of, parts_of}
@@ -9,8 +9,9 @@ use Rattle.node_semver.specs.Identifier.{value_of, values_of}
 use Rattle.node_semver.specs.IdentifierValue.{IdentifierValue}
 use Rattle.node_semver.specs.declared.identifier.Identifier.{Identifier}
 use Rattle.std.proofs.lemmas.List.{map-append}
+use Rattle.node_semver.specs.ReadingViews.{IsNextIdentifier}
 use Rattle.node_semver.specs.Reading.{after, begins, front, goes_on, list_after, list_front, list_values}
-use Rattle.node_semver.proofs.Fronts.{front-after, front-all}
+use Rattle.node_semver.proofs.Fronts.{front-after, front-all, front-empty, front-some}
 use Rattle.node_semver.proofs.IdentifierReading.{goes_on-point, list-none, list-through, no-point, parts-other, parts-point}
 
 -- the parts of identifier characters, with a point behind them or nothing
@@ -69,3 +70,15 @@ pub values-more : (list : List Identifier) (one : Identifier) (lists : List Iden
     → all ≡ identifier_of text ∷ rest → values_of lists ++ rest ≡ values_of list ++ all
 values-more list one lists rest all text pushed value whole =
     rw (pushed, whole, ← value) (ap (λ (l : List IdentifierValue). l ++ rest) (map-append value_of list (one ∷ [])) ∙ append_assoc (values_of list) (value_of one ∷ []) rest)
+
+-- an identifier behind a point
+pub next-some : (text next part behind : List ℕ) → text ≡ point ∷ next → part ≡ front is_identifier_character next → behind ≡ after is_identifier_character next → (length part == 0) ≡ false
+    → IsNextIdentifier text part behind
+next-some text next part behind whole part_is behind_is some =
+    record { next = next; whole = whole; some = front-some is_identifier_character next (rw part_is at some); part_is = part_is; behind_is = behind_is }
+
+-- none behind a point
+pub next-none : (text next part : List ℕ) → text ≡ point ∷ next → part ≡ front is_identifier_character next → (length part == 0) ≡ true → goes_on text ≡ false
+next-none text next part whole part_is none =
+    let stops : begins is_identifier_character next ≡ false = front-empty is_identifier_character next (rw part_is at none) in
+    rw whole stops

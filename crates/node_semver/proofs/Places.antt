@@ -48,9 +48,6 @@ pub record Over (test : ℕ → Bool) (s : List ℕ) (i : ℕ) : Type 0 where
   pub front : front test s ≡ take i s ++ front test (drop i s)
   pub after : after test s ≡ after test (drop i s)
 
-pub over-start : (test : ℕ → Bool) (s : List ℕ) → Over test s 0
-over-start test s = record { front = refl; after = refl }
-
 pub over-step : (test : ℕ → Bool) (s : List ℕ) (i : ℕ) → i < length s → test (get_or s i 0) ≡ true → Over test s i → Over test s (i + 1)
 over-step test s i h passes over = record {
   front = over.front ∙ ap (λ (l : List ℕ). take i s ++ l) (front-step test s i h passes) ∙ sym (append_assoc (take i s) (get_or s i 0 ∷ []) (front test (drop (i + 1) s)))

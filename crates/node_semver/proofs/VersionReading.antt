@@ -1,14 +1,14 @@
 -- Triples and versions: what is read is such a text, and such a text is read.
 use Rattle.std.proofs.Common.{◌≡◌, ◌<◌, ℕ, Bool, true, false, List, [], ◌∷◌, ◌++◌, arith, get_or, length, Ok, refl, sym, ap, ◌∙◌, inl, inr, subst, append_assoc}
 use Rattle.std.proofs.lemmas.Bool.{and_parts, cases_Bool, eqb-true, or_cases}
-use Rattle.std.specs.Prelude.{Result, ◌==◌, ◌||◌}
+use Rattle.std.specs.Prelude.{◌==◌, ◌||◌}
 use Rattle.std.specs.List.{list_all}
 use Rattle.node_semver.specs.Characters.{AreAll, BeginsWith, BeginsWithNo, is_blank, is_digit, is_identifier_character, plus, point}
 use Rattle.node_semver.specs.Division.{IsCleanEnd}
 use Rattle.node_semver.specs.NumberText.{IsNumberText}
 use Rattle.node_semver.specs.Version.{VersionValue}
 use Rattle.node_semver.specs.VersionText.{IsMark, IsMarkedTriple, IsTripleText}
-use Rattle.node_semver.specs.Reading.{◌>>=◌, Fault, after, after_mark, extras_at, front, marked_at, number_at, numbers_at, point_at, triple_at, version_of}
+use Rattle.node_semver.specs.Reading.{after, after_mark, extras_at, front, marked_at, number_at, numbers_at, point_at, triple_at, version_of}
 use Rattle.node_semver.proofs.Fronts.{after-again, begins-append, front-after, front-all, no-append}
 use Rattle.node_semver.proofs.IdentifierReading.{EndsExtras, extras-again, extras-takes, pick-true}
 use Rattle.node_semver.proofs.NumberReading.{bind-ok, number-again, number-takes, ok-value, point-again, point-takes}
@@ -58,10 +58,6 @@ numbers-takes text numbers rest h =
       third = subst (λ (n : ℕ). IsNumberText t3.digits n) e2 t3.read;
       ends = subst (λ (l : List ℕ). BeginsWithNo is_digit l) e3 t3.ends;
     }
-
--- a chain whose step is known
-pub bind-on : {A B : Type 0} (r : Result A Fault) (x : A) (f : A → Result B Fault) → r ≡ Ok x → (r >>= f) ≡ f x
-bind-on r x f e = rw e refl
 
 pub numbers-again : (major minor patch rest : List ℕ) (a b c : ℕ) → IsNumberText major a → IsNumberText minor b → IsNumberText patch c → BeginsWithNo is_digit rest
     → numbers_at (major ++ (point ∷ (minor ++ (point ∷ (patch ++ rest))))) ≡ Ok ((a, b, c), rest)

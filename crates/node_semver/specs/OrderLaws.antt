@@ -192,12 +192,6 @@ identifier_cmp-means a b = record {
 pub identifier_order : (a b : IdentifierValue) (r : Ordering) → r ≡ identifier_cmp a b → IdentifierOrderMeans a b r
 identifier_order a b r e = subst (IdentifierOrderMeans a b) (sym e) (identifier_cmp-means a b)
 
-pub identifier_same : (a b : IdentifierValue) (r : Bool) → r ≡ eq_by_cmp identifier_cmp a b → IsTrue r ↔ (a ≡ b)
-identifier_same a b r e = (
-  λ t. identifier-IsAntisymmetric a b ((Equal-is (identifier_cmp a b)).0 (sym e ∙ t)),
-  λ p. e ∙ (Equal-is (identifier_cmp a b)).1 ((identifier_cmp-means a b).same.1 p),
-)
-
 -- ---- versions
 
 -- prerelease lists that tie are the same

@@ -107,15 +107,18 @@ extras_at text =
     let b = build_at p.1 in
     ((p.0, b.0), b.1)
 
--- three numbers with points between them
-unfoldable pub numbers_at : List ℕ → Read (ℕ × ℕ × ℕ)
-numbers_at text =
-    number_at text >>= λ major.
+-- two more numbers behind the first, each behind a point
+abbrev pub numbers_behind : ℕ × List ℕ → Read (ℕ × ℕ × ℕ)
+numbers_behind major =
     point_at major.1 >>= λ second.
     number_at second >>= λ minor.
     point_at minor.1 >>= λ third.
     number_at third >>= λ patch.
     Ok ((major.0, minor.0, patch.0), patch.1)
+
+-- three numbers with points between them
+unfoldable pub numbers_at : List ℕ → Read (ℕ × ℕ × ℕ)
+numbers_at text = number_at text >>= λ major. numbers_behind major
 
 -- a version of three numbers and extras
 abbrev pub version_of : ℕ × ℕ × ℕ → List IdentifierValue × List IdentifierValue → VersionValue
@@ -136,6 +139,10 @@ extended_at numbers text =
 -- three numbers and extras
 unfoldable pub triple_at : List ℕ → Read VersionValue
 triple_at text = numbers_at text >>= λ numbers. extended_at numbers.0 numbers.1
+
+-- the same, behind the first number
+abbrev pub triple_behind : ℕ × List ℕ → Read VersionValue
+triple_behind major = numbers_behind major >>= λ numbers. extended_at numbers.0 numbers.1
 
 -- a mark or none, blanks or none, and a triple
 unfoldable pub marked_at : (ℕ → Bool) → List ℕ → Read VersionValue

@@ -1,19 +1,24 @@
 -- What is seen of what the private readers answer.
-use Rattle.std.specs.Prelude.{◌≡◌, ◌-◌, ◌⊎◌, ℕ, List, [], length, Result, Ok, Err, IsOk, codes}
+use Rattle.std.specs.Prelude.{◌≡◌, ◌-◌, ◌<◌, ◌⊎◌, ℕ, Bool, true, List, [], ◌∷◌, length, Result, Ok, Err, IsOk, codes}
 use Rattle.node_semver.specs.Version.{VersionValue}
 use Rattle.std.specs.Borrow.{Bor}
-use Rattle.node_semver.specs.Characters.{is_digit}
-use Rattle.node_semver.specs.Error.{context, max_length, other, out_of_memory}
+use Rattle.node_semver.specs.Characters.{is_digit, is_identifier_character, point}
+use Rattle.node_semver.specs.Error.{IsOutOfMemory, IsRefusalAt, context, max_length, other, out_of_memory}
 use Rattle.node_semver.specs.Fault.{IsFault}
 use Rattle.node_semver.specs.NumberText.{number_of}
-use Rattle.node_semver.specs.Reading.{Fault, Read, front, too_large}
+use Rattle.node_semver.specs.Reading.{Fault, Read, after, begins, front, too_large}
 use Rattle.std.specs.declared.vec.Vec.{Vec}
 use Rattle.std.specs.declared.alloc.Global.{Global}
 use Rattle.node_semver.specs.Identifier.{values_of}
 use Rattle.node_semver.specs.IdentifierValue.{IdentifierValue}
 use Rattle.node_semver.specs.declared.identifier.Identifier.{Identifier}
+use Rattle.node_semver.specs.declared.error.SemverError.{SemverError}
 use Rattle.node_semver.specs.declared.reading.Fault.{Fault as CodeFault}
 use Rattle.node_semver.specs.declared.reading.Fault.TheVariants.{LeftOver, Missing, OutOfMemory, TooLarge, TooLong}
+
+-- what a test of bytes answers is what this one says
+abbrev pub IsTest : (ℕ → Bool → Type 0) → (ℕ → Bool) → Type 0
+IsTest answers test = (b : ℕ) (r : Bool) → b < 256 → answers b r → r ≡ test b
 
 -- a fault without where its text lies in memory
 abbrev pub fault_of : CodeFault → Fault
@@ -31,9 +36,6 @@ IsWantOfMemory f = f ≡ OutOfMemory
 abbrev pub seen : {A : Type 0} → Result (A × Bor (List ℕ)) CodeFault → Read A
 seen (Ok x) = Ok (x.0, x.1.now)
 seen (Err f) = Err (fault_of f)
-
-abbrev pub number_seen : Result (ℕ × Bor (List ℕ)) CodeFault → Read ℕ
-number_seen r = seen r
 
 -- no number or no point stands here
 abbrev pub missing_fault : List ℕ → Fault
@@ -70,6 +72,19 @@ IsPlainOk r (Err f) = Unit {0}
 abbrev pub IsListRead : List IdentifierValue × List ℕ → Vec Identifier Global × Bor (List ℕ) → Type 0
 IsListRead read x = (values_of x.0.items ≡ read.0) × (x.1.now ≡ read.1)
 
+-- a point, an identifier and what stands behind it: `.1+5`
+pub record IsNextIdentifier (text part behind : List ℕ) : Type 0 where
+  pub next : List ℕ
+  pub whole : text ≡ point ∷ next
+  pub some : begins is_identifier_character next ≡ true
+  pub part_is : part ≡ front is_identifier_character next
+  pub behind_is : behind ≡ after is_identifier_character next
+
 -- memory ran out, or the fault is that of the text
 abbrev pub IsMemoryOr : List ℕ → CodeFault → Type 0
 IsMemoryOr text f = IsWantOfMemory f ⊎ IsFault text (fault_of f).kind (length text - (fault_of f).left)
+
+-- the error that tells this fault of the text: want of memory for want of memory
+pub record IsErrorOf (text : List ℕ) (f : CodeFault) (e : SemverError) : Type 0 where
+  pub memory : IsWantOfMemory f → IsOutOfMemory e
+  pub fault : IsOutOfMemory e ⊎ IsRefusalAt text (fault_of f).kind (length text - (fault_of f).left) e

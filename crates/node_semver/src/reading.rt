@@ -7,10 +7,12 @@ use std::alloc::AllocError;
 mod blanks;
 mod identifiers;
 mod number;
+mod scan;
 mod triple;
 
 pub(crate) use blanks::{behind_blanks, is_blank};
 pub(crate) use number::large_kind;
+pub(crate) use scan::behind;
 pub(crate) use triple::{partial, version};
 
 /// What is wrong with a text, and its bytes from there on.

@@ -7,7 +7,7 @@ ghost use Rattle.node_semver.specs.WordReading.{is_clean, is_solid, next_word, o
 
 use crate::Version;
 use crate::comparator::Comparator;
-use crate::reading::{Fault, behind_blanks, is_blank, partial};
+use crate::reading::{Fault, behind, behind_blanks, is_blank, partial};
 use semver_cuts::Cut;
 use std::alloc::{AllocError, Global};
 
@@ -109,15 +109,8 @@ fn ends_word(text: &[u8]) -> bool
 
 // The bytes from the next blank on.
 #[inline]
-#[tactic(auto, unfolding(crate::specs::Reading::after))]
 fn thrown_away(text: &[u8]) -> &[u8]
     ensures { result.now ≡ after is_solid text.now }
 {
-    let mut rest = text;
-    while let Some((byte, behind)) = rest.split_first()
-        && !is_blank(*byte)
-    {
-        rest = behind;
-    }
-    rest
+    behind(text, |byte| !is_blank(byte))
 }

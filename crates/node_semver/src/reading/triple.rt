@@ -1,13 +1,14 @@
 ghost use Rattle.std.specs.Prelude.{◌≡◌, Ok, IfOk, IsOk, []};
 ghost use Rattle.node_semver.specs.ComparatorText.{is_partial_mark};
-ghost use Rattle.node_semver.specs.Reading.{extended_at, extras_at, marked_at, numbers_at, point_at, triple_at};
+ghost use Rattle.node_semver.specs.Characters.{is_blank};
+ghost use Rattle.node_semver.specs.Reading.{after, after_mark, extended_at, extras_at, marked_at, number_at, numbers_behind, point_at, triple_behind};
 ghost use Rattle.node_semver.specs.ReadingViews.{Gives, IsPlainOk, extras_seen, point_seen, seen, version_seen};
 ghost use Rattle.node_semver.specs.VersionText.{is_version_mark};
 
 use crate::reading::Fault;
-use crate::reading::blanks::{behind_blanks, behind_partial_mark, unmarked};
+use crate::reading::blanks::{behind_blanks, behind_partial_mark, behind_version_mark};
 use crate::reading::identifiers::{build, prerelease};
-use crate::reading::number::{missing, number};
+use crate::reading::number::{is_digit, missing, number};
 use crate::{Identifier, Version};
 use std::alloc::{AllocError, Global};
 
@@ -23,28 +24,37 @@ fn point(text: &[u8]) -> Result<&[u8], Fault<'_>>
     }
 }
 
-// `1.2.3` of `1.2.3-alpha`
+// `1` of `V 1.2.3`: the number behind a mark and blanks. Most texts have neither, and begin with a digit.
 #[inline(always)]
-#[tactic(auto, unfolding(crate::specs::Reading::numbers_at))]
-fn numbers(text: &[u8]) -> Result<((u64, u64, u64), &[u8]), Fault<'_>>
-    ensures { seen result ≡ numbers_at text.now }
+fn marked_number(text: &[u8]) -> Result<(u64, &[u8]), Fault<'_>>
+    ensures { seen result ≡ number_at (after is_blank (after_mark is_version_mark text.now)) }
 {
-    let (major, rest) = number(text)?;
-    let rest = point(rest)?;
+    match text {
+        [first, ..] if is_digit(*first) => number(text),
+        _ => number(behind_blanks(behind_version_mark(text))),
+    }
+}
+
+// `1.2.3` of `1.2.3-alpha`, behind the first number
+#[inline(always)]
+fn numbers(major: u64, text: &[u8]) -> Result<((u64, u64, u64), &[u8]), Fault<'_>>
+    ensures { seen result ≡ numbers_behind (major, text.now) }
+{
+    let rest = point(text)?;
     let (minor, rest) = number(rest)?;
     let rest = point(rest)?;
     let (patch, rest) = number(rest)?;
     Ok(((major, minor, patch), rest))
 }
 
-// `1.2.3-alpha+5` of `1.2.3-alpha+5 <2.0.0`
+// `1.2.3-alpha+5` of `1.2.3-alpha+5 <2.0.0`, behind the first number
 #[inline(always)]
-#[tactic(auto, unfolding(crate::specs::Reading::triple_at, crate::specs::Reading::extras_at, crate::specs::Reading::prerelease_at, crate::specs::Reading::build_at, crate::specs::Reading::after_mark, crate::specs::Reading::after_plus))]
-fn triple(alloc: Global, text: &[u8]) -> Result<(Version, &[u8]), Fault<'_>>
-    ensures read { Gives version_seen result (triple_at text.now) }
-    ensures plain { IsPlainOk result (triple_at text.now) }
+#[tactic(auto, unfolding(crate::specs::Reading::extras_at, crate::specs::Reading::prerelease_at, crate::specs::Reading::build_at, crate::specs::Reading::after_mark, crate::specs::Reading::after_plus))]
+fn triple(alloc: Global, major: u64, text: &[u8]) -> Result<(Version, &[u8]), Fault<'_>>
+    ensures read { Gives version_seen result (triple_behind (major, text.now)) }
+    ensures plain { IsPlainOk result (triple_behind (major, text.now)) }
 {
-    let (numbers, rest) = numbers(text)?;
+    let (numbers, rest) = numbers(major, text)?;
     if let [] = rest {
         return Ok((Version::new(alloc, numbers.0, numbers.1, numbers.2), rest));
     }
@@ -75,7 +85,7 @@ fn extended(
 }
 
 // `-alpha+5` of `-alpha+5 <2.0.0`: a prerelease and a build
-#[inline(never)]
+#[inline(always)]
 #[tactic(auto, unfolding(crate::specs::Reading::extras_at, crate::specs::Reading::build_at, crate::specs::Reading::after_plus))]
 fn extras(
     alloc: Global,
@@ -94,19 +104,21 @@ fn extras(
 
 // A version at the front of a text: `V 1.2.3`
 #[inline(always)]
-#[tactic(auto, unfolding(crate::specs::Reading::marked_at))]
+#[tactic(auto, unfolding(crate::specs::Reading::marked_at, crate::specs::Reading::triple_at, crate::specs::Reading::numbers_at))]
 pub(crate) fn version(alloc: Global, text: &[u8]) -> Result<(Version, &[u8]), Fault<'_>>
     ensures read { Gives version_seen result (marked_at is_version_mark text.now) }
     ensures plain { IsPlainOk result (marked_at is_version_mark text.now) }
 {
-    triple(alloc, unmarked(text))
+    let (major, rest) = marked_number(text)?;
+    triple(alloc, major, rest)
 }
 
 // A partial at the front of a text: `v 1.2.3`
 #[inline(always)]
-#[tactic(auto, unfolding(crate::specs::Reading::marked_at))]
+#[tactic(auto, unfolding(crate::specs::Reading::marked_at, crate::specs::Reading::triple_at, crate::specs::Reading::numbers_at))]
 pub(crate) fn partial(alloc: Global, text: &[u8]) -> Result<(Version, &[u8]), Fault<'_>>
     ensures read { Gives version_seen result (marked_at is_partial_mark text.now) }
 {
-    triple(alloc, behind_blanks(behind_partial_mark(text)))
+    let (major, rest) = number(behind_blanks(behind_partial_mark(text)))?;
+    triple(alloc, major, rest)
 }

@@ -1,8 +1,12 @@
 ghost use Rattle.std.specs.Prelude.{◌≡◌, ◌-◌, ◌⊎◌, [], length, IfOk, IfErr, IsOk};
-ghost use Rattle.node_semver.specs.Error.{IsOutOfMemory, IsRefusalAt};
+ghost use Rattle.node_semver.specs.Characters.{is_digit};
+ghost use Rattle.node_semver.specs.Error.{IsOutOfMemory, kind_of};
 ghost use Rattle.node_semver.specs.Fault.{IsFaultOf};
-ghost use Rattle.node_semver.specs.ReadingViews.{IsMemoryOr, IsWantOfMemory, fault_of};
+ghost use Rattle.node_semver.specs.NumberText.{number_of};
+ghost use Rattle.node_semver.specs.Reading.{front, too_large};
+ghost use Rattle.node_semver.specs.ReadingViews.{IsErrorOf, IsMemoryOr};
 ghost use Rattle.node_semver.specs.Version.{VersionValue};
+ghost use Rattle.node_semver.specs.declared.reading.Fault.TheVariants.{TooLarge};
 ghost use Rattle.node_semver.specs.VersionText.{IsReadAs, IsVersionText};
 
 #[cfg(test)]
@@ -80,9 +84,7 @@ fn whole(alloc: Global, text: &[u8]) -> Result<Version, Fault<'_>>
 #[inline(always)]
 fn refused(alloc: Global, text: &str, fault: Fault<'_>) -> SemverError
     requires { IsMemoryOr text.now fault }
-    ensures memory { IsWantOfMemory fault.entry → IsOutOfMemory result }
-    ensures fault { IsOutOfMemory result
-        ⊎ IsRefusalAt text.now (fault_of fault.entry).kind (length text.now - (fault_of fault.entry).left) result }
+    ensures { IsErrorOf text.now fault.entry result }
 {
     refusal(alloc, text, fault)
 }
@@ -92,16 +94,22 @@ fn refused(alloc: Global, text: &str, fault: Fault<'_>) -> SemverError
 #[inline(never)]
 fn refusal(alloc: Global, text: &str, fault: Fault<'_>) -> SemverError
     requires { IsMemoryOr text.now fault }
-    ensures memory { IsWantOfMemory fault.entry → IsOutOfMemory result }
-    ensures fault { IsOutOfMemory result
-        ⊎ IsRefusalAt text.now (fault_of fault.entry).kind (length text.now - (fault_of fault.entry).left) result }
+    ensures { IsErrorOf text.now fault.entry result }
 {
     let (kind, rest) = match fault {
         Fault::TooLong(rest) => (SemverErrorKind::MaxLengthError, rest),
         Fault::Missing(rest) => (SemverErrorKind::Context("version"), rest),
-        Fault::TooLarge(rest) => (reading::large_kind(rest), rest),
+        Fault::TooLarge(rest) => (large_kind(text.as_bytes(), rest), rest),
         Fault::LeftOver(rest) => (SemverErrorKind::Other, rest),
         Fault::OutOfMemory => return SemverError::out_of_memory(alloc),
     };
     SemverError::new(alloc, text, text.len().saturating_sub(rest.len()), kind)
+}
+
+// The kind for a number that is too large. Of the rest only the length is looked at: so no reader has to keep its place.
+fn large_kind(text: &[u8], rest: &[u8]) -> SemverErrorKind
+    requires { IsMemoryOr text.now (TooLarge rest) }
+    ensures { kind_of result ≡ too_large (number_of (front is_digit rest.now)) }
+{
+    reading::large_kind(&text[text.len().saturating_sub(rest.len())..])
 }

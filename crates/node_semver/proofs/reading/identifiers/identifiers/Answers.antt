@@ -2,38 +2,46 @@ use Rattle.std.proofs.Common.{◌≡◌, ◌∷◌, [], ℕ, List, arith, ap, sy
 use Rattle.node_semver.specs.Characters.{BeginsWithNo, is_identifier_character, point}
 use Rattle.node_semver.specs.IdentifierText.{identifier_of}
 use Rattle.node_semver.specs.Reading.{after, front, list_values}
-use Rattle.node_semver.proofs.Fronts.{after-no, begins-with, front-after, front-all}
+use Rattle.node_semver.proofs.Fronts.{after-no, front-after, front-all}
 use Rattle.node_semver.proofs.ListReading.{list-last, list-more, values-more}
 use Rattle.node_semver.proofs.reading.identifiers.identifiers.Goals as goal
 
 pub identifier-requires : goal.identifier-requires
-identifier-requires c = rw c.split_identifier.ensures.identifier (front-all is_identifier_character c.identifiers.rest.now)
+identifier-requires c =
+    let i = c.identifiers.invariant in
+    rw i.1.part (front-all is_identifier_character i.0)
 
 pub identifiers-smaller : goal.identifiers-smaller
 identifiers-smaller c =
-    let whole = ap length (front-after is_identifier_character c.identifiers.rest.now)
-    ∙ sym (ap length (front-after is_identifier_character c.identifiers.rest.now)) in
-    let behind : length (after is_identifier_character c.identifiers.rest.now) ≡ length (point ∷ c.in-Some.next.now) = ap length (sym c.split_identifier.ensures.behind ∙ c.in-Some.ensures.next.0) in
-    let parts = ap length (sym (front-after is_identifier_character c.identifiers.rest.now)) ∙ length-append (front is_identifier_character c.identifiers.rest.now) (after is_identifier_character c.identifiers.rest.now) in
+    let n = c.in-Some.ensures.next in
+    let whole = ap length (front-after is_identifier_character n.next) in
+    let parts = length-append (front is_identifier_character n.next) (after is_identifier_character n.next) in
+    let here : length c.identifiers.rest.now ≡ length (point ∷ n.next) = ap length n.whole in
+    let behind : length c.in-Some.behind.now ≡ length (after is_identifier_character n.next) = ap length n.behind_is in
     omega arith
 
 pub identifiers-preserved : goal.identifiers-preserved
 identifiers-preserved c =
-    let behind = sym c.split_identifier.ensures.behind ∙ c.in-Some.ensures.next.0 in
-    let more = list-more c.identifiers.rest.now c.in-Some.next.now behind c.in-Some.ensures.next.1 in
-    record {
-      read = values-more c.identifiers.list.items c.in_ok-identifier.field-0 c.push.new.self.items (list_values c.in-Some.next.now) (list_values c.identifiers.rest.now)
-          (front is_identifier_character c.identifiers.rest.now) c.in_ok-push.ensures.items (c.in_ok-identifier.ensures ∙ ap (λ (l : List ℕ). identifier_of l) c.split_identifier.ensures.identifier) more.0 ∙ c.identifiers.invariant.read;
-      behind = sym more.1 ∙ c.identifiers.invariant.behind;
-      starts = begins-with is_identifier_character c.in-Some.next.now c.in-Some.ensures.next.1;
-    }
+    let i = c.identifiers.invariant in
+    let n = c.in-Some.ensures.next in
+    let more = list-more i.0 n.next (sym i.1.rest ∙ n.whole) n.some in (
+      n.next,
+      record {
+        part = n.part_is;
+        rest = n.behind_is;
+        read = values-more c.identifiers.list.items c.in_ok-identifier.field-0 c.push.new.self.items (list_values n.next) (list_values i.0)
+            (front is_identifier_character i.0) c.in_ok-push.ensures.items (c.in_ok-identifier.ensures ∙ ap (λ (l : List ℕ). identifier_of l) i.1.part) more.0 ∙ i.1.read;
+        behind = sym more.1 ∙ i.1.behind;
+      },
+    )
 
 pub returns-in-None : goal.returns-in-None
 returns-in-None c =
-    let no = subst (λ (l : List ℕ). BeginsWithNo is_identifier_character l) (sym c.split_identifier.ensures.behind) (after-no is_identifier_character c.identifiers.rest.now) in
-    let stops = rw c.split_identifier.ensures.behind at (c.in-None.ensures.none no) in
-    let last = list-last c.identifiers.rest.now stops in (
-      sym (append-nil _) ∙ values-more c.identifiers.list.items c.in_ok-identifier.field-0 c.push.new.self.items [] (list_values c.identifiers.rest.now)
-          (front is_identifier_character c.identifiers.rest.now) c.in_ok-push.ensures.items (c.in_ok-identifier.ensures ∙ ap (λ (l : List ℕ). identifier_of l) c.split_identifier.ensures.identifier) last.0 ∙ c.identifiers.invariant.read,
-      c.split_identifier.ensures.behind ∙ sym last.1 ∙ c.identifiers.invariant.behind,
+    let i = c.identifiers.invariant in
+    let no = subst (λ (l : List ℕ). BeginsWithNo is_identifier_character l) (sym i.1.rest) (after-no is_identifier_character i.0) in
+    let stops = rw i.1.rest at (c.in-None.ensures.none no) in
+    let last = list-last i.0 stops in (
+      sym (append-nil _) ∙ values-more c.identifiers.list.items c.in_ok-identifier.field-0 c.push.new.self.items [] (list_values i.0)
+          (front is_identifier_character i.0) c.in_ok-push.ensures.items (c.in_ok-identifier.ensures ∙ ap (λ (l : List ℕ). identifier_of l) i.1.part) last.0 ∙ i.1.read,
+      i.1.rest ∙ sym last.1 ∙ i.1.behind,
     )

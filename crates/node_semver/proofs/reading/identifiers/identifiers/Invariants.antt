@@ -1,15 +1,16 @@
-use Rattle.std.proofs.Common.{◌≡◌, ◌++◌, length}
-use Rattle.node_semver.specs.Characters.{BeginsWith, is_identifier_character}
+use Rattle.std.proofs.Common.{◌≡◌, ◌++◌, ℕ, List, length}
+use Rattle.node_semver.specs.Characters.{is_identifier_character}
 use Rattle.node_semver.specs.Identifier.{values_of}
-use Rattle.node_semver.specs.Reading.{list_after, list_values}
+use Rattle.node_semver.specs.Reading.{after, front, list_after, list_values}
 use Rattle.node_semver.proofs.reading.identifiers.identifiers.Given as goal
 
--- the identifiers so far and those of the rest are those of the text
+-- the identifiers so far and those from here on are those of the text
 abbrev pub invariant-identifiers : goal.invariant-identifiers
-invariant-identifiers l = record {
-  read : values_of l.list.items ++ list_values l.rest ≡ list_values l.text;
-  behind : list_after l.rest ≡ list_after l.text;
-  starts : BeginsWith is_identifier_character l.rest;
+invariant-identifiers l = (here : List ℕ) × record {
+  part : l.part ≡ front is_identifier_character here;
+  rest : l.rest ≡ after is_identifier_character here;
+  read : values_of l.list.items ++ list_values here ≡ list_values l.text;
+  behind : list_after here ≡ list_after l.text;
 }
 
 abbrev pub decreases-identifiers : goal.decreases-identifiers

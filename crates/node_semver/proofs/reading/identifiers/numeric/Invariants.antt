@@ -1,13 +1,17 @@
-use Rattle.std.proofs.Common.{◌≡◌, ◌<◌, ◌^◌, take}
+use Rattle.std.proofs.Common.{◌≡◌, ◌<◌, ◌^◌, length}
+use Rattle.std.specs.List.{list_all}
+use Rattle.std.specs.Str.Parse.{digits_value_after}
 use Rattle.node_semver.specs.Characters.{is_digit}
 use Rattle.node_semver.specs.NumberText.{number_of}
-use Rattle.node_semver.proofs.Places.{Over}
 use Rattle.node_semver.proofs.reading.identifiers.numeric.Given as goal
 
--- the digits so far, and what they write
+-- the digits so far and those of the rest write the number of the text
 abbrev pub invariant-digits : goal.invariant-digits
 invariant-digits l = record {
-  over : Over is_digit l.text l.i;
-  value : l.value ≡ number_of (take l.i l.text);
+  all : list_all is_digit l.rest ≡ list_all is_digit l.text;
+  value : digits_value_after 10 l.value l.rest ≡ number_of l.text;
   fits : l.value < 2 ^ 64;
 }
+
+abbrev pub decreases-digits : goal.decreases-digits
+decreases-digits l = length l.rest

@@ -3,7 +3,7 @@ ghost use Rattle.std.specs.Prelude.{◌⊎◌, ◌↔◌, [], ◌∷◌, IfErr, 
 ghost use Rattle.std.specs.List.{AllByRecursion};
 ghost use Rattle.node_semver.specs.Division.{IsWritten};
 ghost use Rattle.node_semver.specs.Error.{IsOutOfMemory, IsRefusalAt, no_valid_ranges};
-ghost use Rattle.node_semver.specs.Meaning.{AnyByRecursion, AreVoid, HasOpenEnd, IsInside, IsRefused, RangeAdmits, TextAdmits};
+ghost use Rattle.node_semver.specs.Meaning.{AnyByRecursion, HasOpenEnd, IsInside, IsRefused, RangeAdmits, TextAdmits};
 ghost use Rattle.node_semver.specs.Version.{VersionValue};
 
 use crate::comparator::{Comparator, are_void};

@@ -1,6 +1,6 @@
-ghost use Rattle.std.specs.Prelude.{◌≡◌, ◌∷◌, ◌==◌, ◌&&◌, ◌^◌, ◌<◌, ◌+◌, ◌-◌, ◌*◌, nat_lt, if◌then◌else◌, Some, None, IfSome, IfNone, IfOk, IsOk, length, IsTrue, [], true, false};
+ghost use Rattle.std.specs.Prelude.{◌≡◌, ◌&&◌, ◌^◌, ◌+◌, ◌-◌, ◌*◌, nat_lt, if◌then◌else◌, Some, None, IfSome, IfNone, IfOk, IsOk, [], false};
 ghost use Rattle.std.specs.List.{list_all};
-ghost use Rattle.node_semver.specs.Characters.{AreAll, BeginsWith, BeginsWithNo, is_digit as is_a_digit, point, is_identifier_character as is_a_character};
+ghost use Rattle.node_semver.specs.Characters.{AreAll, BeginsWithNo, is_digit as is_a_digit, is_identifier_character as is_a_character};
 ghost use Rattle.node_semver.specs.Identifier.{value_of};
 ghost use Rattle.node_semver.specs.IdentifierText.{identifier_of};
 ghost use Rattle.node_semver.specs.NumberText.{number_of};

@@ -1,5 +1,5 @@
-ghost use Rattle.std.specs.Prelude.{◌≡◌, ◌+◌, ◌<◌, ◌≤◌, length, take, drop};
-ghost use Rattle.node_semver.specs.Characters.{AreAll, BeginsWith, BeginsWithNo, is_digit as is_a_digit};
+ghost use Rattle.std.specs.Prelude.{◌≡◌};
+ghost use Rattle.node_semver.specs.Characters.{BeginsWith, is_digit as is_a_digit};
 ghost use Rattle.node_semver.specs.NumberText.{number_of};
 ghost use Rattle.node_semver.specs.Error.{kind_of};
 ghost use Rattle.node_semver.specs.Reading.{front, number_at, too_large as too_large_kind};

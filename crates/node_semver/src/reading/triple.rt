@@ -1,4 +1,4 @@
-ghost use Rattle.std.specs.Prelude.{◌≡◌, Ok, IfOk, IsOk, []};
+ghost use Rattle.std.specs.Prelude.{◌≡◌, IfOk, IsOk, []};
 ghost use Rattle.node_semver.specs.ComparatorText.{is_partial_mark};
 ghost use Rattle.node_semver.specs.Characters.{is_blank};
 ghost use Rattle.node_semver.specs.Reading.{after, after_mark, extended_at, extras_at, marked_at, number_at, numbers_behind, point_at, triple_behind};

@@ -1,4 +1,4 @@
-ghost use Rattle.std.specs.Prelude.{◌≡◌, ◌-◌, ◌⊎◌, [], length, IfOk, IfErr, IsOk};
+ghost use Rattle.std.specs.Prelude.{◌≡◌, ◌⊎◌, [], IfOk, IfErr, IsOk};
 ghost use Rattle.node_semver.specs.Characters.{is_digit};
 ghost use Rattle.node_semver.specs.Error.{IsOutOfMemory, kind_of};
 ghost use Rattle.node_semver.specs.Fault.{IsFaultOf};
@@ -99,7 +99,7 @@ fn refusal(alloc: Global, text: &str, fault: Fault<'_>) -> SemverError
     let (kind, rest) = match fault {
         Fault::TooLong(rest) => (SemverErrorKind::MaxLengthError, rest),
         Fault::Missing(rest) => (SemverErrorKind::Context("version"), rest),
-        Fault::TooLarge(rest) => (large_kind(text.as_bytes(), rest), rest),
+        Fault::TooLarge(rest) => (large_kind_at(text.as_bytes(), rest), rest),
         Fault::LeftOver(rest) => (SemverErrorKind::Other, rest),
         Fault::OutOfMemory => return SemverError::out_of_memory(alloc),
     };
@@ -107,7 +107,7 @@ fn refusal(alloc: Global, text: &str, fault: Fault<'_>) -> SemverError
 }
 
 // The kind for a number that is too large. Of the rest only the length is looked at: so no reader has to keep its place.
-fn large_kind(text: &[u8], rest: &[u8]) -> SemverErrorKind
+fn large_kind_at(text: &[u8], rest: &[u8]) -> SemverErrorKind
     requires { IsMemoryOr text.now (TooLarge rest) }
     ensures { kind_of result ≡ too_large (number_of (front is_digit rest.now)) }
 {

@@ -4,7 +4,7 @@ ghost use Rattle.node_semver.specs.ComparatorText.{is_partial_mark};
 ghost use Rattle.node_semver.specs.Reading.{after, after_mark};
 ghost use Rattle.node_semver.specs.VersionText.{is_version_mark};
 
-use crate::reading::scan::behind;
+use crate::reading::scan::{behind, behind_one};
 
 // A space or a tab.
 #[inline(always)]
@@ -24,24 +24,16 @@ pub(crate) fn behind_blanks(text: &[u8]) -> &[u8]
 
 // The bytes behind a `v` or a `V`, where there is one.
 #[inline(always)]
-#[tactic(auto, unfolding(crate::specs::Reading::after_mark))]
 pub(crate) fn behind_version_mark(text: &[u8]) -> &[u8]
     ensures { result.now ≡ after_mark is_version_mark text.now }
 {
-    match text {
-        [b'v' | b'V', rest @ ..] => rest,
-        _ => text,
-    }
+    behind_one(text, |byte| byte == b'v' || byte == b'V')
 }
 
 // The bytes behind a `v`, where there is one.
 #[inline(always)]
-#[tactic(auto, unfolding(crate::specs::Reading::after_mark))]
 pub(crate) fn behind_partial_mark(text: &[u8]) -> &[u8]
     ensures { result.now ≡ after_mark is_partial_mark text.now }
 {
-    match text {
-        [b'v', rest @ ..] => rest,
-        _ => text,
-    }
+    behind_one(text, |byte| byte == b'v')
 }

@@ -9,7 +9,7 @@ ghost use Rattle.node_semver.specs.Reading.{after, after_mark, after_plus, begin
 
 use crate::Identifier;
 use crate::reading::number::is_digit;
-use crate::reading::scan::split;
+use crate::reading::scan::{behind_one, split};
 use std::alloc::{AllocError, Global};
 use std::str;
 
@@ -160,14 +160,10 @@ fn identifiers_or<'a>(
 
 // The bytes behind a `-`, where there is one.
 #[inline(always)]
-#[tactic(auto, unfolding(crate::specs::Reading::after_mark))]
 fn behind_hyphen(text: &[u8]) -> &[u8]
     ensures { result.now ≡ after_mark is_hyphen text.now }
 {
-    match text {
-        [b'-', rest @ ..] => rest,
-        _ => text,
-    }
+    behind_one(text, |byte| byte == b'-')
 }
 
 // The bytes behind a `+`, and none where there is no `+`.

@@ -1,5 +1,5 @@
 ghost use Rattle.std.specs.Prelude.{◌≡◌, ℕ, Bool};
-ghost use Rattle.node_semver.specs.Reading.{after, front};
+ghost use Rattle.node_semver.specs.Reading.{after, after_mark, front};
 ghost use Rattle.node_semver.specs.ReadingViews.{IsTest};
 
 // The longest beginning whose bytes all pass, and the bytes behind it.
@@ -24,4 +24,17 @@ pub(crate) fn behind<F: Fn(u8) -> bool>(text: &[u8], passes: F) -> &[u8]
     ensures { (test : ℕ → Bool) → IsTest (F.post passes) test → result.now ≡ after test text.now }
 {
     split(text, passes).1
+}
+
+// The bytes behind the first one, where that passes.
+#[inline(always)]
+#[tactic(auto, unfolding(crate::specs::Reading::after_mark))]
+pub(crate) fn behind_one<F: Fn(u8) -> bool>(text: &[u8], passes: F) -> &[u8]
+    requires { F.IsAlwaysCallable passes }
+    ensures { (test : ℕ → Bool) → IsTest (F.post passes) test → result.now ≡ after_mark test text.now }
+{
+    match text {
+        [first, rest @ ..] if passes(*first) => rest,
+        _ => text,
+    }
 }

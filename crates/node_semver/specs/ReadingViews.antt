@@ -16,7 +16,7 @@ use Rattle.node_semver.specs.declared.error.SemverError.{SemverError}
 use Rattle.node_semver.specs.declared.reading.Fault.{Fault as CodeFault}
 use Rattle.node_semver.specs.declared.reading.Fault.TheVariants.{LeftOver, Missing, OutOfMemory, TooLarge, TooLong}
 
--- what a test of bytes answers is what this one says
+-- a function of the code answers of each byte what this test says
 abbrev pub IsTest : (ℕ → Bool → Type 0) → (ℕ → Bool) → Type 0
 IsTest answers test = (b : ℕ) (r : Bool) → b < 256 → answers b r → r ≡ test b
 

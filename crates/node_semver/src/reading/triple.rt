@@ -35,7 +35,7 @@ fn marked_number(text: &[u8]) -> Result<(u64, &[u8]), Fault<'_>>
     }
 }
 
-// `1.2.3` of `1.2.3-alpha`, behind the first number
+// `1.2.3` of 1 and `.2.3-alpha`
 #[inline(always)]
 fn numbers(major: u64, text: &[u8]) -> Result<((u64, u64, u64), &[u8]), Fault<'_>>
     ensures { seen result ≡ numbers_behind (major, text.now) }
@@ -47,7 +47,7 @@ fn numbers(major: u64, text: &[u8]) -> Result<((u64, u64, u64), &[u8]), Fault<'_
     Ok(((major, minor, patch), rest))
 }
 
-// `1.2.3-alpha+5` of `1.2.3-alpha+5 <2.0.0`, behind the first number
+// `1.2.3-alpha+5` of 1 and `.2.3-alpha+5 <2.0.0`
 #[inline(always)]
 #[tactic(auto, unfolding(crate::specs::Reading::extras_at, crate::specs::Reading::prerelease_at, crate::specs::Reading::build_at, crate::specs::Reading::after_mark, crate::specs::Reading::after_plus))]
 fn triple(alloc: Global, major: u64, text: &[u8]) -> Result<(Version, &[u8]), Fault<'_>>

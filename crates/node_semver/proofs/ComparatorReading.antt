@@ -6,7 +6,8 @@ use Rattle.std.specs.Prelude.{◌==◌, Result}
 use Rattle.node_semver.specs.Characters.{AreAll, BeginsWithNo, is_blank, is_digit}
 use Rattle.node_semver.specs.ComparatorText.{Comparator, IsComparatorText, IsPartialText, Operator, Partial, above, at_least, at_most, below, exactly, full, is_partial_mark, operator_comparator, operator_text}
 use Rattle.node_semver.specs.Division.{IsCleanEnd}
-use Rattle.node_semver.specs.Reading.{Fault, Read, after, after_mark, begins, front, marked_at, number_at, numbers_at, triple_at}
+use Rattle.node_semver.specs.Reading.{Read, after, after_mark, begins, front, marked_at, number_at, numbers_at, triple_at}
+use Rattle.node_semver.specs.declared.reading.Fault.{Fault}
 use Rattle.node_semver.specs.Version.{VersionValue}
 use Rattle.node_semver.specs.WordReading.{Word, is_clean, operator_at, with_equals, with_operand, with_operator, word_at}
 use Rattle.node_semver.proofs.Fronts.{front-after, front-all}

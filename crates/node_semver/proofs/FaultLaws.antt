@@ -11,8 +11,11 @@ use Rattle.node_semver.specs.Fault.{IsAllDigits, IsFault, IsFront, IsMarkOf, lar
 use Rattle.node_semver.specs.NumberText.{IsNumberText, number_of}
 use Rattle.node_semver.specs.Version.{VersionValue}
 use Rattle.node_semver.specs.VersionText.{IsMarkedTriple, IsVersionText, is_version_mark}
-use Rattle.node_semver.specs.Reading.{Fault, after, after_mark, begins, extras_at, front, marked_at, number_at, numbers_at, point_at, triple_at, version_of}
-use Rattle.node_semver.proofs.FaultReading.{fault-takes, fault_at, front-length, left-takes, missing_at}
+use Rattle.node_semver.specs.Reading.{after, after_mark, begins, extras_at, front, marked_at, number_at, numbers_at, point_at, triple_at, version_of}
+use Rattle.node_semver.specs.declared.reading.Fault.{Fault}
+use Rattle.node_semver.specs.declared.reading.Fault.TheVariants.{TooLarge}
+use Rattle.node_semver.specs.ReadingViews.{kind_in, left_of}
+use Rattle.node_semver.proofs.FaultReading.{digits-there, fault-takes, front-length, left-takes, missing_at}
 use Rattle.node_semver.proofs.Fronts.{after-again, begins-append, front-again, no-append, with-begins, with_no-begins}
 use Rattle.node_semver.proofs.IdentifierReading.{pick-false, pick-true}
 use Rattle.node_semver.proofs.LongestReading.{marked-longest}
@@ -26,16 +29,16 @@ left_told n [] = None
 left_told n (b ∷ rest) = Some (other, n - length (b ∷ rest))
 
 -- or where this is read
-abbrev told : ℕ → Result (VersionValue × List ℕ) Fault → Option (Kind × ℕ)
-told n (Ok read) = left_told n read.1
-told n (Err f) = Some (f.kind, n - f.left)
+abbrev told : List ℕ → Result (VersionValue × List ℕ) Fault → Option (Kind × ℕ)
+told text (Ok read) = left_told (length text) read.1
+told text (Err f) = Some (kind_in text f, length text - left_of f)
 
 -- the kind and the offset that a text is refused with, by the reader
 abbrev pub fault_of : List ℕ → Option (Kind × ℕ)
-fault_of text = if nat_le (length text) MAX_LENGTH then told (length text) (marked_at is_version_mark text) else Some (max_length, length text - 1)
+fault_of text = if nat_le (length text) MAX_LENGTH then told text (marked_at is_version_mark text) else Some (max_length, length text - 1)
 
 -- of a text that is short
-short-told : (text : List ℕ) → length text ≤ MAX_LENGTH → fault_of text ≡ told (length text) (marked_at is_version_mark text)
+short-told : (text : List ℕ) → length text ≤ MAX_LENGTH → fault_of text ≡ told text (marked_at is_version_mark text)
 short-told text short = pick-true _ _ _ (le-leb _ _ short)
 
 -- no number is read
@@ -43,7 +46,7 @@ no-number : (text : List ℕ) → BeginsWithNo is_digit text → number_at text 
 unfolding number_at
 no-number text h = rw (with_no-begins is_digit text h) refl
 
-too-large : (digits rest : List ℕ) → IsAllDigits digits rest → MAX_SAFE_INTEGER < number_of digits → number_at (digits ++ rest) ≡ Err (fault_at (too_large (number_of digits)) (digits ++ rest))
+too-large : (digits rest : List ℕ) → IsAllDigits digits rest → MAX_SAFE_INTEGER < number_of digits → number_at (digits ++ rest) ≡ Err (TooLarge (length (digits ++ rest)))
 unfolding number_at
 too-large digits rest all large =
     let some : begins is_digit (digits ++ rest) ≡ true = with-begins is_digit (digits ++ rest) (begins-append is_digit digits rest all.some) in
@@ -122,10 +125,10 @@ unfolding marked_at triple_at
 stopped text numbers f e h = rw (e, h) refl
 
 -- so it is told where the rest behind a beginning starts
-stopped-told : (text beginning rest : List ℕ) (kind : Kind) → length text ≤ MAX_LENGTH → text ≡ beginning ++ rest → marked_at is_version_mark text ≡ Err (fault_at kind rest)
-    → fault_of text ≡ Some (kind, length beginning)
-stopped-told text beginning rest kind short whole h =
-    short-told text short ∙ ap (λ (r : Result (VersionValue × List ℕ) Fault). told (length text) r) h ∙ ap (λ (n : ℕ). Some (kind, n)) (sym (front-length text beginning rest whole))
+stopped-told : (text beginning rest : List ℕ) (kind : Kind) (f : Fault) → length text ≤ MAX_LENGTH → text ≡ beginning ++ rest → kind_in text f ≡ kind → left_of f ≡ length rest
+    → marked_at is_version_mark text ≡ Err f → fault_of text ≡ Some (kind, length beginning)
+stopped-told text beginning rest kind f short whole same left h =
+    short-told text short ∙ ap (λ (r : Result (VersionValue × List ℕ) Fault). told text r) h ∙ rw (same, left) (ap (λ (n : ℕ). Some (kind, n)) (sym (front-length text beginning rest whole)))
 
 -- a version with more behind it is read, and something may be left
 pub record ReadsSome (text : List ℕ) : Type 0 where
@@ -171,24 +174,25 @@ pub fault-again : (text : List ℕ) (kind : Kind) (offset : ℕ) → IsFault tex
 fault-again text kind offset (too_long long) = pick-false _ _ _ (lt-leb _ _ long)
 fault-again text kind offset (no_number before rest count short h none) =
     let stops = numbers-stop h.numbers rest (missing_at rest) h.read (omega (arith, h.few, h.counted)) (no-number rest none) in
-    stopped-told text before rest kind short h.whole (stopped text (with_points h.numbers ++ rest) (missing_at rest) (front-taken text before rest count h) stops)
+    stopped-told text before rest kind (missing_at rest) short h.whole refl refl (stopped text (with_points h.numbers ++ rest) (missing_at rest) (front-taken text before rest count h) stops)
 fault-again text kind offset (large_number before digits rest count short h all large) =
-    let e = fault_at (too_large (number_of digits)) (digits ++ rest) in
+    let e = TooLarge (length (digits ++ rest)) in
     let stops = numbers-stop h.numbers (digits ++ rest) e h.read (omega (arith, h.few, h.counted)) (too-large digits rest all large) in
-    stopped-told text before (digits ++ rest) kind short h.whole (stopped text (with_points h.numbers ++ (digits ++ rest)) e (front-taken text before (digits ++ rest) count h) stops)
+    stopped-told text before (digits ++ rest) kind e short h.whole (ap (λ (l : List ℕ). too_large (number_of l)) (digits-there text before digits rest h.whole all)) refl
+    (stopped text (with_points h.numbers ++ (digits ++ rest)) e (front-taken text before (digits ++ rest) count h) stops)
 fault-again text kind offset (no_point before digits rest count short h few all limit none) =
     let stops = points-stop h.numbers digits rest h.read (omega (arith, h.counted)) all limit none in
-    stopped-told text (before ++ digits) rest kind short (h.whole ∙ sym (append_assoc before digits rest))
+    stopped-told text (before ++ digits) rest kind (missing_at rest) short (h.whole ∙ sym (append_assoc before digits rest)) refl refl
     (stopped text (with_points h.numbers ++ (digits ++ rest)) (missing_at rest) (front-taken text before (digits ++ rest) count h) stops)
 fault-again text kind offset (left_over version v b rest short whole none h longest) =
     let s = version-opens version (b ∷ rest) v h.fields none in
     let read : marked_at is_version_mark text ≡ Ok (s.v, s.left) = ap (λ (l : List ℕ). marked_at is_version_mark l) whole ∙ s.read in
-    short-told text short ∙ ap (λ (r : Result (VersionValue × List ℕ) Fault). told (length text) r) read ∙ left-told text version v s.v b rest s.left short whole h longest read
+    short-told text short ∙ ap (λ (r : Result (VersionValue × List ℕ) Fault). told text r) read ∙ left-told text version v s.v b rest s.left short whole h longest read
 
 -- a version text is told no fault
 pub version-none : (text : List ℕ) (v : VersionValue) → IsVersionText text v → fault_of text ≡ None
 version-none text v h =
-    short-told text h.short ∙ ap (λ (r : Result (VersionValue × List ℕ) Fault). told (length text) r) (version-read text v h)
+    short-told text h.short ∙ ap (λ (r : Result (VersionValue × List ℕ) Fault). told text r) (version-read text v h)
 
 -- a text has one fault at most
 pub one_fault : (text : List ℕ) (k l : Kind) (m n : ℕ) → IsFault text k m → IsFault text l n → (k ≡ l) × (m ≡ n)
@@ -206,7 +210,7 @@ abbrev ReadOrFaulty : List ℕ → Type 0
 ReadOrFaulty text = ((v : VersionValue) × IsVersionText text v) ⊎ ((kind : Kind) × (offset : ℕ) × IsFault text kind offset)
 
 result-takes : (text : List ℕ) (r : Result (VersionValue × List ℕ) Fault) → length text ≤ MAX_LENGTH → marked_at is_version_mark text ≡ r → ReadOrFaulty text
-result-takes text (Err f) short h = inr (f.kind, length text - f.left, fault-takes text f short h)
+result-takes text (Err f) short h = inr (kind_in text f, length text - left_of f, fault-takes text f short h)
 result-takes text (Ok (v, [])) short h = inl (v, read-version text v short h)
 result-takes text (Ok (v, b ∷ rest)) short h = inr (other, length text - length (b ∷ rest), left-takes text v b rest short h)
 

@@ -1,7 +1,8 @@
 -- Faults: where the reader gives a fault, the text has that fault.
-use Rattle.std.proofs.Common.{◌≡◌, ◌⊎◌, ◌≤◌, ◌<◌, ℕ, ◌+◌, ◌-◌, List, [], ◌∷◌, ◌++◌, length, Ok, Err, refl, sym, ap, ◌∙◌, inl, inr, arith, subst, append_assoc}
+use Rattle.std.proofs.Common.{◌≡◌, ◌⊎◌, ◌≤◌, ◌<◌, ℕ, ◌+◌, ◌-◌, List, [], ◌∷◌, ◌++◌, drop, length, Ok, Err, refl, sym, ap, ◌∙◌, inl, inr, arith, subst, append_assoc}
 use Rattle.std.proofs.lemmas.Bool.{cases_Bool, leb-false}
 use Rattle.std.proofs.lemmas.List.{length-append}
+use Rattle.std.proofs.Math.Seq.{drop-append_seam}
 use Rattle.std.specs.Prelude.{Result, ◌==◌, codes, nat_le}
 use Rattle.std.specs.List.{AllByRecursion}
 use Rattle.node_semver.specs.declared.TheConstants.{MAX_LENGTH, MAX_SAFE_INTEGER}
@@ -11,8 +12,11 @@ use Rattle.node_semver.specs.Fault.{IsAllDigits, IsFault, IsFront, IsMarkOf, lar
 use Rattle.node_semver.specs.NumberText.{IsNumberText, number_of}
 use Rattle.node_semver.specs.Version.{VersionValue}
 use Rattle.node_semver.specs.VersionText.{IsVersionText, is_version_mark}
-use Rattle.node_semver.specs.Reading.{◌>>=◌, Fault, after, after_mark, begins, front, marked_at, number_at, numbers_at, point_at, triple_at}
-use Rattle.node_semver.proofs.Fronts.{after-no, begins-with, begins-with_no, front-after, front-all, front-begins}
+use Rattle.node_semver.specs.Reading.{◌>>=◌, after, after_mark, begins, front, marked_at, number_at, numbers_at, point_at, triple_at}
+use Rattle.node_semver.specs.declared.reading.Fault.{Fault}
+use Rattle.node_semver.specs.declared.reading.Fault.TheVariants.{Missing, TooLarge}
+use Rattle.node_semver.specs.ReadingViews.{kind_in, left_of}
+use Rattle.node_semver.proofs.Fronts.{after-no, begins-with, begins-with_no, front-after, front-again, front-all, front-begins}
 use Rattle.node_semver.proofs.LongestReading.{marked-longest, marked-no_digit}
 use Rattle.node_semver.proofs.NumberReading.{number-takes, point-takes}
 use Rattle.node_semver.proofs.OneReading.{version-mark}
@@ -31,25 +35,21 @@ refusal e = Err e
 fault-value : {A : Type 0} (e f : Fault) → refusal {A = A} e ≡ refusal f → e ≡ f
 fault-value e f h = cc h
 
--- a fault of this kind where this text begins
-abbrev pub fault_at : Kind → List ℕ → Fault
-fault_at kind text = record { kind = kind; left = length text }
-
 -- a word is missing where this text begins
 abbrev pub missing_at : List ℕ → Fault
-missing_at text = fault_at (context (codes "version")) text
+missing_at text = Missing (length text)
 
 -- a number that is too large begins the text
-pub record TooLarge (text : List ℕ) (f : Fault) : Type 0 where
+pub record TakesLarge (text : List ℕ) (f : Fault) : Type 0 where
   pub digits : List ℕ
   pub rest : List ℕ
   pub whole : text ≡ digits ++ rest
   pub all : IsAllDigits digits rest
   pub large : MAX_SAFE_INTEGER < number_of digits
-  pub told : fault_at (too_large (number_of digits)) text ≡ f
+  pub told : TooLarge (length text) ≡ f
 
 -- no number is read
-number-fails : (text : List ℕ) (f : Fault) → number_at text ≡ Err f → (BeginsWithNo is_digit text × (missing_at text ≡ f)) ⊎ TooLarge text f
+number-fails : (text : List ℕ) (f : Fault) → number_at text ≡ Err f → (BeginsWithNo is_digit text × (missing_at text ≡ f)) ⊎ TakesLarge text f
 unfolding number_at
 number-fails text f h = elim (cases_Bool (begins is_digit text)) [
   | inr none ↦
@@ -58,7 +58,7 @@ number-fails text f h = elim (cases_Bool (begins is_digit text)) [
   | inl some ↦ elim (cases_Bool (nat_le (number_of (front is_digit text)) MAX_SAFE_INTEGER)) [
     | inl fits ↦ cc (rw (some, fits) at h)
     | inr large ↦
-        let told : refusal {A = ℕ × List ℕ} (fault_at (too_large (number_of (front is_digit text))) text) ≡ refusal f = rw (some, large) at h in
+        let told : refusal {A = ℕ × List ℕ} (TooLarge (length text)) ≡ refusal f = rw (some, large) at h in
         inr (record {
           digits = front is_digit text;
           rest = after is_digit text;
@@ -85,22 +85,43 @@ point-fails (b ∷ rest) f h = elim (cases_Bool (b == point)) [
 pub front-length : (text beginning rest : List ℕ) → text ≡ beginning ++ rest → length beginning ≡ length text - length rest
 front-length text beginning rest e = omega (arith, ap length e, length-append beginning rest)
 
--- a fault of this kind where the rest begins
-told-fault : (text beginning rest : List ℕ) (kind : Kind) (f : Fault) → text ≡ beginning ++ rest → fault_at kind rest ≡ f → IsFault text kind (length beginning) → IsFault text f.kind (length text - f.left)
-told-fault text beginning rest kind f whole told h =
-    subst (λ (g : Fault). IsFault text g.kind (length text - g.left)) told (subst (λ (n : ℕ). IsFault text kind n) (front-length text beginning rest whole) h)
+-- the text has this fault
+abbrev Has : List ℕ → Fault → Type 0
+Has text f = IsFault text (kind_in text f) (length text - left_of f)
+
+-- a number or a point is missing where the rest begins
+told-missing : (text beginning rest : List ℕ) (f : Fault) → text ≡ beginning ++ rest → missing_at rest ≡ f → IsFault text (context (codes "version")) (length beginning) → Has text f
+told-missing text beginning rest f whole told h =
+    subst (λ (g : Fault). Has text g) told (subst (λ (n : ℕ). IsFault text (context (codes "version")) n) (front-length text beginning rest whole) h)
+
+-- the digits that stand where so many bytes are left
+pub digits-there : (text beginning digits rest : List ℕ) → text ≡ beginning ++ (digits ++ rest) → IsAllDigits digits rest → front is_digit (drop (length text - length (digits ++ rest)) text) ≡ digits
+digits-there text beginning digits rest whole all =
+    let here : drop (length text - length (digits ++ rest)) text ≡ digits ++ rest =
+    ap (λ (i : ℕ). drop i text) (sym (front-length text beginning (digits ++ rest) whole)) ∙ ap (λ (l : List ℕ). drop (length beginning) l) whole ∙ drop-append_seam beginning (digits ++ rest) in
+    ap (λ (l : List ℕ). front is_digit l) here ∙ front-again is_digit digits rest all.all all.end
+
+-- a number that is too large stands where the rest begins
+told-large : (text beginning digits rest : List ℕ) (f : Fault) → text ≡ beginning ++ (digits ++ rest) → IsAllDigits digits rest → TooLarge (length (digits ++ rest)) ≡ f
+    → IsFault text (too_large (number_of digits)) (length beginning) → Has text f
+told-large text beginning digits rest f whole all told h =
+    let there : too_large (number_of digits) ≡ kind_in text (TooLarge (length (digits ++ rest))) =
+    ap (λ (l : List ℕ). too_large (number_of l)) (sym (digits-there text beginning digits rest whole all)) in
+    subst (λ (g : Fault). Has text g) told
+    (subst (λ (k : Kind). IsFault text k (length text - length (digits ++ rest))) there (subst (λ (n : ℕ). IsFault text (too_large (number_of digits)) n) (front-length text beginning (digits ++ rest) whole) h))
 
 -- where a number is asked for behind a front
-number-fault : (text before rest : List ℕ) (count : ℕ) (f : Fault) → length text ≤ MAX_LENGTH → IsFront text before rest count → number_at rest ≡ Err f → IsFault text f.kind (length text - f.left)
+number-fault : (text before rest : List ℕ) (count : ℕ) (f : Fault) → length text ≤ MAX_LENGTH → IsFront text before rest count → number_at rest ≡ Err f → Has text f
 number-fault text before rest count f short front h = elim (number-fails rest f h) [
-  | inl none ↦ told-fault text before rest (context (codes "version")) f front.whole none.1 (no_number before rest count short front none.0)
-  | inr l ↦ told-fault text before rest (too_large (number_of l.digits)) f front.whole l.told
-      (large_number before l.digits l.rest count short (subst (λ (r : List ℕ). IsFront text before r count) l.whole front) l.all l.large)
+  | inl none ↦ told-missing text before rest f front.whole none.1 (no_number before rest count short front none.0)
+  | inr l ↦
+      let here : IsFront text before (l.digits ++ l.rest) count = subst (λ (r : List ℕ). IsFront text before r count) l.whole front in
+      told-large text before l.digits l.rest f here.whole l.all (ap (λ (r : List ℕ). TooLarge (length r)) (sym l.whole) ∙ l.told) (large_number before l.digits l.rest count short here l.all l.large)
 ]
 
 -- where a point is asked for behind a front and a number
 point-fault : (text before rest : List ℕ) (count : ℕ) (read : ℕ × List ℕ) (f : Fault) → length text ≤ MAX_LENGTH → IsFront text before rest count → count < 2
-    → number_at rest ≡ Ok read → point_at read.1 ≡ Err f → IsFault text f.kind (length text - f.left)
+    → number_at rest ≡ Ok read → point_at read.1 ≡ Err f → Has text f
 point-fault text before rest count read f short front few number h =
     let t = number-takes rest read.0 read.1 number in
     let p = point-fails read.1 f h in
@@ -108,7 +129,7 @@ point-fault text before rest count read f short front few number h =
     let all : IsAllDigits t.digits read.1 = record { some = t.read.some; all = t.read.digits; end = t.ends } in
     let limit : number_of t.digits ≤ MAX_SAFE_INTEGER = subst (λ (n : ℕ). n ≤ MAX_SAFE_INTEGER) t.read.value t.read.limit in
     let whole : text ≡ (before ++ t.digits) ++ read.1 = here.whole ∙ sym (append_assoc before t.digits read.1) in
-    told-fault text (before ++ t.digits) read.1 (context (codes "version")) f whole p.1 (no_point before t.digits read.1 count short here few all limit p.0)
+    told-missing text (before ++ t.digits) read.1 f whole p.1 (no_point before t.digits read.1 count short here few all limit p.0)
 
 -- one more text with a point
 with_points-more : (texts : List (List ℕ)) (text : List ℕ) → with_points (texts ++ (text ∷ [])) ≡ with_points texts ++ (text ++ (point ∷ []))
@@ -191,7 +212,7 @@ front-first text =
       };
     }
 
-numbers-fault : (text before rest : List ℕ) (f : Fault) → length text ≤ MAX_LENGTH → IsFront text before rest 0 → numbers_at rest ≡ Err f → IsFault text f.kind (length text - f.left)
+numbers-fault : (text before rest : List ℕ) (f : Fault) → length text ≤ MAX_LENGTH → IsFront text before rest 0 → numbers_at rest ≡ Err f → Has text f
 unfolding numbers_at
 numbers-fault text before rest f short front h = elim (bind-err (number_at rest) _ f h) [
   | inl e ↦ number-fault text before rest 0 f short front e
@@ -215,7 +236,7 @@ numbers-fault text before rest f short front h = elim (bind-err (number_at rest)
 ]
 
 -- where the reader gives a fault, the text has it
-pub fault-takes : (text : List ℕ) (f : Fault) → length text ≤ MAX_LENGTH → marked_at is_version_mark text ≡ Err f → IsFault text f.kind (length text - f.left)
+pub fault-takes : (text : List ℕ) (f : Fault) → length text ≤ MAX_LENGTH → marked_at is_version_mark text ≡ Err f → IsFault text (kind_in text f) (length text - left_of f)
 unfolding marked_at triple_at
 fault-takes text f short h =
     let first = front-first text in

@@ -5,7 +5,8 @@ use Rattle.std.specs.Prelude.{◌==◌, Result, nat_le}
 use Rattle.node_semver.specs.declared.TheConstants.{MAX_SAFE_INTEGER}
 use Rattle.node_semver.specs.Characters.{BeginsWithNo, is_digit, point}
 use Rattle.node_semver.specs.NumberText.{IsNumberText, number_of}
-use Rattle.node_semver.specs.Reading.{◌>>=◌, Fault, after, begins, front, number_at, point_at}
+use Rattle.node_semver.specs.Reading.{◌>>=◌, after, begins, front, number_at, point_at}
+use Rattle.node_semver.specs.declared.reading.Fault.{Fault}
 use Rattle.node_semver.proofs.Fronts.{after-again, after-no, begins-append, begins-with, front-after, front-again, front-all, front-begins, with-begins}
 
 -- a chain that gave an answer

@@ -1,23 +1,22 @@
 -- What a reader at the front of a text says of the whole text.
-use Rattle.std.proofs.Common.{◌≡◌, ◌-◌, ◌<◌, ◌≤◌, ◌^◌, ◌⊎◌, ℕ, List, [], ◌∷◌, ◌++◌, length, Ok, Err, refl, sym, ap, ◌∙◌, inl, inr, subst, arith, take, drop, length-drop}
+use Rattle.std.proofs.Common.{◌≡◌, ◌-◌, ◌<◌, ◌≤◌, ◌^◌, ◌⊎◌, ℕ, List, [], ◌∷◌, ◌++◌, length, Ok, Err, refl, sym, ap, ◌∙◌, inl, inr, subst, arith, take, drop}
 use Rattle.std.proofs.lemmas.Bool.{cases_Bool}
 use Rattle.std.proofs.Math.Seq.{drop-append_seam}
 use Rattle.std.specs.Prelude.{IsOk, Result, codes, nat_lt}
 use Rattle.node_semver.proofs.IdentifierReading.{pick-false, pick-true}
 use Rattle.node_semver.proofs.Places.{to-end}
-use Rattle.node_semver.proofs.Fronts.{begins-append, front-again}
+use Rattle.node_semver.proofs.Fronts.{begins-append}
 use Rattle.node_semver.specs.declared.TheConstants.{MAX_LENGTH}
 use Rattle.node_semver.specs.Error.{Kind, context, max_int, max_length, other, parse_int}
 use Rattle.node_semver.specs.Characters.{BeginsWith, is_digit}
 use Rattle.node_semver.specs.Fault.{IsFault, large_number, left_over, no_number, no_point, too_large, too_long}
 use Rattle.node_semver.specs.NumberText.{number_of}
 use Rattle.node_semver.specs.Reading.{Read, front, marked_at}
-use Rattle.node_semver.specs.ReadingViews.{IsMemoryOr, IsPlainOk, IsWantOfMemory, fault_of}
-use Rattle.std.specs.Borrow.{Bor}
+use Rattle.node_semver.specs.ReadingViews.{IsMemoryOr, IsPlainOk, IsWantOfMemory, kind_in}
 use Rattle.node_semver.specs.declared.reading.Fault.TheVariants.{TooLarge}
 use Rattle.node_semver.specs.Version.{VersionValue}
 use Rattle.node_semver.specs.VersionText.{IsVersionText, is_version_mark}
-use Rattle.node_semver.specs.declared.reading.Fault.{Fault as CodeFault}
+use Rattle.node_semver.specs.declared.reading.Fault.{Fault}
 use Rattle.node_semver.proofs.FaultReading.{fault-takes, left-takes}
 use Rattle.node_semver.proofs.NumberReading.{ok-value}
 use Rattle.node_semver.proofs.OneReading.{read-version, version-read}
@@ -40,20 +39,15 @@ left-no_version text v w rest read some h =
     omega arith
 
 -- nothing was read
-pub whole-fault : (text : List ℕ) (f : CodeFault) → length text ≤ MAX_LENGTH → IsWantOfMemory f ⊎ (marked_at is_version_mark text ≡ Err (fault_of f)) → IsMemoryOr text f
+pub whole-fault : (text : List ℕ) (f : Fault) → length text ≤ MAX_LENGTH → IsWantOfMemory f ⊎ (marked_at is_version_mark text ≡ Err f) → IsMemoryOr text f
 whole-fault text f short (inl memory) = inl memory
-whole-fault text f short (inr read) = inr (fault-takes text (fault_of f) short read)
+whole-fault text f short (inr read) = inr (fault-takes text f short read)
 
 -- a version text without prerelease and build is read
-pub plain-read : {X : Type 0} (r : Result X CodeFault) (text : List ℕ) (v : VersionValue) → IsPlainOk r (marked_at is_version_mark text) → IsVersionText text v → v.pre_release ≡ [] → v.build ≡ [] → IsOk r
+pub plain-read : {X : Type 0} (r : Result X Fault) (text : List ℕ) (v : VersionValue) → IsPlainOk r (marked_at is_version_mark text) → IsVersionText text v → v.pre_release ≡ [] → v.build ≡ [] → IsOk r
 plain-read r text v plain h = subst (λ (read : Read VersionValue). IsPlainOk r read) (version-read text v h) plain
 
--- a text of more bytes has its fault at the last one
-pub long-fault : (text : List ℕ) → MAX_LENGTH < length text → IsFault text max_length (length text - length (take (length text - (length text - 1)) (drop (length text - 1) text)))
-long-fault text long =
-    let one : length (take (length text - (length text - 1)) (drop (length text - 1) text)) ≡ 1 = ap length (to-end text (length text - 1)) ∙ length-drop (length text - 1) text ∙ omega arith in
-    subst (λ (n : ℕ). IsFault text max_length (length text - n)) (sym one) (too_long long)
-
+-- a kind that is not told of a number
 no-large : (kind : Kind) (n : ℕ) → ((m : ℕ) → kind ≡ max_int m → ⊥) → (kind ≡ parse_int → ⊥) → kind ≡ too_large n → ⊥
 no-large kind n ints parses same = elim (cases_Bool (nat_lt n (2 ^ 64))) [
   | inl fits ↦ ints n (same ∙ pick-true _ _ _ fits)
@@ -61,25 +55,19 @@ no-large kind n ints parses same = elim (cases_Bool (nat_lt n (2 ^ 64))) [
 ]
 
 -- a fault that tells a number which is too large lies where that number begins
-pub record IsAtNumber (kind : Kind) (rest : List ℕ) : Type 0 where
-  pub begins : BeginsWith is_digit rest
-  pub number : kind ≡ too_large (number_of (front is_digit rest))
-
-large-here : (text : List ℕ) (kind : Kind) (offset n : ℕ) → IsFault text kind offset → kind ≡ too_large n → IsAtNumber kind (drop offset text)
+large-here : (text : List ℕ) (kind : Kind) (offset n : ℕ) → IsFault text kind offset → kind ≡ too_large n → BeginsWith is_digit (drop offset text)
 large-here text _ _ n (too_long long) same = absurd (no-large max_length n (λ m e. cc e) (λ e. cc e) same)
 large-here text _ _ n (no_number beginning rest count short before none) same = absurd (no-large (context (codes "version")) n (λ m e. cc e) (λ e. cc e) same)
 large-here text _ _ n (large_number beginning digits rest count short before all large) same =
     let here : drop (length beginning) text ≡ digits ++ rest = ap (λ (l : List ℕ). drop (length beginning) l) before.whole ∙ drop-append_seam beginning (digits ++ rest) in
-    let whole : front is_digit (drop (length beginning) text) ≡ digits = ap (λ (l : List ℕ). front is_digit l) here ∙ front-again is_digit digits rest all.all all.end in
-    record {
-      begins = subst (λ (l : List ℕ). BeginsWith is_digit l) (sym here) (begins-append is_digit digits rest all.some);
-      number = ap (λ (l : List ℕ). too_large (number_of l)) (sym whole);
-    }
+    subst (λ (l : List ℕ). BeginsWith is_digit l) (sym here) (begins-append is_digit digits rest all.some)
 large-here text _ _ n (no_point beginning digits rest count short before few all small none) same = absurd (no-large (context (codes "version")) n (λ m e. cc e) (λ e. cc e) same)
 large-here text _ _ n (left_over beginning v b rest short whole digit read longest) same = absurd (no-large other n (λ m e. cc e) (λ e. cc e) same)
 
-pub large-refused : (text : List ℕ) (rest : Bor (List ℕ)) (place : ℕ) → place ≡ length text - length rest.now → IsMemoryOr text (TooLarge rest)
-    → IsAtNumber (too_large (number_of (front is_digit rest.now))) (take (length text - place) (drop place text))
-large-refused text rest place here (inl memory) = absurd (cc memory)
-large-refused text rest place here (inr fault) =
-    rw (to-end text place, here) (large-here text _ _ (number_of (front is_digit rest.now)) fault refl)
+pub large-refused : (text : List ℕ) (left place : ℕ) → place ≡ length text - left → IsMemoryOr text (TooLarge left) → BeginsWith is_digit (take (length text - place) (drop place text))
+large-refused text left place here (inl memory) = absurd (cc memory)
+large-refused text left place here (inr fault) = rw (to-end text place, here) (large-here text _ _ _ fault refl)
+
+-- the number that stands at a place
+pub number-there : (text : List ℕ) (left place : ℕ) → place ≡ length text - left → too_large (number_of (front is_digit (take (length text - place) (drop place text)))) ≡ kind_in text (TooLarge left)
+number-there text left place here = rw (to-end text place, here) refl

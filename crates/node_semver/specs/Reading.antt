@@ -1,19 +1,14 @@
 -- What the private readers compute, on lists of bytes: a value and the bytes behind it, or a fault. The lemmas of
 -- `proofs/` tie it to what the texts mean; no public contract speaks of it.
-use Rattle.std.specs.Prelude.{ℕ, ◌==◌, nat_le, if◌then◌else◌, Bool, true, false, List, [], ◌∷◌, length, map, Result, Ok, Err, codes}
+use Rattle.std.specs.Prelude.{ℕ, ◌==◌, nat_le, if◌then◌else◌, Bool, true, false, List, [], ◌∷◌, length, map, Result, Ok, Err}
 use Rattle.node_semver.specs.declared.TheConstants.{MAX_SAFE_INTEGER}
+use Rattle.node_semver.specs.declared.reading.Fault.{Fault}
+use Rattle.node_semver.specs.declared.reading.Fault.TheVariants.{Missing, TooLarge}
 use Rattle.node_semver.specs.Characters.{hyphen, is_blank, is_digit, is_identifier_character, plus, point}
-use Rattle.node_semver.specs.Error.{Kind, context}
-pub use Rattle.node_semver.specs.Fault.{too_large}
 use Rattle.node_semver.specs.IdentifierText.{identifier_of, parts_of}
 use Rattle.node_semver.specs.IdentifierValue.{IdentifierValue}
 use Rattle.node_semver.specs.NumberText.{number_of}
 use Rattle.node_semver.specs.Version.{VersionValue}
-
--- what is wrong, and how many bytes of the text stand from there on
-pub record Fault : Type 0 where
-  pub kind : Kind
-  pub left : ℕ
 
 -- a value and the bytes behind it
 abbrev pub Read : Type 0 → Type 0
@@ -41,14 +36,14 @@ begins test (b ∷ rest) = test b
 
 -- a word is missing here
 abbrev pub missing : {A : Type 0} → List ℕ → Result A Fault
-missing text = Err (record { kind = context (codes "version"); left = length text })
+missing text = Err (Missing (length text))
 
 -- all the digits that stand together, at most MAX_SAFE_INTEGER
 unfoldable pub number_at : List ℕ → Read ℕ
 number_at text =
     if begins is_digit text then
     if nat_le (number_of (front is_digit text)) MAX_SAFE_INTEGER then Ok (number_of (front is_digit text), after is_digit text)
-    else Err (record { kind = too_large (number_of (front is_digit text)); left = length text })
+    else Err (TooLarge (length text))
     else missing text
 
 -- the bytes behind a point

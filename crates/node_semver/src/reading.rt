@@ -15,25 +15,25 @@ pub(crate) use number::large_kind;
 pub(crate) use scan::behind;
 pub(crate) use triple::{partial, version};
 
-/// What is wrong with a text, and its bytes from there on.
+/// What is wrong with a text, and how many of its bytes stand from there on: so no reader has to keep its place.
 #[derive(Clone, Copy, Debug)]
-pub(crate) enum Fault<'a> {
+pub(crate) enum Fault {
     /// It has too many bytes.
-    TooLong(&'a [u8]),
+    TooLong(usize),
     /// A number or a point is missing.
-    Missing(&'a [u8]),
+    Missing(usize),
     /// A number is too large.
-    TooLarge(&'a [u8]),
+    TooLarge(usize),
     /// Bytes are left.
-    LeftOver(&'a [u8]),
+    LeftOver(usize),
     /// Nothing is wrong: memory was refused.
     OutOfMemory,
 }
 
-impl<'a> From<AllocError> for Fault<'a> {
+impl From<AllocError> for Fault {
     ghost from_gives = { λ _ f. f ≡ OutOfMemory };
 
-    fn from(_error: AllocError) -> Fault<'a> {
+    fn from(_error: AllocError) -> Fault {
         Fault::OutOfMemory
     }
 }

@@ -1,9 +1,11 @@
-ghost use Rattle.std.specs.Prelude.{◌≡◌};
+ghost use Rattle.std.specs.Prelude.{◌≡◌, length};
 ghost use Rattle.node_semver.specs.Characters.{BeginsWith, is_digit as is_a_digit};
 ghost use Rattle.node_semver.specs.NumberText.{number_of};
 ghost use Rattle.node_semver.specs.Error.{kind_of};
-ghost use Rattle.node_semver.specs.Reading.{front, number_at, too_large as too_large_kind};
-ghost use Rattle.node_semver.specs.ReadingViews.{fault_of, large_fault, missing_fault, seen};
+ghost use Rattle.node_semver.specs.Fault.{too_large as too_large_kind};
+ghost use Rattle.node_semver.specs.Reading.{front, number_at};
+ghost use Rattle.node_semver.specs.ReadingViews.{seen};
+ghost use Rattle.node_semver.specs.declared.reading.Fault.TheVariants.{Missing, TooLarge};
 
 use crate::reading::Fault;
 use crate::reading::scan::split;
@@ -21,7 +23,7 @@ pub(crate) fn is_digit(byte: u8) -> bool
 // `12` of `12.3`: all the digits that stand together
 #[inline(always)]
 #[tactic(auto, unfolding(crate::specs::Reading::front, crate::specs::Reading::after, crate::specs::Reading::number_at))]
-pub(crate) fn number(text: &[u8]) -> Result<(u64, &[u8]), Fault<'_>>
+pub(crate) fn number(text: &[u8]) -> Result<(u64, &[u8]), Fault>
     ensures { seen result ≡ number_at text.now }
 {
     let Some((first, behind)) = text.split_first() else {
@@ -46,18 +48,18 @@ pub(crate) fn number(text: &[u8]) -> Result<(u64, &[u8]), Fault<'_>>
 
 // A number or a point must stand here.
 #[inline(always)]
-pub(crate) fn missing(text: &[u8]) -> Fault<'_>
-    ensures { fault_of result ≡ missing_fault text.now }
+pub(crate) fn missing(text: &[u8]) -> Fault
+    ensures { result ≡ Missing (length text.now) }
 {
-    Fault::Missing(text)
+    Fault::Missing(text.len())
 }
 
 // The digits at the front write a number that is too large.
 #[inline(always)]
-fn too_large(text: &[u8]) -> Fault<'_>
-    ensures { fault_of result ≡ large_fault text.now }
+fn too_large(text: &[u8]) -> Fault
+    ensures { result ≡ TooLarge (length text.now) }
 {
-    Fault::TooLarge(text)
+    Fault::TooLarge(text.len())
 }
 
 // Why such a number is refused: `900719925474100`, `18446744073709551616`

@@ -15,7 +15,7 @@ use std::alloc::{AllocError, Global};
 // The bytes behind a point.
 #[inline(always)]
 #[tactic(auto, unfolding(crate::specs::Reading::point_at))]
-fn point(text: &[u8]) -> Result<&[u8], Fault<'_>>
+fn point(text: &[u8]) -> Result<&[u8], Fault>
     ensures { point_seen result ≡ point_at text.now }
 {
     match text {
@@ -26,7 +26,7 @@ fn point(text: &[u8]) -> Result<&[u8], Fault<'_>>
 
 // `1` of `V 1.2.3`: the number behind a mark and blanks. Most texts have neither, and begin with a digit.
 #[inline(always)]
-fn marked_number(text: &[u8]) -> Result<(u64, &[u8]), Fault<'_>>
+fn marked_number(text: &[u8]) -> Result<(u64, &[u8]), Fault>
     ensures { seen result ≡ number_at (after is_blank (after_mark is_version_mark text.now)) }
 {
     match text {
@@ -37,7 +37,7 @@ fn marked_number(text: &[u8]) -> Result<(u64, &[u8]), Fault<'_>>
 
 // `1.2.3` of 1 and `.2.3-alpha`
 #[inline(always)]
-fn numbers(major: u64, text: &[u8]) -> Result<((u64, u64, u64), &[u8]), Fault<'_>>
+fn numbers(major: u64, text: &[u8]) -> Result<((u64, u64, u64), &[u8]), Fault>
     ensures { seen result ≡ numbers_behind (major, text.now) }
 {
     let rest = point(text)?;
@@ -50,7 +50,7 @@ fn numbers(major: u64, text: &[u8]) -> Result<((u64, u64, u64), &[u8]), Fault<'_
 // `1.2.3-alpha+5` of 1 and `.2.3-alpha+5 <2.0.0`
 #[inline(always)]
 #[tactic(auto, unfolding(crate::specs::Reading::extras_at, crate::specs::Reading::prerelease_at, crate::specs::Reading::build_at, crate::specs::Reading::after_mark, crate::specs::Reading::after_plus))]
-fn triple(alloc: Global, major: u64, text: &[u8]) -> Result<(Version, &[u8]), Fault<'_>>
+fn triple(alloc: Global, major: u64, text: &[u8]) -> Result<(Version, &[u8]), Fault>
     ensures read { Gives version_seen result (triple_behind (major, text.now)) }
     ensures plain { IsPlainOk result (triple_behind (major, text.now)) }
 {
@@ -64,11 +64,7 @@ fn triple(alloc: Global, major: u64, text: &[u8]) -> Result<(Version, &[u8]), Fa
 // A triple, and the prerelease and the build that stand behind it.
 #[inline(always)]
 #[tactic(auto, unfolding(crate::specs::Reading::extras_at))]
-fn extended(
-    alloc: Global,
-    triple: (u64, u64, u64),
-    text: &[u8],
-) -> Result<(Version, &[u8]), Fault<'_>>
+fn extended(alloc: Global, triple: (u64, u64, u64), text: &[u8]) -> Result<(Version, &[u8]), Fault>
     ensures read { Gives version_seen result (extended_at triple text.now) }
     ensures plain { IsPlainOk result (extended_at triple text.now) }
 {
@@ -105,7 +101,7 @@ fn extras(
 // A version at the front of a text: `V 1.2.3`
 #[inline(always)]
 #[tactic(auto, unfolding(crate::specs::Reading::marked_at, crate::specs::Reading::triple_at, crate::specs::Reading::numbers_at))]
-pub(crate) fn version(alloc: Global, text: &[u8]) -> Result<(Version, &[u8]), Fault<'_>>
+pub(crate) fn version(alloc: Global, text: &[u8]) -> Result<(Version, &[u8]), Fault>
     ensures read { Gives version_seen result (marked_at is_version_mark text.now) }
     ensures plain { IsPlainOk result (marked_at is_version_mark text.now) }
 {
@@ -116,7 +112,7 @@ pub(crate) fn version(alloc: Global, text: &[u8]) -> Result<(Version, &[u8]), Fa
 // A partial at the front of a text: `v 1.2.3`
 #[inline(always)]
 #[tactic(auto, unfolding(crate::specs::Reading::marked_at, crate::specs::Reading::triple_at, crate::specs::Reading::numbers_at))]
-pub(crate) fn partial(alloc: Global, text: &[u8]) -> Result<(Version, &[u8]), Fault<'_>>
+pub(crate) fn partial(alloc: Global, text: &[u8]) -> Result<(Version, &[u8]), Fault>
     ensures read { Gives version_seen result (marked_at is_partial_mark text.now) }
 {
     let (major, rest) = number(behind_blanks(behind_partial_mark(text)))?;

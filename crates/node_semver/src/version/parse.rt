@@ -1,10 +1,7 @@
 ghost use Rattle.std.specs.Prelude.{◌≡◌, ◌⊎◌, [], IfOk, IfErr, IsOk};
-ghost use Rattle.node_semver.specs.Characters.{is_digit};
 ghost use Rattle.node_semver.specs.Error.{IsOutOfMemory, kind_of};
 ghost use Rattle.node_semver.specs.Fault.{IsFaultOf};
-ghost use Rattle.node_semver.specs.NumberText.{number_of};
-ghost use Rattle.node_semver.specs.Reading.{front, too_large};
-ghost use Rattle.node_semver.specs.ReadingViews.{IsErrorOf, IsMemoryOr};
+ghost use Rattle.node_semver.specs.ReadingViews.{IsErrorOf, IsMemoryOr, kind_in};
 ghost use Rattle.node_semver.specs.Version.{VersionValue};
 ghost use Rattle.node_semver.specs.declared.reading.Fault.TheVariants.{TooLarge};
 ghost use Rattle.node_semver.specs.VersionText.{IsReadAs, IsVersionText};
@@ -64,27 +61,28 @@ impl Version {
 
 // The version that a whole text is.
 #[inline(always)]
-fn whole(alloc: Global, text: &[u8]) -> Result<Version, Fault<'_>>
+fn whole(alloc: Global, text: &[u8]) -> Result<Version, Fault>
     ensures found { IfOk result (λ v. IsVersionText text.now v) }
     ensures fault { IfErr result (IsMemoryOr text.now) }
     ensures plain { (v : VersionValue) → IsVersionText text.now v → v.pre_release ≡ []
         → v.build ≡ [] → IsOk result }
 {
     if text.len() > MAX_LENGTH {
-        return Err(Fault::TooLong(&text[text.len() - 1..]));
+        // Told at the last byte.
+        return Err(Fault::TooLong(1));
     }
     match reading::version(alloc, text) {
         Ok((version, [])) => Ok(version),
-        Ok((_, rest)) => Err(Fault::LeftOver(rest)),
+        Ok((_, rest)) => Err(Fault::LeftOver(rest.len())),
         Err(fault) => Err(fault),
     }
 }
 
 // The same as `refusal`. Where nothing is wrong, `parse` then pays nothing for the places of the fault and the error.
 #[inline(always)]
-fn refused(alloc: Global, text: &str, fault: Fault<'_>) -> SemverError
+fn refused(alloc: Global, text: &str, fault: Fault) -> SemverError
     requires { IsMemoryOr text.now fault }
-    ensures { IsErrorOf text.now fault.entry result }
+    ensures { IsErrorOf text.now fault result }
 {
     refusal(alloc, text, fault)
 }
@@ -92,24 +90,24 @@ fn refused(alloc: Global, text: &str, fault: Fault<'_>) -> SemverError
 // The error that tells a fault of this text.
 #[cold]
 #[inline(never)]
-fn refusal(alloc: Global, text: &str, fault: Fault<'_>) -> SemverError
+fn refusal(alloc: Global, text: &str, fault: Fault) -> SemverError
     requires { IsMemoryOr text.now fault }
-    ensures { IsErrorOf text.now fault.entry result }
+    ensures { IsErrorOf text.now fault result }
 {
-    let (kind, rest) = match fault {
-        Fault::TooLong(rest) => (SemverErrorKind::MaxLengthError, rest),
-        Fault::Missing(rest) => (SemverErrorKind::Context("version"), rest),
-        Fault::TooLarge(rest) => (large_kind_at(text.as_bytes(), rest), rest),
-        Fault::LeftOver(rest) => (SemverErrorKind::Other, rest),
+    let (kind, left) = match fault {
+        Fault::TooLong(left) => (SemverErrorKind::MaxLengthError, left),
+        Fault::Missing(left) => (SemverErrorKind::Context("version"), left),
+        Fault::TooLarge(left) => (large_kind_at(text.as_bytes(), left), left),
+        Fault::LeftOver(left) => (SemverErrorKind::Other, left),
         Fault::OutOfMemory => return SemverError::out_of_memory(alloc),
     };
-    SemverError::new(alloc, text, text.len().saturating_sub(rest.len()), kind)
+    SemverError::new(alloc, text, text.len().saturating_sub(left), kind)
 }
 
-// The kind for a number that is too large. Of the rest only the length is looked at: so no reader has to keep its place.
-fn large_kind_at(text: &[u8], rest: &[u8]) -> SemverErrorKind
-    requires { IsMemoryOr text.now (TooLarge rest) }
-    ensures { kind_of result ≡ too_large (number_of (front is_digit rest.now)) }
+// The kind for the number that is too large where so many bytes are left.
+fn large_kind_at(text: &[u8], left: usize) -> SemverErrorKind
+    requires { IsMemoryOr text.now (TooLarge left) }
+    ensures { kind_of result ≡ kind_in text.now (TooLarge left) }
 {
-    reading::large_kind(&text[text.len().saturating_sub(rest.len())..])
+    reading::large_kind(&text[text.len().saturating_sub(left)..])
 }

@@ -1,9 +1,10 @@
 use Rattle.std.proofs.Common.{arith, inr}
-use Rattle.node_semver.proofs.VersionParse.{left-no_version, long-fault, plain-read, whole-fault, whole-found, whole-left}
+use Rattle.node_semver.proofs.VersionParse.{left-no_version, plain-read, whole-fault, whole-found, whole-left}
+use Rattle.node_semver.specs.Fault.{too_long}
 use Rattle.node_semver.proofs.version.parse.whole.Goals as goal
 
 pub returns-then-text-gt-MAX_LENGTH-clause-fault : goal.returns-then-text-gt-MAX_LENGTH-clause-fault
-returns-then-text-gt-MAX_LENGTH-clause-fault c = inr (long-fault c.args.text.now c.if-text-gt-MAX_LENGTH.true)
+returns-then-text-gt-MAX_LENGTH-clause-fault c = inr (too_long c.if-text-gt-MAX_LENGTH.true)
 
 pub returns-in-Ok-default-empty-clause-found : goal.returns-in-Ok-default-empty-clause-found
 returns-in-Ok-default-empty-clause-found c =
@@ -17,8 +18,8 @@ pub returns-in-Ok-clause-plain : goal.returns-in-Ok-clause-plain
 returns-in-Ok-clause-plain c =
     λ v h pre build. absurd (left-no_version c.args.text.now c.in-Ok.field-0-0 v c.in-Ok.rest.now c.in-Ok.ensures.read (omega arith) h)
 
-pub returns-clause-fault : goal.returns-clause-fault
-returns-clause-fault c = whole-fault c.args.text.now c.in-Err.fault c.if-text-gt-MAX_LENGTH.false c.in-Err.ensures.read
+pub returns-in-Err-clause-fault : goal.returns-in-Err-clause-fault
+returns-in-Err-clause-fault c = whole-fault c.args.text.now c.in-Err.fault c.if-text-gt-MAX_LENGTH.false c.in-Err.ensures.read
 
-pub returns-clause-plain : goal.returns-clause-plain
-returns-clause-plain c = λ v h p b. rw c.in-Err.is at (plain-read c.version.result c.args.text.now v c.version.ensures.plain h p b)
+pub returns-in-Err-clause-plain : goal.returns-in-Err-clause-plain
+returns-in-Err-clause-plain c = λ v h p b. rw c.in-Err.is at (plain-read c.version.result c.args.text.now v c.version.ensures.plain h p b)

@@ -12,12 +12,12 @@ use Rattle.std.specs.declared.num.ParseIntError.{ParseIntError}
 use Rattle.node_semver.specs.declared.TheConstants.{MAX_SAFE_INTEGER}
 use Rattle.node_semver.specs.Characters.{AreAll, BeginsWith, is_digit}
 use Rattle.node_semver.specs.NumberText.{number_of}
-use Rattle.node_semver.specs.Reading.{Read, begins, front, number_at}
-use Rattle.node_semver.specs.declared.reading.Fault.{Fault}
+use Rattle.node_semver.specs.Reading.{begins, front, number_at}
 use Rattle.node_semver.specs.Fault.{too_large}
 use Rattle.node_semver.specs.declared.reading.Fault.TheVariants.{TooLarge}
 use Rattle.node_semver.specs.Error.{max_int, parse_int}
 use Rattle.node_semver.proofs.Fronts.{with-begins}
+use Rattle.node_semver.proofs.NumberReading.{refusal}
 use Rattle.node_semver.proofs.IdentifierReading.{pick-false, pick-true}
 
 -- the value of a digit
@@ -36,13 +36,9 @@ one-digit : (n b : ℕ) (ds : List ℕ) → is_digit b ≡ true → n * 10 + (b 
 one-digit n b ds digit =
     subst (λ (d : ℕ). n * 10 + d ≤ digits_value_after 10 n (b ∷ ds)) (digit-value b digit) (more-digits (n * 10 + digit_value b) ds)
 
--- a fault in place of a number
-abbrev pub refusal : Fault → Read ℕ
-refusal f = Err f
-
 -- one digit more makes the number at the front too large
 pub number_at-large : (s : List ℕ) (n b : ℕ) (ds : List ℕ) → BeginsWith is_digit s → is_digit b ≡ true → MAX_SAFE_INTEGER < n * 10 + (b - 48)
-    → digits_value_after 10 n (front is_digit (b ∷ ds)) ≡ number_of (front is_digit s) → refusal (TooLarge (length s)) ≡ number_at s
+    → digits_value_after 10 n (front is_digit (b ∷ ds)) ≡ number_of (front is_digit s) → refusal {A = ℕ × List ℕ} (TooLarge (length s)) ≡ number_at s
 unfolding number_at front
 number_at-large s n b ds some digit above value =
     let begins_so : begins is_digit s ≡ true = with-begins is_digit s some in

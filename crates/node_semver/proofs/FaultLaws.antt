@@ -3,19 +3,18 @@ use Rattle.std.proofs.Common.{◌≡◌, ◌⊎◌, ◌≤◌, ◌<◌, ℕ, ◌
 use Rattle.std.proofs.lemmas.Bool.{cases_Bool, le-leb, leb-false, leb-true, lt-leb}
 use Rattle.std.proofs.lemmas.List.{length-append}
 use Rattle.std.specs.Prelude.{Option, Some, None, Result, ◌==◌, if◌then◌else◌, nat_le}
-use Rattle.std.specs.List.{AllByRecursion}
 use Rattle.node_semver.specs.declared.TheConstants.{MAX_LENGTH, MAX_SAFE_INTEGER}
 use Rattle.node_semver.specs.Characters.{BeginsWithNo, is_blank, is_digit, point}
 use Rattle.node_semver.specs.Error.{Kind, max_length, other}
 use Rattle.node_semver.specs.Fault.{IsAllDigits, IsFault, IsFront, IsMarkOf, large_number, left_over, no_number, no_point, too_large, too_long, with_points}
-use Rattle.node_semver.specs.NumberText.{IsNumberText, number_of}
+use Rattle.node_semver.specs.NumberText.{number_of}
 use Rattle.node_semver.specs.Version.{VersionValue}
 use Rattle.node_semver.specs.VersionText.{IsMarkedTriple, IsVersionText, is_version_mark}
 use Rattle.node_semver.specs.Reading.{after, after_mark, begins, extras_at, front, marked_at, number_at, numbers_at, point_at, triple_at, version_of}
 use Rattle.node_semver.specs.declared.reading.Fault.{Fault}
 use Rattle.node_semver.specs.declared.reading.Fault.TheVariants.{TooLarge}
 use Rattle.node_semver.specs.ReadingViews.{kind_in, left_of}
-use Rattle.node_semver.proofs.FaultReading.{digits-there, fault-takes, front-length, left-takes, missing_at}
+use Rattle.node_semver.proofs.FaultReading.{AreNumbers, digits-there, fault-takes, front-length, left-takes, missing_at}
 use Rattle.node_semver.proofs.Fronts.{after-again, begins-append, front-again, no-append, with-begins, with_no-begins}
 use Rattle.node_semver.proofs.IdentifierReading.{pick-false, pick-true}
 use Rattle.node_semver.proofs.LongestReading.{marked-longest}
@@ -58,10 +57,6 @@ no-point : (text : List ℕ) → BeginsWithNo (λ b. b == point) text → point_
 unfolding point_at
 no-point [] h = refl
 no-point (b ∷ rest) h = rw h refl
-
--- numbers as they are written
-abbrev AreNumbers : List (List ℕ) → Type 0
-AreNumbers texts = AllByRecursion (λ digits. (number : ℕ) × IsNumberText digits number) texts
 
 -- behind a number and its point
 one-point : (a rest : List ℕ) → with_points (a ∷ []) ++ rest ≡ a ++ (point ∷ rest)

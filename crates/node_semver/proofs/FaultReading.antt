@@ -18,7 +18,7 @@ use Rattle.node_semver.specs.declared.reading.Fault.TheVariants.{Missing, TooLar
 use Rattle.node_semver.specs.ReadingViews.{kind_in, left_of}
 use Rattle.node_semver.proofs.Fronts.{after-no, begins-with, begins-with_no, front-after, front-again, front-all, front-begins}
 use Rattle.node_semver.proofs.LongestReading.{marked-longest, marked-no_digit}
-use Rattle.node_semver.proofs.NumberReading.{number-takes, point-takes}
+use Rattle.node_semver.proofs.NumberReading.{number-takes, point-takes, refusal}
 use Rattle.node_semver.proofs.OneReading.{version-mark}
 use Rattle.node_semver.proofs.VersionReading.{marked-takes}
 
@@ -27,10 +27,6 @@ pub bind-err : {A B : Type 0} (r : Result A Fault) (f : A → Result B Fault) (e
     → (r ≡ Err e) ⊎ ((x : A) × (r ≡ Ok x) × (f x ≡ Err e))
 bind-err (Ok x) f e h = inr (x, refl, h)
 bind-err (Err d) f e h = inl (cc h)
-
--- what stands in a refusal
-abbrev refusal : {A : Type 0} → Fault → Result A Fault
-refusal e = Err e
 
 fault-value : {A : Type 0} (e f : Fault) → refusal {A = A} e ≡ refusal f → e ≡ f
 fault-value e f h = cc h
@@ -94,11 +90,15 @@ told-missing : (text beginning rest : List ℕ) (f : Fault) → text ≡ beginni
 told-missing text beginning rest f whole told h =
     subst (λ (g : Fault). Has text g) told (subst (λ (n : ℕ). IsFault text (context (codes "version")) n) (front-length text beginning rest whole) h)
 
+-- what stands behind a beginning
+pub behind-there : (text beginning rest : List ℕ) → text ≡ beginning ++ rest → drop (length beginning) text ≡ rest
+behind-there text beginning rest whole = ap (λ (l : List ℕ). drop (length beginning) l) whole ∙ drop-append_seam beginning rest
+
 -- the digits that stand where so many bytes are left
 pub digits-there : (text beginning digits rest : List ℕ) → text ≡ beginning ++ (digits ++ rest) → IsAllDigits digits rest → front is_digit (drop (length text - length (digits ++ rest)) text) ≡ digits
 digits-there text beginning digits rest whole all =
     let here : drop (length text - length (digits ++ rest)) text ≡ digits ++ rest =
-    ap (λ (i : ℕ). drop i text) (sym (front-length text beginning (digits ++ rest) whole)) ∙ ap (λ (l : List ℕ). drop (length beginning) l) whole ∙ drop-append_seam beginning (digits ++ rest) in
+    ap (λ (i : ℕ). drop i text) (sym (front-length text beginning (digits ++ rest) whole)) ∙ behind-there text beginning (digits ++ rest) whole in
     ap (λ (l : List ℕ). front is_digit l) here ∙ front-again is_digit digits rest all.all all.end
 
 -- a number that is too large stands where the rest begins
@@ -137,7 +137,7 @@ with_points-more [] text = refl
 with_points-more (t ∷ texts) text = ap (λ (l : List ℕ). t ++ (point ∷ l)) (with_points-more texts text) ∙ sym (append_assoc t (point ∷ with_points texts) (text ++ (point ∷ [])))
 
 -- numbers as they are written
-abbrev AreNumbers : List (List ℕ) → Type 0
+abbrev pub AreNumbers : List (List ℕ) → Type 0
 AreNumbers texts = AllByRecursion (λ digits. (number : ℕ) × IsNumberText digits number) texts
 
 numbers-more : (texts : List (List ℕ)) (text : List ℕ) (number : ℕ) → AreNumbers texts → IsNumberText text number → AreNumbers (texts ++ (text ∷ []))

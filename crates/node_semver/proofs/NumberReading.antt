@@ -18,6 +18,10 @@ bind-ok (Err e) f y h = cc h
 abbrev pub answer : {A : Type 0} → A → Result A Fault
 answer x = Ok x
 
+-- what stands in a refusal
+abbrev pub refusal : {A : Type 0} → Fault → Result A Fault
+refusal e = Err e
+
 pub ok-value : {A : Type 0} (x y : A) → answer x ≡ answer y → x ≡ y
 ok-value x y h = cc h
 

@@ -1,7 +1,6 @@
 -- What a reader at the front of a text says of the whole text.
 use Rattle.std.proofs.Common.{◌≡◌, ◌-◌, ◌<◌, ◌≤◌, ◌^◌, ◌⊎◌, ℕ, List, [], ◌∷◌, ◌++◌, length, Ok, Err, refl, sym, ap, ◌∙◌, inl, inr, subst, arith, take, drop}
 use Rattle.std.proofs.lemmas.Bool.{cases_Bool}
-use Rattle.std.proofs.Math.Seq.{drop-append_seam}
 use Rattle.std.specs.Prelude.{IsOk, Result, codes, nat_lt}
 use Rattle.node_semver.proofs.IdentifierReading.{pick-false, pick-true}
 use Rattle.node_semver.proofs.Places.{to-end}
@@ -17,7 +16,7 @@ use Rattle.node_semver.specs.declared.reading.Fault.TheVariants.{TooLarge}
 use Rattle.node_semver.specs.Version.{VersionValue}
 use Rattle.node_semver.specs.VersionText.{IsVersionText, is_version_mark}
 use Rattle.node_semver.specs.declared.reading.Fault.{Fault}
-use Rattle.node_semver.proofs.FaultReading.{fault-takes, left-takes}
+use Rattle.node_semver.proofs.FaultReading.{behind-there, fault-takes, left-takes}
 use Rattle.node_semver.proofs.NumberReading.{ok-value}
 use Rattle.node_semver.proofs.OneReading.{read-version, version-read}
 
@@ -59,7 +58,7 @@ large-here : (text : List ℕ) (kind : Kind) (offset n : ℕ) → IsFault text k
 large-here text _ _ n (too_long long) same = absurd (no-large max_length n (λ m e. cc e) (λ e. cc e) same)
 large-here text _ _ n (no_number beginning rest count short before none) same = absurd (no-large (context (codes "version")) n (λ m e. cc e) (λ e. cc e) same)
 large-here text _ _ n (large_number beginning digits rest count short before all large) same =
-    let here : drop (length beginning) text ≡ digits ++ rest = ap (λ (l : List ℕ). drop (length beginning) l) before.whole ∙ drop-append_seam beginning (digits ++ rest) in
+    let here : drop (length beginning) text ≡ digits ++ rest = behind-there text beginning (digits ++ rest) before.whole in
     subst (λ (l : List ℕ). BeginsWith is_digit l) (sym here) (begins-append is_digit digits rest all.some)
 large-here text _ _ n (no_point beginning digits rest count short before few all small none) same = absurd (no-large (context (codes "version")) n (λ m e. cc e) (λ e. cc e) same)
 large-here text _ _ n (left_over beginning v b rest short whole digit read longest) same = absurd (no-large other n (λ m e. cc e) (λ e. cc e) same)

@@ -1,5 +1,6 @@
 use Rattle.std.proofs.Common.{◌≡◌, ◌∷◌, ap, arith, sym, ◌∙◌}
-use Rattle.node_semver.proofs.Digits.{number_at-large, refusal}
+use Rattle.node_semver.proofs.Digits.{number_at-large}
+use Rattle.node_semver.proofs.NumberReading.{refusal}
 use Rattle.node_semver.proofs.reading.number.number.Goals as goal
 
 pub returns-then-value-gt-MAX_SAFE_INTEGER : goal.returns-then-value-gt-MAX_SAFE_INTEGER

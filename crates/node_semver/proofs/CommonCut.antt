@@ -13,7 +13,7 @@ use Rattle.semver_cuts.specs.EndsLaws.{at_most-from_not_lt, below-from_lt}
 use Rattle.node_semver.specs.ComparatorText.{Comparator}
 use Rattle.node_semver.specs.Meaning.{AreVoid}
 use Rattle.node_semver.specs.Order.{version_cmp}
-use Rattle.node_semver.specs.OrderLaws.{version_total}
+use Rattle.node_semver.specs.Lemmas.Order.{version_total}
 use Rattle.node_semver.specs.Version.{VersionValue}
 
 pub greater_then : (c d : Cut VersionValue) → is_lt (cut_cmp version_cmp c d) ≡ true → IsGreaterCut version_cmp c d d

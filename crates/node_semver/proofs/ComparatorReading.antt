@@ -6,11 +6,11 @@ use Rattle.std.specs.Prelude.{◌==◌, Result}
 use Rattle.node_semver.specs.Characters.{AreAll, BeginsWithNo, is_blank, is_digit}
 use Rattle.node_semver.specs.ComparatorText.{Comparator, IsComparatorText, IsPartialText, Operator, Partial, above, at_least, at_most, below, exactly, full, is_partial_mark, operator_comparator, operator_text}
 use Rattle.node_semver.specs.Division.{IsCleanEnd}
-use Rattle.node_semver.specs.Reading.{Read, after, after_mark, begins, front, marked_at, number_at, numbers_at, triple_at}
-use Rattle.node_semver.specs.declared.reading.Fault.{Fault}
+use Rattle.node_semver.specs.Private.Reading.{Read, rest_of, skip_one, begins, prefix_of, read_marked, read_number, read_triple, read_unmarked}
+use Rattle.node_semver.specs.declared.parse.fault.Fault.{Fault}
 use Rattle.node_semver.specs.Version.{VersionValue}
-use Rattle.node_semver.specs.WordReading.{Word, is_clean, operator_at, with_equals, with_operand, with_operator, word_at}
-use Rattle.node_semver.proofs.Fronts.{front-after, front-all}
+use Rattle.node_semver.specs.Private.WordReading.{Word, is_clean, read_operator, with_equals, with_operand, with_operator, read_comparator}
+use Rattle.node_semver.proofs.Prefixes.{prefix_of-rest_of, prefix_of-all}
 use Rattle.node_semver.proofs.VersionReading.{IsMarkTest, marked-again, marked-takes}
 
 -- ---- clean ends
@@ -25,21 +25,21 @@ is-clean (b ∷ rest) h = h
 
 -- ---- blanks before a partial
 
--- what passes at the front changes nothing of what stands behind
-pub after-skips : (test : ℕ → Bool) (xs ys : List ℕ) → AreAll test xs → after test (xs ++ ys) ≡ after test ys
-unfolding after
-after-skips test [] ys all = refl
-after-skips test (x ∷ xs) ys all =
+-- what passes at the start changes nothing of what follows
+pub rest_of-skips : (test : ℕ → Bool) (xs ys : List ℕ) → AreAll test xs → rest_of test (xs ++ ys) ≡ rest_of test ys
+unfolding rest_of
+rest_of-skips test [] ys all = refl
+rest_of-skips test (x ∷ xs) ys all =
     let parts = and_parts (test x) (list_all test xs) all in
-    rw parts.0 (after-skips test xs ys parts.1)
+    rw parts.0 (rest_of-skips test xs ys parts.1)
 
-pub after-none : (test : ℕ → Bool) (text : List ℕ) → BeginsWithNo test text → after test text ≡ text
-unfolding after
-after-none test [] h = refl
-after-none test (b ∷ rest) h = rw h refl
+pub rest_of-none : (test : ℕ → Bool) (text : List ℕ) → BeginsWithNo test text → rest_of test text ≡ text
+unfolding rest_of
+rest_of-none test [] h = refl
+rest_of-none test (b ∷ rest) h = rw h refl
 
-triple-begins : (text : List ℕ) (read : VersionValue × List ℕ) → triple_at text ≡ Ok read → begins is_digit text ≡ true
-unfolding triple_at numbers_at number_at
+triple-begins : (text : List ℕ) (read : VersionValue × List ℕ) → read_unmarked text ≡ Ok read → begins is_digit text ≡ true
+unfolding read_unmarked read_triple read_number
 triple-begins text read h = elim (cases_Bool (begins is_digit text)) [
   | inl some ↦ some
   | inr none ↦ cc (rw none at h)
@@ -70,32 +70,32 @@ digit-no_blank b h = elim (cases_Bool (is_blank b)) [
 ]
 
 -- a triple, with neither a mark nor blanks before it
-unmarked : (text : List ℕ) → begins is_digit text ≡ true → marked_at is_partial_mark text ≡ triple_at text
-unfolding marked_at after_mark
+unmarked : (text : List ℕ) → begins is_digit text ≡ true → read_marked is_partial_mark text ≡ read_unmarked text
+unfolding read_marked skip_one
 unmarked [] h = cc h
 unmarked (b ∷ rest) h =
-    rw (mark-no_digit b h) (ap triple_at (after-none is_blank (b ∷ rest) (digit-no_blank b h)))
+    rw (mark-no_digit b h) (ap read_unmarked (rest_of-none is_blank (b ∷ rest) (digit-no_blank b h)))
 
 -- blanks that stand before no mark
-after_mark-blank : (b : ℕ) (rest : List ℕ) → is_blank b ≡ true → after_mark is_partial_mark (b ∷ rest) ≡ b ∷ rest
-unfolding after_mark
-after_mark-blank b rest h = rw (mark-no_blank b h) refl
+skip_one-blank : (b : ℕ) (rest : List ℕ) → is_blank b ≡ true → skip_one is_partial_mark (b ∷ rest) ≡ b ∷ rest
+unfolding skip_one
+skip_one-blank b rest h = rw (mark-no_blank b h) refl
 
 -- a partial stays one without the blanks before it
-pub marked-unblanked : (text : List ℕ) (read : VersionValue × List ℕ) → marked_at is_partial_mark text ≡ Ok read
-    → marked_at is_partial_mark (after is_blank text) ≡ Ok read
-unfolding marked_at after
+pub marked-unblanked : (text : List ℕ) (read : VersionValue × List ℕ) → read_marked is_partial_mark text ≡ Ok read
+    → read_marked is_partial_mark (rest_of is_blank text) ≡ Ok read
+unfolding read_marked rest_of
 marked-unblanked [] read h = h
 marked-unblanked (b ∷ rest) read h = elim (cases_Bool (is_blank b)) [
-  | inr solid ↦ rw (after-none is_blank (b ∷ rest) solid) h
+  | inr solid ↦ rw (rest_of-none is_blank (b ∷ rest) solid) h
   | inl blank ↦
-      let triple : triple_at (after is_blank (b ∷ rest)) ≡ Ok read = rw (after_mark-blank b rest blank) at h in
-      unmarked (after is_blank (b ∷ rest)) (triple-begins (after is_blank (b ∷ rest)) read triple) ∙ triple
+      let triple : read_unmarked (rest_of is_blank (b ∷ rest)) ≡ Ok read = rw (skip_one-blank b rest blank) at h in
+      unmarked (rest_of is_blank (b ∷ rest)) (triple-begins (rest_of is_blank (b ∷ rest)) read triple) ∙ triple
 ]
 
 -- a partial begins with no `=`
-marked-no_equals : (text : List ℕ) (read : VersionValue × List ℕ) → marked_at is_partial_mark text ≡ Ok read → BeginsWithNo (λ b. b == 61) text
-unfolding marked_at after_mark after triple_at numbers_at number_at
+marked-no_equals : (text : List ℕ) (read : VersionValue × List ℕ) → read_marked is_partial_mark text ≡ Ok read → BeginsWithNo (λ b. b == 61) text
+unfolding read_marked skip_one rest_of read_unmarked read_triple read_number
 marked-no_equals [] read h = tt
 marked-no_equals (b ∷ rest) read h = elim (cases_Bool (b == 61)) [
   | inr other ↦ other
@@ -118,8 +118,8 @@ with_equals-shorter : (longer shorter : Operator) (text : List ℕ) → BeginsWi
 with_equals-shorter longer shorter [] h = refl
 with_equals-shorter longer shorter (b ∷ rest) h = rw h refl
 
-pub operator-again : (o : Operator) (text : List ℕ) → BeginsWithNo (λ b. b == 61) text → operator_at (operator_text o ++ text) ≡ Some (o, text)
-unfolding operator_at
+pub operator-again : (o : Operator) (text : List ℕ) → BeginsWithNo (λ b. b == 61) text → read_operator (operator_text o ++ text) ≡ Some (o, text)
+unfolding read_operator
 operator-again at_least text h = refl
 operator-again above text h = ap Some (with_equals-shorter at_least above text h)
 operator-again exactly text h = refl
@@ -148,8 +148,8 @@ with_equals-takes longer shorter b (c ∷ text) o rest l s h = elim (cases_Bool 
 some-inside : {A : Type 0} (x y : A) → Some x ≡ Some y → x ≡ y
 some-inside x y h = cc h
 
-pub operator-takes : (text : List ℕ) (o : Operator) (rest : List ℕ) → operator_at text ≡ Some (o, rest) → text ≡ operator_text o ++ rest
-unfolding operator_at
+pub operator-takes : (text : List ℕ) (o : Operator) (rest : List ℕ) → read_operator text ≡ Some (o, rest) → text ≡ operator_text o ++ rest
+unfolding read_operator
 operator-takes [] o rest h = cc h
 operator-takes (b ∷ text) o rest h = elim (cases_Bool (b == 62)) [
   | inl here ↦ rw (eqb-true b 62 here) (with_equals-takes at_least above 62 text o rest refl refl (some-inside _ _ (rw here at h)))
@@ -168,7 +168,7 @@ operator-takes (b ∷ text) o rest h = elim (cases_Bool (b == 62)) [
 
 -- ---- comparator texts
 
--- a comparator text with a clean end behind it begins the text
+-- a comparator text with a clean end after it begins the text
 pub record TakesWord (text : List ℕ) (comparator : Option Comparator) (rest : List ℕ) : Type 0 where
   pub word : List ℕ
   pub whole : text ≡ word ++ rest
@@ -176,7 +176,7 @@ pub record TakesWord (text : List ℕ) (comparator : Option Comparator) (rest : 
   pub clean : IsCleanEnd rest
 
 operand-takes : (o : Operator) (text : List ℕ) (read : Read VersionValue) (comparator : Option Comparator) (rest : List ℕ)
-    → marked_at is_partial_mark (after is_blank text) ≡ read → with_operand o read ≡ Some (comparator, rest) → TakesWord (operator_text o ++ text) comparator rest
+    → read_marked is_partial_mark (rest_of is_blank text) ≡ read → with_operand o read ≡ Some (comparator, rest) → TakesWord (operator_text o ++ text) comparator rest
 operand-takes o text (Err e) comparator rest r h = cc h
 operand-takes o text (Ok read) comparator rest r h = elim (cases_Bool (is_clean read.1)) [
   | inr unclean ↦ cc (rw unclean at h)
@@ -184,17 +184,17 @@ operand-takes o text (Ok read) comparator rest r h = elim (cases_Bool (is_clean 
       let same : (operator_comparator o (full read.0), read.1) ≡ (comparator, rest) = some-inside _ _ (rw clean at h) in
       let says : operator_comparator o (full read.0) ≡ comparator = ap (λ (p : Word). p.0) same in
       let behind : read.1 ≡ rest = ap (λ (p : Word). p.1) same in
-      let taken = marked-takes is_partial_mark (after is_blank text) read.0 read.1 r in
+      let taken = marked-takes is_partial_mark (rest_of is_blank text) read.0 read.1 r in
       record {
-        word = operator_text o ++ (front is_blank text ++ taken.taken);
-        whole = ap (λ (l : List ℕ). operator_text o ++ l) (sym (front-after is_blank text) ∙ ap (λ (l : List ℕ). front is_blank text ++ l) (taken.whole ∙ ap (λ (l : List ℕ). taken.taken ++ l) behind) ∙ sym (append_assoc (front is_blank text) taken.taken rest)) ∙ sym (append_assoc (operator_text o) (front is_blank text ++ taken.taken) rest);
+        word = operator_text o ++ (prefix_of is_blank text ++ taken.taken);
+        whole = ap (λ (l : List ℕ). operator_text o ++ l) (sym (prefix_of-rest_of is_blank text) ∙ ap (λ (l : List ℕ). prefix_of is_blank text ++ l) (taken.whole ∙ ap (λ (l : List ℕ). taken.taken ++ l) behind) ∙ sym (append_assoc (prefix_of is_blank text) taken.taken rest)) ∙ sym (append_assoc (operator_text o) (prefix_of is_blank text ++ taken.taken) rest);
         read = record {
           operator = o;
           partial = full read.0;
-          blanks = front is_blank text;
+          blanks = prefix_of is_blank text;
           operand = taken.taken;
           whole = refl;
-          blank = front-all is_blank text;
+          blank = prefix_of-all is_blank text;
           read = taken.read;
           says = sym says;
         };
@@ -203,36 +203,36 @@ operand-takes o text (Ok read) comparator rest r h = elim (cases_Bool (is_clean 
 ]
 
 operator-takes-word : (text : List ℕ) (found : Option (Operator × List ℕ)) (comparator : Option Comparator) (rest : List ℕ)
-    → operator_at text ≡ found → with_operator found ≡ Some (comparator, rest) → TakesWord text comparator rest
+    → read_operator text ≡ found → with_operator found ≡ Some (comparator, rest) → TakesWord text comparator rest
 operator-takes-word text None comparator rest r h = cc h
 operator-takes-word text (Some o) comparator rest r h =
     subst (λ (l : List ℕ). TakesWord l comparator rest) (sym (operator-takes text o.0 o.1 r))
-    (operand-takes o.0 o.1 (marked_at is_partial_mark (after is_blank o.1)) comparator rest refl h)
+    (operand-takes o.0 o.1 (read_marked is_partial_mark (rest_of is_blank o.1)) comparator rest refl h)
 
 -- what is read is a comparator text with a clean end
-pub word-takes : (text : List ℕ) (comparator : Option Comparator) (rest : List ℕ) → word_at text ≡ Some (comparator, rest) → TakesWord text comparator rest
-unfolding word_at
-word-takes text comparator rest h = operator-takes-word text (operator_at text) comparator rest refl h
+pub word-takes : (text : List ℕ) (comparator : Option Comparator) (rest : List ℕ) → read_comparator text ≡ Some (comparator, rest) → TakesWord text comparator rest
+unfolding read_comparator
+word-takes text comparator rest h = operator-takes-word text (read_operator text) comparator rest refl h
 
 operand-again : (o : Operator) (blanks operand rest : List ℕ) (partial : Partial) → AreAll is_blank blanks → IsPartialText operand partial → IsCleanEnd rest
-    → with_operator (operator_at (operator_text o ++ (blanks ++ (operand ++ rest)))) ≡ Some (operator_comparator o partial, rest)
+    → with_operator (read_operator (operator_text o ++ (blanks ++ (operand ++ rest)))) ≡ Some (operator_comparator o partial, rest)
 operand-again o blanks operand rest (full v) all read clean =
-    let marked : marked_at is_partial_mark (operand ++ rest) ≡ Ok (v, rest) = marked-again is_partial_mark partial_mark operand rest v read clean in
-    let behind : operator_at (operator_text o ++ (blanks ++ (operand ++ rest))) ≡ Some (o, blanks ++ (operand ++ rest)) =
+    let marked : read_marked is_partial_mark (operand ++ rest) ≡ Ok (v, rest) = marked-again is_partial_mark partial_mark operand rest v read clean in
+    let behind : read_operator (operator_text o ++ (blanks ++ (operand ++ rest))) ≡ Some (o, blanks ++ (operand ++ rest)) =
     operator-again o (blanks ++ (operand ++ rest)) (blanks-no_equals blanks (operand ++ rest) all (marked-no_equals (operand ++ rest) (v, rest) marked)) in
-    let unblanked : marked_at is_partial_mark (after is_blank (blanks ++ (operand ++ rest))) ≡ Ok (v, rest) =
-    ap (marked_at is_partial_mark) (after-skips is_blank blanks (operand ++ rest) all) ∙ marked-unblanked (operand ++ rest) (v, rest) marked in
+    let unblanked : read_marked is_partial_mark (rest_of is_blank (blanks ++ (operand ++ rest))) ≡ Ok (v, rest) =
+    ap (read_marked is_partial_mark) (rest_of-skips is_blank blanks (operand ++ rest) all) ∙ marked-unblanked (operand ++ rest) (v, rest) marked in
     rw (behind, unblanked, is-clean rest clean) refl
 
 -- and a comparator text with a clean end is read
 pub word-again : (word rest : List ℕ) (comparator : Option Comparator) → IsComparatorText word comparator → IsCleanEnd rest
-    → word_at (word ++ rest) ≡ Some (comparator, rest)
-unfolding word_at
+    → read_comparator (word ++ rest) ≡ Some (comparator, rest)
+unfolding read_comparator
 word-again word rest comparator read clean =
     let whole : word ++ rest ≡ operator_text read.operator ++ (read.blanks ++ (read.operand ++ rest)) =
     ap (λ (l : List ℕ). l ++ rest) read.whole ∙ append_assoc (operator_text read.operator) (read.blanks ++ read.operand) rest
     ∙ ap (λ (l : List ℕ). operator_text read.operator ++ l) (append_assoc read.blanks read.operand rest) in
-    ap (λ (l : List ℕ). with_operator (operator_at l)) whole
+    ap (λ (l : List ℕ). with_operator (read_operator l)) whole
     ∙ operand-again read.operator read.blanks read.operand rest read.partial read.blank read.read clean
     ∙ ap (λ (c : Option Comparator). Some (c, rest)) (sym read.says)
 

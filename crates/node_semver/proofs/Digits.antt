@@ -12,11 +12,11 @@ use Rattle.std.specs.declared.num.ParseIntError.{ParseIntError}
 use Rattle.node_semver.specs.declared.TheConstants.{MAX_SAFE_INTEGER}
 use Rattle.node_semver.specs.Characters.{AreAll, BeginsWith, is_digit}
 use Rattle.node_semver.specs.NumberText.{number_of}
-use Rattle.node_semver.specs.Reading.{begins, front, number_at}
+use Rattle.node_semver.specs.Private.Reading.{begins, prefix_of, read_number}
 use Rattle.node_semver.specs.Fault.{too_large}
-use Rattle.node_semver.specs.declared.reading.Fault.TheVariants.{TooLarge}
+use Rattle.node_semver.specs.declared.parse.fault.Fault.TheVariants.{TooLarge}
 use Rattle.node_semver.specs.Error.{max_int, parse_int}
-use Rattle.node_semver.proofs.Fronts.{with-begins}
+use Rattle.node_semver.proofs.Prefixes.{with-begins}
 use Rattle.node_semver.proofs.NumberReading.{refusal}
 use Rattle.node_semver.proofs.IdentifierReading.{pick-false, pick-true}
 
@@ -31,21 +31,21 @@ more-digits n (d ∷ ds) =
     let more = more-digits (n * 10 + digit_value d) ds in
     omega arith
 
--- a digit and more behind those that write n
+-- a digit and more after those that write n
 one-digit : (n b : ℕ) (ds : List ℕ) → is_digit b ≡ true → n * 10 + (b - 48) ≤ digits_value_after 10 n (b ∷ ds)
 one-digit n b ds digit =
     subst (λ (d : ℕ). n * 10 + d ≤ digits_value_after 10 n (b ∷ ds)) (digit-value b digit) (more-digits (n * 10 + digit_value b) ds)
 
--- one digit more makes the number at the front too large
-pub number_at-large : (s : List ℕ) (n b : ℕ) (ds : List ℕ) → BeginsWith is_digit s → is_digit b ≡ true → MAX_SAFE_INTEGER < n * 10 + (b - 48)
-    → digits_value_after 10 n (front is_digit (b ∷ ds)) ≡ number_of (front is_digit s) → refusal {A = ℕ × List ℕ} (TooLarge (length s)) ≡ number_at s
-unfolding number_at front
-number_at-large s n b ds some digit above value =
+-- one digit more makes the number at the start too large
+pub read_number-large : (s : List ℕ) (n b : ℕ) (ds : List ℕ) → BeginsWith is_digit s → is_digit b ≡ true → MAX_SAFE_INTEGER < n * 10 + (b - 48)
+    → digits_value_after 10 n (prefix_of is_digit (b ∷ ds)) ≡ number_of (prefix_of is_digit s) → refusal {A = ℕ × List ℕ} (TooLarge (length s)) ≡ read_number s
+unfolding read_number prefix_of
+read_number-large s n b ds some digit above value =
     let begins_so : begins is_digit s ≡ true = with-begins is_digit s some in
-    let here : front is_digit (b ∷ ds) ≡ b ∷ front is_digit ds = rw digit refl in
-    let more : n * 10 + (b - 48) ≤ number_of (front is_digit s) =
-    subst (λ (m : ℕ). n * 10 + (b - 48) ≤ m) (ap (digits_value_after 10 n) (sym here) ∙ value) (one-digit n b (front is_digit ds) digit) in
-    let over : nat_le (number_of (front is_digit s)) MAX_SAFE_INTEGER ≡ false = lt-leb _ _ (omega arith) in
+    let here : prefix_of is_digit (b ∷ ds) ≡ b ∷ prefix_of is_digit ds = rw digit refl in
+    let more : n * 10 + (b - 48) ≤ number_of (prefix_of is_digit s) =
+    subst (λ (m : ℕ). n * 10 + (b - 48) ≤ m) (ap (digits_value_after 10 n) (sym here) ∙ value) (one-digit n b (prefix_of is_digit ds) digit) in
+    let over : nat_le (number_of (prefix_of is_digit s)) MAX_SAFE_INTEGER ≡ false = lt-leb _ _ (omega arith) in
     rw (begins_so, over) refl
 
 -- digits as `parse` reads them

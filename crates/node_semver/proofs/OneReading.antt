@@ -4,9 +4,9 @@ use Rattle.std.proofs.lemmas.Bool.{cases_Bool, eqb-true, or_cases}
 use Rattle.std.specs.Prelude.{◌==◌}
 use Rattle.node_semver.specs.declared.TheConstants.{MAX_LENGTH}
 use Rattle.node_semver.specs.Characters.{is_blank, is_digit}
-use Rattle.node_semver.specs.Reading.{marked_at}
+use Rattle.node_semver.specs.Private.Reading.{read_marked}
 use Rattle.node_semver.specs.Version.{VersionValue}
-use Rattle.node_semver.specs.VersionText.{IsMarkedTriple, IsVersionText, is_version_mark}
+use Rattle.node_semver.specs.VersionText.{IsMarkedText, IsVersionText, is_version_mark}
 use Rattle.node_semver.proofs.NumberReading.{ok-value}
 use Rattle.node_semver.proofs.VersionReading.{IsMarkTest, marked-again, marked-takes}
 
@@ -24,16 +24,16 @@ pub version-mark : IsMarkTest is_version_mark
 version-mark = record { blank = no-mark is_blank refl refl; digit = no-mark is_digit refl refl }
 
 -- a version text is read, and nothing is left
-pub version-read : (text : List ℕ) (v : VersionValue) → IsVersionText text v → marked_at is_version_mark text ≡ Ok (v, [])
-version-read text v h = ap (λ (l : List ℕ). marked_at is_version_mark l) (sym (append-nil text)) ∙ marked-again is_version_mark version-mark text [] v h.fields tt
+pub version-read : (text : List ℕ) (v : VersionValue) → IsVersionText text v → read_marked is_version_mark text ≡ Ok (v, [])
+version-read text v h = ap (λ (l : List ℕ). read_marked is_version_mark l) (sym (append-nil text)) ∙ marked-again is_version_mark version-mark text [] v h.fields tt
 
 -- what is read with nothing left is a version text
-pub read-version : (text : List ℕ) (v : VersionValue) → length text ≤ MAX_LENGTH → marked_at is_version_mark text ≡ Ok (v, []) → IsVersionText text v
+pub read-version : (text : List ℕ) (v : VersionValue) → length text ≤ MAX_LENGTH → read_marked is_version_mark text ≡ Ok (v, []) → IsVersionText text v
 read-version text v short h =
     let t = marked-takes is_version_mark text v [] h in
     record {
       short = short;
-      fields = subst (λ (l : List ℕ). IsMarkedTriple is_version_mark l v) (sym (t.whole ∙ append-nil t.taken)) t.read;
+      fields = subst (λ (l : List ℕ). IsMarkedText is_version_mark l v) (sym (t.whole ∙ append-nil t.taken)) t.read;
     }
 
 pub one_reading : (text : List ℕ) (v w : VersionValue) → IsVersionText text v → IsVersionText text w → v ≡ w

@@ -14,20 +14,20 @@ use Rattle.node_semver.specs.Division.{IsWritten}
 use Rattle.node_semver.specs.IdentifierValue.{IdentifierValue}
 use Rattle.node_semver.specs.Meaning.{Admit, AnyByRecursion, AreVoid, HasOpenEnd, Holds, IsInside, IsRefused, Opens, TextAdmits}
 use Rattle.node_semver.specs.Order.{version_cmp}
-use Rattle.node_semver.specs.OrderLaws.{version_total}
-use Rattle.node_semver.specs.Reading.{after}
+use Rattle.node_semver.specs.Lemmas.Order.{version_total}
+use Rattle.node_semver.specs.Private.Reading.{rest_of}
 use Rattle.node_semver.specs.Version.{HasSameTriple, IsPrerelease, VersionValue}
-use Rattle.node_semver.specs.WordReading.{next_word}
-use Rattle.node_semver.proofs.DivisionLaws.{Completes, completes-end, completes-more, completes-start, listed, written-unique}
-use Rattle.node_semver.proofs.MeaningLaws.{refused-from_void, void-from_refused}
+use Rattle.node_semver.specs.Private.WordReading.{read_word}
+use Rattle.node_semver.proofs.DivisionLemmas.{Completes, completes-end, completes-more, completes-start, listed, written-unique}
+use Rattle.node_semver.proofs.MeaningLemmas.{refused-from_void, void-from_refused}
 
 -- ---- the comparators of a text
 
--- word by word, behind those that are done; nothing if the text has n words or more
+-- word by word, after those that are done; nothing if the text has n words or more
 unfoldable pub read_words : ℕ → List ℕ → List Comparator → Option (List Comparator)
 read_words zero rest done = None
 read_words (suc n) [] done = Some done
-read_words (suc n) (b ∷ rest) done = read_words n (after is_blank (next_word (b ∷ rest)).1) (done ++ listed (next_word (b ∷ rest)).0)
+read_words (suc n) (b ∷ rest) done = read_words n (rest_of is_blank (read_word (b ∷ rest)).1) (done ++ listed (read_word (b ∷ rest)).0)
 
 words-complete : (n : ℕ) (text rest : List ℕ) (done all : List Comparator) → Completes text done rest → read_words n rest done ≡ Some all → IsWritten text (all ∷ [])
 unfolding read_words
@@ -36,14 +36,14 @@ words-complete (suc n) text [] done all completes read =
     let same : done ≡ all = cc read in
     subst (λ (l : List Comparator). IsWritten text (l ∷ [])) same (completes-end text done completes)
 words-complete (suc n) text (b ∷ rest) done all completes read =
-    words-complete n text _ _ all (completes-more text done (b ∷ rest) (next_word (b ∷ rest)).0 (next_word (b ∷ rest)).1 completes refl) read
+    words-complete n text _ _ all (completes-more text done (b ∷ rest) (read_word (b ∷ rest)).0 (read_word (b ∷ rest)).1 completes refl) read
 
 -- the comparators of a text of fewer than nine words
 abbrev pub comparators_in : List ℕ → Option (List Comparator)
-comparators_in text = read_words 9 (after is_blank text) []
+comparators_in text = read_words 9 (rest_of is_blank text) []
 
 pub written-by : (text : List ℕ) (all : List Comparator) → comparators_in text ≡ Some all → IsWritten text (all ∷ [])
-written-by text all read = words-complete 9 text (after is_blank text) [] all (completes-start text) read
+written-by text all read = words-complete 9 text (rest_of is_blank text) [] all (completes-start text) read
 
 -- ---- what they have in common
 

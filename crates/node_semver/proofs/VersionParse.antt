@@ -1,36 +1,36 @@
--- What a reader at the front of a text says of the whole text.
+-- What a reader at the start of a text says of the whole text.
 use Rattle.std.proofs.Common.{◌≡◌, ◌-◌, ◌<◌, ◌≤◌, ◌^◌, ◌⊎◌, ℕ, List, [], ◌∷◌, ◌++◌, length, Ok, Err, refl, sym, ap, ◌∙◌, inl, inr, subst, arith, take, drop}
 use Rattle.std.proofs.lemmas.Bool.{cases_Bool}
 use Rattle.std.specs.Prelude.{IsOk, Result, codes, nat_lt}
 use Rattle.node_semver.proofs.IdentifierReading.{pick-false, pick-true}
 use Rattle.node_semver.proofs.Places.{to-end}
-use Rattle.node_semver.proofs.Fronts.{begins-append}
+use Rattle.node_semver.proofs.Prefixes.{begins-append}
 use Rattle.node_semver.specs.declared.TheConstants.{MAX_LENGTH}
 use Rattle.node_semver.specs.Error.{Kind, context, max_int, max_length, other, parse_int}
 use Rattle.node_semver.specs.Characters.{BeginsWith, is_digit}
-use Rattle.node_semver.specs.Fault.{IsFault, large_number, left_over, no_number, no_point, too_large, too_long}
+use Rattle.node_semver.specs.Fault.{IsFault, large_number, left_over, no_number, no_dot, too_large, too_long}
 use Rattle.node_semver.specs.NumberText.{number_of}
-use Rattle.node_semver.specs.Reading.{Read, front, marked_at}
-use Rattle.node_semver.specs.ReadingViews.{IsMemoryOr, IsPlainOk, IsWantOfMemory, kind_in}
-use Rattle.node_semver.specs.declared.reading.Fault.TheVariants.{TooLarge}
+use Rattle.node_semver.specs.Private.Reading.{Read, prefix_of, read_marked}
+use Rattle.node_semver.specs.Private.ReadingViews.{IsMemoryOr, IsPlainOk, IsWantOfMemory, kind_in}
+use Rattle.node_semver.specs.declared.parse.fault.Fault.TheVariants.{TooLarge}
 use Rattle.node_semver.specs.Version.{VersionValue}
 use Rattle.node_semver.specs.VersionText.{IsVersionText, is_version_mark}
-use Rattle.node_semver.specs.declared.reading.Fault.{Fault}
+use Rattle.node_semver.specs.declared.parse.fault.Fault.{Fault}
 use Rattle.node_semver.proofs.FaultReading.{behind-there, fault-takes, left-takes}
 use Rattle.node_semver.proofs.NumberReading.{ok-value}
 use Rattle.node_semver.proofs.OneReading.{read-version, version-read}
 
 -- nothing is left
-pub whole-found : (text : List ℕ) (v : VersionValue) (rest : List ℕ) → length text ≤ MAX_LENGTH → marked_at is_version_mark text ≡ Ok (v, rest) → length rest < 1 → IsVersionText text v
+pub whole-found : (text : List ℕ) (v : VersionValue) (rest : List ℕ) → length text ≤ MAX_LENGTH → read_marked is_version_mark text ≡ Ok (v, rest) → length rest < 1 → IsVersionText text v
 whole-found text v [] short read none = read-version text v short read
 whole-found text v (b ∷ rest) short read none = absurd (omega arith)
 
 -- something is left
-pub whole-left : (text : List ℕ) (v : VersionValue) (rest : List ℕ) → length text ≤ MAX_LENGTH → marked_at is_version_mark text ≡ Ok (v, rest) → 1 ≤ length rest → IsFault text other (length text - length rest)
+pub whole-left : (text : List ℕ) (v : VersionValue) (rest : List ℕ) → length text ≤ MAX_LENGTH → read_marked is_version_mark text ≡ Ok (v, rest) → 1 ≤ length rest → IsFault text other (length text - length rest)
 whole-left text v [] short read some = absurd (omega arith)
 whole-left text v (b ∷ rest) short read some = left-takes text v b rest short read
 
-pub left-no_version : (text : List ℕ) (v w : VersionValue) (rest : List ℕ) → marked_at is_version_mark text ≡ Ok (v, rest) → 1 ≤ length rest → IsVersionText text w → ⊥
+pub left-no_version : (text : List ℕ) (v w : VersionValue) (rest : List ℕ) → read_marked is_version_mark text ≡ Ok (v, rest) → 1 ≤ length rest → IsVersionText text w → ⊥
 left-no_version text v w rest read some h =
     let e = ok-value (w, []) (v, rest) (sym (version-read text w h) ∙ read) in
     let none : [] ≡ rest = ap (λ (p : VersionValue × List ℕ). p.1) e in
@@ -38,12 +38,12 @@ left-no_version text v w rest read some h =
     omega arith
 
 -- nothing was read
-pub whole-fault : (text : List ℕ) (f : Fault) → length text ≤ MAX_LENGTH → IsWantOfMemory f ⊎ (marked_at is_version_mark text ≡ Err f) → IsMemoryOr text f
+pub whole-fault : (text : List ℕ) (f : Fault) → length text ≤ MAX_LENGTH → IsWantOfMemory f ⊎ (read_marked is_version_mark text ≡ Err f) → IsMemoryOr text f
 whole-fault text f short (inl memory) = inl memory
 whole-fault text f short (inr read) = inr (fault-takes text f short read)
 
 -- a version text without prerelease and build is read
-pub plain-read : {X : Type 0} (r : Result X Fault) (text : List ℕ) (v : VersionValue) → IsPlainOk r (marked_at is_version_mark text) → IsVersionText text v → v.pre_release ≡ [] → v.build ≡ [] → IsOk r
+pub plain-read : {X : Type 0} (r : Result X Fault) (text : List ℕ) (v : VersionValue) → IsPlainOk r (read_marked is_version_mark text) → IsVersionText text v → v.pre_release ≡ [] → v.build ≡ [] → IsOk r
 plain-read r text v plain h = subst (λ (read : Read VersionValue). IsPlainOk r read) (version-read text v h) plain
 
 -- a kind that is not told of a number
@@ -60,7 +60,7 @@ large-here text _ _ n (no_number beginning rest count short before none) same = 
 large-here text _ _ n (large_number beginning digits rest count short before all large) same =
     let here : drop (length beginning) text ≡ digits ++ rest = behind-there text beginning (digits ++ rest) before.whole in
     subst (λ (l : List ℕ). BeginsWith is_digit l) (sym here) (begins-append is_digit digits rest all.some)
-large-here text _ _ n (no_point beginning digits rest count short before few all small none) same = absurd (no-large (context (codes "version")) n (λ m e. cc e) (λ e. cc e) same)
+large-here text _ _ n (no_dot beginning digits rest count short before few all small none) same = absurd (no-large (context (codes "version")) n (λ m e. cc e) (λ e. cc e) same)
 large-here text _ _ n (left_over beginning v b rest short whole digit read longest) same = absurd (no-large other n (λ m e. cc e) (λ e. cc e) same)
 
 pub large-refused : (text : List ℕ) (left place : ℕ) → place ≡ length text - left → IsMemoryOr text (TooLarge left) → BeginsWith is_digit (take (length text - place) (drop place text))
@@ -68,5 +68,5 @@ large-refused text left place here (inl memory) = absurd (cc memory)
 large-refused text left place here (inr fault) = rw (to-end text place, here) (large-here text _ _ _ fault refl)
 
 -- the number that stands at a place
-pub number-there : (text : List ℕ) (left place : ℕ) → place ≡ length text - left → too_large (number_of (front is_digit (take (length text - place) (drop place text)))) ≡ kind_in text (TooLarge left)
+pub number-there : (text : List ℕ) (left place : ℕ) → place ≡ length text - left → too_large (number_of (prefix_of is_digit (take (length text - place) (drop place text)))) ≡ kind_in text (TooLarge left)
 number-there text left place here = rw (to-end text place, here) refl

@@ -30,8 +30,8 @@ BeginsWith test [] = ⊥
 BeginsWith test (b ∷ rest) = test b ≡ true
 
 -- between the parts of a triple and of a list of identifiers
-abbrev pub point : ℕ
-point = 46
+abbrev pub dot : ℕ
+dot = 46
 
 -- before a prerelease
 abbrev pub hyphen : ℕ

@@ -5,7 +5,7 @@ use Rattle.semver_cuts.specs.declared.cut.Cut.TheVariants.{Start, Before, After,
 use Rattle.semver_cuts.specs.Ends.{Ends}
 use Rattle.node_semver.specs.Characters.{AreAll, is_blank}
 use Rattle.node_semver.specs.Version.{VersionValue, without_build}
-use Rattle.node_semver.specs.VersionText.{IsMarkedTriple}
+use Rattle.node_semver.specs.VersionText.{IsMarkedText}
 
 -- what a partial says, by its shape: all three numbers are given
 pub data Partial : Type 0 where
@@ -17,7 +17,7 @@ is_partial_mark b = b == 118
 
 -- a partial as it is written: `v 1.2.3-alpha`
 abbrev pub IsPartialText : List ℕ → Partial → Type 0
-IsPartialText text (full v) = IsMarkedTriple is_partial_mark text v
+IsPartialText text (full v) = IsMarkedText is_partial_mark text v
 
 -- the five operators
 pub data Operator : Type 0 where

@@ -9,17 +9,17 @@ abbrev pub IsCleanEnd : List ℕ → Type 0
 IsCleanEnd [] = Unit {0}
 IsCleanEnd (b ∷ rest) = is_blank b ≡ true
 
--- Of this text and what follows it, no beginning with a clean end is a comparator text; so it is thrown away, up to the next blank: `foo`, or nothing
+-- Of this text and what follows it, no prefix with a clean end is a comparator text; so it is thrown away, up to the next blank: `foo`, or nothing
 pub record IsThrownAway (word rest : List ℕ) : Type 0 where
   pub solid : AreAll (λ b. not (is_blank b)) word
   pub clean : IsCleanEnd rest
-  pub none : (front back : List ℕ) (comparator : Option Comparator) → word ++ rest ≡ front ++ back → IsCleanEnd back → ¬ IsComparatorText front comparator
+  pub none : (prefix others : List ℕ) (comparator : Option Comparator) → word ++ rest ≡ prefix ++ others → IsCleanEnd others → ¬ IsComparatorText prefix comparator
 
--- the word at the front of a text, and what follows it: a comparator text with a clean end, or else a text that is thrown away
+-- the word at the start of a text, and what follows it: a comparator text with a clean end, or else a text that is thrown away
 abbrev pub IsWord : (word rest : List ℕ) → Option Comparator → Type 0
 IsWord word rest comparator = (IsComparatorText word comparator × IsCleanEnd rest) ⊎ ((comparator ≡ None) × IsThrownAway word rest)
 
--- one word, or a word, all the blanks behind it, and such a text again: `>=1.2.3 <2.0.0`
+-- one word, or a word, all the blanks after it, and such a text again: `>=1.2.3 <2.0.0`
 abbrev pub IsDivision : List ℕ → List (Option Comparator) → Type 0
 IsDivision text [] = ⊥
 IsDivision text (w ∷ []) = IsWord text [] w

@@ -1,27 +1,32 @@
+-- What the contracts of this crate say, in reading order. These files are what a reader has to trust.
+
+-- ---- characters, numbers and identifiers, as they are written
 pub mod Characters
+pub mod NumberText
+pub mod IdentifierValue
+pub mod IdentifierText
+-- ---- versions: their text, and what is wrong with a text that is none
+pub mod Version
+pub mod VersionText
+pub mod Error
+pub mod Fault
+-- ---- versions: order, print, hash
+pub mod Order
+pub mod Print
+pub mod Hash
+-- ---- ranges: words, alternatives, and what they mean
 pub mod ComparatorText
 pub mod Division
-pub mod Error
-pub mod ErrorEquality
+pub mod Meaning
+-- ---- errors: where they stand, and how they print
 pub mod ErrorLocation
 pub mod ErrorText
-pub mod Fault
-pub mod Hash
-pub mod HashLaws
-pub mod Identifier
-pub mod IdentifierText
-pub mod IdentifierValue
-pub mod Meaning
-pub mod NumberText
-pub mod Order
-pub mod OrderLaws
-pub mod Print
-pub mod PrintLaws
-pub mod RangeLaws
-pub mod Reading
-pub mod ReadingViews
-pub mod Version
+pub mod ErrorEquality
+-- ---- laws over texts alone
 pub mod VersionLaws
-pub mod VersionText
-pub mod Word
-pub mod WordReading
+pub mod RangeLaws
+-- ---- how values of the program are seen
+pub mod Identifier
+-- ---- no contract of a public call names what follows: what private functions compute, and lemmas
+pub mod Private
+pub mod Lemmas

@@ -10,12 +10,12 @@ use Rattle.node_semver.specs.Version.{VersionValue, HasSameTriple, IsPrerelease}
 -- ---- as relations, in SemVer's words
 
 -- the second goes on where the first ends: `alpha` and `alpha.1`
-pub record IsProperBeginning {A : Type 0} (xs ys : List A) : Type 0 where
+pub record IsProperPrefix {A : Type 0} (xs ys : List A) : Type 0 where
   pub next : A
   pub rest : List A
   pub goes_on : ys ≡ xs ++ next ∷ rest
 
--- after a common beginning the next of the first is below the next of the second: `alpha.1` and `alpha.beta`
+-- after a common prefix the next of the first is below the next of the second: `alpha.1` and `alpha.beta`
 pub record HasNextBelow {A : Type 0} (Below : A → A → Type 0) (xs ys : List A) : Type 0 where
   pub common : List A
   pub next : A
@@ -26,9 +26,9 @@ pub record HasNextBelow {A : Type 0} (Below : A → A → Type 0) (xs ys : List 
   pub second : ys ≡ common ++ other_next ∷ other_rest
   pub below : Below next other_next
 
--- after a common beginning the first ends and the second goes on, or its next is below
+-- after a common prefix the first ends and the second goes on, or its next is below
 abbrev pub IsListBelow : {A : Type 0} → (A → A → Type 0) → List A → List A → Type 0
-IsListBelow Below xs ys = IsProperBeginning xs ys ⊎ HasNextBelow Below xs ys
+IsListBelow Below xs ys = IsProperPrefix xs ys ⊎ HasNextBelow Below xs ys
 
 -- by bytes: `Beta` is below `alpha`
 abbrev pub IsTextBelow : List ℕ → List ℕ → Type 0

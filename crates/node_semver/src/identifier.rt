@@ -1,7 +1,7 @@
 pub(crate) mod copy;
+mod display;
 mod hash;
 mod order;
-mod print;
 
 /// One part of a prerelease or of a build, as `alpha` and `1` of `1.2.3-alpha.1`.
 ///

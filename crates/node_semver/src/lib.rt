@@ -5,8 +5,8 @@ mod comparator;
 mod error;
 mod identifier;
 pub mod laws;
+mod parse;
 mod range;
-mod reading;
 mod version;
 mod word;
 

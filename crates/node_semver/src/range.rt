@@ -7,7 +7,7 @@ ghost use Rattle.node_semver.specs.Meaning.{AnyByRecursion, HasOpenEnd, IsInside
 ghost use Rattle.node_semver.specs.Version.{VersionValue};
 
 use crate::comparator::{Comparator, are_void};
-use crate::reading::behind_blanks;
+use crate::parse::skip_blanks;
 use crate::{SemverError, SemverErrorKind, Version, word};
 use std::alloc::{AllocError, Global};
 use std::marker::Model;
@@ -24,7 +24,7 @@ use std::marker::Model;
 /// | `<I.J.K-pre` | what is below I.J.K-pre |
 /// | `=I.J.K-pre` | `>=I.J.K-pre <=I.J.K-pre` |
 ///
-/// Blanks may stand behind the operator, and a `v` and blanks before the numbers: `>= v 1.0.0`. A build may stand at
+/// Blanks may follow the operator, and a `v` and blanks may stand before the numbers: `>= v 1.0.0`. A build may stand at
 /// the end, and changes nothing. Every other word is thrown away: `foo >=1.0.0` is `>=1.0.0`. Spaces and tabs are
 /// blanks, and newlines are not.
 ///
@@ -143,13 +143,13 @@ fn comparators_of(alloc: Global, text: &[u8]) -> Result<Vec<Comparator>, AllocEr
     ensures { IfOk result (λ v. IsWritten text.now (v.items ∷ [])) }
 {
     let mut comparators = Vec::new(alloc);
-    let mut rest = behind_blanks(text);
+    let mut rest = skip_blanks(text);
     while !rest.is_empty() {
-        let (comparator, behind) = word::next(alloc, rest)?;
+        let (comparator, others) = word::read_word(alloc, rest)?;
         if let Some(comparator) = comparator {
             comparators.push(comparator)?;
         }
-        rest = behind_blanks(behind);
+        rest = skip_blanks(others);
     }
     Ok(comparators)
 }

@@ -2,10 +2,10 @@ ghost use Rattle.std.specs.Prelude.{◌≡◌, ◌↔◌, IsTrue};
 ghost use Rattle.node_semver.specs.Version.{IsPrerelease, release};
 
 mod copy;
+mod display;
 mod hash;
 mod order;
 mod parse;
-mod print;
 #[cfg(test)]
 mod tests;
 

@@ -1,17 +1,17 @@
 //! The words of a range text.
 ghost use Rattle.std.specs.Prelude.{◌≡◌, Some, IfOk};
 ghost use Rattle.node_semver.specs.ComparatorText.{full, operator_comparator};
-ghost use Rattle.node_semver.specs.Reading.{after};
-ghost use Rattle.node_semver.specs.Word.{operator_of, operator_seen, word_seen};
-ghost use Rattle.node_semver.specs.WordReading.{is_clean, is_solid, next_word, operator_at, with_equals, word_at};
+ghost use Rattle.node_semver.specs.Private.Reading.{rest_of};
+ghost use Rattle.node_semver.specs.Private.WordReading as Reading;
+ghost use Rattle.node_semver.specs.Private.WordViews.{operator_of, operator_seen, word_seen};
 
 use crate::Version;
 use crate::comparator::Comparator;
-use crate::reading::{Fault, behind, behind_blanks, is_blank, partial};
+use crate::parse::{Fault, is_blank, read_partial, skip_blanks, skip_while};
 use semver_cuts::Cut;
 use std::alloc::{AllocError, Global};
 
-#[derive(Clone, Copy, Debug)]
+#[derive(Clone, Copy)]
 enum Operator {
     AtLeast,
     Above,
@@ -20,26 +20,29 @@ enum Operator {
     Below,
 }
 
-// `>=1.2.3` of `>=1.2.3 <2.0.0`, or nothing of `foo`, and the bytes behind the word
-#[tactic(auto, unfolding(crate::specs::WordReading::next_word))]
-pub(crate) fn next(alloc: Global, text: &[u8]) -> Result<(Option<Comparator>, &[u8]), AllocError>
-    ensures { IfOk result (λ w. (w.0, w.1.now) ≡ next_word text.now) }
+// `>=1.2.3` of `>=1.2.3 <2.0.0`, or nothing of `foo`, and the rest
+#[tactic(auto, unfolding(crate::specs::Private::WordReading::read_word))]
+pub(crate) fn read_word(
+    alloc: Global,
+    text: &[u8],
+) -> Result<(Option<Comparator>, &[u8]), AllocError>
+    ensures { IfOk result (λ w. (w.0, w.1.now) ≡ Reading.read_word text.now) }
 {
-    match word(alloc, text)? {
+    match read_comparator(alloc, text)? {
         Some((comparator, rest)) => Ok((Some(comparator), rest)),
-        None => Ok((None, thrown_away(text))),
+        None => Ok((None, skip_word(text))),
     }
 }
 
 // A comparator text with a clean end.
-#[tactic(auto, unfolding(crate::specs::WordReading::word_at))]
-fn word(alloc: Global, text: &[u8]) -> Result<Option<(Comparator, &[u8])>, AllocError>
-    ensures { IfOk result (λ w. word_seen w ≡ word_at text.now) }
+#[tactic(auto, unfolding(crate::specs::Private::WordReading::read_comparator))]
+fn read_comparator(alloc: Global, text: &[u8]) -> Result<Option<(Comparator, &[u8])>, AllocError>
+    ensures { IfOk result (λ w. word_seen w ≡ Reading.read_comparator text.now) }
 {
-    let Some((operator, operand)) = longest_operator(text) else {
+    let Some((operator, operand)) = read_operator(text) else {
         return Ok(None);
     };
-    match partial(alloc, behind_blanks(operand)) {
+    match read_partial(alloc, skip_blanks(operand)) {
         Ok((version, rest)) if ends_word(rest) => {
             Ok(Some((comparator(alloc, operator, version)?, rest)))
         }
@@ -51,9 +54,9 @@ fn word(alloc: Global, text: &[u8]) -> Result<Option<(Comparator, &[u8])>, Alloc
 
 // `>=` of `>=1.2.3`, the longest that stands there
 #[inline]
-#[tactic(auto, unfolding(crate::specs::WordReading::operator_at))]
-fn longest_operator(text: &[u8]) -> Option<(Operator, &[u8])>
-    ensures { operator_seen result ≡ operator_at text.now }
+#[tactic(auto, unfolding(crate::specs::Private::WordReading::read_operator))]
+fn read_operator(text: &[u8]) -> Option<(Operator, &[u8])>
+    ensures { operator_seen result ≡ Reading.read_operator text.now }
 {
     let (first, rest) = text.split_first()?;
     match *first {
@@ -67,7 +70,7 @@ fn longest_operator(text: &[u8]) -> Option<(Operator, &[u8])>
 // The longer operator where a `=` stands here.
 #[inline]
 fn with_equals(longer: Operator, shorter: Operator, text: &[u8]) -> (Operator, &[u8])
-    ensures { (operator_of result.0, result.1.now) ≡ with_equals (operator_of longer) (operator_of shorter) text.now }
+    ensures { (operator_of result.0, result.1.now) ≡ Reading.with_equals (operator_of longer) (operator_of shorter) text.now }
 {
     match text.split_first() {
         Some((b'=', rest)) => (longer, rest),
@@ -99,7 +102,7 @@ fn comparator(alloc: Global, operator: Operator, version: Version) -> Result<Com
 // Whether a word may end before these bytes.
 #[inline]
 fn ends_word(text: &[u8]) -> bool
-    ensures { result ≡ is_clean text.now }
+    ensures { result ≡ Reading.is_clean text.now }
 {
     match text.split_first() {
         Some((byte, _)) => is_blank(*byte),
@@ -109,8 +112,8 @@ fn ends_word(text: &[u8]) -> bool
 
 // The bytes from the next blank on.
 #[inline]
-fn thrown_away(text: &[u8]) -> &[u8]
-    ensures { result.now ≡ after is_solid text.now }
+fn skip_word(text: &[u8]) -> &[u8]
+    ensures { result.now ≡ rest_of Reading.is_solid text.now }
 {
-    behind(text, |byte| !is_blank(byte))
+    skip_while(text, |byte| !is_blank(byte))
 }

@@ -1,13 +1,13 @@
 //! What identifiers feed a hasher.
 
 ghost use Rattle.node_semver.specs.Hash.{identifier_writes};
-ghost use Rattle.node_semver.specs.HashLaws.{identifier_alike};
+ghost use Rattle.node_semver.specs.Lemmas.Hash.{identifier_alike};
 ghost use Rattle.node_semver.specs.Identifier.{value_of};
 
 use crate::Identifier;
 use std::hash::{Hash, Hasher};
 
-/// Equal identifiers hash alike. A number and a text are fed behind different marks.
+/// Equal identifiers hash alike. A number and a text are fed after different marks.
 ///
 /// # Memory
 ///

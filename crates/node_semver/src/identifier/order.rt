@@ -5,7 +5,7 @@ ghost use Rattle.std.specs.Cmp.{eq_by_cmp_equiv, on_equiv, on_total, partial_equ
 ghost use Rattle.std.specs.Ordering.{eq_by_cmp, on};
 ghost use Rattle.node_semver.specs.Identifier.{value_of};
 ghost use Rattle.node_semver.specs.Order.{identifier_cmp, IdentifierOrderMeans};
-ghost use Rattle.node_semver.specs.OrderLaws.{identifier_total};
+ghost use Rattle.node_semver.specs.Lemmas.Order.{identifier_total};
 
 use crate::Identifier;
 use std::cmp::Ordering;

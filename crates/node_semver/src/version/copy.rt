@@ -8,20 +8,6 @@ use crate::identifier::copy::copies_of;
 use std::alloc::{AllocError, Global};
 
 impl Version {
-    // Takes no memory where there are no identifiers.
-    pub(crate) fn copy_of(&self, alloc: Global) -> Result<Version, AllocError>
-        ensures copy { IfOk result (λ c. c ≡ self.now) }
-        ensures plain { self.now.pre_release ≡ [] → self.now.build ≡ [] → IsOk result }
-    {
-        Ok(Version {
-            major: self.major,
-            minor: self.minor,
-            patch: self.patch,
-            build: copies_of(alloc, &self.build)?,
-            pre_release: copies_of(alloc, &self.pre_release)?,
-        })
-    }
-
     // Takes no memory where there is no prerelease.
     pub(crate) fn without_build_of(&self, alloc: Global) -> Result<Version, AllocError>
         ensures copy { IfOk result (λ c. c ≡ without_build self.now) }

@@ -5,7 +5,7 @@ ghost use Rattle.std.specs.Cmp.{eq_by_cmp_equiv, partial_equiv_from_equiv, po};
 ghost use Rattle.std.specs.Ordering.{eq_by_cmp};
 ghost use Rattle.node_semver.specs.Identifier.{values_of};
 ghost use Rattle.node_semver.specs.Order.{IsSame, OrderMeans, prerelease_cmp, version_cmp};
-ghost use Rattle.node_semver.specs.OrderLaws.{version_total};
+ghost use Rattle.node_semver.specs.Lemmas.Order.{version_total};
 
 use crate::{Identifier, Version};
 use std::cmp::Ordering;
@@ -31,7 +31,7 @@ impl PartialEq for Version {
     ghost laws = { partial_equiv_from_equiv (eq_by_cmp_equiv version_total) };
 
     #[inline]
-    #[tactic(auto, using(crate::specs::OrderLaws::version_same))]
+    #[tactic(auto, using(crate::specs::Lemmas::Order::version_same))]
     fn eq(&self, other: &Version) -> bool
         ensures answer { result ≡ eq_by_cmp version_cmp self.now other.now }
         ensures same { IsTrue result ↔ IsSame self.now other.now }
@@ -85,7 +85,7 @@ impl Ord for Version {
     ghost matches_eq = { λ v w. refl };
 
     #[inline]
-    #[tactic(auto, using(crate::specs::OrderLaws::version_order))]
+    #[tactic(auto, using(crate::specs::Lemmas::Order::version_order))]
     fn cmp(&self, other: &Version) -> Ordering
         ensures answer { result ≡ version_cmp self.now other.now }
         ensures order { OrderMeans self.now other.now result }

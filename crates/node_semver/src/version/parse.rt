@@ -1,24 +1,24 @@
 ghost use Rattle.std.specs.Prelude.{◌≡◌, ◌⊎◌, [], IfOk, IfErr, IsOk};
 ghost use Rattle.node_semver.specs.Error.{IsOutOfMemory, kind_of};
 ghost use Rattle.node_semver.specs.Fault.{IsFaultOf};
-ghost use Rattle.node_semver.specs.ReadingViews.{IsErrorOf, IsMemoryOr, kind_in};
+ghost use Rattle.node_semver.specs.Private.ReadingViews.{IsErrorOf, IsMemoryOr, kind_in};
 ghost use Rattle.node_semver.specs.Version.{VersionValue};
-ghost use Rattle.node_semver.specs.declared.reading.Fault.TheVariants.{TooLarge};
+ghost use Rattle.node_semver.specs.declared.parse.fault.Fault.TheVariants.{TooLarge};
 ghost use Rattle.node_semver.specs.VersionText.{IsReadAs, IsVersionText};
 
 #[cfg(test)]
 mod tests;
 
-use crate::reading::{self, Fault};
+use crate::parse::{self, Fault};
 use crate::{MAX_LENGTH, SemverError, SemverErrorKind, Version};
 use std::alloc::Global;
 
 impl Version {
     /// Reads a version text.
     ///
-    /// A text is a version in one way, or it has one fault, the first one from the left. Read in npm's loose form: a `v` or
-    /// `V` and blanks may stand in front, numbers and identifiers may have leading zeros, and the `-` of a prerelease may be
-    /// left out. No blank may stand behind. An identifier of digits above the greatest `u64` is a text.
+    /// A text is a version in one way, or it has one fault, the first one from the left. Read in npm's loose form: it may
+    /// begin with a `v` or `V` and blanks, numbers and identifiers may have leading zeros, and the `-` of a prerelease may be
+    /// left out. No blank may follow. An identifier of digits above the greatest `u64` is a text.
     ///
     /// # Errors
     ///
@@ -26,7 +26,7 @@ impl Version {
     ///
     /// - 257 times `1`: `MaxLengthError` at 256, the length less one.
     /// - `1.`: `Context("version")` at 2, a number is missing.
-    /// - `1.2`: `Context("version")` at 3, a point is missing.
+    /// - `1.2`: `Context("version")` at 3, a dot is missing.
     /// - `18446744073709551616.0.0`: `ParseIntError` at 0, the number is above the greatest `u64`.
     /// - `1.2.900719925474100`: `MaxIntError(900719925474100)` at 4, the number is above `MAX_SAFE_INTEGER`.
     /// - `1.2.3 `: `Other` at 5, bytes are left.
@@ -71,7 +71,7 @@ fn whole(alloc: Global, text: &[u8]) -> Result<Version, Fault>
         // Told at the last byte.
         return Err(Fault::TooLong(1));
     }
-    match reading::version(alloc, text) {
+    match parse::read_version(alloc, text) {
         Ok((version, [])) => Ok(version),
         Ok((_, rest)) => Err(Fault::LeftOver(rest.len())),
         Err(fault) => Err(fault),
@@ -109,5 +109,5 @@ fn large_kind_at(text: &[u8], left: usize) -> SemverErrorKind
     requires { IsMemoryOr text.now (TooLarge left) }
     ensures { kind_of result ≡ kind_in text.now (TooLarge left) }
 {
-    reading::large_kind(&text[text.len().saturating_sub(left)..])
+    parse::large_kind(&text[text.len().saturating_sub(left)..])
 }

@@ -155,15 +155,15 @@ fn prints_versions_and_identifiers(rt: HostRuntime) -> Result<(), Fail> {
 }
 
 #[test]
-fn makes_and_copies_versions(rt: HostRuntime) -> Result<(), Fail> {
+fn makes_versions(rt: HostRuntime) -> Result<(), Fail> {
     let alloc = rt.alloc();
     let plain = Version::new(alloc, 1, 2, 3);
     assert!(rt; !plain.is_prerelease());
     assert_eq!(rt; format!(in alloc; "{plain}")?.as_str(), "1.2.3");
     let v = version(alloc, (1, 2, 3), "rc.1", "b.7")?;
     assert!(rt; v.is_prerelease());
-    let (copy, shorter) = (v.copy_of(alloc)?, v.without_build_of(alloc)?);
-    assert_eq!(rt; format!(in alloc; "{copy}")?.as_str(), "1.2.3-rc.1+b.7");
+    assert_eq!(rt; format!(in alloc; "{v}")?.as_str(), "1.2.3-rc.1+b.7");
+    let shorter = v.without_build_of(alloc)?;
     assert_eq!(rt; format!(in alloc; "{shorter}")?.as_str(), "1.2.3-rc.1");
     Ok(())
 }

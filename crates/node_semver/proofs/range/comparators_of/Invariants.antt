@@ -1,5 +1,5 @@
 use Rattle.std.proofs.Common.{length}
-use Rattle.node_semver.proofs.DivisionLaws.{Completes}
+use Rattle.node_semver.proofs.DivisionLemmas.{Completes}
 use Rattle.node_semver.proofs.range.comparators_of.Given as goal
 
 abbrev pub invariant-loop-rest : goal.invariant-loop-rest

@@ -2,7 +2,7 @@ use Rattle.std.proofs.Common.{◌≡◌, Bool, IsTrue, true, false, ℕ, List, [
 use Rattle.node_semver.specs.ComparatorText.{Comparator}
 use Rattle.node_semver.specs.Division.{IsWritten}
 use Rattle.node_semver.specs.Meaning.{AreVoid}
-use Rattle.node_semver.proofs.MeaningLaws.{admits-iff, refused-from_void, void-from_refused}
+use Rattle.node_semver.proofs.MeaningLemmas.{admits-iff, refused-from_void, void-from_refused}
 use Rattle.node_semver.proofs.range.Range.parse.Goals as goal
 
 pub returns-then-are_void-clause-refused : goal.returns-then-are_void-clause-refused

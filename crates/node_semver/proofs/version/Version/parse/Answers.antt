@@ -1,5 +1,5 @@
 use Rattle.std.proofs.Common.{inl, inr}
-use Rattle.node_semver.proofs.FaultLaws.{version-no_fault}
+use Rattle.node_semver.proofs.FaultLemmas.{version-no_fault}
 use Rattle.node_semver.proofs.OneReading.{one_reading}
 use Rattle.node_semver.proofs.version.Version.parse.Goals as goal
 

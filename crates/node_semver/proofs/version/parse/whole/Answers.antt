@@ -22,4 +22,4 @@ pub returns-in-Err-clause-fault : goal.returns-in-Err-clause-fault
 returns-in-Err-clause-fault c = whole-fault c.args.text.now c.in-Err.fault c.if-text-gt-MAX_LENGTH.false c.in-Err.ensures.read
 
 pub returns-in-Err-clause-plain : goal.returns-in-Err-clause-plain
-returns-in-Err-clause-plain c = λ v h p b. rw c.in-Err.is at (plain-read c.version.result c.args.text.now v c.version.ensures.plain h p b)
+returns-in-Err-clause-plain c = λ v h p b. rw c.in-Err.is at (plain-read c.read_version.result c.args.text.now v c.read_version.ensures.plain h p b)

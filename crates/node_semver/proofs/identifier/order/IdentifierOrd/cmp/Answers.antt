@@ -1,5 +1,5 @@
 use Rattle.std.proofs.Common.{rules}
-use Rattle.node_semver.specs.OrderLaws.{identifier_order}
+use Rattle.node_semver.specs.Lemmas.Order.{identifier_order}
 use Rattle.node_semver.proofs.identifier.order.IdentifierOrd.cmp.Goals as goal
 
 pub returns-in-AlphaNumeric-AlphaNumeric-clause-order :

@@ -2,7 +2,7 @@ use Rattle.std.proofs.Common.{rules, ap, ◌∙◌}
 use Rattle.std.specs.Hash.{fed_along}
 use Rattle.node_semver.specs.Identifier.{values_of}
 use Rattle.node_semver.specs.Hash.{version_writes}
-use Rattle.node_semver.specs.HashLaws.{version_writes-fields}
+use Rattle.node_semver.specs.Lemmas.Hash.{version_writes-fields}
 use Rattle.node_semver.proofs.version.hash.VersionHash.hash.Goals as goal
 
 pub returns : goal.returns

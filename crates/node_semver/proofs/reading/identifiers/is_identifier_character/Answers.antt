@@ -1,9 +1,0 @@
-use Rattle.std.proofs.Common.{arith, get_or, nat_eq, not, refl}
-use Rattle.node_semver.specs.declared.reading.identifiers.TheConstants.{IDENTIFIER_CHARACTERS}
-use Rattle.node_semver.specs.Characters.{is_identifier_character}
-use Rattle.node_semver.proofs.ByteTable.{agree, agree-at}
-use Rattle.node_semver.proofs.reading.identifiers.is_identifier_character.Goals as goal
-
-pub returns : goal.returns
-unfolding agree
-returns c = agree-at (λ b. not (nat_eq (get_or IDENTIFIER_CHARACTERS b 0) 44)) is_identifier_character 256 refl c.args.byte (omega arith)

@@ -1,0 +1,3 @@
+pub mod Hash
+pub mod Order
+pub mod Print

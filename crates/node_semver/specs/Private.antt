@@ -1,0 +1,4 @@
+pub mod Reading
+pub mod ReadingViews
+pub mod WordReading
+pub mod WordViews

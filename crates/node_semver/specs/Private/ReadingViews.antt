@@ -1,0 +1,90 @@
+-- What is seen of what the private readers answer.
+use Rattle.std.specs.Prelude.{◌≡◌, ◌-◌, ◌<◌, ◌⊎◌, ℕ, Bool, true, List, [], ◌∷◌, drop, length, Result, Ok, Err, IsOk, codes}
+use Rattle.node_semver.specs.Version.{VersionValue}
+use Rattle.std.specs.Borrow.{Bor}
+use Rattle.node_semver.specs.Characters.{is_digit, is_identifier_character, dot}
+use Rattle.node_semver.specs.Error.{IsOutOfMemory, IsRefusalAt, Kind, context, max_length, other, out_of_memory}
+use Rattle.node_semver.specs.Fault.{IsFault, too_large}
+use Rattle.node_semver.specs.NumberText.{number_of}
+use Rattle.node_semver.specs.Private.Reading.{Read, rest_of, begins, prefix_of}
+use Rattle.std.specs.declared.vec.Vec.{Vec}
+use Rattle.std.specs.declared.alloc.Global.{Global}
+use Rattle.node_semver.specs.Identifier.{values_of}
+use Rattle.node_semver.specs.IdentifierValue.{IdentifierValue}
+use Rattle.node_semver.specs.declared.identifier.Identifier.{Identifier}
+use Rattle.node_semver.specs.declared.error.SemverError.{SemverError}
+use Rattle.node_semver.specs.declared.parse.fault.Fault.{Fault}
+use Rattle.node_semver.specs.declared.parse.fault.Fault.TheVariants.{LeftOver, Missing, OutOfMemory, TooLarge, TooLong}
+
+-- a function of the code answers of each byte what this test says
+abbrev pub IsTest : (ℕ → Bool → Type 0) → (ℕ → Bool) → Type 0
+IsTest answers test = (b : ℕ) (r : Bool) → b < 256 → answers b r → r ≡ test b
+
+-- how many bytes of the text stand from the fault on
+abbrev pub left_of : Fault → ℕ
+left_of (TooLong left) = left
+left_of (Missing left) = left
+left_of (TooLarge left) = left
+left_of (LeftOver left) = left
+left_of OutOfMemory = 0
+
+-- the kind that a fault of this text is told as
+abbrev pub kind_in : List ℕ → Fault → Kind
+kind_in text (TooLong left) = max_length
+kind_in text (Missing left) = context (codes "version")
+kind_in text (TooLarge left) = too_large (number_of (prefix_of is_digit (drop (length text - left) text)))
+kind_in text (LeftOver left) = other
+kind_in text OutOfMemory = out_of_memory
+
+-- no fault: memory was refused
+abbrev pub IsWantOfMemory : Fault → Type 0
+IsWantOfMemory f = f ≡ OutOfMemory
+
+-- what a reader that takes no memory answered
+abbrev pub seen : {A : Type 0} → Result (A × Bor (List ℕ)) Fault → Read A
+seen (Ok x) = Ok (x.0, x.1.now)
+seen (Err f) = Err f
+
+-- what a reader answered, seen by a view, is what reading gives, unless memory ran out
+abbrev pub Gives : {X A : Type 0} → (X → A) → Result X Fault → Result A Fault → Type 0
+Gives view (Ok x) read = read ≡ Ok (view x)
+Gives view (Err f) read = IsWantOfMemory f ⊎ (read ≡ Err f)
+
+-- the text without its first dot
+abbrev pub dot_seen : Result (Bor (List ℕ)) Fault → Result (List ℕ) Fault
+dot_seen (Ok rest) = Ok rest.now
+dot_seen (Err f) = Err f
+
+-- a version and the rest
+abbrev pub version_seen : VersionValue × Bor (List ℕ) → VersionValue × List ℕ
+version_seen x = (x.0, x.1.now)
+
+-- a prerelease and a build, and the rest
+abbrev pub extras_seen : (Vec Identifier Global × Vec Identifier Global) × Bor (List ℕ) → (List IdentifierValue × List IdentifierValue) × List ℕ
+extras_seen x = ((values_of x.0.0.items, values_of x.0.1.items), x.1.now)
+
+-- where a version with no prerelease and no build is read, the answer is not want of memory
+abbrev pub IsPlainOk : {X : Type 0} → Result X Fault → Read VersionValue → Type 0
+IsPlainOk r (Ok x) = x.0.pre_release ≡ [] → x.0.build ≡ [] → IsOk r
+IsPlainOk r (Err f) = Unit {0}
+
+-- a list of identifiers and the rest
+abbrev pub IsListRead : List IdentifierValue × List ℕ → Vec Identifier Global × Bor (List ℕ) → Type 0
+IsListRead read x = (values_of x.0.items ≡ read.0) × (x.1.now ≡ read.1)
+
+-- a dot, an identifier and the rest: `.1+5`
+pub record IsNextIdentifier (text part rest : List ℕ) : Type 0 where
+  pub next : List ℕ
+  pub whole : text ≡ dot ∷ next
+  pub some : begins is_identifier_character next ≡ true
+  pub part_is : part ≡ prefix_of is_identifier_character next
+  pub rest_is : rest ≡ rest_of is_identifier_character next
+
+-- memory ran out, or the fault is that of the text
+abbrev pub IsMemoryOr : List ℕ → Fault → Type 0
+IsMemoryOr text f = IsWantOfMemory f ⊎ IsFault text (kind_in text f) (length text - left_of f)
+
+-- the error that tells this fault of the text: want of memory for want of memory
+pub record IsErrorOf (text : List ℕ) (f : Fault) (e : SemverError) : Type 0 where
+  pub memory : IsWantOfMemory f → IsOutOfMemory e
+  pub fault : IsOutOfMemory e ⊎ IsRefusalAt text (kind_in text f) (length text - left_of f) e

@@ -4,23 +4,24 @@ use Rattle.std.proofs.lemmas.Bool.{cases_Bool, le-leb, leb-false, leb-true, lt-l
 use Rattle.std.proofs.lemmas.List.{length-append}
 use Rattle.std.specs.Prelude.{Option, Some, None, Result, ◌==◌, if◌then◌else◌, nat_le}
 use Rattle.node_semver.specs.declared.TheConstants.{MAX_LENGTH, MAX_SAFE_INTEGER}
-use Rattle.node_semver.specs.Characters.{BeginsWithNo, is_blank, is_digit, dot}
+use Rattle.node_semver.specs.Characters.{BeginsWithNo, dot, is_blank, is_digit, is_version_mark, mark_of}
 use Rattle.node_semver.specs.Error.{Kind, max_length, other}
-use Rattle.node_semver.specs.Fault.{IsAllDigits, IsFault, HasPrefix, IsMarkOf, large_number, left_over, no_number, no_dot, too_large, too_long, with_dots}
+use Rattle.node_semver.specs.Fault.{IsAllDigits, IsFault, HasPrefix, large_number, left_over, no_number, no_dot, too_large, too_long, with_dots}
 use Rattle.node_semver.specs.NumberText.{number_of}
 use Rattle.node_semver.specs.Version.{VersionValue}
-use Rattle.node_semver.specs.VersionText.{IsMarkedText, IsVersionText, is_version_mark}
-use Rattle.node_semver.specs.Private.Reading.{rest_of, skip_one, begins, read_extras, prefix_of, read_marked, read_number, read_triple, read_dot, read_unmarked, version_of}
+use Rattle.node_semver.specs.VersionText.{IsMarked, IsUnmarkedVersion, IsVersionText}
+use Rattle.node_semver.specs.Private.Reading.{rest_of, skip_one, begins, read_extras, prefix_of, read_version, read_number, read_triple, read_dot, read_unmarked, version_of}
 use Rattle.node_semver.specs.declared.parse.fault.Fault.{Fault}
 use Rattle.node_semver.specs.declared.parse.fault.Fault.TheVariants.{TooLarge}
 use Rattle.node_semver.specs.Private.ReadingViews.{kind_in, left_of}
 use Rattle.node_semver.proofs.FaultReading.{AreNumbers, digits-there, fault-takes, prefix-length, left-takes, missing_at}
-use Rattle.node_semver.proofs.Prefixes.{rest_of-again, begins-append, prefix_of-again, no-append, with-begins, with_no-begins}
+use Rattle.node_semver.proofs.Prefixes.{rest_of-again, prefix_of-again, no-append, with-begins, with_no-begins}
 use Rattle.node_semver.proofs.IdentifierReading.{pick-false, pick-true}
-use Rattle.node_semver.proofs.LongestReading.{marked-longest}
+use Rattle.node_semver.proofs.LongestReading.{version-longest}
 use Rattle.node_semver.proofs.NumberReading.{number-again, dot-again}
-use Rattle.node_semver.proofs.OneReading.{read-version, version-mark, version-read}
-use Rattle.node_semver.proofs.VersionReading.{digit-no_blank, mark-again, marked-takes, numbers-again, regroup, triple-begins}
+use Rattle.node_semver.proofs.Marks.{skip_one-mark}
+use Rattle.node_semver.proofs.OneReading.{read-version, version-read}
+use Rattle.node_semver.proofs.VersionReading.{numbers-again, regroup, version-follows, version-takes}
 
 -- The fault that a text of this length is told where this is left after a version
 abbrev left_told : ℕ → List ℕ → Option (Kind × ℕ)
@@ -34,10 +35,10 @@ told text (Err f) = Some (kind_in text f, length text - left_of f)
 
 -- the kind and the offset that a text is refused with, by the reader
 abbrev pub fault_of : List ℕ → Option (Kind × ℕ)
-fault_of text = if nat_le (length text) MAX_LENGTH then told text (read_marked is_version_mark text) else Some (max_length, length text - 1)
+fault_of text = if nat_le (length text) MAX_LENGTH then told text (read_version text) else Some (max_length, length text - 1)
 
 -- of a text that is short
-short-told : (text : List ℕ) → length text ≤ MAX_LENGTH → fault_of text ≡ told text (read_marked is_version_mark text)
+short-told : (text : List ℕ) → length text ≤ MAX_LENGTH → fault_of text ≡ told text (read_version text)
 short-told text short = pick-true _ _ _ (le-leb _ _ short)
 
 -- no number is read
@@ -91,37 +92,21 @@ dots-stop (a ∷ []) digits rest all few here limit none =
     rw (one-dot a (digits ++ rest), r, dot-again (digits ++ rest), n, no-dot rest none) refl
 dots-stop (a ∷ b ∷ texts) digits rest all few here limit none = absurd (omega arith)
 
--- no mark is taken where there is none
-unmarked : (text : List ℕ) → BeginsWithNo is_version_mark text → skip_one is_version_mark text ≡ text
-unfolding skip_one
-unmarked [] h = refl
-unmarked (b ∷ rest) h = rw h refl
-
--- a mark is taken
-one-mark : (b : ℕ) (rest : List ℕ) → is_version_mark b ≡ true → skip_one is_version_mark (b ∷ rest) ≡ rest
-unfolding skip_one
-one-mark b rest h = pick-true _ _ _ h
-
-mark-taken : (text mark rest : List ℕ) → IsMarkOf text mark → text ≡ mark ++ rest → skip_one is_version_mark text ≡ rest
-mark-taken text mark rest (inl none) whole = unmarked text none.1 ∙ whole ∙ ap (λ (l : List ℕ). l ++ rest) none.0
-mark-taken text mark rest (inr some) whole =
-    ap (λ (l : List ℕ). skip_one is_version_mark l) (whole ∙ ap (λ (l : List ℕ). l ++ rest) some.1) ∙ one-mark some.0 rest some.2
-
 -- a mark and blanks are taken before the numbers of a prefix
-prefix_of-taken : (text before rest : List ℕ) (count : ℕ) (h : HasPrefix text before rest count) → rest_of is_blank (skip_one is_version_mark text) ≡ with_dots h.numbers ++ rest
-prefix_of-taken text before rest count h =
-    let whole : text ≡ h.mark ++ (h.blanks ++ (with_dots h.numbers ++ rest)) = h.whole ∙ ap (λ (l : List ℕ). l ++ rest) h.pieces ∙ simp append_assoc in
-    ap (λ (l : List ℕ). rest_of is_blank l) (mark-taken text h.mark (h.blanks ++ (with_dots h.numbers ++ rest)) h.marked whole)
+prefix-taken : (text before rest : List ℕ) (count : ℕ) (h : HasPrefix text before rest count) → rest_of is_blank (skip_one is_version_mark text) ≡ with_dots h.numbers ++ rest
+prefix-taken text before rest count h =
+    let whole : text ≡ mark_of is_version_mark text ++ (h.blanks ++ (with_dots h.numbers ++ rest)) = h.whole ∙ ap (λ (l : List ℕ). l ++ rest) h.pieces ∙ simp append_assoc in
+    ap (λ (l : List ℕ). rest_of is_blank l) (skip_one-mark is_version_mark text (h.blanks ++ (with_dots h.numbers ++ rest)) whole)
     ∙ rest_of-again is_blank h.blanks (with_dots h.numbers ++ rest) h.blank h.blanks_end
 
 -- a fault in the numbers is a fault of the whole
-stopped : (text numbers : List ℕ) (f : Fault) → rest_of is_blank (skip_one is_version_mark text) ≡ numbers → read_triple numbers ≡ Err f → read_marked is_version_mark text ≡ Err f
-unfolding read_marked read_unmarked
+stopped : (text numbers : List ℕ) (f : Fault) → rest_of is_blank (skip_one is_version_mark text) ≡ numbers → read_triple numbers ≡ Err f → read_version text ≡ Err f
+unfolding read_version read_unmarked
 stopped text numbers f e h = rw (e, h) refl
 
 -- so it is told where the rest after a prefix starts
 stopped-told : (text beginning rest : List ℕ) (kind : Kind) (f : Fault) → length text ≤ MAX_LENGTH → text ≡ beginning ++ rest → kind_in text f ≡ kind → left_of f ≡ length rest
-    → read_marked is_version_mark text ≡ Err f → fault_of text ≡ Some (kind, length beginning)
+    → read_version text ≡ Err f → fault_of text ≡ Some (kind, length beginning)
 stopped-told text beginning rest kind f short whole same left h =
     short-told text short ∙ ap (λ (r : Result (VersionValue × List ℕ) Fault). told text r) h ∙ rw (same, left) (ap (λ (n : ℕ). Some (kind, n)) (sym (prefix-length text beginning rest whole)))
 
@@ -129,37 +114,34 @@ stopped-told text beginning rest kind f short whole same left h =
 pub record ReadsSome (text : List ℕ) : Type 0 where
   pub v : VersionValue
   pub left : List ℕ
-  pub read : read_marked is_version_mark text ≡ Ok (v, left)
+  pub read : read_version text ≡ Ok (v, left)
 
-version-opens : (text more : List ℕ) (w : VersionValue) → IsMarkedText is_version_mark text w → BeginsWithNo is_digit more → ReadsSome (text ++ more)
-unfolding read_marked read_unmarked
+version-opens : (text more : List ℕ) (w : VersionValue) → IsMarked is_version_mark (IsUnmarkedVersion w) text → BeginsWithNo is_digit more → ReadsSome (text ++ more)
+unfolding read_version read_unmarked
 version-opens text more w h none =
     let t = h.read in
-    let starts = begins-append is_digit h.triple more (triple-begins h.triple w t) in
-    let e : text ++ more ≡ h.mark ++ (h.blanks ++ (h.triple ++ more)) = ap (λ (l : List ℕ). l ++ more) h.whole ∙ simp append_assoc in
-    let m = mark-again is_version_mark version-mark h.mark h.blanks (h.triple ++ more) h.marked h.blank starts in
-    let b = rest_of-again is_blank h.blanks (h.triple ++ more) h.blank (digit-no_blank (h.triple ++ more) starts) in
-    let split : h.triple ++ more ≡ t.major ++ (dot ∷ (t.minor ++ (dot ∷ (t.patch ++ (t.extras ++ more))))) =
-    ap (λ (l : List ℕ). l ++ more) t.whole ∙ sym (regroup t.major t.minor t.patch t.extras more) in
-    let n = numbers-again t.major t.minor t.patch (t.extras ++ more) w.major w.minor w.patch t.first t.second t.third (no-append is_digit t.extras more t.digits_end none) in
+    let split : h.unmarked ++ more ≡ t.first ++ (dot ∷ (t.second ++ (dot ∷ (t.third ++ (t.extras ++ more))))) =
+    ap (λ (l : List ℕ). l ++ more) t.whole ∙ sym (regroup t.first t.second t.third t.extras more) in
+    let n = numbers-again t.first t.second t.third (t.extras ++ more) w.major w.minor w.patch t.major_text t.minor_text t.patch_text
+    (no-append is_digit t.extras more (t.digits_end t.patch_text.some) none) in
     record {
       v = version_of (w.major, w.minor, w.patch) (read_extras (t.extras ++ more)).0;
       left = (read_extras (t.extras ++ more)).1;
-      read = rw (e, m, b, split, n) refl;
+      read = rw (version-follows text more w h, split, n) refl;
     }
 
 -- what is left after the longest version is told
 left-told : (text version : List ℕ) (v w : VersionValue) (b : ℕ) (rest left : List ℕ) → length text ≤ MAX_LENGTH → text ≡ version ++ (b ∷ rest) → IsVersionText version v
     → ((shorter behind : List ℕ) (u : VersionValue) → text ≡ shorter ++ behind → IsVersionText shorter u → length shorter ≤ length version)
-    → read_marked is_version_mark text ≡ Ok (w, left) → left_told (length text) left ≡ Some (other, length version)
+    → read_version text ≡ Ok (w, left) → left_told (length text) left ≡ Some (other, length version)
 left-told text version v w b rest [] short whole h longest read =
     let all = longest text [] w (sym (append-nil text)) (read-version text w short read) in
     absurd (omega (arith, ap length whole, length-append version (b ∷ rest)))
 left-told text version v w b rest (c ∷ left) short whole h longest read =
-    let t = marked-takes is_version_mark text w (c ∷ left) read in
+    let t = version-takes text w (c ∷ left) read in
     let taken : IsVersionText t.taken w = record { short = omega (arith, ap length t.whole, length-append t.taken (c ∷ left)); fields = t.read } in
     let below : length t.taken ≤ length version = longest t.taken (c ∷ left) w t.whole taken in
-    let above : length (c ∷ left) ≤ length (b ∷ rest) = marked-longest is_version_mark version-mark version (b ∷ rest) (c ∷ left) w v h.fields (ap (λ (l : List ℕ). read_marked is_version_mark l) (sym whole) ∙ read) in
+    let above : length (c ∷ left) ≤ length (b ∷ rest) = version-longest version (b ∷ rest) (c ∷ left) w v h.fields (ap (λ (l : List ℕ). read_version l) (sym whole) ∙ read) in
     let same : length text - length (c ∷ left) ≡ length version =
     omega (arith, ap length whole, ap length t.whole, length-append version (b ∷ rest), length-append t.taken (c ∷ left)) in
     ap (λ (n : ℕ). Some (other, n)) same
@@ -169,19 +151,19 @@ pub fault-again : (text : List ℕ) (kind : Kind) (offset : ℕ) → IsFault tex
 fault-again text kind offset (too_long long) = pick-false _ _ _ (lt-leb _ _ long)
 fault-again text kind offset (no_number before rest count short h none) =
     let stops = numbers-stop h.numbers rest (missing_at rest) h.read (omega (arith, h.few, h.counted)) (no-number rest none) in
-    stopped-told text before rest kind (missing_at rest) short h.whole refl refl (stopped text (with_dots h.numbers ++ rest) (missing_at rest) (prefix_of-taken text before rest count h) stops)
+    stopped-told text before rest kind (missing_at rest) short h.whole refl refl (stopped text (with_dots h.numbers ++ rest) (missing_at rest) (prefix-taken text before rest count h) stops)
 fault-again text kind offset (large_number before digits rest count short h all large) =
     let e = TooLarge (length (digits ++ rest)) in
     let stops = numbers-stop h.numbers (digits ++ rest) e h.read (omega (arith, h.few, h.counted)) (too-large digits rest all large) in
     stopped-told text before (digits ++ rest) kind e short h.whole (ap (λ (l : List ℕ). too_large (number_of l)) (digits-there text before digits rest h.whole all)) refl
-    (stopped text (with_dots h.numbers ++ (digits ++ rest)) e (prefix_of-taken text before (digits ++ rest) count h) stops)
+    (stopped text (with_dots h.numbers ++ (digits ++ rest)) e (prefix-taken text before (digits ++ rest) count h) stops)
 fault-again text kind offset (no_dot before digits rest count short h few all limit none) =
     let stops = dots-stop h.numbers digits rest h.read (omega (arith, h.counted)) all limit none in
     stopped-told text (before ++ digits) rest kind (missing_at rest) short (h.whole ∙ sym (append_assoc before digits rest)) refl refl
-    (stopped text (with_dots h.numbers ++ (digits ++ rest)) (missing_at rest) (prefix_of-taken text before (digits ++ rest) count h) stops)
+    (stopped text (with_dots h.numbers ++ (digits ++ rest)) (missing_at rest) (prefix-taken text before (digits ++ rest) count h) stops)
 fault-again text kind offset (left_over version v b rest short whole none h longest) =
     let s = version-opens version (b ∷ rest) v h.fields none in
-    let read : read_marked is_version_mark text ≡ Ok (s.v, s.left) = ap (λ (l : List ℕ). read_marked is_version_mark l) whole ∙ s.read in
+    let read : read_version text ≡ Ok (s.v, s.left) = ap (λ (l : List ℕ). read_version l) whole ∙ s.read in
     short-told text short ∙ ap (λ (r : Result (VersionValue × List ℕ) Fault). told text r) read ∙ left-told text version v s.v b rest s.left short whole h longest read
 
 -- a version text is told no fault
@@ -204,7 +186,7 @@ version-no_fault text v kind offset h g = cc (sym (version-none text v h) ∙ fa
 abbrev ReadOrFaulty : List ℕ → Type 0
 ReadOrFaulty text = ((v : VersionValue) × IsVersionText text v) ⊎ ((kind : Kind) × (offset : ℕ) × IsFault text kind offset)
 
-result-takes : (text : List ℕ) (r : Result (VersionValue × List ℕ) Fault) → length text ≤ MAX_LENGTH → read_marked is_version_mark text ≡ r → ReadOrFaulty text
+result-takes : (text : List ℕ) (r : Result (VersionValue × List ℕ) Fault) → length text ≤ MAX_LENGTH → read_version text ≡ r → ReadOrFaulty text
 result-takes text (Err f) short h = inr (kind_in text f, length text - left_of f, fault-takes text f short h)
 result-takes text (Ok (v, [])) short h = inl (v, read-version text v short h)
 result-takes text (Ok (v, b ∷ rest)) short h = inr (other, length text - length (b ∷ rest), left-takes text v b rest short h)
@@ -212,7 +194,7 @@ result-takes text (Ok (v, b ∷ rest)) short h = inr (other, length text - lengt
 -- each text is a version text or has a fault
 pub read_or_faulty : (text : List ℕ) → ReadOrFaulty text
 read_or_faulty text = elim (cases_Bool (nat_le (length text) MAX_LENGTH)) [
-  | inl short ↦ result-takes text (read_marked is_version_mark text) (leb-true _ _ short) refl
+  | inl short ↦ result-takes text (read_version text) (leb-true _ _ short) refl
   | inr long ↦ inr (max_length, length text - 1, too_long (leb-false _ _ long))
 ]
 

@@ -6,21 +6,21 @@ use Rattle.std.proofs.Math.Seq.{drop-append_seam}
 use Rattle.std.specs.Prelude.{Result, ◌==◌, codes, nat_le}
 use Rattle.std.specs.List.{AllByRecursion}
 use Rattle.node_semver.specs.declared.TheConstants.{MAX_LENGTH, MAX_SAFE_INTEGER}
-use Rattle.node_semver.specs.Characters.{BeginsWithNo, is_blank, is_digit, dot}
+use Rattle.node_semver.specs.Characters.{BeginsWithNo, dot, is_blank, is_digit, is_version_mark, mark_of}
 use Rattle.node_semver.specs.Error.{Kind, context, other}
-use Rattle.node_semver.specs.Fault.{IsAllDigits, IsFault, HasPrefix, IsMarkOf, large_number, left_over, no_number, no_dot, too_large, with_dots}
+use Rattle.node_semver.specs.Fault.{IsAllDigits, IsFault, HasPrefix, large_number, left_over, no_number, no_dot, too_large, with_dots}
 use Rattle.node_semver.specs.NumberText.{IsNumberText, number_of}
 use Rattle.node_semver.specs.Version.{VersionValue}
-use Rattle.node_semver.specs.VersionText.{IsVersionText, is_version_mark}
-use Rattle.node_semver.specs.Private.Reading.{◌>>=◌, rest_of, skip_one, begins, prefix_of, read_marked, read_number, read_triple, read_dot, read_unmarked}
+use Rattle.node_semver.specs.VersionText.{IsVersionText}
+use Rattle.node_semver.specs.Private.Reading.{◌>>=◌, rest_of, skip_one, begins, prefix_of, read_version, read_number, read_triple, read_dot, read_unmarked}
 use Rattle.node_semver.specs.declared.parse.fault.Fault.{Fault}
 use Rattle.node_semver.specs.declared.parse.fault.Fault.TheVariants.{Missing, TooLarge}
 use Rattle.node_semver.specs.Private.ReadingViews.{kind_in, left_of}
 use Rattle.node_semver.proofs.Prefixes.{rest_of-no, begins-with, begins-with_no, prefix_of-rest_of, prefix_of-again, prefix_of-all, prefix_of-begins}
-use Rattle.node_semver.proofs.LongestReading.{marked-longest, marked-no_digit}
+use Rattle.node_semver.proofs.LongestReading.{version-longest, version-no_digit}
 use Rattle.node_semver.proofs.NumberReading.{number-takes, dot-takes, refusal}
-use Rattle.node_semver.proofs.OneReading.{version-mark}
-use Rattle.node_semver.proofs.VersionReading.{marked-takes}
+use Rattle.node_semver.proofs.Marks.{mark-skip}
+use Rattle.node_semver.proofs.VersionReading.{version-takes}
 
 -- a chain that gave a fault
 pub bind-err : {A B : Type 0} (r : Result A Fault) (f : A → Result B Fault) (e : Fault) → (r >>= f) ≡ Err e
@@ -145,17 +145,15 @@ numbers-more [] text number all one = ((number, one), tt)
 numbers-more (t ∷ texts) text number all one = (all.0, numbers-more texts text number all.1 one)
 
 -- a prefix, one more number and its dot
-prefix_of-more : (text before digits rest : List ℕ) (count number : ℕ) → HasPrefix text before (digits ++ (dot ∷ rest)) count → count < 2 → IsNumberText digits number
+prefix-more : (text before digits rest : List ℕ) (count number : ℕ) → HasPrefix text before (digits ++ (dot ∷ rest)) count → count < 2 → IsNumberText digits number
     → HasPrefix text (before ++ (digits ++ (dot ∷ []))) rest (count + 1)
-prefix_of-more text before digits rest count number prefix few read =
+prefix-more text before digits rest count number prefix few read =
     let dots = with_dots-more prefix.numbers digits in
     record {
       whole = prefix.whole ∙ simp append_assoc;
-      mark = prefix.mark;
       blanks = prefix.blanks;
       numbers = prefix.numbers ++ (digits ∷ []);
       pieces = rw (prefix.pieces, dots) (simp append_assoc);
-      marked = prefix.marked;
       blank = prefix.blank;
       blanks_end = rw dots (subst (λ (l : List ℕ). BeginsWithNo is_blank l) (simp append_assoc) prefix.blanks_end);
       read = numbers-more prefix.numbers digits number prefix.read read;
@@ -168,42 +166,26 @@ pub record LongerPrefix (text rest : List ℕ) (count : ℕ) : Type 0 where
   pub before : List ℕ
   pub prefix : HasPrefix text before rest count
 
-prefix_of-on : (text before rest behind : List ℕ) (count : ℕ) (read : ℕ × List ℕ) → HasPrefix text before rest count → count < 2
+prefix-on : (text before rest behind : List ℕ) (count : ℕ) (read : ℕ × List ℕ) → HasPrefix text before rest count → count < 2
     → read_number rest ≡ Ok read → read_dot read.1 ≡ Ok behind → LongerPrefix text behind (count + 1)
-prefix_of-on text before rest behind count read prefix few number dot =
+prefix-on text before rest behind count read prefix few number dot =
     let t = number-takes rest read.0 read.1 number in
     let e = t.whole ∙ ap (λ (l : List ℕ). t.digits ++ l) (dot-takes read.1 behind dot) in
-    record { before = _; prefix = prefix_of-more text before t.digits behind count read.0 (subst (λ (r : List ℕ). HasPrefix text before r count) e prefix) few t.read }
-
--- the mark of a text stands before the rest
-pub record MarkOf (text rest : List ℕ) : Type 0 where
-  pub mark : List ℕ
-  pub whole : text ≡ mark ++ rest
-  pub marked : IsMarkOf text mark
-
-mark-of : (text : List ℕ) → MarkOf text (skip_one is_version_mark text)
-unfolding skip_one
-mark-of [] = record { mark = []; whole = refl; marked = inl (refl, tt) }
-mark-of (b ∷ rest) = elim (cases_Bool (is_version_mark b)) [
-  | inl mark ↦ rw mark (record { mark = b ∷ []; whole = refl; marked = inr (b, refl, mark) })
-  | inr none ↦ rw none (record { mark = []; whole = refl; marked = inl (refl, none) })
-]
+    record { before = _; prefix = prefix-more text before t.digits behind count read.0 (subst (λ (r : List ℕ). HasPrefix text before r count) e prefix) few t.read }
 
 -- the prefix with no number
-prefix_of-first : (text : List ℕ) → LongerPrefix text (rest_of is_blank (skip_one is_version_mark text)) 0
-prefix_of-first text =
-    let m = mark-of text in
+prefix-first : (text : List ℕ) → LongerPrefix text (rest_of is_blank (skip_one is_version_mark text)) 0
+prefix-first text =
+    let mark = mark_of is_version_mark text in
     let unmarked = skip_one is_version_mark text in
-    let split = m.whole ∙ ap (λ (l : List ℕ). m.mark ++ l) (sym (prefix_of-rest_of is_blank unmarked)) in
+    let split = mark-skip is_version_mark text ∙ ap (λ (l : List ℕ). mark ++ l) (sym (prefix_of-rest_of is_blank unmarked)) in
     record {
-      before = m.mark ++ (prefix_of is_blank unmarked ++ []);
+      before = mark ++ (prefix_of is_blank unmarked ++ []);
       prefix = record {
         whole = split ∙ simp append_assoc;
-        mark = m.mark;
         blanks = prefix_of is_blank unmarked;
         numbers = [];
         pieces = refl;
-        marked = m.marked;
         blank = prefix_of-all is_blank unmarked;
         blanks_end = rest_of-no is_blank unmarked;
         read = tt;
@@ -219,13 +201,13 @@ numbers-fault text before rest f short prefix h = elim (bind-err (read_number re
   | inr m ↦ elim (bind-err (read_dot m.0.1) _ f m.2) [
     | inl e ↦ dot-fault text before rest 0 m.0 f short prefix (omega arith) m.1 e
     | inr p ↦
-        let second = prefix_of-on text before rest p.0 0 m.0 prefix (omega arith) m.1 p.1 in
+        let second = prefix-on text before rest p.0 0 m.0 prefix (omega arith) m.1 p.1 in
         elim (bind-err (read_number p.0) _ f p.2) [
           | inl e ↦ number-fault text second.before p.0 1 f short second.prefix e
           | inr n ↦ elim (bind-err (read_dot n.0.1) _ f n.2) [
             | inl e ↦ dot-fault text second.before p.0 1 n.0 f short second.prefix (omega arith) n.1 e
             | inr q ↦
-                let third = prefix_of-on text second.before p.0 q.0 1 n.0 second.prefix (omega arith) n.1 q.1 in
+                let third = prefix-on text second.before p.0 q.0 1 n.0 second.prefix (omega arith) n.1 q.1 in
                 elim (bind-err (read_number q.0) _ f q.2) [
                   | inl e ↦ number-fault text third.before q.0 2 f short third.prefix e
                   | inr r ↦ cc r.2
@@ -236,24 +218,24 @@ numbers-fault text before rest f short prefix h = elim (bind-err (read_number re
 ]
 
 -- where the reader gives a fault, the text has it
-pub fault-takes : (text : List ℕ) (f : Fault) → length text ≤ MAX_LENGTH → read_marked is_version_mark text ≡ Err f → IsFault text (kind_in text f) (length text - left_of f)
-unfolding read_marked read_unmarked
+pub fault-takes : (text : List ℕ) (f : Fault) → length text ≤ MAX_LENGTH → read_version text ≡ Err f → IsFault text (kind_in text f) (length text - left_of f)
+unfolding read_version read_unmarked
 fault-takes text f short h =
-    let first = prefix_of-first text in
+    let first = prefix-first text in
     elim (bind-err (read_triple (rest_of is_blank (skip_one is_version_mark text))) _ f h) [
       | inl e ↦ numbers-fault text first.before (rest_of is_blank (skip_one is_version_mark text)) f short first.prefix e
       | inr n ↦ cc n.2
     ]
 
 -- where the reader leaves something after a version, the text has that fault
-pub left-takes : (text : List ℕ) (v : VersionValue) (b : ℕ) (rest : List ℕ) → length text ≤ MAX_LENGTH → read_marked is_version_mark text ≡ Ok (v, b ∷ rest)
+pub left-takes : (text : List ℕ) (v : VersionValue) (b : ℕ) (rest : List ℕ) → length text ≤ MAX_LENGTH → read_version text ≡ Ok (v, b ∷ rest)
     → IsFault text other (length text - length (b ∷ rest))
 left-takes text v b rest short h =
-    let t = marked-takes is_version_mark text v (b ∷ rest) h in
+    let t = version-takes text v (b ∷ rest) h in
     let version : IsVersionText t.taken v = record { short = omega (arith, ap length t.whole, length-append t.taken (b ∷ rest)); fields = t.read } in
     let longest : (shorter behind : List ℕ) (w : VersionValue) → text ≡ shorter ++ behind → IsVersionText shorter w → length shorter ≤ length t.taken =
     λ shorter behind w e g.
-    let l = marked-longest is_version_mark version-mark shorter behind (b ∷ rest) v w g.fields (ap (λ (l : List ℕ). read_marked is_version_mark l) (sym e) ∙ h) in
+    let l = version-longest shorter behind (b ∷ rest) v w g.fields (ap (λ (l : List ℕ). read_version l) (sym e) ∙ h) in
     omega (arith, ap length e, ap length t.whole, length-append shorter behind, length-append t.taken (b ∷ rest)) in
     subst (λ (n : ℕ). IsFault text other n) (prefix-length text t.taken (b ∷ rest) t.whole)
-    (left_over t.taken v b rest short t.whole (marked-no_digit is_version_mark text (b ∷ rest) v h) version longest)
+    (left_over t.taken v b rest short t.whole (version-no_digit text (b ∷ rest) v h) version longest)

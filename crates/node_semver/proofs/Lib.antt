@@ -14,6 +14,7 @@ pub mod Prefixes
 pub mod IdentifierReading
 pub mod ListReading
 pub mod LongestReading
+pub mod Marks
 pub mod MeaningLemmas
 pub mod NumberReading
 pub mod OneReading

@@ -5,17 +5,17 @@ use Rattle.std.proofs.lemmas.List.{length-append}
 use Rattle.std.specs.Prelude.{◌==◌, nat_le}
 use Rattle.std.specs.List.{AllByRecursion, list_all}
 use Rattle.node_semver.specs.declared.TheConstants.{MAX_SAFE_INTEGER}
-use Rattle.node_semver.specs.Characters.{AreAll, BeginsWith, BeginsWithNo, hyphen, is_blank, is_digit, is_identifier_character, plus, dot}
+use Rattle.node_semver.specs.Characters.{AreAll, BeginsWith, BeginsWithNo, hyphen, is_blank, is_digit, is_identifier_character, is_version_mark, plus, dot}
 use Rattle.node_semver.specs.IdentifierText.{IsBuildText, IsExtrasText, IsIdentifierList, IsIdentifierText, IsPrereleaseText, parts_of}
 use Rattle.node_semver.specs.IdentifierValue.{IdentifierValue}
 use Rattle.node_semver.specs.NumberText.{IsNumberText, number_of}
 use Rattle.node_semver.specs.Version.{VersionValue}
-use Rattle.node_semver.specs.VersionText.{IsMarkedText, IsUnmarkedText}
-use Rattle.node_semver.specs.Private.Reading.{rest_of, skip_one, skip_plus, begins, read_build, read_extras, prefix_of, goes_on, list_rest, read_list_or, read_marked, read_number, read_triple, read_prerelease, read_unmarked, version_of}
-use Rattle.node_semver.proofs.Prefixes.{rest_of-again, begins-append, prefix_of-rest_of, with-begins}
+use Rattle.node_semver.specs.VersionText.{IsMarked, IsUnmarkedVersion}
+use Rattle.node_semver.specs.Private.Reading.{rest_of, skip_one, skip_plus, begins, read_build, read_extras, prefix_of, goes_on, list_rest, read_list_or, read_version, read_number, read_triple, read_prerelease, read_unmarked, version_of}
+use Rattle.node_semver.proofs.Prefixes.{begins-append, prefix_of-rest_of, with-begins}
 use Rattle.node_semver.proofs.IdentifierReading.{GoOn, begins-first, build-takes, read_build-other, read_build-plus, goes_on-character, list-through, list-whole, read_list_or-none, read_list_or-some, parts-shape, prerelease-again, prerelease-listed, prerelease-takes, read_prerelease-hyphen, read_prerelease-other}
 use Rattle.node_semver.proofs.NumberReading.{answer, bind-ok, number-again, ok-value, dot-again}
-use Rattle.node_semver.proofs.VersionReading.{IsMarkTest, digit-no_blank, mark-again, numbers-takes, regroup, triple-begins}
+use Rattle.node_semver.proofs.VersionReading.{numbers-takes, regroup, version-follows}
 
 -- a rest is no longer than the whole
 pub rest-short : (text taken rest : List ℕ) → text ≡ taken ++ rest → length rest ≤ length text
@@ -128,28 +128,25 @@ rest-longest [] more prerelease build none h =
     omega arith
 rest-longest (b ∷ extras) more prerelease build none h = rw none (extras-longest (b ∷ extras) more prerelease build h)
 
-triple-longest : (text more rest : List ℕ) (v w : VersionValue) → IsUnmarkedText text w → read_unmarked (text ++ more) ≡ Ok (v, rest) → length rest ≤ length more
+unmarked-longest : (text more rest : List ℕ) (v w : VersionValue) → IsUnmarkedVersion w text → read_unmarked (text ++ more) ≡ Ok (v, rest) → length rest ≤ length more
 unfolding read_unmarked
-triple-longest text more rest v w t h =
+unmarked-longest text more rest v w t h =
     let n = bind-ok (read_triple (text ++ more)) _ (v, rest) h in
-    let split : text ++ more ≡ t.major ++ (dot ∷ (t.minor ++ (dot ∷ (t.patch ++ (t.extras ++ more))))) =
-    ap (λ (l : List ℕ). l ++ more) t.whole ∙ sym (regroup t.major t.minor t.patch t.extras more) in
+    let split : text ++ more ≡ t.first ++ (dot ∷ (t.second ++ (dot ∷ (t.third ++ (t.extras ++ more))))) =
+    ap (λ (l : List ℕ). l ++ more) t.whole ∙ sym (regroup t.first t.second t.third t.extras more) in
     let behind : n.0.1 ≡ rest_of is_digit (t.extras ++ more) =
-    numbers-rest_of t.major t.minor t.patch (t.extras ++ more) w.major w.minor n.0 t.first t.second t.third.digits (ap read_triple (sym split) ∙ n.1) in
+    numbers-rest_of t.first t.second t.third (t.extras ++ more) w.major w.minor n.0 t.major_text t.minor_text t.patch_text.digits (ap read_triple (sym split) ∙ n.1) in
     let left : (read_extras n.0.1).1 ≡ rest = ap (λ (p : VersionValue × List ℕ). p.1) (ok-value (version_of n.0.0 (read_extras n.0.1).0, (read_extras n.0.1).1) (v, rest) n.2) in
-    let short : length (read_extras (rest_of is_digit (t.extras ++ more))).1 ≤ length more = rest-longest t.extras more w.pre_release w.build t.digits_end t.rest in
+    let short : length (read_extras (rest_of is_digit (t.extras ++ more))).1 ≤ length more =
+    rest-longest t.extras more w.pre_release w.build (t.digits_end t.patch_text.some) t.extras_text in
     subst (λ (l : List ℕ). length l ≤ length more) (ap (λ (l : List ℕ). (read_extras l).1) (sym behind) ∙ left) short
 
--- a prefix that is a mark, blanks and a triple is no longer than what is read
-pub marked-longest : (is_mark : ℕ → Bool) → IsMarkTest is_mark → (text more rest : List ℕ) (v w : VersionValue) → IsMarkedText is_mark text w → read_marked is_mark (text ++ more) ≡ Ok (v, rest)
+-- a prefix that is a version text is no longer than what is read
+pub version-longest : (text more rest : List ℕ) (v w : VersionValue) → IsMarked is_version_mark (IsUnmarkedVersion w) text → read_version (text ++ more) ≡ Ok (v, rest)
     → length rest ≤ length more
-unfolding read_marked
-marked-longest is_mark test text more rest v w h read =
-    let starts = begins-append is_digit h.triple more (triple-begins h.triple w h.read) in
-    let e : text ++ more ≡ h.mark ++ (h.blanks ++ (h.triple ++ more)) = ap (λ (l : List ℕ). l ++ more) h.whole ∙ simp append_assoc in
-    let m = mark-again is_mark test h.mark h.blanks (h.triple ++ more) h.marked h.blank starts in
-    let b = rest_of-again is_blank h.blanks (h.triple ++ more) h.blank (digit-no_blank (h.triple ++ more) starts) in
-    triple-longest h.triple more rest v w h.read (rw (e, m, b) at read)
+unfolding read_version
+version-longest text more rest v w h read =
+    unmarked-longest h.unmarked more rest v w h.read (rw (version-follows text more w h) at read)
 
 -- a digit is an identifier character
 digit-character : (b : ℕ) → is_digit b ≡ true → is_identifier_character b ≡ true
@@ -194,11 +191,11 @@ unfolding read_extras
 extras-no_digit text h = build-no_digit (read_prerelease text).1 (prerelease-no_digit text h)
 
 -- what is left begins with no digit
-pub marked-no_digit : (is_mark : ℕ → Bool) (text rest : List ℕ) (v : VersionValue) → read_marked is_mark text ≡ Ok (v, rest) → BeginsWithNo is_digit rest
-unfolding read_marked read_unmarked
-marked-no_digit is_mark text rest v h =
-    let triple = rest_of is_blank (skip_one is_mark text) in
-    let n = bind-ok (read_triple triple) _ (v, rest) h in
-    let t = numbers-takes triple n.0.0 n.0.1 n.1 in
+pub version-no_digit : (text rest : List ℕ) (v : VersionValue) → read_version text ≡ Ok (v, rest) → BeginsWithNo is_digit rest
+unfolding read_version read_unmarked
+version-no_digit text rest v h =
+    let numbers = rest_of is_blank (skip_one is_version_mark text) in
+    let n = bind-ok (read_triple numbers) _ (v, rest) h in
+    let t = numbers-takes numbers n.0.0 n.0.1 n.1 in
     let left : (read_extras n.0.1).1 ≡ rest = ap (λ (p : VersionValue × List ℕ). p.1) (ok-value (version_of n.0.0 (read_extras n.0.1).0, (read_extras n.0.1).1) (v, rest) n.2) in
     subst (λ (l : List ℕ). BeginsWithNo is_digit l) left (extras-no_digit n.0.1 t.ends)

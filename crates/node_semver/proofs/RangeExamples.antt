@@ -4,7 +4,7 @@ use Rattle.semver_cuts.specs.declared.cut.Cut.TheVariants.{Start, Before, After,
 use Rattle.node_semver.specs.ComparatorText.{Comparator}
 use Rattle.node_semver.specs.IdentifierValue.{IdentifierValue, alphanumeric, numeric}
 use Rattle.node_semver.specs.Meaning.{IsRefused, TextAdmits}
-use Rattle.node_semver.specs.Private.Reading.{rest_of, skip_one, skip_plus, read_build, read_extras, prefix_of, list_rest, list_prefix, read_marked, read_number, read_triple, read_dot, read_prerelease, read_unmarked}
+use Rattle.node_semver.specs.Private.Reading.{rest_of, skip_one, skip_plus, read_build, read_extras, prefix_of, list_rest, list_prefix, read_version, read_number, read_triple, read_dot, read_prerelease, read_unmarked}
 use Rattle.node_semver.specs.Version.{VersionValue, release}
 use Rattle.node_semver.specs.Private.WordReading.{read_word, read_operator, read_comparator}
 use Rattle.node_semver.proofs.RangeComputing.{accepted-by, admits-by, comparators_in, read_words, refused-by, turns_away-by, written-by}
@@ -28,7 +28,7 @@ exactly v = record { lower = Before v; upper = After v }
 
 -- `>=1.2.3 <2.0.0`
 two_ends : comparators_in (codes ">=1.2.3 <2.0.0") ≡ Some (at_least (release 1 2 3) ∷ below (release 2 0 0) ∷ [])
-unfolding read_words read_word read_comparator read_operator rest_of skip_one skip_plus read_build read_extras prefix_of list_rest list_prefix read_marked read_number read_triple read_dot read_prerelease read_unmarked
+unfolding read_words read_word read_comparator read_operator rest_of skip_one skip_plus read_build read_extras prefix_of list_rest list_prefix read_version read_number read_triple read_dot read_prerelease read_unmarked
 two_ends = refl
 
 -- `>=1.2.3 <2.0.0` admits 1.9.0
@@ -41,7 +41,7 @@ two_ends-turns_away = turns_away-by _ _ _ (written-by _ _ two_ends) refl
 
 -- `>=1.2.3-rc.4 <2.0.0`
 opened : comparators_in (codes ">=1.2.3-rc.4 <2.0.0") ≡ Some (at_least (prerelease 1 2 3 (alphanumeric (codes "rc") ∷ numeric 4 ∷ [])) ∷ below (release 2 0 0) ∷ [])
-unfolding read_words read_word read_comparator read_operator rest_of skip_one skip_plus read_build read_extras prefix_of list_rest list_prefix read_marked read_number read_triple read_dot read_prerelease read_unmarked
+unfolding read_words read_word read_comparator read_operator rest_of skip_one skip_plus read_build read_extras prefix_of list_rest list_prefix read_version read_number read_triple read_dot read_prerelease read_unmarked
 opened = refl
 
 -- `>=1.2.3-rc.4 <2.0.0` admits 1.2.3-rc.5
@@ -54,7 +54,7 @@ opened-turns_away = turns_away-by _ _ _ (written-by _ _ opened) refl
 
 -- `>=1.2.3-a >=1.2.3-b`
 two_lower : comparators_in (codes ">=1.2.3-a >=1.2.3-b") ≡ Some (at_least (prerelease 1 2 3 (alphanumeric (codes "a") ∷ [])) ∷ at_least (prerelease 1 2 3 (alphanumeric (codes "b") ∷ [])) ∷ [])
-unfolding read_words read_word read_comparator read_operator rest_of skip_one skip_plus read_build read_extras prefix_of list_rest list_prefix read_marked read_number read_triple read_dot read_prerelease read_unmarked
+unfolding read_words read_word read_comparator read_operator rest_of skip_one skip_plus read_build read_extras prefix_of list_rest list_prefix read_version read_number read_triple read_dot read_prerelease read_unmarked
 two_lower = refl
 
 -- `>=1.2.3-a >=1.2.3-b` admits 1.2.3-c
@@ -67,7 +67,7 @@ two_lower-turns_away = turns_away-by _ _ _ (written-by _ _ two_lower) refl
 
 -- `<1.0.1-beta`
 upper : comparators_in (codes "<1.0.1-beta") ≡ Some (below (prerelease 1 0 1 (alphanumeric (codes "beta") ∷ [])) ∷ [])
-unfolding read_words read_word read_comparator read_operator rest_of skip_one skip_plus read_build read_extras prefix_of list_rest list_prefix read_marked read_number read_triple read_dot read_prerelease read_unmarked
+unfolding read_words read_word read_comparator read_operator rest_of skip_one skip_plus read_build read_extras prefix_of list_rest list_prefix read_version read_number read_triple read_dot read_prerelease read_unmarked
 upper = refl
 
 -- `<1.0.1-beta` admits 1.0.1-0
@@ -88,7 +88,7 @@ upper-turns_away_2 = turns_away-by _ _ _ (written-by _ _ upper) refl
 
 -- `=1.2.3+a`
 builds : comparators_in (codes "=1.2.3+a") ≡ Some (exactly (release 1 2 3) ∷ [])
-unfolding read_words read_word read_comparator read_operator rest_of skip_one skip_plus read_build read_extras prefix_of list_rest list_prefix read_marked read_number read_triple read_dot read_prerelease read_unmarked
+unfolding read_words read_word read_comparator read_operator rest_of skip_one skip_plus read_build read_extras prefix_of list_rest list_prefix read_version read_number read_triple read_dot read_prerelease read_unmarked
 builds = refl
 
 -- `=1.2.3+a` admits 1.2.3+b
@@ -101,7 +101,7 @@ builds-turns_away = turns_away-by _ _ _ (written-by _ _ builds) refl
 
 -- `foo >= v 1.0.0`
 blanks : comparators_in (codes "foo >= v 1.0.0") ≡ Some (at_least (release 1 0 0) ∷ [])
-unfolding read_words read_word read_comparator read_operator rest_of skip_one skip_plus read_build read_extras prefix_of list_rest list_prefix read_marked read_number read_triple read_dot read_prerelease read_unmarked
+unfolding read_words read_word read_comparator read_operator rest_of skip_one skip_plus read_build read_extras prefix_of list_rest list_prefix read_version read_number read_triple read_dot read_prerelease read_unmarked
 blanks = refl
 
 -- `foo >= v 1.0.0` admits 1.0.0
@@ -114,7 +114,7 @@ blanks-turns_away = turns_away-by _ _ _ (written-by _ _ blanks) refl
 
 -- `<`, a tab, `2.0.0`
 tab : comparators_in (codes "<" ++ 9 ∷ codes "2.0.0") ≡ Some (below (release 2 0 0) ∷ [])
-unfolding read_words read_word read_comparator read_operator rest_of skip_one skip_plus read_build read_extras prefix_of list_rest list_prefix read_marked read_number read_triple read_dot read_prerelease read_unmarked
+unfolding read_words read_word read_comparator read_operator rest_of skip_one skip_plus read_build read_extras prefix_of list_rest list_prefix read_version read_number read_triple read_dot read_prerelease read_unmarked
 tab = refl
 
 -- `<`, a tab, `2.0.0` admits 1.9.9
@@ -127,7 +127,7 @@ tab-turns_away = turns_away-by _ _ _ (written-by _ _ tab) refl
 
 -- `>4.0.0 <3.0.0`
 crossed : comparators_in (codes ">4.0.0 <3.0.0") ≡ Some (above (release 4 0 0) ∷ below (release 3 0 0) ∷ [])
-unfolding read_words read_word read_comparator read_operator rest_of skip_one skip_plus read_build read_extras prefix_of list_rest list_prefix read_marked read_number read_triple read_dot read_prerelease read_unmarked
+unfolding read_words read_word read_comparator read_operator rest_of skip_one skip_plus read_build read_extras prefix_of list_rest list_prefix read_version read_number read_triple read_dot read_prerelease read_unmarked
 crossed = refl
 
 -- is refused
@@ -136,7 +136,7 @@ crossed-refused = refused-by _ _ (written-by _ _ crossed) refl
 
 -- `foo`
 no_word : comparators_in (codes "foo") ≡ Some ([])
-unfolding read_words read_word read_comparator read_operator rest_of skip_one skip_plus read_build read_extras prefix_of list_rest list_prefix read_marked read_number read_triple read_dot read_prerelease read_unmarked
+unfolding read_words read_word read_comparator read_operator rest_of skip_one skip_plus read_build read_extras prefix_of list_rest list_prefix read_version read_number read_triple read_dot read_prerelease read_unmarked
 no_word = refl
 
 -- is refused
@@ -145,7 +145,7 @@ no_word-refused = refused-by _ _ (written-by _ _ no_word) refl
 
 -- the empty text
 no_text : comparators_in (codes "") ≡ Some ([])
-unfolding read_words read_word read_comparator read_operator rest_of skip_one skip_plus read_build read_extras prefix_of list_rest list_prefix read_marked read_number read_triple read_dot read_prerelease read_unmarked
+unfolding read_words read_word read_comparator read_operator rest_of skip_one skip_plus read_build read_extras prefix_of list_rest list_prefix read_version read_number read_triple read_dot read_prerelease read_unmarked
 no_text = refl
 
 -- is refused
@@ -154,7 +154,7 @@ no_text-refused = refused-by _ _ (written-by _ _ no_text) refl
 
 -- `>=1.2.3` with a newline, which is no blank
 newline : comparators_in (codes ">=1.2.3" ++ 10 ∷ []) ≡ Some ([])
-unfolding read_words read_word read_comparator read_operator rest_of skip_one skip_plus read_build read_extras prefix_of list_rest list_prefix read_marked read_number read_triple read_dot read_prerelease read_unmarked
+unfolding read_words read_word read_comparator read_operator rest_of skip_one skip_plus read_build read_extras prefix_of list_rest list_prefix read_version read_number read_triple read_dot read_prerelease read_unmarked
 newline = refl
 
 -- is refused
@@ -163,7 +163,7 @@ newline-refused = refused-by _ _ (written-by _ _ newline) refl
 
 -- `>1.0.0-a <1.0.0-a.0`, between which there is a cut and no version
 no_version : comparators_in (codes ">1.0.0-a <1.0.0-a.0") ≡ Some (above (prerelease 1 0 0 (alphanumeric (codes "a") ∷ [])) ∷ below (prerelease 1 0 0 (alphanumeric (codes "a") ∷ numeric 0 ∷ [])) ∷ [])
-unfolding read_words read_word read_comparator read_operator rest_of skip_one skip_plus read_build read_extras prefix_of list_rest list_prefix read_marked read_number read_triple read_dot read_prerelease read_unmarked
+unfolding read_words read_word read_comparator read_operator rest_of skip_one skip_plus read_build read_extras prefix_of list_rest list_prefix read_version read_number read_triple read_dot read_prerelease read_unmarked
 no_version = refl
 
 -- is accepted

@@ -10,7 +10,7 @@ use Rattle.node_semver.specs.Error.{Kind, context, max_int, max_length, other, p
 use Rattle.node_semver.specs.Characters.{BeginsWith, is_digit}
 use Rattle.node_semver.specs.Fault.{IsFault, large_number, left_over, no_number, no_dot, too_large, too_long}
 use Rattle.node_semver.specs.NumberText.{number_of}
-use Rattle.node_semver.specs.Private.Reading.{Read, prefix_of, read_marked}
+use Rattle.node_semver.specs.Private.Reading.{Read, prefix_of, read_version}
 use Rattle.node_semver.specs.Private.ReadingViews.{IsMemoryOr, IsPlainOk, IsWantOfMemory, kind_in}
 use Rattle.node_semver.specs.declared.parse.fault.Fault.TheVariants.{TooLarge}
 use Rattle.node_semver.specs.Version.{VersionValue}
@@ -21,16 +21,16 @@ use Rattle.node_semver.proofs.NumberReading.{ok-value}
 use Rattle.node_semver.proofs.OneReading.{read-version, version-read}
 
 -- nothing is left
-pub whole-found : (text : List ℕ) (v : VersionValue) (rest : List ℕ) → length text ≤ MAX_LENGTH → read_marked is_version_mark text ≡ Ok (v, rest) → length rest < 1 → IsVersionText text v
+pub whole-found : (text : List ℕ) (v : VersionValue) (rest : List ℕ) → length text ≤ MAX_LENGTH → read_version text ≡ Ok (v, rest) → length rest < 1 → IsVersionText text v
 whole-found text v [] short read none = read-version text v short read
 whole-found text v (b ∷ rest) short read none = absurd (omega arith)
 
 -- something is left
-pub whole-left : (text : List ℕ) (v : VersionValue) (rest : List ℕ) → length text ≤ MAX_LENGTH → read_marked is_version_mark text ≡ Ok (v, rest) → 1 ≤ length rest → IsFault text other (length text - length rest)
+pub whole-left : (text : List ℕ) (v : VersionValue) (rest : List ℕ) → length text ≤ MAX_LENGTH → read_version text ≡ Ok (v, rest) → 1 ≤ length rest → IsFault text other (length text - length rest)
 whole-left text v [] short read some = absurd (omega arith)
 whole-left text v (b ∷ rest) short read some = left-takes text v b rest short read
 
-pub left-no_version : (text : List ℕ) (v w : VersionValue) (rest : List ℕ) → read_marked is_version_mark text ≡ Ok (v, rest) → 1 ≤ length rest → IsVersionText text w → ⊥
+pub left-no_version : (text : List ℕ) (v w : VersionValue) (rest : List ℕ) → read_version text ≡ Ok (v, rest) → 1 ≤ length rest → IsVersionText text w → ⊥
 left-no_version text v w rest read some h =
     let e = ok-value (w, []) (v, rest) (sym (version-read text w h) ∙ read) in
     let none : [] ≡ rest = ap (λ (p : VersionValue × List ℕ). p.1) e in
@@ -38,12 +38,12 @@ left-no_version text v w rest read some h =
     omega arith
 
 -- nothing was read
-pub whole-fault : (text : List ℕ) (f : Fault) → length text ≤ MAX_LENGTH → IsWantOfMemory f ⊎ (read_marked is_version_mark text ≡ Err f) → IsMemoryOr text f
+pub whole-fault : (text : List ℕ) (f : Fault) → length text ≤ MAX_LENGTH → IsWantOfMemory f ⊎ (read_version text ≡ Err f) → IsMemoryOr text f
 whole-fault text f short (inl memory) = inl memory
 whole-fault text f short (inr read) = inr (fault-takes text f short read)
 
 -- a version text without prerelease and build is read
-pub plain-read : {X : Type 0} (r : Result X Fault) (text : List ℕ) (v : VersionValue) → IsPlainOk r (read_marked is_version_mark text) → IsVersionText text v → v.pre_release ≡ [] → v.build ≡ [] → IsOk r
+pub plain-read : {X : Type 0} (r : Result X Fault) (text : List ℕ) (v : VersionValue) → IsPlainOk r (read_version text) → IsVersionText text v → v.pre_release ≡ [] → v.build ≡ [] → IsOk r
 plain-read r text v plain h = subst (λ (read : Read VersionValue). IsPlainOk r read) (version-read text v h) plain
 
 -- a kind that is not told of a number

@@ -3,14 +3,15 @@ use Rattle.std.proofs.Common.{◌≡◌, ◌<◌, ℕ, Bool, true, false, List, 
 use Rattle.std.proofs.lemmas.Bool.{and_parts, cases_Bool, eqb-true, or_cases}
 use Rattle.std.specs.Prelude.{◌==◌, ◌||◌}
 use Rattle.std.specs.List.{list_all}
-use Rattle.node_semver.specs.Characters.{AreAll, BeginsWith, BeginsWithNo, is_blank, is_digit, is_identifier_character, plus, dot}
+use Rattle.node_semver.specs.Characters.{BeginsWith, BeginsWithNo, dot, is_blank, is_digit, is_identifier_character, is_version_mark, plus}
 use Rattle.node_semver.specs.Division.{IsCleanEnd}
 use Rattle.node_semver.specs.NumberText.{IsNumberText}
 use Rattle.node_semver.specs.Version.{VersionValue}
-use Rattle.node_semver.specs.VersionText.{IsMark, IsMarkedText, IsUnmarkedText}
-use Rattle.node_semver.specs.Private.Reading.{rest_of, skip_one, read_extras, prefix_of, read_marked, read_number, read_triple, read_dot, read_unmarked, version_of}
-use Rattle.node_semver.proofs.Prefixes.{rest_of-again, begins-append, prefix_of-rest_of, prefix_of-all, no-append}
-use Rattle.node_semver.proofs.IdentifierReading.{EndsExtras, extras-again, extras-takes, pick-true}
+use Rattle.node_semver.specs.VersionText.{IsMarked, IsUnmarkedVersion}
+use Rattle.node_semver.specs.Private.Reading.{read_dot, read_extras, read_number, read_triple, read_unmarked, read_version, rest_of, skip_one, version_of}
+use Rattle.node_semver.proofs.Marks.{TakesMarked, marked-follows, marked-taken}
+use Rattle.node_semver.proofs.Prefixes.{begins-append, no-append}
+use Rattle.node_semver.proofs.IdentifierReading.{EndsExtras, extras-again, extras-takes}
 use Rattle.node_semver.proofs.NumberReading.{bind-ok, number-again, number-takes, ok-value, dot-again, dot-takes}
 
 -- three numbers with dots between them, at the start of a text
@@ -68,29 +69,25 @@ numbers-again major minor patch rest a b c x y z ends =
     let r3 = number-again patch rest c z ends in
     rw (r1, dot-again (minor ++ (dot ∷ (patch ++ rest))), r2, dot-again (patch ++ rest), r3) refl
 
--- a triple is what it was made of
-same-version : (v : VersionValue) → version_of (v.major, v.minor, v.patch) (v.pre_release, v.build) ≡ v
-same-version v = refl
-
--- an unmarked text, at the start of a text
+-- an unmarked version, at the start of a text
 pub record TakesUnmarked (text : List ℕ) (v : VersionValue) (rest : List ℕ) : Type 0 where
   pub taken : List ℕ
   pub whole : text ≡ taken ++ rest
-  pub read : IsUnmarkedText taken v
+  pub read : IsUnmarkedVersion v taken
 
 -- the prefix of what begins with no digit begins with none
 prefix_of-no : (test : ℕ → Bool) (text rest : List ℕ) → BeginsWithNo test (text ++ rest) → BeginsWithNo test text
 prefix_of-no test [] rest h = tt
 prefix_of-no test (b ∷ text) rest h = h
 
--- the pieces of the extras, put into the triple
+-- the pieces of the extras, put after the third part
 pub regroup : (major minor patch extras rest : List ℕ)
     → major ++ (dot ∷ (minor ++ (dot ∷ (patch ++ (extras ++ rest))))) ≡ (major ++ (dot ∷ (minor ++ (dot ∷ (patch ++ extras))))) ++ rest
 regroup major minor patch extras rest = simp append_assoc
 
-triple-takes : (text : List ℕ) (v : VersionValue) (rest : List ℕ) → read_unmarked text ≡ Ok (v, rest) → TakesUnmarked text v rest
+unmarked-takes : (text : List ℕ) (v : VersionValue) (rest : List ℕ) → read_unmarked text ≡ Ok (v, rest) → TakesUnmarked text v rest
 unfolding read_unmarked
-triple-takes text v rest h =
+unmarked-takes text v rest h =
     let n = bind-ok (read_triple text) _ (v, rest) h in
     let t = numbers-takes text n.0.0 n.0.1 n.1 in
     let x = extras-takes n.0.1 in
@@ -101,90 +98,60 @@ triple-takes text v rest h =
     record {
       taken = t.major ++ (dot ∷ (t.minor ++ (dot ∷ (t.patch ++ x.taken))));
       whole = t.whole ∙ ap (λ (l : List ℕ). t.major ++ (dot ∷ (t.minor ++ (dot ∷ (t.patch ++ l))))) split ∙ regroup t.major t.minor t.patch x.taken rest;
-      read = subst (λ (w : VersionValue). IsUnmarkedText (t.major ++ (dot ∷ (t.minor ++ (dot ∷ (t.patch ++ x.taken))))) w) value (record {
-        major = t.major;
-        minor = t.minor;
-        patch = t.patch;
+      read = subst (λ (w : VersionValue). IsUnmarkedVersion w (t.major ++ (dot ∷ (t.minor ++ (dot ∷ (t.patch ++ x.taken)))))) value (record {
+        first = t.major;
+        second = t.minor;
+        third = t.patch;
         extras = x.taken;
         whole = refl;
-        first = t.first;
-        second = t.second;
-        third = t.third;
-        digits_end = prefix_of-no is_digit x.taken rest (subst (λ (l : List ℕ). BeginsWithNo is_digit l) split t.ends);
-        rest = x.extras;
+        major_text = t.first;
+        minor_text = t.second;
+        patch_text = t.third;
+        digits_end = λ some. prefix_of-no is_digit x.taken rest (subst (λ (l : List ℕ). BeginsWithNo is_digit l) split t.ends);
+        extras_text = x.extras;
       });
     }
 
 -- what holds of a space and of a tab holds of a blank
-blank-cases : (P : ℕ → Type 0) (b : ℕ) → is_blank b ≡ true → P 32 → P 9 → P b
+pub blank-cases : (P : ℕ → Type 0) (b : ℕ) → is_blank b ≡ true → P 32 → P 9 → P b
 blank-cases P b h space tab = elim (or_cases (b == 32) (b == 9) h) [
   | inl e ↦ subst P (sym (eqb-true b 32 e)) space
   | inr e ↦ subst P (sym (eqb-true b 9 e)) tab
 ]
 
 -- neither a digit nor anything of extras begins at a clean end
-clean-no_digit : (rest : List ℕ) → IsCleanEnd rest → BeginsWithNo is_digit rest
+pub clean-no_digit : (rest : List ℕ) → IsCleanEnd rest → BeginsWithNo is_digit rest
 clean-no_digit [] h = tt
 clean-no_digit (b ∷ rest) h = blank-cases (λ (c : ℕ). is_digit c ≡ false) b h refl refl
 
-clean-ends_extras : (rest : List ℕ) → IsCleanEnd rest → EndsExtras rest
+pub clean-ends_extras : (rest : List ℕ) → IsCleanEnd rest → EndsExtras rest
 clean-ends_extras [] h = tt
 clean-ends_extras (b ∷ rest) h = blank-cases (λ (c : ℕ). (is_identifier_character c || (c == dot) || (c == plus)) ≡ false) b h refl refl
 
-triple-again : (text rest : List ℕ) (v : VersionValue) → IsUnmarkedText text v → IsCleanEnd rest → read_unmarked (text ++ rest) ≡ Ok (v, rest)
+unmarked-again : (text rest : List ℕ) (v : VersionValue) → IsUnmarkedVersion v text → IsCleanEnd rest → read_unmarked (text ++ rest) ≡ Ok (v, rest)
 unfolding read_unmarked
-triple-again text rest v h clean =
-    let e : text ++ rest ≡ h.major ++ (dot ∷ (h.minor ++ (dot ∷ (h.patch ++ (h.extras ++ rest))))) =
-    ap (λ (l : List ℕ). l ++ rest) h.whole ∙ sym (regroup h.major h.minor h.patch h.extras rest) in
-    let n = numbers-again h.major h.minor h.patch (h.extras ++ rest) v.major v.minor v.patch h.first h.second h.third (no-append is_digit h.extras rest h.digits_end (clean-no_digit rest clean)) in
-    let x = extras-again h.extras rest v.pre_release v.build h.rest (clean-ends_extras rest clean) in
+unmarked-again text rest v h clean =
+    let e : text ++ rest ≡ h.first ++ (dot ∷ (h.second ++ (dot ∷ (h.third ++ (h.extras ++ rest))))) =
+    ap (λ (l : List ℕ). l ++ rest) h.whole ∙ sym (regroup h.first h.second h.third h.extras rest) in
+    let n = numbers-again h.first h.second h.third (h.extras ++ rest) v.major v.minor v.patch h.major_text h.minor_text h.patch_text
+    (no-append is_digit h.extras rest (h.digits_end h.patch_text.some) (clean-no_digit rest clean)) in
+    let x = extras-again h.extras rest v.pre_release v.build h.extras_text (clean-ends_extras rest clean) in
     rw (e, n, x) refl
 
--- a mark or none, blanks or none and a triple, at the start of a text
-pub record TakesMarked (is_mark : ℕ → Bool) (text : List ℕ) (v : VersionValue) (rest : List ℕ) : Type 0 where
-  pub taken : List ℕ
-  pub whole : text ≡ taken ++ rest
-  pub read : IsMarkedText is_mark taken v
+-- an unmarked version begins with a digit
+pub unmarked-begins : (text : List ℕ) (v : VersionValue) → IsUnmarkedVersion v text → BeginsWith is_digit text
+unmarked-begins text v h = rw h.whole (begins-append is_digit h.first _ h.major_text.some)
 
--- what stands before the bytes after a mark is one
-pub record TakesMark (is_mark : ℕ → Bool) (text rest : List ℕ) : Type 0 where
-  pub mark : List ℕ
-  pub whole : text ≡ mark ++ rest
-  pub marked : IsMark is_mark mark
+-- what begins with a digit is not empty
+pub begins-some : (test : ℕ → Bool) (text : List ℕ) → BeginsWith test text → 0 < length text
+begins-some test [] h = absurd h
+begins-some test (b ∷ rest) h = omega arith
 
-mark-takes : (is_mark : ℕ → Bool) (text : List ℕ) → TakesMark is_mark text (skip_one is_mark text)
-unfolding skip_one
-mark-takes is_mark [] = record { mark = []; whole = refl; marked = inl refl }
-mark-takes is_mark (b ∷ rest) = elim (cases_Bool (is_mark b)) [
-  | inl mark ↦ rw mark (record { mark = b ∷ []; whole = refl; marked = inr (b, refl, mark) })
-  | inr none ↦ rw none (record { mark = []; whole = refl; marked = inl refl })
-]
-
-pub marked-takes : (is_mark : ℕ → Bool) (text : List ℕ) (v : VersionValue) (rest : List ℕ) → read_marked is_mark text ≡ Ok (v, rest) → TakesMarked is_mark text v rest
-unfolding read_marked
-marked-takes is_mark text v rest h =
-    let m = mark-takes is_mark text in
-    let t = triple-takes (rest_of is_blank (skip_one is_mark text)) v rest h in
-    let blanks = prefix_of is_blank (skip_one is_mark text) in
-    let split : skip_one is_mark text ≡ blanks ++ (t.taken ++ rest) =
-    sym (prefix_of-rest_of is_blank (skip_one is_mark text)) ∙ ap (λ (l : List ℕ). blanks ++ l) t.whole in
-    record {
-      taken = m.mark ++ (blanks ++ t.taken);
-      whole = m.whole ∙ ap (λ (l : List ℕ). m.mark ++ l) split ∙ simp append_assoc;
-      read = record {
-        mark = m.mark;
-        blanks = blanks;
-        triple = t.taken;
-        whole = refl;
-        marked = m.marked;
-        blank = prefix_of-all is_blank (skip_one is_mark text);
-        read = t.read;
-      };
-    }
-
--- a triple begins with a digit
-pub triple-begins : (text : List ℕ) (v : VersionValue) → IsUnmarkedText text v → BeginsWith is_digit text
-triple-begins text v h = rw h.whole (begins-append is_digit h.major _ h.first.some)
+pub version-takes : (text : List ℕ) (v : VersionValue) (rest : List ℕ) → read_version text ≡ Ok (v, rest) → TakesMarked is_version_mark (IsUnmarkedVersion v) text rest
+unfolding read_version
+version-takes text v rest h =
+    let t = unmarked-takes (rest_of is_blank (skip_one is_version_mark text)) v rest h in
+    marked-taken is_version_mark (IsUnmarkedVersion v) text t.taken rest t.whole (begins-some is_digit t.taken (unmarked-begins t.taken v t.read)) t.read
 
 -- a digit is no blank
 pub digit-no_blank : (text : List ℕ) → BeginsWith is_digit text → BeginsWithNo is_blank text
@@ -194,38 +161,30 @@ digit-no_blank (b ∷ rest) h = elim (cases_Bool (is_blank b)) [
   | inl blank ↦ blank-cases (λ (c : ℕ). is_digit c ≡ true → is_blank c ≡ false) b blank (λ e. cc e) (λ e. cc e) h
 ]
 
--- no mark is a blank or a digit
-pub record IsMarkTest (is_mark : ℕ → Bool) : Type 0 where
-  pub blank : (b : ℕ) → is_blank b ≡ true → is_mark b ≡ false
-  pub digit : (b : ℕ) → is_digit b ≡ true → is_mark b ≡ false
-
--- after a mark nothing else is taken for one
-unmarked : (is_mark : ℕ → Bool) → IsMarkTest is_mark → (blanks text : List ℕ) → AreAll is_blank blanks → BeginsWith is_digit text → skip_one is_mark (blanks ++ text) ≡ blanks ++ text
-unfolding skip_one
-unmarked is_mark test [] [] all h = absurd h
-unmarked is_mark test [] (b ∷ text) all h = rw (test.digit b h) refl
-unmarked is_mark test (c ∷ blanks) text all h = rw (test.blank c (and_parts (is_blank c) (list_all is_blank blanks) all).0) refl
-
--- where a digit stands first, there is neither a mark nor a blank
-pub digit-first : (is_mark : ℕ → Bool) → IsMarkTest is_mark → (text : List ℕ) → 0 < length text → is_digit (get_or text 0 0) ≡ true → text ≡ rest_of is_blank (skip_one is_mark text)
-unfolding rest_of skip_one
-digit-first is_mark test [] some digit = absurd (omega arith)
-digit-first is_mark test (b ∷ text) some digit = rw (test.digit b digit, digit-no_blank (b ∷ text) digit) refl
-
--- a mark is taken
-pub mark-again : (is_mark : ℕ → Bool) → IsMarkTest is_mark → (mark blanks text : List ℕ) → IsMark is_mark mark → AreAll is_blank blanks → BeginsWith is_digit text
-    → skip_one is_mark (mark ++ (blanks ++ text)) ≡ blanks ++ text
-unfolding skip_one
-mark-again is_mark test mark blanks text marked all h = elim marked [
-  | inl none ↦ ap (λ (l : List ℕ). skip_one is_mark (l ++ (blanks ++ text))) none ∙ unmarked is_mark test blanks text all h
-  | inr some ↦ ap (λ (l : List ℕ). skip_one is_mark (l ++ (blanks ++ text))) some.1 ∙ pick-true (is_mark some.0) (blanks ++ text) (some.0 ∷ (blanks ++ text)) some.2
+-- a digit is no mark of a version
+digit-no_mark : (b : ℕ) → is_digit b ≡ true → is_version_mark b ≡ false
+digit-no_mark b h = elim (cases_Bool (is_version_mark b)) [
+  | inr none ↦ none
+  | inl mark ↦ elim (or_cases (b == 118) (b == 86) mark) [
+    | inl e ↦ cc (sym h ∙ ap is_digit (eqb-true b 118 e))
+    | inr e ↦ cc (sym h ∙ ap is_digit (eqb-true b 86 e))
+  ]
 ]
 
-pub marked-again : (is_mark : ℕ → Bool) → IsMarkTest is_mark → (text rest : List ℕ) (v : VersionValue) → IsMarkedText is_mark text v → IsCleanEnd rest → read_marked is_mark (text ++ rest) ≡ Ok (v, rest)
-unfolding read_marked
-marked-again is_mark test text rest v h clean =
-    let starts = begins-append is_digit h.triple rest (triple-begins h.triple v h.read) in
-    let e : text ++ rest ≡ h.mark ++ (h.blanks ++ (h.triple ++ rest)) = ap (λ (l : List ℕ). l ++ rest) h.whole ∙ simp append_assoc in
-    let m = mark-again is_mark test h.mark h.blanks (h.triple ++ rest) h.marked h.blank starts in
-    let b = rest_of-again is_blank h.blanks (h.triple ++ rest) h.blank (digit-no_blank (h.triple ++ rest) starts) in
-    rw (e, m, b) (triple-again h.triple rest v h.read clean)
+-- where a digit stands first, there is neither a mark nor a blank
+pub digit-first : (text : List ℕ) → 0 < length text → is_digit (get_or text 0 0) ≡ true → text ≡ rest_of is_blank (skip_one is_version_mark text)
+unfolding rest_of skip_one
+digit-first [] some digit = absurd (omega arith)
+digit-first (b ∷ text) some digit = rw (digit-no_mark b digit, digit-no_blank (b ∷ text) digit) refl
+
+-- what follows the mark and the blanks of a marked version, with more after it
+pub version-follows : (text more : List ℕ) (v : VersionValue) (h : IsMarked is_version_mark (IsUnmarkedVersion v) text)
+    → rest_of is_blank (skip_one is_version_mark (text ++ more)) ≡ h.unmarked ++ more
+version-follows text more v h =
+    let starts = unmarked-begins h.unmarked v h.read in
+    marked-follows is_version_mark (IsUnmarkedVersion v) text more h (begins-some is_digit h.unmarked starts) (digit-no_blank (h.unmarked ++ more) (begins-append is_digit h.unmarked more starts))
+
+pub version-again : (text rest : List ℕ) (v : VersionValue) → IsMarked is_version_mark (IsUnmarkedVersion v) text → IsCleanEnd rest → read_version (text ++ rest) ≡ Ok (v, rest)
+unfolding read_version
+version-again text rest v h clean =
+    ap read_unmarked (version-follows text rest v h) ∙ unmarked-again h.unmarked rest v h.read clean

@@ -1,7 +1,31 @@
 -- The characters of versions and ranges. A character past ASCII belongs to none of these classes.
-use Rattle.std.specs.Prelude.{◌≡◌, ℕ, Bool, true, false, ◌==◌, ◌||◌, List, [], ◌∷◌}
+use Rattle.std.specs.Prelude.{◌≡◌, ℕ, Bool, true, false, ◌==◌, ◌||◌, List, [], ◌∷◌, if◌then◌else◌}
 use Rattle.std.specs.Char.{is_ascii_alphanumeric, is_ascii_digit}
 use Rattle.std.specs.List.{list_all}
+
+-- between the parts of a triple, and between identifiers
+abbrev pub dot : ℕ
+dot = 46
+
+-- before a prerelease, and between the sides of a hyphen range
+abbrev pub hyphen : ℕ
+hyphen = 45
+
+-- before a build
+abbrev pub plus : ℕ
+plus = 43
+
+-- before a tilde range
+abbrev pub tilde : ℕ
+tilde = 126
+
+-- before a caret range
+abbrev pub caret : ℕ
+caret = 94
+
+-- `>`
+abbrev pub greater_sign : ℕ
+greater_sign = 62
 
 -- a space or a tab; a newline is no blank
 abbrev pub is_blank : ℕ → Bool
@@ -13,7 +37,19 @@ is_digit b = is_ascii_digit b
 
 -- an ASCII letter, a digit or `-`: SemVer 2.0.0, section 9
 abbrev pub is_identifier_character : ℕ → Bool
-is_identifier_character b = is_ascii_alphanumeric b || (b == 45)
+is_identifier_character b = is_ascii_alphanumeric b || (b == hyphen)
+
+-- `x`, `X` or `*`, each of which stands for any number
+abbrev pub is_x : ℕ → Bool
+is_x b = (b == 120) || (b == 88) || (b == 42)
+
+-- `v` or `V`, with which a version may begin
+abbrev pub is_version_mark : ℕ → Bool
+is_version_mark b = (b == 118) || (b == 86)
+
+-- `v`, with which a partial may begin
+abbrev pub is_partial_mark : ℕ → Bool
+is_partial_mark b = b == 118
 
 -- each character of the text is such a one
 abbrev pub AreAll : (ℕ → Bool) → List ℕ → Type 0
@@ -29,14 +65,12 @@ abbrev pub BeginsWith : (ℕ → Bool) → List ℕ → Type 0
 BeginsWith test [] = ⊥
 BeginsWith test (b ∷ rest) = test b ≡ true
 
--- between the parts of a triple and of a list of identifiers
-abbrev pub dot : ℕ
-dot = 46
+-- the mark that a text begins with, or nothing: `v` of `v1.2.3`
+abbrev pub mark_of : (ℕ → Bool) → List ℕ → List ℕ
+mark_of is_mark [] = []
+mark_of is_mark (b ∷ rest) = if is_mark b then b ∷ [] else []
 
--- before a prerelease
-abbrev pub hyphen : ℕ
-hyphen = 45
-
--- before a build
-abbrev pub plus : ℕ
-plus = 43
+-- one or more blanks
+pub record AreBlanks (text : List ℕ) : Type 0 where
+  pub some : BeginsWith is_blank text
+  pub all : AreAll is_blank text

@@ -15,7 +15,12 @@ pub mod Order
 pub mod Print
 pub mod Hash
 -- ---- ranges: words, alternatives, and what they mean
-pub mod ComparatorText
+pub mod Comparator
+pub mod PartialText
+pub mod Operators
+pub mod TildeRanges
+pub mod CaretRanges
+pub mod HyphenRanges
 pub mod Division
 pub mod Meaning
 -- ---- errors: where they stand, and how they print

@@ -4,7 +4,7 @@ use Rattle.std.specs.List.{AllByRecursion}
 use Rattle.semver_cuts.specs.declared.cut.Cut.{Cut}
 use Rattle.semver_cuts.specs.declared.cut.Cut.TheVariants.{Start, Before, After, End}
 use Rattle.semver_cuts.specs.Ends.{IsInSpan}
-use Rattle.node_semver.specs.ComparatorText.{Comparator}
+use Rattle.node_semver.specs.Comparator.{Comparator}
 use Rattle.node_semver.specs.Division.{IsWritten}
 use Rattle.node_semver.specs.Order.{version_cmp}
 use Rattle.node_semver.specs.Version.{HasSameTriple, IsPrerelease, VersionValue}

@@ -1,7 +1,9 @@
 -- The laws of range texts: what makes "the words of a text" and "the partial of a text" well said.
 use Rattle.std.specs.Prelude.{◌≡◌, ℕ, List, Option}
-use Rattle.node_semver.specs.ComparatorText.{Comparator, IsComparatorText, IsPartialText, Partial}
-use Rattle.node_semver.specs.Division.{IsWritten}
+use Rattle.node_semver.specs.Comparator.{Comparator}
+use Rattle.node_semver.specs.Division.{IsSimpleText, IsWritten}
+use Rattle.node_semver.specs.HyphenRanges.{IsHyphenText}
+use Rattle.node_semver.specs.PartialText.{IsPartialText, Partial}
 
 -- the text is written in some way
 abbrev pub HasWriting : List ℕ → Type 0
@@ -15,6 +17,10 @@ IsWrittenOneWay text = (one other : List (List Comparator)) → IsWritten text o
 abbrev pub IsOnePartial : List ℕ → Type 0
 IsOnePartial text = (one other : Partial) → IsPartialText text one → IsPartialText text other → one ≡ other
 
--- and no two comparators
-abbrev pub IsOneComparator : List ℕ → Type 0
-IsOneComparator text = (one other : Option Comparator) → IsComparatorText text one → IsComparatorText text other → one ≡ other
+-- and as a word it stands for no two comparators: of a hyphen range
+abbrev pub IsOneHyphenRange : List ℕ → Type 0
+IsOneHyphenRange text = (one other : Option Comparator) → IsHyphenText text one → IsHyphenText text other → one ≡ other
+
+-- and of every other kind
+abbrev pub IsOneSimpleWord : List ℕ → Type 0
+IsOneSimpleWord text = (one other : Option Comparator) → IsSimpleText text one → IsSimpleText text other → one ≡ other

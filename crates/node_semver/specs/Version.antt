@@ -1,6 +1,6 @@
 -- Versions as values: SemVer 2.0.0, sections 2, 9 and 10.
-use Rattle.std.specs.Prelude.{ℕ, List, [], ◌≡◌, ◌≢◌}
-use Rattle.node_semver.specs.IdentifierValue.{IdentifierValue}
+use Rattle.std.specs.Prelude.{ℕ, List, [], ◌∷◌, ◌≡◌, ◌≢◌}
+use Rattle.node_semver.specs.IdentifierValue.{IdentifierValue, numeric}
 
 -- a triple, a prerelease and a build
 pub record VersionValue : Type 0 where
@@ -23,6 +23,14 @@ pub record HasSameTriple (v w : VersionValue) : Type 0 where
 -- the release with this triple, and no build
 abbrev pub release : ℕ → ℕ → ℕ → VersionValue
 release m n p = record { major = m; minor = n; patch = p; pre_release = []; build = [] }
+
+-- the triple with one numeric prerelease identifier, and no build: `1.2.3-4`
+abbrev pub with_pre_release : ℕ → ℕ → ℕ → ℕ → VersionValue
+with_pre_release m n p i = record (release m n p) { pre_release = numeric i ∷ [] }
+
+-- the least version with this triple: `2.0.0-0`
+abbrev pub least_of : ℕ → ℕ → ℕ → VersionValue
+least_of m n p = with_pre_release m n p 0
 
 -- the same version with no build: `1.2.3-rc.1` of `1.2.3-rc.1+7`
 abbrev pub without_build : VersionValue → VersionValue

@@ -1,7 +1,7 @@
 //! The laws of versions and ranges. Each function here does nothing: its contract is the law.
 ghost use Rattle.std.specs.Prelude.{ℕ, List};
 ghost use Rattle.node_semver.specs.VersionLaws.{HasOneFault, HasOneReading, IsNeverBoth, IsReadOrFaulty};
-ghost use Rattle.node_semver.specs.RangeLaws.{HasWriting, IsOneComparator, IsOnePartial, IsWrittenOneWay};
+ghost use Rattle.node_semver.specs.RangeLaws.{HasWriting, IsOneHyphenRange, IsOnePartial, IsOneSimpleWord, IsWrittenOneWay};
 
 /// A text is at most one version.
 pub fn a_version_text_has_one_reading()
@@ -25,8 +25,9 @@ pub fn every_range_text_is_written_one_way()
     ensures only { (text : List ℕ) → IsWrittenOneWay text }
 {}
 
-/// A text is at most one partial, and at most one comparator.
+/// A text is at most one partial; and as a word, a hyphen range or another one, it stands for at most one comparator.
 pub fn a_text_is_at_most_one_partial()
     ensures partial { (text : List ℕ) → IsOnePartial text }
-    ensures comparator { (text : List ℕ) → IsOneComparator text }
+    ensures hyphen { (text : List ℕ) → IsOneHyphenRange text }
+    ensures simple { (text : List ℕ) → IsOneSimpleWord text }
 {}

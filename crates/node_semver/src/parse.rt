@@ -3,13 +3,17 @@
 //! `read_..` gives a value and the rest, `skip_..` the rest alone. What each computes stands under its own name in
 //! `specs/Private/Reading`, on lists of bytes.
 
+mod extras;
 mod fault;
 mod identifiers;
 mod number;
+mod partial;
 mod skip;
 mod triple;
 
 pub(crate) use fault::Fault;
+pub(crate) use identifiers::read_prerelease;
 pub(crate) use number::large_kind;
-pub(crate) use skip::{is_blank, skip_blanks, skip_while};
-pub(crate) use triple::{read_partial, read_version};
+pub(crate) use partial::{Partial, Shape, read_partial};
+pub(crate) use skip::{begins_clean, skip_blanks, skip_solid, skip_some_blanks};
+pub(crate) use triple::{read_extras, read_version};

@@ -5,10 +5,13 @@ ghost use Rattle.node_semver.specs.Division.{IsWritten};
 ghost use Rattle.node_semver.specs.Error.{IsOutOfMemory, IsRefusalAt, no_valid_ranges};
 ghost use Rattle.node_semver.specs.Meaning.{AnyByRecursion, HasOpenEnd, IsInside, IsRefused, RangeAdmits, TextAdmits};
 ghost use Rattle.node_semver.specs.Version.{VersionValue};
+ghost use Rattle.node_semver.specs.Private.WordReading.{leading_or_none, read_right};
+ghost use Rattle.node_semver.specs.Private.WordViews.{word_seen};
 
 use crate::comparator::{Comparator, are_void};
 use crate::parse::skip_blanks;
-use crate::{SemverError, SemverErrorKind, Version, word};
+use crate::word::{Ends, read_leading_hyphen, read_word};
+use crate::{SemverError, SemverErrorKind, Version};
 use std::alloc::{AllocError, Global};
 use std::marker::Model;
 
@@ -38,7 +41,7 @@ pub struct Range {
 
 impl Model for Range {
     ghost use Rattle.std.specs.Prelude.{List};
-    ghost use Rattle.node_semver.specs.ComparatorText.{Comparator};
+    ghost use Rattle.node_semver.specs.Comparator.{Comparator};
 
     ghost Value = { List Comparator };
 
@@ -143,15 +146,30 @@ fn comparators_of(alloc: Global, text: &[u8]) -> Result<Vec<Comparator>, AllocEr
     ensures { IfOk result (λ v. IsWritten text.now (v.items ∷ [])) }
 {
     let mut comparators = Vec::new(alloc);
-    let mut rest = skip_blanks(text);
+    let (leading, rest) = skip_leading_hyphen(text);
+    if let Some(ends) = leading {
+        comparators.push(ends.comparator(alloc)?)?;
+    }
+    let mut rest = skip_blanks(rest);
     while !rest.is_empty() {
-        let (comparator, others) = word::read_word(alloc, rest)?;
-        if let Some(comparator) = comparator {
-            comparators.push(comparator)?;
+        let (ends, others) = read_word(rest);
+        if let Some(ends) = ends {
+            comparators.push(ends.comparator(alloc)?)?;
         }
         rest = skip_blanks(others);
     }
     Ok(comparators)
+}
+
+// A hyphen without a left side, with which a text may begin: ` - 3`
+#[inline(always)]
+fn skip_leading_hyphen(text: &[u8]) -> (Option<Ends>, &[u8])
+    ensures { word_seen result ≡ leading_or_none (read_right text.now) text.now }
+{
+    match read_leading_hyphen(text) {
+        Some(word) => word,
+        None => (None, text),
+    }
 }
 
 #[cfg(test)]

@@ -1,5 +1,5 @@
-ghost use Rattle.std.specs.Prelude.{◌≡◌, ◌↔◌, IsTrue};
-ghost use Rattle.node_semver.specs.Version.{IsPrerelease, release};
+ghost use Rattle.std.specs.Prelude.{◌≡◌, ◌↔◌, IfOk, IsTrue};
+ghost use Rattle.node_semver.specs.Version.{IsPrerelease, release, with_pre_release};
 
 mod copy;
 mod display;
@@ -10,7 +10,7 @@ mod parse;
 mod tests;
 
 use crate::Identifier;
-use std::alloc::Global;
+use std::alloc::{AllocError, Global};
 use std::marker::Model;
 
 /// A version: a triple of numbers, a prerelease and a build.
@@ -66,6 +66,44 @@ impl Version {
             build: Vec::new(alloc),
             pre_release: Vec::new(alloc),
         }
+    }
+
+    /// The triple with one numeric prerelease identifier, and no build.
+    ///
+    /// # Errors
+    ///
+    /// `AllocError` where memory for the list of one identifier is refused.
+    ///
+    /// # Memory
+    ///
+    /// Takes a list of one identifier.
+    ///
+    /// # Examples
+    ///
+    /// `Version::with_pre_release(alloc, 1, 2, 3, 4)` is `1.2.3-4`; with a last 0 it is the least version of its triple.
+    ///
+    /// # Source
+    ///
+    /// The Rust crate `node-semver` 2.2.0, `From<(u64, u64, u64, u64)>`.
+    #[inline]
+    pub fn with_pre_release(
+        alloc: Global,
+        major: u64,
+        minor: u64,
+        patch: u64,
+        pre_release: u64,
+    ) -> Result<Version, AllocError>
+        ensures { IfOk result (λ v. v ≡ with_pre_release major minor patch pre_release) }
+    {
+        let mut identifiers = Vec::with_capacity(alloc, 1)?;
+        identifiers.push(Identifier::Numeric(pre_release))?;
+        Ok(Version {
+            major,
+            minor,
+            patch,
+            build: Vec::new(alloc),
+            pre_release: identifiers,
+        })
     }
 
     /// Whether the version has prerelease identifiers. Every other version is a release.

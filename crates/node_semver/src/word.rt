@@ -1,119 +1,65 @@
-//! The words of a range text.
-ghost use Rattle.std.specs.Prelude.{◌≡◌, Some, IfOk};
-ghost use Rattle.node_semver.specs.ComparatorText.{full, operator_comparator};
-ghost use Rattle.node_semver.specs.Private.Reading.{rest_of};
+//! The words of a range text, and the comparator that each of them writes.
+ghost use Rattle.std.specs.Prelude.{◌≡◌, Some};
+ghost use Rattle.node_semver.specs.Characters.{BeginsWithNo, is_blank};
 ghost use Rattle.node_semver.specs.Private.WordReading as Reading;
-ghost use Rattle.node_semver.specs.Private.WordViews.{operator_of, operator_seen, word_seen};
+ghost use Rattle.node_semver.specs.Private.WordViews.{IsSound, partial_seen, some_word_seen, word_seen};
 
-use crate::Version;
-use crate::comparator::Comparator;
-use crate::parse::{Fault, is_blank, read_partial, skip_blanks, skip_while};
-use semver_cuts::Cut;
-use std::alloc::{AllocError, Global};
+mod caret;
+mod ends;
+mod hyphen;
+mod lead;
+mod operator;
+mod plain;
+mod tilde;
 
-#[derive(Clone, Copy)]
-enum Operator {
-    AtLeast,
-    Above,
-    Exactly,
-    AtMost,
-    Below,
-}
+pub(crate) use ends::Ends;
+pub(crate) use hyphen::read_leading_hyphen;
 
-// `>=1.2.3` of `>=1.2.3 <2.0.0`, or nothing of `foo`, and the rest
+use crate::parse::{Partial, begins_clean, read_partial, skip_solid};
+use hyphen::{hyphen_ends, read_right};
+use lead::{Lead, lead_ends, read_lead};
+use plain::plain_ends;
+
+// `>=1.2.3` of `>=1.2.3 <2`, or nothing of `foo`, and the rest
+#[inline(always)]
 #[tactic(auto, unfolding(crate::specs::Private::WordReading::read_word))]
-pub(crate) fn read_word(
-    alloc: Global,
-    text: &[u8],
-) -> Result<(Option<Comparator>, &[u8]), AllocError>
-    ensures { IfOk result (λ w. (w.0, w.1.now) ≡ Reading.read_word text.now) }
+pub(crate) fn read_word(text: &[u8]) -> (Option<Ends>, &[u8])
+    requires { BeginsWithNo is_blank text.now }
+    ensures { word_seen result ≡ Reading.read_word text.now }
 {
-    match read_comparator(alloc, text)? {
-        Some((comparator, rest)) => Ok((Some(comparator), rest)),
-        None => Ok((None, skip_word(text))),
+    match read_comparator(text) {
+        Some(word) => word,
+        None => (None, skip_solid(text)),
     }
 }
 
-// A comparator text with a clean end.
-#[tactic(auto, unfolding(crate::specs::Private::WordReading::read_comparator))]
-fn read_comparator(alloc: Global, text: &[u8]) -> Result<Option<(Comparator, &[u8])>, AllocError>
-    ensures { IfOk result (λ w. word_seen w ≡ Reading.read_comparator text.now) }
+// A word that is not thrown away: its ends, or nothing where it writes no comparator.
+#[inline(always)]
+fn read_comparator(text: &[u8]) -> Option<(Option<Ends>, &[u8])>
+    requires { BeginsWithNo is_blank text.now }
+    ensures { some_word_seen result ≡ Reading.or_else (Reading.read_hyphen text.now) (Reading.read_simple text.now) }
 {
-    let Some((operator, operand)) = read_operator(text) else {
-        return Ok(None);
-    };
-    match read_partial(alloc, skip_blanks(operand)) {
-        Ok((version, rest)) if ends_word(rest) => {
-            Ok(Some((comparator(alloc, operator, version)?, rest)))
-        }
-        Ok(_) => Ok(None),
-        Err(Fault::OutOfMemory) => Err(AllocError),
-        Err(_) => Ok(None),
+    let (lead, operand) = read_lead(text);
+    let (partial, rest) = read_partial(operand)?;
+    if !begins_clean(rest) {
+        return None;
+    }
+    match (lead, rest) {
+        (Lead::Plain, [_, ..]) => Some(plain_or_hyphen(partial, rest)),
+        _ => Some((lead_ends(lead, partial), rest)),
     }
 }
 
-// `>=` of `>=1.2.3`, the longest that stands there
-#[inline]
-#[tactic(auto, unfolding(crate::specs::Private::WordReading::read_operator))]
-fn read_operator(text: &[u8]) -> Option<(Operator, &[u8])>
-    ensures { operator_seen result ≡ Reading.read_operator text.now }
+// A plain partial before a blank: alone, or the left side of a hyphen.
+#[inline(never)]
+fn plain_or_hyphen<'a>(partial: Partial<'a>, text: &'a [u8]) -> (Option<Ends<'a>>, &'a [u8])
+    requires { IsSound partial }
+    ensures { Some (word_seen result) ≡ Reading.or_else
+        (Reading.said_hyphen (Some (partial_seen partial.entry)) (Reading.read_right text.now))
+        (Some (Reading.lead_comparator Reading.no_lead (partial_seen partial.entry), text.now)) }
 {
-    let (first, rest) = text.split_first()?;
-    match *first {
-        b'>' => Some(with_equals(Operator::AtLeast, Operator::Above, rest)),
-        b'=' => Some((Operator::Exactly, rest)),
-        b'<' => Some(with_equals(Operator::AtMost, Operator::Below, rest)),
-        _ => None,
+    match read_right(text) {
+        Some((right, rest)) => (Some(hyphen_ends(partial, right)), rest),
+        None => (Some(plain_ends(partial)), text),
     }
-}
-
-// The longer operator where a `=` stands here.
-#[inline]
-fn with_equals(longer: Operator, shorter: Operator, text: &[u8]) -> (Operator, &[u8])
-    ensures { (operator_of result.0, result.1.now) ≡ Reading.with_equals (operator_of longer) (operator_of shorter) text.now }
-{
-    match text.split_first() {
-        Some((b'=', rest)) => (longer, rest),
-        _ => (shorter, text),
-    }
-}
-
-#[inline]
-fn comparator(alloc: Global, operator: Operator, version: Version) -> Result<Comparator, AllocError>
-    ensures { IfOk result (λ c. Some c ≡ operator_comparator (operator_of operator) (full version)) }
-{
-    let (lower, upper) = match operator {
-        Operator::AtLeast => (Cut::Before(version), Cut::End),
-        Operator::Above => (Cut::After(version), Cut::End),
-        Operator::AtMost => (Cut::Start, Cut::After(version)),
-        Operator::Below => (Cut::Start, Cut::Before(version)),
-        Operator::Exactly => {
-            let lower = version.without_build_of(alloc)?;
-            let upper = Version {
-                build: Vec::new(alloc),
-                ..version
-            };
-            (Cut::Before(lower), Cut::After(upper))
-        }
-    };
-    Ok(Comparator { lower, upper })
-}
-
-// Whether a word may end before these bytes.
-#[inline]
-fn ends_word(text: &[u8]) -> bool
-    ensures { result ≡ Reading.is_clean text.now }
-{
-    match text.split_first() {
-        Some((byte, _)) => is_blank(*byte),
-        None => true,
-    }
-}
-
-// The bytes from the next blank on.
-#[inline]
-fn skip_word(text: &[u8]) -> &[u8]
-    ensures { result.now ≡ rest_of Reading.is_solid text.now }
-{
-    skip_while(text, |byte| !is_blank(byte))
 }

@@ -4,7 +4,7 @@ use Rattle.std.specs.Prelude.{ℕ, ◌==◌, nat_le, if◌then◌else◌, Bool, 
 use Rattle.node_semver.specs.declared.TheConstants.{MAX_SAFE_INTEGER}
 use Rattle.node_semver.specs.declared.parse.fault.Fault.{Fault}
 use Rattle.node_semver.specs.declared.parse.fault.Fault.TheVariants.{Missing, TooLarge}
-use Rattle.node_semver.specs.Characters.{hyphen, is_blank, is_digit, is_identifier_character, plus, dot}
+use Rattle.node_semver.specs.Characters.{dot, hyphen, is_blank, is_digit, is_identifier_character, is_version_mark, plus}
 use Rattle.node_semver.specs.IdentifierText.{identifier_of, parts_of}
 use Rattle.node_semver.specs.IdentifierValue.{IdentifierValue}
 use Rattle.node_semver.specs.NumberText.{number_of}
@@ -139,6 +139,6 @@ read_unmarked text = read_triple text >>= λ numbers. read_extended numbers.0 nu
 abbrev pub read_from_major : ℕ × List ℕ → Read VersionValue
 read_from_major major = read_minor_and_patch major >>= λ numbers. read_extended numbers.0 numbers.1
 
--- a mark or none, blanks or none, and a triple
-unfoldable pub read_marked : (ℕ → Bool) → List ℕ → Read VersionValue
-read_marked is_mark text = read_unmarked (rest_of is_blank (skip_one is_mark text))
+-- a mark or none, blanks or none, and an unmarked version
+unfoldable pub read_version : List ℕ → Read VersionValue
+read_version text = read_unmarked (rest_of is_blank (skip_one is_version_mark text))

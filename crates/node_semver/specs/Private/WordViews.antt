@@ -1,25 +1,170 @@
--- What is seen of what the private reader of words answers.
-use Rattle.std.specs.Prelude.{ℕ, List, Option, Some, None}
+-- What is seen of what the private readers of words answer.
+use Rattle.std.specs.Prelude.{◌≡◌, ◌≤◌, ◌⊎◌, ℕ, Bool, true, false, List, [], ◌∷◌, Option, Some, None, if◌then◌else◌}
 use Rattle.std.specs.Borrow.{Bor}
-use Rattle.node_semver.specs.ComparatorText.{Comparator, Operator, above, at_least, at_most, below, exactly}
-use Rattle.node_semver.specs.Private.WordReading.{Word}
-use Rattle.node_semver.specs.declared.word.Operator.{Operator as CodeOperator}
-use Rattle.node_semver.specs.declared.word.Operator.TheVariants.{Above, AtLeast, AtMost, Below, Exactly}
+use Rattle.semver_cuts.specs.declared.cut.Cut.{Cut}
+use Rattle.semver_cuts.specs.declared.cut.Cut.TheVariants.{Start, Before, After, End}
+use Rattle.node_semver.specs.Comparator.{Comparator}
+use Rattle.node_semver.specs.IdentifierValue.{IdentifierValue, numeric}
+use Rattle.node_semver.specs.Operators.{Operator, equal, greater, greater_or_equal, less, less_or_equal}
+use Rattle.node_semver.specs.PartialText.{Partial}
+use Rattle.node_semver.specs.Version.{VersionValue}
+use Rattle.node_semver.specs.Private.Reading.{read_extras}
+use Rattle.node_semver.specs.Private.WordReading as Reading
+use Rattle.node_semver.specs.Private.WordReading.{ReadPartial, Word, with_extras}
+use Rattle.node_semver.specs.declared.TheConstants.{MAX_SAFE_INTEGER}
+use Rattle.node_semver.specs.declared.parse.partial.Component.{Component}
+use Rattle.node_semver.specs.declared.parse.partial.Partial.{Partial as CodePartial}
+use Rattle.node_semver.specs.declared.parse.partial.Shape.{Shape}
+use Rattle.node_semver.specs.declared.parse.partial.Shape.TheVariants.{Full, Major, MajorMinor, MajorPatch, Minor, MinorPatch, Nothing, Patch}
+use Rattle.node_semver.specs.declared.word.ends.End.{End as CodeEnd}
+use Rattle.node_semver.specs.declared.word.ends.Ends.{Ends as CodeEnds}
+use Rattle.node_semver.specs.declared.word.ends.Place.{Place}
+use Rattle.node_semver.specs.declared.word.ends.Place.TheVariants.{AfterIt, AtEnd, AtStart, BeforeIt}
+use Rattle.node_semver.specs.declared.word.ends.Tail.{Tail}
+use Rattle.node_semver.specs.declared.word.ends.Tail.TheVariants.{Extras, PreRelease, Release, Zero}
+use Rattle.node_semver.specs.declared.word.ends.WrittenVersion.{WrittenVersion}
+use Rattle.node_semver.specs.declared.word.lead.Lead.{Lead}
+use Rattle.node_semver.specs.declared.word.lead.Lead.TheVariants.{Caret, Operator as OperatorLead, Plain, Tilde, TildeGreater}
+use Rattle.node_semver.specs.declared.word.operator.Operator.{Operator as CodeOperator}
+use Rattle.node_semver.specs.declared.word.operator.Operator.TheVariants.{Above, AtLeast, AtMost, Below, Exactly}
+
+-- ---- partials
+
+-- a number where it is one
+abbrev pub number_if : Bool → ℕ → Option ℕ
+number_if is_number number = if is_number then Some number else None
+
+-- a component: a number, or none
+abbrev pub component_value : Component → Option ℕ
+component_value c = number_if c.is_number c.number
+
+-- a component and the rest, or none
+abbrev pub component_seen : Option (Component × Bor (List ℕ)) → Reading.Component
+component_seen None = None
+component_seen (Some r) = Some (component_value r.0, r.1.now)
+
+-- no number above the limit, and an absent one is kept as 0
+pub record IsComponentSound (c : Component) : Type 0 where
+  pub limit : c.number ≤ MAX_SAFE_INTEGER
+  pub absent : c.is_number ≡ false → c.number ≡ 0
+
+-- which components are numbers
+abbrev pub has_major : Shape → Bool
+has_major Full = true
+has_major MajorMinor = true
+has_major MajorPatch = true
+has_major Major = true
+has_major MinorPatch = false
+has_major Minor = false
+has_major Patch = false
+has_major Nothing = false
+
+abbrev pub has_minor : Shape → Bool
+has_minor Full = true
+has_minor MajorMinor = true
+has_minor MajorPatch = false
+has_minor Major = false
+has_minor MinorPatch = true
+has_minor Minor = true
+has_minor Patch = false
+has_minor Nothing = false
+
+abbrev pub has_patch : Shape → Bool
+has_patch Full = true
+has_patch MajorMinor = false
+has_patch MajorPatch = true
+has_patch Major = false
+has_patch MinorPatch = true
+has_patch Minor = false
+has_patch Patch = true
+has_patch Nothing = false
+
+-- a partial, with the extras that its text of extras begins with
+abbrev pub partial_seen : CodePartial → Partial
+partial_seen p = with_extras (number_if (has_major p.shape) p.major) (number_if (has_minor p.shape) p.minor)
+    (number_if (has_patch p.shape) p.patch) (read_extras p.extras.now).0
+
+-- a partial and the rest, or none
+abbrev pub read_partial_seen : Option (CodePartial × Bor (List ℕ)) → ReadPartial
+read_partial_seen None = None
+read_partial_seen (Some r) = Some (partial_seen r.0, r.1.now)
+
+-- no number above the limit, and an absent one is kept as 0
+pub record IsSound (p : CodePartial) : Type 0 where
+  pub major_limit : p.major ≤ MAX_SAFE_INTEGER
+  pub minor_limit : p.minor ≤ MAX_SAFE_INTEGER
+  pub patch_limit : p.patch ≤ MAX_SAFE_INTEGER
+  pub no_major : has_major p.shape ≡ false → p.major ≡ 0
+  pub no_minor : has_minor p.shape ≡ false → p.minor ≡ 0
+  pub no_patch : has_patch p.shape ≡ false → p.patch ≡ 0
+
+-- ---- what stands before the partial of a word
 
 -- the operator
-abbrev pub operator_of : CodeOperator → Operator
-operator_of AtLeast = at_least
-operator_of Above = above
-operator_of Exactly = exactly
-operator_of AtMost = at_most
-operator_of Below = below
+abbrev pub operator_seen : CodeOperator → Operator
+operator_seen AtLeast = greater_or_equal
+operator_seen Above = greater
+operator_seen Exactly = equal
+operator_seen AtMost = less_or_equal
+operator_seen Below = less
 
 -- an operator and the rest, or none
-abbrev pub operator_seen : Option (CodeOperator × Bor (List ℕ)) → Option (Operator × List ℕ)
-operator_seen None = None
-operator_seen (Some read) = Some (operator_of read.0, read.1.now)
+abbrev pub read_operator_seen : Option (CodeOperator × Bor (List ℕ)) → Option (Operator × List ℕ)
+read_operator_seen None = None
+read_operator_seen (Some read) = Some (operator_seen read.0, read.1.now)
 
--- a comparator and the rest, or none
-abbrev pub word_seen : Option (Comparator × Bor (List ℕ)) → Option Word
-word_seen None = None
-word_seen (Some read) = Some (Some read.0, read.1.now)
+-- the lead
+abbrev pub lead_seen : Lead → Reading.Lead
+lead_seen Plain = Reading.no_lead
+lead_seen (OperatorLead o) = Reading.operator (operator_seen o)
+lead_seen Tilde = Reading.tilde_lead
+lead_seen TildeGreater = Reading.tilde_greater_lead
+lead_seen Caret = Reading.caret_lead
+
+-- ---- ends as they are written
+
+-- the prerelease and the build that a tail stands for
+abbrev pub tail_seen : Tail → List ℕ → List IdentifierValue × List IdentifierValue
+tail_seen Release extras = ([], [])
+tail_seen Zero extras = (numeric 0 ∷ [], [])
+tail_seen PreRelease extras = ((read_extras extras).0.0, [])
+tail_seen Extras extras = (read_extras extras).0
+
+-- the version
+abbrev pub written_seen : WrittenVersion → VersionValue
+written_seen w = record {
+  major = w.major;
+  minor = w.minor;
+  patch = w.patch;
+  pre_release = (tail_seen w.tail w.extras.now).0;
+  build = (tail_seen w.tail w.extras.now).1;
+}
+
+-- the cut
+abbrev pub cut_at : Place → VersionValue → Cut VersionValue
+cut_at AtStart v = Start
+cut_at BeforeIt v = Before v
+cut_at AfterIt v = After v
+cut_at AtEnd v = End
+
+abbrev pub end_seen : CodeEnd → Cut VersionValue
+end_seen e = cut_at e.place (written_seen e.version)
+
+-- the comparator
+abbrev pub ends_seen : CodeEnds → Comparator
+ends_seen e = record { lower = end_seen e.lower; upper = end_seen e.upper }
+
+abbrev pub some_ends_seen : Option CodeEnds → Option Comparator
+some_ends_seen None = None
+some_ends_seen (Some e) = Some (ends_seen e)
+
+-- ---- words
+
+-- the word
+abbrev pub word_seen : Option CodeEnds × Bor (List ℕ) → Word
+word_seen w = (some_ends_seen w.0, w.1.now)
+
+-- or none
+abbrev pub some_word_seen : Option (Option CodeEnds × Bor (List ℕ)) → Option Word
+some_word_seen None = None
+some_word_seen (Some w) = Some (word_seen w)

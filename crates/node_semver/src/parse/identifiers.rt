@@ -30,7 +30,7 @@ const USUAL_IDENTIFIERS: usize = 4;
 
 // An ASCII letter, a digit or `-`.
 #[inline(always)]
-fn is_identifier_character(byte: u8) -> bool
+pub(crate) fn is_identifier_character(byte: u8) -> bool
     ensures { result ≡ Characters.is_identifier_character byte }
 {
     IDENTIFIER_CHARACTERS[byte as usize] != b','
@@ -38,7 +38,7 @@ fn is_identifier_character(byte: u8) -> bool
 
 // Whether the text begins with an identifier.
 #[inline(always)]
-fn begins_identifier(text: &[u8]) -> bool
+pub(crate) fn begins_identifier(text: &[u8]) -> bool
     ensures { result ≡ Reading.begins Characters.is_identifier_character text.now }
 {
     match text {
@@ -161,7 +161,7 @@ fn read_identifiers_or<'a>(
 
 // The text without its first `-`, where it begins with one.
 #[inline(always)]
-fn skip_hyphen(text: &[u8]) -> &[u8]
+pub(crate) fn skip_hyphen(text: &[u8]) -> &[u8]
     ensures { result.now ≡ Reading.skip_one Reading.is_hyphen text.now }
 {
     skip_one(text, |byte| byte == b'-')
@@ -170,7 +170,7 @@ fn skip_hyphen(text: &[u8]) -> &[u8]
 // The text without its first `+`, and no text where it begins with none.
 #[inline(always)]
 #[tactic(auto, unfolding(crate::specs::Private::Reading::skip_plus))]
-fn skip_plus(text: &[u8]) -> &[u8]
+pub(crate) fn skip_plus(text: &[u8]) -> &[u8]
     ensures { result.now ≡ Reading.skip_plus text.now }
 {
     match text {

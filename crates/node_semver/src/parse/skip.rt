@@ -1,10 +1,11 @@
 //! What stands at the start of a text and is gone over: runs of bytes that pass a test, and marks of one byte.
 //!
 //! Everything here is `#[inline(always)]`: a test that is handed in is then part of the loop.
-ghost use Rattle.std.specs.Prelude.{◌≡◌, ℕ, Bool};
+ghost use Rattle.std.specs.Prelude.{◌≡◌, ℕ, Bool, false, IfSome, IfNone, IsTrue};
 ghost use Rattle.node_semver.specs.Characters as Characters;
 ghost use Rattle.node_semver.specs.Private.Reading as Reading;
 ghost use Rattle.node_semver.specs.Private.ReadingViews.{IsTest};
+ghost use Rattle.node_semver.specs.Private.WordReading as WordReading;
 
 // The longest prefix whose bytes all pass, and the rest.
 #[inline(always)]
@@ -57,4 +58,36 @@ pub(crate) fn skip_blanks(text: &[u8]) -> &[u8]
     ensures { result.now ≡ Reading.rest_of Characters.is_blank text.now }
 {
     skip_while(text, is_blank)
+}
+
+// The text without the blanks with which it begins, where it begins with one.
+#[inline(always)]
+pub(crate) fn skip_some_blanks(text: &[u8]) -> Option<&[u8]>
+    ensures some { IfSome result (λ rest. IsTrue (Reading.begins Characters.is_blank text.now)
+        × (rest.now ≡ Reading.rest_of Characters.is_blank text.now)) }
+    ensures none { IfNone result (Reading.begins Characters.is_blank text.now ≡ false) }
+{
+    match text {
+        [first, ..] if is_blank(*first) => Some(skip_blanks(text)),
+        _ => None,
+    }
+}
+
+// Whether a word may end before this text.
+#[inline(always)]
+pub(crate) fn begins_clean(text: &[u8]) -> bool
+    ensures { result ≡ WordReading.is_clean text.now }
+{
+    match text {
+        [] => true,
+        [first, ..] => is_blank(*first),
+    }
+}
+
+// ` <2` of `foo <2`
+#[inline(always)]
+pub(crate) fn skip_solid(text: &[u8]) -> &[u8]
+    ensures { result.now ≡ Reading.rest_of WordReading.is_solid text.now }
+{
+    skip_while(text, |byte| !is_blank(byte))
 }

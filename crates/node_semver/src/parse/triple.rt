@@ -1,7 +1,5 @@
 ghost use Rattle.std.specs.Prelude.{◌≡◌, IfOk, IsOk, []};
-ghost use Rattle.node_semver.specs.Characters.{is_blank};
-ghost use Rattle.node_semver.specs.ComparatorText.{is_partial_mark};
-ghost use Rattle.node_semver.specs.VersionText.{is_version_mark};
+ghost use Rattle.node_semver.specs.Characters.{is_blank, is_version_mark};
 ghost use Rattle.node_semver.specs.Private.Reading as Reading;
 ghost use Rattle.node_semver.specs.Private.ReadingViews.{Gives, IsPlainOk, dot_seen, extras_seen, seen, version_seen};
 
@@ -30,14 +28,6 @@ fn skip_version_mark(text: &[u8]) -> &[u8]
     ensures { result.now ≡ Reading.skip_one is_version_mark text.now }
 {
     skip_one(text, |byte| byte == b'v' || byte == b'V')
-}
-
-// The text without its `v`, where it begins with one.
-#[inline(always)]
-fn skip_partial_mark(text: &[u8]) -> &[u8]
-    ensures { result.now ≡ Reading.skip_one is_partial_mark text.now }
-{
-    skip_one(text, |byte| byte == b'v')
 }
 
 // `1` and `.2.3` of `V 1.2.3`: the number that follows a mark and blanks. Most texts have neither, and begin with a digit.
@@ -103,7 +93,7 @@ fn read_extended(
 // `-alpha+5` of `-alpha+5 <2.0.0`: a prerelease and a build
 #[inline(always)]
 #[tactic(auto, unfolding(crate::specs::Private::Reading::read_extras, crate::specs::Private::Reading::read_build, crate::specs::Private::Reading::skip_plus))]
-fn read_extras(
+pub(crate) fn read_extras(
     alloc: Global,
     text: &[u8],
 ) -> Result<((Vec<Identifier>, Vec<Identifier>), &[u8]), AllocError>
@@ -120,21 +110,11 @@ fn read_extras(
 
 // `V 1.2.3` of `V 1.2.3 <2.0.0`: a version
 #[inline(always)]
-#[tactic(auto, unfolding(crate::specs::Private::Reading::read_marked, crate::specs::Private::Reading::read_unmarked, crate::specs::Private::Reading::read_triple))]
+#[tactic(auto, unfolding(crate::specs::Private::Reading::read_version, crate::specs::Private::Reading::read_unmarked, crate::specs::Private::Reading::read_triple))]
 pub(crate) fn read_version(alloc: Global, text: &[u8]) -> Result<(Version, &[u8]), Fault>
-    ensures read { Gives version_seen result (Reading.read_marked is_version_mark text.now) }
-    ensures plain { IsPlainOk result (Reading.read_marked is_version_mark text.now) }
+    ensures read { Gives version_seen result (Reading.read_version text.now) }
+    ensures plain { IsPlainOk result (Reading.read_version text.now) }
 {
     let (major, rest) = read_major(text)?;
-    read_from_major(alloc, major, rest)
-}
-
-// `v 1.2.3` of `v 1.2.3 <2.0.0`: a partial
-#[inline(always)]
-#[tactic(auto, unfolding(crate::specs::Private::Reading::read_marked, crate::specs::Private::Reading::read_unmarked, crate::specs::Private::Reading::read_triple))]
-pub(crate) fn read_partial(alloc: Global, text: &[u8]) -> Result<(Version, &[u8]), Fault>
-    ensures read { Gives version_seen result (Reading.read_marked is_partial_mark text.now) }
-{
-    let (major, rest) = read_number(skip_blanks(skip_partial_mark(text)))?;
     read_from_major(alloc, major, rest)
 }

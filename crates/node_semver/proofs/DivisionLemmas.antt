@@ -1,87 +1,23 @@
 -- Range texts: each is divided into words in exactly one way.
-use Rattle.std.proofs.Common.{◌≡◌, ◌<◌, ◌≤◌, ℕ, zero, suc, Bool, true, List, [], ◌∷◌, ◌++◌, length, Option, Some, None, append_assoc, length-append, arith, refl, sym, ap, subst, ◌∙◌, inl, inr}
-use Rattle.std.proofs.lemmas.Bool.{cases_Bool, eqb-true, or_cases}
+use Rattle.std.proofs.Common.{◌≡◌, ◌⊎◌, ◌<◌, ◌≤◌, ℕ, zero, suc, Bool, true, List, [], ◌∷◌, ◌++◌, length, Option, Some, None, append_assoc, length-append, arith, refl, sym, ap, subst, ◌∙◌, inl, inr}
+use Rattle.std.proofs.lemmas.Bool.{cases_Bool}
 use Rattle.std.proofs.lemmas.List.{append-nil}
-use Rattle.std.specs.Prelude.{◌==◌}
 use Rattle.node_semver.specs.Characters.{AreAll, BeginsWith, BeginsWithNo, is_blank}
-use Rattle.node_semver.specs.ComparatorText.{Comparator, IsComparatorText}
-use Rattle.node_semver.specs.Division.{IsCleanEnd, IsDivision, IsThrownAway, IsWord, IsWritten, comparators_of}
-use Rattle.node_semver.specs.Private.Reading.{rest_of, prefix_of}
-use Rattle.node_semver.specs.Private.WordReading.{Word, is_solid, read_word, read_operator, or_thrown_away, read_comparator}
-use Rattle.node_semver.proofs.ComparatorReading.{word-again, word-takes}
-use Rattle.node_semver.proofs.Prefixes.{rest_of-again, rest_of-no, prefix_of-rest_of, prefix_of-all, prefix_of-begins}
-
--- ---- one word
-
--- what begins with no solid character is the end or begins with a blank
-clean-from_no_solid : (text : List ℕ) → BeginsWithNo is_solid text → IsCleanEnd text
-clean-from_no_solid [] h = tt
-clean-from_no_solid (b ∷ rest) h = elim (cases_Bool (is_blank b)) [
-  | inl blank ↦ blank
-  | inr solid ↦ cc (rw solid at h)
-]
-
-no_solid-from_clean : (text : List ℕ) → IsCleanEnd text → BeginsWithNo is_solid text
-no_solid-from_clean [] h = tt
-no_solid-from_clean (b ∷ rest) h = rw h refl
-
--- nothing is read where no prefix with a clean end is a comparator text
-none-from_thrown : (text : List ℕ) (found : Option Word) → read_comparator text ≡ found
-    → ((prefix others : List ℕ) (comparator : Option Comparator) → text ≡ prefix ++ others → IsCleanEnd others → ¬ IsComparatorText prefix comparator) → found ≡ None
-none-from_thrown text None r none = refl
-none-from_thrown text (Some w) r none =
-    let taken = word-takes text w.0 w.1 r in
-    absurd (none taken.word w.1 w.0 taken.whole taken.clean taken.read)
-
--- and no such prefix is one where nothing is read
-thrown-from_none : (text : List ℕ) → read_comparator text ≡ None
-    → (prefix others : List ℕ) (comparator : Option Comparator) → text ≡ prefix ++ others → IsCleanEnd others → ¬ IsComparatorText prefix comparator
-thrown-from_none text r prefix others comparator whole clean read =
-    let again : read_comparator (prefix ++ others) ≡ Some (comparator, others) = word-again prefix others comparator read clean in
-    cc (r, whole, again)
-
--- the word at the start of a text and the rest
-pub record HasWord (text : List ℕ) (comparator : Option Comparator) (rest : List ℕ) : Type 0 where
-  pub word : List ℕ
-  pub whole : text ≡ word ++ rest
-  pub is_word : IsWord word rest comparator
-  pub clean : IsCleanEnd rest
-
-next-takes : (text : List ℕ) (found : Option Word) → read_comparator text ≡ found → HasWord text (or_thrown_away found text).0 (or_thrown_away found text).1
-next-takes text (Some w) r =
-    let taken = word-takes text w.0 w.1 r in
-    record { word = taken.word; whole = taken.whole; is_word = inl (taken.read, taken.clean); clean = taken.clean }
-next-takes text None r =
-    let clean = clean-from_no_solid (rest_of is_solid text) (rest_of-no is_solid text) in
-    let whole = sym (prefix_of-rest_of is_solid text) in
-    record {
-      word = prefix_of is_solid text;
-      whole = whole;
-      is_word = inr (
-        refl,
-        record {
-          solid = prefix_of-all is_solid text;
-          clean = clean;
-          none = λ word others comparator e. thrown-from_none text r word others comparator (whole ∙ e);
-        },
-      );
-      clean = clean;
-    }
-
--- what is read is a word
-pub word-is : (text : List ℕ) → HasWord text (read_word text).0 (read_word text).1
-unfolding read_word
-word-is text = next-takes text (read_comparator text) refl
-
--- and a word is what is read
-pub next-again : (word rest : List ℕ) (comparator : Option Comparator) → IsWord word rest comparator → read_word (word ++ rest) ≡ (comparator, rest)
-unfolding read_word
-next-again word rest comparator (inl w) = rw (word-again word rest comparator w.0 w.1) refl
-next-again word rest comparator (inr w) =
-    let t : IsThrownAway word rest = w.1 in
-    rw (none-from_thrown (word ++ rest) (read_comparator (word ++ rest)) refl t.none, rest_of-again is_solid word rest t.solid (no_solid-from_clean rest t.clean), w.0) refl
+use Rattle.node_semver.specs.Comparator.{Comparator}
+use Rattle.node_semver.specs.Division.{HasFirstWord, IsDivision, IsWord, IsWritten, comparators_of}
+use Rattle.node_semver.specs.HyphenRanges.{hyphen_comparator}
+use Rattle.node_semver.specs.PartialText.{Partial}
+use Rattle.node_semver.specs.Private.Reading.{prefix_of, rest_of, skip_one}
+use Rattle.node_semver.specs.Private.WordReading.{ReadPartial, Word, leading_or_none, read_component, read_components, read_hyphen, read_lead, read_partial, read_right, read_simple, read_word}
+use Rattle.node_semver.proofs.Prefixes.{prefix_of-all, prefix_of-begins, prefix_of-rest_of, rest_of-again, rest_of-no}
+use Rattle.node_semver.proofs.WordLemmas.{HasWord, has-word, word-after_blanks, word-again, word-is, word-leading}
 
 -- ---- all words
+
+-- nothing is read of nothing
+word-of_nothing : read_word [] ≡ (None, [])
+unfolding read_word read_hyphen read_simple read_right read_partial read_components read_component read_lead rest_of skip_one
+word-of_nothing = refl
 
 -- a first word, with another one after it
 divide-more : (text : List ℕ) (c : Option Comparator) (rest : List ℕ) (b : ℕ) (words : List (Option Comparator)) → HasWord text c (b ∷ rest)
@@ -89,13 +25,15 @@ divide-more : (text : List ℕ) (c : Option Comparator) (rest : List ℕ) (b : �
 divide-more text c rest b [] w d = absurd d
 divide-more text c rest b (x ∷ words) w d =
     let whole : b ∷ rest ≡ prefix_of is_blank (b ∷ rest) ++ rest_of is_blank (b ∷ rest) = sym (prefix_of-rest_of is_blank (b ∷ rest)) in (
-      w.word,
-      prefix_of is_blank (b ∷ rest),
       rest_of is_blank (b ∷ rest),
-      w.whole ∙ ap (λ (l : List ℕ). w.word ++ l) whole,
-      subst (λ (l : List ℕ). IsWord w.word l c) whole w.is_word,
-      (prefix_of-begins is_blank (b ∷ rest) w.clean, prefix_of-all is_blank (b ∷ rest)),
-      rest_of-no is_blank (b ∷ rest),
+      record {
+        word = w.word;
+        blanks = prefix_of is_blank (b ∷ rest);
+        whole = w.whole ∙ ap (λ (l : List ℕ). w.word ++ l) whole;
+        first = subst (λ (l : List ℕ). IsWord w.word l c) whole w.is_word;
+        blank = record { some = prefix_of-begins is_blank (b ∷ rest) w.clean; all = prefix_of-all is_blank (b ∷ rest) };
+        blanks_end = rest_of-no is_blank (b ∷ rest);
+      },
       d,
     )
 
@@ -141,7 +79,7 @@ divides text = divides-below (suc (length text)) text (omega arith)
 
 -- what a division says of the first word
 next-of_last : (text : List ℕ) (c : Option Comparator) → IsDivision text (c ∷ []) → read_word text ≡ (c, [])
-next-of_last text c d = subst (λ (l : List ℕ). read_word l ≡ (c, [])) (append-nil text) (next-again text [] c d)
+next-of_last text c d = subst (λ (l : List ℕ). read_word l ≡ (c, [])) (append-nil text) (word-again text [] c d)
 
 -- and of the rest, where there are more words
 pub record HasMore (text : List ℕ) (c : Option Comparator) (words : List (Option Comparator)) : Type 0 where
@@ -156,12 +94,13 @@ more-behind text word [] rest c words whole w begins all ends d = absurd begins
 more-behind text word (b ∷ blanks) rest c words whole w begins all ends d = record {
   b = b;
   behind = blanks ++ rest;
-  next = ap read_word whole ∙ next-again word ((b ∷ blanks) ++ rest) c w;
+  next = ap read_word whole ∙ word-again word ((b ∷ blanks) ++ rest) c w;
   division = subst (λ (l : List ℕ). IsDivision l words) (sym (rest_of-again is_blank (b ∷ blanks) rest all ends)) d;
 }
 
 next-of_more : (text : List ℕ) (c x : Option Comparator) (words : List (Option Comparator)) → IsDivision text (c ∷ x ∷ words) → HasMore text c (x ∷ words)
-next-of_more text c x words d = more-behind text d.0 d.1 d.2 c (x ∷ words) d.3 d.4 d.5.0 d.5.1 d.6 d.7
+next-of_more text c x words d =
+    more-behind text d.1.word d.1.blanks d.0 c (x ∷ words) d.1.whole d.1.first d.1.blank.some d.1.blank.all d.1.blanks_end d.2
 
 -- a text has one division
 pub division-unique : (text : List ℕ) (ws xs : List (Option Comparator)) → IsDivision text ws → IsDivision text xs → ws ≡ xs
@@ -199,40 +138,42 @@ comparators-more : (c : Option Comparator) (words : List (Option Comparator)) �
 comparators-more None words = refl
 comparators-more (Some c) words = refl
 
--- These comparators come before those of the rest: whatever division the rest has, the text has one with them in prefix.
+-- These comparators come before those of the rest: whatever division the rest has, the text has one with them first.
 pub record Completes (text : List ℕ) (done : List Comparator) (rest : List ℕ) : Type 0 where
   pub whole : (words : List (Option Comparator)) → IsDivision rest words
       → (all : List (Option Comparator)) × IsDivision text all × (comparators_of all ≡ done ++ comparators_of words)
 
 empty-thrown : IsDivision [] (None ∷ [])
-unfolding read_word read_comparator read_operator rest_of
-empty-thrown = divide-last [] None (word-is [])
+empty-thrown = divide-last [] None (has-word [] None [] word-of_nothing)
 
 -- nothing is left of the end of a text
 pub division-of_end : (words : List (Option Comparator)) → IsDivision [] words → comparators_of words ≡ []
 division-of_end words d = ap comparators_of (division-unique [] words (None ∷ []) d empty-thrown)
 
--- a word that was read
-has-word : (text : List ℕ) (c : Option Comparator) (rest : List ℕ) → read_word text ≡ (c, rest) → HasWord text c rest
-has-word text c rest read = subst (λ (w : Word). HasWord text w.0 w.1) read (word-is text)
+-- at the start nothing is read
+pub completes-nothing : (text : List ℕ) → Completes text [] text
+completes-nothing text = record { whole = λ words d. (words, d, refl) }
 
--- the empty word before a blank
-blank-word : (b : ℕ) (rest : List ℕ) → is_blank b ≡ true → read_word (b ∷ rest) ≡ (None, b ∷ rest)
-unfolding read_word read_comparator read_operator rest_of
-blank-word b rest blank = elim (or_cases (b == 32) (b == 9) blank) [
-  | inl space ↦ rw (eqb-true b 32 space) refl
-  | inr tab ↦ rw (eqb-true b 9 tab) refl
-]
+-- what divides a text divides another one with the same first word
+same-first : (text other : List ℕ) → read_word text ≡ read_word other → (words : List (Option Comparator)) → IsDivision other words → IsDivision text words
+same-first text other same [] d = absurd d
+same-first text other same (w ∷ []) d = divide-last text w (has-word text w [] (same ∙ next-of_last other w d))
+same-first text other same (w ∷ x ∷ words) d =
+    let more = next-of_more other w x words d in
+    divide-more text w more.behind more.b (x ∷ words) (has-word text w (more.b ∷ more.behind) (same ∙ more.next)) more.division
 
--- at the start all is left, but for leading blanks
-pub completes-start : (text : List ℕ) → Completes text [] (rest_of is_blank text)
+-- where no hyphen range without a left side stands at the start, all is left, but for leading blanks
+pub completes-start : (text : List ℕ) → read_right text ≡ None → Completes text [] (rest_of is_blank text)
 unfolding rest_of
-completes-start [] = record { whole = λ words d. (words, d, refl) }
-completes-start (b ∷ rest) = elim (cases_Bool (is_blank b)) [
-  | inl blank ↦ record {
-    whole = λ words d. (None ∷ words, divide-more (b ∷ rest) None rest b words (has-word (b ∷ rest) None (b ∷ rest) (blank-word b rest blank)) d, refl);
-  }
-  | inr solid ↦ rw solid (record { whole = λ words d. (words, d, refl) })
+completes-start [] none = completes-nothing []
+completes-start (b ∷ rest) none = elim (cases_Bool (is_blank b)) [
+  | inr solid ↦ rw solid (completes-nothing (b ∷ rest))
+  | inl blank ↦ elim (word-after_blanks b rest blank none) [
+    | inl thrown ↦ record {
+      whole = λ words d. (None ∷ words, divide-more (b ∷ rest) None rest b words (has-word (b ∷ rest) None (b ∷ rest) thrown) d, refl);
+    }
+    | inr same ↦ record { whole = λ words d. (words, same-first (b ∷ rest) (rest_of is_blank (b ∷ rest)) same words d, refl) }
+  ]
 ]
 
 -- a word and the blanks after it are read
@@ -258,6 +199,16 @@ completes-more text done rest c (b ∷ behind) completes read = record {
 -- less is left then
 pub next-shorter : (rest : List ℕ) (c : Option Comparator) (behind : List ℕ) → read_word rest ≡ (c, behind) → 0 < length rest → length (rest_of is_blank behind) < length rest
 next-shorter rest c behind read some = rest-shorter rest c behind (has-word rest c behind read) some
+
+-- a hyphen range without a left side is read, or none
+pub completes-leading : (text : List ℕ) (right : ReadPartial) (leading : Option Comparator) (rest : List ℕ) → read_right text ≡ right → (leading, rest) ≡ leading_or_none right text
+    → Completes text (listed leading) (rest_of is_blank rest)
+completes-leading text None leading rest none read =
+    let first : leading ≡ None = ap (λ (w : Word). w.0) read in
+    let second : rest ≡ text = ap (λ (w : Word). w.1) read in
+    rw (first, second) (completes-start text none)
+completes-leading text (Some right) leading rest some read =
+    completes-more text [] text leading rest (completes-nothing text) (word-leading text right some ∙ sym read)
 
 -- all is read
 pub completes-end : (text : List ℕ) (done : List Comparator) → Completes text done [] → IsWritten text (done ∷ [])

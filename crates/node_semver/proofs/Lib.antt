@@ -4,7 +4,6 @@ mod PrintExamples
 pub mod ByteTable
 pub mod Characters
 pub mod CommonCut
-pub mod ComparatorReading
 pub mod Digits
 pub mod DivisionLemmas
 pub mod FaultExamples
@@ -24,3 +23,8 @@ pub mod RangeExamples
 pub mod SomeElement
 pub mod VersionParse
 pub mod VersionReading
+pub mod WordLemmas
+pub mod LeadReading
+pub mod PartialReading
+pub mod SimpleReading
+pub mod HyphenReading

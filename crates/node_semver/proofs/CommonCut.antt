@@ -10,9 +10,9 @@ use Rattle.semver_cuts.specs.Cut.{cut_cmp}
 use Rattle.semver_cuts.specs.Common.{AreOuterEnds, HasCommonCut, IsGreaterCut, IsLesserCut}
 use Rattle.semver_cuts.specs.CommonLaws.{AreOuterEnds-one, AreOuterEnds-push, common-lt, greater-first, greater-second, lesser-first, lesser-second}
 use Rattle.semver_cuts.specs.EndsLaws.{at_most-from_not_lt, below-from_lt}
-use Rattle.node_semver.specs.ComparatorText.{Comparator}
-use Rattle.node_semver.specs.Meaning.{AreVoid}
-use Rattle.node_semver.specs.Order.{version_cmp}
+use Rattle.node_semver.specs.Comparator.{Comparator}
+use Rattle.node_semver.specs.Meaning.{GiveSet}
+use Rattle.node_semver.specs.Comparison.{version_cmp}
 use Rattle.node_semver.specs.Lemmas.Order.{version_total}
 use Rattle.node_semver.specs.Version.{VersionValue}
 
@@ -44,24 +44,18 @@ outer-more first others i c lower upper lower' upper' from to within here ends o
     subst (λ (l : List Comparator). AreOuterEnds version_cmp (first ∷ l) lower' upper') (sym more)
     (AreOuterEnds-push version_total (first ∷ take i others) span lower upper lower' upper' outer greater lesser)
 
--- Comparators with these outer ends are void where the lower one is not below the upper one.
-pub void-iff : (list : List Comparator) (first : Comparator) (others : List Comparator) (lower upper : Cut VersionValue) (order : Ordering) (below : Bool)
+-- Comparators with these outer ends give a set exactly where the lower one is below the upper one.
+pub gives-iff : (list : List Comparator) (first : Comparator) (others : List Comparator) (lower upper : Cut VersionValue) (order : Ordering) (below : Bool)
     → list ≡ first ∷ others → AreOuterEnds version_cmp (first ∷ others) lower upper → order ≡ cut_cmp version_cmp lower upper → below ≡ is_lt order
-    → IsTrue (not below) ↔ AreVoid list
-void-iff list first others lower upper order below whole outer compared test =
+    → IsTrue below ↔ GiveSet list
+gives-iff list first others lower upper order below whole outer compared test =
     let iff : IsTrue (is_lt (cut_cmp version_cmp lower upper)) ↔ HasCommonCut version_cmp list =
     subst (λ (l : List Comparator). IsTrue (is_lt (cut_cmp version_cmp lower upper)) ↔ HasCommonCut version_cmp l) (sym whole) (common-lt version_total (first ∷ others) lower upper outer) in
-    let same : below ≡ is_lt (cut_cmp version_cmp lower upper) = test ∙ ap is_lt compared in
-    elim (cases_Bool below) [
-      | inl met ↦ (
-        λ t. let failed : not below ≡ true = t in cc (failed, ap not met),
-        λ void. elim void [
-          | inl none ↦ cc (whole, none)
-          | inr nothing ↦ absurd (nothing (iff.0 (sym same ∙ met)))
-        ],
-      )
-      | inr failed ↦ (
-        λ t. inr (λ common. let met : is_lt (cut_cmp version_cmp lower upper) ≡ true = iff.1 common in cc (same, met, failed)),
-        λ void. ap not failed,
-      )
-    ]
+    let same : below ≡ is_lt (cut_cmp version_cmp lower upper) = test ∙ ap is_lt compared in (
+      λ t. record { some = λ none. cc (whole, none); common = iff.0 (subst IsTrue same t) },
+      λ gives. subst IsTrue (sym same) (iff.1 gives.common),
+    )
+
+-- no comparators give none
+pub gives-none : (list : List Comparator) → list ≡ [] → ¬ GiveSet list
+gives-none list none gives = gives.some none

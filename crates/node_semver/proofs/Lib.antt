@@ -23,6 +23,7 @@ pub mod RangeExamples
 pub mod SomeElement
 pub mod VersionParse
 pub mod VersionReading
+pub mod WordExamples
 pub mod WordLemmas
 pub mod LeadReading
 pub mod PartialReading

@@ -3,7 +3,8 @@ use Rattle.std.proofs.Common.{◌≡◌, ℕ, List, [], ◌∷◌, codes, refl}
 use Rattle.std.specs.declared.cmp.Ordering.TheVariants.{Less, Equal, Greater}
 use Rattle.node_semver.specs.IdentifierValue.{IdentifierValue, numeric, alphanumeric}
 use Rattle.node_semver.specs.Version.{VersionValue, release}
-use Rattle.node_semver.specs.Order.{IsBelow, IsSame, version_cmp}
+use Rattle.node_semver.specs.Order.{IsBelow, IsSame}
+use Rattle.node_semver.specs.Comparison.{version_cmp}
 use Rattle.node_semver.specs.Lemmas.Order.{version_cmp-means}
 
 -- `1.0.0` with these prerelease identifiers

@@ -4,7 +4,7 @@ use Rattle.std.specs.Ordering.{on}
 use Rattle.std.specs.Cmp.Lexicographic.{slice_cmp}
 use Rattle.std.specs.Cmp.Derive.Mapped.{lex_map}
 use Rattle.node_semver.specs.Identifier.{value_of, values_of}
-use Rattle.node_semver.specs.Order.{identifier_cmp, prerelease_cmp}
+use Rattle.node_semver.specs.Comparison.{identifier_cmp, prerelease_cmp}
 use Rattle.node_semver.specs.declared.identifier.Identifier.{Identifier}
 
 -- two lists with identifiers go by these

@@ -7,19 +7,20 @@ use Rattle.std.specs.Prelude.{◌==◌, ◌&&◌, ◌||◌, not}
 use Rattle.semver_cuts.specs.declared.cut.Cut.{Cut}
 use Rattle.semver_cuts.specs.declared.cut.Cut.TheVariants.{Start, Before, After, End}
 use Rattle.semver_cuts.specs.Cut.{cut_cmp}
+use Rattle.semver_cuts.specs.Ends.{IsInSpan}
 use Rattle.semver_cuts.specs.EndsLaws.{at_most-below, at_most-from_le, below-from_lt, le-from_at_most, lt-from_below}
 use Rattle.node_semver.specs.Characters.{is_blank}
-use Rattle.node_semver.specs.ComparatorText.{Comparator}
+use Rattle.node_semver.specs.Comparator.{Comparator}
 use Rattle.node_semver.specs.Division.{IsWritten}
 use Rattle.node_semver.specs.IdentifierValue.{IdentifierValue}
-use Rattle.node_semver.specs.Meaning.{Admit, AnyByRecursion, AreVoid, HasOpenEnd, Holds, IsInside, IsRefused, Opens, TextAdmits}
-use Rattle.node_semver.specs.Order.{version_cmp}
+use Rattle.node_semver.specs.Meaning.{Admit, AnyByRecursion, GiveSet, HasOpenEnd, IsInside, IsRefused, Opens, TextAdmits}
+use Rattle.node_semver.specs.Comparison.{version_cmp}
 use Rattle.node_semver.specs.Lemmas.Order.{version_total}
-use Rattle.node_semver.specs.Private.Reading.{rest_of}
+use Rattle.node_semver.specs.Private.Reading.{list_prefix, list_rest, prefix_of, read_build, read_extras, read_number, read_prerelease, rest_of, skip_one, skip_plus}
 use Rattle.node_semver.specs.Version.{HasSameTriple, IsPrerelease, VersionValue}
-use Rattle.node_semver.specs.Private.WordReading.{read_word}
-use Rattle.node_semver.proofs.DivisionLemmas.{Completes, completes-end, completes-more, completes-start, listed, written-unique}
-use Rattle.node_semver.proofs.MeaningLemmas.{refused-from_void, void-from_refused}
+use Rattle.node_semver.specs.Private.WordReading.{leading_or_none, read_component, read_components, read_hyphen, read_lead, read_operator, read_partial, read_right, read_simple, read_word}
+use Rattle.node_semver.proofs.DivisionLemmas.{Completes, completes-end, completes-leading, completes-more, listed, written-unique}
+use Rattle.node_semver.proofs.MeaningLemmas.{none-from_refused, refused-from_none}
 
 -- ---- the comparators of a text
 
@@ -39,13 +40,35 @@ words-complete (suc n) text (b ∷ rest) done all completes read =
     words-complete n text _ _ all (completes-more text done (b ∷ rest) (read_word (b ∷ rest)).0 (read_word (b ∷ rest)).1 completes refl) read
 
 -- the comparators of a text of fewer than nine words
-abbrev pub comparators_in : List ℕ → Option (List Comparator)
-comparators_in text = read_words 9 (rest_of is_blank text) []
+unfoldable pub comparators_in : List ℕ → Option (List Comparator)
+unfolding read_words read_word read_hyphen read_simple read_right read_partial read_components read_component read_lead read_operator
+    rest_of prefix_of skip_one skip_plus read_number read_extras read_prerelease read_build list_prefix list_rest
+comparators_in text =
+    let start = leading_or_none (read_right text) text in
+    read_words 9 (rest_of is_blank start.1) (listed start.0)
 
 pub written-by : (text : List ℕ) (all : List Comparator) → comparators_in text ≡ Some all → IsWritten text (all ∷ [])
-written-by text all read = words-complete 9 text (rest_of is_blank text) [] all (completes-start text) read
+unfolding comparators_in
+written-by text all read =
+    let start = leading_or_none (read_right text) text in
+    words-complete 9 text (rest_of is_blank start.1) (listed start.0) all (completes-leading text (read_right text) start.0 start.1 refl refl) read
+
+-- texts and the comparators that they write
+abbrev pub AreComputed : List (List ℕ × List Comparator) → Type 0
+AreComputed rows = AllByRecursion (λ (row : List ℕ × List Comparator). comparators_in row.0 ≡ Some row.1) rows
+
+abbrev pub AreWritten : List (List ℕ × List Comparator) → Type 0
+AreWritten rows = AllByRecursion (λ (row : List ℕ × List Comparator). IsWritten row.0 (row.1 ∷ [])) rows
+
+pub all-written : (rows : List (List ℕ × List Comparator)) → AreComputed rows → AreWritten rows
+all-written [] computed = tt
+all-written (row ∷ rows) computed = (written-by row.0 row.1 computed.0, all-written rows computed.1)
 
 -- ---- what they have in common
+
+-- the cut lies in the comparator
+abbrev Holds : Cut VersionValue → Comparator → Type 0
+Holds cut c = IsInSpan version_cmp c cut
 
 -- some lower end is not below some upper end
 abbrev crosses : Comparator → Comparator → Bool
@@ -76,13 +99,13 @@ none-crossed (c ∷ ones) others cut h all crossed = elim (or_cases (list_any (c
   | inr behind ↦ none-crossed ones others cut h.1 all behind
 ]
 
-void-by : (comparators : List Comparator) → are_crossed comparators ≡ true → AreVoid comparators
-void-by [] crossed = inl refl
-void-by (c ∷ cs) crossed = inr (λ common. none-crossed (c ∷ cs) (c ∷ cs) common.0 common.1 common.1 crossed)
+none-by : (comparators : List Comparator) → are_crossed comparators ≡ true → ¬ GiveSet comparators
+none-by [] crossed gives = gives.some refl
+none-by (c ∷ cs) crossed gives = none-crossed (c ∷ cs) (c ∷ cs) gives.common.0 gives.common.1 gives.common.1 crossed
 
 -- a text whose comparators cross is refused
 pub refused-by : (text : List ℕ) (all : List Comparator) → IsWritten text (all ∷ []) → are_crossed all ≡ true → IsRefused text
-refused-by text all written crossed = refused-from_void text all written (void-by all crossed)
+refused-by text all written crossed = refused-from_none text all written (none-by all crossed)
 
 -- ---- what they admit
 
@@ -212,7 +235,8 @@ lies_in cut comparators = list_all (holds cut) comparators
 
 -- a text with a comparator and a cut in all of them is not refused
 pub accepted-by : (text : List ℕ) (c : Comparator) (cs : List Comparator) (cut : Cut VersionValue) → IsWritten text ((c ∷ cs) ∷ []) → lies_in cut (c ∷ cs) ≡ true → ¬ IsRefused text
-accepted-by text c cs cut written passes = λ refused. elim (void-from_refused text (c ∷ cs) written refused) [
-  | inl none ↦ cc none
-  | inr nothing ↦ nothing (cut, (all-iff (Holds cut) (holds cut) (holds-iff cut) (c ∷ cs)).0 passes)
-]
+accepted-by text c cs cut written passes = λ refused.
+    none-from_refused text (c ∷ cs) written refused (record {
+      some = λ none. cc none;
+      common = (cut, (all-iff (Holds cut) (holds cut) (holds-iff cut) (c ∷ cs)).0 passes);
+    })

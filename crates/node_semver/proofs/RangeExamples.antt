@@ -1,34 +1,19 @@
 -- Worked examples: what some texts mean, on both sides. Each is computed over the definitions.
 use Rattle.std.proofs.Common.{◌≡◌, ℕ, List, [], ◌∷◌, ◌++◌, Some, refl, codes}
-use Rattle.semver_cuts.specs.declared.cut.Cut.TheVariants.{Start, Before, After, End}
-use Rattle.node_semver.specs.ComparatorText.{Comparator}
+use Rattle.semver_cuts.specs.declared.cut.Cut.TheVariants.{After}
+use Rattle.node_semver.specs.Comparator.{above, at_least, below, exactly}
 use Rattle.node_semver.specs.IdentifierValue.{IdentifierValue, alphanumeric, numeric}
 use Rattle.node_semver.specs.Meaning.{IsRefused, TextAdmits}
-use Rattle.node_semver.specs.Private.Reading.{rest_of, skip_one, skip_plus, read_build, read_extras, prefix_of, list_rest, list_prefix, read_version, read_number, read_triple, read_dot, read_prerelease, read_unmarked}
 use Rattle.node_semver.specs.Version.{VersionValue, release}
-use Rattle.node_semver.specs.Private.WordReading.{read_word, read_operator, read_comparator}
-use Rattle.node_semver.proofs.RangeComputing.{accepted-by, admits-by, comparators_in, read_words, refused-by, turns_away-by, written-by}
+use Rattle.node_semver.proofs.RangeComputing.{accepted-by, admits-by, comparators_in, refused-by, turns_away-by, written-by}
 
 -- `1.2.3-rc.4` is `prerelease 1 2 3 (text "rc" ∷ numeric 4 ∷ [])`
 abbrev prerelease : ℕ → ℕ → ℕ → List IdentifierValue → VersionValue
 prerelease m n p identifiers = record (release m n p) { pre_release = identifiers }
 
--- the ends that the operators write
-abbrev at_least : VersionValue → Comparator
-at_least v = record { lower = Before v; upper = End }
-
-abbrev above : VersionValue → Comparator
-above v = record { lower = After v; upper = End }
-
-abbrev below : VersionValue → Comparator
-below v = record { lower = Start; upper = Before v }
-
-abbrev exactly : VersionValue → Comparator
-exactly v = record { lower = Before v; upper = After v }
-
 -- `>=1.2.3 <2.0.0`
 two_ends : comparators_in (codes ">=1.2.3 <2.0.0") ≡ Some (at_least (release 1 2 3) ∷ below (release 2 0 0) ∷ [])
-unfolding read_words read_word read_comparator read_operator rest_of skip_one skip_plus read_build read_extras prefix_of list_rest list_prefix read_version read_number read_triple read_dot read_prerelease read_unmarked
+unfolding comparators_in
 two_ends = refl
 
 -- `>=1.2.3 <2.0.0` admits 1.9.0
@@ -41,7 +26,7 @@ two_ends-turns_away = turns_away-by _ _ _ (written-by _ _ two_ends) refl
 
 -- `>=1.2.3-rc.4 <2.0.0`
 opened : comparators_in (codes ">=1.2.3-rc.4 <2.0.0") ≡ Some (at_least (prerelease 1 2 3 (alphanumeric (codes "rc") ∷ numeric 4 ∷ [])) ∷ below (release 2 0 0) ∷ [])
-unfolding read_words read_word read_comparator read_operator rest_of skip_one skip_plus read_build read_extras prefix_of list_rest list_prefix read_version read_number read_triple read_dot read_prerelease read_unmarked
+unfolding comparators_in
 opened = refl
 
 -- `>=1.2.3-rc.4 <2.0.0` admits 1.2.3-rc.5
@@ -54,7 +39,7 @@ opened-turns_away = turns_away-by _ _ _ (written-by _ _ opened) refl
 
 -- `>=1.2.3-a >=1.2.3-b`
 two_lower : comparators_in (codes ">=1.2.3-a >=1.2.3-b") ≡ Some (at_least (prerelease 1 2 3 (alphanumeric (codes "a") ∷ [])) ∷ at_least (prerelease 1 2 3 (alphanumeric (codes "b") ∷ [])) ∷ [])
-unfolding read_words read_word read_comparator read_operator rest_of skip_one skip_plus read_build read_extras prefix_of list_rest list_prefix read_version read_number read_triple read_dot read_prerelease read_unmarked
+unfolding comparators_in
 two_lower = refl
 
 -- `>=1.2.3-a >=1.2.3-b` admits 1.2.3-c
@@ -67,7 +52,7 @@ two_lower-turns_away = turns_away-by _ _ _ (written-by _ _ two_lower) refl
 
 -- `<1.0.1-beta`
 upper : comparators_in (codes "<1.0.1-beta") ≡ Some (below (prerelease 1 0 1 (alphanumeric (codes "beta") ∷ [])) ∷ [])
-unfolding read_words read_word read_comparator read_operator rest_of skip_one skip_plus read_build read_extras prefix_of list_rest list_prefix read_version read_number read_triple read_dot read_prerelease read_unmarked
+unfolding comparators_in
 upper = refl
 
 -- `<1.0.1-beta` admits 1.0.1-0
@@ -88,7 +73,7 @@ upper-turns_away_2 = turns_away-by _ _ _ (written-by _ _ upper) refl
 
 -- `=1.2.3+a`
 builds : comparators_in (codes "=1.2.3+a") ≡ Some (exactly (release 1 2 3) ∷ [])
-unfolding read_words read_word read_comparator read_operator rest_of skip_one skip_plus read_build read_extras prefix_of list_rest list_prefix read_version read_number read_triple read_dot read_prerelease read_unmarked
+unfolding comparators_in
 builds = refl
 
 -- `=1.2.3+a` admits 1.2.3+b
@@ -101,7 +86,7 @@ builds-turns_away = turns_away-by _ _ _ (written-by _ _ builds) refl
 
 -- `foo >= v 1.0.0`
 blanks : comparators_in (codes "foo >= v 1.0.0") ≡ Some (at_least (release 1 0 0) ∷ [])
-unfolding read_words read_word read_comparator read_operator rest_of skip_one skip_plus read_build read_extras prefix_of list_rest list_prefix read_version read_number read_triple read_dot read_prerelease read_unmarked
+unfolding comparators_in
 blanks = refl
 
 -- `foo >= v 1.0.0` admits 1.0.0
@@ -114,7 +99,7 @@ blanks-turns_away = turns_away-by _ _ _ (written-by _ _ blanks) refl
 
 -- `<`, a tab, `2.0.0`
 tab : comparators_in (codes "<" ++ 9 ∷ codes "2.0.0") ≡ Some (below (release 2 0 0) ∷ [])
-unfolding read_words read_word read_comparator read_operator rest_of skip_one skip_plus read_build read_extras prefix_of list_rest list_prefix read_version read_number read_triple read_dot read_prerelease read_unmarked
+unfolding comparators_in
 tab = refl
 
 -- `<`, a tab, `2.0.0` admits 1.9.9
@@ -127,7 +112,7 @@ tab-turns_away = turns_away-by _ _ _ (written-by _ _ tab) refl
 
 -- `>4.0.0 <3.0.0`
 crossed : comparators_in (codes ">4.0.0 <3.0.0") ≡ Some (above (release 4 0 0) ∷ below (release 3 0 0) ∷ [])
-unfolding read_words read_word read_comparator read_operator rest_of skip_one skip_plus read_build read_extras prefix_of list_rest list_prefix read_version read_number read_triple read_dot read_prerelease read_unmarked
+unfolding comparators_in
 crossed = refl
 
 -- is refused
@@ -136,7 +121,7 @@ crossed-refused = refused-by _ _ (written-by _ _ crossed) refl
 
 -- `foo`
 no_word : comparators_in (codes "foo") ≡ Some ([])
-unfolding read_words read_word read_comparator read_operator rest_of skip_one skip_plus read_build read_extras prefix_of list_rest list_prefix read_version read_number read_triple read_dot read_prerelease read_unmarked
+unfolding comparators_in
 no_word = refl
 
 -- is refused
@@ -145,7 +130,7 @@ no_word-refused = refused-by _ _ (written-by _ _ no_word) refl
 
 -- the empty text
 no_text : comparators_in (codes "") ≡ Some ([])
-unfolding read_words read_word read_comparator read_operator rest_of skip_one skip_plus read_build read_extras prefix_of list_rest list_prefix read_version read_number read_triple read_dot read_prerelease read_unmarked
+unfolding comparators_in
 no_text = refl
 
 -- is refused
@@ -154,7 +139,7 @@ no_text-refused = refused-by _ _ (written-by _ _ no_text) refl
 
 -- `>=1.2.3` with a newline, which is no blank
 newline : comparators_in (codes ">=1.2.3" ++ 10 ∷ []) ≡ Some ([])
-unfolding read_words read_word read_comparator read_operator rest_of skip_one skip_plus read_build read_extras prefix_of list_rest list_prefix read_version read_number read_triple read_dot read_prerelease read_unmarked
+unfolding comparators_in
 newline = refl
 
 -- is refused
@@ -163,7 +148,7 @@ newline-refused = refused-by _ _ (written-by _ _ newline) refl
 
 -- `>1.0.0-a <1.0.0-a.0`, between which there is a cut and no version
 no_version : comparators_in (codes ">1.0.0-a <1.0.0-a.0") ≡ Some (above (prerelease 1 0 0 (alphanumeric (codes "a") ∷ [])) ∷ below (prerelease 1 0 0 (alphanumeric (codes "a") ∷ numeric 0 ∷ [])) ∷ [])
-unfolding read_words read_word read_comparator read_operator rest_of skip_one skip_plus read_build read_extras prefix_of list_rest list_prefix read_version read_number read_triple read_dot read_prerelease read_unmarked
+unfolding comparators_in
 no_version = refl
 
 -- is accepted

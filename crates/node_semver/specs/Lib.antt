@@ -12,6 +12,7 @@ pub mod Error
 pub mod Fault
 -- ---- versions: order, print, hash
 pub mod Order
+pub mod Comparison
 pub mod Print
 pub mod Hash
 -- ---- ranges: words, alternatives, and what they mean

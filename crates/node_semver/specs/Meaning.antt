@@ -1,12 +1,21 @@
 -- What a written range means: npm's "Ranges" and "Prerelease Tags".
+--
+-- `>=1.2.3-rc.4 <2.0.0`, read with what follows:
+--   Written: one alternative of two comparators, `at_least` 1.2.3-rc.4 and `below` 2.0.0.
+--   Not refused: it has comparators, and the cut before 1.2.3-rc.4 lies in both of them.
+--   1.9.0 is admitted: the cut before it lies in both, and it is no prerelease.
+--   2.0.0 is turned away: the cut before it is not below the upper end of the second.
+--   1.2.3-rc.5 is admitted: it lies inside both, and the lower end of the first is a prerelease of its triple.
+--   1.2.4-rc.6 is turned away: it lies inside both, and no end is a prerelease of 1.2.4.
 use Rattle.std.specs.Prelude.{◌≡◌, ◌≢◌, ◌⊎◌, ℕ, List, [], ◌∷◌}
 use Rattle.std.specs.List.{AllByRecursion}
 use Rattle.semver_cuts.specs.declared.cut.Cut.{Cut}
 use Rattle.semver_cuts.specs.declared.cut.Cut.TheVariants.{Start, Before, After, End}
+use Rattle.semver_cuts.specs.Common.{HasCommonCut}
 use Rattle.semver_cuts.specs.Ends.{IsInSpan}
 use Rattle.node_semver.specs.Comparator.{Comparator}
+use Rattle.node_semver.specs.Comparison.{version_cmp}
 use Rattle.node_semver.specs.Division.{IsWritten}
-use Rattle.node_semver.specs.Order.{version_cmp}
 use Rattle.node_semver.specs.Version.{HasSameTriple, IsPrerelease, VersionValue}
 
 -- some element is so
@@ -14,13 +23,9 @@ abbrev pub AnyByRecursion : {X : Type 0} → (X → Type 0) → List X → Type 
 AnyByRecursion P [] = ⊥
 AnyByRecursion P (x ∷ xs) = P x ⊎ AnyByRecursion P xs
 
--- a cut lies in a comparator
-abbrev pub Holds : Cut VersionValue → Comparator → Type 0
-Holds cut comparator = IsInSpan version_cmp comparator cut
-
 -- a version lies inside a comparator where the cut before it does
 abbrev pub IsInside : VersionValue → Comparator → Type 0
-IsInside v comparator = Holds (Before v) comparator
+IsInside v comparator = IsInSpan version_cmp comparator (Before v)
 
 -- the cut is before or after a prerelease of the version's triple: `>=1.2.3-rc.4` opens 1.2.3
 abbrev pub Opens : Cut VersionValue → VersionValue → Type 0
@@ -38,15 +43,16 @@ pub record Admit (comparators : List Comparator) (v : VersionValue) : Type 0 whe
   pub inside : AllByRecursion (IsInside v) comparators
   pub opened : IsPrerelease v → AnyByRecursion (HasOpenEnd v) comparators
 
--- there are no comparators, or no cut is common to all of them
-abbrev pub AreVoid : List Comparator → Type 0
-AreVoid comparators = (comparators ≡ []) ⊎ ¬ ((cut : Cut VersionValue) × AllByRecursion (Holds cut) comparators)
+-- there is a comparator, and a cut is common to all of them
+pub record GiveSet (comparators : List Comparator) : Type 0 where
+  pub some : comparators ≢ []
+  pub common : HasCommonCut version_cmp comparators
 
 -- no alternative has a comparator and a cut common to all its comparators
 pub record IsRefused (text : List ℕ) : Type 0 where
   pub alternatives : List (List Comparator)
   pub written : IsWritten text alternatives
-  pub void : AllByRecursion AreVoid alternatives
+  pub none : AllByRecursion (λ comparators. ¬ GiveSet comparators) alternatives
 
 -- in some alternative with a comparator, its comparators admit the version
 pub record TextAdmits (text : List ℕ) (v : VersionValue) : Type 0 where

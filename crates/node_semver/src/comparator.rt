@@ -3,8 +3,8 @@ ghost use Rattle.std.specs.Prelude.{◌↔◌, ◌∷◌, IsTrue};
 ghost use Rattle.semver_cuts.specs.declared.cut.Cut.TheVariants.{Before};
 ghost use Rattle.semver_cuts.specs.Common.{AreOuterEnds, IsGreaterCut, IsLesserCut};
 ghost use Rattle.semver_cuts.specs.Ends.{IsCutAtMost, IsCutBelow};
-ghost use Rattle.node_semver.specs.Meaning.{AreVoid, HasOpenEnd, IsInside, Opens};
-ghost use Rattle.node_semver.specs.Order.{version_cmp};
+ghost use Rattle.node_semver.specs.Meaning.{GiveSet, HasOpenEnd, IsInside, Opens};
+ghost use Rattle.node_semver.specs.Comparison.{version_cmp};
 ghost use Rattle.node_semver.specs.Version.{HasSameTriple};
 
 use crate::Version;
@@ -87,15 +87,15 @@ fn has_same_triple(one: &Version, other: &Version) -> bool
     one.major == other.major && one.minor == other.minor && one.patch == other.patch
 }
 
-// Whether there are no comparators, or no cut lies in all of them.
-pub(crate) fn are_void(comparators: &[Comparator]) -> bool
-    ensures { IsTrue result ↔ AreVoid comparators.now }
+// Whether there are comparators, and a cut lies in all of them.
+pub(crate) fn give_set(comparators: &[Comparator]) -> bool
+    ensures { IsTrue result ↔ GiveSet comparators.now }
 {
     let Some((first, others)) = comparators.split_first() else {
-        return true;
+        return false;
     };
     let (lower, upper) = outer_ends(first, others);
-    !lower.cmp(upper).is_lt()
+    lower.cmp(upper).is_lt()
 }
 
 // The greatest lower end and the least upper one.

@@ -1,7 +1,14 @@
 //! The laws of versions and ranges. Each function here does nothing: its contract is the law.
-ghost use Rattle.std.specs.Prelude.{ℕ, List};
+ghost use Rattle.std.specs.Prelude.{◌≡◌, ℕ, List};
+ghost use Rattle.node_semver.specs.declared.TheConstants.{MAX_LENGTH, MAX_SAFE_INTEGER};
 ghost use Rattle.node_semver.specs.VersionLaws.{HasOneFault, HasOneReading, IsNeverBoth, IsReadOrFaulty};
 ghost use Rattle.node_semver.specs.RangeLaws.{HasWriting, IsOneHyphenRange, IsOnePartial, IsOneSimpleWord, IsWrittenOneWay};
+
+/// The limits, as numbers.
+pub fn limits()
+    ensures greatest_number { MAX_SAFE_INTEGER ≡ 900719925474099 }
+    ensures greatest_length { MAX_LENGTH ≡ 256 }
+{}
 
 /// A text is at most one version.
 pub fn a_version_text_has_one_reading()

@@ -8,7 +8,7 @@ ghost use Rattle.node_semver.specs.Version.{VersionValue};
 ghost use Rattle.node_semver.specs.Private.WordReading.{leading_or_none, read_right};
 ghost use Rattle.node_semver.specs.Private.WordViews.{word_seen};
 
-use crate::comparator::{Comparator, are_void};
+use crate::comparator::{Comparator, give_set};
 use crate::parse::skip_blanks;
 use crate::word::{Ends, read_leading_hyphen, read_word};
 use crate::{SemverError, SemverErrorKind, Version};
@@ -73,7 +73,7 @@ impl Range {
         let Ok(comparators) = comparators_of(alloc, text.as_bytes()) else {
             return Err(SemverError::out_of_memory(alloc));
         };
-        if are_void(&comparators) {
+        if !give_set(&comparators) {
             let kind = SemverErrorKind::NoValidRanges;
             return Err(SemverError::new(alloc, text, 0, kind));
         }

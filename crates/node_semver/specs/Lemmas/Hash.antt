@@ -5,7 +5,7 @@ use Rattle.std.specs.Ordering.{eq_by_cmp}
 use Rattle.std.specs.Cmp.{Equal-is}
 use Rattle.node_semver.specs.IdentifierValue.{IdentifierValue}
 use Rattle.node_semver.specs.Version.{VersionValue}
-use Rattle.node_semver.specs.Order.{identifier_cmp, version_cmp}
+use Rattle.node_semver.specs.Comparison.{identifier_cmp, version_cmp}
 use Rattle.node_semver.specs.Lemmas.Order.{identifier-IsAntisymmetric, Equal-version}
 use Rattle.node_semver.specs.Hash.{identifier_writes, version_writes}
 use Rattle.node_semver.specs.Identifier.{value_of, values_of}

@@ -9,7 +9,8 @@ use Rattle.std.specs.declared.cmp.Ordering.{Ordering}
 use Rattle.std.specs.declared.cmp.Ordering.TheVariants.{Less, Equal, Greater}
 use Rattle.node_semver.specs.IdentifierValue.{IdentifierValue, numeric, alphanumeric}
 use Rattle.node_semver.specs.Version.{VersionValue, HasSameTriple}
-use Rattle.node_semver.specs.Order.{IsListBelow, IsIdentifierBelow, IsBelow, by_major, by_minor, by_patch, before_release, by_identifiers, IsSame, OrderMeans, IdentifierOrderMeans, identifier_cmp, prerelease_cmp, version_cmp}
+use Rattle.node_semver.specs.Order.{IsListBelow, IsIdentifierBelow, IsBelow, by_major, by_minor, by_patch, before_release, by_identifiers, IsSame, OrderMeans, IdentifierOrderMeans}
+use Rattle.node_semver.specs.Comparison.{identifier_cmp, prerelease_cmp, version_cmp}
 
 -- ---- the orders are total
 

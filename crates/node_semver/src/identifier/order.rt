@@ -4,7 +4,8 @@ ghost use Rattle.std.specs.Prelude.{◌≡◌, ◌↔◌, Some, IfSome, IsTrue, 
 ghost use Rattle.std.specs.Cmp.{eq_by_cmp_equiv, on_equiv, on_total, partial_equiv_from_equiv, po};
 ghost use Rattle.std.specs.Ordering.{eq_by_cmp, on};
 ghost use Rattle.node_semver.specs.Identifier.{value_of};
-ghost use Rattle.node_semver.specs.Order.{identifier_cmp, IdentifierOrderMeans};
+ghost use Rattle.node_semver.specs.Order.{IdentifierOrderMeans};
+ghost use Rattle.node_semver.specs.Comparison.{identifier_cmp};
 ghost use Rattle.node_semver.specs.Lemmas.Order.{identifier_total};
 
 use crate::Identifier;

@@ -4,7 +4,8 @@ ghost use Rattle.std.specs.Prelude.{◌≡◌, ◌↔◌, Some, IfSome, IsTrue, 
 ghost use Rattle.std.specs.Cmp.{eq_by_cmp_equiv, partial_equiv_from_equiv, po};
 ghost use Rattle.std.specs.Ordering.{eq_by_cmp};
 ghost use Rattle.node_semver.specs.Identifier.{values_of};
-ghost use Rattle.node_semver.specs.Order.{IsSame, OrderMeans, prerelease_cmp, version_cmp};
+ghost use Rattle.node_semver.specs.Order.{IsSame, OrderMeans};
+ghost use Rattle.node_semver.specs.Comparison.{prerelease_cmp, version_cmp};
 ghost use Rattle.node_semver.specs.Lemmas.Order.{version_total};
 
 use crate::{Identifier, Version};

@@ -1,6 +1,6 @@
 use Rattle.std.proofs.Common.{◌∷◌, take}
 use Rattle.semver_cuts.specs.Common.{AreOuterEnds}
-use Rattle.node_semver.specs.Order.{version_cmp}
+use Rattle.node_semver.specs.Comparison.{version_cmp}
 use Rattle.node_semver.proofs.comparator.outer_ends.Given as goal
 
 abbrev pub invariant-loop-comparator : goal.invariant-loop-comparator

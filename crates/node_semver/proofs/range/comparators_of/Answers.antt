@@ -5,7 +5,7 @@ use Rattle.std.proofs.lemmas.List.{append-nil}
 use Rattle.node_semver.specs.Private.WordReading.{read_word}
 use Rattle.node_semver.specs.Characters.{is_blank}
 use Rattle.node_semver.specs.Private.Reading.{rest_of}
-use Rattle.node_semver.specs.ComparatorText.{Comparator}
+use Rattle.node_semver.specs.Comparator.{Comparator}
 use Rattle.node_semver.proofs.DivisionLemmas.{Completes, completes-end, completes-more, completes-start, listed, next-shorter}
 use Rattle.node_semver.proofs.range.comparators_of.Goals as goal
 use Rattle.node_semver.proofs.range.comparators_of.Goals.{in-Some+in_ok-push, in_default}

@@ -1,7 +1,0 @@
-use Rattle.node_semver.proofs.CommonCut.{void-iff}
-use Rattle.node_semver.proofs.comparator.are_void.Goals as goal
-
-pub returns : goal.returns
-returns c =
-    void-iff c.args.comparators.now c.in-Some.first.now c.in-Some.others.now c.outer_ends.result.0.now c.outer_ends.result.1.now c.cmp.result c.is_lt.result
-    c.in-Some.ensures.cases.0 c.outer_ends.ensures c.cmp.ensures c.is_lt.ensures

@@ -3,21 +3,25 @@ mod Prereleases
 mod PrintExamples
 pub mod ByteTable
 pub mod Characters
+pub mod CleanEnds
 pub mod CommonCut
-pub mod ComparatorReading
+pub mod ComponentReading
 pub mod Digits
 pub mod DivisionLemmas
+pub mod DottedReading
 pub mod FaultExamples
 pub mod FaultLemmas
 pub mod FaultReading
 pub mod Prefixes
 pub mod IdentifierReading
+pub mod LeadReading
 pub mod ListReading
 pub mod LongestReading
 pub mod Marks
 pub mod MeaningLemmas
 pub mod NumberReading
 pub mod OneReading
+pub mod PartialReading
 pub mod Places
 pub mod RangeComputing
 pub mod RangeExamples

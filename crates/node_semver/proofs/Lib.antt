@@ -12,6 +12,7 @@ pub mod DottedReading
 pub mod FaultExamples
 pub mod FaultLemmas
 pub mod FaultReading
+pub mod HyphenReading
 pub mod Prefixes
 pub mod IdentifierReading
 pub mod LeadReading
@@ -25,6 +26,7 @@ pub mod PartialReading
 pub mod Places
 pub mod RangeComputing
 pub mod RangeExamples
+pub mod SimpleReading
 pub mod SomeElement
 pub mod VersionParse
 pub mod VersionReading

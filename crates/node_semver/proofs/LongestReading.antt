@@ -1,9 +1,9 @@
 -- What is read is the longest: after it no more is left than after any prefix that is such a text.
 use Rattle.std.proofs.Common.{◌≡◌, ◌≤◌, ℕ, Bool, true, List, [], ◌∷◌, ◌++◌, length, Ok, refl, sym, ap, ◌∙◌, inl, inr, arith, subst, append_assoc}
-use Rattle.std.proofs.lemmas.Bool.{and_parts, cases_Bool}
+use Rattle.std.proofs.lemmas.Bool.{cases_Bool}
 use Rattle.std.proofs.lemmas.List.{length-append}
 use Rattle.std.specs.Prelude.{◌==◌, nat_le}
-use Rattle.std.specs.List.{AllByRecursion, list_all}
+use Rattle.std.specs.List.{AllByRecursion}
 use Rattle.node_semver.specs.declared.TheConstants.{MAX_SAFE_INTEGER}
 use Rattle.node_semver.specs.Characters.{AreAll, BeginsWith, BeginsWithNo, hyphen, is_blank, is_digit, is_identifier_character, is_version_mark, plus, dot}
 use Rattle.node_semver.specs.IdentifierText.{IsBuildText, IsExtrasText, IsIdentifierList, IsIdentifierText, IsPrereleaseText, parts_of}
@@ -12,7 +12,7 @@ use Rattle.node_semver.specs.NumberText.{IsNumberText, number_of}
 use Rattle.node_semver.specs.Version.{VersionValue}
 use Rattle.node_semver.specs.VersionText.{IsMarked, IsUnmarkedVersion}
 use Rattle.node_semver.specs.Private.Reading.{rest_of, skip_one, skip_plus, begins, read_build, read_extras, prefix_of, goes_on, list_rest, read_list_or, read_version, read_number, read_triple, read_prerelease, read_unmarked, version_of}
-use Rattle.node_semver.proofs.Prefixes.{begins-append, prefix_of-rest_of, with-begins}
+use Rattle.node_semver.proofs.Prefixes.{begins-append, prefix_of-rest_of, rest_of-all, with-begins}
 use Rattle.node_semver.proofs.IdentifierReading.{GoOn, begins-first, build-takes, read_build-other, read_build-plus, goes_on-character, list-through, list-whole, read_list_or-none, read_list_or-some, parts-shape, prerelease-again, prerelease-listed, prerelease-takes, read_prerelease-hyphen, read_prerelease-other}
 use Rattle.node_semver.proofs.NumberReading.{answer, bind-ok, number-again, ok-value, dot-again}
 use Rattle.node_semver.proofs.VersionReading.{numbers-takes, regroup, version-follows}
@@ -98,13 +98,6 @@ number-rest_of text read h = elim (cases_Bool (begins is_digit text)) [
         sym (ap (λ (p : ℕ × List ℕ). p.1) (ok-value _ _ told))
   ]
 ]
-
-rest_of-all : (test : ℕ → Bool) (text more : List ℕ) → AreAll test text → rest_of test (text ++ more) ≡ rest_of test more
-unfolding rest_of
-rest_of-all test [] more all = refl
-rest_of-all test (b ∷ text) more all =
-    let parts = and_parts (test b) (list_all test text) all in
-    rw parts.0 (rest_of-all test text more parts.1)
 
 -- after three numbers stands what follows the digits of the third
 numbers-rest_of : (major minor patch more : List ℕ) (a b : ℕ) (read : (ℕ × ℕ × ℕ) × List ℕ) → IsNumberText major a → IsNumberText minor b → AreAll is_digit patch

@@ -49,6 +49,20 @@ rest_of-again test (b ∷ text) rest all ends =
     let parts = and_parts (test b) (list_all test text) all in
     rw parts.0 (rest_of-again test text rest parts.1 ends)
 
+-- what passes at the start is skipped, whatever stands after it
+pub rest_of-all : (test : ℕ → Bool) (text more : List ℕ) → AreAll test text → rest_of test (text ++ more) ≡ rest_of test more
+unfolding rest_of
+rest_of-all test [] more all = refl
+rest_of-all test (b ∷ text) more all =
+    let parts = and_parts (test b) (list_all test text) all in
+    rw parts.0 (rest_of-all test text more parts.1)
+
+-- nothing is skipped where nothing passes
+pub rest_of-none : (test : ℕ → Bool) (text : List ℕ) → BeginsWithNo test text → rest_of test text ≡ text
+unfolding rest_of
+rest_of-none test [] none = refl
+rest_of-none test (b ∷ rest) none = rw none refl
+
 -- the test of the first character, and the fact
 pub begins-with : (test : ℕ → Bool) (text : List ℕ) → begins test text ≡ true → BeginsWith test text
 begins-with test [] h = cc h

@@ -76,7 +76,7 @@ pub record TakesUnmarked (text : List ℕ) (v : VersionValue) (rest : List ℕ) 
   pub read : IsUnmarkedVersion v taken
 
 -- the prefix of what begins with no digit begins with none
-prefix_of-no : (test : ℕ → Bool) (text rest : List ℕ) → BeginsWithNo test (text ++ rest) → BeginsWithNo test text
+pub prefix_of-no : (test : ℕ → Bool) (text rest : List ℕ) → BeginsWithNo test (text ++ rest) → BeginsWithNo test text
 prefix_of-no test [] rest h = tt
 prefix_of-no test (b ∷ text) rest h = h
 

@@ -1,5 +1,7 @@
-use Rattle.node_semver.proofs.ComparatorReading.{comparator-unique, partial-unique}
+use Rattle.node_semver.proofs.HyphenReading.{one_hyphen_range}
+use Rattle.node_semver.proofs.PartialReading.{one_partial}
+use Rattle.node_semver.proofs.SimpleReading.{one_simple}
 use Rattle.node_semver.proofs.laws.a_text_is_at_most_one_partial.Goals as goal
 
 pub returns : goal.returns
-returns c = record { partial = partial-unique; comparator = comparator-unique }
+returns c = record { partial = one_partial; hyphen = one_hyphen_range; simple = one_simple }

@@ -18,6 +18,7 @@ pub mod Marks
 pub mod MeaningLemmas
 pub mod NumberReading
 pub mod OneReading
+pub mod PartialViews
 pub mod Places
 pub mod RangeComputing
 pub mod RangeExamples

@@ -9,7 +9,7 @@ returns-clause-read c =
     let text = c.args.text.now in
     let other : 0 < length text → (get_or text 0 0 ≢ 120) × (get_or text 0 0 ≢ 88) × (get_or text 0 0 ≢ 42) = λ some. elim c.if-text-lt1.branch [
       | then-text-lt1 w ↦ absurd (omega (arith, ltb-true))
-      | else-text-lt1+in_default-1 w ↦ (let k = w.in_default-1 in let k2 = w.shared_slice_known-2-1 in ?)
+      | else-text-lt1+in_default-1 w ↦ (search rules, search rules, search rules)
     ] in
     component-number text c.in_ok-number.rest.now c.in_ok-number.number (read-ok c.read_number.result (c.in_ok-number.number, c.in_ok-number.rest) c.in_ok-number.ensures.value ∙ c.read_number.ensures) (no-x_first text other)
 

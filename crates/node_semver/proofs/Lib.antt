@@ -12,6 +12,7 @@ pub mod FaultLemmas
 pub mod FaultReading
 pub mod Prefixes
 pub mod IdentifierReading
+pub mod LeadReading
 pub mod ListReading
 pub mod LongestReading
 pub mod Marks
@@ -25,3 +26,4 @@ pub mod RangeExamples
 pub mod SomeElement
 pub mod VersionParse
 pub mod VersionReading
+pub mod WordViews

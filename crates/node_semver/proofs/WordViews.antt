@@ -1,19 +1,22 @@
 -- Words, as the readers see them.
-use Rattle.std.proofs.Common.{◌≡◌, ◌⊎◌, ℕ, true, false, List, [], ◌∷◌, Option, Some, None, refl, sym, ap, ◌∙◌, inl, inr}
+use Rattle.std.proofs.Common.{◌≡◌, ◌⊎◌, ◌<◌, ℕ, arith, length, true, false, List, [], ◌∷◌, Option, Some, None, refl, sym, ap, ◌∙◌, inl, inr}
 use Rattle.std.proofs.lemmas.Bool.{cases_Bool, eqb-true}
 use Rattle.std.specs.Prelude.{◌==◌}
 use Rattle.node_semver.specs.Characters.{BeginsWithNo, caret, is_blank, tilde}
-use Rattle.node_semver.specs.Operators.{Operator}
+use Rattle.node_semver.specs.Operators.{Operator as SpecOperator}
 use Rattle.node_semver.specs.PartialText.{Partial}
 use Rattle.node_semver.specs.Private.Reading.{begins, rest_of}
 use Rattle.node_semver.specs.Private.WordReading.{Lead, ReadPartial, Word, caret_lead, is_clean, lead_comparator, no_lead, operator, or_else, read_hyphen, read_lead, read_operator, read_partial, read_right, read_simple, said, said_hyphen, tilde_greater_lead, tilde_lead, up_to_clean, with_left}
+use Rattle.node_semver.specs.Private.WordViews.{lead_seen}
+use Rattle.node_semver.specs.declared.word.lead.Lead.{Lead as CodeLead}
+use Rattle.node_semver.specs.declared.word.lead.Lead.TheVariants.{Caret, Operator, Plain, Tilde, TildeGreater}
 use Rattle.node_semver.proofs.LeadReading.{lead-not_partial, lead-plain}
 use Rattle.node_semver.proofs.Prefixes.{with_no-begins}
 
 -- ---- leads
 
 -- neither a caret nor a tilde begins an operator
-operator-first : (b : ℕ) (text rest : List ℕ) (o : Operator) → Some (o, rest) ≡ read_operator (b ∷ text) → ((b == caret) ≡ false) × ((b == tilde) ≡ false)
+operator-first : (b : ℕ) (text rest : List ℕ) (o : SpecOperator) → Some (o, rest) ≡ read_operator (b ∷ text) → ((b == caret) ≡ false) × ((b == tilde) ≡ false)
 unfolding read_operator
 operator-first b text rest o h = (
   elim (cases_Bool (b == caret)) [ inl here ↦ cc (rw (eqb-true b caret here) at h) | inr other ↦ other ],
@@ -21,7 +24,7 @@ operator-first b text rest o h = (
 )
 
 -- an operator is a lead
-pub lead-operator : (text rest : List ℕ) (o : Operator) → Some (o, rest) ≡ read_operator text → (operator o, rest_of is_blank rest) ≡ read_lead text
+pub lead-operator : (text rest : List ℕ) (o : SpecOperator) → Some (o, rest) ≡ read_operator text → (operator o, rest_of is_blank rest) ≡ read_lead text
 unfolding read_lead
 lead-operator [] rest o h = unfold read_operator in cc h
 lead-operator (b ∷ text) rest o h =
@@ -35,6 +38,14 @@ lead-cases (operator o) = inr (λ h. cc h)
 lead-cases tilde_lead = inr (λ h. cc h)
 lead-cases tilde_greater_lead = inr (λ h. cc h)
 lead-cases caret_lead = inr (λ h. cc h)
+
+-- the plain one of the code
+pub plain-seen : (l : CodeLead) → lead_seen l ≡ no_lead → l ≡ Plain
+plain-seen Plain h = refl
+plain-seen (Operator o) h = cc h
+plain-seen Tilde h = cc h
+plain-seen TildeGreater h = cc h
+plain-seen Caret h = cc h
 
 -- ---- hyphens
 
@@ -54,6 +65,11 @@ unclean-blank [] h = refl
 unclean-blank (b ∷ rest) h = h
 
 -- ---- words
+
+-- a text without a first byte
+pub no-bytes : (text : List ℕ) → length text < 1 → text ≡ []
+no-bytes [] h = refl
+no-bytes (b ∷ rest) h = absurd (omega arith)
 
 -- a hyphen range, or else a lead and a partial
 abbrev pub comparator_at : List ℕ → Option Word

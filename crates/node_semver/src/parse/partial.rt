@@ -4,7 +4,7 @@
 //! What is `#[inline(always)]` keeps numbers and shapes in registers on the way through the readers of words.
 ghost use Rattle.std.specs.Prelude.{◌≡◌, IfSome};
 ghost use Rattle.node_semver.specs.Characters.{is_partial_mark};
-ghost use Rattle.node_semver.specs.Private.Reading.{read_extras};
+ghost use Rattle.node_semver.specs.Private.Reading.{read_extras, skip_one};
 ghost use Rattle.node_semver.specs.Private.WordReading as Reading;
 ghost use Rattle.node_semver.specs.Private.WordViews.{IsComponentSound, IsSound, component_seen, component_value, has_major, has_minor, has_patch, partial_seen, read_partial_seen};
 
@@ -106,13 +106,22 @@ fn partial_of(major: Component, minor: Component, patch: Component, extras: &[u8
     }
 }
 
+// The text without its `v`, where it begins with one.
+#[inline(always)]
+fn skip_partial_mark(text: &[u8]) -> &[u8]
+    ensures { result.now ≡ skip_one is_partial_mark text.now }
+{
+    skip_one(text, |byte| byte == b'v')
+}
+
 // `v 1.2.x` and ` <2` of `v 1.2.x-alpha <2`
 #[inline(always)]
+#[tactic(auto, unfolding(crate::specs::Private::WordReading::read_partial))]
 pub(crate) fn read_partial(text: &[u8]) -> Option<(Partial, &[u8])>
     ensures read { read_partial_seen result ≡ Reading.read_partial text.now }
     ensures sound { IfSome result (λ r. IsSound r.0) }
 {
-    read_components(skip_blanks(skip_one(text, |byte| byte == b'v')))
+    read_components(skip_blanks(skip_partial_mark(text)))
 }
 
 // `1.2.x` and ` <2` of `1.2.x-alpha <2`

@@ -9,6 +9,7 @@ use Rattle.node_semver.specs.HyphenRanges.{hyphen_comparator}
 use Rattle.node_semver.specs.PartialText.{Partial}
 use Rattle.node_semver.specs.Private.Reading.{prefix_of, rest_of, skip_one}
 use Rattle.node_semver.specs.Private.WordReading.{ReadPartial, Word, leading_or_none, read_component, read_components, read_hyphen, read_lead, read_partial, read_right, read_simple, read_word}
+use Rattle.node_semver.specs.Private.WordViews.{listed}
 use Rattle.node_semver.proofs.Prefixes.{prefix_of-all, prefix_of-begins, prefix_of-rest_of, rest_of-again, rest_of-no}
 use Rattle.node_semver.proofs.WordLemmas.{HasWord, has-word, word-after_blanks, word-again, word-is, word-leading}
 
@@ -128,11 +129,6 @@ division-unique text (w ∷ z ∷ ws) (x ∷ y ∷ xs) d e =
     ap (λ (c : Option Comparator). c ∷ z ∷ ws) first ∙ ap (λ (l : List (Option Comparator)). x ∷ l) others
 
 -- ---- a text read word by word
-
--- the comparator of a word, if it has one
-abbrev pub listed : Option Comparator → List Comparator
-listed None = []
-listed (Some c) = c ∷ []
 
 comparators-more : (c : Option Comparator) (words : List (Option Comparator)) → comparators_of (c ∷ words) ≡ listed c ++ comparators_of words
 comparators-more None words = refl

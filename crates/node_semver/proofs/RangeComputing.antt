@@ -19,7 +19,8 @@ use Rattle.node_semver.specs.Lemmas.Order.{version_total}
 use Rattle.node_semver.specs.Private.Reading.{list_prefix, list_rest, prefix_of, read_build, read_extras, read_number, read_prerelease, rest_of, skip_one, skip_plus}
 use Rattle.node_semver.specs.Version.{HasSameTriple, IsPrerelease, VersionValue}
 use Rattle.node_semver.specs.Private.WordReading.{leading_or_none, read_component, read_components, read_hyphen, read_lead, read_operator, read_partial, read_right, read_simple, read_word}
-use Rattle.node_semver.proofs.DivisionLemmas.{Completes, completes-end, completes-leading, completes-more, listed, written-unique}
+use Rattle.node_semver.proofs.DivisionLemmas.{Completes, completes-end, completes-leading, completes-more, written-unique}
+use Rattle.node_semver.specs.Private.WordViews.{listed}
 use Rattle.node_semver.proofs.MeaningLemmas.{none-from_refused, refused-from_none}
 
 -- ---- the comparators of a text

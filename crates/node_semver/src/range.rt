@@ -1,12 +1,12 @@
 //! Ranges: which versions a text asks for.
-ghost use Rattle.std.specs.Prelude.{◌≡◌, ◌⊎◌, ◌↔◌, [], ◌∷◌, IfErr, IfOk, IsTrue, OnOk};
+ghost use Rattle.std.specs.Prelude.{◌≡◌, ◌⊎◌, ◌↔◌, [], ◌∷◌, ◌++◌, IfErr, IfOk, IsTrue, OnOk};
 ghost use Rattle.std.specs.List.{AllByRecursion};
 ghost use Rattle.node_semver.specs.Division.{IsWritten};
 ghost use Rattle.node_semver.specs.Error.{IsOutOfMemory, IsRefusalAt, no_valid_ranges};
 ghost use Rattle.node_semver.specs.Meaning.{AnyByRecursion, HasOpenEnd, IsInside, IsRefused, RangeAdmits, TextAdmits};
 ghost use Rattle.node_semver.specs.Version.{VersionValue};
 ghost use Rattle.node_semver.specs.Private.WordReading.{leading_or_none, read_right};
-ghost use Rattle.node_semver.specs.Private.WordViews.{word_seen};
+ghost use Rattle.node_semver.specs.Private.WordViews.{listed, some_ends_seen, word_seen};
 
 use crate::comparator::{Comparator, give_set};
 use crate::parse::skip_blanks;
@@ -147,18 +147,29 @@ fn comparators_of(alloc: Global, text: &[u8]) -> Result<Vec<Comparator>, AllocEr
 {
     let mut comparators = Vec::new(alloc);
     let (leading, rest) = skip_leading_hyphen(text);
-    if let Some(ends) = leading {
-        comparators.push(ends.comparator(alloc)?)?;
-    }
+    keep(alloc, &mut comparators, leading)?;
     let mut rest = skip_blanks(rest);
     while !rest.is_empty() {
         let (ends, others) = read_word(rest);
-        if let Some(ends) = ends {
-            comparators.push(ends.comparator(alloc)?)?;
-        }
+        keep(alloc, &mut comparators, ends)?;
         rest = skip_blanks(others);
     }
     Ok(comparators)
+}
+
+// One comparator more, where a word writes one.
+#[inline(always)]
+fn keep(
+    alloc: Global,
+    comparators: &mut Vec<Comparator>,
+    ends: Option<Ends>,
+) -> Result<(), AllocError>
+    ensures { OnOk result (comparators.new.items ≡ comparators.old.items ++ listed (some_ends_seen ends.entry)) }
+{
+    if let Some(ends) = ends {
+        comparators.push(ends.comparator(alloc)?)?;
+    }
+    Ok(())
 }
 
 // A hyphen without a left side, with which a text may begin: ` - 3`

@@ -168,3 +168,8 @@ word_seen w = (some_ends_seen w.0, w.1.now)
 abbrev pub some_word_seen : Option (Option CodeEnds × Bor (List ℕ)) → Option Word
 some_word_seen None = None
 some_word_seen (Some w) = Some (word_seen w)
+
+-- the comparator of a word, if it has one
+abbrev pub listed : Option Comparator → List Comparator
+listed None = []
+listed (Some c) = c ∷ []

@@ -1,17 +1,34 @@
-use Rattle.std.proofs.Common.{◌≡◌, ◌<◌, ℕ, Bool, true, false, Option, Some, None, List, [], ◌∷◌, ◌++◌, length, arith, refl, sym, ap, subst, ◌∙◌}
+use Rattle.std.proofs.Common.{◌≡◌, ◌<◌, ℕ, Bool, true, false, Option, List, [], ◌∷◌, ◌++◌, length, arith, refl, sym, ap, subst, ◌∙◌}
 use Rattle.std.specs.Prelude.{◌==◌}
 use Rattle.std.proofs.lemmas.Bool.{eqb-true}
-use Rattle.std.proofs.lemmas.List.{append-nil}
-use Rattle.node_semver.specs.Private.WordReading.{read_word}
-use Rattle.node_semver.specs.Characters.{is_blank}
-use Rattle.node_semver.specs.Private.Reading.{rest_of}
+use Rattle.node_semver.specs.Characters.{BeginsWithNo, is_blank}
 use Rattle.node_semver.specs.Comparator.{Comparator}
-use Rattle.node_semver.proofs.DivisionLemmas.{Completes, completes-end, completes-more, completes-start, listed, next-shorter}
+use Rattle.node_semver.specs.Private.Reading.{rest_of}
+use Rattle.node_semver.specs.Private.WordReading.{leading_or_none, read_right, read_word}
+use Rattle.node_semver.specs.Private.WordViews.{listed, some_ends_seen}
+use Rattle.node_semver.proofs.DivisionLemmas.{Completes, completes-end, completes-leading, completes-more, next-shorter}
+use Rattle.node_semver.proofs.Prefixes.{rest_of-no}
 use Rattle.node_semver.proofs.range.comparators_of.Goals as goal
-use Rattle.node_semver.proofs.range.comparators_of.Goals.{in-Some+in_ok-push, in_default}
+
+-- the comparators that are kept, and what is left
+kept : (text rest left : List ℕ) (done new : List Comparator) → Completes text done rest → new ≡ done → left ≡ rest → Completes text new left
+kept text rest left done new completes same skipped =
+    subst (λ (l : List Comparator). Completes text l left) (sym same) (subst (λ (l : List ℕ). Completes text done l) (sym skipped) completes)
+
+-- after blanks were skipped
+no-blank : (rest left : List ℕ) → left ≡ rest_of is_blank rest → BeginsWithNo is_blank left
+no-blank rest left skipped = subst (λ (l : List ℕ). BeginsWithNo is_blank l) (sym skipped) (rest_of-no is_blank rest)
 
 pub loop-rest-init : goal.loop-rest-init
-loop-rest-init c = rw (c.new-comparators.ensures.items, c.skip_blanks-rest.ensures) (completes-start c.args.text.now)
+loop-rest-init c =
+    let leading = some_ends_seen c.skip_leading_hyphen.result.0 in
+    let rest = c.skip_leading_hyphen.result.1.now in
+    let start = completes-leading c.args.text.now (read_right c.args.text.now) leading rest refl c.skip_leading_hyphen.ensures in
+    record {
+      read = kept c.args.text.now (rest_of is_blank rest) c.skip_blanks-rest.result.now (listed leading) c.keep.new.comparators.items start
+          (c.in_ok-keep.ensures ∙ ap (λ (l : List Comparator). l ++ listed leading) c.new-comparators.ensures.items) c.skip_blanks-rest.ensures;
+      solid = no-blank rest c.skip_blanks-rest.result.now c.skip_blanks-rest.ensures;
+    }
 
 some-from_not_empty : (xs : List ℕ) (r : Bool) → r ≡ (length xs == 0) → r ≡ false → 0 < length xs
 some-from_not_empty [] r e f = cc (e, f)
@@ -25,33 +42,25 @@ none-from_empty (x ∷ xs) r e f =
 
 pub loop-rest-smaller : goal.loop-rest-smaller
 loop-rest-smaller c =
-    let some : 0 < length c.loop-rest.rest.now = some-from_not_empty c.loop-rest.rest.now c.is_empty.result c.is_empty.ensures c.loop-rest-test.true in
-    let shorter = next-shorter c.loop-rest.rest.now c.in_ok-comparator.comparator c.in_ok-comparator.others.now (sym c.in_ok-comparator.ensures) some in
-    subst (λ (l : List ℕ). length l < length c.loop-rest.rest.now) (sym c.skip_blanks-rest-in-loop-rest.ensures) shorter
-
--- the comparators with the word's after them
-more : (text rest behind left : List ℕ) (done new : List Comparator) (word : Option Comparator) → Completes text done rest
-    → (word, behind) ≡ read_word rest → left ≡ rest_of is_blank behind → new ≡ done ++ listed word → Completes text new left
-more text rest behind left done new word completes read skipped pushed =
-    subst (λ (l : List Comparator). Completes text l left) (sym pushed)
-    (subst (λ (l : List ℕ). Completes text (done ++ listed word) l) (sym skipped) (completes-more text done rest word behind completes (sym read)))
-
-pushed-some : (items done : List Comparator) (word : Option Comparator) (x : Comparator) → word ≡ Some x → items ≡ done ++ x ∷ [] → items ≡ done ++ listed word
-pushed-some items done word x is pushed = pushed ∙ ap (λ (w : Option Comparator). done ++ listed w) (sym is)
-
-pushed-none : (items done : List Comparator) (word : Option Comparator) → word ≡ None → items ≡ done → items ≡ done ++ listed word
-pushed-none items done word is same = same ∙ sym (ap (λ (w : Option Comparator). done ++ listed w) is ∙ append-nil done)
+    let rest = c.loop-rest.rest.now in
+    let some : 0 < length rest = some-from_not_empty rest c.is_empty.result c.is_empty.ensures c.loop-rest-test.true in
+    let shorter = next-shorter rest (some_ends_seen c.read_word.result.0) c.read_word.result.1.now (sym c.read_word.ensures) some in
+    subst (λ (l : List ℕ). length l < length rest) (sym c.skip_blanks-rest-in-loop-rest.ensures) shorter
 
 pub loop-rest-preserved : goal.loop-rest-preserved
 loop-rest-preserved c =
-    more c.args.text.now c.loop-rest.rest.now c.in_ok-comparator.others.now c.skip_blanks-rest-in-loop-rest.result.now c.loop-rest.comparators.items c.match-comparator.comparators.items
-    c.in_ok-comparator.comparator c.loop-rest.invariant c.in_ok-comparator.ensures c.skip_blanks-rest-in-loop-rest.ensures
-    (elim c.match-comparator.branch [
-      | in-Some+in_ok-push w ↦ pushed-some _ c.loop-rest.comparators.items _ _ w.in-Some.is (rw w.comparators-is w.in_ok-push.ensures.items)
-      | in_default w ↦ pushed-none _ c.loop-rest.comparators.items _ w.in_default.is (rw w.comparators-is refl)
-    ])
+    let rest = c.loop-rest.rest.now in
+    let word = some_ends_seen c.read_word.result.0 in
+    let others = c.read_word.result.1.now in
+    let done = c.loop-rest.comparators.items in
+    let more = completes-more c.args.text.now done rest word others c.loop-rest.invariant.read (sym c.read_word.ensures) in
+    record {
+      read = kept c.args.text.now (rest_of is_blank others) c.skip_blanks-rest-in-loop-rest.result.now (done ++ listed word) c.keep-in-loop-rest.new.comparators.items
+          more c.in_ok-keep-2.ensures c.skip_blanks-rest-in-loop-rest.ensures;
+      solid = no-blank others c.skip_blanks-rest-in-loop-rest.result.now c.skip_blanks-rest-in-loop-rest.ensures;
+    }
 
 pub returns : goal.returns
 returns c =
     let none : c.loop-rest.rest.now ≡ [] = none-from_empty c.loop-rest.rest.now c.is_empty.result c.is_empty.ensures c.loop-rest-test.false in
-    completes-end c.args.text.now c.loop-rest.comparators.items (subst (λ (l : List ℕ). Completes c.args.text.now c.loop-rest.comparators.items l) none c.loop-rest.invariant)
+    completes-end c.args.text.now c.loop-rest.comparators.items (subst (λ (l : List ℕ). Completes c.args.text.now c.loop-rest.comparators.items l) none c.loop-rest.invariant.read)

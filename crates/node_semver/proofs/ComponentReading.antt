@@ -10,7 +10,7 @@ use Rattle.node_semver.specs.Private.WordReading.{number_component, read_compone
 use Rattle.node_semver.proofs.NumberReading.{number-again, number-takes}
 
 -- what holds of each x holds of any
-pub x-cases : (P : ℕ → Type 0) (b : ℕ) → is_x b ≡ true → P 120 → P 88 → P 42 → P b
+x-cases : (P : ℕ → Type 0) (b : ℕ) → is_x b ≡ true → P 120 → P 88 → P 42 → P b
 x-cases P b h small large star = elim (or_cases ((b == 120) || (b == 88)) (b == 42) h) [
   | inr e ↦ subst P (sym (eqb-true b 42 e)) star
   | inl letter ↦ elim (or_cases (b == 120) (b == 88) letter) [

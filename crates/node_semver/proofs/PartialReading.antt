@@ -133,7 +133,7 @@ partial-first (b ∷ rest) r h = elim (cases_Bool (is_partial_mark b)) [
 ]
 
 -- a text that begins so begins with no other character
-pub first-no : (first : ℕ → Bool) (sign : ℕ) (text : List ℕ) → first sign ≡ false → BeginsWith first text
+first-no : (first : ℕ → Bool) (sign : ℕ) (text : List ℕ) → first sign ≡ false → BeginsWith first text
     → BeginsWithNo (λ b. b == sign) text
 first-no first sign [] other h = tt
 first-no first sign (b ∷ rest) other h = elim (cases_Bool (b == sign)) [

@@ -14,6 +14,7 @@ pub clean-true : (rest : List ℕ) → is_clean rest ≡ true → IsCleanEnd res
 clean-true [] h = tt
 clean-true (b ∷ rest) h = h
 
+-- the fact, and the test
 pub true-clean : (rest : List ℕ) → IsCleanEnd rest → is_clean rest ≡ true
 true-clean [] h = refl
 true-clean (b ∷ rest) h = h
@@ -29,7 +30,8 @@ blanks-clean [] rest h = absurd h
 blanks-clean (b ∷ blanks) rest h = h
 
 -- what is read up to a clean end ends at one
-pub up_to_clean-takes : (read : ReadPartial) (r : Partial × List ℕ) → up_to_clean read ≡ Some r → (read ≡ Some r) × IsCleanEnd r.1
+pub up_to_clean-takes : (read : ReadPartial) (r : Partial × List ℕ) → up_to_clean read ≡ Some r
+    → (read ≡ Some r) × IsCleanEnd r.1
 up_to_clean-takes None r h = cc h
 up_to_clean-takes (Some s) r h = elim (cases_Bool (is_clean s.1)) [
   | inr unclean ↦ cc (rw unclean at h)

@@ -10,7 +10,7 @@ use Rattle.node_semver.specs.Private.WordReading.{number_component, read_compone
 use Rattle.node_semver.proofs.NumberReading.{number-again, number-takes}
 
 -- what holds of each x holds of any
-pub x-cases : (P : ℕ → Type 0) (b : ℕ) → is_x b ≡ true → P 120 → P 88 → P 42 → P b
+x-cases : (P : ℕ → Type 0) (b : ℕ) → is_x b ≡ true → P 120 → P 88 → P 42 → P b
 x-cases P b h small large star = elim (or_cases ((b == 120) || (b == 88)) (b == 42) h) [
   | inr e ↦ subst P (sym (eqb-true b 42 e)) star
   | inl letter ↦ elim (or_cases (b == 120) (b == 88) letter) [
@@ -19,9 +19,11 @@ x-cases P b h small large star = elim (or_cases ((b == 120) || (b == 88)) (b == 
   ]
 ]
 
+-- no x is a digit
 x-no_digit : (b : ℕ) → is_x b ≡ true → is_digit b ≡ false
 x-no_digit b h = x-cases (λ (c : ℕ). is_digit c ≡ false) b h refl refl refl
 
+-- and no digit an x
 digit-no_x : (b : ℕ) → is_digit b ≡ true → is_x b ≡ false
 digit-no_x b h = elim (cases_Bool (is_x b)) [
   | inr other ↦ other
@@ -35,8 +37,9 @@ pub record TakesComponent (text : List ℕ) (component : Option ℕ) (rest : Lis
   pub read : IsComponentText taken component
   pub ends : BeginsWith is_digit taken → BeginsWithNo is_digit rest
 
-number_component-takes : (text : List ℕ) (read : Read ℕ) (component : Option ℕ) (rest : List ℕ) → read_number text ≡ read
-    → number_component read ≡ Some (component, rest) → TakesComponent text component rest
+-- a number that is read is a component
+number_component-takes : (text : List ℕ) (read : Read ℕ) (component : Option ℕ) (rest : List ℕ)
+    → read_number text ≡ read → number_component read ≡ Some (component, rest) → TakesComponent text component rest
 number_component-takes text (Err e) component rest r h = cc h
 number_component-takes text (Ok n) component rest r h =
     let e = same_Some (Some n.0, n.1) (component, rest) h in
@@ -50,8 +53,9 @@ number_component-takes text (Ok n) component rest r h =
       ends = λ some. subst (λ (l : List ℕ). BeginsWithNo is_digit l) behind t.ends;
     }
 
-pub component-takes : (text : List ℕ) (component : Option ℕ) (rest : List ℕ) → read_component text ≡ Some (component, rest)
-    → TakesComponent text component rest
+-- what is read is a component
+pub component-takes : (text : List ℕ) (component : Option ℕ) (rest : List ℕ)
+    → read_component text ≡ Some (component, rest) → TakesComponent text component rest
 unfolding read_component
 component-takes [] component rest h = cc h
 component-takes (b ∷ text) component rest h = elim (cases_Bool (is_x b)) [

@@ -42,7 +42,8 @@ one-taken taken text major p rest first h =
     }
 
 -- and one that ends after its second
-two-taken : (first second text : List ℕ) (major minor : Option ℕ) (p : Partial) (rest : List ℕ) → IsComponentText first major
+two-taken : (first second text : List ℕ) (major minor : Option ℕ) (p : Partial) (rest : List ℕ)
+    → IsComponentText first major
     → IsComponentText second minor → read_as (plain_partial major minor None) text ≡ read_as p rest
     → TakesComponents (first ++ (dot ∷ (second ++ text))) p rest
 two-taken first second text major minor p rest one_read two_read h =
@@ -50,7 +51,13 @@ two-taken first second text major minor p rest one_read two_read h =
     record {
       taken = first ++ (dot ∷ second);
       whole = ap (λ (l : List ℕ). first ++ (dot ∷ (second ++ l))) e.1 ∙ sym (append_assoc first (dot ∷ second) rest);
-      read = two major minor (sym e.0) (record { first = first; second = second; whole = refl; major_text = one_read; minor_text = two_read });
+      read = two major minor (sym e.0) (record {
+        first = first;
+        second = second;
+        whole = refl;
+        major_text = one_read;
+        minor_text = two_read;
+      });
     }
 
 -- a third component and extras
@@ -66,7 +73,8 @@ third-taken first second text major minor (Some c) p rest one_read two_read r h 
     let taken = first ++ (dot ∷ (second ++ (dot ∷ (t.taken ++ x.taken)))) in
     record {
       taken = taken;
-      whole = ap (λ (l : List ℕ). first ++ (dot ∷ (second ++ (dot ∷ l)))) (t.whole ∙ ap (λ (l : List ℕ). t.taken ++ l) split)
+      whole = ap (λ (l : List ℕ). first ++ (dot ∷ (second ++ (dot ∷ l))))
+          (t.whole ∙ ap (λ (l : List ℕ). t.taken ++ l) split)
           ∙ regroup first second t.taken x.taken rest;
       read = subst (λ (q : Partial). IsUnmarkedPartial q taken) e.0 (three (record {
         first = first;
@@ -77,25 +85,29 @@ third-taken first second text major minor (Some c) p rest one_read two_read r h 
         major_text = one_read;
         minor_text = two_read;
         patch_text = t.read;
-        digits_end = λ some. prefix_of-no is_digit x.taken rest (subst (λ (l : List ℕ). BeginsWithNo is_digit l) split (t.ends some));
+        digits_end = λ some. prefix_of-no is_digit x.taken rest
+            (subst (λ (l : List ℕ). BeginsWithNo is_digit l) split (t.ends some));
         extras_text = x.extras;
       }));
     }
 
 -- what follows a second component
-from_patch-taken : (first second text : List ℕ) (major minor : Option ℕ) (p : Partial) (rest : List ℕ) → IsComponentText first major
-    → IsComponentText second minor → read_from_patch major minor text ≡ Some (p, rest)
+from_patch-taken : (first second text : List ℕ) (major minor : Option ℕ) (p : Partial) (rest : List ℕ)
+    → IsComponentText first major → IsComponentText second minor → read_from_patch major minor text ≡ Some (p, rest)
     → TakesComponents (first ++ (dot ∷ (second ++ text))) p rest
 from_patch-taken first second [] major minor p rest one_read two_read h =
     two-taken first second [] major minor p rest one_read two_read h
 from_patch-taken first second (b ∷ text) major minor p rest one_read two_read h = elim (cases_Bool (b == dot)) [
   | inr other ↦ two-taken first second (b ∷ text) major minor p rest one_read two_read (rw other at h)
-  | inl here ↦ subst (λ (c : ℕ). TakesComponents (first ++ (dot ∷ (second ++ (c ∷ text)))) p rest) (sym (eqb-true b dot here))
+  | inl here ↦
+      subst (λ (c : ℕ). TakesComponents (first ++ (dot ∷ (second ++ (c ∷ text)))) p rest) (sym (eqb-true b dot here))
       (third-taken first second text major minor (read_component text) p rest one_read two_read refl (rw here at h))
 ]
 
-second-taken : (first text : List ℕ) (major : Option ℕ) (read : Component) (p : Partial) (rest : List ℕ) → IsComponentText first major
-    → read_component text ≡ read → with_second major read ≡ Some (p, rest) → TakesComponents (first ++ (dot ∷ text)) p rest
+-- a second component and what follows it
+second-taken : (first text : List ℕ) (major : Option ℕ) (read : Component) (p : Partial) (rest : List ℕ)
+    → IsComponentText first major → read_component text ≡ read → with_second major read ≡ Some (p, rest)
+    → TakesComponents (first ++ (dot ∷ text)) p rest
 second-taken first text major None p rest one_read r h = cc h
 second-taken first text major (Some c) p rest one_read r h =
     let t = component-takes text c.0 c.1 r in
@@ -112,6 +124,7 @@ from_minor-taken first (b ∷ text) major p rest one_read h = elim (cases_Bool (
       (second-taken first text major (read_component text) p rest one_read refl (rw here at h))
 ]
 
+-- a first component and what follows it
 first-taken : (text : List ℕ) (read : Component) (p : Partial) (rest : List ℕ) → read_component text ≡ read
     → with_first read ≡ Some (p, rest) → TakesComponents text p rest
 first-taken text None p rest r h = cc h
@@ -119,7 +132,9 @@ first-taken text (Some c) p rest r h =
     let t = component-takes text c.0 c.1 r in
     subst (λ (l : List ℕ). TakesComponents l p rest) (sym t.whole) (from_minor-taken t.taken c.1 c.0 p rest t.read h)
 
-pub components-takes : (text : List ℕ) (p : Partial) (rest : List ℕ) → read_components text ≡ Some (p, rest) → TakesComponents text p rest
+-- what is read is an unmarked partial
+pub components-takes : (text : List ℕ) (p : Partial) (rest : List ℕ) → read_components text ≡ Some (p, rest)
+    → TakesComponents text p rest
 unfolding read_components
 components-takes text p rest h = first-taken text (read_component text) p rest refl h
 
@@ -129,6 +144,7 @@ from_patch-ends : (major minor : Option ℕ) (rest : List ℕ) → BeginsWithNo 
 from_patch-ends major minor [] h = refl
 from_patch-ends major minor (b ∷ rest) h = rw h refl
 
+-- the same after a first component
 from_minor-ends : (major : Option ℕ) (rest : List ℕ) → BeginsWithNo (λ b. b == dot) rest
     → read_from_minor major rest ≡ Some (plain_partial major None None, rest)
 from_minor-ends major [] h = refl
@@ -139,7 +155,8 @@ pub components-again : (text rest : List ℕ) (p : Partial) → IsUnmarkedPartia
     → read_components (text ++ rest) ≡ Some (p, rest)
 unfolding read_components
 components-again text rest p (one major says h) clean =
-    rw (component-again text rest major h (λ some. clean-no_digit rest clean), says) (from_minor-ends major rest (clean-no_dot rest clean))
+    let c1 = component-again text rest major h (λ some. clean-no_digit rest clean) in
+    rw (c1, says) (from_minor-ends major rest (clean-no_dot rest clean))
 components-again text rest p (two major minor says h) clean =
     let whole : text ++ rest ≡ h.first ++ (dot ∷ (h.second ++ rest)) =
     ap (λ (l : List ℕ). l ++ rest) h.whole ∙ append_assoc h.first (dot ∷ h.second) rest in
@@ -149,8 +166,10 @@ components-again text rest p (two major minor says h) clean =
 components-again text rest p (three h) clean =
     let whole : text ++ rest ≡ h.first ++ (dot ∷ (h.second ++ (dot ∷ (h.third ++ (h.extras ++ rest))))) =
     ap (λ (l : List ℕ). l ++ rest) h.whole ∙ sym (regroup h.first h.second h.third h.extras rest) in
-    let c1 = component-again h.first (dot ∷ (h.second ++ (dot ∷ (h.third ++ (h.extras ++ rest))))) p.major h.major_text (λ some. refl) in
-    let c2 = component-again h.second (dot ∷ (h.third ++ (h.extras ++ rest))) p.minor h.minor_text (λ some. refl) in
+    let after_second = dot ∷ (h.third ++ (h.extras ++ rest)) in
+    let c1 = component-again h.first (dot ∷ (h.second ++ after_second)) p.major h.major_text (λ some. refl) in
+    let c2 = component-again h.second after_second p.minor h.minor_text (λ some. refl) in
     let c3 = component-again h.third (h.extras ++ rest) p.patch h.patch_text
     (λ some. no-append is_digit h.extras rest (h.digits_end some) (clean-no_digit rest clean)) in
-    rw (whole, c1, c2, c3, extras-again h.extras rest p.pre_release p.build h.extras_text (clean-ends_extras rest clean)) refl
+    let x = extras-again h.extras rest p.pre_release p.build h.extras_text (clean-ends_extras rest clean) in
+    rw (whole, c1, c2, c3, x) refl

@@ -32,8 +32,9 @@ blanks-taken : (text : List ℕ) → begins is_blank text ≡ true → AreBlanks
 blanks-taken text h =
     record { some = prefix_of-begins is_blank text (begins-with is_blank text h); all = prefix_of-all is_blank text }
 
-right_at-takes : (text behind : List ℕ) (p : Partial) (rest : List ℕ) → begins is_blank text ≡ true → rest_of is_blank text ≡ behind
-    → right_at behind ≡ Some (p, rest) → TakesRight text p rest
+-- what is read from the hyphen on
+right_at-takes : (text behind : List ℕ) (p : Partial) (rest : List ℕ) → begins is_blank text ≡ true
+    → rest_of is_blank text ≡ behind → right_at behind ≡ Some (p, rest) → TakesRight text p rest
 right_at-takes text [] p rest some follows h = cc h
 right_at-takes text (b ∷ behind) p rest some follows h = elim (cases_Bool (b == hyphen)) [
   | inr other ↦ cc (rw other at h)
@@ -50,7 +51,8 @@ right_at-takes text (b ∷ behind) p rest some follows h = elim (cases_Bool (b =
           left_blanks = prefix_of is_blank text;
           right_blanks = prefix_of is_blank behind;
           right_text = t.taken;
-          whole = sym (prefix_of-rest_of is_blank text) ∙ ap (λ (l : List ℕ). prefix_of is_blank text ++ l) (follows ∙ first);
+          whole = sym (prefix_of-rest_of is_blank text)
+              ∙ ap (λ (l : List ℕ). prefix_of is_blank text ++ l) (follows ∙ first);
           left_blank = blanks-taken text some;
           right_blank = blanks-taken behind blank;
           read = t.read;
@@ -59,6 +61,7 @@ right_at-takes text (b ∷ behind) p rest some follows h = elim (cases_Bool (b =
   ]
 ]
 
+-- what is read is such a right side
 right-takes : (text : List ℕ) (p : Partial) (rest : List ℕ) → read_right text ≡ Some (p, rest) → TakesRight text p rest
 unfolding read_right
 right-takes text p rest h = elim (cases_Bool (begins is_blank text)) [
@@ -66,14 +69,16 @@ right-takes text p rest h = elim (cases_Bool (begins is_blank text)) [
   | inl some ↦ right_at-takes text (rest_of is_blank text) p rest some refl (rw some at h)
 ]
 
-right-again : (left_blanks right_blanks right_text rest : List ℕ) (p : Partial) → AreBlanks left_blanks → AreBlanks right_blanks
-    → IsPartialText right_text p → IsCleanEnd rest
+-- such a right side is read
+right-again : (left_blanks right_blanks right_text rest : List ℕ) (p : Partial) → AreBlanks left_blanks
+    → AreBlanks right_blanks → IsPartialText right_text p → IsCleanEnd rest
     → read_right (left_blanks ++ (hyphen ∷ (right_blanks ++ (right_text ++ rest)))) ≡ Some (p, rest)
 unfolding read_right
 right-again left_blanks right_blanks right_text rest p left right h clean =
     let behind = right_blanks ++ (right_text ++ rest) in
     let some : begins is_blank (left_blanks ++ (hyphen ∷ behind)) ≡ true =
-    with-begins is_blank (left_blanks ++ (hyphen ∷ behind)) (begins-append is_blank left_blanks (hyphen ∷ behind) left.some) in
+    with-begins is_blank (left_blanks ++ (hyphen ∷ behind))
+    (begins-append is_blank left_blanks (hyphen ∷ behind) left.some) in
     let follows : rest_of is_blank (left_blanks ++ (hyphen ∷ behind)) ≡ hyphen ∷ behind =
     rest_of-again is_blank left_blanks (hyphen ∷ behind) left.all refl in
     let blank : begins is_blank behind ≡ true =
@@ -88,6 +93,7 @@ right_at-none : (text : List ℕ) → BeginsWithNo (λ b. b == hyphen) text → 
 right_at-none [] h = refl
 right_at-none (b ∷ rest) h = rw h refl
 
+-- and none is read
 right-none : (text : List ℕ) (r : Partial × List ℕ) → read_partial text ≡ Some r → read_right text ≡ None
 unfolding read_right
 right-none text r h = elim (cases_Bool (begins is_blank text)) [
@@ -106,15 +112,16 @@ pub record TakesHyphen (text : List ℕ) (comparator : Option Comparator) (rest 
   pub clean : IsCleanEnd rest
 
 -- a left side or none, and what follows it
-hyphen-taken : (left_text text : List ℕ) (left : Option Partial) (read : ReadPartial) (c : Option Comparator) (rest : List ℕ)
-    → IsLeftText left_text left → read_right text ≡ read → said_hyphen left read ≡ Some (c, rest)
+hyphen-taken : (left_text text : List ℕ) (left : Option Partial) (read : ReadPartial) (c : Option Comparator)
+    (rest : List ℕ) → IsLeftText left_text left → read_right text ≡ read → said_hyphen left read ≡ Some (c, rest)
     → TakesHyphen (left_text ++ text) c rest
 hyphen-taken left_text text left None c rest h r e = cc e
 hyphen-taken left_text text left (Some p) c rest h r e =
     let t = right-takes text p.0 p.1 r in
     let taken = left_text ++ (t.left_blanks ++ (hyphen ∷ (t.right_blanks ++ t.right_text))) in
     let whole : left_text ++ text ≡ taken ++ p.1 = ap (λ (l : List ℕ). left_text ++ l) t.whole ∙ simp append_assoc in
-    subst (λ (w : Word). TakesHyphen (left_text ++ text) w.0 w.1) (same_Some (Some (hyphen_comparator left p.0), p.1) (c, rest) e) (record {
+    let same = same_Some (Some (hyphen_comparator left p.0), p.1) (c, rest) e in
+    subst (λ (w : Word). TakesHyphen (left_text ++ text) w.0 w.1) same (record {
       taken = taken;
       whole = whole;
       read = record {
@@ -143,31 +150,38 @@ left-takes text (Some left) c rest r h =
     subst (λ (l : List ℕ). TakesHyphen l c rest) (sym t.whole)
     (hyphen-taken t.taken left.1 (Some left.0) (read_right left.1) c rest t.read refl h)
 
+-- with one or without
 either-takes : (text : List ℕ) (right : ReadPartial) (c : Option Comparator) (rest : List ℕ) → read_right text ≡ right
     → or_else (said_hyphen None right) (with_left (read_partial text)) ≡ Some (c, rest) → TakesHyphen text c rest
 either-takes text None c rest r h = left-takes text (read_partial text) c rest refl h
 either-takes text (Some right) c rest r h = hyphen-taken [] text None (Some right) c rest refl r h
 
-pub hyphen-takes : (text : List ℕ) (c : Option Comparator) (rest : List ℕ) → read_hyphen text ≡ Some (c, rest) → TakesHyphen text c rest
+-- what is read is a hyphen range with a clean end
+pub hyphen-takes : (text : List ℕ) (c : Option Comparator) (rest : List ℕ) → read_hyphen text ≡ Some (c, rest)
+    → TakesHyphen text c rest
 unfolding read_hyphen
 hyphen-takes text c rest h = either-takes text (read_right text) c rest refl h
 
 -- a left side or none, and what follows it, are read
-hyphen-read : (left_text behind rest : List ℕ) (left : Option Partial) (right : Partial) → IsLeftText left_text left → IsCleanEnd behind
-    → read_right behind ≡ Some (right, rest) → read_hyphen (left_text ++ behind) ≡ Some (Some (hyphen_comparator left right), rest)
+hyphen-read : (left_text behind rest : List ℕ) (left : Option Partial) (right : Partial) → IsLeftText left_text left
+    → IsCleanEnd behind → read_right behind ≡ Some (right, rest)
+    → read_hyphen (left_text ++ behind) ≡ Some (Some (hyphen_comparator left right), rest)
 unfolding read_hyphen
 hyphen-read left_text behind rest None right h clean r = rw (h, r) refl
 hyphen-read left_text behind rest (Some p) right h clean r =
     let l = partial-again left_text behind p h clean in
     rw (right-none (left_text ++ behind) (p, behind) l, l, r) refl
 
+-- a hyphen range with a clean end is read
 pub hyphen-again : (text rest : List ℕ) (c : Option Comparator) → IsHyphenText text c → IsCleanEnd rest
     → read_hyphen (text ++ rest) ≡ Some (c, rest)
 hyphen-again text rest c h clean =
-    let behind = h.left_blanks ++ (hyphen ∷ (h.right_blanks ++ (h.right_text ++ rest))) in
+    let from_hyphen = hyphen ∷ (h.right_blanks ++ (h.right_text ++ rest)) in
+    let behind = h.left_blanks ++ from_hyphen in
     let whole : text ++ rest ≡ h.left_text ++ behind = ap (λ (l : List ℕ). l ++ rest) h.whole ∙ simp append_assoc in
-    let r = right-again h.left_blanks h.right_blanks h.right_text rest h.right h.left_blank h.right_blank h.right_read clean in
-    let clean_left = blanks-clean h.left_blanks (hyphen ∷ (h.right_blanks ++ (h.right_text ++ rest))) h.left_blank.some in
+    let r = right-again h.left_blanks h.right_blanks h.right_text rest h.right
+    h.left_blank h.right_blank h.right_read clean in
+    let clean_left = blanks-clean h.left_blanks from_hyphen h.left_blank.some in
     rw (whole, h.says) (hyphen-read h.left_text behind rest h.left h.right h.left_read clean_left r)
 
 -- a hyphen range stands for one comparator

@@ -1,5 +1,5 @@
--- What stands before the partial of a word, an operator, a tilde, a caret or nothing: what is read stands there, and what
--- stands there is read.
+-- What stands before the partial of a word: an operator, a tilde, a caret or nothing. What is read stands there,
+-- and what stands there is read.
 use Rattle.std.proofs.Common.{◌≡◌, ℕ, false, List, [], ◌∷◌, ◌++◌, Option, Some, None, refl, sym, ap, ◌∙◌, inl, inr, subst, append_assoc}
 use Rattle.std.proofs.lemmas.Bool.{cases_Bool, eqb-true}
 use Rattle.std.specs.Prelude.{◌==◌}
@@ -40,6 +40,7 @@ tilde_at-some (b ∷ rest) h = elim (cases_Bool (b == greater_sign)) [
   | inr other ↦ cc (rw other at h)
 ]
 
+-- an operator is one too
 operator_lead-plain : (found : Option (Operator × List ℕ)) (text : List ℕ) → (operator_lead found text).0 ≡ no_lead
     → (operator_lead found text).1 ≡ text
 operator_lead-plain None text h = refl
@@ -53,8 +54,8 @@ lead-plain (b ∷ rest) h = elim (cases_Bool (b == caret)) [
   | inl here ↦ cc (rw here at h)
   | inr no_caret ↦ elim (cases_Bool (b == tilde)) [
     | inl here ↦ absurd (tilde_at-some (rest_of is_blank rest) (rw (no_caret, here) at h))
-    | inr no_tilde ↦
-        rw (no_caret, no_tilde) (operator_lead-plain (read_operator (b ∷ rest)) (b ∷ rest) (rw (no_caret, no_tilde) at h))
+    | inr no_tilde ↦ rw (no_caret, no_tilde)
+        (operator_lead-plain (read_operator (b ∷ rest)) (b ∷ rest) (rw (no_caret, no_tilde) at h))
   ]
 ]
 
@@ -97,7 +98,8 @@ unblanked lead rest = record {
 
 -- an operator of one character or of two
 with_equals-takes : (longer shorter : Operator) (b : ℕ) (text : List ℕ) → operator_text longer ≡ b ∷ 61 ∷ []
-    → operator_text shorter ≡ b ∷ [] → b ∷ text ≡ operator_text (with_equals longer shorter text).0 ++ (with_equals longer shorter text).1
+    → operator_text shorter ≡ b ∷ []
+    → b ∷ text ≡ operator_text (with_equals longer shorter text).0 ++ (with_equals longer shorter text).1
 with_equals-takes longer shorter b [] two one = rw one refl
 with_equals-takes longer shorter b (c ∷ text) two one = elim (cases_Bool (c == 61)) [
   | inl here ↦ rw (here, two, eqb-true c 61 here) refl
@@ -109,21 +111,26 @@ abbrev IsOperatorRead : List ℕ → Option (Operator × List ℕ) → Type 0
 IsOperatorRead text None = Unit {0}
 IsOperatorRead text (Some r) = text ≡ operator_text r.0 ++ r.1
 
+-- what is read is an operator
 operator-takes : (text : List ℕ) → IsOperatorRead text (read_operator text)
 unfolding read_operator
 operator-takes [] = tt
 operator-takes (b ∷ text) = elim (cases_Bool (b == greater_sign)) [
-  | inl here ↦ rw (here, eqb-true b greater_sign here) (with_equals-takes greater_or_equal greater greater_sign text refl refl)
+  | inl here ↦ rw (here, eqb-true b greater_sign here)
+      (with_equals-takes greater_or_equal greater greater_sign text refl refl)
   | inr no_greater ↦ elim (cases_Bool (b == 61)) [
     | inl here ↦ rw (no_greater, here, eqb-true b 61 here) refl
     | inr no_equal ↦ elim (cases_Bool (b == 60)) [
-      | inl here ↦ rw (no_greater, no_equal, here, eqb-true b 60 here) (with_equals-takes less_or_equal less 60 text refl refl)
+      | inl here ↦ rw (no_greater, no_equal, here, eqb-true b 60 here)
+          (with_equals-takes less_or_equal less 60 text refl refl)
       | inr no_less ↦ rw (no_greater, no_equal, no_less) tt
     ]
   ]
 ]
 
-operator_lead-takes : (text : List ℕ) (found : Option (Operator × List ℕ)) → IsOperatorRead text found → Stands text (operator_lead found text)
+-- an operator and all the blanks after it, or nothing
+operator_lead-takes : (text : List ℕ) (found : Option (Operator × List ℕ)) → IsOperatorRead text found
+    → Stands text (operator_lead found text)
 operator_lead-takes text None h = refl
 operator_lead-takes text (Some r) h = rw h (unblanked (operator_text r.0) r.1)
 
@@ -134,18 +141,20 @@ tilde-takes text = by_first (rest_of is_blank text) refl
     by_first : (rest : List ℕ) → rest_of is_blank text ≡ rest → Stands (tilde ∷ text) (tilde_at rest)
     by_first [] e = subst (λ (l : List ℕ). IsFollowed (tilde ∷ []) (tilde ∷ text) l) e (unblanked (tilde ∷ []) text)
     by_first (b ∷ rest) e = elim (cases_Bool (b == greater_sign)) [
-      | inr other ↦ rw other (subst (λ (l : List ℕ). IsFollowed (tilde ∷ []) (tilde ∷ text) l) e (unblanked (tilde ∷ []) text))
+      | inr other ↦
+          rw other (subst (λ (l : List ℕ). IsFollowed (tilde ∷ []) (tilde ∷ text) l) e (unblanked (tilde ∷ []) text))
       | inl here ↦
           let blanks = prefix_of is_blank text in
-          let whole : tilde ∷ text ≡ (tilde ∷ (blanks ++ (greater_sign ∷ []))) ++ rest =
+          let lead = tilde ∷ (blanks ++ (greater_sign ∷ [])) in
+          let whole : tilde ∷ text ≡ lead ++ rest =
           ap (λ (l : List ℕ). tilde ∷ l) (sym (prefix_of-rest_of is_blank text)
           ∙ ap (λ (l : List ℕ). blanks ++ l) (e ∙ ap (λ (c : ℕ). c ∷ rest) (eqb-true b greater_sign here))
           ∙ sym (append_assoc blanks (greater_sign ∷ []) rest)) in
           rw here (blanks, prefix_of-all is_blank text,
-            subst (λ (l : List ℕ). IsFollowed (tilde ∷ (blanks ++ (greater_sign ∷ []))) l (rest_of is_blank rest)) (sym whole)
-            (unblanked (tilde ∷ (blanks ++ (greater_sign ∷ []))) rest))
+            subst (λ (l : List ℕ). IsFollowed lead l (rest_of is_blank rest)) (sym whole) (unblanked lead rest))
     ]
 
+-- what is read stands before the rest
 pub lead-takes : (text : List ℕ) → Stands text (read_lead text)
 unfolding read_lead
 lead-takes [] = refl
@@ -153,7 +162,8 @@ lead-takes (b ∷ text) = elim (cases_Bool (b == caret)) [
   | inl here ↦ rw (here, eqb-true b caret here) (unblanked (caret ∷ []) text)
   | inr no_caret ↦ elim (cases_Bool (b == tilde)) [
     | inl here ↦ rw (no_caret, here, eqb-true b tilde here) (tilde-takes text)
-    | inr no_tilde ↦ rw (no_caret, no_tilde) (operator_lead-takes (b ∷ text) (read_operator (b ∷ text)) (operator-takes (b ∷ text)))
+    | inr no_tilde ↦ rw (no_caret, no_tilde)
+        (operator_lead-takes (b ∷ text) (read_operator (b ∷ text)) (operator-takes (b ∷ text)))
   ]
 ]
 
@@ -165,6 +175,7 @@ with_equals-shorter : (longer shorter : Operator) (text : List ℕ) → BeginsWi
 with_equals-shorter longer shorter [] h = refl
 with_equals-shorter longer shorter (b ∷ rest) h = rw h refl
 
+-- an operator is read, where no `=` follows it
 operator-again : (o : Operator) (behind : List ℕ) → BeginsWithNo (λ b. b == 61) behind
     → read_operator (operator_text o ++ behind) ≡ Some (o, behind)
 unfolding read_operator
@@ -175,8 +186,8 @@ operator-again less_or_equal behind h = refl
 operator-again less behind h = ap Some (with_equals-shorter less_or_equal less behind h)
 
 -- neither a caret nor a tilde begins an operator
-operator-first : (o : Operator) (behind : List ℕ)
-    → read_lead (operator_text o ++ behind) ≡ operator_lead (read_operator (operator_text o ++ behind)) (operator_text o ++ behind)
+operator-first : (o : Operator) (behind : List ℕ) → read_lead (operator_text o ++ behind)
+    ≡ operator_lead (read_operator (operator_text o ++ behind)) (operator_text o ++ behind)
 unfolding read_lead
 operator-first greater_or_equal behind = refl
 operator-first greater behind = refl
@@ -184,6 +195,7 @@ operator-first equal behind = refl
 operator-first less_or_equal behind = refl
 operator-first less behind = refl
 
+-- so it is read as a lead
 pub lead-operator : (o : Operator) (behind : List ℕ) → BeginsWithNo (λ b. b == 61) behind
     → read_lead (operator_text o ++ behind) ≡ (operator o, rest_of is_blank behind)
 lead-operator o behind h = rw (operator-first o behind, operator-again o behind h) refl
@@ -193,16 +205,19 @@ tilde_at-plain : (text : List ℕ) → BeginsWithNo (λ b. b == greater_sign) te
 tilde_at-plain [] h = refl
 tilde_at-plain (b ∷ rest) h = rw h refl
 
+-- so a tilde is read
 pub lead-tilde : (behind : List ℕ) → BeginsWithNo (λ b. b == greater_sign) (rest_of is_blank behind)
     → read_lead (tilde ∷ behind) ≡ (tilde_lead, rest_of is_blank behind)
 unfolding read_lead
 lead-tilde behind h = tilde_at-plain (rest_of is_blank behind) h
 
+-- a tilde and a `>` are read
 pub lead-tilde_greater : (blanks behind : List ℕ) → AreAll is_blank blanks
     → read_lead (tilde ∷ (blanks ++ (greater_sign ∷ behind))) ≡ (tilde_greater_lead, rest_of is_blank behind)
 unfolding read_lead
 lead-tilde_greater blanks behind all = ap tilde_at (rest_of-again is_blank blanks (greater_sign ∷ behind) all refl)
 
+-- a caret is read
 pub lead-caret : (behind : List ℕ) → read_lead (caret ∷ behind) ≡ (caret_lead, rest_of is_blank behind)
 unfolding read_lead
 lead-caret behind = refl

@@ -22,11 +22,14 @@ begins_component b = is_digit b || is_x b
 abbrev pub begins_partial : ℕ → Bool
 begins_partial b = begins_component b || is_blank b || is_partial_mark b
 
-component-begins : (text : List ℕ) (component : Option ℕ) → IsComponentText text component → BeginsWith begins_component text
+-- a component begins so
+component-begins : (text : List ℕ) (component : Option ℕ) → IsComponentText text component
+    → BeginsWith begins_component text
 component-begins [] (Some number) h = absurd h.some
 component-begins (b ∷ text) (Some number) h = or_left (is_digit b) (is_x b) h.some
 component-begins text None h = rw h.1 (or_right (is_digit h.0) (is_x h.0) h.2)
 
+-- so does an unmarked partial
 unmarked-begins : (text : List ℕ) (p : Partial) → IsUnmarkedPartial p text → BeginsWith begins_component text
 unmarked-begins text p (one major says h) = component-begins text major h
 unmarked-begins text p (two major minor says h) =
@@ -34,7 +37,9 @@ unmarked-begins text p (two major minor says h) =
 unmarked-begins text p (three h) =
     rw h.whole (begins-append begins_component h.first _ (component-begins h.first p.major h.major_text))
 
-components-begin : (text : List ℕ) (r : Partial × List ℕ) → read_components text ≡ Some r → BeginsWith begins_component text
+-- so does a text with one at its start
+components-begin : (text : List ℕ) (r : Partial × List ℕ) → read_components text ≡ Some r
+    → BeginsWith begins_component text
 components-begin text r h =
     let t = components-takes text r.0 r.1 h in
     rw t.whole (begins-append begins_component t.taken r.1 (unmarked-begins t.taken r.0 t.read))
@@ -43,6 +48,7 @@ components-begin text r h =
 blank-no_component : (b : ℕ) → is_blank b ≡ true → begins_component b ≡ false
 blank-no_component b h = blank-cases (λ (c : ℕ). begins_component c ≡ false) b h refl refl
 
+-- what begins so begins with no blank
 component-no_blank : (text : List ℕ) → BeginsWith begins_component text → BeginsWithNo is_blank text
 component-no_blank [] h = absurd h
 component-no_blank (b ∷ rest) h = elim (cases_Bool (is_blank b)) [
@@ -50,12 +56,14 @@ component-no_blank (b ∷ rest) h = elim (cases_Bool (is_blank b)) [
   | inl blank ↦ cc (sym h ∙ blank-no_component b blank)
 ]
 
+-- and with no mark
 component-no_mark : (b : ℕ) → begins_component b ≡ true → is_partial_mark b ≡ false
 component-no_mark b h = elim (cases_Bool (is_partial_mark b)) [
   | inr other ↦ other
   | inl mark ↦ cc (sym h ∙ ap begins_component (eqb-true b 118 mark))
 ]
 
+-- a blank is no mark
 blank-no_mark : (b : ℕ) → is_blank b ≡ true → is_partial_mark b ≡ false
 blank-no_mark b h = blank-cases (λ (c : ℕ). is_partial_mark c ≡ false) b h refl refl
 
@@ -65,7 +73,9 @@ blank-no_mark b h = blank-cases (λ (c : ℕ). is_partial_mark c ≡ false) b h 
 abbrev pub TakesPartial : List ℕ → Partial → List ℕ → Type 0
 TakesPartial text p rest = TakesMarked is_partial_mark (IsUnmarkedPartial p) text rest
 
-pub partial-takes : (text : List ℕ) (p : Partial) (rest : List ℕ) → read_partial text ≡ Some (p, rest) → TakesPartial text p rest
+-- what is read is a partial text
+pub partial-takes : (text : List ℕ) (p : Partial) (rest : List ℕ) → read_partial text ≡ Some (p, rest)
+    → TakesPartial text p rest
 unfolding read_partial
 partial-takes text p rest h =
     let t = components-takes (rest_of is_blank (skip_one is_partial_mark text)) p rest h in
@@ -78,7 +88,8 @@ pub partial-again : (text rest : List ℕ) (p : Partial) → IsPartialText text 
 unfolding read_partial
 partial-again text rest p h clean =
     let starts = unmarked-begins h.unmarked p h.read in
-    let follows = marked-follows is_partial_mark (IsUnmarkedPartial p) text rest h (begins-some begins_component h.unmarked starts)
+    let some = begins-some begins_component h.unmarked starts in
+    let follows = marked-follows is_partial_mark (IsUnmarkedPartial p) text rest h some
     (component-no_blank (h.unmarked ++ rest) (begins-append begins_component h.unmarked rest starts)) in
     ap read_components follows ∙ components-again h.unmarked rest p h.read clean
 
@@ -90,12 +101,14 @@ components-partial (b ∷ rest) h =
     rw (component-no_mark b h) (ap read_components (rest_of-none is_blank (b ∷ rest) (component-no_blank (b ∷ rest) h)))
 
 -- a text that begins with a blank has no mark
-blank-partial : (b : ℕ) (rest : List ℕ) → is_blank b ≡ true → read_partial (b ∷ rest) ≡ read_components (rest_of is_blank (b ∷ rest))
+blank-partial : (b : ℕ) (rest : List ℕ) → is_blank b ≡ true
+    → read_partial (b ∷ rest) ≡ read_components (rest_of is_blank (b ∷ rest))
 unfolding read_partial skip_one
 blank-partial b rest h = rw (blank-no_mark b h) refl
 
 -- a partial stays one without the blanks before it
-pub partial-unblanked : (text : List ℕ) (r : Partial × List ℕ) → read_partial text ≡ Some r → read_partial (rest_of is_blank text) ≡ Some r
+pub partial-unblanked : (text : List ℕ) (r : Partial × List ℕ) → read_partial text ≡ Some r
+    → read_partial (rest_of is_blank text) ≡ Some r
 partial-unblanked [] r h = rw (rest_of-none is_blank [] tt) h
 partial-unblanked (b ∷ rest) r h = elim (cases_Bool (is_blank b)) [
   | inr solid ↦ rw (rest_of-none is_blank (b ∷ rest) solid) h
@@ -114,12 +127,14 @@ partial-first (b ∷ rest) r h = elim (cases_Bool (is_partial_mark b)) [
     | inl blank ↦ or_right (begins_component b) (is_blank b) blank
     | inr solid ↦
         let read : read_components (rest_of is_blank (b ∷ rest)) ≡ Some r = rw none at h in
-        or_left (begins_component b) (is_blank b) (components-begin (b ∷ rest) r (rw (rest_of-none is_blank (b ∷ rest) solid) at read))
+        or_left (begins_component b) (is_blank b)
+        (components-begin (b ∷ rest) r (rw (rest_of-none is_blank (b ∷ rest) solid) at read))
   ])
 ]
 
 -- a text that begins so begins with no other character
-pub first-no : (first : ℕ → Bool) (sign : ℕ) (text : List ℕ) → first sign ≡ false → BeginsWith first text → BeginsWithNo (λ b. b == sign) text
+first-no : (first : ℕ → Bool) (sign : ℕ) (text : List ℕ) → first sign ≡ false → BeginsWith first text
+    → BeginsWithNo (λ b. b == sign) text
 first-no first sign [] other h = tt
 first-no first sign (b ∷ rest) other h = elim (cases_Bool (b == sign)) [
   | inr differs ↦ differs
@@ -127,8 +142,8 @@ first-no first sign (b ∷ rest) other h = elim (cases_Bool (b == sign)) [
 ]
 
 -- no partial begins with `=`, `>`, `<`, `~`, `^` or `-`
-pub partial-no : (sign : ℕ) (text : List ℕ) (r : Partial × List ℕ) → begins_partial sign ≡ false → read_partial text ≡ Some r
-    → BeginsWithNo (λ b. b == sign) text
+pub partial-no : (sign : ℕ) (text : List ℕ) (r : Partial × List ℕ) → begins_partial sign ≡ false
+    → read_partial text ≡ Some r → BeginsWithNo (λ b. b == sign) text
 partial-no sign text r other h = first-no begins_partial sign text other (partial-first text r h)
 
 -- a text is at most one partial

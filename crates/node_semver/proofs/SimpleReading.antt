@@ -26,16 +26,17 @@ pub record TakesSimple (text : List ℕ) (comparator : Option Comparator) (rest 
   pub clean : IsCleanEnd rest
 
 -- a lead, blanks and a partial
-led-taken : (lead text operand rest : List ℕ) (p : Partial) → IsFollowed lead text (operand ++ rest) → IsPartialText operand p
-    → (taken : List ℕ) × (text ≡ taken ++ rest) × IsLed lead taken p
+led-taken : (lead text operand rest : List ℕ) (p : Partial) → IsFollowed lead text (operand ++ rest)
+    → IsPartialText operand p → (taken : List ℕ) × (text ≡ taken ++ rest) × IsLed lead taken p
 led-taken lead text operand rest p f h = (
   lead ++ (f.blanks ++ operand),
   f.whole ∙ simp append_assoc,
   record { blanks = f.blanks; operand = operand; whole = refl; blank = f.blank; read = h },
 )
 
-simple-taken : (lead : Lead) (text operand rest : List ℕ) (p : Partial) → StandsBefore lead text (operand ++ rest) → IsPartialText operand p
-    → IsCleanEnd rest → TakesSimple text (lead_comparator lead p) rest
+-- a lead and a partial are such a text
+simple-taken : (lead : Lead) (text operand rest : List ℕ) (p : Partial) → StandsBefore lead text (operand ++ rest)
+    → IsPartialText operand p → IsCleanEnd rest → TakesSimple text (lead_comparator lead p) rest
 simple-taken no_lead text operand rest p f h clean = record {
   taken = operand;
   whole = f;
@@ -44,7 +45,8 @@ simple-taken no_lead text operand rest p f h clean = record {
 }
 simple-taken (operator o) text operand rest p f h clean =
     let t = led-taken (operator_text o) text operand rest p f h in
-    record { taken = t.0; whole = t.1; read = by_operator (record { operator = o; partial = p; written = t.2; says = refl }); clean = clean }
+    let read = by_operator (record { operator = o; partial = p; written = t.2; says = refl }) in
+    record { taken = t.0; whole = t.1; read = read; clean = clean }
 simple-taken tilde_lead text operand rest p f h clean =
     let t = led-taken (tilde ∷ []) text operand rest p f h in
     record { taken = t.0; whole = t.1; read = by_tilde (with_tilde p t.2 refl); clean = clean }
@@ -53,19 +55,25 @@ simple-taken tilde_greater_lead text operand rest p f h clean =
     record { taken = t.0; whole = t.1; read = by_tilde (with_tilde_greater f.0 p f.1 t.2 refl); clean = clean }
 simple-taken caret_lead text operand rest p f h clean =
     let t = led-taken (caret ∷ []) text operand rest p f h in
-    record { taken = t.0; whole = t.1; read = by_caret (record { partial = p; written = t.2; says = refl }); clean = clean }
+    let read = by_caret (record { partial = p; written = t.2; says = refl }) in
+    record { taken = t.0; whole = t.1; read = read; clean = clean }
 
+-- so is what they are read as
 said-taken : (lead : Lead) (text behind : List ℕ) (read : ReadPartial) (c : Option Comparator) (rest : List ℕ)
-    → StandsBefore lead text behind → up_to_clean (read_partial behind) ≡ read → said lead read ≡ Some (c, rest) → TakesSimple text c rest
+    → StandsBefore lead text behind → up_to_clean (read_partial behind) ≡ read → said lead read ≡ Some (c, rest)
+    → TakesSimple text c rest
 said-taken lead text behind None c rest f r h = cc h
 said-taken lead text behind (Some p) c rest f r h =
     let e = same_Some (lead_comparator lead p.0, p.1) (c, rest) h in
     let u = up_to_clean-takes (read_partial behind) p r in
     let t = partial-takes behind p.0 p.1 u.0 in
-    let taken = simple-taken lead text t.taken p.1 p.0 (subst (λ (l : List ℕ). StandsBefore lead text l) t.whole f) t.read u.1 in
+    let before = subst (λ (l : List ℕ). StandsBefore lead text l) t.whole f in
+    let taken = simple-taken lead text t.taken p.1 p.0 before t.read u.1 in
     subst (λ (w : Word). TakesSimple text w.0 w.1) e taken
 
-pub simple-takes : (text : List ℕ) (c : Option Comparator) (rest : List ℕ) → read_simple text ≡ Some (c, rest) → TakesSimple text c rest
+-- what is read is such a text with a clean end
+pub simple-takes : (text : List ℕ) (c : Option Comparator) (rest : List ℕ) → read_simple text ≡ Some (c, rest)
+    → TakesSimple text c rest
 unfolding read_simple
 simple-takes text c rest h =
     let read = up_to_clean (read_partial (read_lead text).1) in
@@ -73,6 +81,7 @@ simple-takes text c rest h =
 
 -- ---- such a text is read
 
+-- no blank is a `=`
 blanks-no_equals : (blanks : List ℕ) → AreAll is_blank blanks → BeginsWithNo (λ b. b == 61) blanks
 blanks-no_equals [] all = tt
 blanks-no_equals (b ∷ blanks) all =
@@ -85,6 +94,7 @@ record ReadsLed (lead text rest : List ℕ) (p : Partial) : Type 0 where
   pub read : read_partial (rest_of is_blank behind) ≡ Some (p, rest)
   pub no_equals : BeginsWithNo (λ b. b == 61) behind
 
+-- a partial after a lead is read
 led-reads : (lead text rest : List ℕ) (p : Partial) → IsLed lead text p → IsCleanEnd rest → ReadsLed lead text rest p
 led-reads lead text rest p h clean =
     let e = partial-again h.operand rest p h.read clean in
@@ -105,15 +115,17 @@ simple-read text lead operand rest p l r clean =
     ap (λ (f : Lead × List ℕ). said f.0 (up_to_clean (read_partial f.1))) l
     ∙ ap (λ (q : ReadPartial). said lead (up_to_clean q)) r ∙ ap (said lead) (up_to_clean-again p rest clean)
 
+-- such a text with a clean end is read
 pub simple-again : (text rest : List ℕ) (c : Option Comparator) → IsSimpleText text c → IsCleanEnd rest
     → read_simple (text ++ rest) ≡ Some (c, rest)
 simple-again text rest c (by_operator h) clean =
     let r = led-reads (operator_text h.operator) text rest h.partial h.written clean in
-    rw (r.whole, h.says) (simple-read (operator_text h.operator ++ r.behind) (operator h.operator) (rest_of is_blank r.behind)
-    rest h.partial (lead-operator h.operator r.behind r.no_equals) r.read clean)
+    rw (r.whole, h.says) (simple-read (operator_text h.operator ++ r.behind) (operator h.operator)
+    (rest_of is_blank r.behind) rest h.partial (lead-operator h.operator r.behind r.no_equals) r.read clean)
 simple-again text rest c (plain h) clean =
     let e = partial-again text rest h.partial h.written clean in
-    rw h.says (simple-read (text ++ rest) no_lead (text ++ rest) rest h.partial (lead-none (text ++ rest) (h.partial, rest) e) e clean)
+    let none = lead-none (text ++ rest) (h.partial, rest) e in
+    rw h.says (simple-read (text ++ rest) no_lead (text ++ rest) rest h.partial none e clean)
 simple-again text rest c (by_tilde (with_tilde p h says)) clean =
     let r = led-reads (tilde ∷ []) text rest p h clean in
     rw (r.whole, says) (simple-read (tilde ∷ r.behind) tilde_lead (rest_of is_blank r.behind) rest p
@@ -122,8 +134,8 @@ simple-again text rest c (by_tilde (with_tilde_greater blanks p all h says)) cle
     let r = led-reads (tilde ∷ (blanks ++ (greater_sign ∷ []))) text rest p h clean in
     let whole : text ++ rest ≡ tilde ∷ (blanks ++ (greater_sign ∷ r.behind)) =
     r.whole ∙ ap (λ (l : List ℕ). tilde ∷ l) (append_assoc blanks (greater_sign ∷ []) r.behind) in
-    rw (whole, says) (simple-read (tilde ∷ (blanks ++ (greater_sign ∷ r.behind))) tilde_greater_lead (rest_of is_blank r.behind)
-    rest p (lead-tilde_greater blanks r.behind all) r.read clean)
+    rw (whole, says) (simple-read (tilde ∷ (blanks ++ (greater_sign ∷ r.behind))) tilde_greater_lead
+    (rest_of is_blank r.behind) rest p (lead-tilde_greater blanks r.behind all) r.read clean)
 simple-again text rest c (by_caret h) clean =
     let r = led-reads (caret ∷ []) text rest h.partial h.written clean in
     rw (r.whole, h.says) (simple-read (caret ∷ r.behind) caret_lead (rest_of is_blank r.behind) rest h.partial

@@ -4,6 +4,7 @@ pub mod Division
 pub mod Error
 pub mod ErrorEquality
 pub mod ErrorLocation
+pub mod ErrorParts
 pub mod ErrorText
 pub mod Fault
 pub mod Hash

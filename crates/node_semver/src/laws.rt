@@ -3,6 +3,8 @@ ghost use Rattle.std.specs.Prelude.{ℕ, List};
 ghost use Rattle.node_semver.specs.VersionLaws.{HasOneFault, HasOneReading, IsNeverBoth, IsReadOrFaulty};
 ghost use Rattle.node_semver.specs.RangeLaws.{HasWriting, IsOneComparator, IsOnePartial, IsWrittenOneWay};
 
+pub use crate::error::errors_are_equal_where_their_parts_are;
+
 /// A text is at most one version.
 pub fn a_version_text_has_one_reading()
     ensures only { (text : List ℕ) → HasOneReading text }

@@ -2,11 +2,14 @@
 use Rattle.std.specs.Prelude.{ℕ, Bool, List, ◌==◌, count_by, length, take}
 use Rattle.std.specs.List.{after_last}
 
--- a newline byte
-abbrev pub is_newline : ℕ → Bool
-is_newline byte = byte == 10
+-- the newline byte
+abbrev pub newline : ℕ
+newline = 10
 
--- how many newline bytes stand before the offset
+abbrev pub is_newline : ℕ → Bool
+is_newline byte = byte == newline
+
+-- how many newlines the prefix up to the offset has
 abbrev pub lines_before : List ℕ → ℕ → ℕ
 lines_before text offset = count_by is_newline (take offset text)
 

@@ -1,8 +1,8 @@
 -- What a kind of refusal prints, byte for byte.
-use Rattle.std.specs.Prelude.{ℕ, List, ◌++◌, Option, Some, None, codes}
+use Rattle.std.specs.Prelude.{ℕ, List, [], ◌++◌, Option, Some, None, codes}
 use Rattle.std.specs.Fmt.{decimal}
-use Rattle.node_semver.specs.declared.error.SemverErrorKind.{SemverErrorKind}
-use Rattle.node_semver.specs.declared.error.SemverErrorKind.TheVariants.{MaxLengthError, IncompleteInput, ParseIntError, MaxIntError, Context, NoValidRanges, Other, OutOfMemory}
+use Rattle.node_semver.specs.declared.error.kind.SemverErrorKind.{SemverErrorKind}
+use Rattle.node_semver.specs.declared.error.kind.SemverErrorKind.TheVariants.{MaxLengthError, IncompleteInput, ParseIntError, MaxIntError, Context, NoValidRanges, Other, OutOfMemory}
 
 -- none for `ParseIntError`, since std states no text for its fault
 abbrev pub kind_text : SemverErrorKind → Option (List ℕ)
@@ -14,3 +14,9 @@ kind_text (Context word) = Some (codes "Failed to parse " ++ word.now ++ codes "
 kind_text NoValidRanges = Some (codes "No valid ranges could be parsed")
 kind_text Other = Some (codes "An unspecified error occurred.")
 kind_text OutOfMemory = Some (codes "Out of memory.")
+
+-- the rest of it, from the number or the word on
+abbrev pub rest_text : SemverErrorKind → List ℕ
+rest_text (MaxIntError value) = decimal value
+rest_text (Context word) = word.now ++ codes "."
+rest_text _ = []

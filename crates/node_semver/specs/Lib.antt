@@ -26,6 +26,7 @@ pub mod Division
 pub mod Meaning
 -- ---- errors: where they stand, and how they print
 pub mod ErrorLocation
+pub mod ErrorParts
 pub mod ErrorText
 pub mod ErrorEquality
 -- ---- laws over texts alone

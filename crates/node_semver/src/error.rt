@@ -1,79 +1,21 @@
 //! The errors of this crate: why a text was refused, and where.
 ghost use Rattle.std.specs.Prelude.{◌≡◌, ◌⊎◌};
-ghost use Rattle.node_semver.specs.Error.{kind_of, refusal_of, error_kind_of, span_offset, span_len, IsOutOfMemory, IsRefusalAt, IsSameError};
+ghost use Rattle.node_semver.specs.Error.{kind_of, refusal_of, IsOutOfMemory, IsRefusalAt};
+ghost use Rattle.node_semver.specs.ErrorEquality.{error_value};
 ghost use Rattle.node_semver.specs.ErrorLocation.{lines_before, column_at};
+ghost use Rattle.node_semver.specs.ErrorParts.{error_kind_of, span_len, span_offset};
 
+mod display;
 mod equality;
-mod print;
+mod kind;
+mod lines;
+mod span;
 
+pub use equality::errors_are_equal_where_their_parts_are;
+pub use kind::SemverErrorKind;
+pub use span::SourceSpan;
 use std::alloc::{AllocError, Global};
-use std::num::ParseIntError;
 use thiserror::Error;
-
-/// A place in a text, as a byte offset and a number of bytes.
-///
-/// Two places are equal exactly where both numbers are. Every place that this crate answers has no bytes: it stands
-/// before the byte at its offset, or at the text's end.
-#[derive(Clone, Copy, Debug)]
-pub struct SourceSpan {
-    offset: usize,
-    length: usize,
-}
-
-impl SourceSpan {
-    /// The byte offset of the place, counted from 0.
-    ///
-    /// # Examples
-    ///
-    /// The refusal of the version `1.` has the offset 2.
-    pub fn offset(&self) -> usize
-        ensures { result ≡ span_offset self.now }
-    {
-        self.offset
-    }
-
-    /// The number of bytes of the place: 0 in every error.
-    ///
-    /// # Examples
-    ///
-    /// The refusal of the version `1.` has the length 0.
-    pub fn len(&self) -> usize
-        ensures { result ≡ span_len self.now }
-    {
-        self.length
-    }
-}
-
-/// Why a text was refused.
-///
-/// Two kinds are equal exactly where they are one variant with equal fields.
-///
-/// # Memory
-///
-/// `clone` takes none, and always answers `Ok`.
-///
-/// # Examples
-///
-/// `Context("version")` is shown as `Failed to parse version.`, and is not equal to `Context("range")`.
-#[derive(Debug, Clone, Drop, Error)]
-pub enum SemverErrorKind {
-    /// A version text of more than 256 bytes, at its last byte.
-    MaxLengthError,
-    /// Kept from the Rust crate of this name: no call answers it.
-    IncompleteInput,
-    /// A major, minor or patch of a version text above the greatest `u64`, at its first digit.
-    ParseIntError(ParseIntError),
-    /// A major, minor or patch that fits `u64` and is above `MAX_SAFE_INTEGER`, at its first digit.
-    MaxIntError(u64),
-    /// A number or a point that is missing from a version text, at that place. The word is `version`.
-    Context(&'static str),
-    /// A range text of which no alternative gives a set, at 0.
-    NoValidRanges,
-    /// A version text that goes on after the version, at the first byte that is left.
-    Other,
-    /// Memory was refused.
-    OutOfMemory,
-}
 
 /// A refused text, with the kind and the place of its fault.
 ///
@@ -88,7 +30,7 @@ pub enum SemverErrorKind {
 ///
 /// - The version `1.2` is refused with `Context("version")` at 3, its end: the third number is missing.
 /// - The version `1.2.3 ` (a blank last) is refused with `Other` at 5.
-#[derive(Debug, Drop, Error)]
+#[derive(Debug, Drop, PartialEq, Eq, Error)]
 pub struct SemverError {
     input: String,
     span: SourceSpan,
@@ -180,8 +122,9 @@ impl SemverError {
 
     /// The line and the column of the fault, both counted from 0.
     ///
-    /// The line is the number of newline bytes before the offset. The column is the number of bytes between the last of
-    /// them, or the text's start, and the offset: bytes and not characters, so an offset inside a character has one too.
+    /// The line is the number of newlines in the prefix of the text up to the offset. The column is the number of bytes
+    /// of that prefix past its last newline, or of all of it: bytes and not characters, so an offset inside a character
+    /// has one too.
     ///
     /// # Examples
     ///
@@ -193,19 +136,13 @@ impl SemverError {
         ensures column { let e = refusal_of self.now in result.1 ≡ column_at e.input e.offset }
     {
         let text = self.input.as_bytes();
-        let before = &text[..self.span.offset.min(text.len())];
-        let line = before.iter().filter(|byte| **byte == b'\n').count();
-        let column = before
-            .iter()
-            .rev()
-            .take_while(|byte| **byte != b'\n')
-            .count();
-        (line, column)
+        let prefix = &text[..self.offset().min(text.len())];
+        (lines::newlines(prefix), lines::last_line_length(prefix))
     }
 }
 
 impl Clone for SemverError {
-    ghost is_clone = { λ e c. IsSameError e c };
+    ghost is_clone = { λ e c. error_value e ≡ error_value c };
 
     fn clone(&self) -> Result<SemverError, AllocError> {
         Ok(SemverError {

@@ -10,6 +10,8 @@ pub fn limits()
     ensures greatest_length { MAX_LENGTH ≡ 256 }
 {}
 
+pub use crate::error::errors_are_equal_where_their_parts_are;
+
 /// A text is at most one version.
 pub fn a_version_text_has_one_reading()
     ensures only { (text : List ℕ) → HasOneReading text }

@@ -1,5 +1,6 @@
 use super::*;
 use crate::MAX_LENGTH;
+use std::num::ParseIntError;
 use std::test::Fail;
 
 // What std's `parse` says of digits that make no `u64`.
@@ -43,10 +44,34 @@ fn each_kind_has_its_text(rt: HostRuntime) -> Result<(), Fail> {
         (SemverErrorKind::OutOfMemory, "Out of memory."),
     ];
     for (kind, text) in rows {
-        assert_eq!(rt; kind.to_string(rt.alloc())?.as_str(), text);
+        assert_eq!(rt; kind.to_string(rt.alloc())?.as_bytes(), text.as_bytes());
         let error = SemverError::new(rt.alloc(), "1.2", 3, kind);
-        assert_eq!(rt; error.to_string(rt.alloc())?.as_str(), text);
+        assert_eq!(rt; error.to_string(rt.alloc())?.as_bytes(), text.as_bytes());
     }
+    Ok(())
+}
+
+#[test]
+fn shows_the_same_text_whatever_the_options(rt: HostRuntime) -> Result<(), Fail> {
+    let kind = SemverErrorKind::NoValidRanges;
+    let text = "No valid ranges could be parsed";
+    assert_eq!(rt;
+        format!(in rt.alloc(); "{kind:>99}")?.as_bytes(),
+        text.as_bytes()
+    );
+    assert_eq!(rt;
+        format!(in rt.alloc(); "{kind:#}")?.as_bytes(),
+        text.as_bytes()
+    );
+    let error = SemverError::new(rt.alloc(), "=", 0, kind);
+    assert_eq!(rt;
+        format!(in rt.alloc(); "{error:>99}")?.as_bytes(),
+        text.as_bytes()
+    );
+    assert_eq!(rt;
+        format!(in rt.alloc(); "{error:#}")?.as_bytes(),
+        text.as_bytes()
+    );
     Ok(())
 }
 
@@ -74,71 +99,82 @@ fn locates_a_fault_by_newlines_and_bytes(rt: HostRuntime) -> Result<(), Fail> {
     ];
     for (text, offset, location) in rows {
         let error = SemverError::new(rt.alloc(), text, offset, SemverErrorKind::Other);
-        assert_eq!(rt; error.input(), text);
+        assert_eq!(rt; error.input().as_bytes(), text.as_bytes());
         assert_eq!(rt; error.kind(), &SemverErrorKind::Other);
         assert_eq!(rt;
             (error.offset(), error.span().offset(), error.span().len()),
             (offset, offset, 0)
         );
-        assert_eq!(rt; (error.input(), error.location()), (text, location));
+        assert_eq!(rt; error.location(), location, "{text}");
     }
+    Ok(())
+}
+
+// Equality is asked both ways: each pair, and the pair turned round.
+#[test]
+fn equal_kinds_hold_equal_values(rt: HostRuntime) -> Result<(), Fail> {
+    let kinds = [
+        SemverErrorKind::ParseIntError(int_fault("18446744073709551616")?),
+        SemverErrorKind::ParseIntError(int_fault("")?),
+        SemverErrorKind::MaxIntError(7),
+        SemverErrorKind::MaxIntError(8),
+        SemverErrorKind::Context("version"),
+        SemverErrorKind::Context("range"),
+        SemverErrorKind::Other,
+    ];
+    for (i, kind) in kinds.iter().enumerate() {
+        for (j, other) in kinds.iter().enumerate() {
+            assert_eq!(rt; kind == other, i == j);
+        }
+        assert_eq!(rt; &kind.clone()?, kind);
+    }
+    let again = SemverErrorKind::ParseIntError(int_fault("99999999999999999999")?);
+    assert_eq!(rt; again, kinds[0]);
+    assert_eq!(rt; kinds[0], again);
     Ok(())
 }
 
 #[test]
 fn equal_errors_have_one_text_one_place_and_one_kind(rt: HostRuntime) -> Result<(), Fail> {
-    let too_great = || -> Result<SemverErrorKind, Fail> {
-        Ok(SemverErrorKind::ParseIntError(int_fault("18446744073709551616")?))
-    };
-    let error = SemverError::new(rt.alloc(), "18446744073709551616.0.0", 0, too_great()?);
-    let copy = error.clone()?;
-    assert_eq!(rt; copy, error);
-    assert_eq!(rt;
-        copy.kind(),
-        &SemverErrorKind::ParseIntError(int_fault("99999999999999999999")?)
-    );
-    let others = [
-        SemverError::new(rt.alloc(), "18446744073709551616.0.1", 0, too_great()?),
-        SemverError::new(rt.alloc(), "18446744073709551616.0.0", 1, too_great()?),
-        SemverError::new(
-            rt.alloc(),
-            "18446744073709551616.0.0",
-            0,
-            SemverErrorKind::Other,
-        ),
-        SemverError::new(
-            rt.alloc(),
-            "18446744073709551616.0.0",
-            0,
-            SemverErrorKind::ParseIntError(int_fault("")?),
-        ),
+    let alloc = rt.alloc();
+    let errors = [
+        SemverError::new(alloc, "1.2", 3, SemverErrorKind::Context("version")),
+        SemverError::new(alloc, "3.4", 3, SemverErrorKind::Context("version")),
+        SemverError::new(alloc, "1.2", 2, SemverErrorKind::Context("version")),
+        SemverError::new(alloc, "1.2", 3, SemverErrorKind::Context("range")),
+        SemverError::new(alloc, "1.2", 3, SemverErrorKind::Other),
     ];
-    for other in &others {
-        assert_ne!(rt; other, &error);
-        assert_eq!(rt; &other.clone()?, other);
+    for (i, error) in errors.iter().enumerate() {
+        for (j, other) in errors.iter().enumerate() {
+            assert_eq!(rt; error == other, i == j);
+            assert_eq!(rt; error.span() == other.span(), (i == 2) == (j == 2));
+        }
+        let copy = error.clone()?;
+        assert_eq!(rt; &copy, error);
+        assert_eq!(rt; error, &copy);
     }
-    let large = SemverErrorKind::MaxIntError(7);
-    assert_eq!(rt; large, SemverErrorKind::MaxIntError(7));
-    assert_ne!(rt; large, SemverErrorKind::MaxIntError(8));
-    assert_ne!(rt; large, SemverErrorKind::Other);
-    assert_ne!(rt;
-        SemverErrorKind::Context("version"),
-        SemverErrorKind::Context("range")
-    );
-    let missing = SemverError::new(rt.alloc(), "1.2", 3, SemverErrorKind::Context("version"));
-    let alike = SemverError::new(rt.alloc(), "3.4", 3, SemverErrorKind::Context("version"));
-    let before = SemverError::new(rt.alloc(), "1.", 2, SemverErrorKind::Context("version"));
-    assert_eq!(rt; missing.span(), alike.span());
-    assert_eq!(rt; missing.kind(), alike.kind());
-    assert_ne!(rt; missing, alike);
-    assert_ne!(rt; missing.span(), before.span());
+    Ok(())
+}
+
+#[test]
+fn copies_a_text_of_any_length(rt: HostRuntime) -> Result<(), Fail> {
+    let mut text = String::from_str(rt.alloc(), "1.2.3-")?;
+    for _ in 0..1000 {
+        text.push_str("\u{161}abc")?;
+    }
+    let kind = SemverErrorKind::ParseIntError(int_fault("18446744073709551616")?);
+    let error = SemverError::new(rt.alloc(), &text, MAX_LENGTH, kind);
+    let copy = error.clone()?;
+    assert_eq!(rt; copy.input().as_bytes(), text.as_bytes());
+    assert_eq!(rt; copy.offset(), MAX_LENGTH);
+    assert_eq!(rt; copy, error);
     Ok(())
 }
 
 #[test]
 fn want_of_memory_leaves_no_text(rt: HostRuntime) {
     let error = SemverError::out_of_memory(rt.alloc());
-    assert_eq!(rt; error.input(), "");
+    assert_eq!(rt; error.input().as_bytes(), "".as_bytes());
     assert_eq!(rt; error.offset(), 0);
     assert_eq!(rt; error.span().len(), 0);
     assert_eq!(rt; error.kind(), &SemverErrorKind::OutOfMemory);

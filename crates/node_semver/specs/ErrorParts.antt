@@ -1,0 +1,17 @@
+-- The parts of errors and places that the calls of their names answer.
+use Rattle.std.specs.Prelude.{ℕ}
+use Rattle.node_semver.specs.declared.error.kind.SemverErrorKind.{SemverErrorKind}
+use Rattle.node_semver.specs.declared.error.span.SourceSpan.{SourceSpan}
+use Rattle.node_semver.specs.declared.error.SemverError.{SemverError}
+
+-- the byte offset of a place in a text, from 0
+abbrev pub span_offset : SourceSpan → ℕ
+span_offset span = span.offset
+
+-- how many bytes the place has
+abbrev pub span_len : SourceSpan → ℕ
+span_len span = span.length
+
+-- the kind of an error, with all that it holds
+abbrev pub error_kind_of : SemverError → SemverErrorKind
+error_kind_of e = e.kind

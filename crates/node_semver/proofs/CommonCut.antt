@@ -7,9 +7,10 @@ use Rattle.std.specs.declared.cmp.Ordering.{Ordering}
 use Rattle.std.specs.Ordering.{is_lt}
 use Rattle.semver_cuts.specs.declared.cut.Cut.{Cut}
 use Rattle.semver_cuts.specs.Cut.{cut_cmp}
-use Rattle.semver_cuts.specs.Common.{AreOuterEnds, HasCommonCut, IsGreaterCut, IsLesserCut}
-use Rattle.semver_cuts.specs.CommonLaws.{AreOuterEnds-one, AreOuterEnds-push, common-lt, greater-first, greater-second, lesser-first, lesser-second}
-use Rattle.semver_cuts.specs.EndsLaws.{at_most-from_not_lt, below-from_lt}
+use Rattle.semver_cuts.specs.Common.{HasCommonCut}
+use Rattle.semver_cuts.specs.Private.OuterEnds.{AreOuterEnds, IsGreaterCut, IsLesserCut}
+use Rattle.semver_cuts.specs.Lemmas.Common.{AreOuterEnds-one, AreOuterEnds-push, common-lt, greater-first, greater-second, lesser-first, lesser-second}
+use Rattle.semver_cuts.specs.Lemmas.Ends.{at_most-from_not_lt, below-from_lt}
 use Rattle.node_semver.specs.Comparator.{Comparator}
 use Rattle.node_semver.specs.Meaning.{GiveSet}
 use Rattle.node_semver.specs.Comparison.{version_cmp}

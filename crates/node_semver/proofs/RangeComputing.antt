@@ -8,7 +8,7 @@ use Rattle.semver_cuts.specs.declared.cut.Cut.{Cut}
 use Rattle.semver_cuts.specs.declared.cut.Cut.TheVariants.{Start, Before, After, End}
 use Rattle.semver_cuts.specs.Cut.{cut_cmp}
 use Rattle.semver_cuts.specs.Ends.{IsInSpan}
-use Rattle.semver_cuts.specs.EndsLaws.{at_most-below, at_most-from_le, below-from_lt, le-from_at_most, lt-from_below}
+use Rattle.semver_cuts.specs.Lemmas.Ends.{at_most-below, at_most-from_le, below-from_lt, le-from_at_most, lt-from_below}
 use Rattle.node_semver.specs.Characters.{is_blank}
 use Rattle.node_semver.specs.Comparator.{Comparator}
 use Rattle.node_semver.specs.Division.{IsWritten}

@@ -1,7 +1,7 @@
 //! Comparators: what one word of a range text asks of a version.
 ghost use Rattle.std.specs.Prelude.{◌↔◌, ◌∷◌, IsTrue};
 ghost use Rattle.semver_cuts.specs.declared.cut.Cut.TheVariants.{Before};
-ghost use Rattle.semver_cuts.specs.Common.{AreOuterEnds, IsGreaterCut, IsLesserCut};
+ghost use Rattle.semver_cuts.specs.Private.OuterEnds.{AreOuterEnds, IsGreaterCut, IsLesserCut};
 ghost use Rattle.semver_cuts.specs.Ends.{IsCutAtMost, IsCutBelow};
 ghost use Rattle.node_semver.specs.Meaning.{GiveSet, HasOpenEnd, IsInside, Opens};
 ghost use Rattle.node_semver.specs.Comparison.{version_cmp};

@@ -1,1 +1,1 @@
-pub mod CutOrder
+pub mod CutLine

@@ -1,56 +1,21 @@
--- The order of cuts is a total order wherever the order of the values is.
-use Rattle.std.specs.Prelude.{◌≡◌, ℕ}
-use mathlib.Core.Path.{refl, subst}
+-- The laws of the order of cuts, by which no other order is one.
+use Rattle.std.specs.Prelude.{◌≡◌, ◌≢◌}
 use Rattle.std.specs.declared.cmp.Ordering.{Ordering}
-use Rattle.std.specs.declared.cmp.Ordering.TheVariants.{Less, Equal, Greater}
-use Rattle.std.specs.declared.option.Option.{Option}
-use Rattle.std.specs.declared.option.Option.TheVariants.{Some, None}
-use Rattle.std.specs.Option.{option_cmp}
-use Rattle.std.specs.Ordering.{ordering_then, nat_cmp, on, flip_args, then_cmp}
-use Rattle.std.specs.Cmp.{IsTotalOrder, on_total, then_total, back_total, nat_cmp_total}
-use Rattle.std.specs.Cmp.Lexicographic.{options_total}
+use Rattle.std.specs.declared.cmp.Ordering.TheVariants.{Less, Equal}
+use Rattle.std.specs.Cmp.{IsTotalOrder}
 use Rattle.semver_cuts.specs.declared.cut.Cut.{Cut}
 use Rattle.semver_cuts.specs.declared.cut.Cut.TheVariants.{Start, Before, After, End}
-use Rattle.semver_cuts.specs.Cut.{cut_cmp}
 
--- a cut by what decides first: none at the start, then none at the end, then the value and the side
-key : {T : Type 0} → Cut T → Option (Option (T × ℕ))
-key Start = None
-key (Before v) = Some (Some (v, 0))
-key (After v) = Some (Some (v, 1))
-key End = Some None
+-- cuts stand in the line of the values: `Start` first, `End` last, and the two cuts of a value where the value is
+pub record StandsInLine {T : Type 0} (cmp : T → T → Ordering) (order : Cut T → Cut T → Ordering) : Type 0 where
+  pub total : IsTotalOrder order
+  pub start : (cut : Cut T) → cut ≢ Start → order Start cut ≡ Less
+  pub end : (cut : Cut T) → cut ≢ End → order cut End ≡ Less
+  pub sides : (v : T) → order (Before v) (After v) ≡ Less
+  pub values : (v w : T) → cmp v w ≡ Less → order (After v) (Before w) ≡ Less
+  pub before_same : (v w : T) → cmp v w ≡ Equal → order (Before v) (Before w) ≡ Equal
+  pub after_same : (v w : T) → cmp v w ≡ Equal → order (After v) (After w) ≡ Equal
 
-key_cmp : {T : Type 0} → (T → T → Ordering) → Option (Option (T × ℕ)) → Option (Option (T × ℕ)) → Ordering
-key_cmp {T} cmp = option_cmp (flip_args (option_cmp (flip_args (then_cmp (on (λ (p : T × ℕ). p.0) cmp) (on (λ (p : T × ℕ). p.1) nat_cmp)))))
-
-then_equal : (r : Ordering) → ordering_then r Equal ≡ r
-then_equal Less = refl
-then_equal Equal = refl
-then_equal Greater = refl
-
-by_key : {T : Type 0} (cmp : T → T → Ordering) (c d : Cut T) → on key (key_cmp cmp) c d ≡ cut_cmp cmp c d
-unfolding key key_cmp
-by_key cmp Start Start = refl
-by_key cmp Start (Before w) = refl
-by_key cmp Start (After w) = refl
-by_key cmp Start End = refl
-by_key cmp (Before v) Start = refl
-by_key cmp (Before v) (Before w) = then_equal (cmp v w)
-by_key cmp (Before v) (After w) = refl
-by_key cmp (Before v) End = refl
-by_key cmp (After v) Start = refl
-by_key cmp (After v) (Before w) = refl
-by_key cmp (After v) (After w) = then_equal (cmp v w)
-by_key cmp (After v) End = refl
-by_key cmp End Start = refl
-by_key cmp End (Before w) = refl
-by_key cmp End (After w) = refl
-by_key cmp End End = refl
-
-key_total : {T : Type 0} {cmp : T → T → Ordering} → IsTotalOrder cmp → IsTotalOrder (key_cmp cmp)
-unfolding key_cmp
-key_total {T} o = options_total (back_total (options_total (back_total (then_total (on_total (λ (p : T × ℕ). p.0) o) (on_total (λ (p : T × ℕ). p.1) nat_cmp_total)))))
-
--- the order of cuts is total
-pub cut_total : {T : Type 0} {cmp : T → T → Ordering} → IsTotalOrder cmp → IsTotalOrder (cut_cmp cmp)
-cut_total {T} {cmp} o = subst IsTotalOrder (λ i c d. by_key cmp c d i) (on_total key (key_total o))
+-- no cut lies between the two of a value: none between `Before 3` and `After 3`
+abbrev pub NoneBetween : {T : Type 0} → (Cut T → Cut T → Ordering) → T → Type 0
+NoneBetween {T} order v = (cut : Cut T) → order (Before v) cut ≡ Less → ¬ (order cut (After v) ≡ Less)

@@ -1,24 +1,24 @@
--- A span of cuts, by its two ends.
+-- A span of cuts, seen by its two ends, and the cuts that lie in it.
 use Rattle.std.specs.Prelude.{◌≡◌, ◌⊎◌}
 use Rattle.std.specs.declared.cmp.Ordering.{Ordering}
 use Rattle.std.specs.declared.cmp.Ordering.TheVariants.{Less, Equal}
 use Rattle.semver_cuts.specs.declared.cut.Cut.{Cut}
 use Rattle.semver_cuts.specs.Cut.{cut_cmp}
 
--- where a span begins and where it ends
+-- where a span begins and where it ends: at `Before 3` and at `After 5`, to have 3, 5 and what lies between
 pub record Ends (T : Type 0) : Type 0 where
   pub lower : Cut T
   pub upper : Cut T
 
--- the first cut is less than the second
+-- the first cut is less than the second: `Before 3` than `After 3`
 abbrev pub IsCutBelow : {T : Type 0} → (T → T → Ordering) → Cut T → Cut T → Type 0
 IsCutBelow cmp c d = cut_cmp cmp c d ≡ Less
 
--- the first cut is less than the second, or the same cut
+-- the first cut is less than the second, or equal to it: `Before 3` to `Before 3`
 abbrev pub IsCutAtMost : {T : Type 0} → (T → T → Ordering) → Cut T → Cut T → Type 0
 IsCutAtMost cmp c d = (cut_cmp cmp c d ≡ Less) ⊎ (cut_cmp cmp c d ≡ Equal)
 
--- A cut lies in a span from the lower end up to but not including the upper one.
+-- a cut lies in a span from the lower end up to but not including the upper: `Before 5` in `Before 3` to `After 5`
 pub record IsInSpan {T : Type 0} (cmp : T → T → Ordering) (span : Ends T) (cut : Cut T) : Type 0 where
   pub lower : IsCutAtMost cmp span.lower cut
   pub upper : IsCutBelow cmp cut span.upper

@@ -1,7 +1,17 @@
-pub mod Common
-pub mod CommonLaws
+-- What the contracts of this crate say, in the order in which it reads; each for every type with a total order.
+
+-- ---- Cuts
+-- how two cuts compare
 pub mod Cut
+-- the laws that fix this order
 pub mod CutLaws
-pub mod CutOrder
+-- ---- Spans of cuts
+-- a span by its two ends, and which cuts lie in it
 pub mod Ends
-pub mod EndsLaws
+-- what the spans of a list have in common
+pub mod Common
+-- ---- Said of no public call
+-- what private functions compute
+pub mod Private
+-- lemmas that ghost members and the proofs of other crates cite
+pub mod Lemmas

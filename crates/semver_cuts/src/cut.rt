@@ -2,13 +2,14 @@ ghost use Rattle.std.specs.Cmp.{partial_equiv_from_equiv, eq_by_cmp_equiv, parti
 ghost use Rattle.std.specs.Ordering.{eq_by_cmp, as_partial_cmp};
 ghost use Rattle.std.proofs.Common.{refl};
 ghost use Rattle.semver_cuts.specs.Cut.{cut_cmp};
-ghost use Rattle.semver_cuts.specs.CutLaws.{cut_total};
+ghost use Rattle.semver_cuts.specs.Lemmas.CutOrder.{cut_total};
 
 use std::cmp::Ordering;
 
 /// A place in the line of the values of `T`: before all of them, just before one, just after one, or after all.
 ///
-/// Cuts are ordered as they stand: for values `v` less than `w`, `Start`, `Before(v)`, `After(v)`, `Before(w)`, `After(w)`, `End`.
+/// Cuts are ordered as they stand: for values `v` less than `w`, `Start`, `Before(v)`, `After(v)`, `Before(w)`,
+/// `After(w)`, `End`.
 /// Cuts of one kind are equal where `T`'s order finds their values equal, whatever else tells the values apart.
 ///
 /// # Examples

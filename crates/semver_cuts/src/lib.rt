@@ -1,9 +1,9 @@
 //! Cuts of any total order: the places in a line of values where a span can begin or end.
 //!
 //! A cut is before all values, just before one, just after one, or after all, and cuts are ordered as they stand:
-//! `Cut::Before(3) < Cut::After(3)`, and `Cut::After(3) < Cut::Before(5)`. So a span from one cut up to another says by its
-//! ends alone whether it has its least and its greatest value: from `Before(3)` up to `After(5)` it has both 3 and 5, and
-//! from `After(3)` up to `Before(5)` neither.
+//! `Cut::Before(3) < Cut::After(3)`, and `Cut::After(3) < Cut::Before(5)`. So a span from one cut up to another says by
+//! its ends alone whether it has its least and its greatest value: from `Before(3)` up to `After(5)` it has both 3 and
+//! 5, and from `After(3)` up to `Before(5)` neither.
 //!
 //! The module [`laws`] holds what is proved of the order.
 #![tactic(auto)]

@@ -1,5 +1,5 @@
 use Rattle.std.proofs.Common.{◌∷◌, take}
-use Rattle.semver_cuts.specs.Common.{AreOuterEnds}
+use Rattle.semver_cuts.specs.Private.OuterEnds.{AreOuterEnds}
 use Rattle.node_semver.specs.Comparison.{version_cmp}
 use Rattle.node_semver.proofs.comparator.outer_ends.Given as goal
 

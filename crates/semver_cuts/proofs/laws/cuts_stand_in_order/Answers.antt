@@ -1,4 +1,4 @@
-use Rattle.semver_cuts.proofs.CutOrder.{cut_cmp-stands, only_order}
+use Rattle.semver_cuts.proofs.CutLine.{cut_cmp-stands, only_order}
 use Rattle.semver_cuts.proofs.laws.cuts_stand_in_order.Goals as goal
 
 pub returns-clause-order : goal.returns-clause-order

@@ -1,4 +1,4 @@
--- What follows for cuts and their comparisons wherever the order of the values is total.
+-- Less and at most of cuts, wherever the order of the values is total, and the tests of them in a program.
 use Rattle.std.specs.Prelude.{◌≡◌, ◌⊎◌, refl, true, false}
 use mathlib.Core.Path.{sym, ap, ◌∙◌}
 use mathlib.Core.Logic.{inl, inr}
@@ -9,7 +9,7 @@ use Rattle.std.specs.Ordering.{is_lt, is_le, ordering_reverse}
 use Rattle.std.specs.Cmp.{IsTotalOrder, tied_itself, tied_back, alike_right}
 use Rattle.semver_cuts.specs.declared.cut.Cut.{Cut}
 use Rattle.semver_cuts.specs.Cut.{cut_cmp}
-use Rattle.semver_cuts.specs.CutLaws.{cut_total}
+use Rattle.semver_cuts.specs.Lemmas.CutOrder.{cut_total}
 use Rattle.semver_cuts.specs.Ends.{IsCutBelow, IsCutAtMost}
 
 less≢equal : (r : Ordering) → r ≡ Less → r ≡ Equal → ⊥

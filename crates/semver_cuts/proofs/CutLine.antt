@@ -5,8 +5,8 @@ use Rattle.std.specs.Cmp.{IsTotalOrder, tied_itself}
 use Rattle.semver_cuts.specs.declared.cut.Cut.{Cut}
 use Rattle.semver_cuts.specs.declared.cut.Cut.TheVariants.{Start, Before, After, End}
 use Rattle.semver_cuts.specs.Cut.{cut_cmp}
-use Rattle.semver_cuts.specs.CutLaws.{cut_total}
-use Rattle.semver_cuts.specs.CutOrder.{StandsInLine}
+use Rattle.semver_cuts.specs.Lemmas.CutOrder.{cut_total}
+use Rattle.semver_cuts.specs.CutLaws.{StandsInLine}
 
 module _ {T : Type 0} {cmp : T → T → Ordering} (o : IsTotalOrder cmp) where
   start_least : (c : Cut T) → (c ≡ Start → ⊥) → cut_cmp cmp Start c ≡ Less

@@ -1,0 +1,8 @@
+-- Lemmas that ghost members and the proofs of other crates cite. Nothing here is trusted.
+
+-- the order of cuts is total
+pub mod CutOrder
+-- less and at most, and the tests of them
+pub mod Ends
+-- outer ends, and when spans have a cut in common
+pub mod Common

@@ -19,5 +19,13 @@ consumes_least None new bytes n gave least = tt
 consumes_least (Some all) None bytes n gave least = absurd gave
 consumes_least (Some all) (Some rest) bytes n gave least = rw (gave, length-append) (omega arith)
 
-pub ruleset known_bytes =
-    (appends_more, consumes_least, Appends-kept, Appends-nil, Appends-trans, Consumes-kept, Consumes-nil, Consumes-trans)
+pub ruleset known_bytes = (
+  appends_more,
+  consumes_least,
+  Appends-kept,
+  Appends-nil,
+  Appends-trans,
+  Consumes-kept,
+  Consumes-nil,
+  Consumes-trans,
+)

@@ -1,6 +1,7 @@
 -- The first line of some bytes, by where the first newline stands.
 use Rattle.std.proofs.Common.{◌≡◌, ◌≢◌, ℕ, suc, ◌+◌, ◌<◌, ◌≤◌, ◌==◌, Bool, true, false, not, cond, if◌then◌else◌, refl}
-use Rattle.std.proofs.Common.{List, [], ◌∷◌, length, take, drop, Some, None, arith, add-one, one-add, ltb-false, ltb-true}
+use Rattle.std.proofs.Common.{List, [], ◌∷◌, length, take, drop, Some, None}
+use Rattle.std.proofs.Common.{arith, add-one, one-add, ltb-false, ltb-true}
 use Rattle.std.specs.List.{position, position_or_len}
 use Rattle.std.proofs.lemmas.List.{take_rest}
 use Rattle.std.proofs.lemmas.Option.{cond_some}

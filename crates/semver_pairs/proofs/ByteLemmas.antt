@@ -1,18 +1,31 @@
 -- Known bytes, call by call.
-use Rattle.std.proofs.Common.{ℕ, ◌+◌, ◌-◌, ◌≤◌, List, length, take, drop, Option, Some, None, IfSome, arith, take-add, length-append}
+use Rattle.std.proofs.Common.{ℕ, ◌+◌, ◌-◌, ◌≤◌, List, length, take, drop, Option, Some, None, IfSome}
+use Rattle.std.proofs.Common.{arith, take-add, length-append}
 use Rattle.std.proofs.lemmas.List.{take_rest}
 use Rattle.std.specs.Io.KnownBytes.{Appends, Consumes}
 use Rattle.std.proofs.KnownBytes.{Appends-kept, Appends-nil, Appends-trans, Consumes-kept, Consumes-nil, Consumes-trans}
 
--- a write took some of what stands from a place on
-pub appends_more : (old mid new : Option (List ℕ)) (text : List ℕ) (at n : ℕ) → Appends old mid (take at text) → Appends mid new (take n (take (length text - at) (drop at text))) → Appends old new (take (at + n) text)
-appends_more old mid new text at n before now =
-    rw (take-add at n text) (Appends-trans old mid new _ _ before (rw (take_rest text at) at now))
+-- a write took a prefix of the rest from a place on
+pub appends_more : (old mid new : Option (List ℕ)) (text : List ℕ) (at n : ℕ)
+    → Appends old mid (take at text) → Appends mid new (take n (take (length text - at) (drop at text)))
+    → Appends old new (take (at + n) text)
+appends_more old mid new text at n first then =
+    rw (take-add at n text) (Appends-trans old mid new _ _ first (rw (take_rest text at) at then))
 
 -- a reader had at least the bytes that it gave
-pub consumes_least : (old new : Option (List ℕ)) (bytes : List ℕ) (n : ℕ) → Consumes old new bytes → n ≤ length bytes → IfSome old (λ all. n ≤ length all)
+pub consumes_least : (old new : Option (List ℕ)) (bytes : List ℕ) (n : ℕ) → Consumes old new bytes → n ≤ length bytes
+    → IfSome old (λ all. n ≤ length all)
 consumes_least None new bytes n gave least = tt
 consumes_least (Some all) None bytes n gave least = absurd gave
 consumes_least (Some all) (Some rest) bytes n gave least = rw (gave, length-append) (omega arith)
 
-pub ruleset known_bytes = (appends_more, consumes_least, Appends-kept, Appends-nil, Appends-trans, Consumes-kept, Consumes-nil, Consumes-trans)
+pub ruleset known_bytes = (
+  appends_more,
+  consumes_least,
+  Appends-kept,
+  Appends-nil,
+  Appends-trans,
+  Consumes-kept,
+  Consumes-nil,
+  Consumes-trans,
+)

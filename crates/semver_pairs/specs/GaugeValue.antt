@@ -1,4 +1,4 @@
--- What a contract sees of a gauge.
+-- What is seen of a gauge.
 use Rattle.std.specs.Prelude.{◌≡◌, ◌≢◌, ℕ, List, [], Bool, IsTrue, ⊤, Result, Ok, Err}
 
 -- the reader or the writer that it holds, and whether a call through it has failed

@@ -1,3 +1,8 @@
-pub mod GaugeValue
-pub mod Lines
-pub mod Output
+-- What the contracts of this crate say: all of it that is trusted, in reading order.
+
+-- What is read and written through.
+pub mod GaugeValue  -- a gauge: what it holds, and whether a call through it has failed
+-- What is read, and what is written for it.
+pub mod Lines  -- the lines of what is read
+pub mod Answer  -- the answer to a range line and a version line
+pub mod Output  -- the output for all that is read, and its prefixes

@@ -5,12 +5,12 @@ use Rattle.std.specs.Prelude.{ℕ, ◌==◌, if◌then◌else◌, List, [], ◌�
 abbrev pub newline : ℕ
 newline = 10
 
--- the first line, with a byte before it
-abbrev pub with_front : ℕ → List (List ℕ) → List (List ℕ)
-with_front b [] = (b ∷ []) ∷ []
-with_front b (line ∷ lines) = (b ∷ line) ∷ lines
+-- the lines with one more byte, the first of the first line
+abbrev pub with_byte : ℕ → List (List ℕ) → List (List ℕ)
+with_byte b [] = (b ∷ []) ∷ []
+with_byte b (line ∷ lines) = (b ∷ line) ∷ lines
 
--- A newline byte ends a line and is no part of it. Bytes behind the last newline are a line too.
+-- A newline byte ends a line and is no part of it. The rest past the last one is a line too, unless it is empty.
 abbrev pub lines_of : List ℕ → List (List ℕ)
 lines_of [] = []
-lines_of (b ∷ bytes) = if b == newline then [] ∷ lines_of bytes else with_front b (lines_of bytes)
+lines_of (b ∷ bytes) = if b == newline then [] ∷ lines_of bytes else with_byte b (lines_of bytes)

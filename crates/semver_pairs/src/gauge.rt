@@ -1,5 +1,5 @@
 //! Readers and writers that remember a failure.
-ghost use Rattle.std.specs.Prelude.{◌≡◌, ◌⊎◌, ◌↔◌, false, IsTrue, IsErr};
+ghost use Rattle.std.specs.Prelude.{◌≡◌, ◌↔◌, false, IsTrue, IsErr};
 ghost use Rattle.std.specs.Io.{ReadsAtMost, WritesAtMost};
 ghost use Rattle.std.specs.Io.KnownBytes.{ReadConsumes, WriteAppends};
 ghost use Rattle.semver_pairs.specs.GaugeValue.{GaugeValue, HasFailed, IsFailedWrite};
@@ -9,6 +9,12 @@ use std::io::{Read, Write};
 use std::marker::Model;
 
 /// A reader or a writer, and whether a call through it has failed.
+///
+/// Only `read` and `write` set the mark, each exactly where it has failed, and neither is called again after that.
+///
+/// # Memory
+///
+/// No call takes any of its own.
 #[derive(Drop)]
 pub struct Gauge<T> {
     inner: T,
@@ -23,6 +29,10 @@ impl<T> Model for Gauge<T> {
 
 impl<T> Gauge<T> {
     /// A gauge through which no call has failed.
+    ///
+    /// # Examples
+    ///
+    /// `Gauge::new(reader).failed()` is false, also where the next read will fail.
     pub fn new(inner: T) -> Gauge<T>
         ensures held { result.inner ≡ inner }
         ensures unfailed { ¬ HasFailed result }
@@ -34,6 +44,12 @@ impl<T> Gauge<T> {
     }
 
     /// What the gauge holds.
+    ///
+    /// The mark is lost, and a gauge that is made of it again has not failed.
+    ///
+    /// # Examples
+    ///
+    /// `Gauge::new(writer).into_inner()` is `writer`.
     pub fn into_inner(self) -> T
         ensures { result ≡ self.inner }
     {
@@ -42,6 +58,10 @@ impl<T> Gauge<T> {
     }
 
     /// Whether a call through the gauge has failed.
+    ///
+    /// # Examples
+    ///
+    /// False of a new gauge; true after a read that answered an error.
     pub fn failed(&self) -> bool
         ensures { IsTrue result ↔ HasFailed self.now }
     {
@@ -51,37 +71,56 @@ impl<T> Gauge<T> {
 
 impl<R: Read> Gauge<R> {
     /// One `read` of the reader.
+    ///
+    /// A gauge that has failed is not read again.
+    ///
+    /// # Errors
+    ///
+    /// That of the reader; the gauge has then failed.
+    ///
+    /// # Examples
+    ///
+    /// Into a piece of four bytes, of a reader that holds `yes`: `Ok(3)`, then `Ok(0)`, and the gauge has not failed.
     pub fn read(&mut self, piece: &mut [u8]) -> io::Result<usize>
+        requires { ¬ HasFailed self.old }
         ensures bound { ReadsAtMost result piece.new }
         ensures bytes { ReadConsumes (R.remaining self.old.inner) (R.remaining self.new.inner)
             result piece.new }
-        ensures mark { HasFailed self.new ↔ (HasFailed self.old ⊎ IsErr result) }
+        ensures mark { HasFailed self.new ↔ IsErr result }
     {
         let result = self.inner.read(piece);
-        if result.is_err() {
-            self.failed = true;
-        }
+        self.failed = result.is_err();
         result
     }
 }
 
 impl<W: Write> Gauge<W> {
-    /// One `write` of the writer. A write that takes no byte of a piece that is not empty has failed.
+    /// One `write` of the writer.
+    ///
+    /// A gauge that has failed is not written to again. `Ok(0)` is a failure too, unless the piece is empty.
+    ///
+    /// # Errors
+    ///
+    /// That of the writer; the gauge has then failed.
+    ///
+    /// # Examples
+    ///
+    /// To a writer with room for two bytes: `yes` gives `Ok(2)`, `s` gives `Ok(0)`, and the gauge has then failed.
     pub fn write(&mut self, piece: &[u8]) -> io::Result<usize>
+        requires { ¬ HasFailed self.old }
         ensures bound { WritesAtMost result piece.now }
         ensures bytes { WriteAppends (W.contents self.old.inner) (W.contents self.new.inner)
             result piece.now }
-        ensures mark { HasFailed self.new ↔ (HasFailed self.old ⊎ IsFailedWrite piece.now result) }
+        ensures mark { HasFailed self.new ↔ IsFailedWrite piece.now result }
     {
         let result = self.inner.write(piece);
-        if has_failed(&result, piece) {
-            self.failed = true;
-        }
+        self.failed = is_failure(&result, piece);
         result
     }
 }
 
-fn has_failed(answer: &io::Result<usize>, piece: &[u8]) -> bool
+/// Whether the write of a piece has failed.
+fn is_failure(answer: &io::Result<usize>, piece: &[u8]) -> bool
     ensures { IsTrue result ↔ IsFailedWrite piece.now answer.now }
 {
     match answer {

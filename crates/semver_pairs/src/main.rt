@@ -4,12 +4,16 @@
 
 mod answering;
 mod gauge;
+mod lines;
+mod program;
+mod reading;
 mod run_error;
 #[cfg(test)]
 mod tests;
+mod writing;
 
-use answering::run;
 use gauge::Gauge;
+use program::run;
 use std::process::ExitCode;
 
 /// Ends with status 0, or with status 1 and a line on standard error. A line that cannot be written

@@ -1,54 +1,12 @@
-ghost use Rattle.std.specs.Prelude.{◌≤◌, IfOk};
+mod stepwise;
 
-use crate::answering::run;
 use crate::gauge::Gauge;
+use crate::program::run;
 use crate::run_error::RunError;
 use std::alloc::Global;
-use std::io;
-use std::io::{Cursor, ErrorKind, Read, Write};
+use std::io::Cursor;
 use std::test::Fail;
-
-/// A reader or a writer in memory, which passes at most so many bytes a call and fails once so many
-/// in all have passed.
-#[derive(Drop)]
-struct Stepwise<T> {
-    inner: T,
-    most: usize,
-    left: usize,
-}
-
-impl<T> Stepwise<T> {
-    fn room(&self, asked: usize) -> io::Result<usize>
-        ensures { IfOk result (λ count. count ≤ asked) }
-    {
-        if self.left == 0 {
-            return Err(io::Error::from(ErrorKind::BrokenPipe));
-        }
-        Ok(asked.min(self.most).min(self.left))
-    }
-}
-
-impl<R: Read> Read for Stepwise<R> {
-    fn read(&mut self, piece: &mut [u8]) -> io::Result<usize> {
-        let room = self.room(piece.len())?;
-        let count = self.inner.read(&mut piece[..room])?;
-        self.left = self.left.saturating_sub(count);
-        Ok(count)
-    }
-}
-
-impl<W: Write> Write for Stepwise<W> {
-    fn write(&mut self, piece: &[u8]) -> io::Result<usize> {
-        let room = self.room(piece.len())?;
-        let count = self.inner.write(&piece[..room])?;
-        self.left = self.left.saturating_sub(count);
-        Ok(count)
-    }
-
-    fn flush(&mut self) -> io::Result<()> {
-        self.inner.flush()
-    }
-}
+use stepwise::Stepwise;
 
 /// A run over memory, and what it left.
 #[derive(Drop)]
@@ -68,16 +26,8 @@ impl Outcome {
 
 /// Runs over the input, with at most so many bytes a call and in all.
 fn outcome_of(alloc: Global, input: &[u8], read: (usize, usize), write: (usize, usize)) -> Outcome {
-    let mut reader = Gauge::new(Stepwise {
-        inner: input,
-        most: read.0,
-        left: read.1,
-    });
-    let mut writer = Gauge::new(Stepwise {
-        inner: Cursor::new([0; 32]),
-        most: write.0,
-        left: write.1,
-    });
+    let mut reader = Gauge::new(Stepwise::new(input, read));
+    let mut writer = Gauge::new(Stepwise::new(Cursor::new([0; 32]), write));
     let result = run(alloc, &mut reader, &mut writer);
     Outcome {
         result,
@@ -124,6 +74,70 @@ fn answers_the_first_two_lines_with_ample_memory(rt: HostRuntime) {
             assert_eq!(rt; outcome.result, Ok(()), "{input_text} by {read}");
             assert_eq!(rt; outcome.text(), output, "{input_text} by {read}");
         }
+    }
+}
+
+/// Inputs of more than 65,536 bytes: a text, a piece so many times, and the rest.
+#[test]
+fn answers_long_input_with_ample_memory(rt: HostRuntime) -> Result<(), Fail> {
+    let rows: [(&[u8], &[u8], usize, &[u8], &[u8]); 8] = [
+        (b"", b">=1.0.0 ", 10_000, b"\n1.0.0\n", b"yes\n"),
+        (b"", b">=1.0.0 ", 10_000, b"\n0.9.9\n", b"no\n"),
+        (b"", b">=1.0.0 ", 10_000, b"<1.0.0\n1.0.0\n", b"bad range\n"),
+        (b"", b"a", 70_000, b"\n1.0.0\n", b"bad range\n"),
+        (b">=1.0.0\n1.0.0+", b"a", 70_000, b"\n", b"bad version\n"),
+        (b">=1.0.0\n", b"\xff", 70_000, b"\n", b"bad version\n"),
+        (FIRST, b"1.0.0\n", 20_000, b"", b"yes\n"),
+        (b"", b">=1.0.0 ", 10_000, b"", b""),
+    ];
+    for (prefix, piece, times, rest, output) in rows {
+        let mut input = Vec::new(rt.alloc());
+        input.extend_from_slice(prefix)?;
+        for _ in 0..times {
+            input.extend_from_slice(piece)?;
+        }
+        input.extend_from_slice(rest)?;
+        let prefix_text = prefix.escape_ascii();
+        let piece_text = piece.escape_ascii();
+        let rest_text = rest.escape_ascii();
+        let outcome = outcome_of(rt.alloc(), &input, WHOLE, WHOLE);
+        assert_eq!(rt;
+            outcome.result,
+            Ok(()),
+            "{prefix_text}{piece_text}..{rest_text}"
+        );
+        assert_eq!(rt;
+            outcome.text(),
+            output,
+            "{prefix_text}{piece_text}..{rest_text}"
+        );
+    }
+    Ok(())
+}
+
+#[test]
+fn leaves_both_alone_where_a_gauge_had_failed(rt: HostRuntime) {
+    for (has_read, has_written, error) in [
+        (true, false, RunError::Read),
+        (false, true, RunError::Write),
+        (true, true, RunError::Read),
+    ] {
+        let none_left = (usize::MAX, 0);
+        let mut reader = Gauge::new(Stepwise::new(FIRST, if has_read { none_left } else { WHOLE }));
+        if has_read {
+            assert!(rt; reader.read(&mut [0; 4]).is_err());
+        }
+        let written = Cursor::new([0u8; 32]);
+        let mut writer = Gauge::new(Stepwise::new(
+            written,
+            if has_written { none_left } else { WHOLE },
+        ));
+        if has_written {
+            assert!(rt; writer.write(b"no").is_err());
+        }
+        assert_eq!(rt; run(rt.alloc(), &mut reader, &mut writer), Err(error));
+        let calls = (reader.into_inner().calls, writer.into_inner().calls);
+        assert_eq!(rt; calls, (usize::from(has_read), usize::from(has_written)));
     }
 }
 

@@ -1,6 +1,6 @@
 use Rattle.std.proofs.Common.{◌++◌, take}
 use Rattle.std.proofs.KnownBytes.{Consumes-trans}
-use Rattle.semver_pairs.proofs.answering.read_all.Goals as goal
+use Rattle.semver_pairs.proofs.reading.read_all.Goals as goal
 
 pub returns-then-is_err-clause-some : goal.returns-then-is_err-clause-some
 returns-then-is_err-clause-some g c = (

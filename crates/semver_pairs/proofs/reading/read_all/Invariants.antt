@@ -2,7 +2,7 @@
 use Rattle.std.proofs.Common.{◌≤◌, length}
 use Rattle.std.specs.Io.KnownBytes.{Consumes}
 use Rattle.semver_pairs.specs.GaugeValue.{HasFailed}
-use Rattle.semver_pairs.proofs.answering.read_all.Given as goal
+use Rattle.semver_pairs.proofs.reading.read_all.Given as goal
 
 abbrev pub invariant-reads : goal.invariant-reads
 invariant-reads g l = (l.counter ≤ length l.bytes.items)

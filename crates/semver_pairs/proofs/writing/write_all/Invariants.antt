@@ -2,7 +2,7 @@
 use Rattle.std.proofs.Common.{◌-◌, ◌≤◌, length, take}
 use Rattle.std.specs.Io.KnownBytes.{Appends}
 use Rattle.semver_pairs.specs.GaugeValue.{HasFailed}
-use Rattle.semver_pairs.proofs.answering.write_all.Given as goal
+use Rattle.semver_pairs.proofs.writing.write_all.Given as goal
 
 abbrev pub invariant-writes : goal.invariant-writes
 invariant-writes g l = (l.at ≤ length l.text)

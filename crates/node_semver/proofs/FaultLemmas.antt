@@ -15,7 +15,7 @@ use Rattle.node_semver.specs.declared.parse.fault.Fault.{Fault}
 use Rattle.node_semver.specs.declared.parse.fault.Fault.TheVariants.{TooLarge}
 use Rattle.node_semver.specs.Private.ReadingViews.{kind_in, left_of}
 use Rattle.node_semver.proofs.FaultReading.{AreNumbers, digits-there, fault-takes, prefix-length, left-takes, missing_at}
-use Rattle.node_semver.proofs.Prefixes.{rest_of-again, prefix_of-again, no-append, with-begins, with_no-begins}
+use Rattle.node_semver.proofs.Prefixes.{begins-append, rest_of-again, prefix_of-again, no-append, with-begins, with_no-begins}
 use Rattle.node_semver.proofs.IdentifierReading.{pick-false, pick-true}
 use Rattle.node_semver.proofs.LongestReading.{version-longest}
 use Rattle.node_semver.proofs.NumberReading.{number-again, dot-again}

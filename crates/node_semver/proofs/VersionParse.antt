@@ -14,7 +14,7 @@ use Rattle.node_semver.specs.Private.Reading.{Read, prefix_of, read_version}
 use Rattle.node_semver.specs.Private.ReadingViews.{IsMemoryOr, IsPlainOk, IsWantOfMemory, kind_in}
 use Rattle.node_semver.specs.declared.parse.fault.Fault.TheVariants.{TooLarge}
 use Rattle.node_semver.specs.Version.{VersionValue}
-use Rattle.node_semver.specs.VersionText.{IsVersionText, is_version_mark}
+use Rattle.node_semver.specs.VersionText.{IsVersionText}
 use Rattle.node_semver.specs.declared.parse.fault.Fault.{Fault}
 use Rattle.node_semver.proofs.FaultReading.{behind-there, fault-takes, left-takes}
 use Rattle.node_semver.proofs.NumberReading.{ok-value}

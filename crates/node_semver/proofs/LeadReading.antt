@@ -13,7 +13,8 @@ tilde-lead [] h = cc h
 tilde-lead (b ∷ rest) h = elim (cases_Bool (b == greater_sign)) [ inl here ↦ cc (rw here at h) | inr other ↦ cc (rw other at h) ]
 
 -- where no operator is read, the text stands
-operator-plain : (read : Option (Operator × List ℕ)) (text : List ℕ) → (operator_lead read text).0 ≡ no_lead → (operator_lead read text).1 ≡ text
+operator-plain : (read : Option (Operator × List ℕ)) (text : List ℕ) → (operator_lead read text).0 ≡ no_lead
+    → (operator_lead read text).1 ≡ text
 operator-plain None text h = refl
 operator-plain (Some read) text h = cc h
 
@@ -30,7 +31,8 @@ lead-plain (b ∷ rest) h = elim (cases_Bool (b == caret)) [
 ]
 
 -- no operator is read where none of its first bytes stands
-no-operator : (b : ℕ) (rest : List ℕ) → (b == greater_sign) ≡ false → (b == 61) ≡ false → (b == 60) ≡ false → read_operator (b ∷ rest) ≡ None
+no-operator : (b : ℕ) (rest : List ℕ) → (b == greater_sign) ≡ false → (b == 61) ≡ false → (b == 60) ≡ false
+    → read_operator (b ∷ rest) ≡ None
 unfolding read_operator
 no-operator b rest no_greater no_equals no_less = rw (no_greater, no_equals, no_less) refl
 

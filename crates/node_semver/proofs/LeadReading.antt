@@ -10,7 +10,10 @@ use Rattle.node_semver.specs.Private.WordReading.{no_lead, operator_lead, read_c
 -- a tilde is a lead
 tilde-lead : (text : List ℕ) → (tilde_at text).0 ≡ no_lead → ⊥
 tilde-lead [] h = cc h
-tilde-lead (b ∷ rest) h = elim (cases_Bool (b == greater_sign)) [ inl here ↦ cc (rw here at h) | inr other ↦ cc (rw other at h) ]
+tilde-lead (b ∷ rest) h = elim (cases_Bool (b == greater_sign)) [
+  | inl here ↦ cc (rw here at h)
+  | inr other ↦ cc (rw other at h)
+]
 
 -- where no operator is read, the text stands
 operator-plain : (read : Option (Operator × List ℕ)) (text : List ℕ) → (operator_lead read text).0 ≡ no_lead
@@ -26,7 +29,9 @@ lead-plain (b ∷ rest) h = elim (cases_Bool (b == caret)) [
   | inl here ↦ cc (rw here at h)
   | inr no_caret ↦ elim (cases_Bool (b == tilde)) [
     | inl here ↦ absurd (tilde-lead (rest_of is_blank rest) (rw (no_caret, here) at h))
-    | inr no_tilde ↦ rw (no_caret, no_tilde) (operator-plain (read_operator (b ∷ rest)) (b ∷ rest) (rw (no_caret, no_tilde) at h))
+    | inr no_tilde ↦
+        let plain = rw (no_caret, no_tilde) at h in
+        rw (no_caret, no_tilde) (operator-plain (read_operator (b ∷ rest)) (b ∷ rest) plain)
   ]
 ]
 

@@ -40,7 +40,8 @@ no-dot_first [] h = tt
 no-dot_first (b ∷ rest) h = ne_eqb b dot (h (omega arith))
 
 pub no-x_first : (text : List ℕ)
-    → (0 < length text → (get_or text 0 0 ≢ 120) × (get_or text 0 0 ≢ 88) × (get_or text 0 0 ≢ 42)) → BeginsWithNo is_x text
+    → (0 < length text → (get_or text 0 0 ≢ 120) × (get_or text 0 0 ≢ 88) × (get_or text 0 0 ≢ 42))
+    → BeginsWithNo is_x text
 no-x_first [] h = tt
 no-x_first (b ∷ rest) h =
     let n = h (omega arith) in
@@ -106,10 +107,11 @@ pub components-three : (text first second next third extras rest : List ℕ) (ma
     → Some (major, first) ≡ read_component text → first ≡ dot ∷ second
     → Some (minor, next) ≡ read_component second → next ≡ dot ∷ third
     → Some (patch, extras) ≡ read_component third
-    → p ≡ with_extras major minor patch (read_extras extras).0 → rest ≡ (read_extras extras).1 → Some (p, rest) ≡ read_components text
+    → p ≡ with_extras major minor patch (read_extras extras).0 → rest ≡ (read_extras extras).1
+    → Some (p, rest) ≡ read_components text
 unfolding read_components
-components-three text first second next third extras rest major minor patch p one dotted two dotted_again three whole behind =
-    rw (← one, dotted, ← two, dotted_again, ← three, whole, behind) refl
+components-three text first second next third extras rest major minor patch p one dot1 two dot2 three whole behind =
+    rw (← one, dot1, ← two, dot2, ← three, whole, behind) refl
 
 -- where a component is missing
 pub none-one : (text : List ℕ) → None ≡ read_component text → None ≡ read_components text

@@ -79,7 +79,8 @@ comparator_at text = or_else (read_hyphen text) (read_simple text)
 
 -- after no lead, and after one
 at-plain : (text operand : List ℕ) → BeginsWithNo is_blank text → (no_lead, operand) ≡ read_lead text
-    → comparator_at text ≡ or_else (with_left (read_partial operand)) (said no_lead (up_to_clean (read_partial operand)))
+    → comparator_at text
+    ≡ or_else (with_left (read_partial operand)) (said no_lead (up_to_clean (read_partial operand)))
 unfolding read_simple
 at-plain text operand solid led =
     let plain : (read_lead text).0 ≡ no_lead = ap (λ (x : Lead × List ℕ). x.0) (sym led) in
@@ -104,7 +105,8 @@ none-missing text operand l solid led none = elim (lead-cases l) [
 ]
 
 pub none-unclean : (text operand rest : List ℕ) (l : Lead) (p : Partial) → BeginsWithNo is_blank text
-    → (l, operand) ≡ read_lead text → Some (p, rest) ≡ read_partial operand → is_clean rest ≡ false → None ≡ comparator_at text
+    → (l, operand) ≡ read_lead text → Some (p, rest) ≡ read_partial operand → is_clean rest ≡ false
+    → None ≡ comparator_at text
 none-unclean text operand rest l p solid led read unclean = elim (lead-cases l) [
   | inl plain ↦
       let here : (no_lead, operand) ≡ read_lead text = rw plain at led in

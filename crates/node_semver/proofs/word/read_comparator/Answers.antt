@@ -14,7 +14,8 @@ returns-in_err-partial c =
 
 pub returns-then-not-begins_clean : goal.returns-then-not-begins_clean
 returns-then-not-begins_clean c =
-    none-unclean c.args.text.now _ _ _ _ c.requires c.read_lead-lead.ensures c.in_ok-partial.ensures.read (sym c.if-not-begins_clean.ensures)
+    none-unclean c.args.text.now _ _ _ _ c.requires c.read_lead-lead.ensures c.in_ok-partial.ensures.read
+    (sym c.if-not-begins_clean.ensures)
 
 pub returns-in-Plain-len1-up : goal.returns-in-Plain-len1-up
 returns-in-Plain-len1-up c =
@@ -31,4 +32,5 @@ returns-in_default c =
     ] in
     let word : Option Comparator → Option Word = λ x. Some (x, rest) in
     ap word c.lead_ends.ensures
-    ∙ word-led c.args.text.now _ rest _ _ c.requires c.read_lead-lead.ensures c.in_ok-partial.ensures.read (sym c.if-not-begins_clean.ensures) end
+    ∙ word-led c.args.text.now _ rest _ _ c.requires c.read_lead-lead.ensures c.in_ok-partial.ensures.read
+    (sym c.if-not-begins_clean.ensures) end

@@ -9,4 +9,5 @@ Extras = (List IdentifierValue × List IdentifierValue) × List ℕ
 
 pub returns-then-begins_clean : goal.returns-then-begins_clean
 returns-then-begins_clean c =
-    sym (ap (λ (read : Extras). read.1) (clean-extras c.args.text.now (sym c.begins_clean.ensures ∙ c.if-begins_clean.true)))
+    let clean = sym c.begins_clean.ensures ∙ c.if-begins_clean.true in
+    sym (ap (λ (read : Extras). read.1) (clean-extras c.args.text.now clean))

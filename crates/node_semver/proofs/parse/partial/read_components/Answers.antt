@@ -7,7 +7,8 @@ use Rattle.node_semver.proofs.parse.partial.read_components.Goals as goal
 use Rattle.node_semver.proofs.parse.partial.read_components.Goals.{in_default-via-then-rest-lt1, in_default-via-else-rest-lt1+in_default-1, in_default-rest-via-then-rest-lt1-2, in_default-rest-via-else-rest-lt1-2+in_default-1}
 
 pub returns-in_err-major-clause-read : goal.returns-in_err-major-clause-read
-returns-in_err-major-clause-read c = ap read_partial_seen c.from_residual.ensures ∙ none-one _ c.in_err-major.ensures.read
+returns-in_err-major-clause-read c =
+    ap read_partial_seen c.from_residual.ensures ∙ none-one _ c.in_err-major.ensures.read
 
 pub returns-in_default-clause-read : goal.returns-in_default-clause-read
 returns-in_default-clause-read c =
@@ -41,7 +42,8 @@ returns-in_err-patch-clause-read c =
     let dotted = behind-dot c.in_ok-major.rest.now (omega arith) (omega arith) in
     let dotted_again = behind-dot c.in_ok-minor.rest.now (omega arith) (omega arith) in
     ap read_partial_seen c.from_residual-in_err-patch.ensures
-    ∙ none-three _ _ _ _ _ _ _ c.in_ok-major.ensures.read dotted c.in_ok-minor.ensures.read dotted_again c.in_err-patch.ensures.read
+    ∙ none-three _ _ _ _ _ _ _ c.in_ok-major.ensures.read dotted c.in_ok-minor.ensures.read dotted_again
+    c.in_err-patch.ensures.read
 
 pub returns-clause-read : goal.returns-clause-read
 returns-clause-read c =

@@ -1,5 +1,5 @@
 -- Partials, as the readers see them.
-use Rattle.std.proofs.Common.{◌≡◌, ◌≢◌, ◌<◌, ◌≤◌, ℕ, arith, ◌-◌, drop, get_or, length, take, true, false, List, [], ◌∷◌, Ok, Err, Option, Some, None, refl, sym, ap, ◌∙◌}
+use Rattle.std.proofs.Common.{◌≡◌, ◌≢◌, ◌<◌, ◌≤◌, ℕ, arith, ◌-◌, drop, get_or, length, take, true, List, [], ◌∷◌, Ok, Err, Option, Some, None, refl, sym, ap, ◌∙◌}
 use Rattle.std.specs.Borrow.{Bor}
 use Rattle.std.specs.Prelude.{◌==◌, Result}
 use Rattle.std.specs.Result.{result_ok}
@@ -25,7 +25,8 @@ clean-end (b ∷ rest) h = h
 -- no extras stand at a clean end
 pub clean-extras : (text : List ℕ) → is_clean text ≡ true → read_extras text ≡ (([], []), text)
 clean-extras text h =
-    extras-again [] text [] [] (record { prefix = []; rest = []; whole = refl; first = refl; second = refl }) (clean-ends_extras text (clean-end text h))
+    extras-again [] text [] [] (record { prefix = []; rest = []; whole = refl; first = refl; second = refl })
+    (clean-ends_extras text (clean-end text h))
 
 -- ---- components
 
@@ -38,25 +39,32 @@ pub no-dot_first : (rest : List ℕ) → (0 < length rest → get_or rest 0 0 �
 no-dot_first [] h = tt
 no-dot_first (b ∷ rest) h = ne_eqb b dot (h (omega arith))
 
-pub no-x_first : (text : List ℕ) → (0 < length text → (get_or text 0 0 ≢ 120) × (get_or text 0 0 ≢ 88) × (get_or text 0 0 ≢ 42)) → BeginsWithNo is_x text
+pub no-x_first : (text : List ℕ)
+    → (0 < length text → (get_or text 0 0 ≢ 120) × (get_or text 0 0 ≢ 88) × (get_or text 0 0 ≢ 42))
+    → BeginsWithNo is_x text
 no-x_first [] h = tt
 no-x_first (b ∷ rest) h =
     let n = h (omega arith) in
     rw (ne_eqb b 120 n.0, ne_eqb b 88 n.1, ne_eqb b 42 n.2) refl
 
 -- what stands behind a dot
-pub behind-dot : (rest : List ℕ) → 0 < length rest → get_or rest 0 0 ≡ dot → rest ≡ dot ∷ take (length rest - 1) (drop 1 rest)
+pub behind-dot : (rest : List ℕ) → 0 < length rest → get_or rest 0 0 ≡ dot
+    → rest ≡ dot ∷ take (length rest - 1) (drop 1 rest)
 behind-dot [] some h = absurd (omega arith)
-behind-dot (b ∷ rest) some h = ap (λ (c : ℕ). c ∷ rest) h ∙ ap (λ (l : List ℕ). dot ∷ l) (sym (take_all (length (b ∷ rest) - 1) rest (omega arith)))
+behind-dot (b ∷ rest) some h =
+    ap (λ (c : ℕ). c ∷ rest) h
+    ∙ ap (λ (l : List ℕ). dot ∷ l) (sym (take_all (length (b ∷ rest) - 1) rest (omega arith)))
 
 -- a number that is read is a component
-pub component-number : (text rest : List ℕ) (number : ℕ) → Ok (number, rest) ≡ read_number text → BeginsWithNo is_x text → Some (Some number, rest) ≡ read_component text
+pub component-number : (text rest : List ℕ) (number : ℕ) → Ok (number, rest) ≡ read_number text → BeginsWithNo is_x text
+    → Some (Some number, rest) ≡ read_component text
 unfolding read_component read_number
 component-number [] rest number h none = cc h
 component-number (b ∷ text) rest number h none = rw (none, ← h) refl
 
 -- what an answer holds
-pub read-ok : (r : Result (ℕ × Bor (List ℕ)) Fault) (x : ℕ × Bor (List ℕ)) → Some x ≡ result_ok r → Ok (x.0, x.1.now) ≡ seen r
+pub read-ok : (r : Result (ℕ × Bor (List ℕ)) Fault) (x : ℕ × Bor (List ℕ)) → Some x ≡ result_ok r
+    → Ok (x.0, x.1.now) ≡ seen r
 read-ok (Ok y) x h = let same : x ≡ y = cc h in rw same refl
 read-ok (Err e) x h = cc h
 
@@ -68,44 +76,58 @@ number-limit text rest number h = (number-takes text number rest (sym h)).read.l
 no-extras : read_extras [] ≡ (([], []), [])
 no-extras = clean-extras [] refl
 
-minor-none : (major : Option ℕ) (rest : List ℕ) → NoDot rest → read_from_minor major rest ≡ Some (plain_partial major None None, rest)
+minor-none : (major : Option ℕ) (rest : List ℕ)
+    → NoDot rest → read_from_minor major rest ≡ Some (plain_partial major None None, rest)
 minor-none major [] h = refl
 minor-none major (b ∷ rest) h = rw h refl
 
-patch-none : (major minor : Option ℕ) (rest : List ℕ) → NoDot rest → read_from_patch major minor rest ≡ Some (plain_partial major minor None, rest)
+patch-none : (major minor : Option ℕ) (rest : List ℕ)
+    → NoDot rest → read_from_patch major minor rest ≡ Some (plain_partial major minor None, rest)
 patch-none major minor [] h = refl
 patch-none major minor (b ∷ rest) h = rw h refl
 
 -- one component
-pub components-one : (text rest : List ℕ) (major : Option ℕ) (p : Partial) → Some (major, rest) ≡ read_component text → NoDot rest
+pub components-one : (text rest : List ℕ) (major : Option ℕ) (p : Partial)
+    → Some (major, rest) ≡ read_component text → NoDot rest
     → p ≡ with_extras major None None (read_extras []).0 → Some (p, rest) ≡ read_components text
 unfolding read_components
 components-one text rest major p read none whole = rw (← read, minor-none major rest none, whole, no-extras) refl
 
 -- two components
-pub components-two : (text first second rest : List ℕ) (major minor : Option ℕ) (p : Partial) → Some (major, first) ≡ read_component text → first ≡ dot ∷ second
-    → Some (minor, rest) ≡ read_component second → NoDot rest → p ≡ with_extras major minor None (read_extras []).0 → Some (p, rest) ≡ read_components text
+pub components-two : (text first second rest : List ℕ) (major minor : Option ℕ) (p : Partial)
+    → Some (major, first) ≡ read_component text → first ≡ dot ∷ second
+    → Some (minor, rest) ≡ read_component second → NoDot rest
+    → p ≡ with_extras major minor None (read_extras []).0 → Some (p, rest) ≡ read_components text
 unfolding read_components
-components-two text first second rest major minor p one dotted two none whole = rw (← one, dotted, ← two, patch-none major minor rest none, whole, no-extras) refl
+components-two text first second rest major minor p one dotted two none whole =
+    rw (← one, dotted, ← two, patch-none major minor rest none, whole, no-extras) refl
 
 -- three components, and extras
-pub components-three : (text first second next third extras rest : List ℕ) (major minor patch : Option ℕ) (p : Partial) → Some (major, first) ≡ read_component text → first ≡ dot ∷ second
-    → Some (minor, next) ≡ read_component second → next ≡ dot ∷ third → Some (patch, extras) ≡ read_component third
-    → p ≡ with_extras major minor patch (read_extras extras).0 → rest ≡ (read_extras extras).1 → Some (p, rest) ≡ read_components text
+pub components-three : (text first second next third extras rest : List ℕ) (major minor patch : Option ℕ) (p : Partial)
+    → Some (major, first) ≡ read_component text → first ≡ dot ∷ second
+    → Some (minor, next) ≡ read_component second → next ≡ dot ∷ third
+    → Some (patch, extras) ≡ read_component third
+    → p ≡ with_extras major minor patch (read_extras extras).0 → rest ≡ (read_extras extras).1
+    → Some (p, rest) ≡ read_components text
 unfolding read_components
-components-three text first second next third extras rest major minor patch p one dotted two dotted_again three whole behind =
-    rw (← one, dotted, ← two, dotted_again, ← three, whole, behind) refl
+components-three text first second next third extras rest major minor patch p one dot1 two dot2 three whole behind =
+    rw (← one, dot1, ← two, dot2, ← three, whole, behind) refl
 
 -- where a component is missing
 pub none-one : (text : List ℕ) → None ≡ read_component text → None ≡ read_components text
 unfolding read_components
 none-one text h = rw (← h) refl
 
-pub none-two : (text first second : List ℕ) (major : Option ℕ) → Some (major, first) ≡ read_component text → first ≡ dot ∷ second → None ≡ read_component second → None ≡ read_components text
+pub none-two : (text first second : List ℕ) (major : Option ℕ)
+    → Some (major, first) ≡ read_component text → first ≡ dot ∷ second
+    → None ≡ read_component second → None ≡ read_components text
 unfolding read_components
 none-two text first second major one dotted h = rw (← one, dotted, ← h) refl
 
-pub none-three : (text first second next third : List ℕ) (major minor : Option ℕ) → Some (major, first) ≡ read_component text → first ≡ dot ∷ second → Some (minor, next) ≡ read_component second → next ≡ dot ∷ third
+pub none-three : (text first second next third : List ℕ) (major minor : Option ℕ)
+    → Some (major, first) ≡ read_component text → first ≡ dot ∷ second
+    → Some (minor, next) ≡ read_component second → next ≡ dot ∷ third
     → None ≡ read_component third → None ≡ read_components text
 unfolding read_components
-none-three text first second next third major minor one dotted two dotted_again h = rw (← one, dotted, ← two, dotted_again, ← h) refl
+none-three text first second next third major minor one dotted two dotted_again h =
+    rw (← one, dotted, ← two, dotted_again, ← h) refl

@@ -1,8 +1,7 @@
 -- Triples and versions: what is read is such a text, and such a text is read.
 use Rattle.std.proofs.Common.{◌≡◌, ◌<◌, ℕ, Bool, true, false, List, [], ◌∷◌, ◌++◌, arith, get_or, length, Ok, refl, sym, ap, ◌∙◌, inl, inr, subst, append_assoc}
-use Rattle.std.proofs.lemmas.Bool.{and_parts, cases_Bool, eqb-true, or_cases}
+use Rattle.std.proofs.lemmas.Bool.{cases_Bool, eqb-true, or_cases}
 use Rattle.std.specs.Prelude.{◌==◌, ◌||◌}
-use Rattle.std.specs.List.{list_all}
 use Rattle.node_semver.specs.Characters.{BeginsWith, BeginsWithNo, dot, is_blank, is_digit, is_identifier_character, is_version_mark, plus}
 use Rattle.node_semver.specs.Division.{IsCleanEnd}
 use Rattle.node_semver.specs.NumberText.{IsNumberText}

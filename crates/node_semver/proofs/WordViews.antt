@@ -6,7 +6,7 @@ use Rattle.node_semver.specs.Characters.{BeginsWithNo, caret, is_blank, tilde}
 use Rattle.node_semver.specs.Operators.{Operator as SpecOperator}
 use Rattle.node_semver.specs.PartialText.{Partial}
 use Rattle.node_semver.specs.Private.Reading.{begins, rest_of}
-use Rattle.node_semver.specs.Private.WordReading.{Lead, ReadPartial, Word, caret_lead, is_clean, lead_comparator, no_lead, operator, or_else, read_hyphen, read_lead, read_operator, read_partial, read_right, read_simple, said, said_hyphen, tilde_greater_lead, tilde_lead, up_to_clean, with_left}
+use Rattle.node_semver.specs.Private.WordReading.{Lead, Word, caret_lead, is_clean, lead_comparator, no_lead, operator, or_else, read_hyphen, read_lead, read_operator, read_partial, read_right, read_simple, said, said_hyphen, tilde_greater_lead, tilde_lead, up_to_clean, with_left}
 use Rattle.node_semver.specs.Private.WordViews.{lead_seen}
 use Rattle.node_semver.specs.declared.word.lead.Lead.{Lead as CodeLead}
 use Rattle.node_semver.specs.declared.word.lead.Lead.TheVariants.{Caret, Operator, Plain, Tilde, TildeGreater}
@@ -16,7 +16,8 @@ use Rattle.node_semver.proofs.Prefixes.{with_no-begins}
 -- ---- leads
 
 -- neither a caret nor a tilde begins an operator
-operator-first : (b : ℕ) (text rest : List ℕ) (o : SpecOperator) → Some (o, rest) ≡ read_operator (b ∷ text) → ((b == caret) ≡ false) × ((b == tilde) ≡ false)
+operator-first : (b : ℕ) (text rest : List ℕ) (o : SpecOperator) → Some (o, rest) ≡ read_operator (b ∷ text)
+    → ((b == caret) ≡ false) × ((b == tilde) ≡ false)
 unfolding read_operator
 operator-first b text rest o h = (
   elim (cases_Bool (b == caret)) [ inl here ↦ cc (rw (eqb-true b caret here) at h) | inr other ↦ other ],
@@ -24,7 +25,8 @@ operator-first b text rest o h = (
 )
 
 -- an operator is a lead
-pub lead-operator : (text rest : List ℕ) (o : SpecOperator) → Some (o, rest) ≡ read_operator text → (operator o, rest_of is_blank rest) ≡ read_lead text
+pub lead-operator : (text rest : List ℕ) (o : SpecOperator) → Some (o, rest) ≡ read_operator text
+    → (operator o, rest_of is_blank rest) ≡ read_lead text
 unfolding read_lead
 lead-operator [] rest o h = unfold read_operator in cc h
 lead-operator (b ∷ text) rest o h =
@@ -77,21 +79,24 @@ comparator_at text = or_else (read_hyphen text) (read_simple text)
 
 -- after no lead, and after one
 at-plain : (text operand : List ℕ) → BeginsWithNo is_blank text → (no_lead, operand) ≡ read_lead text
-    → comparator_at text ≡ or_else (with_left (read_partial operand)) (said no_lead (up_to_clean (read_partial operand)))
+    → comparator_at text
+    ≡ or_else (with_left (read_partial operand)) (said no_lead (up_to_clean (read_partial operand)))
 unfolding read_simple
 at-plain text operand solid led =
     let plain : (read_lead text).0 ≡ no_lead = ap (λ (x : Lead × List ℕ). x.0) (sym led) in
     let same : operand ≡ text = ap (λ (x : Lead × List ℕ). x.1) led ∙ lead-plain text plain in
     rw (hyphen-left text solid, ← led, same) refl
 
-at-led : (text operand : List ℕ) (l : Lead) → BeginsWithNo is_blank text → (l, operand) ≡ read_lead text → (l ≡ no_lead → ⊥) → comparator_at text ≡ said l (up_to_clean (read_partial operand))
+at-led : (text operand : List ℕ) (l : Lead) → BeginsWithNo is_blank text → (l, operand) ≡ read_lead text
+    → (l ≡ no_lead → ⊥) → comparator_at text ≡ said l (up_to_clean (read_partial operand))
 unfolding read_simple
 at-led text operand l solid led some =
     let lead : (read_lead text).0 ≡ l = ap (λ (x : Lead × List ℕ). x.0) (sym led) in
     rw (hyphen-left text solid, lead-not_partial text (λ none. some (sym lead ∙ none)), ← led) refl
 
 -- where no partial follows, and where no clean end follows the partial
-pub none-missing : (text operand : List ℕ) (l : Lead) → BeginsWithNo is_blank text → (l, operand) ≡ read_lead text → None ≡ read_partial operand → None ≡ comparator_at text
+pub none-missing : (text operand : List ℕ) (l : Lead) → BeginsWithNo is_blank text → (l, operand) ≡ read_lead text
+    → None ≡ read_partial operand → None ≡ comparator_at text
 none-missing text operand l solid led none = elim (lead-cases l) [
   | inl plain ↦
       let here : (no_lead, operand) ≡ read_lead text = rw plain at led in
@@ -99,8 +104,9 @@ none-missing text operand l solid led none = elim (lead-cases l) [
   | inr some ↦ rw (at-led text operand l solid led some, ← none) refl
 ]
 
-pub none-unclean : (text operand rest : List ℕ) (l : Lead) (p : Partial) → BeginsWithNo is_blank text → (l, operand) ≡ read_lead text → Some (p, rest) ≡ read_partial operand
-    → is_clean rest ≡ false → None ≡ comparator_at text
+pub none-unclean : (text operand rest : List ℕ) (l : Lead) (p : Partial) → BeginsWithNo is_blank text
+    → (l, operand) ≡ read_lead text → Some (p, rest) ≡ read_partial operand → is_clean rest ≡ false
+    → None ≡ comparator_at text
 none-unclean text operand rest l p solid led read unclean = elim (lead-cases l) [
   | inl plain ↦
       let here : (no_lead, operand) ≡ read_lead text = rw plain at led in
@@ -109,13 +115,15 @@ none-unclean text operand rest l p solid led read unclean = elim (lead-cases l) 
 ]
 
 -- a plain partial before a clean end
-pub word-plain : (text operand rest : List ℕ) (p : Partial) → BeginsWithNo is_blank text → (no_lead, operand) ≡ read_lead text → Some (p, rest) ≡ read_partial operand
-    → is_clean rest ≡ true → or_else (said_hyphen (Some p) (read_right rest)) (Some (lead_comparator no_lead p, rest)) ≡ comparator_at text
+pub word-plain : (text operand rest : List ℕ) (p : Partial) → BeginsWithNo is_blank text
+    → (no_lead, operand) ≡ read_lead text → Some (p, rest) ≡ read_partial operand → is_clean rest ≡ true
+    → or_else (said_hyphen (Some p) (read_right rest)) (Some (lead_comparator no_lead p, rest)) ≡ comparator_at text
 word-plain text operand rest p solid led read clean = rw (at-plain text operand solid led, ← read, clean) refl
 
 -- a partial after a lead, or at the end of the text
-pub word-led : (text operand rest : List ℕ) (l : Lead) (p : Partial) → BeginsWithNo is_blank text → (l, operand) ≡ read_lead text → Some (p, rest) ≡ read_partial operand
-    → is_clean rest ≡ true → (l ≡ no_lead → rest ≡ []) → Some (lead_comparator l p, rest) ≡ comparator_at text
+pub word-led : (text operand rest : List ℕ) (l : Lead) (p : Partial) → BeginsWithNo is_blank text
+    → (l, operand) ≡ read_lead text → Some (p, rest) ≡ read_partial operand → is_clean rest ≡ true
+    → (l ≡ no_lead → rest ≡ []) → Some (lead_comparator l p, rest) ≡ comparator_at text
 word-led text operand rest l p solid led read clean end = elim (lead-cases l) [
   | inl plain ↦
       let here : (no_lead, operand) ≡ read_lead text = rw plain at led in

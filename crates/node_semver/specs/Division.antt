@@ -1,5 +1,5 @@
 -- How a range text is divided: npm's "Range Grammar", in its loose form.
-use Rattle.std.specs.Prelude.{◌≡◌, ◌⊎◌, ℕ, true, not, List, [], ◌∷◌, ◌++◌, Option, None}
+use Rattle.std.specs.Prelude.{◌≡◌, ℕ, true, not, List, [], ◌∷◌, ◌++◌, Option, None}
 use Rattle.std.specs.List.{filter_map}
 use Rattle.node_semver.specs.CaretRanges.{IsCaretText}
 use Rattle.node_semver.specs.Characters.{AreAll, AreBlanks, BeginsWithNo, is_blank}

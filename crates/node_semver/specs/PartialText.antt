@@ -1,5 +1,5 @@
 -- Partials, as they are written: npm's "X-Ranges" and "Range Grammar".
-use Rattle.std.specs.Prelude.{◌≡◌, ℕ, Bool, true, List, [], ◌∷◌, ◌++◌, Option, Some, None, unwrap_or}
+use Rattle.std.specs.Prelude.{◌≡◌, ℕ, true, List, [], ◌∷◌, ◌++◌, Option, Some, None, unwrap_or}
 use Rattle.node_semver.specs.Characters.{AreAll, dot, is_blank, is_partial_mark, is_x}
 use Rattle.node_semver.specs.IdentifierValue.{IdentifierValue}
 use Rattle.node_semver.specs.NumberText.{IsNumberText}

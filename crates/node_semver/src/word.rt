@@ -12,10 +12,9 @@ mod operator;
 mod plain;
 mod tilde;
 
+use crate::parse::{Partial, begins_clean, read_partial, skip_solid};
 pub(crate) use ends::Ends;
 pub(crate) use hyphen::read_leading_hyphen;
-
-use crate::parse::{Partial, begins_clean, read_partial, skip_solid};
 use hyphen::{hyphen_ends, read_right};
 use lead::{Lead, lead_ends, read_lead};
 use plain::plain_ends;

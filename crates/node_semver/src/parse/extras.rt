@@ -2,7 +2,9 @@
 ghost use Rattle.std.specs.Prelude.{◌≡◌};
 ghost use Rattle.node_semver.specs.Private.Reading as Reading;
 
-use crate::parse::identifiers::{begins_identifier, is_identifier_character, skip_hyphen, skip_plus};
+use crate::parse::identifiers::{
+    begins_identifier, is_identifier_character, skip_hyphen, skip_plus,
+};
 use crate::parse::skip::begins_clean;
 
 // Whether a list of identifiers goes on here: an identifier character, or a dot and one.

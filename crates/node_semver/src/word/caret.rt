@@ -26,20 +26,11 @@ pub(crate) fn caret_ends(partial: Partial) -> Option<Ends>
         ..
     } = partial;
     match partial.shape {
-        Shape::Full => Some(from_up_to(
-            without_build(partial),
-            next_of_three(major, minor, patch),
-        )),
-        Shape::MajorMinor => Some(from_up_to(
-            release(major, minor, 0),
-            next_of_two(major, minor),
-        )),
+        Shape::Full => Some(from_up_to(without_build(partial), next_of_three(major, minor, patch))),
+        Shape::MajorMinor => Some(from_up_to(release(major, minor, 0), next_of_two(major, minor))),
         Shape::Major => Some(one_number(major)),
-        Shape::MajorPatch
-        | Shape::MinorPatch
-        | Shape::Minor
-        | Shape::Patch
-        | Shape::Nothing => None,
+        Shape::MajorPatch | Shape::MinorPatch | Shape::Minor | Shape::Patch | Shape::Nothing =>
+            None,
     }
 }
 

@@ -7,10 +7,9 @@ ghost use Rattle.node_semver.specs.PartialText as PartialText;
 ghost use Rattle.node_semver.specs.Version as Versions;
 ghost use Rattle.node_semver.specs.Private.WordViews.{IsSound, cut_at, end_seen, ends_seen, partial_seen, tail_seen, written_seen};
 
-use crate::Version;
 use crate::comparator::Comparator;
 use crate::parse::{Partial, read_extras, read_prerelease};
-use crate::MAX_SAFE_INTEGER;
+use crate::{MAX_SAFE_INTEGER, Version};
 use semver_cuts::Cut;
 use std::alloc::{AllocError, Global};
 
@@ -62,8 +61,13 @@ pub(crate) struct Ends<'a> {
 
 #[inline(always)]
 fn written(major: u64, minor: u64, patch: u64, tail: Tail, extras: &[u8]) -> WrittenVersion
-    ensures { written_seen result ≡ record { major = major; minor = minor; patch = patch;
-        pre_release = (tail_seen tail extras.now).0; build = (tail_seen tail extras.now).1 } }
+    ensures { written_seen result ≡ record {
+      major = major;
+      minor = minor;
+      patch = patch;
+      pre_release = (tail_seen tail extras.now).0;
+      build = (tail_seen tail extras.now).1;
+    } }
 {
     WrittenVersion {
         major,

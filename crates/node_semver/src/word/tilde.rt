@@ -35,11 +35,8 @@ pub(crate) fn tilde_ends(partial: Partial) -> Option<Ends>
         Shape::Full => Some(up_to_next_minor(partial)),
         Shape::MajorMinor => Some(with_minor(partial.major, partial.minor)),
         Shape::Major => Some(with_major(partial.major)),
-        Shape::MajorPatch
-        | Shape::MinorPatch
-        | Shape::Minor
-        | Shape::Patch
-        | Shape::Nothing => None,
+        Shape::MajorPatch | Shape::MinorPatch | Shape::Minor | Shape::Patch | Shape::Nothing =>
+            None,
     }
 }
 

@@ -3,5 +3,11 @@ use Rattle.node_semver.specs.IdentifierValue.{IdentifierValue}
 use Rattle.node_semver.proofs.PartialViews.{clean-extras}
 use Rattle.node_semver.proofs.parse.extras.skip_extras.Goals as goal
 
+-- a prerelease, a build and the rest
+abbrev Extras : Type 0
+Extras = (List IdentifierValue × List IdentifierValue) × List ℕ
+
 pub returns-then-begins_clean : goal.returns-then-begins_clean
-returns-then-begins_clean c = sym (ap (λ (read : (List IdentifierValue × List IdentifierValue) × List ℕ). read.1) (clean-extras c.args.text.now (sym c.begins_clean.ensures ∙ c.if-begins_clean.true)))
+returns-then-begins_clean c =
+    let clean = sym c.begins_clean.ensures ∙ c.if-begins_clean.true in
+    sym (ap (λ (read : Extras). read.1) (clean-extras c.args.text.now clean))

@@ -7,14 +7,15 @@ use Rattle.node_semver.proofs.parse.partial.read_component.Goals.{then-text-lt1,
 pub returns-clause-read : goal.returns-clause-read
 returns-clause-read c =
     let text = c.args.text.now in
-    let other : 0 < length text → (get_or text 0 0 ≢ 120) × (get_or text 0 0 ≢ 88) × (get_or text 0 0 ≢ 42) = λ some. elim c.if-text-lt1.branch [
+    let other : 0 < length text → (get_or text 0 0 ≢ 120) × (get_or text 0 0 ≢ 88) × (get_or text 0 0 ≢ 42) =
+    λ some. elim c.if-text-lt1.branch [
       | then-text-lt1 w ↦ absurd (omega (arith, ltb-true))
       | else-text-lt1+in_default-1 w ↦ (search rules, search rules, search rules)
     ] in
-    component-number text c.in_ok-number.rest.now c.in_ok-number.number (read-ok c.read_number.result (c.in_ok-number.number, c.in_ok-number.rest) c.in_ok-number.ensures.value ∙ c.read_number.ensures) (no-x_first text other)
+    let number = read-ok c.read_number.result _ c.in_ok-number.ensures.value ∙ c.read_number.ensures in
+    component-number text _ _ number (no-x_first text other)
 
 pub returns-clause-sound : goal.returns-clause-sound
-returns-clause-sound c = record {
-  limit = number-limit c.args.text.now c.in_ok-number.rest.now c.in_ok-number.number (read-ok c.read_number.result (c.in_ok-number.number, c.in_ok-number.rest) c.in_ok-number.ensures.value ∙ c.read_number.ensures);
-  absent = λ none. cc none;
-}
+returns-clause-sound c =
+    let number = read-ok c.read_number.result _ c.in_ok-number.ensures.value ∙ c.read_number.ensures in
+    record { limit = number-limit c.args.text.now _ _ number; absent = λ none. cc none }

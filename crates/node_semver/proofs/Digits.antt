@@ -34,17 +34,21 @@ more-digits n (d ∷ ds) =
 -- a digit and more after those that write n
 one-digit : (n b : ℕ) (ds : List ℕ) → is_digit b ≡ true → n * 10 + (b - 48) ≤ digits_value_after 10 n (b ∷ ds)
 one-digit n b ds digit =
-    subst (λ (d : ℕ). n * 10 + d ≤ digits_value_after 10 n (b ∷ ds)) (digit-value b digit) (more-digits (n * 10 + digit_value b) ds)
+    subst (λ (d : ℕ). n * 10 + d ≤ digits_value_after 10 n (b ∷ ds)) (digit-value b digit)
+    (more-digits (n * 10 + digit_value b) ds)
 
 -- one digit more makes the number at the start too large
-pub read_number-large : (s : List ℕ) (n b : ℕ) (ds : List ℕ) → BeginsWith is_digit s → is_digit b ≡ true → MAX_SAFE_INTEGER < n * 10 + (b - 48)
-    → digits_value_after 10 n (prefix_of is_digit (b ∷ ds)) ≡ number_of (prefix_of is_digit s) → refusal {A = ℕ × List ℕ} (TooLarge (length s)) ≡ read_number s
+pub read_number-large : (s : List ℕ) (n b : ℕ) (ds : List ℕ) → BeginsWith is_digit s → is_digit b ≡ true
+    → MAX_SAFE_INTEGER < n * 10 + (b - 48)
+    → digits_value_after 10 n (prefix_of is_digit (b ∷ ds)) ≡ number_of (prefix_of is_digit s)
+    → refusal {A = ℕ × List ℕ} (TooLarge (length s)) ≡ read_number s
 unfolding read_number prefix_of
 read_number-large s n b ds some digit above value =
     let begins_so : begins is_digit s ≡ true = with-begins is_digit s some in
     let here : prefix_of is_digit (b ∷ ds) ≡ b ∷ prefix_of is_digit ds = rw digit refl in
     let more : n * 10 + (b - 48) ≤ number_of (prefix_of is_digit s) =
-    subst (λ (m : ℕ). n * 10 + (b - 48) ≤ m) (ap (digits_value_after 10 n) (sym here) ∙ value) (one-digit n b (prefix_of is_digit ds) digit) in
+    subst (λ (m : ℕ). n * 10 + (b - 48) ≤ m) (ap (digits_value_after 10 n) (sym here)
+    ∙ value) (one-digit n b (prefix_of is_digit ds) digit) in
     let over : nat_le (number_of (prefix_of is_digit s)) MAX_SAFE_INTEGER ≡ false = lt-leb _ _ (omega arith) in
     rw (begins_so, over) refl
 
@@ -58,13 +62,15 @@ some-length [] h = absurd h
 some-length (b ∷ s) h = omega arith
 
 -- what `parse` answers to digits
-pub large-ok : (s : List ℕ) (r : Result ℕ ParseIntError) (value : ℕ) → ParsesUnsigned 64 10 s r → AreAll is_digit s → r ≡ Ok value → max_int value ≡ too_large (number_of s)
+pub large-ok : (s : List ℕ) (r : Result ℕ ParseIntError) (value : ℕ) → ParsesUnsigned 64 10 s r → AreAll is_digit s
+    → r ≡ Ok value → max_int value ≡ too_large (number_of s)
 large-ok s r value h all e =
     let w = OkIff-at_ok r _ _ value (parse_digits own 64 s r h all) e in
     let fits : nat_lt (number_of s) (2 ^ 64) ≡ true = lt-ltb _ _ w.0.1 in
     rw (fits, w.1) refl
 
-pub large-err : (s : List ℕ) (r : Result ℕ ParseIntError) (error : ParseIntError) → ParsesUnsigned 64 10 s r → AreAll is_digit s → BeginsWith is_digit s → r ≡ Err error → parse_int ≡ too_large (number_of s)
+pub large-err : (s : List ℕ) (r : Result ℕ ParseIntError) (error : ParseIntError) → ParsesUnsigned 64 10 s r
+    → AreAll is_digit s → BeginsWith is_digit s → r ≡ Err error → parse_int ≡ too_large (number_of s)
 large-err s r error h all some e =
     let none = OkIff-at_err r _ _ error (parse_digits own 64 s r h all) e in
     elim (cases_Bool (nat_lt (number_of s) (2 ^ 64))) [
@@ -81,7 +87,8 @@ abbrev OneMore : ℕ → ℕ → Option ℕ
 OneMore n b = if is_digit b && nat_lt (n * 10 + (b - 48)) (2 ^ 64) then Some (n * 10 + (b - 48)) else None
 
 -- the text of which this is no digit, or one too many, writes no such number
-pub none-numeric : (s : List ℕ) (n b : ℕ) (ds : List ℕ) → None ≡ OneMore n b → list_all is_digit (b ∷ ds) ≡ list_all is_digit s → digits_value_after 10 n (b ∷ ds) ≡ number_of s
+pub none-numeric : (s : List ℕ) (n b : ℕ) (ds : List ℕ) → None ≡ OneMore n b
+    → list_all is_digit (b ∷ ds) ≡ list_all is_digit s → digits_value_after 10 n (b ∷ ds) ≡ number_of s
     → None ≡ Numeric s
 none-numeric s n b ds none all value = elim (cases_Bool (is_digit b)) [
   | inr other ↦
@@ -90,7 +97,8 @@ none-numeric s n b ds none all value = elim (cases_Bool (is_digit b)) [
   | inl digit ↦ elim (cases_Bool (nat_lt (n * 10 + (b - 48)) (2 ^ 64))) [
     | inl fits ↦ cc (none ∙ pick-true _ (Some (n * 10 + (b - 48))) None (and_from _ _ digit fits))
     | inr large ↦
-        let more : n * 10 + (b - 48) ≤ number_of s = subst (λ (m : ℕ). n * 10 + (b - 48) ≤ m) value (one-digit n b ds digit) in
+        let more : n * 10 + (b - 48) ≤ number_of s =
+        subst (λ (m : ℕ). n * 10 + (b - 48) ≤ m) value (one-digit n b ds digit) in
         let bound : 2 ^ 64 ≤ n * 10 + (b - 48) = ltb-false _ _ large in
         let above : nat_lt (number_of s) (2 ^ 64) ≡ false = le-ltb _ _ (omega arith) in
         sym (pick-false _ (Some (number_of s)) None (and_right (list_all is_digit s) _ above))

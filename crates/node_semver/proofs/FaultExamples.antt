@@ -66,11 +66,13 @@ left-there = (
 
 -- a text of 257 bytes, whatever it holds
 long-there : (text : List ℕ) → length text ≡ 257 → IsFault text max_length 256
-long-there text long = subst (λ (n : ℕ). IsFault text max_length n) (ap (λ (n : ℕ). n - 1) long) (too_long (omega arith))
+long-there text long =
+    subst (λ (n : ℕ). IsFault text max_length n) (ap (λ (n : ℕ). n - 1) long) (too_long (omega arith))
 
 -- a version of these fields
 abbrev version : ℕ → ℕ → ℕ → List IdentifierValue → List IdentifierValue → VersionValue
-version major minor patch pre_release build = record { major = major; minor = minor; patch = patch; pre_release = pre_release; build = build }
+version major minor patch pre_release build =
+    record { major = major; minor = minor; patch = patch; pre_release = pre_release; build = build }
 
 -- a text as an identifier
 abbrev word : List ℕ → IdentifierValue
@@ -80,8 +82,10 @@ version-there : IsVersionText (codes "v 01.02.03") (version 1 2 3 [] [])
     × IsVersionText (codes "1.2.34-abc.123+1") (version 1 2 34 (word (codes "abc") ∷ numeric 123 ∷ []) (numeric 1 ∷ []))
     × IsVersionText (codes "1.2.3beta") (version 1 2 3 (word (codes "beta") ∷ []) [])
     × IsVersionText (codes "1.2.3--") (version 1 2 3 (word (codes "-") ∷ []) [])
-    × IsVersionText (codes "1.0.0-rc.2-migration") (version 1 0 0 (word (codes "rc") ∷ word (codes "2-migration") ∷ []) [])
-    × IsVersionText (codes "0.0.900719925474099+a.007") (version 0 0 900719925474099 [] (word (codes "a") ∷ numeric 7 ∷ []))
+    × IsVersionText (codes "1.0.0-rc.2-migration")
+    (version 1 0 0 (word (codes "rc") ∷ word (codes "2-migration") ∷ []) [])
+    × IsVersionText (codes "0.0.900719925474099+a.007")
+    (version 0 0 900719925474099 [] (word (codes "a") ∷ numeric 7 ∷ []))
 unfolding rest_of skip_one skip_plus read_build read_extras prefix_of list_rest list_prefix read_version read_number read_triple read_dot read_prerelease read_unmarked
 version-there = (
   read-version _ _ (omega arith) refl,

@@ -9,7 +9,8 @@ use Rattle.node_semver.specs.IdentifierValue.{IdentifierValue}
 use Rattle.node_semver.specs.Private.Reading.{skip_one, skip_plus, begins, read_build, read_extras, goes_on, list_rest, list_prefix, read_list_or, list_values, read_prerelease}
 use Rattle.node_semver.proofs.Prefixes.{begins-append, with-begins}
 
--- The parts of a list that goes on from some earlier characters: the first part may be empty, the others are identifiers.
+-- The parts of a list that goes on from some earlier characters: the first part may be empty, the others are
+-- identifiers.
 pub record GoOn (parts : List (List ℕ)) : Type 0 where
   pub first : List ℕ
   pub others : List (List ℕ)
@@ -31,7 +32,8 @@ parts-shape (b ∷ rest) = elim (cases_Bool (b == dot)) [
 pub parts-dot : (b : ℕ) (rest : List ℕ) → (b == dot) ≡ true → parts_of (b ∷ rest) ≡ [] ∷ parts_of rest
 parts-dot b rest here = rw here refl
 
-pub parts-other : (b : ℕ) (rest first : List ℕ) (others : List (List ℕ)) → (b == dot) ≡ false → parts_of rest ≡ first ∷ others → parts_of (b ∷ rest) ≡ (b ∷ first) ∷ others
+pub parts-other : (b : ℕ) (rest first : List ℕ) (others : List (List ℕ)) → (b == dot) ≡ false
+    → parts_of rest ≡ first ∷ others → parts_of (b ∷ rest) ≡ (b ∷ first) ∷ others
 parts-other b rest first others other shape = rw (other, shape) refl
 
 -- an identifier character is no dot
@@ -45,7 +47,8 @@ no-dot b h = elim (cases_Bool (b == dot)) [
 pub goes_on-character : (b : ℕ) (rest : List ℕ) → is_identifier_character b ≡ true → goes_on (b ∷ rest) ≡ true
 goes_on-character b rest h = rw h refl
 
-pub goes_on-dot : (b : ℕ) (rest : List ℕ) → (b == dot) ≡ true → begins is_identifier_character rest ≡ true → goes_on (b ∷ rest) ≡ true
+pub goes_on-dot : (b : ℕ) (rest : List ℕ) → (b == dot) ≡ true → begins is_identifier_character rest ≡ true
+    → goes_on (b ∷ rest) ≡ true
 goes_on-dot b rest here h = rw (eqb-true b dot here, h) refl
 
 -- and nowhere else
@@ -69,13 +72,15 @@ list-whole (b ∷ rest) = elim (cases_Bool (goes_on (b ∷ rest))) [
 ]
 
 -- the first character of the longest list
-list-begins : (text : List ℕ) → begins is_identifier_character text ≡ true → BeginsWith is_identifier_character (list_prefix text)
+list-begins : (text : List ℕ) → begins is_identifier_character text ≡ true
+    → BeginsWith is_identifier_character (list_prefix text)
 unfolding list_prefix
 list-begins [] h = cc h
 list-begins (b ∷ rest) h = rw (goes_on-character b rest h) h
 
 -- a first part that is not empty begins as the text does
-first-begins : (text first : List ℕ) (others : List (List ℕ)) → parts_of text ≡ first ∷ others → BeginsWith is_identifier_character text → BeginsWith is_identifier_character first
+first-begins : (text first : List ℕ) (others : List (List ℕ)) → parts_of text ≡ first ∷ others
+    → BeginsWith is_identifier_character text → BeginsWith is_identifier_character first
 first-begins [] first others shape h = absurd h
 first-begins (b ∷ rest) first others shape h =
     let r = parts-shape rest in
@@ -83,7 +88,8 @@ first-begins (b ∷ rest) first others shape h =
     let f : b ∷ r.0 ≡ first = cc e in
     subst (λ (l : List ℕ). BeginsWith is_identifier_character l) f h
 
-pub begins-first : (text first : List ℕ) (others : List (List ℕ)) → parts_of text ≡ first ∷ others → BeginsWith is_identifier_character first → BeginsWith is_identifier_character text
+pub begins-first : (text first : List ℕ) (others : List (List ℕ)) → parts_of text ≡ first ∷ others
+    → BeginsWith is_identifier_character first → BeginsWith is_identifier_character text
 begins-first [] first others shape h =
     let e : [] ≡ first = cc shape in
     absurd (subst (λ (l : List ℕ). BeginsWith is_identifier_character l) (sym e) h)
@@ -119,43 +125,61 @@ list-goes (b ∷ rest) = elim (cases_Bool (goes_on (b ∷ rest))) [
           others = parts_of (list_prefix rest);
           whole = parts-dot b (list_prefix rest) w.0;
           characters = refl;
-          identifiers = subst (λ (l : List (List ℕ)). AllByRecursion IsIdentifierText l) (sym r.whole)
-              ((first-begins (list_prefix rest) r.first r.others r.whole (list-begins rest w.1), r.characters), r.identifiers);
+          identifiers = subst (λ (l : List (List ℕ)). AllByRecursion IsIdentifierText l) (sym r.whole) (
+            (first-begins (list_prefix rest) r.first r.others r.whole (list-begins rest w.1), r.characters),
+            r.identifiers,
+          );
         })
       ]
 ]
 
 -- the longest list at the start of a text that begins with an identifier character is a list of identifiers
-pub list-takes : (text : List ℕ) → begins is_identifier_character text ≡ true → IsIdentifierList (list_prefix text) (list_values text)
+pub list-takes : (text : List ℕ) → begins is_identifier_character text ≡ true
+    → IsIdentifierList (list_prefix text) (list_values text)
 list-takes text h =
     let r = list-goes text in
     record {
-      parts = subst (λ (l : List (List ℕ)). AllByRecursion IsIdentifierText l) (sym r.whole)
-          ((first-begins (list_prefix text) r.first r.others r.whole (list-begins text h), r.characters), r.identifiers);
+      parts = subst (λ (l : List (List ℕ)). AllByRecursion IsIdentifierText l) (sym r.whole) (
+        (first-begins (list_prefix text) r.first r.others r.whole (list-begins text h), r.characters),
+        r.identifiers,
+      );
       values = refl;
     }
 
 -- a list that goes on is gone over, whatever stands after it
-pub list-through : (list rest : List ℕ) → GoOn (parts_of list) → (list_prefix (list ++ rest) ≡ list ++ list_prefix rest) × (list_rest (list ++ rest) ≡ list_rest rest)
+pub list-through : (list rest : List ℕ) → GoOn (parts_of list)
+    → (list_prefix (list ++ rest) ≡ list ++ list_prefix rest) × (list_rest (list ++ rest) ≡ list_rest rest)
 unfolding list_prefix list_rest
 list-through [] rest g = (refl, refl)
 list-through (b ∷ list) rest g = elim (cases_Bool (b == dot)) [
   | inl here ↦
       let others : parts_of list ≡ g.others = cc (sym (parts-dot b list here) ∙ g.whole) in
       let r = parts-shape list in
-      let all : AllByRecursion IsIdentifierText (r.0 ∷ r.1) = subst (λ (l : List (List ℕ)). AllByRecursion IsIdentifierText l) (sym others ∙ r.2) g.identifiers in
+      let all : AllByRecursion IsIdentifierText (r.0 ∷ r.1) =
+      subst (λ (l : List (List ℕ)). AllByRecursion IsIdentifierText l) (sym others ∙ r.2) g.identifiers in
       let first : BeginsWith is_identifier_character list = begins-first list r.0 r.1 r.2 all.0.0 in
-      let goes : goes_on (b ∷ (list ++ rest)) ≡ true = goes_on-dot b (list ++ rest) here (with-begins _ (list ++ rest) (begins-append _ list rest first)) in
-      let on = list-through list rest (record { first = r.0; others = r.1; whole = r.2; characters = all.0.1; identifiers = all.1 }) in
+      let goes : goes_on (b ∷ (list ++ rest)) ≡ true =
+      goes_on-dot b (list ++ rest) here (with-begins _ (list ++ rest) (begins-append _ list rest first)) in
+      let on = list-through list rest
+      (record { first = r.0; others = r.1; whole = r.2; characters = all.0.1; identifiers = all.1 }) in
       (rw goes (ap (λ (l : List ℕ). b ∷ l) on.0), rw goes on.1)
   | inr other ↦
       let r = parts-shape list in
       let e : (b ∷ r.0) ∷ r.1 ≡ g.first ∷ g.others = sym (parts-other b list r.0 r.1 other r.2) ∙ g.whole in
       let f : g.first ≡ b ∷ r.0 = cc e in
       let o : g.others ≡ r.1 = cc e in
-      let characters = and_parts (is_identifier_character b) (list_all is_identifier_character r.0) (subst (λ (l : List ℕ). AreAll is_identifier_character l) f g.characters) in
+      let characters = and_parts (is_identifier_character b) (list_all is_identifier_character r.0)
+      (subst (λ (l : List ℕ). AreAll is_identifier_character l) f g.characters) in
       let goes : goes_on (b ∷ (list ++ rest)) ≡ true = goes_on-character b (list ++ rest) characters.0 in
-      let on = list-through list rest (record { first = r.0; others = r.1; whole = r.2; characters = characters.1; identifiers = subst (λ (l : List (List ℕ)). AllByRecursion IsIdentifierText l) o g.identifiers }) in
+      let on = list-through list rest
+      (record {
+        first = r.0;
+        others = r.1;
+        whole = r.2;
+        characters = characters.1;
+        identifiers =
+            subst (λ (l : List (List ℕ)). AllByRecursion IsIdentifierText l) o g.identifiers;
+      }) in
       (rw goes (ap (λ (l : List ℕ). b ∷ l) on.0), rw goes on.1)
 ]
 
@@ -166,7 +190,8 @@ list-none [] stops = (refl, refl)
 list-none (b ∷ rest) stops = (rw stops refl, rw stops refl)
 
 -- a list that goes on is read to its end, where nothing goes on after it
-list-on : (list rest : List ℕ) → GoOn (parts_of list) → goes_on rest ≡ false → (list_prefix (list ++ rest) ≡ list) × (list_rest (list ++ rest) ≡ rest)
+list-on : (list rest : List ℕ) → GoOn (parts_of list) → goes_on rest ≡ false
+    → (list_prefix (list ++ rest) ≡ list) × (list_rest (list ++ rest) ≡ rest)
 list-on list rest g stops =
     let t = list-through list rest g in
     let n = list-none rest stops in
@@ -178,11 +203,14 @@ pub record ReadsList (list rest : List ℕ) (identifiers : List IdentifierValue)
   pub values : list_values (list ++ rest) ≡ identifiers
   pub behind : list_rest (list ++ rest) ≡ rest
 
-pub list-again : (list rest : List ℕ) (identifiers : List IdentifierValue) → IsIdentifierList list identifiers → goes_on rest ≡ false → ReadsList list rest identifiers
+pub list-again : (list rest : List ℕ) (identifiers : List IdentifierValue) → IsIdentifierList list identifiers
+    → goes_on rest ≡ false → ReadsList list rest identifiers
 list-again list rest identifiers h stops =
     let r = parts-shape list in
-    let all : AllByRecursion IsIdentifierText (r.0 ∷ r.1) = subst (λ (l : List (List ℕ)). AllByRecursion IsIdentifierText l) r.2 h.parts in
-    let on = list-on list rest (record { first = r.0; others = r.1; whole = r.2; characters = all.0.1; identifiers = all.1 }) stops in
+    let all : AllByRecursion IsIdentifierText (r.0 ∷ r.1) =
+    subst (λ (l : List (List ℕ)). AllByRecursion IsIdentifierText l) r.2 h.parts in
+    let on = list-on list rest
+    (record { first = r.0; others = r.1; whole = r.2; characters = all.0.1; identifiers = all.1 }) stops in
     record {
       starts = begins-first list r.0 r.1 r.2 all.0.0;
       values = rw on.0 (sym h.values);
@@ -190,7 +218,8 @@ list-again list rest identifiers h stops =
     }
 
 -- the first character of a text that has one is that of the text with more after it
-first-stays : (some none : ℕ → Bool) (text rest : List ℕ) → BeginsWith some text → BeginsWithNo none text → BeginsWithNo none (text ++ rest)
+first-stays : (some none : ℕ → Bool) (text rest : List ℕ) → BeginsWith some text → BeginsWithNo none text
+    → BeginsWithNo none (text ++ rest)
 first-stays some none [] rest h g = absurd h
 first-stays some none (b ∷ text) rest h g = g
 
@@ -224,7 +253,8 @@ ends-plus (b ∷ rest) h = or-right (is_of_list b) (b == plus) h
 
 stops-list : (rest : List ℕ) → BeginsWithNo is_of_list rest → goes_on rest ≡ false
 stops-list [] h = refl
-stops-list (b ∷ rest) h = rw (or-left (is_identifier_character b) (b == dot) h, or-right (is_identifier_character b) (b == dot) h) refl
+stops-list (b ∷ rest) h =
+    rw (or-left (is_identifier_character b) (b == dot) h, or-right (is_identifier_character b) (b == dot) h) refl
 
 no-character : (rest : List ℕ) → BeginsWithNo is_of_list rest → begins is_identifier_character rest ≡ false
 no-character [] h = refl
@@ -238,7 +268,8 @@ no-hyphen b h = elim (cases_Bool (b == hyphen)) [
 ]
 
 -- the identifiers of a text that begins with one are some
-some-values : (text : List ℕ) → (first : IdentifierValue) × (others : List IdentifierValue) × (list_values text ≡ first ∷ others)
+some-values : (text : List ℕ)
+    → (first : IdentifierValue) × (others : List IdentifierValue) × (list_values text ≡ first ∷ others)
 some-values text =
     let r = parts-shape (list_prefix text) in
     (identifier_of r.0, map identifier_of r.1, ap (λ (l : List (List ℕ)). map identifier_of l) r.2)
@@ -252,14 +283,17 @@ pick-false true x y h = cc h
 pick-false false x y h = refl
 
 -- what is read in each case
-pub read_list_or-some : (otherwise text : List ℕ) → begins is_identifier_character text ≡ true → read_list_or otherwise text ≡ (list_values text, list_rest text)
+pub read_list_or-some : (otherwise text : List ℕ) → begins is_identifier_character text ≡ true
+    → read_list_or otherwise text ≡ (list_values text, list_rest text)
 read_list_or-some otherwise text h = pick-true _ _ _ h
 
-pub read_list_or-none : (otherwise text : List ℕ) → begins is_identifier_character text ≡ false → read_list_or otherwise text ≡ ([], otherwise)
+pub read_list_or-none : (otherwise text : List ℕ) → begins is_identifier_character text ≡ false
+    → read_list_or otherwise text ≡ ([], otherwise)
 read_list_or-none otherwise text h = pick-false _ _ _ h
 
 -- where no identifiers are read, none stand there
-pub read_list_or-plain : (otherwise text : List ℕ) → (read_list_or otherwise text).0 ≡ [] → begins is_identifier_character text ≡ false
+pub read_list_or-plain : (otherwise text : List ℕ) → (read_list_or otherwise text).0 ≡ []
+    → begins is_identifier_character text ≡ false
 read_list_or-plain otherwise text h = elim (cases_Bool (begins is_identifier_character text)) [
   | inr none ↦ none
   | inl some ↦
@@ -277,25 +311,31 @@ no-prerelease : (text : List ℕ) → TakesPrerelease text [] text
 no-prerelease text = record { taken = []; whole = refl; read = refl }
 
 -- the longest list begins as the text does
-prefix_of-no-hyphen : (b : ℕ) (rest : List ℕ) → is_identifier_character b ≡ true → (b == hyphen) ≡ false → BeginsWithNo (λ c. c == hyphen) (list_prefix (b ∷ rest))
+prefix_of-no-hyphen : (b : ℕ) (rest : List ℕ) → is_identifier_character b ≡ true → (b == hyphen) ≡ false
+    → BeginsWithNo (λ c. c == hyphen) (list_prefix (b ∷ rest))
 unfolding list_prefix
 prefix_of-no-hyphen b rest some other = rw (goes_on-character b rest some) other
 
 -- a list of identifiers that is not empty makes a prerelease text, after a hyphen or without one
-listed-prerelease : (taken list : List ℕ) (identifiers : List IdentifierValue) → (first : IdentifierValue) × (others : List IdentifierValue) × (identifiers ≡ first ∷ others)
-    → (taken ≡ hyphen ∷ list) ⊎ ((taken ≡ list) × BeginsWithNo (λ b. b == hyphen) list) → IsIdentifierList list identifiers → IsPrereleaseText taken identifiers
+listed-prerelease : (taken list : List ℕ) (identifiers : List IdentifierValue)
+    → (first : IdentifierValue) × (others : List IdentifierValue) × (identifiers ≡ first ∷ others)
+    → (taken ≡ hyphen ∷ list) ⊎ ((taken ≡ list) × BeginsWithNo (λ b. b == hyphen) list)
+    → IsIdentifierList list identifiers → IsPrereleaseText taken identifiers
 listed-prerelease taken list [] some how read = cc some.2
 listed-prerelease taken list (i ∷ is) some how read = (list, how, read)
 
-pub read_prerelease-hyphen : (b : ℕ) (rest : List ℕ) → (b == hyphen) ≡ true → read_prerelease (b ∷ rest) ≡ read_list_or (b ∷ rest) rest
+pub read_prerelease-hyphen : (b : ℕ) (rest : List ℕ) → (b == hyphen) ≡ true
+    → read_prerelease (b ∷ rest) ≡ read_list_or (b ∷ rest) rest
 unfolding read_prerelease skip_one
 read_prerelease-hyphen b rest h = ap (read_list_or (b ∷ rest)) (pick-true (b == hyphen) rest (b ∷ rest) h)
 
-pub read_prerelease-other : (b : ℕ) (rest : List ℕ) → (b == hyphen) ≡ false → read_prerelease (b ∷ rest) ≡ read_list_or (b ∷ rest) (b ∷ rest)
+pub read_prerelease-other : (b : ℕ) (rest : List ℕ) → (b == hyphen) ≡ false
+    → read_prerelease (b ∷ rest) ≡ read_list_or (b ∷ rest) (b ∷ rest)
 unfolding read_prerelease skip_one
 read_prerelease-other b rest h = ap (read_list_or (b ∷ rest)) (pick-false (b == hyphen) rest (b ∷ rest) h)
 
-pub read_build-plus : (b : ℕ) (rest : List ℕ) → (b == plus) ≡ true → read_build (b ∷ rest) ≡ read_list_or (b ∷ rest) rest
+pub read_build-plus : (b : ℕ) (rest : List ℕ) → (b == plus) ≡ true
+    → read_build (b ∷ rest) ≡ read_list_or (b ∷ rest) rest
 unfolding read_build skip_plus
 read_build-plus b rest h = ap (read_list_or (b ∷ rest)) (pick-true (b == plus) rest [] h)
 
@@ -314,21 +354,26 @@ prerelease-takes (b ∷ rest) = elim (cases_Bool (b == hyphen)) [
   | inl here ↦
       let e = read_prerelease-hyphen b rest here in
       elim (cases_Bool (begins is_identifier_character rest)) [
-        | inr none ↦ subst (Takes (b ∷ rest)) (sym (e ∙ read_list_or-none (b ∷ rest) rest none)) (no-prerelease (b ∷ rest))
+        | inr none ↦ subst (Takes (b ∷ rest)) (sym (e ∙ read_list_or-none (b ∷ rest) rest none))
+            (no-prerelease (b ∷ rest))
         | inl some ↦ subst (Takes (b ∷ rest)) (sym (e ∙ read_list_or-some (b ∷ rest) rest some)) (record {
           taken = hyphen ∷ list_prefix rest;
-          whole = ap (λ (c : ℕ). c ∷ rest) (eqb-true b hyphen here) ∙ ap (λ (l : List ℕ). hyphen ∷ l) (sym (list-whole rest));
-          read = listed-prerelease (hyphen ∷ list_prefix rest) (list_prefix rest) (list_values rest) (some-values rest) (inl refl) (list-takes rest some);
+          whole = ap (λ (c : ℕ). c ∷ rest) (eqb-true b hyphen here)
+              ∙ ap (λ (l : List ℕ). hyphen ∷ l) (sym (list-whole rest));
+          read = listed-prerelease (hyphen ∷ list_prefix rest) (list_prefix rest) (list_values rest)
+              (some-values rest) (inl refl) (list-takes rest some);
         })
       ]
   | inr other ↦
       let e = read_prerelease-other b rest other in
       elim (cases_Bool (begins is_identifier_character (b ∷ rest))) [
-        | inr none ↦ subst (Takes (b ∷ rest)) (sym (e ∙ read_list_or-none (b ∷ rest) (b ∷ rest) none)) (no-prerelease (b ∷ rest))
+        | inr none ↦ subst (Takes (b ∷ rest)) (sym (e ∙ read_list_or-none (b ∷ rest) (b ∷ rest) none))
+            (no-prerelease (b ∷ rest))
         | inl some ↦ subst (Takes (b ∷ rest)) (sym (e ∙ read_list_or-some (b ∷ rest) (b ∷ rest) some)) (record {
           taken = list_prefix (b ∷ rest);
           whole = sym (list-whole (b ∷ rest));
-          read = listed-prerelease (list_prefix (b ∷ rest)) (list_prefix (b ∷ rest)) (list_values (b ∷ rest)) (some-values (b ∷ rest))
+          read = listed-prerelease (list_prefix (b ∷ rest)) (list_prefix (b ∷ rest)) (list_values (b ∷ rest))
+              (some-values (b ∷ rest))
               (inr (refl, prefix_of-no-hyphen b rest some other)) (list-takes (b ∷ rest) some);
         })
       ]
@@ -343,7 +388,8 @@ pub record TakesBuild (text : List ℕ) (read : List IdentifierValue × List ℕ
 no-build : (text : List ℕ) → TakesBuild text ([], text)
 no-build text = record { taken = []; whole = refl; build = refl }
 
-listed-build : (list : List ℕ) (identifiers : List IdentifierValue) → (first : IdentifierValue) × (others : List IdentifierValue) × (identifiers ≡ first ∷ others)
+listed-build : (list : List ℕ) (identifiers : List IdentifierValue)
+    → (first : IdentifierValue) × (others : List IdentifierValue) × (identifiers ≡ first ∷ others)
     → IsIdentifierList list identifiers → IsBuildText (plus ∷ list) identifiers
 listed-build list [] some read = cc some.2
 listed-build list (i ∷ is) some read = (list, refl, read)
@@ -356,10 +402,12 @@ build-takes (b ∷ rest) = elim (cases_Bool (b == plus)) [
   | inl here ↦
       let e = read_build-plus b rest here in
       elim (cases_Bool (begins is_identifier_character rest)) [
-        | inr none ↦ subst (TakesBuild (b ∷ rest)) (sym (e ∙ read_list_or-none (b ∷ rest) rest none)) (no-build (b ∷ rest))
+        | inr none ↦ subst (TakesBuild (b ∷ rest)) (sym (e ∙ read_list_or-none (b ∷ rest) rest none))
+            (no-build (b ∷ rest))
         | inl some ↦ subst (TakesBuild (b ∷ rest)) (sym (e ∙ read_list_or-some (b ∷ rest) rest some)) (record {
           taken = plus ∷ list_prefix rest;
-          whole = ap (λ (c : ℕ). c ∷ rest) (eqb-true b plus here) ∙ ap (λ (l : List ℕ). plus ∷ l) (sym (list-whole rest));
+          whole = ap (λ (c : ℕ). c ∷ rest) (eqb-true b plus here)
+              ∙ ap (λ (l : List ℕ). plus ∷ l) (sym (list-whole rest));
           build = listed-build (list_prefix rest) (list_values rest) (some-values rest) (list-takes rest some);
         })
       ]
@@ -378,46 +426,60 @@ extras-takes text =
     let b = build-takes (read_prerelease text).1 in
     record {
       taken = p.taken ++ b.taken;
-      whole = p.whole ∙ ap (λ (l : List ℕ). p.taken ++ l) b.whole ∙ sym (append_assoc p.taken b.taken (read_build (read_prerelease text).1).1);
+      whole = p.whole ∙ ap (λ (l : List ℕ). p.taken ++ l) b.whole
+          ∙ sym (append_assoc p.taken b.taken (read_build (read_prerelease text).1).1);
       extras = record { prefix = p.taken; rest = b.taken; whole = refl; first = p.read; second = b.build };
     }
 
 -- a build text is read
-build-again : (text rest : List ℕ) (identifiers : List IdentifierValue) → IsBuildText text identifiers → EndsExtras rest → read_build (text ++ rest) ≡ (identifiers, rest)
+build-again : (text rest : List ℕ) (identifiers : List IdentifierValue) → IsBuildText text identifiers
+    → EndsExtras rest → read_build (text ++ rest) ≡ (identifiers, rest)
 unfolding read_build skip_plus
 build-again text [] [] h ends = rw h refl
 build-again text (c ∷ rest) [] h ends = rw h (read_build-other c rest (ends-plus (c ∷ rest) ends))
 build-again text rest (i ∷ is) h ends =
     let r = list-again h.0 rest (i ∷ is) h.2 (stops-list rest (ends-list rest ends)) in
-    rw h.1 (read_list_or-some (plus ∷ (h.0 ++ rest)) (h.0 ++ rest) (with-begins _ (h.0 ++ rest) (begins-append _ h.0 rest r.starts))
-    ∙ ap (λ (l : List IdentifierValue). (l, list_rest (h.0 ++ rest))) r.values ∙ ap (λ (l : List ℕ). (i ∷ is, l)) r.behind)
+    rw h.1 (read_list_or-some (plus ∷ (h.0 ++ rest)) (h.0 ++ rest)
+    (with-begins _ (h.0 ++ rest) (begins-append _ h.0 rest r.starts))
+    ∙ ap (λ (l : List IdentifierValue). (l, list_rest (h.0 ++ rest))) r.values
+    ∙ ap (λ (l : List ℕ). (i ∷ is, l)) r.behind)
 
 -- what follows a prerelease begins with nothing of a list
-build-ends : (text rest : List ℕ) (identifiers : List IdentifierValue) → IsBuildText text identifiers → EndsExtras rest → BeginsWithNo is_of_list (text ++ rest)
+build-ends : (text rest : List ℕ) (identifiers : List IdentifierValue) → IsBuildText text identifiers
+    → EndsExtras rest → BeginsWithNo is_of_list (text ++ rest)
 build-ends text rest [] h ends = rw h (ends-list rest ends)
 build-ends text rest (i ∷ is) h ends = rw h.1 refl
 
 -- a list that begins with no hyphen is read from its first character on
-prerelease-alone : (text : List ℕ) → BeginsWithNo (λ b. b == hyphen) text → begins is_identifier_character text ≡ true → read_prerelease text ≡ (list_values text, list_rest text)
+prerelease-alone : (text : List ℕ) → BeginsWithNo (λ b. b == hyphen) text → begins is_identifier_character text ≡ true
+    → read_prerelease text ≡ (list_values text, list_rest text)
 prerelease-alone [] h some = cc some
 prerelease-alone (b ∷ rest) h some = read_prerelease-other b rest h ∙ read_list_or-some (b ∷ rest) (b ∷ rest) some
 
 -- as a list after a hyphen is read
-prerelease-behind : (list rest : List ℕ) → begins is_identifier_character (list ++ rest) ≡ true → read_prerelease (hyphen ∷ (list ++ rest)) ≡ (list_values (list ++ rest), list_rest (list ++ rest))
-prerelease-behind list rest starts = read_prerelease-hyphen hyphen (list ++ rest) refl ∙ read_list_or-some (hyphen ∷ (list ++ rest)) (list ++ rest) starts
+prerelease-behind : (list rest : List ℕ) → begins is_identifier_character (list ++ rest) ≡ true
+    → read_prerelease (hyphen ∷ (list ++ rest)) ≡ (list_values (list ++ rest), list_rest (list ++ rest))
+prerelease-behind list rest starts = read_prerelease-hyphen hyphen (list ++ rest) refl
+    ∙ read_list_or-some (hyphen ∷ (list ++ rest)) (list ++ rest) starts
 
 -- a list after a hyphen or without one is read
-pub prerelease-listed : (text list rest : List ℕ) → (text ≡ hyphen ∷ list) ⊎ ((text ≡ list) × BeginsWithNo (λ b. b == hyphen) list) → BeginsWith is_identifier_character list
+pub prerelease-listed : (text list rest : List ℕ)
+    → (text ≡ hyphen ∷ list) ⊎ ((text ≡ list) × BeginsWithNo (λ b. b == hyphen) list)
+    → BeginsWith is_identifier_character list
     → read_prerelease (text ++ rest) ≡ (list_values (list ++ rest), list_rest (list ++ rest))
 prerelease-listed text list rest how begin =
-    let starts : begins is_identifier_character (list ++ rest) ≡ true = with-begins is_identifier_character (list ++ rest) (begins-append is_identifier_character list rest begin) in
+    let starts : begins is_identifier_character (list ++ rest) ≡ true =
+    with-begins is_identifier_character (list ++ rest) (begins-append is_identifier_character list rest begin) in
     elim how [
       | inl behind ↦ rw behind (prerelease-behind list rest starts)
-      | inr alone ↦ rw alone.0 (prerelease-alone (list ++ rest) (first-stays is_identifier_character (λ b. b == hyphen) list rest begin alone.1) starts)
+      | inr alone ↦ rw alone.0
+          (prerelease-alone (list ++ rest)
+          (first-stays is_identifier_character (λ b. b == hyphen) list rest begin alone.1) starts)
     ]
 
 -- a prerelease text is read
-pub prerelease-again : (text rest : List ℕ) (identifiers : List IdentifierValue) → IsPrereleaseText text identifiers → BeginsWithNo is_of_list rest → read_prerelease (text ++ rest) ≡ (identifiers, rest)
+pub prerelease-again : (text rest : List ℕ) (identifiers : List IdentifierValue) → IsPrereleaseText text identifiers
+    → BeginsWithNo is_of_list rest → read_prerelease (text ++ rest) ≡ (identifiers, rest)
 unfolding read_prerelease skip_one
 prerelease-again text [] [] h ends = rw h refl
 prerelease-again text (c ∷ rest) [] h ends =
@@ -425,14 +487,18 @@ prerelease-again text (c ∷ rest) [] h ends =
     rw h (read_prerelease-other c rest (no-hyphen c none) ∙ read_list_or-none (c ∷ rest) (c ∷ rest) none)
 prerelease-again text rest (i ∷ is) h ends =
     let r = list-again h.0 rest (i ∷ is) h.2 (stops-list rest ends) in
-    prerelease-listed text h.0 rest h.1 r.starts ∙ ap (λ (l : List IdentifierValue). (l, list_rest (h.0 ++ rest))) r.values ∙ ap (λ (l : List ℕ). (i ∷ is, l)) r.behind
+    prerelease-listed text h.0 rest h.1 r.starts
+    ∙ ap (λ (l : List IdentifierValue). (l, list_rest (h.0 ++ rest))) r.values
+    ∙ ap (λ (l : List ℕ). (i ∷ is, l)) r.behind
 
 -- extras are read, where nothing of extras stands after them
-pub extras-again : (text rest : List ℕ) (prerelease build : List IdentifierValue) → IsExtrasText text prerelease build → EndsExtras rest → read_extras (text ++ rest) ≡ ((prerelease, build), rest)
+pub extras-again : (text rest : List ℕ) (prerelease build : List IdentifierValue) → IsExtrasText text prerelease build
+    → EndsExtras rest → read_extras (text ++ rest) ≡ ((prerelease, build), rest)
 unfolding read_extras
 extras-again text rest prerelease build h ends =
     let p : read_prerelease (h.prefix ++ (h.rest ++ rest)) ≡ (prerelease, h.rest ++ rest) =
     prerelease-again h.prefix (h.rest ++ rest) prerelease h.first (build-ends h.rest rest build h.second ends) in
     let b = build-again h.rest rest build h.second ends in
-    let e : text ++ rest ≡ h.prefix ++ (h.rest ++ rest) = ap (λ (l : List ℕ). l ++ rest) h.whole ∙ append_assoc h.prefix h.rest rest in
+    let e : text ++ rest ≡ h.prefix ++ (h.rest ++ rest) = ap (λ (l : List ℕ). l ++ rest) h.whole
+    ∙ append_assoc h.prefix h.rest rest in
     rw (e, p, b) refl

@@ -150,8 +150,11 @@ tilde-takes text = by_first (rest_of is_blank text) refl
           ap (λ (l : List ℕ). tilde ∷ l) (sym (prefix_of-rest_of is_blank text)
           ∙ ap (λ (l : List ℕ). blanks ++ l) (e ∙ ap (λ (c : ℕ). c ∷ rest) (eqb-true b greater_sign here))
           ∙ sym (append_assoc blanks (greater_sign ∷ []) rest)) in
-          rw here (blanks, prefix_of-all is_blank text,
-            subst (λ (l : List ℕ). IsFollowed lead l (rest_of is_blank rest)) (sym whole) (unblanked lead rest))
+          rw here (
+            blanks,
+            prefix_of-all is_blank text,
+            subst (λ (l : List ℕ). IsFollowed lead l (rest_of is_blank rest)) (sym whole) (unblanked lead rest),
+          )
     ]
 
 -- what is read stands before the rest

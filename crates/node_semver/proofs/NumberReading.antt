@@ -10,7 +10,8 @@ use Rattle.node_semver.specs.declared.parse.fault.Fault.{Fault}
 use Rattle.node_semver.proofs.Prefixes.{rest_of-again, rest_of-no, begins-append, begins-with, prefix_of-rest_of, prefix_of-again, prefix_of-all, prefix_of-begins, with-begins}
 
 -- a chain that gave an answer
-pub bind-ok : {A B : Type 0} (r : Result A Fault) (f : A → Result B Fault) (y : B) → (r >>= f) ≡ Ok y → (x : A) × (r ≡ Ok x) × (f x ≡ Ok y)
+pub bind-ok : {A B : Type 0} (r : Result A Fault) (f : A → Result B Fault) (y : B) → (r >>= f) ≡ Ok y
+    → (x : A) × (r ≡ Ok x) × (f x ≡ Ok y)
 bind-ok (Ok x) f y h = (x, refl, h)
 bind-ok (Err e) f y h = cc h
 
@@ -32,14 +33,16 @@ pub record TakesNumber (text : List ℕ) (number : ℕ) (rest : List ℕ) : Type
   pub read : IsNumberText digits number
   pub ends : BeginsWithNo is_digit rest
 
-pub number-takes : (text : List ℕ) (number : ℕ) (rest : List ℕ) → read_number text ≡ Ok (number, rest) → TakesNumber text number rest
+pub number-takes : (text : List ℕ) (number : ℕ) (rest : List ℕ) → read_number text ≡ Ok (number, rest)
+    → TakesNumber text number rest
 unfolding read_number
 number-takes text number rest h = elim (cases_Bool (begins is_digit text)) [
   | inr none ↦ cc (rw none at h)
   | inl some ↦ elim (cases_Bool (nat_le (number_of (prefix_of is_digit text)) MAX_SAFE_INTEGER)) [
     | inr large ↦ cc (rw (some, large) at h)
     | inl fits ↦
-        let read : answer (number_of (prefix_of is_digit text), rest_of is_digit text) ≡ answer (number, rest) = rw (some, fits) at h in
+        let read : answer (number_of (prefix_of is_digit text), rest_of is_digit text) ≡ answer (number, rest) =
+        rw (some, fits) at h in
         let pair = ok-value _ _ read in
         let value : number_of (prefix_of is_digit text) ≡ number = ap (λ (p : ℕ × List ℕ). p.0) pair in
         let behind : rest_of is_digit text ≡ rest = ap (λ (p : ℕ × List ℕ). p.1) pair in
@@ -59,13 +62,16 @@ number-takes text number rest h = elim (cases_Bool (begins is_digit text)) [
 ]
 
 -- a number text is read, where no digit stands after it
-pub number-again : (digits rest : List ℕ) (number : ℕ) → IsNumberText digits number → BeginsWithNo is_digit rest → read_number (digits ++ rest) ≡ Ok (number, rest)
+pub number-again : (digits rest : List ℕ) (number : ℕ) → IsNumberText digits number → BeginsWithNo is_digit rest
+    → read_number (digits ++ rest) ≡ Ok (number, rest)
 unfolding read_number
 number-again digits rest number read ends =
-    let some : begins is_digit (digits ++ rest) ≡ true = with-begins is_digit (digits ++ rest) (begins-append is_digit digits rest read.some) in
+    let some : begins is_digit (digits ++ rest) ≡ true =
+    with-begins is_digit (digits ++ rest) (begins-append is_digit digits rest read.some) in
     let here : prefix_of is_digit (digits ++ rest) ≡ digits = prefix_of-again is_digit digits rest read.digits ends in
     let there : rest_of is_digit (digits ++ rest) ≡ rest = rest_of-again is_digit digits rest read.digits ends in
-    let fits : nat_le (number_of digits) MAX_SAFE_INTEGER ≡ true = le-leb _ _ (subst (λ (n : ℕ). n ≤ MAX_SAFE_INTEGER) read.value read.limit) in
+    let fits : nat_le (number_of digits) MAX_SAFE_INTEGER ≡ true =
+    le-leb _ _ (subst (λ (n : ℕ). n ≤ MAX_SAFE_INTEGER) read.value read.limit) in
     rw (some, here, there, fits, read.value) refl
 
 -- what stands before a dot

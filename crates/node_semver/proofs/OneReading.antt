@@ -10,17 +10,21 @@ use Rattle.node_semver.proofs.VersionReading.{version-again, version-takes}
 
 -- a version text is read, and nothing is left
 pub version-read : (text : List ℕ) (v : VersionValue) → IsVersionText text v → read_version text ≡ Ok (v, [])
-version-read text v h = ap (λ (l : List ℕ). read_version l) (sym (append-nil text)) ∙ version-again text [] v h.fields tt
+version-read text v h = ap (λ (l : List ℕ). read_version l) (sym (append-nil text))
+    ∙ version-again text [] v h.fields tt
 
 -- what is read with nothing left is a version text
-pub read-version : (text : List ℕ) (v : VersionValue) → length text ≤ MAX_LENGTH → read_version text ≡ Ok (v, []) → IsVersionText text v
+pub read-version : (text : List ℕ) (v : VersionValue) → length text ≤ MAX_LENGTH → read_version text ≡ Ok (v, [])
+    → IsVersionText text v
 read-version text v short h =
     let t = version-takes text v [] h in
     record {
       short = short;
-      fields = subst (λ (l : List ℕ). IsMarked is_version_mark (IsUnmarkedVersion v) l) (sym (t.whole ∙ append-nil t.taken)) t.read;
+      fields = subst (λ (l : List ℕ). IsMarked is_version_mark (IsUnmarkedVersion v) l)
+          (sym (t.whole ∙ append-nil t.taken)) t.read;
     }
 
 pub one_reading : (text : List ℕ) (v w : VersionValue) → IsVersionText text v → IsVersionText text w → v ≡ w
 one_reading text v w h g =
-    ap (λ (p : VersionValue × List ℕ). p.0) (ok-value (v, []) (w, []) (sym (version-read text v h) ∙ version-read text w g))
+    ap (λ (p : VersionValue × List ℕ). p.0)
+    (ok-value (v, []) (w, []) (sym (version-read text v h) ∙ version-read text w g))

@@ -18,20 +18,24 @@ word text = alphanumeric text
 alpha-below : version_cmp (one (word (codes "alpha") ∷ [])) (one (word (codes "alpha") ∷ numeric 1 ∷ [])) ≡ Less
 alpha-below = refl
 
-alpha_1-below : version_cmp (one (word (codes "alpha") ∷ numeric 1 ∷ [])) (one (word (codes "alpha") ∷ word (codes "beta") ∷ [])) ≡ Less
+alpha_1-below : version_cmp (one (word (codes "alpha") ∷ numeric 1 ∷ []))
+    (one (word (codes "alpha") ∷ word (codes "beta") ∷ [])) ≡ Less
 alpha_1-below = refl
 
-alpha_beta-below : version_cmp (one (word (codes "alpha") ∷ word (codes "beta") ∷ [])) (one (word (codes "beta") ∷ [])) ≡ Less
+alpha_beta-below : version_cmp (one (word (codes "alpha") ∷ word (codes "beta") ∷ []))
+    (one (word (codes "beta") ∷ [])) ≡ Less
 alpha_beta-below = refl
 
 beta-below : version_cmp (one (word (codes "beta") ∷ [])) (one (word (codes "beta") ∷ numeric 2 ∷ [])) ≡ Less
 beta-below = refl
 
 -- by number, and not by digits
-beta_2-below : version_cmp (one (word (codes "beta") ∷ numeric 2 ∷ [])) (one (word (codes "beta") ∷ numeric 11 ∷ [])) ≡ Less
+beta_2-below : version_cmp (one (word (codes "beta") ∷ numeric 2 ∷ [])) (one (word (codes "beta") ∷ numeric 11 ∷ []))
+    ≡ Less
 beta_2-below = refl
 
-beta_11-below : version_cmp (one (word (codes "beta") ∷ numeric 11 ∷ [])) (one (word (codes "rc") ∷ numeric 1 ∷ [])) ≡ Less
+beta_11-below : version_cmp (one (word (codes "beta") ∷ numeric 11 ∷ [])) (one (word (codes "rc") ∷ numeric 1 ∷ []))
+    ≡ Less
 beta_11-below = refl
 
 rc_1-below : version_cmp (one (word (codes "rc") ∷ numeric 1 ∷ [])) (release 1 0 0) ≡ Less
@@ -52,7 +56,8 @@ patch-below : version_cmp (release 2 1 0) (release 2 1 1) ≡ Less
 patch-below = refl
 
 -- the greatest number is below each text, also one of more digits
-number-below : version_cmp (one (numeric 18446744073709551615 ∷ [])) (one (word (codes "99999999999999999999") ∷ [])) ≡ Less
+number-below : version_cmp (one (numeric 18446744073709551615 ∷ [])) (one (word (codes "99999999999999999999") ∷ []))
+    ≡ Less
 number-below = refl
 
 -- a capital letter is below each small one, by its byte

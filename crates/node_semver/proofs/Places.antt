@@ -17,20 +17,24 @@ pub to-end : (s : List ℕ) (i : ℕ) → take (length s - i) (drop i s) ≡ dro
 to-end s i = take_rest s i
 
 -- a character that passes is gone over
-pub rest_of-step : (test : ℕ → Bool) (s : List ℕ) (i : ℕ) → i < length s → test (get_or s i 0) ≡ true → rest_of test (drop i s) ≡ rest_of test (drop (i + 1) s)
+pub rest_of-step : (test : ℕ → Bool) (s : List ℕ) (i : ℕ) → i < length s → test (get_or s i 0) ≡ true
+    → rest_of test (drop i s) ≡ rest_of test (drop (i + 1) s)
 unfolding rest_of
 rest_of-step test s i h passes = ap (rest_of test) (at-place s i h) ∙ rw passes refl
 
-pub prefix_of-step : (test : ℕ → Bool) (s : List ℕ) (i : ℕ) → i < length s → test (get_or s i 0) ≡ true → prefix_of test (drop i s) ≡ get_or s i 0 ∷ prefix_of test (drop (i + 1) s)
+pub prefix_of-step : (test : ℕ → Bool) (s : List ℕ) (i : ℕ) → i < length s → test (get_or s i 0) ≡ true
+    → prefix_of test (drop i s) ≡ get_or s i 0 ∷ prefix_of test (drop (i + 1) s)
 unfolding prefix_of
 prefix_of-step test s i h passes = ap (prefix_of test) (at-place s i h) ∙ rw passes refl
 
 -- one that doesn't ends it
-pub rest_of-stop : (test : ℕ → Bool) (s : List ℕ) (i : ℕ) → i < length s → test (get_or s i 0) ≡ false → rest_of test (drop i s) ≡ drop i s
+pub rest_of-stop : (test : ℕ → Bool) (s : List ℕ) (i : ℕ) → i < length s → test (get_or s i 0) ≡ false
+    → rest_of test (drop i s) ≡ drop i s
 unfolding rest_of
 rest_of-stop test s i h stops = ap (rest_of test) (at-place s i h) ∙ rw stops (sym (at-place s i h))
 
-pub prefix_of-stop : (test : ℕ → Bool) (s : List ℕ) (i : ℕ) → i < length s → test (get_or s i 0) ≡ false → prefix_of test (drop i s) ≡ []
+pub prefix_of-stop : (test : ℕ → Bool) (s : List ℕ) (i : ℕ) → i < length s → test (get_or s i 0) ≡ false
+    → prefix_of test (drop i s) ≡ []
 unfolding prefix_of
 prefix_of-stop test s i h stops = ap (prefix_of test) (at-place s i h) ∙ rw stops refl
 
@@ -48,9 +52,11 @@ pub record Over (test : ℕ → Bool) (s : List ℕ) (i : ℕ) : Type 0 where
   pub prefix : prefix_of test s ≡ take i s ++ prefix_of test (drop i s)
   pub rest : rest_of test s ≡ rest_of test (drop i s)
 
-pub over-step : (test : ℕ → Bool) (s : List ℕ) (i : ℕ) → i < length s → test (get_or s i 0) ≡ true → Over test s i → Over test s (i + 1)
+pub over-step : (test : ℕ → Bool) (s : List ℕ) (i : ℕ) → i < length s → test (get_or s i 0) ≡ true → Over test s i
+    → Over test s (i + 1)
 over-step test s i h passes over = record {
-  prefix = over.prefix ∙ ap (λ (l : List ℕ). take i s ++ l) (prefix_of-step test s i h passes) ∙ sym (append_assoc (take i s) (get_or s i 0 ∷ []) (prefix_of test (drop (i + 1) s)))
+  prefix = over.prefix ∙ ap (λ (l : List ℕ). take i s ++ l) (prefix_of-step test s i h passes)
+      ∙ sym (append_assoc (take i s) (get_or s i 0 ∷ []) (prefix_of test (drop (i + 1) s)))
       ∙ ap (λ (l : List ℕ). l ++ prefix_of test (drop (i + 1) s)) (sym (take-more s i h));
   rest = over.rest ∙ rest_of-step test s i h passes;
 }
@@ -60,7 +66,8 @@ pub record Through (test : ℕ → Bool) (s : List ℕ) (i : ℕ) : Type 0 where
   pub prefix : prefix_of test s ≡ take i s
   pub rest : rest_of test s ≡ drop i s
 
-pub over-stop : (test : ℕ → Bool) (s : List ℕ) (i : ℕ) → i < length s → test (get_or s i 0) ≡ false → Over test s i → Through test s i
+pub over-stop : (test : ℕ → Bool) (s : List ℕ) (i : ℕ) → i < length s → test (get_or s i 0) ≡ false → Over test s i
+    → Through test s i
 over-stop test s i h stops over = record {
   prefix = over.prefix ∙ ap (λ (l : List ℕ). take i s ++ l) (prefix_of-stop test s i h stops) ∙ append-nil (take i s);
   rest = over.rest ∙ rest_of-stop test s i h stops;

@@ -32,7 +32,8 @@ rest_of-no test (b ∷ rest) = elim (cases_Bool (test b)) [
 ]
 
 -- what passes, before what does not, is that prefix
-pub prefix_of-again : (test : ℕ → Bool) (text rest : List ℕ) → AreAll test text → BeginsWithNo test rest → prefix_of test (text ++ rest) ≡ text
+pub prefix_of-again : (test : ℕ → Bool) (text rest : List ℕ) → AreAll test text → BeginsWithNo test rest
+    → prefix_of test (text ++ rest) ≡ text
 unfolding prefix_of
 prefix_of-again test [] [] all ends = refl
 prefix_of-again test [] (c ∷ rest) all ends = rw ends refl
@@ -41,7 +42,8 @@ prefix_of-again test (b ∷ text) rest all ends =
     rw parts.0 (ap (λ (l : List ℕ). b ∷ l) (prefix_of-again test text rest parts.1 ends))
 
 -- and the rest stands after it
-pub rest_of-again : (test : ℕ → Bool) (text rest : List ℕ) → AreAll test text → BeginsWithNo test rest → rest_of test (text ++ rest) ≡ rest
+pub rest_of-again : (test : ℕ → Bool) (text rest : List ℕ) → AreAll test text → BeginsWithNo test rest
+    → rest_of test (text ++ rest) ≡ rest
 unfolding rest_of
 rest_of-again test [] [] all ends = refl
 rest_of-again test [] (c ∷ rest) all ends = rw ends refl
@@ -50,7 +52,8 @@ rest_of-again test (b ∷ text) rest all ends =
     rw parts.0 (rest_of-again test text rest parts.1 ends)
 
 -- what passes at the start is skipped, whatever stands after it
-pub rest_of-all : (test : ℕ → Bool) (text more : List ℕ) → AreAll test text → rest_of test (text ++ more) ≡ rest_of test more
+pub rest_of-all : (test : ℕ → Bool) (text more : List ℕ) → AreAll test text
+    → rest_of test (text ++ more) ≡ rest_of test more
 unfolding rest_of
 rest_of-all test [] more all = refl
 rest_of-all test (b ∷ text) more all =
@@ -92,12 +95,14 @@ begins-append test [] rest h = absurd h
 begins-append test (b ∷ text) rest h = h
 
 -- the empty text takes the first character of the rest
-pub no-append : (test : ℕ → Bool) (text rest : List ℕ) → BeginsWithNo test text → BeginsWithNo test rest → BeginsWithNo test (text ++ rest)
+pub no-append : (test : ℕ → Bool) (text rest : List ℕ) → BeginsWithNo test text → BeginsWithNo test rest
+    → BeginsWithNo test (text ++ rest)
 no-append test [] rest h g = g
 no-append test (b ∷ text) rest h g = h
 
 -- the longest prefix is empty exactly where no character that passes stands first
-pub prefix_of-empty : (test : ℕ → Bool) (text : List ℕ) → (length (prefix_of test text) == 0) ≡ true → begins test text ≡ false
+pub prefix_of-empty : (test : ℕ → Bool) (text : List ℕ) → (length (prefix_of test text) == 0) ≡ true
+    → begins test text ≡ false
 unfolding prefix_of
 prefix_of-empty test [] h = refl
 prefix_of-empty test (b ∷ rest) h = elim (cases_Bool (test b)) [
@@ -107,7 +112,8 @@ prefix_of-empty test (b ∷ rest) h = elim (cases_Bool (test b)) [
   | inr stops ↦ stops
 ]
 
-pub prefix_of-some : (test : ℕ → Bool) (text : List ℕ) → (length (prefix_of test text) == 0) ≡ false → begins test text ≡ true
+pub prefix_of-some : (test : ℕ → Bool) (text : List ℕ) → (length (prefix_of test text) == 0) ≡ false
+    → begins test text ≡ true
 unfolding prefix_of
 prefix_of-some test [] h = cc h
 prefix_of-some test (b ∷ rest) h = elim (cases_Bool (test b)) [

@@ -17,6 +17,7 @@ unfolding digits
 release-text = refl
 
 -- identifiers that no text gives print as they stand
-odd-text : version_text (record (release 1 0 0) { pre_release = alphanumeric [] ∷ alphanumeric (codes "1") ∷ [] }) ≡ codes "1.0.0-.1"
+odd-text : version_text (record (release 1 0 0) { pre_release = alphanumeric [] ∷ alphanumeric (codes "1") ∷ [] })
+    ≡ codes "1.0.0-.1"
 unfolding digits
 odd-text = refl

@@ -4,7 +4,8 @@ use Rattle.std.specs.List.{Any}
 use Rattle.std.specs.Prelude.{slice_index_or}
 use Rattle.node_semver.specs.Meaning.{AnyByRecursion}
 
-any-at : {X : Type 0} (P : X → Type 0) (xs : List X) (k : ℕ) (x : X) → k < length xs → slice_index_or xs k x ≡ x → P x → AnyByRecursion P xs
+any-at : {X : Type 0} (P : X → Type 0) (xs : List X) (k : ℕ) (x : X) → k < length xs → slice_index_or xs k x ≡ x → P x
+    → AnyByRecursion P xs
 any-at P [] k x lt e p = absurd (omega arith)
 any-at P (y ∷ xs) zero x lt e p = inl (subst P (sym e) p)
 any-at P (y ∷ xs) (suc k) x lt e p = inr (any-at P xs k x (omega arith) e p)

@@ -25,12 +25,15 @@ pub record TakesNumbers (text : List ℕ) (numbers : ℕ × ℕ × ℕ) (rest : 
   pub ends : BeginsWithNo is_digit rest
 
 -- the pieces of a triple, put together
-glue : (text a1 b1 a2 b2 rest major minor patch : List ℕ) → text ≡ major ++ a1 → a1 ≡ dot ∷ b1 → b1 ≡ minor ++ a2 → a2 ≡ dot ∷ b2 → b2 ≡ patch ++ rest
+glue : (text a1 b1 a2 b2 rest major minor patch : List ℕ) → text ≡ major ++ a1 → a1 ≡ dot ∷ b1 → b1 ≡ minor ++ a2
+    → a2 ≡ dot ∷ b2 → b2 ≡ patch ++ rest
     → text ≡ major ++ (dot ∷ (minor ++ (dot ∷ (patch ++ rest))))
 glue text a1 b1 a2 b2 rest major minor patch h1 h2 h3 h4 h5 =
-    h1 ∙ ap (λ (l : List ℕ). major ++ l) (h2 ∙ ap (λ (l : List ℕ). dot ∷ l) (h3 ∙ ap (λ (l : List ℕ). minor ++ l) (h4 ∙ ap (λ (l : List ℕ). dot ∷ l) h5)))
+    h1 ∙ ap (λ (l : List ℕ). major ++ l) (h2
+    ∙ ap (λ (l : List ℕ). dot ∷ l) (h3 ∙ ap (λ (l : List ℕ). minor ++ l) (h4 ∙ ap (λ (l : List ℕ). dot ∷ l) h5)))
 
-pub numbers-takes : (text : List ℕ) (numbers : ℕ × ℕ × ℕ) (rest : List ℕ) → read_triple text ≡ Ok (numbers, rest) → TakesNumbers text numbers rest
+pub numbers-takes : (text : List ℕ) (numbers : ℕ × ℕ × ℕ) (rest : List ℕ) → read_triple text ≡ Ok (numbers, rest)
+    → TakesNumbers text numbers rest
 unfolding read_triple
 numbers-takes text numbers rest h =
     let m1 = bind-ok (read_number text) _ (numbers, rest) h in
@@ -52,14 +55,16 @@ numbers-takes text numbers rest h =
       major = t1.digits;
       minor = t2.digits;
       patch = t3.digits;
-      whole = glue text m1.0.1 p1.0 m2.0.1 p2.0 rest t1.digits t2.digits t3.digits t1.whole q1 t2.whole q2 (t3.whole ∙ ap (λ (l : List ℕ). t3.digits ++ l) e3);
+      whole = glue text m1.0.1 p1.0 m2.0.1 p2.0 rest t1.digits t2.digits t3.digits t1.whole q1 t2.whole q2 (t3.whole
+          ∙ ap (λ (l : List ℕ). t3.digits ++ l) e3);
       first = subst (λ (n : ℕ). IsNumberText t1.digits n) e0 t1.read;
       second = subst (λ (n : ℕ). IsNumberText t2.digits n) e1 t2.read;
       third = subst (λ (n : ℕ). IsNumberText t3.digits n) e2 t3.read;
       ends = subst (λ (l : List ℕ). BeginsWithNo is_digit l) e3 t3.ends;
     }
 
-pub numbers-again : (major minor patch rest : List ℕ) (a b c : ℕ) → IsNumberText major a → IsNumberText minor b → IsNumberText patch c → BeginsWithNo is_digit rest
+pub numbers-again : (major minor patch rest : List ℕ) (a b c : ℕ) → IsNumberText major a → IsNumberText minor b
+    → IsNumberText patch c → BeginsWithNo is_digit rest
     → read_triple (major ++ (dot ∷ (minor ++ (dot ∷ (patch ++ rest))))) ≡ Ok ((a, b, c), rest)
 unfolding read_triple
 numbers-again major minor patch rest a b c x y z ends =
@@ -81,10 +86,12 @@ prefix_of-no test (b ∷ text) rest h = h
 
 -- the pieces of the extras, put after the third part
 pub regroup : (major minor patch extras rest : List ℕ)
-    → major ++ (dot ∷ (minor ++ (dot ∷ (patch ++ (extras ++ rest))))) ≡ (major ++ (dot ∷ (minor ++ (dot ∷ (patch ++ extras))))) ++ rest
+    → major ++ (dot ∷ (minor ++ (dot ∷ (patch ++ (extras ++ rest)))))
+    ≡ (major ++ (dot ∷ (minor ++ (dot ∷ (patch ++ extras))))) ++ rest
 regroup major minor patch extras rest = simp append_assoc
 
-unmarked-takes : (text : List ℕ) (v : VersionValue) (rest : List ℕ) → read_unmarked text ≡ Ok (v, rest) → TakesUnmarked text v rest
+unmarked-takes : (text : List ℕ) (v : VersionValue) (rest : List ℕ) → read_unmarked text ≡ Ok (v, rest)
+    → TakesUnmarked text v rest
 unfolding read_unmarked
 unmarked-takes text v rest h =
     let n = bind-ok (read_triple text) _ (v, rest) h in
@@ -96,19 +103,22 @@ unmarked-takes text v rest h =
     let split : n.0.1 ≡ x.taken ++ rest = x.whole ∙ ap (λ (l : List ℕ). x.taken ++ l) behind in
     record {
       taken = t.major ++ (dot ∷ (t.minor ++ (dot ∷ (t.patch ++ x.taken))));
-      whole = t.whole ∙ ap (λ (l : List ℕ). t.major ++ (dot ∷ (t.minor ++ (dot ∷ (t.patch ++ l))))) split ∙ regroup t.major t.minor t.patch x.taken rest;
-      read = subst (λ (w : VersionValue). IsUnmarkedVersion w (t.major ++ (dot ∷ (t.minor ++ (dot ∷ (t.patch ++ x.taken)))))) value (record {
-        first = t.major;
-        second = t.minor;
-        third = t.patch;
-        extras = x.taken;
-        whole = refl;
-        major_text = t.first;
-        minor_text = t.second;
-        patch_text = t.third;
-        digits_end = λ some. prefix_of-no is_digit x.taken rest (subst (λ (l : List ℕ). BeginsWithNo is_digit l) split t.ends);
-        extras_text = x.extras;
-      });
+      whole = t.whole ∙ ap (λ (l : List ℕ). t.major ++ (dot ∷ (t.minor ++ (dot ∷ (t.patch ++ l))))) split
+          ∙ regroup t.major t.minor t.patch x.taken rest;
+      read = subst (λ (w : VersionValue). IsUnmarkedVersion w
+          (t.major ++ (dot ∷ (t.minor ++ (dot ∷ (t.patch ++ x.taken)))))) value (record {
+            first = t.major;
+            second = t.minor;
+            third = t.patch;
+            extras = x.taken;
+            whole = refl;
+            major_text = t.first;
+            minor_text = t.second;
+            patch_text = t.third;
+            digits_end = λ some. prefix_of-no is_digit x.taken rest
+                (subst (λ (l : List ℕ). BeginsWithNo is_digit l) split t.ends);
+            extras_text = x.extras;
+          });
     }
 
 -- what holds of a space and of a tab holds of a blank
@@ -125,14 +135,17 @@ clean-no_digit (b ∷ rest) h = blank-cases (λ (c : ℕ). is_digit c ≡ false)
 
 pub clean-ends_extras : (rest : List ℕ) → IsCleanEnd rest → EndsExtras rest
 clean-ends_extras [] h = tt
-clean-ends_extras (b ∷ rest) h = blank-cases (λ (c : ℕ). (is_identifier_character c || (c == dot) || (c == plus)) ≡ false) b h refl refl
+clean-ends_extras (b ∷ rest) h =
+    blank-cases (λ (c : ℕ). (is_identifier_character c || (c == dot) || (c == plus)) ≡ false) b h refl refl
 
-unmarked-again : (text rest : List ℕ) (v : VersionValue) → IsUnmarkedVersion v text → IsCleanEnd rest → read_unmarked (text ++ rest) ≡ Ok (v, rest)
+unmarked-again : (text rest : List ℕ) (v : VersionValue) → IsUnmarkedVersion v text → IsCleanEnd rest
+    → read_unmarked (text ++ rest) ≡ Ok (v, rest)
 unfolding read_unmarked
 unmarked-again text rest v h clean =
     let e : text ++ rest ≡ h.first ++ (dot ∷ (h.second ++ (dot ∷ (h.third ++ (h.extras ++ rest))))) =
     ap (λ (l : List ℕ). l ++ rest) h.whole ∙ sym (regroup h.first h.second h.third h.extras rest) in
-    let n = numbers-again h.first h.second h.third (h.extras ++ rest) v.major v.minor v.patch h.major_text h.minor_text h.patch_text
+    let n = numbers-again h.first h.second h.third (h.extras ++ rest) v.major v.minor v.patch h.major_text
+    h.minor_text h.patch_text
     (no-append is_digit h.extras rest (h.digits_end h.patch_text.some) (clean-no_digit rest clean)) in
     let x = extras-again h.extras rest v.pre_release v.build h.extras_text (clean-ends_extras rest clean) in
     rw (e, n, x) refl
@@ -146,11 +159,13 @@ pub begins-some : (test : ℕ → Bool) (text : List ℕ) → BeginsWith test te
 begins-some test [] h = absurd h
 begins-some test (b ∷ rest) h = omega arith
 
-pub version-takes : (text : List ℕ) (v : VersionValue) (rest : List ℕ) → read_version text ≡ Ok (v, rest) → TakesMarked is_version_mark (IsUnmarkedVersion v) text rest
+pub version-takes : (text : List ℕ) (v : VersionValue) (rest : List ℕ) → read_version text ≡ Ok (v, rest)
+    → TakesMarked is_version_mark (IsUnmarkedVersion v) text rest
 unfolding read_version
 version-takes text v rest h =
     let t = unmarked-takes (rest_of is_blank (skip_one is_version_mark text)) v rest h in
-    marked-taken is_version_mark (IsUnmarkedVersion v) text t.taken rest t.whole (begins-some is_digit t.taken (unmarked-begins t.taken v t.read)) t.read
+    marked-taken is_version_mark (IsUnmarkedVersion v) text t.taken rest t.whole
+    (begins-some is_digit t.taken (unmarked-begins t.taken v t.read)) t.read
 
 -- a digit is no blank
 pub digit-no_blank : (text : List ℕ) → BeginsWith is_digit text → BeginsWithNo is_blank text
@@ -171,7 +186,8 @@ digit-no_mark b h = elim (cases_Bool (is_version_mark b)) [
 ]
 
 -- where a digit stands first, there is neither a mark nor a blank
-pub digit-first : (text : List ℕ) → 0 < length text → is_digit (get_or text 0 0) ≡ true → text ≡ rest_of is_blank (skip_one is_version_mark text)
+pub digit-first : (text : List ℕ) → 0 < length text → is_digit (get_or text 0 0) ≡ true
+    → text ≡ rest_of is_blank (skip_one is_version_mark text)
 unfolding rest_of skip_one
 digit-first [] some digit = absurd (omega arith)
 digit-first (b ∷ text) some digit = rw (digit-no_mark b digit, digit-no_blank (b ∷ text) digit) refl
@@ -181,9 +197,11 @@ pub version-follows : (text more : List ℕ) (v : VersionValue) (h : IsMarked is
     → rest_of is_blank (skip_one is_version_mark (text ++ more)) ≡ h.unmarked ++ more
 version-follows text more v h =
     let starts = unmarked-begins h.unmarked v h.read in
-    marked-follows is_version_mark (IsUnmarkedVersion v) text more h (begins-some is_digit h.unmarked starts) (digit-no_blank (h.unmarked ++ more) (begins-append is_digit h.unmarked more starts))
+    marked-follows is_version_mark (IsUnmarkedVersion v) text more h (begins-some is_digit h.unmarked starts)
+    (digit-no_blank (h.unmarked ++ more) (begins-append is_digit h.unmarked more starts))
 
-pub version-again : (text rest : List ℕ) (v : VersionValue) → IsMarked is_version_mark (IsUnmarkedVersion v) text → IsCleanEnd rest → read_version (text ++ rest) ≡ Ok (v, rest)
+pub version-again : (text rest : List ℕ) (v : VersionValue) → IsMarked is_version_mark (IsUnmarkedVersion v) text
+    → IsCleanEnd rest → read_version (text ++ rest) ≡ Ok (v, rest)
 unfolding read_version
 version-again text rest v h clean =
     ap read_unmarked (version-follows text rest v h) ∙ unmarked-again h.unmarked rest v h.read clean

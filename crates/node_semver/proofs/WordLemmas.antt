@@ -154,8 +154,8 @@ blank-cases b rest (Some r) (Some w) blank right read is =
     let there : read_partial others ≡ Some r = partial-unblanked (b ∷ rest) r read in
     let none : read_right others ≡ None = right-no_blank others (rest_of-no is_blank (b ∷ rest)) in
     inr (
-      word-of_partial (b ∷ rest) (Some r) (Some w) right (blank-lead b rest blank) read is
-          ∙ sym (word-of_partial others (Some r) (Some w) none (lead-none others r there) there is)
+    word-of_partial (b ∷ rest) (Some r) (Some w) right (blank-lead b rest blank) read is
+    ∙ sym (word-of_partial others (Some r) (Some w) none (lead-none others r there) there is)
     )
 
 pub word-after_blanks : (b : ℕ) (rest : List ℕ) → is_blank b ≡ true → read_right (b ∷ rest) ≡ None

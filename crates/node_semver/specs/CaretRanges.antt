@@ -14,13 +14,16 @@ caret_row (Some (suc major)) None None z = Some (with_major (suc major))
 -- `^0.2` is `>=0.2.0 <0.3.0-0`
 caret_row (Some zero) (Some minor) None z = Some (from_up_to (release 0 minor 0) (least_of 0 (minor + 1) 0))
 -- `^1.2` is `>=1.2.0 <2.0.0-0`
-caret_row (Some (suc major)) (Some minor) None z = Some (from_up_to (release (suc major) minor 0) (least_of (suc major + 1) 0 0))
+caret_row (Some (suc major)) (Some minor) None z =
+    Some (from_up_to (release (suc major) minor 0) (least_of (suc major + 1) 0 0))
 -- `^0.0.3-a` is `>=0.0.3-a <0.0.4-0`
 caret_row (Some zero) (Some zero) (Some patch) z = Some (from_up_to (without_build z) (least_of 0 0 (patch + 1)))
 -- `^0.2.3-a` is `>=0.2.3-a <0.3.0-0`
-caret_row (Some zero) (Some (suc minor)) (Some patch) z = Some (from_up_to (without_build z) (least_of 0 (suc minor + 1) 0))
+caret_row (Some zero) (Some (suc minor)) (Some patch) z =
+    Some (from_up_to (without_build z) (least_of 0 (suc minor + 1) 0))
 -- `^1.2.3-a` is `>=1.2.3-a <2.0.0-0`
-caret_row (Some (suc major)) (Some minor) (Some patch) z = Some (from_up_to (without_build z) (least_of (suc major + 1) 0 0))
+caret_row (Some (suc major)) (Some minor) (Some patch) z =
+    Some (from_up_to (without_build z) (least_of (suc major + 1) 0 0))
 -- `^1.x.3` and `^*` are nothing
 caret_row major minor patch z = None
 

@@ -1,4 +1,5 @@
--- The order of versions as it computes: SemVer 2.0.0, sections 10 and 11. `Order` says the same in the standard's words.
+-- The order of versions as it computes: SemVer 2.0.0, sections 10 and 11. `Order` says the same in the standard's
+-- words.
 use Rattle.std.specs.Prelude.{ℕ, List, [], ◌∷◌}
 use Rattle.std.specs.Ordering.{nat_cmp, on, then_cmp}
 use Rattle.std.specs.Cmp.Lexicographic.{slice_cmp}
@@ -23,5 +24,6 @@ prerelease_cmp (x ∷ xs) (y ∷ ys) = slice_cmp identifier_cmp (x ∷ xs) (y �
 
 -- major, minor, patch and then the prerelease
 abbrev pub version_cmp : VersionValue → VersionValue → Ordering
-version_cmp = then_cmp (on (λ (v : VersionValue). v.major) nat_cmp) (then_cmp (on (λ (v : VersionValue). v.minor) nat_cmp)
+version_cmp = then_cmp (on (λ (v : VersionValue). v.major) nat_cmp)
+    (then_cmp (on (λ (v : VersionValue). v.minor) nat_cmp)
     (then_cmp (on (λ (v : VersionValue). v.patch) nat_cmp) (on (λ (v : VersionValue). v.pre_release) prerelease_cmp)))

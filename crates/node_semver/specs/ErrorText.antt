@@ -9,7 +9,9 @@ abbrev pub kind_text : SemverErrorKind → Option (List ℕ)
 kind_text MaxLengthError = Some (codes "Semver string can't be longer than 256 characters.")
 kind_text IncompleteInput = Some (codes "Incomplete input to semver parser.")
 kind_text (ParseIntError fault) = None
-kind_text (MaxIntError value) = Some (codes "Integer component of semver string is larger than JavaScript's Number.MAX_SAFE_INTEGER: " ++ decimal value)
+kind_text (MaxIntError value) =
+    Some (codes "Integer component of semver string is larger than JavaScript's Number.MAX_SAFE_INTEGER: "
+    ++ decimal value)
 kind_text (Context word) = Some (codes "Failed to parse " ++ word.now ++ codes ".")
 kind_text NoValidRanges = Some (codes "No valid ranges could be parsed")
 kind_text Other = Some (codes "An unspecified error occurred.")

@@ -15,7 +15,8 @@ abbrev pub with_dots : List (List ℕ) → List ℕ
 with_dots [] = []
 with_dots (text ∷ texts) = text ++ (dot ∷ with_dots texts)
 
--- The text is a prefix and a rest. The prefix is the text's mark, all the blanks that stand there, and up to two numbers,
+-- The text is a prefix and a rest. The prefix is the text's mark, all the blanks that stand there, and up to two
+-- numbers,
 -- each with its dot: `v 1.2.`
 pub record HasPrefix (text prefix rest : List ℕ) (count : ℕ) : Type 0 where
   pub whole : text ≡ prefix ++ rest
@@ -61,7 +62,8 @@ pub data IsFault (text : List ℕ) : Kind → ℕ → Type 0 where
       → number_of digits ≤ MAX_SAFE_INTEGER → BeginsWithNo (λ b. b == dot) rest
       → IsFault text (context (codes "version")) (length (prefix ++ digits))
   -- Else a byte is left after the longest prefix that is a version text: `1.2.3 ` at 5. It is no digit, since the third
-  -- number takes all its digits: of `1.2.99999999999999999999` that number is too large, though `1.2.9` is a version text.
+  -- number takes all its digits: of `1.2.99999999999999999999` that number is too large, though `1.2.9` is a version
+  -- text.
   left_over : (prefix : List ℕ) (v : VersionValue) (b : ℕ) (rest : List ℕ) → length text ≤ MAX_LENGTH
       → text ≡ prefix ++ (b ∷ rest) → is_digit b ≡ false → IsVersionText prefix v → IsLongest text prefix
       → IsFault text other (length prefix)

@@ -25,7 +25,8 @@ right_row major minor patch z = After z
 
 -- a hyphen range from the left side to the right one; where the right one is below, no cut lies in it
 abbrev pub hyphen_comparator : Option Partial → Partial → Comparator
-hyphen_comparator left right = record { lower = left_cut left; upper = right_row right.major right.minor right.patch (zeroed right) }
+hyphen_comparator left right =
+    record { lower = left_cut left; upper = right_row right.major right.minor right.patch (zeroed right) }
 
 -- a partial, or nothing
 abbrev pub IsLeftText : List ℕ → Option Partial → Type 0

@@ -5,7 +5,8 @@ use Rattle.node_semver.specs.Characters.{AreAll, BeginsWith, BeginsWithNo, hyphe
 use Rattle.node_semver.specs.IdentifierValue.{IdentifierValue, alphanumeric, numeric}
 use Rattle.node_semver.specs.NumberText.{number_of}
 
--- Digits that write a number of 64 bits are that number; every other text stands for itself: `001` is 1, `1a` is a text.
+-- Digits that write a number of 64 bits are that number; every other text stands for itself: `001` is 1, `1a` is a
+-- text.
 abbrev pub identifier_of : List ℕ → IdentifierValue
 identifier_of text =
     if list_all is_digit text && nat_lt (number_of text) (2 ^ 64) then numeric (number_of text)
@@ -24,7 +25,8 @@ pub record IsIdentifierList (text : List ℕ) (identifiers : List IdentifierValu
   pub parts : AllByRecursion IsIdentifierText (parts_of text)
   pub values : identifiers ≡ map identifier_of (parts_of text)
 
--- Nothing, or a list of identifiers after a hyphen, which may be left out where the list doesn't begin with one: `-alpha.1`, `beta`, `--`
+-- Nothing, or a list of identifiers after a hyphen, which may be left out where the list doesn't begin with one:
+-- `-alpha.1`, `beta`, `--`
 abbrev pub IsPrereleaseText : List ℕ → List IdentifierValue → Type 0
 IsPrereleaseText text [] = text ≡ []
 IsPrereleaseText text (i ∷ is) = (list : List ℕ)

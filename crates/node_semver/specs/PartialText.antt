@@ -6,7 +6,8 @@ use Rattle.node_semver.specs.NumberText.{IsNumberText}
 use Rattle.node_semver.specs.Version.{VersionValue}
 use Rattle.node_semver.specs.VersionText.{HasThreeParts, IsMarked}
 
--- A version of which components may be absent. An x counts as absent, as one that isn't written does: `1`, `1.x`, `1.2.x-beta`
+-- A version of which components may be absent. An x counts as absent, as one that isn't written does: `1`, `1.x`,
+-- `1.2.x-beta`
 pub record Partial : Type 0 where
   pub major : Option ℕ
   pub minor : Option ℕ
@@ -36,7 +37,8 @@ pub data IsUnmarkedPartial (p : Partial) (text : List ℕ) : Type 0 where
   -- `1`, `x`
   one : (major : Option ℕ) → p ≡ plain_partial major None None → IsComponentText text major → IsUnmarkedPartial p text
   -- `1.2`, `1.x`
-  two : (major minor : Option ℕ) → p ≡ plain_partial major minor None → HasTwoParts text major minor → IsUnmarkedPartial p text
+  two : (major minor : Option ℕ) → p ≡ plain_partial major minor None → HasTwoParts text major minor
+      → IsUnmarkedPartial p text
   -- `1.2.3-beta+5`, `1.2.x3`
   three : HasThreeParts IsComponentText text p.major p.minor p.patch p.pre_release p.build → IsUnmarkedPartial p text
 

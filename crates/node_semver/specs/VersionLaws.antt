@@ -11,7 +11,8 @@ HasOneReading text = (v w : VersionValue) → IsVersionText text v → IsVersion
 
 -- the text is a version text, or has a fault
 abbrev pub IsReadOrFaulty : List ℕ → Type 0
-IsReadOrFaulty text = ((v : VersionValue) × IsVersionText text v) ⊎ ((kind : Kind) × (offset : ℕ) × IsFault text kind offset)
+IsReadOrFaulty text =
+    ((v : VersionValue) × IsVersionText text v) ⊎ ((kind : Kind) × (offset : ℕ) × IsFault text kind offset)
 
 -- and not both
 abbrev pub IsNeverBoth : List ℕ → Type 0

@@ -9,7 +9,8 @@ use Rattle.node_semver.specs.NumberText.{IsNumberText}
 use Rattle.node_semver.specs.Version.{VersionValue}
 use Rattle.node_semver.specs.declared.error.SemverError.{SemverError}
 
--- Three parts with dots between them, and extras. Where the third part has digits, it takes all of them: `1.2.34-alpha+5`
+-- Three parts with dots between them, and extras. Where the third part has digits, it takes all of them:
+-- `1.2.34-alpha+5`
 pub record HasThreeParts {N : Type 0} (IsPart : List ℕ → N → Type 0) (text : List ℕ) (major minor patch : N)
     (pre_release build : List IdentifierValue) : Type 0 where
   pub first : List ℕ

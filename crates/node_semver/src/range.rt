@@ -21,15 +21,19 @@ use std::marker::Model;
 ///
 /// | word | asks for |
 /// |---|---|
-/// | `>=I.J.K-pre` | I.J.K-pre and what is above it |
-/// | `>I.J.K-pre` | what is above I.J.K-pre |
-/// | `<=I.J.K-pre` | I.J.K-pre and what is below it |
-/// | `<I.J.K-pre` | what is below I.J.K-pre |
-/// | `=I.J.K-pre` | `>=I.J.K-pre <=I.J.K-pre` |
+/// | `>=1.2` | `>=1.2.0` |
+/// | `>1.2`, `<1.2`, `<=1.2` | `>=1.3.0`, `<1.2.0-0`, `<=1.2.0-0` |
+/// | `=1.2`, `1.2`, `1.2.x` | `>=1.2.0 <1.3.0-0` |
+/// | `1.2.3-pre` | `>=1.2.3-pre <=1.2.3-pre` |
+/// | `~1.2.3-pre` | `>=1.2.3-pre <1.3.0-0` |
+/// | `^1.2.3-pre`, `^0.2.3`, `^0.0.3` | `>=1.2.3-pre <2.0.0-0`, `>=0.2.3 <0.3.0-0`, `>=0.0.3 <0.0.4-0` |
+/// | `1.2 - 3` | `>=1.2.0 <4.0.0-0` |
+/// | `*` | `>=0.0.0` |
 ///
-/// Blanks may follow the operator, and a `v` and blanks may stand before the numbers: `>= v 1.0.0`. A build may stand at
-/// the end, and changes nothing. Every other word is thrown away: `foo >=1.0.0` is `>=1.0.0`. Spaces and tabs are
-/// blanks, and newlines are not.
+/// `docs/GRAMMAR.md` has all of them. `x`, `X` and `*` stand for a component that is absent. A `v` and blanks may stand
+/// before the numbers, and blanks after an operator: `>= v 1.0`. A build may stand at the end, and changes nothing.
+/// Every other word is thrown away: `foo >=1.0.0` is `>=1.0.0`. So is a word that holds `||`, which is not read yet.
+/// Spaces and tabs are blanks, and newlines are not.
 ///
 /// # Source
 ///
@@ -53,18 +57,19 @@ impl Range {
     ///
     /// # Errors
     ///
-    /// - the empty text, `foo`: `NoValidRanges` at 0, since no word is a comparator;
-    /// - `>4.0.0 <3.0.0`: `NoValidRanges` at 0, since the comparators have no cut in common. `>1.0.0-a <1.0.0-a.0` has
+    /// - the empty text, `foo`, `~*`: `NoValidRanges` at 0, since no word is a comparator;
+    /// - `>4 <3`, `2 - 1`: `NoValidRanges` at 0, since the comparators have no cut in common. `>1.0.0-a <1.0.0-a.0` has
     ///   one, and is read, though no version lies there;
     /// - any text: `OutOfMemory` at 0, with no text, where memory is refused.
     ///
     /// # Memory
     ///
-    /// Takes a list of the comparators and the identifiers of their ends. An error holds a copy of the text.
+    /// Takes a list of the comparators and the identifiers of their ends, one for each `-0`. A word that is thrown away
+    /// takes none. An error holds a copy of the text.
     ///
     /// # Examples
     ///
-    /// `>=1.2.3 <2.0.0` and `foo >= v 1.0.0` are read, `foo` is refused.
+    /// `^1.2.3`, `1.2 - 3` and `foo >= v 1.0.0` are read, `foo` is refused.
     pub fn parse(alloc: Global, text: &str) -> Result<Range, SemverError>
         ensures refused { IfErr result (λ e. IsOutOfMemory e ⊎ (IsRefusalAt text.now no_valid_ranges 0 e × IsRefused text.now)) }
         ensures accepted { OnOk result (¬ IsRefused text.now) }
@@ -91,8 +96,8 @@ impl Range {
     ///
     /// # Examples
     ///
-    /// `>=1.2.3-rc.4 <2.0.0` admits `1.9.0` and `1.2.3-rc.5`. It does not admit `2.0.0`, nor `1.2.4-rc.6`, a prerelease
-    /// of another triple.
+    /// `^1.2.3-rc.4` admits `1.9.0` and `1.2.3-rc.5`. It does not admit `2.0.0`, nor `1.2.4-rc.6`, a prerelease of
+    /// another triple.
     ///
     /// # Source
     ///

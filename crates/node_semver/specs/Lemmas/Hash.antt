@@ -12,7 +12,8 @@ use Rattle.node_semver.specs.Identifier.{value_of, values_of}
 use Rattle.node_semver.specs.declared.identifier.Identifier.{Identifier}
 use Rattle.std.specs.Cmp.Derive.Mapped.{items_map}
 
-pub identifier_alike : (a b : IdentifierValue) → eq_by_cmp identifier_cmp a b ≡ true → identifier_writes a ≡ identifier_writes b
+pub identifier_alike : (a b : IdentifierValue) → eq_by_cmp identifier_cmp a b ≡ true
+    → identifier_writes a ≡ identifier_writes b
 identifier_alike a b e = ap identifier_writes (identifier-IsAntisymmetric a b ((Equal-is (identifier_cmp a b)).0 e))
 
 pub version_alike : (v w : VersionValue) → eq_by_cmp version_cmp v w ≡ true → version_writes v ≡ version_writes w
@@ -22,7 +23,16 @@ version_alike v w e = let s = Equal-version v w ((Equal-is (version_cmp v w)).0 
 
 -- the identifiers of a version, one by one
 pub version_writes-fields : (major minor patch : ℕ) (identifiers : List Identifier) (build : List IdentifierValue)
-    → fed.u64 major ++ fed.u64 minor ++ fed.u64 patch ++ fed.slice (λ (x : Identifier). identifier_writes (value_of x)) identifiers
-    ≡ version_writes (record { major = major; minor = minor; patch = patch; pre_release = values_of identifiers; build = build })
+    → fed.u64 major ++ fed.u64 minor ++ fed.u64 patch
+    ++ fed.slice (λ (x : Identifier). identifier_writes (value_of x)) identifiers
+    ≡ version_writes (record {
+      major = major;
+      minor = minor;
+      patch = patch;
+      pre_release =
+          values_of identifiers;
+      build = build;
+    })
 version_writes-fields major minor patch identifiers build =
-    ap (λ r. fed.u64 major ++ fed.u64 minor ++ fed.u64 patch ++ r) (sym (items_map value_of identifier_writes identifiers))
+    ap (λ r. fed.u64 major ++ fed.u64 minor ++ fed.u64 patch ++ r)
+    (sym (items_map value_of identifier_writes identifiers))

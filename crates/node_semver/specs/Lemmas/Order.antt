@@ -43,14 +43,16 @@ by_parts (alphanumeric s) (alphanumeric t) = refl
 
 pub identifier_total : IsTotalOrder identifier_cmp
 identifier_total = subst IsTotalOrder (λ i a b. by_parts a b i)
-    (then_total (on_total class nat_cmp_total) (then_total (on_total number nat_cmp_total) (on_total text nat_list_cmp_total)))
+    (then_total (on_total class nat_cmp_total)
+    (then_total (on_total number nat_cmp_total) (on_total text nat_list_cmp_total)))
 
 -- 1 for a release, which comes last, and 0 for a prerelease
 abbrev rank : List IdentifierValue → ℕ
 rank [] = 1
 rank (x ∷ xs) = 0
 
-by_rank : (xs ys : List IdentifierValue) → then_cmp (on rank nat_cmp) (slice_cmp identifier_cmp) xs ys ≡ prerelease_cmp xs ys
+by_rank : (xs ys : List IdentifierValue)
+    → then_cmp (on rank nat_cmp) (slice_cmp identifier_cmp) xs ys ≡ prerelease_cmp xs ys
 by_rank [] [] = refl
 by_rank [] (y ∷ ys) = refl
 by_rank (x ∷ xs) [] = refl
@@ -61,14 +63,18 @@ prerelease_total = subst IsTotalOrder (λ i xs ys. by_rank xs ys i)
     (then_total (on_total rank nat_cmp_total) (lists_total identifier_total))
 
 pub version_total : IsTotalOrder version_cmp
-version_total = then_total (on_total (λ (v : VersionValue). v.major) nat_cmp_total) (then_total (on_total (λ (v : VersionValue). v.minor) nat_cmp_total)
-    (then_total (on_total (λ (v : VersionValue). v.patch) nat_cmp_total) (on_total (λ (v : VersionValue). v.pre_release) prerelease_total)))
+version_total = then_total (on_total (λ (v : VersionValue). v.major) nat_cmp_total)
+    (then_total (on_total (λ (v : VersionValue). v.minor) nat_cmp_total)
+    (then_total (on_total (λ (v : VersionValue). v.patch) nat_cmp_total)
+    (on_total (λ (v : VersionValue). v.pre_release) prerelease_total)))
 
 -- ---- any total order
 
 -- what is above is below the other way round
-pub Greater-turned : {K : Type 0} {R : K → K → Ordering} → IsTotalOrder R → (x y : K) → (R x y ≡ Greater) ↔ (R y x ≡ Less)
-Greater-turned {R = R} o x y = (λ e. by_reverse (R y x) (sym e ∙ o.antisymm x y), λ e. o.antisymm x y ∙ ap ordering_reverse e)
+pub Greater-turned : {K : Type 0} {R : K → K → Ordering} → IsTotalOrder R → (x y : K)
+    → (R x y ≡ Greater) ↔ (R y x ≡ Less)
+Greater-turned {R = R} o x y =
+    (λ e. by_reverse (R y x) (sym e ∙ o.antisymm x y), λ e. o.antisymm x y ∙ ap ordering_reverse e)
   where
     by_reverse : (r : Ordering) → Greater ≡ ordering_reverse r → r ≡ Less
     by_reverse Less e = refl
@@ -95,7 +101,8 @@ then-second Greater s e = cc e
 -- ---- lists
 
 -- one more first element in both
-behind : {A : Type 0} (Below : A → A → Type 0) (x : A) (xs ys : List A) → IsListBelow Below xs ys → IsListBelow Below (x ∷ xs) (x ∷ ys)
+behind : {A : Type 0} (Below : A → A → Type 0) (x : A) (xs ys : List A) → IsListBelow Below xs ys
+    → IsListBelow Below (x ∷ xs) (x ∷ ys)
 behind Below x xs ys (inl b) = inl (record { next = b.next; rest = b.rest; goes_on = ap (λ l. x ∷ l) b.goes_on })
 behind Below x xs ys (inr d) = inr (record {
   common = x ∷ d.common;
@@ -147,7 +154,8 @@ module _ {A : Type 0} (R : A → A → Ordering) (o : IsTotalOrder R) where
       → (xs ys : List A) → IsListBelow Below xs ys → slice_cmp R xs ys ≡ Less
   list-Less Below less xs ys (inl b) = subst (λ l. slice_cmp R xs l ≡ Less) (sym b.goes_on) (ends-Less xs b.next b.rest)
   list-Less Below less xs ys (inr d) =
-      (λ i. slice_cmp R (d.first i) (d.second i)) ∙ differs-Less d.common d.next d.other_next d.rest d.other_rest (less d.next d.other_next d.below)
+      (λ i. slice_cmp R (d.first i) (d.second i))
+      ∙ differs-Less d.common d.next d.other_next d.rest d.other_rest (less d.next d.other_next d.below)
 
 -- ---- identifiers
 
@@ -166,7 +174,8 @@ pub Less-identifier : (a b : IdentifierValue) → identifier_cmp a b ≡ Less �
 Less-identifier (numeric m) (numeric n) e = Less-number m n e
 Less-identifier (numeric m) (alphanumeric t) e = tt
 Less-identifier (alphanumeric s) (numeric n) e = cc e
-Less-identifier (alphanumeric s) (alphanumeric t) e = Less-list nat_cmp (λ x y. x < y) Less-number nat_cmp-IsAntisymmetric s t e
+Less-identifier (alphanumeric s) (alphanumeric t) e =
+    Less-list nat_cmp (λ x y. x < y) Less-number nat_cmp-IsAntisymmetric s t e
 
 pub identifier-Less : (a b : IdentifierValue) → IsIdentifierBelow a b → identifier_cmp a b ≡ Less
 identifier-Less (numeric m) (numeric n) h = number-Less m n h
@@ -179,14 +188,21 @@ pub identifier-IsAntisymmetric : IsAntisymmetric identifier_cmp
 identifier-IsAntisymmetric (numeric m) (numeric n) e = ap numeric (nat_cmp-IsAntisymmetric m n e)
 identifier-IsAntisymmetric (numeric m) (alphanumeric t) e = cc e
 identifier-IsAntisymmetric (alphanumeric s) (numeric n) e = cc e
-identifier-IsAntisymmetric (alphanumeric s) (alphanumeric t) e = ap alphanumeric (slice_cmp-IsAntisymmetric nat_cmp-IsAntisymmetric s t e)
+identifier-IsAntisymmetric (alphanumeric s) (alphanumeric t) e =
+    ap alphanumeric (slice_cmp-IsAntisymmetric nat_cmp-IsAntisymmetric s t e)
 
 -- `identifier_cmp` says what the relations do
 pub identifier_cmp-means : (a b : IdentifierValue) → IdentifierOrderMeans a b (identifier_cmp a b)
 identifier_cmp-means a b = record {
   below = (Less-identifier a b, identifier-Less a b);
-  same = (identifier-IsAntisymmetric a b, λ e. subst (λ c. identifier_cmp a c ≡ Equal) e (tied_itself identifier_total a));
-  above = (λ e. Less-identifier b a ((Greater-turned identifier_total a b).0 e), λ h. (Greater-turned identifier_total a b).1 (identifier-Less b a h));
+  same = (
+    identifier-IsAntisymmetric a b,
+    λ e. subst (λ c. identifier_cmp a c ≡ Equal) e (tied_itself identifier_total a),
+  );
+  above = (
+    λ e. Less-identifier b a ((Greater-turned identifier_total a b).0 e),
+    λ h. (Greater-turned identifier_total a b).1 (identifier-Less b a h),
+  );
 }
 
 -- the same of an answer
@@ -200,10 +216,12 @@ pub prerelease-IsAntisymmetric : IsAntisymmetric prerelease_cmp
 prerelease-IsAntisymmetric [] [] e = refl
 prerelease-IsAntisymmetric [] (y ∷ ys) e = cc e
 prerelease-IsAntisymmetric (x ∷ xs) [] e = cc e
-prerelease-IsAntisymmetric (x ∷ xs) (y ∷ ys) e = slice_cmp-IsAntisymmetric identifier-IsAntisymmetric (x ∷ xs) (y ∷ ys) e
+prerelease-IsAntisymmetric (x ∷ xs) (y ∷ ys) e =
+    slice_cmp-IsAntisymmetric identifier-IsAntisymmetric (x ∷ xs) (y ∷ ys) e
 
 -- two prereleases go by their lists
-both-prereleases : (xs ys : List IdentifierValue) → xs ≢ [] → ys ≢ [] → prerelease_cmp xs ys ≡ slice_cmp identifier_cmp xs ys
+both-prereleases : (xs ys : List IdentifierValue) → xs ≢ [] → ys ≢ []
+    → prerelease_cmp xs ys ≡ slice_cmp identifier_cmp xs ys
 both-prereleases [] ys n m = absurd (n refl)
 both-prereleases (x ∷ xs) [] n m = absurd (m refl)
 both-prereleases (x ∷ xs) (y ∷ ys) n m = refl
@@ -213,7 +231,8 @@ prerelease-release [] ys n m = absurd (n refl)
 prerelease-release (x ∷ xs) [] n m = refl
 prerelease-release (x ∷ xs) (y ∷ ys) n m = absurd (m (λ e. cc e))
 
-Less-prereleases : (v w : VersionValue) → HasSameTriple v w → (xs ys : List IdentifierValue) → v.pre_release ≡ xs → w.pre_release ≡ ys
+Less-prereleases : (v w : VersionValue) → HasSameTriple v w → (xs ys : List IdentifierValue) → v.pre_release ≡ xs
+    → w.pre_release ≡ ys
     → prerelease_cmp xs ys ≡ Less → IsBelow v w
 Less-prereleases v w t [] [] p q e = cc e
 Less-prereleases v w t [] (y ∷ ys) p q e = cc e
@@ -222,17 +241,21 @@ Less-prereleases v w t (x ∷ xs) (y ∷ ys) p q e = by_identifiers t (λ n. cc 
     (Less-list identifier_cmp IsIdentifierBelow Less-identifier identifier-IsAntisymmetric v.pre_release w.pre_release
     ((λ i. slice_cmp identifier_cmp (p i) (q i)) ∙ e))
 
-Less-patches : (v w : VersionValue) → v.major ≡ w.major → v.minor ≡ w.minor → (r : Ordering) → nat_cmp v.patch w.patch ≡ r
+Less-patches : (v w : VersionValue) → v.major ≡ w.major → v.minor ≡ w.minor → (r : Ordering)
+    → nat_cmp v.patch w.patch ≡ r
     → ordering_then r (prerelease_cmp v.pre_release w.pre_release) ≡ Less → IsBelow v w
 Less-patches v w a b Less p e = by_patch a b (Less-number v.patch w.patch p)
 Less-patches v w a b Equal p e = Less-prereleases v w
-    (record { major = a; minor = b; patch = nat_cmp-IsAntisymmetric v.patch w.patch p }) v.pre_release w.pre_release refl refl e
+    (record { major = a; minor = b; patch = nat_cmp-IsAntisymmetric v.patch w.patch p }) v.pre_release w.pre_release
+    refl refl e
 Less-patches v w a b Greater p e = cc e
 
 Less-minors : (v w : VersionValue) → v.major ≡ w.major → (r : Ordering) → nat_cmp v.minor w.minor ≡ r
-    → ordering_then r (ordering_then (nat_cmp v.patch w.patch) (prerelease_cmp v.pre_release w.pre_release)) ≡ Less → IsBelow v w
+    → ordering_then r (ordering_then (nat_cmp v.patch w.patch) (prerelease_cmp v.pre_release w.pre_release)) ≡ Less
+    → IsBelow v w
 Less-minors v w a Less p e = by_minor a (Less-number v.minor w.minor p)
-Less-minors v w a Equal p e = Less-patches v w a (nat_cmp-IsAntisymmetric v.minor w.minor p) (nat_cmp v.patch w.patch) refl e
+Less-minors v w a Equal p e =
+    Less-patches v w a (nat_cmp-IsAntisymmetric v.minor w.minor p) (nat_cmp v.patch w.patch) refl e
 Less-minors v w a Greater p e = cc e
 
 Less-majors : (v w : VersionValue) → (r : Ordering) → nat_cmp v.major w.major ≡ r
@@ -251,13 +274,16 @@ number-tied m n e = subst (λ k. nat_cmp m k ≡ Equal) e (tied_itself nat_cmp_t
 
 -- equal triples leave it to the prereleases
 same-triple : (v w : VersionValue) → HasSameTriple v w → version_cmp v w ≡ prerelease_cmp v.pre_release w.pre_release
-same-triple v w t = then-tied _ _ (number-tied v.major w.major t.major) ∙ then-tied _ _ (number-tied v.minor w.minor t.minor)
+same-triple v w t = then-tied _ _ (number-tied v.major w.major t.major)
+    ∙ then-tied _ _ (number-tied v.minor w.minor t.minor)
     ∙ then-tied _ _ (number-tied v.patch w.patch t.patch)
 
 pub version-Less : (v w : VersionValue) → IsBelow v w → version_cmp v w ≡ Less
 version-Less v w (by_major h) = then-Less _ _ (number-Less v.major w.major h)
-version-Less v w (by_minor a h) = then-tied _ _ (number-tied v.major w.major a) ∙ then-Less _ _ (number-Less v.minor w.minor h)
-version-Less v w (by_patch a b h) = then-tied _ _ (number-tied v.major w.major a) ∙ then-tied _ _ (number-tied v.minor w.minor b)
+version-Less v w (by_minor a h) = then-tied _ _ (number-tied v.major w.major a)
+    ∙ then-Less _ _ (number-Less v.minor w.minor h)
+version-Less v w (by_patch a b h) = then-tied _ _ (number-tied v.major w.major a)
+    ∙ then-tied _ _ (number-tied v.minor w.minor b)
     ∙ then-Less _ _ (number-Less v.patch w.patch h)
 version-Less v w (before_release t n m) = same-triple v w t ∙ prerelease-release v.pre_release w.pre_release n m
 version-Less v w (by_identifiers t n m h) = same-triple v w t ∙ both-prereleases v.pre_release w.pre_release n m
@@ -287,7 +313,10 @@ pub version_cmp-means : (v w : VersionValue) → OrderMeans v w (version_cmp v w
 version_cmp-means v w = record {
   below = (Less-version v w, version-Less v w);
   same = (Equal-version v w, version-Equal v w);
-  above = (λ e. Less-version w v ((Greater-turned version_total v w).0 e), λ h. (Greater-turned version_total v w).1 (version-Less w v h));
+  above = (
+    λ e. Less-version w v ((Greater-turned version_total v w).0 e),
+    λ h. (Greater-turned version_total v w).1 (version-Less w v h),
+  );
 }
 
 -- the same of an answer

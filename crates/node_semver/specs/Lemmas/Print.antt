@@ -15,7 +15,8 @@ led_text mark [] = []
 led_text mark (x ∷ xs) = mark ++ (identifier_text (value_of x) ++ flat_map dotted_text xs)
 
 joined : (x : Identifier) (xs : List Identifier)
-    → identifier_text (value_of x) ++ flat_map dotted_text xs ≡ join_with_byte 46 (map identifier_text (values_of (x ∷ xs)))
+    → identifier_text (value_of x) ++ flat_map dotted_text xs
+    ≡ join_with_byte 46 (map identifier_text (values_of (x ∷ xs)))
 joined x [] = append-nil (identifier_text (value_of x))
 joined x (y ∷ ys) = ap (λ (l : List ℕ). identifier_text (value_of x) ++ (46 ∷ l)) (joined y ys)
 

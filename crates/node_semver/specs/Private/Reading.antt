@@ -42,7 +42,10 @@ missing text = Err (Missing (length text))
 unfoldable pub read_number : List ℕ → Read ℕ
 read_number text =
     if begins is_digit text then
-    if nat_le (number_of (prefix_of is_digit text)) MAX_SAFE_INTEGER then Ok (number_of (prefix_of is_digit text), rest_of is_digit text)
+    if nat_le (number_of (prefix_of is_digit text)) MAX_SAFE_INTEGER then Ok (
+      number_of (prefix_of is_digit text),
+      rest_of is_digit text,
+    )
     else Err (TooLarge (length text))
     else missing text
 
@@ -54,7 +57,8 @@ read_dot (b ∷ rest) = if b == dot then Ok rest else missing (b ∷ rest)
 -- whether a list of identifiers goes on here: an identifier character, or a dot and one
 abbrev pub goes_on : List ℕ → Bool
 goes_on [] = false
-goes_on (b ∷ rest) = if is_identifier_character b then true else if b == dot then begins is_identifier_character rest else false
+goes_on (b ∷ rest) =
+    if is_identifier_character b then true else if b == dot then begins is_identifier_character rest else false
 
 -- the longest list of identifiers at the start of a text that begins with an identifier character, and the rest
 unfoldable pub list_prefix : List ℕ → List ℕ
@@ -71,7 +75,8 @@ list_values text = map identifier_of (parts_of (list_prefix text))
 
 -- that list and the rest; or nothing, and the text `otherwise`
 abbrev pub read_list_or : List ℕ → List ℕ → List IdentifierValue × List ℕ
-read_list_or otherwise text = if begins is_identifier_character text then (list_values text, list_rest text) else ([], otherwise)
+read_list_or otherwise text =
+    if begins is_identifier_character text then (list_values text, list_rest text) else ([], otherwise)
 
 -- the bytes after a mark, where there is one
 unfoldable pub skip_one : (ℕ → Bool) → List ℕ → List ℕ

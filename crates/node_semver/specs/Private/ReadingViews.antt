@@ -60,7 +60,8 @@ abbrev pub version_seen : VersionValue × Bor (List ℕ) → VersionValue × Lis
 version_seen x = (x.0, x.1.now)
 
 -- a prerelease and a build, and the rest
-abbrev pub extras_seen : (Vec Identifier Global × Vec Identifier Global) × Bor (List ℕ) → (List IdentifierValue × List IdentifierValue) × List ℕ
+abbrev pub extras_seen : (Vec Identifier Global × Vec Identifier Global) × Bor (List ℕ)
+    → (List IdentifierValue × List IdentifierValue) × List ℕ
 extras_seen x = ((values_of x.0.0.items, values_of x.0.1.items), x.1.now)
 
 -- where a version with no prerelease and no build is read, the answer is not want of memory

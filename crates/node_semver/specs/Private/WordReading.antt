@@ -1,4 +1,5 @@
--- What the private readers of words compute, on lists of bytes. The lemmas of `proofs/` tie it to what the words mean; no
+-- What the private readers of words compute, on lists of bytes. The lemmas of `proofs/` tie it to what the words
+-- mean; no
 -- public contract speaks of it.
 use Rattle.std.specs.Prelude.{ℕ, ◌==◌, not, if◌then◌else◌, Bool, true, List, [], ◌∷◌, Option, Some, None, Ok, Err}
 use Rattle.node_semver.specs.CaretRanges.{caret_row}
@@ -42,12 +43,14 @@ ReadPartial = Option (Partial × List ℕ)
 
 -- a partial of three components and extras
 abbrev pub with_extras : Option ℕ → Option ℕ → Option ℕ → List IdentifierValue × List IdentifierValue → Partial
-with_extras major minor patch extras = record { major = major; minor = minor; patch = patch; pre_release = extras.0; build = extras.1 }
+with_extras major minor patch extras =
+    record { major = major; minor = minor; patch = patch; pre_release = extras.0; build = extras.1 }
 
 -- the extras after the third component
 abbrev pub with_third : Option ℕ → Option ℕ → Component → ReadPartial
 with_third major minor None = None
-with_third major minor (Some patch) = Some (with_extras major minor patch.0 (read_extras patch.1).0, (read_extras patch.1).1)
+with_third major minor (Some patch) =
+    Some (with_extras major minor patch.0 (read_extras patch.1).0, (read_extras patch.1).1)
 
 -- a dot and a third component, or none
 abbrev pub read_from_patch : Option ℕ → Option ℕ → List ℕ → ReadPartial
@@ -150,7 +153,8 @@ read_simple text = said (read_lead text).0 (up_to_clean (read_partial (read_lead
 abbrev pub right_at : List ℕ → ReadPartial
 right_at [] = None
 right_at (b ∷ rest) =
-    if b == hyphen then if begins is_blank rest then up_to_clean (read_partial (rest_of is_blank rest)) else None else None
+    if b == hyphen then if begins is_blank rest then up_to_clean (read_partial (rest_of is_blank rest)) else None else
+    None
 
 -- blanks, a hyphen, blanks, and a partial up to a clean end
 unfoldable pub read_right : List ℕ → ReadPartial

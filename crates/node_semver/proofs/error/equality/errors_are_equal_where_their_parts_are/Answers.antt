@@ -20,8 +20,10 @@ kinds_decide (ParseIntError f) (ParseIntError g) = (
   λ h i. (parse_int, Some (record { kind = same_true the_type (search rules) f.kind g.kind h i })),
   λ e. let same : f ≡ g = cc (ap (λ v. v.1) e) in true_same the_type f.kind g.kind (ap (λ (x : IntFault). x.kind) same),
 )
-kinds_decide (MaxIntError m) (MaxIntError n) = Decides-like _ (λ e i. (max_int (e i), None)) (λ e. cc (ap (λ v. v.0) e)) (Decides-eqb m n)
-kinds_decide (Context v) (Context w) = Decides-like _ (λ e i. (context (e i), None)) (λ e. cc (ap (λ v. v.0) e)) (bytes_decides v.now w.now)
+kinds_decide (MaxIntError m) (MaxIntError n) =
+    Decides-like _ (λ e i. (max_int (e i), None)) (λ e. cc (ap (λ v. v.0) e)) (Decides-eqb m n)
+kinds_decide (Context v) (Context w) =
+    Decides-like _ (λ e i. (context (e i), None)) (λ e. cc (ap (λ v. v.0) e)) (bytes_decides v.now w.now)
 kinds_decide NoValidRanges NoValidRanges = (λ _. refl, λ _. refl)
 kinds_decide Other Other = (λ _. refl, λ _. refl)
 kinds_decide OutOfMemory OutOfMemory = (λ _. refl, λ _. refl)

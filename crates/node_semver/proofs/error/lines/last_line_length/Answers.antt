@@ -19,6 +19,7 @@ returns c =
     let other = λ (b : ℕ). not (is_newline b) in
     let prefix : List ℕ = c.args.prefix.now in
     count_from_yields_List c.take_while.result _ c.count.ensures.ran
-    (YieldsList-from_take_while _ other (YieldsList-from_rev_slice prefix cc) c.take_while.ensures.closure c.take_while.ensures.done (λ x b q k. search (rules, tests)))
+    (YieldsList-from_take_while _ other (YieldsList-from_rev_slice prefix cc) c.take_while.ensures.closure
+    c.take_while.ensures.done (λ x b q k. search (rules, tests)))
     ∙ length-prefix_len other (reverse prefix)
     ∙ length-after_last is_newline prefix

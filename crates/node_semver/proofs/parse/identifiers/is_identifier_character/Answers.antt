@@ -6,4 +6,5 @@ use Rattle.node_semver.proofs.parse.identifiers.is_identifier_character.Goals as
 
 pub returns : goal.returns
 unfolding agree
-returns c = agree-at (λ b. not (nat_eq (get_or IDENTIFIER_CHARACTERS b 0) 44)) is_identifier_character 256 refl c.args.byte (omega arith)
+returns c = agree-at (λ b. not (nat_eq (get_or IDENTIFIER_CHARACTERS b 0) 44)) is_identifier_character 256 refl
+    c.args.byte (omega arith)

@@ -29,8 +29,10 @@ identifiers-preserved c =
       record {
         part = n.part_is;
         rest = n.rest_is;
-        read = values-more c.identifiers.list.items c.in_ok-identifier_of.field-0 c.push.new.self.items (list_values n.next) (list_values i.0)
-            (prefix_of is_identifier_character i.0) c.in_ok-push.ensures.items (c.in_ok-identifier_of.ensures ∙ ap (λ (l : List ℕ). identifier_of l) i.1.part) more.0 ∙ i.1.read;
+        read = values-more c.identifiers.list.items c.in_ok-identifier_of.field-0 c.push.new.self.items
+            (list_values n.next) (list_values i.0)
+            (prefix_of is_identifier_character i.0) c.in_ok-push.ensures.items (c.in_ok-identifier_of.ensures
+            ∙ ap (λ (l : List ℕ). identifier_of l) i.1.part) more.0 ∙ i.1.read;
         end = sym more.1 ∙ i.1.end;
       },
     )
@@ -38,10 +40,13 @@ identifiers-preserved c =
 pub returns-in-None : goal.returns-in-None
 returns-in-None c =
     let i = c.identifiers.invariant in
-    let no = subst (λ (l : List ℕ). BeginsWithNo is_identifier_character l) (sym i.1.rest) (rest_of-no is_identifier_character i.0) in
+    let no = subst (λ (l : List ℕ). BeginsWithNo is_identifier_character l) (sym i.1.rest)
+    (rest_of-no is_identifier_character i.0) in
     let stops = rw i.1.rest at (c.in-None.ensures.none no) in
     let last = list-last i.0 stops in (
-      sym (append-nil _) ∙ values-more c.identifiers.list.items c.in_ok-identifier_of.field-0 c.push.new.self.items [] (list_values i.0)
-          (prefix_of is_identifier_character i.0) c.in_ok-push.ensures.items (c.in_ok-identifier_of.ensures ∙ ap (λ (l : List ℕ). identifier_of l) i.1.part) last.0 ∙ i.1.read,
+      sym (append-nil _) ∙ values-more c.identifiers.list.items c.in_ok-identifier_of.field-0 c.push.new.self.items []
+          (list_values i.0)
+          (prefix_of is_identifier_character i.0) c.in_ok-push.ensures.items (c.in_ok-identifier_of.ensures
+          ∙ ap (λ (l : List ℕ). identifier_of l) i.1.part) last.0 ∙ i.1.read,
       i.1.rest ∙ sym last.1 ∙ i.1.end,
     )

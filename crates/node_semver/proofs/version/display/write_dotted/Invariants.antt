@@ -5,4 +5,5 @@ use Rattle.node_semver.proofs.version.display.write_dotted.Given as goal
 
 abbrev pub invariant-identifiers : goal.invariant-identifiers
 invariant-identifiers g l = IsPlainFormatter l.initial.f
-    → HasWritten g.W.Write.write_str_gives l.initial.f (flat_map dotted_text (take l.identifier-index l.identifiers)) l.f
+    → HasWritten g.W.Write.write_str_gives l.initial.f (flat_map dotted_text (take l.identifier-index l.identifiers))
+    l.f

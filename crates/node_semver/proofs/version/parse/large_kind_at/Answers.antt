@@ -3,7 +3,9 @@ use Rattle.node_semver.proofs.VersionParse.{large-refused, number-there}
 use Rattle.node_semver.proofs.version.parse.large_kind_at.Goals as goal
 
 pub large_kind-requires : goal.large_kind-requires
-large_kind-requires c = large-refused c.args.text.now c.args.left c.saturating_sub.result c.saturating_sub.ensures c.requires
+large_kind-requires c =
+    large-refused c.args.text.now c.args.left c.saturating_sub.result c.saturating_sub.ensures c.requires
 
 pub returns : goal.returns
-returns c = c.large_kind.ensures ∙ number-there c.args.text.now c.args.left c.saturating_sub.result c.saturating_sub.ensures
+returns c = c.large_kind.ensures
+    ∙ number-there c.args.text.now c.args.left c.saturating_sub.result c.saturating_sub.ensures

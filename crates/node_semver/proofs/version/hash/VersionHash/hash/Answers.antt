@@ -9,4 +9,5 @@ pub returns : goal.returns
 returns g c =
     let v = c.self.inside in
     let fields = version_writes-fields v.major v.minor v.patch v.pre_release.items (values_of v.build.items) in
-    fed_along g.H.Hasher.write c.args.state.now c.hash-4.new.state (fields ∙ ap version_writes c.self.view_is) (search rules)
+    fed_along g.H.Hasher.write c.args.state.now c.hash-4.new.state (fields
+    ∙ ap version_writes c.self.view_is) (search rules)

@@ -17,7 +17,8 @@ pub fn a_version_text_has_one_reading()
     ensures only { (text : List ℕ) → HasOneReading text }
 {}
 
-/// Each text is a version text, or has a fault that [`Version::parse`](crate::Version::parse) refuses it with, and never both.
+/// Each text is a version text, or has a fault that [`Version::parse`](crate::Version::parse) refuses it with, and
+/// never both.
 pub fn every_text_is_read_or_faulty()
     ensures one { (text : List ℕ) → IsReadOrFaulty text }
     ensures never_both { (text : List ℕ) → IsNeverBoth text }

@@ -1,4 +1,5 @@
-//! The readers that versions and ranges share: each takes the bytes that are left, and gives a value and the rest of them.
+//! The readers that versions and ranges share: each takes the bytes that are left, and gives a value and the rest of
+//! them.
 //!
 //! `read_..` gives a value and the rest, `skip_..` the rest alone. What each computes stands under its own name in
 //! `specs/Private/Reading`, on lists of bytes.

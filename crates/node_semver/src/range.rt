@@ -71,7 +71,8 @@ impl Range {
     ///
     /// `^1.2.3`, `1.2 - 3` and `foo >= v 1.0.0` are read, `foo` is refused.
     pub fn parse(alloc: Global, text: &str) -> Result<Range, SemverError>
-        ensures refused { IfErr result (λ e. IsOutOfMemory e ⊎ (IsRefusalAt text.now no_valid_ranges 0 e × IsRefused text.now)) }
+        ensures refused { IfErr result (λ e.
+            IsOutOfMemory e ⊎ (IsRefusalAt text.now no_valid_ranges 0 e × IsRefused text.now)) }
         ensures accepted { OnOk result (¬ IsRefused text.now) }
         ensures means { IfOk result (λ r. (v : VersionValue) → RangeAdmits r v ↔ TextAdmits text.now v) }
     {

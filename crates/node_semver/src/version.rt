@@ -80,7 +80,8 @@ impl Version {
     ///
     /// # Examples
     ///
-    /// `Version::with_pre_release(alloc, 1, 2, 3, 4)` is `1.2.3-4`; with a last 0 it is the least version of its triple.
+    /// `Version::with_pre_release(alloc, 1, 2, 3, 4)` is `1.2.3-4`; with a last 0 it is the least version of its
+    /// triple.
     ///
     /// # Source
     ///

@@ -11,7 +11,8 @@ ghost use Rattle.node_semver.specs.Lemmas.Order.{identifier_total};
 use crate::Identifier;
 use std::cmp::Ordering;
 
-/// Two identifiers are equal where they are the same number or the same text; `Numeric(1)` is not `AlphaNumeric` of `1`.
+/// Two identifiers are equal where they are the same number or the same text; `Numeric(1)` is not `AlphaNumeric` of
+/// `1`.
 ///
 /// # Memory
 ///

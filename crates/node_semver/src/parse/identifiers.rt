@@ -59,7 +59,8 @@ fn split_identifier(text: &[u8]) -> (&[u8], &[u8])
 // A number with one digit more, where it has at most 64 bits.
 #[inline(always)]
 fn one_more(value: u64, byte: u8) -> Option<u64>
-    ensures { result ≡ (if Characters.is_digit byte && nat_lt (value * 10 + (byte - 48)) (2 ^ 64) then Some (value * 10 + (byte - 48)) else None) }
+    ensures { let more = value * 10 + (byte - 48) in
+        result ≡ (if Characters.is_digit byte && nat_lt more (2 ^ 64) then Some more else None) }
 {
     if !is_digit(byte) {
         return None;
@@ -71,7 +72,8 @@ fn one_more(value: u64, byte: u8) -> Option<u64>
 // The number that digits write, where it has at most 64 bits.
 #[inline(always)]
 fn numeric(text: &[u8]) -> Option<u64>
-    ensures { result ≡ (if list_all Characters.is_digit text.now && nat_lt (number_of text.now) (2 ^ 64) then Some (number_of text.now) else None) }
+    ensures { result ≡ (if list_all Characters.is_digit text.now && nat_lt (number_of text.now) (2 ^ 64)
+        then Some (number_of text.now) else None) }
 {
     // Most identifiers begin with a letter.
     if let [first, ..] = text

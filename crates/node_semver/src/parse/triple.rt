@@ -30,7 +30,8 @@ fn skip_version_mark(text: &[u8]) -> &[u8]
     skip_one(text, |byte| byte == b'v' || byte == b'V')
 }
 
-// `1` and `.2.3` of `V 1.2.3`: the number that follows a mark and blanks. Most texts have neither, and begin with a digit.
+// `1` and `.2.3` of `V 1.2.3`: the number that follows a mark and blanks. Most texts have neither, and begin with a
+// digit.
 #[inline(always)]
 fn read_major(text: &[u8]) -> Result<(u64, &[u8]), Fault>
     ensures { seen result ≡ Reading.read_number (Reading.rest_of is_blank (Reading.skip_one is_version_mark text.now)) }

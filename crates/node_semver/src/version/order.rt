@@ -11,7 +11,8 @@ ghost use Rattle.node_semver.specs.Lemmas.Order.{version_total};
 use crate::{Identifier, Version};
 use std::cmp::Ordering;
 
-/// Two versions are equal where their triples and their prereleases are: `v == w` is true exactly where `v.cmp(w)` is `Equal`.
+/// Two versions are equal where their triples and their prereleases are: `v == w` is true exactly where `v.cmp(w)`
+/// is `Equal`.
 ///
 /// The build is not looked at, so equal versions may print differently.
 ///
@@ -62,8 +63,10 @@ impl PartialOrd for Version {
 
 /// The precedence of versions, a total order: major, minor and patch by number, and then the prerelease.
 ///
-/// With equal triples a release is above each prerelease. Two prereleases go by their identifiers from the left: numbers by
-/// size, texts by bytes, a number below each text, and a list that ends first below the longer one. The build is not looked at.
+/// With equal triples a release is above each prerelease. Two prereleases go by their identifiers from the left:
+/// numbers by
+/// size, texts by bytes, a number below each text, and a list that ends first below the longer one. The build is not
+/// looked at.
 ///
 /// # Memory
 ///
@@ -71,7 +74,8 @@ impl PartialOrd for Version {
 ///
 /// # Examples
 ///
-/// `1.0.0-alpha` is below `1.0.0-alpha.1`, that is below `1.0.0-beta`, and that below `1.0.0`; `1.0.0+7` is not above `1.0.0`.
+/// `1.0.0-alpha` is below `1.0.0-alpha.1`, that is below `1.0.0-beta`, and that below `1.0.0`; `1.0.0+7` is not
+/// above `1.0.0`.
 ///
 /// # Source
 ///

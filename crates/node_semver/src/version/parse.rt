@@ -16,8 +16,10 @@ use std::alloc::Global;
 impl Version {
     /// Reads a version text.
     ///
-    /// A text is a version in one way, or it has one fault, the first one from the left. Read in npm's loose form: it may
-    /// begin with a `v` or `V` and blanks, numbers and identifiers may have leading zeros, and the `-` of a prerelease may be
+    /// A text is a version in one way, or it has one fault, the first one from the left. Read in npm's loose form:
+    /// it may
+    /// begin with a `v` or `V` and blanks, numbers and identifiers may have leading zeros, and the `-` of a
+    /// prerelease may be
     /// left out. No blank may follow. An identifier of digits above the greatest `u64` is a text.
     ///
     /// # Errors
@@ -34,7 +36,8 @@ impl Version {
     ///
     /// # Memory
     ///
-    /// Takes none for a version without prerelease and build. Else a list of identifiers and the text of each one that is no
+    /// Takes none for a version without prerelease and build. Else a list of identifiers and the text of each one
+    /// that is no
     /// number; for an error a copy of the text.
     ///
     /// # Examples

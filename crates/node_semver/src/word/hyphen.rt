@@ -39,7 +39,8 @@ pub(crate) fn read_leading_hyphen(text: &[u8]) -> Option<(Option<Ends>, &[u8])>
 pub(crate) fn hyphen_ends<'a>(left: Partial<'a>, right: Partial<'a>) -> Ends<'a>
     requires left { IsSound left }
     requires right { IsSound right }
-    ensures { ends_seen result ≡ HyphenRanges.hyphen_comparator (Some (partial_seen left.entry)) (partial_seen right.entry) }
+    ensures { ends_seen result
+        ≡ HyphenRanges.hyphen_comparator (Some (partial_seen left.entry)) (partial_seen right.entry) }
 {
     Ends {
         lower: at_least(zeroed(left)).lower,

@@ -39,7 +39,8 @@ pub(crate) fn read_operator(text: &[u8]) -> Option<(Operator, &[u8])>
 #[inline(always)]
 pub(crate) fn operator_ends<'a>(operator: Operator, partial: Partial<'a>) -> Option<Ends<'a>>
     requires { IsSound partial }
-    ensures { some_ends_seen result ≡ Operators.operator_comparator (operator_seen operator) (partial_seen partial.entry) }
+    ensures { some_ends_seen result
+        ≡ Operators.operator_comparator (operator_seen operator) (partial_seen partial.entry) }
 {
     match operator {
         Operator::AtLeast => Some(at_least(zeroed(partial))),

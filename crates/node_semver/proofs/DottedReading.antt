@@ -10,7 +10,7 @@ use Rattle.node_semver.specs.Private.Reading.{read_extras}
 use Rattle.node_semver.specs.Private.WordReading.{Component, ReadPartial, read_component, read_components, read_from_minor, read_from_patch, with_extras, with_first, with_second, with_third}
 use Rattle.node_semver.proofs.CleanEnds.{clean-no_dot}
 use Rattle.node_semver.proofs.ComponentReading.{component-again, component-takes}
-use Rattle.node_semver.proofs.IdentifierReading.{extras-again, extras-takes}
+use Rattle.node_semver.proofs.ExtrasReading.{extras-again, extras-takes}
 use Rattle.node_semver.proofs.Prefixes.{no-append}
 use Rattle.node_semver.proofs.VersionReading.{clean-ends_extras, clean-no_digit, prefix_of-no, regroup}
 

@@ -1,14 +1,24 @@
 -- Worked examples: what the definitions of a version text and of a fault say of some texts.
 use Rattle.std.proofs.Common.{◌≡◌, ℕ, ◌-◌, List, [], ◌∷◌, length, refl, ap, arith, subst}
-use Rattle.std.specs.Prelude.{codes}
+use Rattle.std.specs.Prelude.{Option, Some, codes}
 use Rattle.node_semver.specs.Error.{Kind, context, max_int, max_length, other, parse_int}
 use Rattle.node_semver.specs.Fault.{IsFault, too_long}
 use Rattle.node_semver.specs.IdentifierValue.{IdentifierValue, alphanumeric, numeric}
 use Rattle.node_semver.specs.Private.Reading.{rest_of, skip_one, skip_plus, read_build, read_extras, prefix_of, list_rest, list_prefix, read_version, read_number, read_triple, read_dot, read_prerelease, read_unmarked}
 use Rattle.node_semver.specs.Version.{VersionValue}
 use Rattle.node_semver.specs.VersionText.{IsVersionText}
-use Rattle.node_semver.proofs.FaultLemmas.{fault-computed}
+use Rattle.node_semver.proofs.FaultLemmas.{fault-computed, fault_of}
 use Rattle.node_semver.proofs.OneReading.{read-version}
+
+-- the fault of a text, computed
+unfoldable computed : List ℕ → Option (Kind × ℕ)
+unfolding rest_of skip_one skip_plus read_build read_extras prefix_of list_rest list_prefix read_version read_number
+    read_triple read_dot read_prerelease read_unmarked
+computed text = fault_of text
+
+is-computed : (text : List ℕ) (kind : Kind) (offset : ℕ) → computed text ≡ Some (kind, offset) → IsFault text kind offset
+unfolding computed
+is-computed text kind offset told = fault-computed text kind offset told
 
 -- a number or a dot is missing
 abbrev missing : Kind
@@ -21,15 +31,15 @@ missing-there : IsFault (codes "") missing 0
     × IsFault (codes "1 .2.3") missing 1
     × IsFault (codes "vv1.2.3") missing 1
     × IsFault (codes "\n1.2.3") missing 0
-unfolding rest_of skip_one prefix_of read_version read_number read_triple read_dot read_unmarked
+unfolding computed
 missing-there = (
-  fault-computed _ _ _ refl,
-  fault-computed _ _ _ refl,
-  fault-computed _ _ _ refl,
-  fault-computed _ _ _ refl,
-  fault-computed _ _ _ refl,
-  fault-computed _ _ _ refl,
-  fault-computed _ _ _ refl,
+  is-computed _ _ _ refl,
+  is-computed _ _ _ refl,
+  is-computed _ _ _ refl,
+  is-computed _ _ _ refl,
+  is-computed _ _ _ refl,
+  is-computed _ _ _ refl,
+  is-computed _ _ _ refl,
 )
 
 -- a number is too large, whatever follows it
@@ -37,12 +47,12 @@ large-there : IsFault (codes "1.2.900719925474100") (max_int 900719925474100) 4
     × IsFault (codes "900719925474100.a") (max_int 900719925474100) 0
     × IsFault (codes "0.18446744073709551615.0") (max_int 18446744073709551615) 2
     × IsFault (codes "18446744073709551616.0.0") parse_int 0
-unfolding rest_of skip_one prefix_of read_version read_number read_triple read_dot read_unmarked
+unfolding computed
 large-there = (
-  fault-computed _ _ _ refl,
-  fault-computed _ _ _ refl,
-  fault-computed _ _ _ refl,
-  fault-computed _ _ _ refl,
+  is-computed _ _ _ refl,
+  is-computed _ _ _ refl,
+  is-computed _ _ _ refl,
+  is-computed _ _ _ refl,
 )
 
 -- something is left after a version
@@ -53,15 +63,15 @@ left-there : IsFault (codes "1.2.3.4") other 5
     × IsFault (codes "1.2.3-a.") other 7
     × IsFault (codes "1.2.3-a.+b") other 7
     × IsFault (codes "1.2.3-a+") other 7
-unfolding rest_of skip_one skip_plus read_build read_extras prefix_of list_rest list_prefix read_version read_number read_triple read_dot read_prerelease read_unmarked
+unfolding computed
 left-there = (
-  fault-computed _ _ _ refl,
-  fault-computed _ _ _ refl,
-  fault-computed _ _ _ refl,
-  fault-computed _ _ _ refl,
-  fault-computed _ _ _ refl,
-  fault-computed _ _ _ refl,
-  fault-computed _ _ _ refl,
+  is-computed _ _ _ refl,
+  is-computed _ _ _ refl,
+  is-computed _ _ _ refl,
+  is-computed _ _ _ refl,
+  is-computed _ _ _ refl,
+  is-computed _ _ _ refl,
+  is-computed _ _ _ refl,
 )
 
 -- a text of 257 bytes, whatever it holds
@@ -86,7 +96,7 @@ version-there : IsVersionText (codes "v 01.02.03") (version 1 2 3 [] [])
     (version 1 0 0 (word (codes "rc") ∷ word (codes "2-migration") ∷ []) [])
     × IsVersionText (codes "0.0.900719925474099+a.007")
     (version 0 0 900719925474099 [] (word (codes "a") ∷ numeric 7 ∷ []))
-unfolding rest_of skip_one skip_plus read_build read_extras prefix_of list_rest list_prefix read_version read_number read_triple read_dot read_prerelease read_unmarked
+unfolding computed
 version-there = (
   read-version _ _ (omega arith) refl,
   read-version _ _ (omega arith) refl,

@@ -9,6 +9,7 @@ pub mod ComponentReading
 pub mod Digits
 pub mod DivisionLemmas
 pub mod DottedReading
+pub mod ExtrasReading
 pub mod FaultExamples
 pub mod FaultLemmas
 pub mod FaultReading

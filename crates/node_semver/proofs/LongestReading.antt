@@ -13,7 +13,8 @@ use Rattle.node_semver.specs.Version.{VersionValue}
 use Rattle.node_semver.specs.VersionText.{IsMarked, IsUnmarkedVersion}
 use Rattle.node_semver.specs.Private.Reading.{rest_of, skip_one, skip_plus, begins, read_build, read_extras, prefix_of, goes_on, list_rest, read_list_or, read_version, read_number, read_triple, read_prerelease, read_unmarked, version_of}
 use Rattle.node_semver.proofs.Prefixes.{begins-append, prefix_of-rest_of, rest_of-all, with-begins}
-use Rattle.node_semver.proofs.IdentifierReading.{GoOn, begins-first, build-takes, read_build-other, read_build-plus, goes_on-character, list-through, list-whole, read_list_or-none, read_list_or-some, parts-shape, prerelease-again, prerelease-listed, prerelease-takes, read_prerelease-hyphen, read_prerelease-other}
+use Rattle.node_semver.proofs.ExtrasReading.{build-takes, read_build-other, read_build-plus, read_list_or-none, read_list_or-some, prerelease-again, prerelease-listed, prerelease-takes, read_prerelease-hyphen, read_prerelease-other}
+use Rattle.node_semver.proofs.IdentifierReading.{GoOn, begins-first, goes_on-character, list-through, list-whole, parts-shape}
 use Rattle.node_semver.proofs.NumberReading.{answer, bind-ok, number-again, ok-value, dot-again}
 use Rattle.node_semver.proofs.VersionReading.{numbers-takes, regroup, version-follows}
 

@@ -13,7 +13,7 @@ use Rattle.node_semver.specs.Division.{IsCleanEnd}
 use Rattle.node_semver.specs.PartialText.{Partial, plain_partial}
 use Rattle.node_semver.specs.Private.Reading.{read_extras, read_number}
 use Rattle.node_semver.specs.Private.WordReading.{is_clean, read_component, read_components, read_from_minor, read_from_patch, with_extras}
-use Rattle.node_semver.proofs.IdentifierReading.{extras-again}
+use Rattle.node_semver.proofs.ExtrasReading.{extras-again}
 use Rattle.node_semver.proofs.NumberReading.{number-takes}
 use Rattle.node_semver.proofs.VersionReading.{clean-ends_extras}
 

@@ -10,7 +10,8 @@ use Rattle.node_semver.specs.VersionText.{IsMarked, IsUnmarkedVersion}
 use Rattle.node_semver.specs.Private.Reading.{read_dot, read_extras, read_number, read_triple, read_unmarked, read_version, rest_of, skip_one, version_of}
 use Rattle.node_semver.proofs.Marks.{TakesMarked, marked-follows, marked-taken}
 use Rattle.node_semver.proofs.Prefixes.{begins-append, no-append}
-use Rattle.node_semver.proofs.IdentifierReading.{EndsExtras, extras-again, extras-takes}
+use Rattle.node_semver.proofs.ExtrasReading.{extras-again, extras-takes}
+use Rattle.node_semver.proofs.IdentifierReading.{EndsExtras}
 use Rattle.node_semver.proofs.NumberReading.{bind-ok, number-again, number-takes, ok-value, dot-again, dot-takes}
 
 -- three numbers with dots between them, at the start of a text

@@ -6,6 +6,7 @@ use Rattle.std.specs.List.{after_last}
 abbrev pub newline : ℕ
 newline = 10
 
+-- the byte is one
 abbrev pub is_newline : ℕ → Bool
 is_newline byte = byte == newline
 

@@ -5,7 +5,8 @@ use Rattle.std.proofs.Common.{arith, add-one, one-add, ltb-false, ltb-true}
 use Rattle.std.specs.List.{position, position_or_len}
 use Rattle.std.proofs.lemmas.List.{take_rest}
 use Rattle.std.proofs.lemmas.Option.{cond_some}
-use Rattle.semver_pairs.specs.Lines.{lines_of, newline, with_byte}
+use Rattle.node_semver.specs.ErrorLocation.{newline}
+use Rattle.semver_pairs.specs.Lines.{lines_of, with_byte}
 
 -- where the first newline stands, or the length
 abbrev newline_at : List ℕ → ℕ

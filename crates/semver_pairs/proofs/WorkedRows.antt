@@ -2,7 +2,8 @@
 use Rattle.std.proofs.Common.{◌≡◌, ℕ, List, [], ◌∷◌, ◌++◌, codes, refl, inl, true}
 use Rattle.std.specs.Str.{chars, is_utf8, IsUtf8}
 use Rattle.std.proofs.lemmas.Str.{is_utf8-from_IsUtf8}
-use Rattle.semver_pairs.specs.Lines.{lines_of, newline}
+use Rattle.node_semver.specs.ErrorLocation.{newline}
+use Rattle.semver_pairs.specs.Lines.{lines_of}
 use Rattle.semver_pairs.specs.Answer.{bad_range}
 use Rattle.semver_pairs.specs.Output.{IsOutput}
 

@@ -3,7 +3,7 @@ use Rattle.std.specs.Prelude.{◌≡◌, ◌⊎◌, ℕ, List, [], ◌∷◌, �
 use Rattle.node_semver.specs.Meaning.{IsRefused, TextAdmits}
 use Rattle.node_semver.specs.Version.{VersionValue}
 use Rattle.node_semver.specs.VersionText.{IsVersionText}
-use Rattle.semver_pairs.specs.Lines.{newline}
+use Rattle.node_semver.specs.ErrorLocation.{newline}
 
 -- a line that is not UTF-8, or is refused as a range text
 abbrev pub IsBadRange : List ℕ → Type 0

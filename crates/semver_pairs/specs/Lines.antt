@@ -1,9 +1,6 @@
 -- The lines of what the program reads.
 use Rattle.std.specs.Prelude.{ℕ, ◌==◌, if◌then◌else◌, List, [], ◌∷◌}
-
--- the byte that ends a line
-abbrev pub newline : ℕ
-newline = 10
+use Rattle.node_semver.specs.ErrorLocation.{newline}
 
 -- the lines with one more byte, the first of the first line
 abbrev pub with_byte : ℕ → List (List ℕ) → List (List ℕ)

@@ -1,6 +1,7 @@
 //! The lines of some bytes, the first ones first.
 ghost use Rattle.std.specs.Prelude.{◌≡◌, ℕ, ◌==◌, ◌<◌, ◌≤◌, List, [], ◌∷◌, length, IfSome, IfNone, position};
-ghost use Rattle.semver_pairs.specs.Lines.{lines_of, newline};
+ghost use Rattle.node_semver.specs.ErrorLocation.{newline};
+ghost use Rattle.semver_pairs.specs.Lines.{lines_of};
 
 /// The first two lines, where there are two.
 pub(crate) fn first_two_lines(bytes: &[u8]) -> Option<(&[u8], &[u8])>

@@ -7,6 +7,7 @@ use Rattle.std.specs.FinMap.{IsAntisymmetric, nat_cmp-IsAntisymmetric, slice_cmp
 use Rattle.std.proofs.lemmas.Cmp.{ranked}
 use Rattle.std.specs.declared.cmp.Ordering.{Ordering}
 use Rattle.std.specs.declared.cmp.Ordering.TheVariants.{Less, Equal, Greater}
+use Rattle.semver_cuts.specs.Lemmas.CutOrder.{then_equal}
 use Rattle.node_semver.specs.IdentifierValue.{IdentifierValue, numeric, alphanumeric}
 use Rattle.node_semver.specs.Version.{VersionValue, HasSameTriple}
 use Rattle.node_semver.specs.Order.{IsListBelow, IsIdentifierBelow, IsBelow, by_major, by_minor, by_patch, before_release, by_identifiers, IsSame, OrderMeans, IdentifierOrderMeans}
@@ -30,13 +31,8 @@ text (alphanumeric t) = t
 abbrev identifier_by_parts : IdentifierValue → IdentifierValue → Ordering
 identifier_by_parts = then_cmp (on class nat_cmp) (then_cmp (on number nat_cmp) (on text (slice_cmp nat_cmp)))
 
-then_Equal : (r : Ordering) → ordering_then r Equal ≡ r
-then_Equal Less = refl
-then_Equal Equal = refl
-then_Equal Greater = refl
-
 by_parts : (a b : IdentifierValue) → identifier_by_parts a b ≡ identifier_cmp a b
-by_parts (numeric m) (numeric n) = then_Equal (nat_cmp m n)
+by_parts (numeric m) (numeric n) = then_equal (nat_cmp m n)
 by_parts (numeric m) (alphanumeric t) = refl
 by_parts (alphanumeric s) (numeric n) = refl
 by_parts (alphanumeric s) (alphanumeric t) = refl

@@ -26,7 +26,7 @@ pair_cmp {T} cmp = then_cmp (on (λ (p : T × ℕ). p.0) cmp) (on (λ (p : T × 
 key_cmp : {T : Type 0} → (T → T → Ordering) → Option (Option (T × ℕ)) → Option (Option (T × ℕ)) → Ordering
 key_cmp cmp = option_cmp (flip_args (option_cmp (flip_args (pair_cmp cmp))))
 
-then_equal : (r : Ordering) → ordering_then r Equal ≡ r
+pub then_equal : (r : Ordering) → ordering_then r Equal ≡ r
 then_equal Less = refl
 then_equal Equal = refl
 then_equal Greater = refl

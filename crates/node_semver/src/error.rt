@@ -215,6 +215,3 @@ impl Clone for SemverError {
         })
     }
 }
-
-#[cfg(test)]
-mod tests;

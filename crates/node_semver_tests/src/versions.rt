@@ -1,4 +1,5 @@
-use crate::{Identifier, SemverErrorKind, Version};
+use crate::checks::repeated;
+use node_semver::{Identifier, SemverErrorKind, Version};
 use std::alloc::{AllocError, Global};
 use std::test::Fail;
 
@@ -15,15 +16,6 @@ fn shape(alloc: Global, identifiers: &[Identifier]) -> Result<String, AllocError
         write!(text, "{identifier}")?;
     }
     Ok(text)
-}
-
-// A text, and a piece some times behind it.
-fn repeated(alloc: Global, text: &str, piece: &str, times: usize) -> Result<String, AllocError> {
-    let mut whole = String::from_str(alloc, text)?;
-    for _ in 0..times {
-        whole.push_str(piece)?;
-    }
-    Ok(whole)
 }
 
 // SemVer 2.0.0, sections 2, 9 and 10, and npm's loose form: a mark, blanks, leading zeros, no hyphen.
@@ -84,6 +76,7 @@ fn reads_versions(rt: HostRuntime) -> Result<(), Fail> {
             "{text}"
         );
         assert_eq!(rt; shape(alloc, &version.build)?.as_str(), build, "{text}");
+        assert_eq!(rt; version.is_prerelease(), !pre_release.is_empty(), "{text}");
     }
     Ok(())
 }
@@ -116,75 +109,6 @@ fn reads_at_most_256_bytes(rt: HostRuntime) -> Result<(), Fail> {
     Ok(())
 }
 
-// What is wrong, its byte offset, the lines before it and the bytes before it in its line.
-#[test]
-fn refuses_versions_at_the_first_fault(rt: HostRuntime) -> Result<(), Fail> {
-    let alloc = rt.alloc();
-    let too_large = "18446744073709551616"
-        .parse::<u64>()
-        .err()
-        .ok_or("64 bits")?;
-    let long_lines = repeated(alloc, "a\n", "b", 298)?;
-    let long_characters = repeated(alloc, "a", "\u{161}", 128)?;
-    for (text, kind, offset, location) in [
-        ("", SemverErrorKind::Context("version"), 0, (0, 0)),
-        ("v", SemverErrorKind::Context("version"), 1, (0, 1)),
-        (" v1.2.3", SemverErrorKind::Context("version"), 1, (0, 1)),
-        ("1.", SemverErrorKind::Context("version"), 2, (0, 2)),
-        ("1.2", SemverErrorKind::Context("version"), 3, (0, 3)),
-        ("\n1.2.3", SemverErrorKind::Context("version"), 0, (0, 0)),
-        (
-            "\u{ff11}.2.3",
-            SemverErrorKind::Context("version"),
-            0,
-            (0, 0),
-        ),
-        (
-            "1.2.900719925474100",
-            SemverErrorKind::MaxIntError(900719925474100),
-            4,
-            (0, 4),
-        ),
-        (
-            "900719925474100.a",
-            SemverErrorKind::MaxIntError(900719925474100),
-            0,
-            (0, 0),
-        ),
-        (
-            "18446744073709551616.0.0",
-            SemverErrorKind::ParseIntError(too_large),
-            0,
-            (0, 0),
-        ),
-        ("1.2.3 ", SemverErrorKind::Other, 5, (0, 5)),
-        ("1.2.3.4", SemverErrorKind::Other, 5, (0, 5)),
-        ("1.2.3-", SemverErrorKind::Other, 5, (0, 5)),
-        ("1.2.3+", SemverErrorKind::Other, 5, (0, 5)),
-        ("1.2.3-+a", SemverErrorKind::Other, 5, (0, 5)),
-        ("1.2.3-\u{161}", SemverErrorKind::Other, 5, (0, 5)),
-        ("1.2.3\n4", SemverErrorKind::Other, 5, (0, 5)),
-        ("1.2.3-a.", SemverErrorKind::Other, 7, (0, 7)),
-        ("1.2.3-a+", SemverErrorKind::Other, 7, (0, 7)),
-        ("1.2.3-a.+b", SemverErrorKind::Other, 7, (0, 7)),
-        (&long_lines, SemverErrorKind::MaxLengthError, 299, (1, 297)),
-        (
-            &long_characters,
-            SemverErrorKind::MaxLengthError,
-            256,
-            (0, 256),
-        ),
-    ] {
-        let error = Version::parse(alloc, text).err().ok_or("read")?;
-        assert_eq!(rt; error.kind(), &kind, "{text}");
-        assert_eq!(rt; error.offset(), offset, "{text}");
-        assert_eq!(rt; error.span().len(), 0, "{text}");
-        assert_eq!(rt; error.location(), location, "{text}");
-        assert_eq!(rt; error.input().as_bytes(), text.as_bytes(), "{text}");
-    }
-    Ok(())
-}
-
 // Each text prints as the other, and an equal version is read from that.
 #[test]
 fn prints_what_it_read(rt: HostRuntime) -> Result<(), Fail> {
@@ -201,5 +125,20 @@ fn prints_what_it_read(rt: HostRuntime) -> Result<(), Fail> {
         assert_eq!(rt; again.to_string(alloc)?.as_str(), print, "{text}");
         assert!(rt; again == version, "{text}");
     }
+    Ok(())
+}
+
+// The Rust crate `node-semver` 2.2.0 makes them by `From`.
+#[test]
+fn makes_versions_of_numbers(rt: HostRuntime) -> Result<(), Fail> {
+    let alloc = rt.alloc();
+    let release = Version::new(alloc, 1, 2, 3);
+    assert_eq!(rt; release.to_string(alloc)?.as_str(), "1.2.3");
+    assert!(rt; !release.is_prerelease());
+    let prerelease = Version::with_pre_release(alloc, 1, 2, 3, 4)?;
+    assert_eq!(rt; prerelease.to_string(alloc)?.as_str(), "1.2.3-4");
+    assert!(rt; prerelease.is_prerelease());
+    assert!(rt; prerelease < release);
+    assert!(rt; Version::with_pre_release(alloc, 1, 2, 3, 0)? < prerelease);
     Ok(())
 }

@@ -1,4 +1,4 @@
-use node_semver::{Range, SemverErrorKind, Version};
+use node_semver::{Range, SemverError, SemverErrorKind, Version};
 use std::alloc::{AllocError, AllocGlobal, Global};
 use std::process::Abort;
 use std::test::Fail;
@@ -31,15 +31,32 @@ fn answers(
     Ok(())
 }
 
-// No text is a range: the error has the kind, the place and the whole text.
+// No text is a range.
 pub(crate) fn refuses(rt: &(impl Abort + AllocGlobal), texts: &[&str]) -> Result<(), Fail> {
     for text in texts {
         let error = Range::parse(rt.alloc(), text).err().ok_or("read")?;
-        assert_eq!(rt; error.kind(), &SemverErrorKind::NoValidRanges, "{text}");
-        assert_eq!(rt; (error.offset(), error.span().len()), (0, 0), "{text}");
-        assert_eq!(rt; error.input().as_bytes(), text.as_bytes(), "{text}");
+        tells(rt, &error, text, &SemverErrorKind::NoValidRanges, (0, 0, 0));
     }
     Ok(())
+}
+
+// The error tells the whole text, this kind, and this place: byte offset, line and column.
+pub(crate) fn tells(
+    rt: &impl Abort,
+    error: &SemverError,
+    text: &str,
+    kind: &SemverErrorKind,
+    place: (usize, usize, usize),
+) {
+    let (line, column) = error.location();
+    assert_eq!(rt; error.kind(), kind, "{text}");
+    assert_eq!(rt; (error.offset(), line, column), place, "{text}");
+    assert_eq!(rt;
+        (error.span().offset(), error.span().len()),
+        (place.0, 0),
+        "{text}"
+    );
+    assert_eq!(rt; error.input().as_bytes(), text.as_bytes(), "{text}");
 }
 
 // A text, and a piece some times behind it.

@@ -1,4 +1,4 @@
-use crate::checks::repeated;
+use crate::checks::{admits_and_turns_away, refuses, repeated, tells};
 use node_semver::{Identifier, Range, SemverErrorKind, Version};
 use std::test::Fail;
 
@@ -8,14 +8,15 @@ use std::test::Fail;
 fn refuses_a_long_version(rt: HostRuntime) -> Result<(), Fail> {
     let alloc = rt.alloc();
     let text = repeated(alloc, "1.2.3-", "\u{161}abc", 1000)?;
-    let error = Version::parse(alloc, &text)
-        .err()
-        .ok_or("5006 bytes were read")?;
-    assert_eq!(rt; error.kind(), &SemverErrorKind::MaxLengthError);
-    assert_eq!(rt; (error.offset(), error.span().len()), (5005, 0));
-    assert_eq!(rt; error.location(), (0, 5005));
-    assert_eq!(rt; error.input().len(), 5006);
-    assert_eq!(rt; error.input().as_bytes(), text.as_bytes());
+    let error = Version::parse(alloc, &text).err().ok_or("read")?;
+    assert_eq!(rt; text.len(), 5006);
+    tells(
+        &rt,
+        &error,
+        &text,
+        &SemverErrorKind::MaxLengthError,
+        (5005, 0, 5005),
+    );
     Ok(())
 }
 
@@ -23,14 +24,15 @@ fn refuses_a_long_version(rt: HostRuntime) -> Result<(), Fail> {
 fn copies_an_error_with_a_long_text(rt: HostRuntime) -> Result<(), Fail> {
     let alloc = rt.alloc();
     let text = repeated(alloc, "1.2.3-", "\u{161}abc", 1000)?;
-    let error = Version::parse(alloc, &text)
-        .err()
-        .ok_or("5006 bytes were read")?;
+    let error = Version::parse(alloc, &text).err().ok_or("read")?;
     let copy = error.clone()?;
-    assert_eq!(rt; copy.kind(), &SemverErrorKind::MaxLengthError);
-    assert_eq!(rt; (copy.offset(), copy.span().len()), (5005, 0));
-    assert_eq!(rt; copy.input().len(), 5006);
-    assert_eq!(rt; copy.input().as_bytes(), text.as_bytes());
+    tells(
+        &rt,
+        &copy,
+        &text,
+        &SemverErrorKind::MaxLengthError,
+        (5005, 0, 5005),
+    );
     assert_eq!(rt; copy, error);
     Ok(())
 }
@@ -70,28 +72,30 @@ fn prints_a_long_version(rt: HostRuntime) -> Result<(), Fail> {
     Ok(())
 }
 
-// A range text has no limit of length, and no identifier in it either.
+// A range text has no limit of length: `=1.2.3-a.b` with 9,999 identifiers more.
 #[test]
-fn reads_a_range_of_long_identifiers(rt: HostRuntime) -> Result<(), Fail> {
+fn reads_a_range_of_many_identifiers(rt: HostRuntime) -> Result<(), Fail> {
     let alloc = rt.alloc();
-    let range = Range::parse(alloc, "=1.2.3-a.b.c")?;
-    assert!(rt; range.satisfies(&Version::parse(alloc, "1.2.3-a.b.c")?));
-    assert!(rt; !range.satisfies(&Version::parse(alloc, "1.2.3-a.b")?));
-    assert!(rt; !range.satisfies(&Version::parse(alloc, "1.2.3-a.b.d")?));
-    let text = repeated(alloc, "=1.2.3-a", ".b", 10000)?;
-    let long = Range::parse(alloc, &text)?;
+    let range = Range::parse(alloc, &repeated(alloc, "=1.2.3-a", ".b", 10000)?)?;
     let mut version = Version::parse(alloc, "1.2.3-a")?;
-    assert!(rt; !long.satisfies(&version));
+    assert!(rt; !range.satisfies(&version));
     for _ in 0..10000 {
         let identifier = Identifier::AlphaNumeric(String::from_str(alloc, "b")?);
         version.pre_release.push(identifier)?;
     }
-    assert!(rt; long.satisfies(&version));
+    assert!(rt; range.satisfies(&version));
     version.pre_release.push(Identifier::Numeric(0))?;
-    assert!(rt; !long.satisfies(&version));
-    let word = repeated(alloc, "", "c", 5000)?;
-    let range = Range::parse(alloc, &repeated(alloc, ">1.2.3-", &word, 1)?)?;
+    assert!(rt; !range.satisfies(&version));
+    Ok(())
+}
+
+// Nor has an identifier in it.
+#[test]
+fn reads_a_range_of_a_long_identifier(rt: HostRuntime) -> Result<(), Fail> {
+    let alloc = rt.alloc();
+    let range = Range::parse(alloc, &repeated(alloc, ">1.2.3-", "c", 5000)?)?;
     let mut version = Version::new(alloc, 1, 2, 3);
+    let word = repeated(alloc, "", "c", 5000)?;
     version.pre_release.push(Identifier::AlphaNumeric(word))?;
     assert!(rt; !range.satisfies(&version));
     version.pre_release.push(Identifier::Numeric(0))?;
@@ -114,16 +118,8 @@ fn reads_a_range_of_many_comparators(rt: HostRuntime) -> Result<(), Fail> {
         ),
         ("1", " 1 - 2", 5000, "1.0.0", "2.0.0"),
     ] {
-        let range = Range::parse(alloc, &repeated(alloc, beginning, piece, times)?)?;
-        let answers = (
-            range.satisfies(&Version::parse(alloc, admitted)?),
-            range.satisfies(&Version::parse(alloc, turned_away)?),
-        );
-        assert_eq!(rt;
-            answers,
-            (true, false),
-            "{beginning} and {times} times {piece}"
-        );
+        let text = repeated(alloc, beginning, piece, times)?;
+        admits_and_turns_away(&rt, &[(&text, admitted, turned_away)])?;
     }
     Ok(())
 }
@@ -146,16 +142,8 @@ fn reads_a_range_between_many_words(rt: HostRuntime) -> Result<(), Fail> {
         ("", " ", 200000, "- 1 1"),
     ] {
         let text = repeated(alloc, beginning, piece, times)?;
-        let range = Range::parse(alloc, &repeated(alloc, &text, end, 1)?)?;
-        let answers = (
-            range.satisfies(&Version::new(alloc, 1, 0, 0)),
-            range.satisfies(&Version::new(alloc, 2, 0, 0)),
-        );
-        assert_eq!(rt;
-            answers,
-            (true, false),
-            "{beginning}, {times} times {piece}, {end}"
-        );
+        let whole = repeated(alloc, &text, end, 1)?;
+        admits_and_turns_away(&rt, &[(&whole, "1.0.0", "2.0.0")])?;
     }
     Ok(())
 }
@@ -175,11 +163,7 @@ fn refuses_long_ranges(rt: HostRuntime) -> Result<(), Fail> {
         ("", "- ", 50000),
     ] {
         let text = repeated(alloc, beginning, piece, times)?;
-        let error = Range::parse(alloc, &text).err().ok_or(piece)?;
-        assert_eq!(rt; error.kind(), &SemverErrorKind::NoValidRanges, "{piece}");
-        assert_eq!(rt; (error.offset(), error.location()), (0, (0, 0)), "{piece}");
-        assert_eq!(rt; error.input().len(), text.len(), "{piece}");
-        assert_eq!(rt; error.input().as_bytes(), text.as_bytes(), "{piece}");
+        refuses(&rt, &[&text])?;
     }
     Ok(())
 }

@@ -18,10 +18,9 @@ fn prints_versions_in_one_way(rt: HostRuntime) -> Result<(), Fail> {
         ((1, 0, 0), "rc-1", "", "1.0.0-rc-1"),
     ] {
         let v = version(alloc, triple, pre_release, build)?;
-        assert_eq!(rt; format!(in alloc; "{v}")?.as_str(), text);
-        assert_eq!(rt; format!(in alloc; "{v:>9}")?.as_str(), text);
-        assert_eq!(rt; format!(in alloc; "{v:*^40}")?.as_str(), text);
-        assert_eq!(rt; format!(in alloc; "{v:#}")?.as_str(), text);
+        let print = format!(in alloc; "{v}, {v:>9}, {v:*^40}, {v:#}")?;
+        let plain = format!(in alloc; "{text}, {text}, {text}, {text}")?;
+        assert_eq!(rt; print.as_bytes(), plain.as_bytes());
     }
     Ok(())
 }
@@ -41,10 +40,11 @@ fn prints_identifiers_in_one_way(rt: HostRuntime) -> Result<(), Fail> {
         ),
         (Identifier::AlphaNumeric(String::new(alloc)), ""),
     ] {
-        assert_eq!(rt; format!(in alloc; "{identifier}")?.as_str(), text);
-        assert_eq!(rt; format!(in alloc; "{identifier:>9}")?.as_str(), text);
-        assert_eq!(rt; format!(in alloc; "{identifier:*^9}")?.as_str(), text);
-        assert_eq!(rt; format!(in alloc; "{identifier:#}")?.as_str(), text);
+        let print = format!(in alloc;
+            "{identifier}, {identifier:>9}, {identifier:*^40}, {identifier:#}"
+        )?;
+        let plain = format!(in alloc; "{text}, {text}, {text}, {text}")?;
+        assert_eq!(rt; print.as_bytes(), plain.as_bytes());
     }
     Ok(())
 }
@@ -63,12 +63,9 @@ fn prints_kinds_in_one_way(rt: HostRuntime) -> Result<(), Fail> {
         ),
         (SemverErrorKind::Other, "An unspecified error occurred."),
     ] {
-        assert_eq!(rt; format!(in alloc; "{kind}")?.as_bytes(), text.as_bytes());
-        assert_eq!(rt;
-            format!(in alloc; "{kind:>120}")?.as_bytes(),
-            text.as_bytes()
-        );
-        assert_eq!(rt; format!(in alloc; "{kind:#}")?.as_bytes(), text.as_bytes());
+        let print = format!(in alloc; "{kind}, {kind:>120}, {kind:#}")?;
+        let plain = format!(in alloc; "{text}, {text}, {text}")?;
+        assert_eq!(rt; print.as_bytes(), plain.as_bytes());
     }
     Ok(())
 }
@@ -83,12 +80,9 @@ fn prints_errors_in_one_way(rt: HostRuntime) -> Result<(), Fail> {
         (of_a_version, "Failed to parse version."),
         (of_a_range, "No valid ranges could be parsed"),
     ] {
-        assert_eq!(rt; format!(in alloc; "{error}")?.as_bytes(), text.as_bytes());
-        assert_eq!(rt;
-            format!(in alloc; "{error:>120}")?.as_bytes(),
-            text.as_bytes()
-        );
-        assert_eq!(rt; format!(in alloc; "{error:#}")?.as_bytes(), text.as_bytes());
+        let print = format!(in alloc; "{error}, {error:>120}, {error:#}")?;
+        let plain = format!(in alloc; "{text}, {text}, {text}")?;
+        assert_eq!(rt; print.as_bytes(), plain.as_bytes());
     }
     Ok(())
 }

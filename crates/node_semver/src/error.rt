@@ -152,6 +152,3 @@ impl Clone for SemverError {
         })
     }
 }
-
-#[cfg(test)]
-mod tests;

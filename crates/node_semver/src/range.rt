@@ -188,6 +188,3 @@ fn skip_leading_hyphen(text: &[u8]) -> (Option<Ends>, &[u8])
         None => (None, text),
     }
 }
-
-#[cfg(test)]
-mod tests;

@@ -6,8 +6,6 @@ mod display;
 mod hash;
 mod order;
 mod parse;
-#[cfg(test)]
-mod tests;
 
 use crate::Identifier;
 use std::alloc::{AllocError, Global};

@@ -6,9 +6,6 @@ ghost use Rattle.node_semver.specs.Version.{VersionValue};
 ghost use Rattle.node_semver.specs.declared.parse.fault.Fault.TheVariants.{TooLarge};
 ghost use Rattle.node_semver.specs.VersionText.{IsReadAs, IsVersionText};
 
-#[cfg(test)]
-mod tests;
-
 use crate::parse::{self, Fault};
 use crate::{MAX_LENGTH, SemverError, SemverErrorKind, Version};
 use std::alloc::Global;

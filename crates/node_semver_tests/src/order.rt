@@ -1,4 +1,4 @@
-use crate::{Identifier, Version};
+use node_semver::{Identifier, Version};
 use std::alloc::{AllocError, Global};
 use std::cmp::Ordering;
 use std::hash::{DefaultHasher, Hash, Hasher};
@@ -19,7 +19,7 @@ fn identifiers(alloc: Global, text: &str) -> Result<Vec<Identifier>, AllocError>
     Ok(parts)
 }
 
-fn version(
+pub(crate) fn version(
     alloc: Global,
     triple: (u64, u64, u64),
     pre_release: &str,
@@ -123,47 +123,5 @@ fn equality_order_and_hash_ignore_the_build(rt: HostRuntime) -> Result<(), Fail>
         );
         assert_eq!(rt; answers, (same, same), "{v} and {w}");
     }
-    Ok(())
-}
-
-// A width is not looked at.
-#[test]
-fn prints_versions_and_identifiers(rt: HostRuntime) -> Result<(), Fail> {
-    let alloc = rt.alloc();
-    for (triple, pre_release, build, text) in [
-        ((1, 2, 34), "abc.213", "2", "1.2.34-abc.213+2"),
-        ((1, 2, 3), "", "", "1.2.3"),
-        (
-            (0, 0, 18446744073709551615),
-            "",
-            "x.y",
-            "0.0.18446744073709551615+x.y",
-        ),
-        ((1, 0, 0), "rc-1", "", "1.0.0-rc-1"),
-    ] {
-        let v = version(alloc, triple, pre_release, build)?;
-        assert_eq!(rt; format!(in alloc; "{v}")?.as_str(), text);
-        assert_eq!(rt; format!(in alloc; "{v:>9}")?.as_str(), text);
-    }
-    let (number, word) = (
-        Identifier::Numeric(1),
-        Identifier::AlphaNumeric(String::from_str(alloc, "rc")?),
-    );
-    assert_eq!(rt; format!(in alloc; "{number}{number:>9}")?.as_str(), "11");
-    assert_eq!(rt; format!(in alloc; "{word}{word:*^9}")?.as_str(), "rcrc");
-    Ok(())
-}
-
-#[test]
-fn makes_versions(rt: HostRuntime) -> Result<(), Fail> {
-    let alloc = rt.alloc();
-    let plain = Version::new(alloc, 1, 2, 3);
-    assert!(rt; !plain.is_prerelease());
-    assert_eq!(rt; format!(in alloc; "{plain}")?.as_str(), "1.2.3");
-    let v = version(alloc, (1, 2, 3), "rc.1", "b.7")?;
-    assert!(rt; v.is_prerelease());
-    assert_eq!(rt; format!(in alloc; "{v}")?.as_str(), "1.2.3-rc.1+b.7");
-    let shorter = v.without_build_of(alloc)?;
-    assert_eq!(rt; format!(in alloc; "{shorter}")?.as_str(), "1.2.3-rc.1");
     Ok(())
 }

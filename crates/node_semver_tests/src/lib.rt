@@ -1,0 +1,37 @@
+//! Tests of `node_semver` through its public calls alone.
+#![tactic(auto)]
+
+#[cfg(test)]
+mod carets;
+#[cfg(test)]
+mod checks;
+#[cfg(test)]
+mod errors;
+#[cfg(test)]
+mod faults;
+#[cfg(test)]
+mod hyphens;
+#[cfg(test)]
+mod limits;
+#[cfg(test)]
+mod long_texts;
+#[cfg(test)]
+mod operators;
+#[cfg(test)]
+mod order;
+#[cfg(test)]
+mod prerelease_tags;
+#[cfg(test)]
+mod prints;
+#[cfg(test)]
+mod readme;
+#[cfg(test)]
+mod refusals;
+#[cfg(test)]
+mod tildes;
+#[cfg(test)]
+mod versions;
+#[cfg(test)]
+mod words;
+#[cfg(test)]
+mod x_ranges;

@@ -1,0 +1,67 @@
+use crate::checks::admits_and_turns_away;
+use std::test::Fail;
+
+// npm's "Tilde Ranges".
+#[test]
+fn tilde_ranges(rt: HostRuntime) -> Result<(), Fail> {
+    admits_and_turns_away(
+        &rt,
+        &[
+            ("~1.2.3", "1.2.3 1.2.9", "1.2.2 1.3.0 1.3.0-0 1.2.4-a"),
+            ("~0.2.3", "0.2.3 0.2.9", "0.2.2 0.3.0"),
+            (
+                "~1.2.3-beta.2",
+                "1.2.3-beta.2 1.2.3-beta.4 1.2.4",
+                "1.2.3-beta.1 1.2.4-beta.2",
+            ),
+            ("~1.2.3beta", "1.2.3-beta 1.2.9", "1.2.3-alpha 1.3.0"),
+            ("~1.2.3+b", "1.2.3 1.2.9", "1.2.2"),
+            ("~1.2", "1.2.0 1.2.9", "1.1.9 1.3.0 1.3.0-0"),
+            ("~1.2.x-beta", "1.2.0", "1.2.0-beta 1.2.0-beta.1 1.3.0"),
+            ("~1", "1.0.0 1.9.9", "0.9.9 2.0.0 2.0.0-0"),
+            ("~0", "0.0.0 0.9.9", "1.0.0 1.0.0-0"),
+            ("~ 1.2.3", "1.2.3 1.2.9", "1.3.0"),
+        ],
+    )
+}
+
+// npm's "Tilde Ranges" with the `>` of older texts. It keeps a prerelease where the third number is missing.
+#[test]
+fn tilde_and_above(rt: HostRuntime) -> Result<(), Fail> {
+    admits_and_turns_away(
+        &rt,
+        &[
+            ("~>3.2.1", "3.2.1 3.2.9", "3.2.0 3.3.0 3.3.0-0"),
+            (
+                "~>1.2.3-beta.2",
+                "1.2.3-beta.2 1.2.4",
+                "1.2.3-beta.1 1.2.4-beta.2",
+            ),
+            ("~>1.2", "1.2.0 1.2.9", "1.1.9 1.3.0"),
+            (
+                "~>1.2.x-beta",
+                "1.2.0-beta 1.2.0-beta.1",
+                "1.2.0-alpha 1.2.1-beta 1.3.0",
+            ),
+            ("~>1", "1.0.0 1.9.9", "0.9.9 2.0.0"),
+            ("~> 1", "1.0.0 1.9.9", "0.9.9 2.0.0"),
+            ("~ > 1", "1.0.0 1.9.9", "0.9.9 2.0.0"),
+            ("~>v 1", "1.0.0 1.9.9", "0.9.9 2.0.0"),
+        ],
+    )
+}
+
+// A number after an x, or an x alone: the tilde says nothing.
+#[test]
+fn tildes_that_say_nothing(rt: HostRuntime) -> Result<(), Fail> {
+    admits_and_turns_away(
+        &rt,
+        &[
+            ("~1.x.3 2", "2.0.0", "1.0.3 1.9.9 3.0.0"),
+            ("~* 2", "2.0.0", "1.0.0 3.0.0"),
+            ("~x.1.2 2", "2.0.0", "0.1.2 3.0.0"),
+            ("~>1.x.3 2", "2.0.0", "1.0.3 3.0.0"),
+            ("~>x 2", "2.0.0", "1.0.0 3.0.0"),
+        ],
+    )
+}

@@ -1,12 +1,10 @@
 -- Range texts: each is divided into words in exactly one way.
-use Rattle.std.proofs.Common.{◌≡◌, ◌⊎◌, ◌<◌, ◌≤◌, ℕ, zero, suc, Bool, true, List, [], ◌∷◌, ◌++◌, length, Option, Some, None, append_assoc, length-append, arith, refl, sym, ap, subst, ◌∙◌, inl, inr}
+use Rattle.std.proofs.Common.{◌≡◌, ◌<◌, ◌≤◌, ℕ, zero, suc, Bool, List, [], ◌∷◌, ◌++◌, length, Option, Some, None, append_assoc, length-append, arith, refl, sym, ap, subst, ◌∙◌, inl, inr}
 use Rattle.std.proofs.lemmas.Bool.{cases_Bool}
 use Rattle.std.proofs.lemmas.List.{append-nil}
 use Rattle.node_semver.specs.Characters.{AreAll, BeginsWith, BeginsWithNo, is_blank}
 use Rattle.node_semver.specs.Comparator.{Comparator}
-use Rattle.node_semver.specs.Division.{HasFirstWord, IsDivision, IsWord, IsWritten, comparators_of}
-use Rattle.node_semver.specs.HyphenRanges.{hyphen_comparator}
-use Rattle.node_semver.specs.PartialText.{Partial}
+use Rattle.node_semver.specs.Division.{IsDivision, IsWord, IsWritten, comparators_of}
 use Rattle.node_semver.specs.Private.Reading.{prefix_of, rest_of, skip_one}
 use Rattle.node_semver.specs.Private.WordReading.{ReadPartial, Word, leading_or_none, read_component, read_components, read_hyphen, read_lead, read_partial, read_right, read_simple, read_word}
 use Rattle.node_semver.specs.Private.WordViews.{listed}
@@ -21,11 +19,13 @@ unfolding read_word read_hyphen read_simple read_right read_partial read_compone
 word-of_nothing = refl
 
 -- a first word, with another one after it
-divide-more : (text : List ℕ) (c : Option Comparator) (rest : List ℕ) (b : ℕ) (words : List (Option Comparator)) → HasWord text c (b ∷ rest)
+divide-more : (text : List ℕ) (c : Option Comparator) (rest : List ℕ) (b : ℕ) (words : List (Option Comparator))
+    → HasWord text c (b ∷ rest)
     → IsDivision (rest_of is_blank (b ∷ rest)) words → IsDivision text (c ∷ words)
 divide-more text c rest b [] w d = absurd d
 divide-more text c rest b (x ∷ words) w d =
-    let whole : b ∷ rest ≡ prefix_of is_blank (b ∷ rest) ++ rest_of is_blank (b ∷ rest) = sym (prefix_of-rest_of is_blank (b ∷ rest)) in (
+    let whole : b ∷ rest ≡ prefix_of is_blank (b ∷ rest) ++ rest_of is_blank (b ∷ rest) =
+    sym (prefix_of-rest_of is_blank (b ∷ rest)) in (
       rest_of is_blank (b ∷ rest),
       record {
         word = w.word;
@@ -51,7 +51,8 @@ rest_of-length test (b ∷ rest) = elim (cases_Bool (test b)) [
 ]
 
 -- a text gets shorter by a word and the blanks after it
-pub rest-shorter : (text : List ℕ) (c : Option Comparator) (rest : List ℕ) → HasWord text c rest → 0 < length text → length (rest_of is_blank rest) < length text
+pub rest-shorter : (text : List ℕ) (c : Option Comparator) (rest : List ℕ) → HasWord text c rest → 0 < length text
+    → length (rest_of is_blank rest) < length text
 unfolding rest_of
 rest-shorter text c [] w some = some
 rest-shorter text c (b ∷ rest) w some =
@@ -61,7 +62,8 @@ rest-shorter text c (b ∷ rest) w some =
     rw skipped (omega (arith, length-append w.word (b ∷ rest)))
 
 divide-step : (text : List ℕ) (c : Option Comparator) (rest : List ℕ) → HasWord text c rest
-    → ((t : List ℕ) → length t < length text → (words : List (Option Comparator)) × IsDivision t words) → (words : List (Option Comparator)) × IsDivision text words
+    → ((t : List ℕ) → length t < length text → (words : List (Option Comparator)) × IsDivision t words)
+    → (words : List (Option Comparator)) × IsDivision text words
 divide-step text c [] w smaller = (c ∷ [], divide-last text c w)
 divide-step text c (b ∷ rest) w smaller =
     let whole : length text ≡ length (w.word ++ (b ∷ rest)) = ap length w.whole in
@@ -89,8 +91,10 @@ pub record HasMore (text : List ℕ) (c : Option Comparator) (words : List (Opti
   pub next : read_word text ≡ (c, b ∷ behind)
   pub division : IsDivision (rest_of is_blank (b ∷ behind)) words
 
-more-behind : (text word blanks rest : List ℕ) (c : Option Comparator) (words : List (Option Comparator)) → text ≡ word ++ (blanks ++ rest) → IsWord word (blanks ++ rest) c
-    → BeginsWith is_blank blanks → AreAll is_blank blanks → BeginsWithNo is_blank rest → IsDivision rest words → HasMore text c words
+more-behind : (text word blanks rest : List ℕ) (c : Option Comparator) (words : List (Option Comparator))
+    → text ≡ word ++ (blanks ++ rest) → IsWord word (blanks ++ rest) c
+    → BeginsWith is_blank blanks → AreAll is_blank blanks → BeginsWithNo is_blank rest → IsDivision rest words
+    → HasMore text c words
 more-behind text word [] rest c words whole w begins all ends d = absurd begins
 more-behind text word (b ∷ blanks) rest c words whole w begins all ends d = record {
   b = b;
@@ -99,12 +103,15 @@ more-behind text word (b ∷ blanks) rest c words whole w begins all ends d = re
   division = subst (λ (l : List ℕ). IsDivision l words) (sym (rest_of-again is_blank (b ∷ blanks) rest all ends)) d;
 }
 
-next-of_more : (text : List ℕ) (c x : Option Comparator) (words : List (Option Comparator)) → IsDivision text (c ∷ x ∷ words) → HasMore text c (x ∷ words)
+next-of_more : (text : List ℕ) (c x : Option Comparator) (words : List (Option Comparator))
+    → IsDivision text (c ∷ x ∷ words) → HasMore text c (x ∷ words)
 next-of_more text c x words d =
-    more-behind text d.1.word d.1.blanks d.0 c (x ∷ words) d.1.whole d.1.first d.1.blank.some d.1.blank.all d.1.blanks_end d.2
+    more-behind text d.1.word d.1.blanks d.0 c (x ∷ words) d.1.whole d.1.first d.1.blank.some d.1.blank.all
+    d.1.blanks_end d.2
 
 -- a text has one division
-pub division-unique : (text : List ℕ) (ws xs : List (Option Comparator)) → IsDivision text ws → IsDivision text xs → ws ≡ xs
+pub division-unique : (text : List ℕ) (ws xs : List (Option Comparator)) → IsDivision text ws → IsDivision text xs
+    → ws ≡ xs
 division-unique text [] xs d e = absurd d
 division-unique text (w ∷ ws) [] d e = absurd e
 division-unique text (w ∷ []) (x ∷ []) d e =
@@ -130,7 +137,8 @@ division-unique text (w ∷ z ∷ ws) (x ∷ y ∷ xs) d e =
 
 -- ---- a text read word by word
 
-comparators-more : (c : Option Comparator) (words : List (Option Comparator)) → comparators_of (c ∷ words) ≡ listed c ++ comparators_of words
+comparators-more : (c : Option Comparator) (words : List (Option Comparator))
+    → comparators_of (c ∷ words) ≡ listed c ++ comparators_of words
 comparators-more None words = refl
 comparators-more (Some c) words = refl
 
@@ -151,12 +159,14 @@ pub completes-nothing : (text : List ℕ) → Completes text [] text
 completes-nothing text = record { whole = λ words d. (words, d, refl) }
 
 -- what divides a text divides another one with the same first word
-same-first : (text other : List ℕ) → read_word text ≡ read_word other → (words : List (Option Comparator)) → IsDivision other words → IsDivision text words
+same-first : (text other : List ℕ) → read_word text ≡ read_word other → (words : List (Option Comparator))
+    → IsDivision other words → IsDivision text words
 same-first text other same [] d = absurd d
 same-first text other same (w ∷ []) d = divide-last text w (has-word text w [] (same ∙ next-of_last other w d))
 same-first text other same (w ∷ x ∷ words) d =
     let more = next-of_more other w x words d in
-    divide-more text w more.behind more.b (x ∷ words) (has-word text w (more.b ∷ more.behind) (same ∙ more.next)) more.division
+    divide-more text w more.behind more.b (x ∷ words) (has-word text w (more.b ∷ more.behind) (same ∙ more.next))
+    more.division
 
 -- where no hyphen range without a left side stands at the start, all is left, but for leading blanks
 pub completes-start : (text : List ℕ) → read_right text ≡ None → Completes text [] (rest_of is_blank text)
@@ -166,15 +176,23 @@ completes-start (b ∷ rest) none = elim (cases_Bool (is_blank b)) [
   | inr solid ↦ rw solid (completes-nothing (b ∷ rest))
   | inl blank ↦ elim (word-after_blanks b rest blank none) [
     | inl thrown ↦ record {
-      whole = λ words d. (None ∷ words, divide-more (b ∷ rest) None rest b words (has-word (b ∷ rest) None (b ∷ rest) thrown) d, refl);
+      whole = λ words d. (
+        None ∷ words,
+        divide-more (b ∷ rest) None rest b words (has-word (b ∷ rest) None (b ∷ rest) thrown) d,
+        refl,
+      );
     }
-    | inr same ↦ record { whole = λ words d. (words, same-first (b ∷ rest) (rest_of is_blank (b ∷ rest)) same words d, refl) }
+    | inr same ↦ record {
+      whole =
+          λ words d. (words, same-first (b ∷ rest) (rest_of is_blank (b ∷ rest)) same words d, refl);
+    }
   ]
 ]
 
 -- a word and the blanks after it are read
 pub completes-more : (text : List ℕ) (done : List Comparator) (rest : List ℕ) (c : Option Comparator) (behind : List ℕ)
-    → Completes text done rest → read_word rest ≡ (c, behind) → Completes text (done ++ listed c) (rest_of is_blank behind)
+    → Completes text done rest → read_word rest ≡ (c, behind)
+    → Completes text (done ++ listed c) (rest_of is_blank behind)
 unfolding rest_of
 completes-more text done rest c [] completes read = record {
   whole = λ words d.
@@ -188,16 +206,22 @@ completes-more text done rest c [] completes read = record {
 }
 completes-more text done rest c (b ∷ behind) completes read = record {
   whole = λ words d.
-      let all = completes.whole (c ∷ words) (divide-more rest c behind b words (has-word rest c (b ∷ behind) read) d) in
-      (all.0, all.1, all.2 ∙ ap (λ (l : List Comparator). done ++ l) (comparators-more c words) ∙ sym (append_assoc done (listed c) (comparators_of words)));
+      let all = completes.whole (c ∷ words) (divide-more rest c behind b words (has-word rest c (b ∷ behind) read) d) in (
+        all.0,
+        all.1,
+        all.2 ∙ ap (λ (l : List Comparator). done ++ l) (comparators-more c words)
+            ∙ sym (append_assoc done (listed c) (comparators_of words)),
+      );
 }
 
 -- less is left then
-pub next-shorter : (rest : List ℕ) (c : Option Comparator) (behind : List ℕ) → read_word rest ≡ (c, behind) → 0 < length rest → length (rest_of is_blank behind) < length rest
+pub next-shorter : (rest : List ℕ) (c : Option Comparator) (behind : List ℕ) → read_word rest ≡ (c, behind)
+    → 0 < length rest → length (rest_of is_blank behind) < length rest
 next-shorter rest c behind read some = rest-shorter rest c behind (has-word rest c behind read) some
 
 -- a hyphen range without a left side is read, or none
-pub completes-leading : (text : List ℕ) (right : ReadPartial) (leading : Option Comparator) (rest : List ℕ) → read_right text ≡ right → (leading, rest) ≡ leading_or_none right text
+pub completes-leading : (text : List ℕ) (right : ReadPartial) (leading : Option Comparator) (rest : List ℕ)
+    → read_right text ≡ right → (leading, rest) ≡ leading_or_none right text
     → Completes text (listed leading) (rest_of is_blank rest)
 completes-leading text None leading rest none read =
     let first : leading ≡ None = ap (λ (w : Word). w.0) read in
@@ -219,6 +243,8 @@ written-exists text =
     let d = divides text in
     (comparators_of d.0 ∷ [], (d.0, d.1, refl))
 
-pub written-unique : (text : List ℕ) (one other : List (List Comparator)) → IsWritten text one → IsWritten text other → one ≡ other
+pub written-unique : (text : List ℕ) (one other : List (List Comparator)) → IsWritten text one → IsWritten text other
+    → one ≡ other
 written-unique text one other w x =
-    w.2 ∙ ap (λ (words : List (Option Comparator)). comparators_of words ∷ []) (division-unique text w.0 x.0 w.1 x.1) ∙ sym x.2
+    w.2 ∙ ap (λ (words : List (Option Comparator)). comparators_of words ∷ []) (division-unique text w.0 x.0 w.1 x.1)
+    ∙ sym x.2

@@ -1,12 +1,12 @@
 -- Lists of identifiers: what is read is such a text, and such a text is read.
-use Rattle.std.proofs.Common.{◌≡◌, ◌⊎◌, ℕ, Bool, true, false, List, [], ◌∷◌, ◌++◌, refl, sym, ap, ◌∙◌, inl, inr, subst, append_assoc, append-nil}
+use Rattle.std.proofs.Common.{◌≡◌, ◌⊎◌, ℕ, Bool, true, false, List, [], ◌∷◌, ◌++◌, refl, sym, ap, ◌∙◌, inl, inr, subst, append-nil}
 use Rattle.std.proofs.lemmas.Bool.{and_from, and_parts, cases_Bool, eqb-true}
 use Rattle.std.specs.Prelude.{◌==◌, ◌||◌, if◌then◌else◌, map}
 use Rattle.std.specs.List.{AllByRecursion, list_all}
 use Rattle.node_semver.specs.Characters.{AreAll, BeginsWith, BeginsWithNo, hyphen, is_identifier_character, plus, dot}
-use Rattle.node_semver.specs.IdentifierText.{IsBuildText, IsExtrasText, IsIdentifierList, IsIdentifierText, IsPrereleaseText, identifier_of, parts_of}
+use Rattle.node_semver.specs.IdentifierText.{IsIdentifierList, IsIdentifierText, identifier_of, parts_of}
 use Rattle.node_semver.specs.IdentifierValue.{IdentifierValue}
-use Rattle.node_semver.specs.Private.Reading.{skip_one, skip_plus, begins, read_build, read_extras, goes_on, list_rest, list_prefix, read_list_or, list_values, read_prerelease}
+use Rattle.node_semver.specs.Private.Reading.{begins, goes_on, list_rest, list_prefix, list_values}
 use Rattle.node_semver.proofs.Prefixes.{begins-append, with-begins}
 
 -- The parts of a list that goes on from some earlier characters: the first part may be empty, the others are

@@ -1,5 +1,5 @@
 -- A version text has one reading, which is what is read.
-use Rattle.std.proofs.Common.{◌≡◌, ◌≤◌, ℕ, Bool, true, false, List, [], length, Ok, refl, sym, ap, ◌∙◌, inl, inr, subst, append-nil}
+use Rattle.std.proofs.Common.{◌≡◌, ◌≤◌, ℕ, List, [], length, Ok, sym, ap, ◌∙◌, subst, append-nil}
 use Rattle.node_semver.specs.declared.TheConstants.{MAX_LENGTH}
 use Rattle.node_semver.specs.Private.Reading.{read_version}
 use Rattle.node_semver.specs.Version.{VersionValue}

@@ -3,7 +3,7 @@ use Rattle.std.proofs.Common.{◌≡◌, ◌≢◌, ◌↔◌, ℕ, zero, suc, B
 use Rattle.std.proofs.lemmas.Bool.{and_from, and_parts, cases_Bool, eqb-true, or_cases, or_left, or_right}
 use Rattle.std.specs.List.{AllByRecursion, list_all, list_any}
 use Rattle.std.specs.Ordering.{is_le, is_lt}
-use Rattle.std.specs.Prelude.{◌==◌, ◌&&◌, ◌||◌, not}
+use Rattle.std.specs.Prelude.{map, ◌==◌, ◌&&◌, ◌||◌, not}
 use Rattle.semver_cuts.specs.declared.cut.Cut.{Cut}
 use Rattle.semver_cuts.specs.declared.cut.Cut.TheVariants.{Start, Before, After, End}
 use Rattle.semver_cuts.specs.Cut.{cut_cmp}
@@ -29,16 +29,19 @@ use Rattle.node_semver.proofs.MeaningLemmas.{none-from_refused, refused-from_non
 unfoldable pub read_words : ℕ → List ℕ → List Comparator → Option (List Comparator)
 read_words zero rest done = None
 read_words (suc n) [] done = Some done
-read_words (suc n) (b ∷ rest) done = read_words n (rest_of is_blank (read_word (b ∷ rest)).1) (done ++ listed (read_word (b ∷ rest)).0)
+read_words (suc n) (b ∷ rest) done =
+    read_words n (rest_of is_blank (read_word (b ∷ rest)).1) (done ++ listed (read_word (b ∷ rest)).0)
 
-words-complete : (n : ℕ) (text rest : List ℕ) (done all : List Comparator) → Completes text done rest → read_words n rest done ≡ Some all → IsWritten text (all ∷ [])
+words-complete : (n : ℕ) (text rest : List ℕ) (done all : List Comparator) → Completes text done rest
+    → read_words n rest done ≡ Some all → IsWritten text (all ∷ [])
 unfolding read_words
 words-complete zero text rest done all completes read = cc read
 words-complete (suc n) text [] done all completes read =
     let same : done ≡ all = cc read in
     subst (λ (l : List Comparator). IsWritten text (l ∷ [])) same (completes-end text done completes)
 words-complete (suc n) text (b ∷ rest) done all completes read =
-    words-complete n text _ _ all (completes-more text done (b ∷ rest) (read_word (b ∷ rest)).0 (read_word (b ∷ rest)).1 completes refl) read
+    words-complete n text _ _ all
+    (completes-more text done (b ∷ rest) (read_word (b ∷ rest)).0 (read_word (b ∷ rest)).1 completes refl) read
 
 -- the comparators of a text of fewer than nine words
 unfoldable pub comparators_in : List ℕ → Option (List Comparator)
@@ -52,18 +55,28 @@ pub written-by : (text : List ℕ) (all : List Comparator) → comparators_in te
 unfolding comparators_in
 written-by text all read =
     let start = leading_or_none (read_right text) text in
-    words-complete 9 text (rest_of is_blank start.1) (listed start.0) all (completes-leading text (read_right text) start.0 start.1 refl refl) read
+    words-complete 9 text (rest_of is_blank start.1) (listed start.0) all
+    (completes-leading text (read_right text) start.0 start.1 refl refl) read
 
 -- texts and the comparators that they write
 abbrev pub AreComputed : List (List ℕ × List Comparator) → Type 0
-AreComputed rows = AllByRecursion (λ (row : List ℕ × List Comparator). comparators_in row.0 ≡ Some row.1) rows
+AreComputed rows = map (λ (row : List ℕ × List Comparator). comparators_in row.0) rows
+    ≡ map (λ (row : List ℕ × List Comparator). Some row.1) rows
 
 abbrev pub AreWritten : List (List ℕ × List Comparator) → Type 0
 AreWritten rows = AllByRecursion (λ (row : List ℕ × List Comparator). IsWritten row.0 (row.1 ∷ [])) rows
 
+-- equal lists of answers have the same first answer, and the same others
+first-same : (one other : Option (List Comparator)) (ones others : List (Option (List Comparator)))
+    → one ∷ ones ≡ other ∷ others
+    → (one ≡ other) × (ones ≡ others)
+first-same one other ones others same = (cc same, cc same)
+
 pub all-written : (rows : List (List ℕ × List Comparator)) → AreComputed rows → AreWritten rows
 all-written [] computed = tt
-all-written (row ∷ rows) computed = (written-by row.0 row.1 computed.0, all-written rows computed.1)
+all-written (row ∷ rows) computed =
+    let both = first-same (comparators_in row.0) (Some row.1) _ _ computed in
+    (written-by row.0 row.1 both.0, all-written rows both.1)
 
 -- ---- what they have in common
 
@@ -79,33 +92,40 @@ abbrev pub are_crossed : List Comparator → Bool
 are_crossed [] = true
 are_crossed (c ∷ cs) = list_any (λ one. list_any (crosses one) (c ∷ cs)) (c ∷ cs)
 
-uncrossed : (one other : Comparator) (cut : Cut VersionValue) → Holds cut one → Holds cut other → crosses one other ≡ true → ⊥
+uncrossed : (one other : Comparator) (cut : Cut VersionValue) → Holds cut one → Holds cut other
+    → crosses one other ≡ true → ⊥
 uncrossed one other cut h k crossed =
     let below : is_lt (cut_cmp version_cmp one.lower other.upper) ≡ true =
-    lt-from_below version_cmp one.lower other.upper (at_most-below version_total one.lower cut other.upper h.lower k.upper) in
+    lt-from_below version_cmp one.lower other.upper
+    (at_most-below version_total one.lower cut other.upper h.lower k.upper) in
     cc (rw below at crossed)
 
-none-crosses : (one : Comparator) (others : List Comparator) (cut : Cut VersionValue) → Holds cut one → AllByRecursion (Holds cut) others → list_any (crosses one) others ≡ true → ⊥
+none-crosses : (one : Comparator) (others : List Comparator) (cut : Cut VersionValue) → Holds cut one
+    → AllByRecursion (Holds cut) others → list_any (crosses one) others ≡ true → ⊥
 none-crosses one [] cut h all crossed = cc crossed
-none-crosses one (c ∷ others) cut h all crossed = elim (or_cases (crosses one c) (list_any (crosses one) others) crossed) [
-  | inl here ↦ uncrossed one c cut h all.0 here
-  | inr behind ↦ none-crosses one others cut h all.1 behind
-]
+none-crosses one (c ∷ others) cut h all crossed =
+    elim (or_cases (crosses one c) (list_any (crosses one) others) crossed) [
+      | inl here ↦ uncrossed one c cut h all.0 here
+      | inr behind ↦ none-crosses one others cut h all.1 behind
+    ]
 
-none-crossed : (ones others : List Comparator) (cut : Cut VersionValue) → AllByRecursion (Holds cut) ones → AllByRecursion (Holds cut) others
+none-crossed : (ones others : List Comparator) (cut : Cut VersionValue) → AllByRecursion (Holds cut) ones
+    → AllByRecursion (Holds cut) others
     → list_any (λ one. list_any (crosses one) others) ones ≡ true → ⊥
 none-crossed [] others cut h all crossed = cc crossed
-none-crossed (c ∷ ones) others cut h all crossed = elim (or_cases (list_any (crosses c) others) (list_any (λ one. list_any (crosses one) others) ones) crossed) [
-  | inl here ↦ none-crosses c others cut h.0 all here
-  | inr behind ↦ none-crossed ones others cut h.1 all behind
-]
+none-crossed (c ∷ ones) others cut h all crossed =
+    elim (or_cases (list_any (crosses c) others) (list_any (λ one. list_any (crosses one) others) ones) crossed) [
+      | inl here ↦ none-crosses c others cut h.0 all here
+      | inr behind ↦ none-crossed ones others cut h.1 all behind
+    ]
 
 none-by : (comparators : List Comparator) → are_crossed comparators ≡ true → ¬ GiveSet comparators
 none-by [] crossed gives = gives.some refl
 none-by (c ∷ cs) crossed gives = none-crossed (c ∷ cs) (c ∷ cs) gives.common.0 gives.common.1 gives.common.1 crossed
 
 -- a text whose comparators cross is refused
-pub refused-by : (text : List ℕ) (all : List Comparator) → IsWritten text (all ∷ []) → are_crossed all ≡ true → IsRefused text
+pub refused-by : (text : List ℕ) (all : List Comparator) → IsWritten text (all ∷ []) → are_crossed all ≡ true
+    → IsRefused text
 refused-by text all written crossed = refused-from_none text all written (none-by all crossed)
 
 -- ---- what they admit
@@ -117,8 +137,13 @@ holds-iff : (cut : Cut VersionValue) (c : Comparator) → (holds cut c ≡ true)
 holds-iff cut c = (
   λ h.
       let parts = and_parts (is_le (cut_cmp version_cmp c.lower cut)) (is_lt (cut_cmp version_cmp cut c.upper)) h in
-      record { lower = at_most-from_le version_cmp c.lower cut parts.0; upper = below-from_lt version_cmp cut c.upper parts.1 },
-  λ inside. and_from _ _ (le-from_at_most version_cmp c.lower cut inside.lower) (lt-from_below version_cmp cut c.upper inside.upper),
+      record {
+        lower = at_most-from_le version_cmp c.lower cut parts.0;
+        upper =
+            below-from_lt version_cmp cut c.upper parts.1;
+      },
+  λ inside. and_from _ _ (le-from_at_most version_cmp c.lower cut inside.lower)
+      (lt-from_below version_cmp cut c.upper inside.upper),
 )
 
 abbrev has_identifiers : List IdentifierValue → Bool
@@ -142,9 +167,16 @@ opens_by-iff p v = (
       let b = and_parts (p.major == v.major) ((p.minor == v.minor) && (p.patch == v.patch)) a.1 in
       let c = and_parts (p.minor == v.minor) (p.patch == v.patch) b.1 in (
         (identifiers-iff p.pre_release).0 a.0,
-        record { major = eqb-true p.major v.major b.0; minor = eqb-true p.minor v.minor c.0; patch = eqb-true p.patch v.patch c.1 },
+        record {
+          major = eqb-true p.major v.major b.0;
+          minor = eqb-true p.minor v.minor c.0;
+          patch =
+              eqb-true p.patch v.patch c.1;
+        },
       ),
-  λ h. and_from _ _ ((identifiers-iff p.pre_release).1 h.0) (and_from _ _ (eq-eqb p.major v.major h.1.major) (and_from _ _ (eq-eqb p.minor v.minor h.1.minor) (eq-eqb p.patch v.patch h.1.patch))),
+  λ h. and_from _ _ ((identifiers-iff p.pre_release).1 h.0)
+      (and_from _ _ (eq-eqb p.major v.major h.1.major)
+      (and_from _ _ (eq-eqb p.minor v.minor h.1.minor) (eq-eqb p.patch v.patch h.1.patch))),
 )
 
 abbrev opens : VersionValue → Cut VersionValue → Bool
@@ -174,14 +206,16 @@ has_open-iff v c = (
   ],
 )
 
-all-iff : {X : Type 0} (P : X → Type 0) (p : X → Bool) → ((x : X) → (p x ≡ true) ↔ P x) → (xs : List X) → (list_all p xs ≡ true) ↔ AllByRecursion P xs
+all-iff : {X : Type 0} (P : X → Type 0) (p : X → Bool) → ((x : X) → (p x ≡ true) ↔ P x) → (xs : List X)
+    → (list_all p xs ≡ true) ↔ AllByRecursion P xs
 all-iff P p iff [] = (λ h. tt, λ h. refl)
 all-iff P p iff (x ∷ xs) = (
   λ h. let parts = and_parts (p x) (list_all p xs) h in ((iff x).0 parts.0, (all-iff P p iff xs).0 parts.1),
   λ h. and_from _ _ ((iff x).1 h.0) ((all-iff P p iff xs).1 h.1),
 )
 
-any-iff : {X : Type 0} (P : X → Type 0) (p : X → Bool) → ((x : X) → (p x ≡ true) ↔ P x) → (xs : List X) → (list_any p xs ≡ true) ↔ AnyByRecursion P xs
+any-iff : {X : Type 0} (P : X → Type 0) (p : X → Bool) → ((x : X) → (p x ≡ true) ↔ P x) → (xs : List X)
+    → (list_any p xs ≡ true) ↔ AnyByRecursion P xs
 any-iff P p iff [] = (λ h. cc h, λ h. absurd h)
 any-iff P p iff (x ∷ xs) = (
   λ h. elim (or_cases (p x) (list_any p xs) h) [
@@ -195,26 +229,33 @@ any-iff P p iff (x ∷ xs) = (
 )
 
 abbrev pub admit : List Comparator → VersionValue → Bool
-admit comparators v = list_all (holds (Before v)) comparators && (not (has_identifiers v.pre_release) || list_any (has_open v) comparators)
+admit comparators v =
+    list_all (holds (Before v)) comparators &&
+    (not (has_identifiers v.pre_release) || list_any (has_open v) comparators)
 
 admit-iff : (comparators : List Comparator) (v : VersionValue) → (admit comparators v ≡ true) ↔ Admit comparators v
 admit-iff comparators v = (
   λ h.
-      let parts = and_parts (list_all (holds (Before v)) comparators) (not (has_identifiers v.pre_release) || list_any (has_open v) comparators) h in
+      let parts = and_parts (list_all (holds (Before v)) comparators)
+      (not (has_identifiers v.pre_release) || list_any (has_open v) comparators) h in
       record {
         inside = (all-iff (IsInside v) (holds (Before v)) (holds-iff (Before v)) comparators).0 parts.0;
         opened = λ prerelease.
             let some : has_identifiers v.pre_release ≡ true = (identifiers-iff v.pre_release).1 prerelease in
             (any-iff (HasOpenEnd v) (has_open v) (has_open-iff v) comparators).0 (rw some at parts.1);
       },
-  λ h. and_from _ _ ((all-iff (IsInside v) (holds (Before v)) (holds-iff (Before v)) comparators).1 h.inside) (elim (cases_Bool (has_identifiers v.pre_release)) [
-    | inl some ↦ or_right _ _ ((any-iff (HasOpenEnd v) (has_open v) (has_open-iff v) comparators).1 (h.opened ((identifiers-iff v.pre_release).0 some)))
-    | inr none ↦ rw none refl
-  ]),
+  λ h. and_from _ _ ((all-iff (IsInside v) (holds (Before v)) (holds-iff (Before v)) comparators).1 h.inside)
+      (elim (cases_Bool (has_identifiers v.pre_release)) [
+        | inl some ↦ or_right _ _
+            ((any-iff (HasOpenEnd v) (has_open v) (has_open-iff v) comparators).1
+            (h.opened ((identifiers-iff v.pre_release).0 some)))
+        | inr none ↦ rw none refl
+      ]),
 )
 
 -- what the comparators of a text admit, the text does
-pub admits-by : (text : List ℕ) (c : Comparator) (cs : List Comparator) (v : VersionValue) → IsWritten text ((c ∷ cs) ∷ []) → admit (c ∷ cs) v ≡ true → TextAdmits text v
+pub admits-by : (text : List ℕ) (c : Comparator) (cs : List Comparator) (v : VersionValue)
+    → IsWritten text ((c ∷ cs) ∷ []) → admit (c ∷ cs) v ≡ true → TextAdmits text v
 admits-by text c cs v written passes = record {
   alternatives = (c ∷ cs) ∷ [];
   written = written;
@@ -222,10 +263,12 @@ admits-by text c cs v written passes = record {
 }
 
 -- and nothing else
-pub turns_away-by : (text : List ℕ) (all : List Comparator) (v : VersionValue) → IsWritten text (all ∷ []) → admit all v ≡ false → ¬ TextAdmits text v
+pub turns_away-by : (text : List ℕ) (all : List Comparator) (v : VersionValue) → IsWritten text (all ∷ [])
+    → admit all v ≡ false → ¬ TextAdmits text v
 turns_away-by text all v written fails = λ admits.
     let some : AnyByRecursion (λ comparators. (comparators ≢ []) × Admit comparators v) (all ∷ []) =
-    subst (AnyByRecursion (λ comparators. (comparators ≢ []) × Admit comparators v)) (written-unique text admits.alternatives (all ∷ []) admits.written written) admits.admitted in
+    subst (AnyByRecursion (λ comparators. (comparators ≢ []) × Admit comparators v))
+    (written-unique text admits.alternatives (all ∷ []) admits.written written) admits.admitted in
     elim some [
       | inl here ↦ let passes : admit all v ≡ true = (admit-iff all v).1 here.1 in cc (passes, fails)
       | inr nowhere ↦ absurd nowhere
@@ -235,7 +278,8 @@ abbrev pub lies_in : Cut VersionValue → List Comparator → Bool
 lies_in cut comparators = list_all (holds cut) comparators
 
 -- a text with a comparator and a cut in all of them is not refused
-pub accepted-by : (text : List ℕ) (c : Comparator) (cs : List Comparator) (cut : Cut VersionValue) → IsWritten text ((c ∷ cs) ∷ []) → lies_in cut (c ∷ cs) ≡ true → ¬ IsRefused text
+pub accepted-by : (text : List ℕ) (c : Comparator) (cs : List Comparator) (cut : Cut VersionValue)
+    → IsWritten text ((c ∷ cs) ∷ []) → lies_in cut (c ∷ cs) ≡ true → ¬ IsRefused text
 accepted-by text c cs cut written passes = λ refused.
     none-from_refused text (c ∷ cs) written refused (record {
       some = λ none. cc none;

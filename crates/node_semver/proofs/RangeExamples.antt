@@ -25,20 +25,25 @@ pub two_ends-turns_away : ¬ TextAdmits (codes ">=1.2.3 <2.0.0") (release 2 0 0)
 two_ends-turns_away = turns_away-by _ _ _ (written-by _ _ two_ends) refl
 
 -- `>=1.2.3-rc.4 <2.0.0`
-opened : comparators_in (codes ">=1.2.3-rc.4 <2.0.0") ≡ Some (at_least (prerelease 1 2 3 (alphanumeric (codes "rc") ∷ numeric 4 ∷ [])) ∷ below (release 2 0 0) ∷ [])
+opened : comparators_in (codes ">=1.2.3-rc.4 <2.0.0")
+    ≡ Some (at_least (prerelease 1 2 3 (alphanumeric (codes "rc") ∷ numeric 4 ∷ [])) ∷ below (release 2 0 0) ∷ [])
 unfolding comparators_in
 opened = refl
 
 -- `>=1.2.3-rc.4 <2.0.0` admits 1.2.3-rc.5
-pub opened-admits : TextAdmits (codes ">=1.2.3-rc.4 <2.0.0") (prerelease 1 2 3 (alphanumeric (codes "rc") ∷ numeric 5 ∷ []))
+pub opened-admits : TextAdmits (codes ">=1.2.3-rc.4 <2.0.0")
+    (prerelease 1 2 3 (alphanumeric (codes "rc") ∷ numeric 5 ∷ []))
 opened-admits = admits-by _ _ _ _ (written-by _ _ opened) refl
 
 -- `>=1.2.3-rc.4 <2.0.0` turns away 1.2.4-rc.6, whose triple no end opens
-pub opened-turns_away : ¬ TextAdmits (codes ">=1.2.3-rc.4 <2.0.0") (prerelease 1 2 4 (alphanumeric (codes "rc") ∷ numeric 6 ∷ []))
+pub opened-turns_away : ¬ TextAdmits (codes ">=1.2.3-rc.4 <2.0.0")
+    (prerelease 1 2 4 (alphanumeric (codes "rc") ∷ numeric 6 ∷ []))
 opened-turns_away = turns_away-by _ _ _ (written-by _ _ opened) refl
 
 -- `>=1.2.3-a >=1.2.3-b`
-two_lower : comparators_in (codes ">=1.2.3-a >=1.2.3-b") ≡ Some (at_least (prerelease 1 2 3 (alphanumeric (codes "a") ∷ [])) ∷ at_least (prerelease 1 2 3 (alphanumeric (codes "b") ∷ [])) ∷ [])
+two_lower : comparators_in (codes ">=1.2.3-a >=1.2.3-b")
+    ≡ Some (at_least (prerelease 1 2 3 (alphanumeric (codes "a") ∷ [])) ∷ at_least
+    (prerelease 1 2 3 (alphanumeric (codes "b") ∷ [])) ∷ [])
 unfolding comparators_in
 two_lower = refl
 
@@ -147,14 +152,18 @@ pub newline-refused : IsRefused (codes ">=1.2.3" ++ 10 ∷ [])
 newline-refused = refused-by _ _ (written-by _ _ newline) refl
 
 -- `>1.0.0-a <1.0.0-a.0`, between which there is a cut and no version
-no_version : comparators_in (codes ">1.0.0-a <1.0.0-a.0") ≡ Some (above (prerelease 1 0 0 (alphanumeric (codes "a") ∷ [])) ∷ below (prerelease 1 0 0 (alphanumeric (codes "a") ∷ numeric 0 ∷ [])) ∷ [])
+no_version : comparators_in (codes ">1.0.0-a <1.0.0-a.0")
+    ≡ Some (above (prerelease 1 0 0 (alphanumeric (codes "a") ∷ [])) ∷ below
+    (prerelease 1 0 0 (alphanumeric (codes "a") ∷ numeric 0 ∷ [])) ∷ [])
 unfolding comparators_in
 no_version = refl
 
 -- is accepted
 pub no_version-accepted : ¬ IsRefused (codes ">1.0.0-a <1.0.0-a.0")
-no_version-accepted = accepted-by _ _ _ (After (prerelease 1 0 0 (alphanumeric (codes "a") ∷ []))) (written-by _ _ no_version) refl
+no_version-accepted =
+    accepted-by _ _ _ (After (prerelease 1 0 0 (alphanumeric (codes "a") ∷ []))) (written-by _ _ no_version) refl
 
 -- and turns away 1.0.0-a.0
-pub no_version-turns_away : ¬ TextAdmits (codes ">1.0.0-a <1.0.0-a.0") (prerelease 1 0 0 (alphanumeric (codes "a") ∷ numeric 0 ∷ []))
+pub no_version-turns_away : ¬ TextAdmits (codes ">1.0.0-a <1.0.0-a.0")
+    (prerelease 1 0 0 (alphanumeric (codes "a") ∷ numeric 0 ∷ []))
 no_version-turns_away = turns_away-by _ _ _ (written-by _ _ no_version) refl

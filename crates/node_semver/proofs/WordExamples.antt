@@ -1,8 +1,8 @@
 -- Worked examples: the comparators that texts write, by npm's headings. Each row is computed, and holds of the definitions.
-use Rattle.std.proofs.Common.{◌≡◌, ℕ, List, [], ◌∷◌, ◌++◌, Some, None, refl, codes}
+use Rattle.std.proofs.Common.{ℕ, List, [], ◌∷◌, refl, codes}
 use Rattle.semver_cuts.specs.declared.cut.Cut.TheVariants.{Before, After}
 use Rattle.node_semver.specs.Comparator.{Comparator, above, at_least, at_most, below, exactly, from_up_to, with_major, with_minor}
-use Rattle.node_semver.specs.IdentifierValue.{IdentifierValue, alphanumeric}
+use Rattle.node_semver.specs.IdentifierValue.{alphanumeric}
 use Rattle.node_semver.specs.Version.{VersionValue, least_of, release, with_pre_release}
 use Rattle.node_semver.proofs.RangeComputing.{AreComputed, AreWritten, all-written, comparators_in}
 
@@ -54,103 +54,7 @@ operators =
 
 operators-computed : AreComputed operators
 unfolding comparators_in
-operators-computed = (
-  refl,
-  (
-    refl,
-    (
-      refl,
-      (
-        refl,
-        (
-          refl,
-          (
-            refl,
-            (
-              refl,
-              (
-                refl,
-                (
-                  refl,
-                  (
-                    refl,
-                    (
-                      refl,
-                      (
-                        refl,
-                        (
-                          refl,
-                          (
-                            refl,
-                            (
-                              refl,
-                              (
-                                refl,
-                                (
-                                  refl,
-                                  (
-                                    refl,
-                                    (
-                                      refl,
-                                      (
-                                        refl,
-                                        (
-                                          refl,
-                                          (
-                                            refl,
-                                            (
-                                              refl,
-                                              (
-                                                refl,
-                                                (
-                                                  refl,
-                                                  (
-                                                    refl,
-                                                    (
-                                                      refl,
-                                                      (
-                                                        refl,
-                                                        (
-                                                          refl,
-                                                          (
-                                                            refl,
-                                                            (
-                                                              refl,
-                                                              (
-                                                                refl,
-                                                                tt,
-                                                              ),
-                                                            ),
-                                                          ),
-                                                        ),
-                                                      ),
-                                                    ),
-                                                  ),
-                                                ),
-                                              ),
-                                            ),
-                                          ),
-                                        ),
-                                      ),
-                                    ),
-                                  ),
-                                ),
-                              ),
-                            ),
-                          ),
-                        ),
-                      ),
-                    ),
-                  ),
-                ),
-              ),
-            ),
-          ),
-        ),
-      ),
-    ),
-  ),
-)
+operators-computed = refl
 
 pub operators-written : AreWritten operators
 operators-written = all-written operators operators-computed
@@ -173,7 +77,7 @@ x_ranges =
 
 x_ranges-computed : AreComputed x_ranges
 unfolding comparators_in
-x_ranges-computed = (refl, (refl, (refl, (refl, (refl, (refl, (refl, (refl, (refl, (refl, tt))))))))))
+x_ranges-computed = refl
 
 pub x_ranges-written : AreWritten x_ranges
 x_ranges-written = all-written x_ranges x_ranges-computed
@@ -197,7 +101,7 @@ tilde_ranges =
 
 tilde_ranges-computed : AreComputed tilde_ranges
 unfolding comparators_in
-tilde_ranges-computed = (refl, (refl, (refl, (refl, (refl, (refl, (refl, (refl, (refl, (refl, (refl, tt)))))))))))
+tilde_ranges-computed = refl
 
 pub tilde_ranges-written : AreWritten tilde_ranges
 tilde_ranges-written = all-written tilde_ranges tilde_ranges-computed
@@ -220,7 +124,7 @@ caret_ranges =
 
 caret_ranges-computed : AreComputed caret_ranges
 unfolding comparators_in
-caret_ranges-computed = (refl, (refl, (refl, (refl, (refl, (refl, (refl, (refl, (refl, (refl, tt))))))))))
+caret_ranges-computed = refl
 
 pub caret_ranges-written : AreWritten caret_ranges
 caret_ranges-written = all-written caret_ranges caret_ranges-computed
@@ -245,8 +149,7 @@ hyphen_ranges =
 
 hyphen_ranges-computed : AreComputed hyphen_ranges
 unfolding comparators_in
-hyphen_ranges-computed =
-    (refl, (refl, (refl, (refl, (refl, (refl, (refl, (refl, (refl, (refl, (refl, (refl, tt))))))))))))
+hyphen_ranges-computed = refl
 
 pub hyphen_ranges-written : AreWritten hyphen_ranges
 hyphen_ranges-written = all-written hyphen_ranges hyphen_ranges-computed
@@ -274,37 +177,7 @@ thrown_away =
 
 thrown_away-computed : AreComputed thrown_away
 unfolding comparators_in
-thrown_away-computed = (
-  refl,
-  (
-    refl,
-    (
-      refl,
-      (
-        refl,
-        (
-          refl,
-          (
-            refl,
-            (
-              refl,
-              (
-                refl,
-                (
-                  refl,
-                  (
-                    refl,
-                    (refl, (refl, (refl, (refl, (refl, tt))))),
-                  ),
-                ),
-              ),
-            ),
-          ),
-        ),
-      ),
-    ),
-  ),
-)
+thrown_away-computed = refl
 
 pub thrown_away-written : AreWritten thrown_away
 thrown_away-written = all-written thrown_away thrown_away-computed

@@ -1,5 +1,5 @@
 -- The word with which a text begins: what is read is such a word, and such a word is read.
-use Rattle.std.proofs.Common.{◌≡◌, ◌⊎◌, ℕ, Bool, true, false, List, [], ◌∷◌, ◌++◌, Option, Some, None, refl, sym, ap, subst, ◌∙◌, inl, inr}
+use Rattle.std.proofs.Common.{◌≡◌, ◌⊎◌, ℕ, true, List, [], ◌∷◌, ◌++◌, Option, Some, None, refl, sym, ap, subst, ◌∙◌, inl, inr}
 use Rattle.std.proofs.lemmas.Bool.{cases_Bool, eqb-true, or_cases}
 use Rattle.std.specs.Prelude.{◌==◌}
 use Rattle.node_semver.specs.Characters.{BeginsWithNo, is_blank}
@@ -56,8 +56,10 @@ pub record HasWord (text : List ℕ) (comparator : Option Comparator) (rest : Li
   pub is_word : IsWord word rest comparator
   pub clean : IsCleanEnd rest
 
-word-takes : (text : List ℕ) (hyphen simple_word : Option Word) → read_hyphen text ≡ hyphen → read_simple text ≡ simple_word
-    → HasWord text (or_thrown_away (or_else hyphen simple_word) text).0 (or_thrown_away (or_else hyphen simple_word) text).1
+word-takes : (text : List ℕ) (hyphen simple_word : Option Word) → read_hyphen text ≡ hyphen
+    → read_simple text ≡ simple_word
+    → HasWord text (or_thrown_away (or_else hyphen simple_word) text).0
+    (or_thrown_away (or_else hyphen simple_word) text).1
 word-takes text (Some w) s r q =
     let t = hyphen-takes text w.0 w.1 r in
     record { word = t.taken; whole = t.whole; is_word = hyphen_range t.read t.clean; clean = t.clean }
@@ -75,7 +77,8 @@ word-takes text None None r q =
     record {
       word = prefix_of is_solid text;
       whole = whole;
-      is_word = thrown_away (subst (NoneAt IsHyphenText) whole (no-hyphen text r)) (subst (NoneAt IsSimpleText) whole (no-simple text q))
+      is_word = thrown_away (subst (NoneAt IsHyphenText) whole (no-hyphen text r))
+          (subst (NoneAt IsSimpleText) whole (no-simple text q))
           (prefix_of-all is_solid text) clean refl;
       clean = clean;
     }
@@ -86,11 +89,15 @@ unfolding read_word
 word-is text = word-takes text (read_hyphen text) (read_simple text) refl refl
 
 -- and a word is what is read
-pub word-again : (word rest : List ℕ) (comparator : Option Comparator) → IsWord word rest comparator → read_word (word ++ rest) ≡ (comparator, rest)
+pub word-again : (word rest : List ℕ) (comparator : Option Comparator) → IsWord word rest comparator
+    → read_word (word ++ rest) ≡ (comparator, rest)
 unfolding read_word
 word-again word rest comparator (hyphen_range read clean) = rw (hyphen-again word rest comparator read clean) refl
 word-again word rest comparator (simple none read clean) =
-    rw (hyphen-none (word ++ rest) (read_hyphen (word ++ rest)) refl none, simple-again word rest comparator read clean) refl
+    rw (
+      hyphen-none (word ++ rest) (read_hyphen (word ++ rest)) refl none,
+      simple-again word rest comparator read clean,
+    ) refl
 word-again word rest comparator (thrown_away none nothing solid clean nil) =
     rw (
       hyphen-none (word ++ rest) (read_hyphen (word ++ rest)) refl none,
@@ -100,7 +107,8 @@ word-again word rest comparator (thrown_away none nothing solid clean nil) =
     ) refl
 
 -- a word that was read
-pub has-word : (text : List ℕ) (c : Option Comparator) (rest : List ℕ) → read_word text ≡ (c, rest) → HasWord text c rest
+pub has-word : (text : List ℕ) (c : Option Comparator) (rest : List ℕ) → read_word text ≡ (c, rest)
+    → HasWord text c rest
 has-word text c rest read = subst (λ (w : Word). HasWord text w.0 w.1) read (word-is text)
 
 -- ---- a text that begins with blanks
@@ -114,7 +122,8 @@ hyphen-with_left : (text : List ℕ) → read_right text ≡ None → read_hyphe
 unfolding read_hyphen
 hyphen-with_left text none = rw none refl
 
-simple-of_partial : (text : List ℕ) (r : ReadPartial) → read_lead text ≡ (no_lead, text) → read_partial text ≡ r → read_simple text ≡ said no_lead (up_to_clean r)
+simple-of_partial : (text : List ℕ) (r : ReadPartial) → read_lead text ≡ (no_lead, text) → read_partial text ≡ r
+    → read_simple text ≡ said no_lead (up_to_clean r)
 unfolding read_simple
 simple-of_partial text r lead read = rw (lead, read) refl
 
@@ -130,24 +139,29 @@ blank-thrown : (b : ℕ) (rest : List ℕ) → is_blank b ≡ true → rest_of i
 unfolding rest_of
 blank-thrown b rest blank = rw blank refl
 
-word-from : (text : List ℕ) (hyphen simple_word : Option Word) → read_hyphen text ≡ hyphen → read_simple text ≡ simple_word
+word-from : (text : List ℕ) (hyphen simple_word : Option Word) → read_hyphen text ≡ hyphen
+    → read_simple text ≡ simple_word
     → read_word text ≡ or_thrown_away (or_else hyphen simple_word) text
 unfolding read_word
 word-from text hyphen simple_word h g = rw (h, g) refl
 
 -- a text that begins with this partial, and with nothing before it
-word-of_partial : (text : List ℕ) (p : ReadPartial) (found : Option Word) → read_right text ≡ None → read_lead text ≡ (no_lead, text) → read_partial text ≡ p
+word-of_partial : (text : List ℕ) (p : ReadPartial) (found : Option Word) → read_right text ≡ None
+    → read_lead text ≡ (no_lead, text) → read_partial text ≡ p
     → or_else (with_left p) (said no_lead (up_to_clean p)) ≡ found → read_word text ≡ or_thrown_away found text
 word-of_partial text p found right lead read is =
     let hyphen : read_hyphen text ≡ with_left p = hyphen-with_left text right ∙ ap with_left read in
-    word-from text (with_left p) (said no_lead (up_to_clean p)) hyphen (simple-of_partial text p lead read) ∙ ap (λ (w : Option Word). or_thrown_away w text) is
+    word-from text (with_left p) (said no_lead (up_to_clean p)) hyphen (simple-of_partial text p lead read)
+    ∙ ap (λ (w : Option Word). or_thrown_away w text) is
 
 -- where the word that begins with a blank is read, it is the one after its blanks; else the empty word is thrown away
-blank-cases : (b : ℕ) (rest : List ℕ) (p : ReadPartial) (found : Option Word) → is_blank b ≡ true → read_right (b ∷ rest) ≡ None → read_partial (b ∷ rest) ≡ p
+blank-cases : (b : ℕ) (rest : List ℕ) (p : ReadPartial) (found : Option Word) → is_blank b ≡ true
+    → read_right (b ∷ rest) ≡ None → read_partial (b ∷ rest) ≡ p
     → or_else (with_left p) (said no_lead (up_to_clean p)) ≡ found
     → (read_word (b ∷ rest) ≡ (None, b ∷ rest)) ⊎ (read_word (b ∷ rest) ≡ read_word (rest_of is_blank (b ∷ rest)))
 blank-cases b rest p None blank right read is =
-    inl (word-of_partial (b ∷ rest) p None right (blank-lead b rest blank) read is ∙ ap (λ (l : List ℕ). (None, l)) (blank-thrown b rest blank))
+    inl (word-of_partial (b ∷ rest) p None right (blank-lead b rest blank) read is
+    ∙ ap (λ (l : List ℕ). (None, l)) (blank-thrown b rest blank))
 blank-cases b rest None (Some w) blank right read is = cc is
 blank-cases b rest (Some r) (Some w) blank right read is =
     let others = rest_of is_blank (b ∷ rest) in
@@ -163,6 +177,7 @@ pub word-after_blanks : (b : ℕ) (rest : List ℕ) → is_blank b ≡ true → 
 word-after_blanks b rest blank right = blank-cases b rest (read_partial (b ∷ rest)) _ blank right refl refl
 
 -- a hyphen range without a left side is the word that begins with its blanks
-pub word-leading : (text : List ℕ) (r : Partial × List ℕ) → read_right text ≡ Some r → read_word text ≡ (Some (hyphen_comparator None r.0), r.1)
+pub word-leading : (text : List ℕ) (r : Partial × List ℕ) → read_right text ≡ Some r
+    → read_word text ≡ (Some (hyphen_comparator None r.0), r.1)
 unfolding read_word read_hyphen
 word-leading text r right = rw right refl

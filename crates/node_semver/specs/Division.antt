@@ -25,11 +25,13 @@ abbrev pub NoneAt : (List ℕ → Option Comparator → Type 0) → List ℕ →
 NoneAt IsText text = (prefix rest : List ℕ) (comparator : Option Comparator)
     → text ≡ prefix ++ rest → IsCleanEnd rest → ¬ IsText prefix comparator
 
--- The word with which a text begins, and the rest, which begins at a clean end: a hyphen range; where there is none, another
+-- The word with which a text begins, and the rest, which begins at a clean end: a hyphen range; where there is none,
+-- another
 -- kind; where there is none either, what stands before the next blank is thrown away, as `foo`, or nothing.
 pub data IsWord (word rest : List ℕ) (comparator : Option Comparator) : Type 0 where
   hyphen_range : IsHyphenText word comparator → IsCleanEnd rest → IsWord word rest comparator
-  simple : NoneAt IsHyphenText (word ++ rest) → IsSimpleText word comparator → IsCleanEnd rest → IsWord word rest comparator
+  simple : NoneAt IsHyphenText (word ++ rest) → IsSimpleText word comparator → IsCleanEnd rest
+      → IsWord word rest comparator
   thrown_away : NoneAt IsHyphenText (word ++ rest) → NoneAt IsSimpleText (word ++ rest)
       → AreAll (λ b. not (is_blank b)) word → IsCleanEnd rest → comparator ≡ None → IsWord word rest comparator
 
@@ -54,4 +56,5 @@ comparators_of words = filter_map (λ w. w) words
 
 -- the alternatives of a text, each the list of its comparators: today one, the whole text
 abbrev pub IsWritten : List ℕ → List (List Comparator) → Type 0
-IsWritten text alternatives = (words : List (Option Comparator)) × IsDivision text words × (alternatives ≡ comparators_of words ∷ [])
+IsWritten text alternatives =
+    (words : List (Option Comparator)) × IsDivision text words × (alternatives ≡ comparators_of words ∷ [])

@@ -1,4 +1,4 @@
-use Rattle.node_semver.proofs.CommonCut.{gives-iff, gives-none}
+use Rattle.node_semver.proofs.CommonCut.{gives-iff}
 use Rattle.node_semver.proofs.comparator.give_set.Goals as goal
 
 pub returns : goal.returns

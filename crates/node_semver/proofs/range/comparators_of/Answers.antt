@@ -1,19 +1,21 @@
-use Rattle.std.proofs.Common.{◌≡◌, ◌<◌, ℕ, Bool, true, false, Option, List, [], ◌∷◌, ◌++◌, length, arith, refl, sym, ap, subst, ◌∙◌}
+use Rattle.std.proofs.Common.{◌≡◌, ◌<◌, ℕ, Bool, true, false, List, [], ◌∷◌, ◌++◌, length, arith, refl, sym, ap, subst, ◌∙◌}
 use Rattle.std.specs.Prelude.{◌==◌}
 use Rattle.std.proofs.lemmas.Bool.{eqb-true}
 use Rattle.node_semver.specs.Characters.{BeginsWithNo, is_blank}
 use Rattle.node_semver.specs.Comparator.{Comparator}
 use Rattle.node_semver.specs.Private.Reading.{rest_of}
-use Rattle.node_semver.specs.Private.WordReading.{leading_or_none, read_right, read_word}
+use Rattle.node_semver.specs.Private.WordReading.{read_right}
 use Rattle.node_semver.specs.Private.WordViews.{listed, some_ends_seen}
 use Rattle.node_semver.proofs.DivisionLemmas.{Completes, completes-end, completes-leading, completes-more, next-shorter}
 use Rattle.node_semver.proofs.Prefixes.{rest_of-no}
 use Rattle.node_semver.proofs.range.comparators_of.Goals as goal
 
 -- the comparators that are kept, and what is left
-kept : (text rest left : List ℕ) (done new : List Comparator) → Completes text done rest → new ≡ done → left ≡ rest → Completes text new left
+kept : (text rest left : List ℕ) (done new : List Comparator) → Completes text done rest → new ≡ done → left ≡ rest
+    → Completes text new left
 kept text rest left done new completes same skipped =
-    subst (λ (l : List Comparator). Completes text l left) (sym same) (subst (λ (l : List ℕ). Completes text done l) (sym skipped) completes)
+    subst (λ (l : List Comparator). Completes text l left) (sym same)
+    (subst (λ (l : List ℕ). Completes text done l) (sym skipped) completes)
 
 -- after blanks were skipped
 no-blank : (rest left : List ℕ) → left ≡ rest_of is_blank rest → BeginsWithNo is_blank left
@@ -23,10 +25,14 @@ pub loop-rest-init : goal.loop-rest-init
 loop-rest-init c =
     let leading = some_ends_seen c.skip_leading_hyphen.result.0 in
     let rest = c.skip_leading_hyphen.result.1.now in
-    let start = completes-leading c.args.text.now (read_right c.args.text.now) leading rest refl c.skip_leading_hyphen.ensures in
+    let start = completes-leading c.args.text.now (read_right c.args.text.now) leading rest refl
+    c.skip_leading_hyphen.ensures in
     record {
-      read = kept c.args.text.now (rest_of is_blank rest) c.skip_blanks-rest.result.now (listed leading) c.keep.new.comparators.items start
-          (c.in_ok-keep.ensures ∙ ap (λ (l : List Comparator). l ++ listed leading) c.new-comparators.ensures.items) c.skip_blanks-rest.ensures;
+      read = kept c.args.text.now (rest_of is_blank rest) c.skip_blanks-rest.result.now (listed leading)
+          c.keep.new.comparators.items start
+          (c.in_ok-keep.ensures
+          ∙ ap (λ (l : List Comparator). l ++ listed leading) c.new-comparators.ensures.items)
+          c.skip_blanks-rest.ensures;
       solid = no-blank rest c.skip_blanks-rest.result.now c.skip_blanks-rest.ensures;
     }
 
@@ -44,7 +50,8 @@ pub loop-rest-smaller : goal.loop-rest-smaller
 loop-rest-smaller c =
     let rest = c.loop-rest.rest.now in
     let some : 0 < length rest = some-from_not_empty rest c.is_empty.result c.is_empty.ensures c.loop-rest-test.true in
-    let shorter = next-shorter rest (some_ends_seen c.read_word.result.0) c.read_word.result.1.now (sym c.read_word.ensures) some in
+    let shorter = next-shorter rest (some_ends_seen c.read_word.result.0) c.read_word.result.1.now
+    (sym c.read_word.ensures) some in
     subst (λ (l : List ℕ). length l < length rest) (sym c.skip_blanks-rest-in-loop-rest.ensures) shorter
 
 pub loop-rest-preserved : goal.loop-rest-preserved
@@ -53,14 +60,19 @@ loop-rest-preserved c =
     let word = some_ends_seen c.read_word.result.0 in
     let others = c.read_word.result.1.now in
     let done = c.loop-rest.comparators.items in
-    let more = completes-more c.args.text.now done rest word others c.loop-rest.invariant.read (sym c.read_word.ensures) in
+    let more = completes-more c.args.text.now done rest word others c.loop-rest.invariant.read
+    (sym c.read_word.ensures) in
     record {
-      read = kept c.args.text.now (rest_of is_blank others) c.skip_blanks-rest-in-loop-rest.result.now (done ++ listed word) c.keep-in-loop-rest.new.comparators.items
+      read = kept c.args.text.now (rest_of is_blank others) c.skip_blanks-rest-in-loop-rest.result.now
+          (done ++ listed word) c.keep-in-loop-rest.new.comparators.items
           more c.in_ok-keep-2.ensures c.skip_blanks-rest-in-loop-rest.ensures;
       solid = no-blank others c.skip_blanks-rest-in-loop-rest.result.now c.skip_blanks-rest-in-loop-rest.ensures;
     }
 
 pub returns : goal.returns
 returns c =
-    let none : c.loop-rest.rest.now ≡ [] = none-from_empty c.loop-rest.rest.now c.is_empty.result c.is_empty.ensures c.loop-rest-test.false in
-    completes-end c.args.text.now c.loop-rest.comparators.items (subst (λ (l : List ℕ). Completes c.args.text.now c.loop-rest.comparators.items l) none c.loop-rest.invariant.read)
+    let none : c.loop-rest.rest.now ≡ [] =
+    none-from_empty c.loop-rest.rest.now c.is_empty.result c.is_empty.ensures c.loop-rest-test.false in
+    completes-end c.args.text.now c.loop-rest.comparators.items
+    (subst (λ (l : List ℕ). Completes c.args.text.now c.loop-rest.comparators.items l) none
+    c.loop-rest.invariant.read)

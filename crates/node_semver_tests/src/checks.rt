@@ -59,7 +59,7 @@ pub(crate) fn tells(
     assert_eq!(rt; error.input().as_bytes(), text.as_bytes(), "{text}");
 }
 
-// A text, and a piece some times behind it.
+// A text, and a piece some times after it.
 pub(crate) fn repeated(
     alloc: Global,
     text: &str,

@@ -47,7 +47,7 @@ fn right_sides(rt: HostRuntime) -> Result<(), Fail> {
     )
 }
 
-// A hyphen without a left side stands at the very beginning of the text, with a blank before it.
+// A hyphen without a left side stands at the very start of the text, with a blank before it.
 #[test]
 fn no_left_side(rt: HostRuntime) -> Result<(), Fail> {
     admits_and_turns_away(
@@ -85,7 +85,7 @@ fn blanks_of_hyphens(rt: HostRuntime) -> Result<(), Fail> {
     )
 }
 
-// Ends that cross, an upper end below everything, and what stands behind a hyphen range.
+// Ends that cross, an upper end below everything, and what follows a hyphen range.
 #[test]
 fn crossed_hyphens(rt: HostRuntime) -> Result<(), Fail> {
     refuses(

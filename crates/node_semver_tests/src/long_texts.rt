@@ -106,7 +106,7 @@ fn reads_a_range_of_a_long_identifier(rt: HostRuntime) -> Result<(), Fail> {
 #[test]
 fn reads_a_range_of_many_comparators(rt: HostRuntime) -> Result<(), Fail> {
     let alloc = rt.alloc();
-    for (beginning, piece, times, admitted, turned_away) in [
+    for (prefix, piece, times, admitted, turned_away) in [
         ("", ">=1.0.0 ", 100000, "1.0.0", "0.9.9"),
         ("<2.0.0-b ", ">=1.0.0-a ", 10000, "2.0.0-a", "2.0.0-b"),
         (
@@ -118,7 +118,7 @@ fn reads_a_range_of_many_comparators(rt: HostRuntime) -> Result<(), Fail> {
         ),
         ("1", " 1 - 2", 5000, "1.0.0", "2.0.0"),
     ] {
-        let text = repeated(alloc, beginning, piece, times)?;
+        let text = repeated(alloc, prefix, piece, times)?;
         admits_and_turns_away(&rt, &[(&text, admitted, turned_away)])?;
     }
     Ok(())
@@ -128,7 +128,7 @@ fn reads_a_range_of_many_comparators(rt: HostRuntime) -> Result<(), Fail> {
 #[test]
 fn reads_a_range_between_many_words(rt: HostRuntime) -> Result<(), Fail> {
     let alloc = rt.alloc();
-    for (beginning, piece, times, end) in [
+    for (prefix, piece, times, end) in [
         ("1", " =*", 50000, ""),
         ("1", " ", 200000, ""),
         ("1", " -", 50000, ""),
@@ -141,7 +141,7 @@ fn reads_a_range_between_many_words(rt: HostRuntime) -> Result<(), Fail> {
         ("0 - ", "0", 200000, "1"),
         ("", " ", 200000, "- 1 1"),
     ] {
-        let text = repeated(alloc, beginning, piece, times)?;
+        let text = repeated(alloc, prefix, piece, times)?;
         let whole = repeated(alloc, &text, end, 1)?;
         admits_and_turns_away(&rt, &[(&whole, "1.0.0", "2.0.0")])?;
     }
@@ -151,7 +151,7 @@ fn reads_a_range_between_many_words(rt: HostRuntime) -> Result<(), Fail> {
 #[test]
 fn refuses_long_ranges(rt: HostRuntime) -> Result<(), Fail> {
     let alloc = rt.alloc();
-    for (beginning, piece, times) in [
+    for (prefix, piece, times) in [
         ("", "a", 1000000),
         ("", "\u{161}", 5000),
         ("", " ", 200000),
@@ -162,7 +162,7 @@ fn refuses_long_ranges(rt: HostRuntime) -> Result<(), Fail> {
         ("2.0.0 ", ">=1.0.0 <2.0.0 ", 10000),
         ("", "- ", 50000),
     ] {
-        let text = repeated(alloc, beginning, piece, times)?;
+        let text = repeated(alloc, prefix, piece, times)?;
         refuses(&rt, &[&text])?;
     }
     Ok(())

@@ -97,10 +97,10 @@ then-second Greater s e = cc e
 -- ---- lists
 
 -- one more first element in both
-behind : {A : Type 0} (Below : A → A → Type 0) (x : A) (xs ys : List A) → IsListBelow Below xs ys
+same-head : {A : Type 0} (Below : A → A → Type 0) (x : A) (xs ys : List A) → IsListBelow Below xs ys
     → IsListBelow Below (x ∷ xs) (x ∷ ys)
-behind Below x xs ys (inl b) = inl (record { next = b.next; rest = b.rest; goes_on = ap (λ l. x ∷ l) b.goes_on })
-behind Below x xs ys (inr d) = inr (record {
+same-head Below x xs ys (inl b) = inl (record { next = b.next; rest = b.rest; goes_on = ap (λ l. x ∷ l) b.goes_on })
+same-head Below x xs ys (inr d) = inr (record {
   common = x ∷ d.common;
   next = d.next;
   rest = d.rest;
@@ -126,7 +126,7 @@ module _ {A : Type 0} (R : A → A → Ordering) (Below : A → A → Type 0) wh
     below = less x y p;
   })
   by_first x y xs ys less same later Equal p q =
-      subst (λ z. IsListBelow Below (x ∷ xs) (z ∷ ys)) (same x y p) (behind Below x xs ys (later q))
+      subst (λ z. IsListBelow Below (x ∷ xs) (z ∷ ys)) (same x y p) (same-head Below x xs ys (later q))
   by_first x y xs ys less same later Greater p q = cc q
 
   pub Less-list : ((a b : A) → R a b ≡ Less → Below a b) → IsAntisymmetric R

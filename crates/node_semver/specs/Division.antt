@@ -26,8 +26,7 @@ NoneAt IsText text = (prefix rest : List ℕ) (comparator : Option Comparator)
     → text ≡ prefix ++ rest → IsCleanEnd rest → ¬ IsText prefix comparator
 
 -- The word with which a text begins, and the rest, which begins at a clean end: a hyphen range; where there is none,
--- another
--- kind; where there is none either, what stands before the next blank is thrown away, as `foo`, or nothing.
+-- another kind; where there is none either, what stands before the next blank is thrown away, as `foo`, or nothing.
 pub data IsWord (word rest : List ℕ) (comparator : Option Comparator) : Type 0 where
   hyphen_range : IsHyphenText word comparator → IsCleanEnd rest → IsWord word rest comparator
   simple : NoneAt IsHyphenText (word ++ rest) → IsSimpleText word comparator → IsCleanEnd rest

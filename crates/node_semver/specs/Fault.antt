@@ -16,8 +16,7 @@ with_dots [] = []
 with_dots (text ∷ texts) = text ++ (dot ∷ with_dots texts)
 
 -- The text is a prefix and a rest. The prefix is the text's mark, all the blanks that stand there, and up to two
--- numbers,
--- each with its dot: `v 1.2.`
+-- numbers, each with its dot: `v 1.2.`
 pub record HasPrefix (text prefix rest : List ℕ) (count : ℕ) : Type 0 where
   pub whole : text ≡ prefix ++ rest
   pub blanks : List ℕ

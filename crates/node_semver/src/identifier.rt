@@ -5,7 +5,7 @@ mod order;
 
 /// One part of a prerelease or of a build, as `alpha` and `1` of `1.2.3-alpha.1`.
 ///
-/// Every value is right, also `AlphaNumeric` of the empty text or of `1`: it is compared and printed as it stands.
+/// `AlphaNumeric` may hold any text, even the empty one or `1`: it is compared and printed as it stands.
 ///
 /// # Source
 ///

@@ -4,13 +4,13 @@ ghost use Rattle.node_semver.specs.declared.TheConstants.{MAX_LENGTH, MAX_SAFE_I
 ghost use Rattle.node_semver.specs.VersionLaws.{HasOneFault, HasOneReading, IsNeverBoth, IsReadOrFaulty};
 ghost use Rattle.node_semver.specs.RangeLaws.{HasWriting, IsOneHyphenRange, IsOnePartial, IsOneSimpleWord, IsWrittenOneWay};
 
+pub use crate::error::errors_are_equal_where_their_parts_are;
+
 /// The limits, as numbers.
 pub fn limits()
     ensures greatest_number { MAX_SAFE_INTEGER ≡ 900719925474099 }
     ensures greatest_length { MAX_LENGTH ≡ 256 }
 {}
-
-pub use crate::error::errors_are_equal_where_their_parts_are;
 
 /// A text is at most one version.
 pub fn a_version_text_has_one_reading()

@@ -1,6 +1,5 @@
--- What the private readers of words compute, on lists of bytes. The lemmas of `proofs/` tie it to what the words
--- mean; no
--- public contract speaks of it.
+-- What the private readers of words compute, on lists of bytes. The lemmas of `proofs/` tie it to what the words mean;
+-- no public contract speaks of it.
 use Rattle.std.specs.Prelude.{ℕ, ◌==◌, not, if◌then◌else◌, Bool, true, List, [], ◌∷◌, Option, Some, None, Ok, Err}
 use Rattle.node_semver.specs.CaretRanges.{caret_row}
 use Rattle.node_semver.specs.Characters.{caret, dot, greater_sign, hyphen, is_blank, is_partial_mark, is_x, tilde}

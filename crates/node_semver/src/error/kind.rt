@@ -9,7 +9,7 @@ use thiserror::Error;
 ///
 /// # Memory
 ///
-/// `clone` takes none, and always answers `Ok`. Neither does `==`.
+/// `clone` takes none, and always answers `Ok`. `==` takes none either.
 ///
 /// # Examples
 ///

@@ -1,6 +1,5 @@
 //! Partials: versions of which components may be absent. Nothing is built: a partial keeps the text of its extras,
-//! which
-//! is gone over once to see where the word ends, and read where the word's versions are built.
+//! which is gone over once to see where the word ends, and read where the word's versions are built.
 //!
 //! What is `#[inline(always)]` keeps numbers and shapes in registers on the way through the readers of words.
 ghost use Rattle.std.specs.Prelude.{◌≡◌, IfSome};

@@ -64,9 +64,8 @@ impl PartialOrd for Version {
 /// The precedence of versions, a total order: major, minor and patch by number, and then the prerelease.
 ///
 /// With equal triples a release is above each prerelease. Two prereleases go by their identifiers from the left:
-/// numbers by
-/// size, texts by bytes, a number below each text, and a list that ends first below the longer one. The build is not
-/// looked at.
+/// numbers by size, texts by bytes, a number below each text, and a list that ends first below the longer one. The
+/// build is not looked at.
 ///
 /// # Memory
 ///

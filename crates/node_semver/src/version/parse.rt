@@ -13,11 +13,9 @@ use std::alloc::Global;
 impl Version {
     /// Reads a version text.
     ///
-    /// A text is a version in one way, or it has one fault, the first one from the left. Read in npm's loose form:
-    /// it may
-    /// begin with a `v` or `V` and blanks, numbers and identifiers may have leading zeros, and the `-` of a
-    /// prerelease may be
-    /// left out. No blank may follow. An identifier of digits above the greatest `u64` is a text.
+    /// A text is a version in one way, or it has one fault, the first one from the left. It is read in npm's loose form:
+    /// it may begin with a `v` or `V` and blanks, numbers and identifiers may have leading zeros, and the `-` of a
+    /// prerelease may be left out. No blank may follow. An identifier of digits above the greatest `u64` is a text.
     ///
     /// # Errors
     ///
@@ -33,9 +31,8 @@ impl Version {
     ///
     /// # Memory
     ///
-    /// Takes none for a version without prerelease and build. Else a list of identifiers and the text of each one
-    /// that is no
-    /// number; for an error a copy of the text.
+    /// Takes none for a version without prerelease and build. Otherwise a list of identifiers, and the text of each one
+    /// that is no number; for an error a copy of the text.
     ///
     /// # Examples
     ///

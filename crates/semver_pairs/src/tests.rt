@@ -43,7 +43,7 @@ const FIRST: &[u8] = b">=1.2.3 <2.0.0\n1.9.0\n";
 
 #[test]
 fn answers_the_first_two_lines_with_ample_memory(rt: HostRuntime) {
-    let rows: [(&[u8], &[u8]); 19] = [
+    let rows: [(&[u8], &[u8]); 22] = [
         (FIRST, b"yes\n"),
         (b">=1.2.3-rc.4 <2.0.0\n1.2.3-rc.5\n", b"yes\n"),
         (b">=1.2.3-rc.4 <2.0.0\n1.2.4-rc.6\n", b"no\n"),
@@ -51,7 +51,10 @@ fn answers_the_first_two_lines_with_ample_memory(rt: HostRuntime) {
         (b">4.0.0 <3.0.0\n1.0.0\n", b"bad range\n"),
         (b"foo >= v 1.0.0\n1.2\n", b"bad version\n"),
         (b"=1.2.3+a\n1.2.3+b\n", b"yes\n"),
-        (b"1.2.3\n1.2.3\n", b"bad range\n"),
+        (b"1.2.3\n1.2.3\n", b"yes\n"),
+        (b"~1.2\n1.3.0\n", b"no\n"),
+        (b"1.2 - 2\n2.9.9\n", b"yes\n"),
+        (b"latest\n1.2.3\n", b"bad range\n"),
         // Fewer than two lines.
         (b"", b""),
         (b"\n", b""),

@@ -1,11 +1,12 @@
 mod OrderExamples
 mod Prereleases
 mod PrintExamples
+pub mod AlternativeLemmas
 pub mod ByteTable
 pub mod Characters
 pub mod CleanEnds
-pub mod CommonCut
 pub mod ComponentReading
+pub mod Convex
 pub mod Digits
 pub mod DivisionLemmas
 pub mod DottedReading
@@ -20,14 +21,20 @@ pub mod ListReading
 pub mod LongestReading
 pub mod Marks
 pub mod MeaningLemmas
+pub mod Merging
 pub mod NumberReading
 pub mod OneReading
 pub mod PartialReading
 pub mod PartialViews
+pub mod PieceLemmas
 pub mod Places
 pub mod Prefixes
+pub mod RangeBounds
 pub mod RangeComputing
+pub mod RangeEquality
 pub mod RangeExamples
+pub mod RangeText
+pub mod SetLemmas
 pub mod SimpleReading
 pub mod SomeElement
 pub mod VersionParse

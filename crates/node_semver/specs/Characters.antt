@@ -23,6 +23,10 @@ tilde = 126
 abbrev pub caret : ℕ
 caret = 94
 
+-- two of them between the alternatives of a range
+abbrev pub bar : ℕ
+bar = 124
+
 -- `>`
 abbrev pub greater_sign : ℕ
 greater_sign = 62

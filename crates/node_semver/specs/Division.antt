@@ -2,7 +2,7 @@
 use Rattle.std.specs.Prelude.{◌≡◌, ℕ, true, not, List, [], ◌∷◌, ◌++◌, Option, None}
 use Rattle.std.specs.List.{filter_map}
 use Rattle.node_semver.specs.CaretRanges.{IsCaretText}
-use Rattle.node_semver.specs.Characters.{AreAll, AreBlanks, BeginsWithNo, is_blank}
+use Rattle.node_semver.specs.Characters.{AreAll, AreBlanks, BeginsWithNo, bar, is_blank}
 use Rattle.node_semver.specs.Comparator.{Comparator}
 use Rattle.node_semver.specs.HyphenRanges.{IsHyphenText}
 use Rattle.node_semver.specs.Operators.{IsOperatorText, IsPlainText}
@@ -53,7 +53,58 @@ IsDivision text (w ∷ x ∷ words) = (others : List ℕ) × HasFirstWord text w
 abbrev pub comparators_of : List (Option Comparator) → List Comparator
 comparators_of words = filter_map (λ w. w) words
 
--- the alternatives of a text, each the list of its comparators: today one, the whole text
-abbrev pub IsWritten : List ℕ → List (List Comparator) → Type 0
-IsWritten text alternatives =
-    (words : List (Option Comparator)) × IsDivision text words × (alternatives ≡ comparators_of words ∷ [])
+-- the comparators among the words of an alternative: none of `foo`, and none of the empty text
+pub record IsAlternative (text : List ℕ) (comparators : List Comparator) : Type 0 where
+  pub words : List (Option Comparator)
+  pub divided : IsDivision text words
+  pub kept : comparators ≡ comparators_of words
+
+-- ---- the alternatives of a range
+
+-- somewhere in the text stands `||`
+abbrev pub HasBars : List ℕ → Type 0
+HasBars text = (before after : List ℕ) × (text ≡ before ++ (bar ∷ bar ∷ after))
+
+-- the last character is `|`
+abbrev pub EndsInBar : List ℕ → Type 0
+EndsInBar text = (before : List ℕ) × (text ≡ before ++ (bar ∷ []))
+
+-- a piece, `||` and others: `1` and `|2` of `1|||2`
+pub record HasFirstPiece (text piece others : List ℕ) : Type 0 where
+  pub whole : text ≡ piece ++ (bar ∷ bar ∷ others)
+  pub no_bars : ¬ HasBars piece
+  pub ends_in_none : ¬ EndsInBar piece
+
+-- the text without `||`, or a first piece, and such pieces of what follows its `||`
+abbrev pub IsPieces : List ℕ → List (List ℕ) → Type 0
+IsPieces text [] = ⊥
+IsPieces text (piece ∷ []) = (text ≡ piece) × ¬ HasBars text
+IsPieces text (piece ∷ next ∷ pieces) = (others : List ℕ) × HasFirstPiece text piece others × IsPieces others (next ∷ pieces)
+
+-- a piece after the first is read without the blanks with which it begins: `- 10` of `1 || - 10`
+pub record IsLaterAlternative (piece : List ℕ) (comparators : List Comparator) : Type 0 where
+  pub blanks : List ℕ
+  pub others : List ℕ
+  pub whole : piece ≡ blanks ++ others
+  pub blank : AreAll is_blank blanks
+  pub blanks_end : BeginsWithNo is_blank others
+  pub alternative : IsAlternative others comparators
+
+-- each piece after the first is one alternative
+abbrev pub AreLaterAlternatives : List (List ℕ) → List (List Comparator) → Type 0
+AreLaterAlternatives [] [] = Unit {0}
+AreLaterAlternatives [] (a ∷ alternatives) = ⊥
+AreLaterAlternatives (piece ∷ pieces) [] = ⊥
+AreLaterAlternatives (piece ∷ pieces) (a ∷ alternatives) = IsLaterAlternative piece a × AreLaterAlternatives pieces alternatives
+
+-- each piece is one alternative, the first as it stands
+abbrev pub AreAlternatives : List (List ℕ) → List (List Comparator) → Type 0
+AreAlternatives [] alternatives = ⊥
+AreAlternatives (piece ∷ pieces) [] = ⊥
+AreAlternatives (piece ∷ pieces) (a ∷ alternatives) = IsAlternative piece a × AreLaterAlternatives pieces alternatives
+
+-- the alternatives of a text, each the list of its comparators
+pub record IsWritten (text : List ℕ) (alternatives : List (List Comparator)) : Type 0 where
+  pub pieces : List (List ℕ)
+  pub divided : IsPieces text pieces
+  pub read : AreAlternatives pieces alternatives

@@ -24,6 +24,9 @@ pub mod CaretRanges
 pub mod HyphenRanges
 pub mod Division
 pub mod Meaning
+pub mod Merging
+pub mod RangePrint
+pub mod RangeEquality
 -- ---- errors: where they stand, and how they print
 pub mod ErrorLocation
 pub mod ErrorParts

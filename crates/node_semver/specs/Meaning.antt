@@ -12,7 +12,7 @@ use Rattle.std.specs.List.{AllByRecursion}
 use Rattle.semver_cuts.specs.declared.cut.Cut.{Cut}
 use Rattle.semver_cuts.specs.declared.cut.Cut.TheVariants.{Start, Before, After, End}
 use Rattle.semver_cuts.specs.Common.{HasCommonCut}
-use Rattle.semver_cuts.specs.Ends.{IsInSpan}
+use Rattle.semver_cuts.specs.Ends.{Ends, IsInSpan}
 use Rattle.node_semver.specs.Comparator.{Comparator}
 use Rattle.node_semver.specs.Comparison.{version_cmp}
 use Rattle.node_semver.specs.Division.{IsWritten}
@@ -60,6 +60,11 @@ pub record TextAdmits (text : List ℕ) (v : VersionValue) : Type 0 where
   pub written : IsWritten text alternatives
   pub admitted : AnyByRecursion (λ comparators. (comparators ≢ []) × Admit comparators v) alternatives
 
--- what a range is seen as, a list of comparators, admits a version
-abbrev pub RangeAdmits : List Comparator → VersionValue → Type 0
-RangeAdmits comparators v = Admit comparators v
+-- the version lies inside the set and, if it is a prerelease, one of the set's two ends opens its triple
+pub record SetAdmits (set : Ends VersionValue) (v : VersionValue) : Type 0 where
+  pub inside : IsInside v set
+  pub opened : IsPrerelease v → HasOpenEnd v set
+
+-- what a range is seen as, the list of its sets, admits a version where one of them does
+abbrev pub RangeAdmits : List (Ends VersionValue) → VersionValue → Type 0
+RangeAdmits sets v = AnyByRecursion (λ set. SetAdmits set v) sets

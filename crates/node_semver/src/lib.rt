@@ -7,6 +7,7 @@ mod identifier;
 pub mod laws;
 mod parse;
 mod range;
+mod set;
 mod version;
 mod word;
 

@@ -1,18 +1,19 @@
 //! Ranges: which versions a text asks for.
-ghost use Rattle.std.specs.Prelude.{◌≡◌, ◌⊎◌, ◌↔◌, [], ◌∷◌, ◌++◌, IfErr, IfOk, IsTrue, OnOk};
-ghost use Rattle.std.specs.List.{AllByRecursion};
-ghost use Rattle.node_semver.specs.Division.{IsWritten};
+ghost use Rattle.std.specs.Prelude.{◌≡◌, ◌⊎◌, ◌↔◌, [], ◌∷◌, IfErr, IfOk, IsTrue, OnOk};
 ghost use Rattle.node_semver.specs.Error.{IsOutOfMemory, IsRefusalAt, no_valid_ranges};
-ghost use Rattle.node_semver.specs.Meaning.{AnyByRecursion, HasOpenEnd, IsInside, IsRefused, RangeAdmits, TextAdmits};
+ghost use Rattle.node_semver.specs.Meaning.{IsRefused, RangeAdmits, TextAdmits};
+ghost use Rattle.node_semver.specs.Merging.{AreSetsOfText, all_cuts};
 ghost use Rattle.node_semver.specs.Version.{VersionValue};
-ghost use Rattle.node_semver.specs.Private.WordReading.{leading_or_none, read_right};
-ghost use Rattle.node_semver.specs.Private.WordViews.{listed, some_ends_seen, word_seen};
 
-use crate::comparator::{Comparator, give_set};
-use crate::parse::skip_blanks;
-use crate::word::{Ends, read_leading_hyphen, read_word};
+mod alternative;
+mod pieces;
+mod sets;
+
+use crate::set::admits;
 use crate::{SemverError, SemverErrorKind, Version};
-use std::alloc::{AllocError, Global};
+use semver_cuts::{Cut, Span};
+use sets::{Sets, read_sets};
+use std::alloc::Global;
 use std::marker::Model;
 
 /// The versions that a range text asks for: npm's ranges, in their loose form.
@@ -40,16 +41,18 @@ use std::marker::Model;
 /// npm's `semver`, "Ranges" and "Range Grammar", in loose mode.
 #[derive(Debug, Drop)]
 pub struct Range {
-    comparators: Vec<Comparator>,
+    sets: Sets,
 }
 
 impl Model for Range {
     ghost use Rattle.std.specs.Prelude.{List};
-    ghost use Rattle.node_semver.specs.Comparator.{Comparator};
+    ghost use Rattle.semver_cuts.specs.Ends.{Ends};
+    ghost use Rattle.node_semver.specs.Private.RangeViews.{sets_seen};
+    ghost use Rattle.node_semver.specs.Version.{VersionValue};
 
-    ghost Value = { List Comparator };
+    ghost Value = { List (Ends VersionValue) };
 
-    ghost view = { λ r. r.comparators.items };
+    ghost view = { λ r. sets_seen r.sets };
 }
 
 impl Range {
@@ -75,15 +78,22 @@ impl Range {
             IsOutOfMemory e ⊎ (IsRefusalAt text.now no_valid_ranges 0 e × IsRefused text.now)) }
         ensures accepted { OnOk result (¬ IsRefused text.now) }
         ensures means { IfOk result (λ r. (v : VersionValue) → RangeAdmits r v ↔ TextAdmits text.now v) }
+        ensures sets { IfOk result (λ r. AreSetsOfText text.now r) }
     {
-        let Ok(comparators) = comparators_of(alloc, text.as_bytes()) else {
+        let Ok(sets) = read_sets(alloc, text.as_bytes()) else {
             return Err(SemverError::out_of_memory(alloc));
         };
-        if !give_set(&comparators) {
-            let kind = SemverErrorKind::NoValidRanges;
-            return Err(SemverError::new(alloc, text, 0, kind));
+        match sets {
+            Some(sets) => Ok(Range { sets }),
+            None => Err(SemverError::new(alloc, text, 0, SemverErrorKind::NoValidRanges)),
         }
-        Ok(Range { comparators })
+    }
+
+    /// The range of all cuts.
+    pub fn any() -> Range
+        ensures { result ≡ all_cuts ∷ [] }
+    {
+        Range { sets: Sets::One(Span::new(Cut::Start, Cut::End).unwrap()) }
     }
 
     /// Whether the range admits a version.
@@ -106,8 +116,7 @@ impl Range {
     pub fn satisfies(&self, version: &Version) -> bool
         ensures { IsTrue result ↔ RangeAdmits self.now version.now }
     {
-        all_hold(&self.comparators, version)
-            && (!version.is_prerelease() || any_has_open_end(&self.comparators, version))
+        any_admits(self.sets.as_slice(), version)
     }
 }
 
@@ -128,63 +137,15 @@ impl Version {
     }
 }
 
+// Whether one of the sets admits a version.
 #[inline]
-fn all_hold(comparators: &[Comparator], version: &Version) -> bool
-    ensures { IsTrue result ↔ AllByRecursion (IsInside version.now) comparators.now }
+fn any_admits(sets: &[Span<Version>], version: &Version) -> bool
+    ensures { IsTrue result ↔ RangeAdmits sets.now version.now }
 {
-    comparators
-        .iter()
-        .all(|comparator| comparator.holds(version))
-}
-
-#[inline]
-#[tactic(auto, using(crate::proofs::SomeElement::some_by_recursion))]
-fn any_has_open_end(comparators: &[Comparator], version: &Version) -> bool
-    ensures { IsTrue result ↔ AnyByRecursion (HasOpenEnd version.now) comparators.now }
-{
-    comparators
-        .iter()
-        .any(|comparator| comparator.has_open_end(version))
-}
-
-// The comparators of a text, in order.
-fn comparators_of(alloc: Global, text: &[u8]) -> Result<Vec<Comparator>, AllocError>
-    ensures { IfOk result (λ v. IsWritten text.now (v.items ∷ [])) }
-{
-    let mut comparators = Vec::new(alloc);
-    let (leading, rest) = skip_leading_hyphen(text);
-    keep(alloc, &mut comparators, leading)?;
-    let mut rest = skip_blanks(rest);
-    while !rest.is_empty() {
-        let (ends, others) = read_word(rest);
-        keep(alloc, &mut comparators, ends)?;
-        rest = skip_blanks(others);
+    for set in sets {
+        if admits(set, version) {
+            return true;
+        }
     }
-    Ok(comparators)
-}
-
-// One comparator more, where a word writes one.
-#[inline(always)]
-fn keep(
-    alloc: Global,
-    comparators: &mut Vec<Comparator>,
-    ends: Option<Ends>,
-) -> Result<(), AllocError>
-    ensures { OnOk result (comparators.new.items ≡ comparators.old.items ++ listed (some_ends_seen ends.entry)) }
-{
-    if let Some(ends) = ends {
-        comparators.push(ends.comparator(alloc)?)?;
-    }
-    Ok(())
-}
-
-// A hyphen without a left side, with which a text may begin: ` - 3`
-#[inline(always)]
-fn skip_leading_hyphen(text: &[u8]) -> (Option<Ends>, &[u8])
-    ensures { word_seen result ≡ leading_or_none (read_right text.now) text.now }
-{
-    match read_leading_hyphen(text) {
-        Some(word) => word,
-        None => (None, text),
-    }
+    false
 }

@@ -10,6 +10,10 @@ pub record Ends (T : Type 0) : Type 0 where
   pub lower : Cut T
   pub upper : Cut T
 
+-- from one cut up to another
+abbrev pub span_between : {T : Type 0} → Cut T → Cut T → Ends T
+span_between lower upper = record { lower = lower; upper = upper }
+
 -- the first cut is less than the second: `Before 3` than `After 3`
 abbrev pub IsCutBelow : {T : Type 0} → (T → T → Ordering) → Cut T → Cut T → Type 0
 IsCutBelow cmp c d = cut_cmp cmp c d ≡ Less
@@ -22,3 +26,12 @@ IsCutAtMost cmp c d = (cut_cmp cmp c d ≡ Less) ⊎ (cut_cmp cmp c d ≡ Equal)
 pub record IsInSpan {T : Type 0} (cmp : T → T → Ordering) (span : Ends T) (cut : Cut T) : Type 0 where
   pub lower : IsCutAtMost cmp span.lower cut
   pub upper : IsCutBelow cmp cut span.upper
+
+-- some cut lies in the span: in `Before 3` to `After 3`, and in none from `After 3` to `Before 3`
+abbrev pub HoldsCut : {T : Type 0} → (T → T → Ordering) → Ends T → Type 0
+HoldsCut {T} cmp span = (cut : Cut T) × IsInSpan cmp span cut
+
+-- two spans begin at one cut and end at one cut, whatever else tells the values of the cuts apart
+pub record AreSameEnds {T : Type 0} (cmp : T → T → Ordering) (one other : Ends T) : Type 0 where
+  pub lower : cut_cmp cmp one.lower other.lower ≡ Equal
+  pub upper : cut_cmp cmp one.upper other.upper ≡ Equal

@@ -4,5 +4,3 @@
 pub mod CutOrder
 -- less and at most, and the tests of them
 pub mod Ends
--- outer ends, and when spans have a cut in common
-pub mod Common

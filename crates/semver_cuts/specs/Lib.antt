@@ -10,6 +10,8 @@ pub mod CutLaws
 pub mod Ends
 -- what the spans of a list have in common
 pub mod Common
+-- the ends of what they have in common
+pub mod Merging
 -- ---- Said of no public call
 -- what private functions compute
 pub mod Private

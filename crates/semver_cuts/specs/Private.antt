@@ -1,4 +1,4 @@
 -- What private functions are said to compute, those of crates above included.
 
--- the greatest lower end and the least upper end of a list of spans
-pub mod OuterEnds
+-- which of two ends stays where two spans are merged
+pub mod Merging

@@ -9,6 +9,8 @@
 #![tactic(auto)]
 
 mod cut;
+mod span;
 pub mod laws;
 
 pub use cut::Cut;
+pub use span::Span;

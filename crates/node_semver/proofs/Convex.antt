@@ -1,0 +1,1 @@
+-- Versions between two of one triple.

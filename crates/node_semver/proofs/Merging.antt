@@ -1,0 +1,1 @@
+-- Comparators merged into one set.

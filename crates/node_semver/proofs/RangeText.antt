@@ -1,0 +1,1 @@
+-- The text of a range in the pieces in which it is written.

@@ -1,0 +1,41 @@
+-- What the private functions that make the sets of a range do.
+use Rattle.std.specs.Prelude.{◌≡◌, ℕ, List, [], ◌∷◌, Option, Some, None}
+use Rattle.semver_cuts.specs.Ends.{Ends}
+use Rattle.node_semver.specs.Comparator.{Comparator}
+use Rattle.node_semver.specs.Division.{IsAlternative}
+use Rattle.node_semver.specs.Meaning.{GiveSet}
+use Rattle.node_semver.specs.Merging.{IsSetOf}
+use Rattle.node_semver.specs.Version.{VersionValue}
+use Rattle.node_semver.specs.declared.range.sets.Sets.{Sets}
+use Rattle.node_semver.specs.declared.range.sets.Sets.TheVariants.{One, Many}
+
+-- the comparators merged into one, or none where there are none
+abbrev pub IsMerged : List Comparator → Option Comparator → Type 0
+IsMerged comparators None = comparators ≡ []
+IsMerged comparators (Some merged) = IsSetOf comparators merged
+
+-- those of an alternative
+abbrev pub IsMergedAlternative : List ℕ → Option Comparator → Type 0
+IsMergedAlternative text merged = (comparators : List Comparator) × IsAlternative text comparators × IsMerged comparators merged
+
+-- the set of an alternative, or none where its comparators give none
+pub data IsSetOfAlternative (text : List ℕ) (set : Option (Ends VersionValue)) : Type 0 where
+  given : (comparators : List Comparator) (ends : Ends VersionValue) → IsAlternative text comparators → GiveSet comparators
+      → IsSetOf comparators ends → set ≡ Some ends → IsSetOfAlternative text set
+  not_given : (comparators : List Comparator) → IsAlternative text comparators → ¬ GiveSet comparators → set ≡ None
+      → IsSetOfAlternative text set
+
+-- a list of the set, or of none
+abbrev pub listed_set : Option (Ends VersionValue) → List (Ends VersionValue)
+listed_set None = []
+listed_set (Some set) = set ∷ []
+
+-- the list of the sets of a range
+abbrev pub sets_seen : Sets → List (Ends VersionValue)
+sets_seen (One set) = set ∷ []
+sets_seen (Many sets) = sets.items
+
+-- and of a text, where it gives any
+abbrev pub some_sets_seen : Option Sets → List (Ends VersionValue)
+some_sets_seen None = []
+some_sets_seen (Some sets) = sets_seen sets

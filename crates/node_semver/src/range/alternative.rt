@@ -1,0 +1,67 @@
+//! One alternative of a range text: its words, merged as they are read.
+ghost use Rattle.std.specs.Prelude.{◌≡◌, ◌++◌, IfOk, List, OnOk};
+ghost use Rattle.node_semver.specs.Comparator.{Comparator};
+ghost use Rattle.node_semver.specs.Private.RangeViews.{IsMerged, IsMergedAlternative, IsSetOfAlternative};
+ghost use Rattle.node_semver.specs.Private.WordReading.{leading_or_none, read_right};
+ghost use Rattle.node_semver.specs.Private.WordViews.{listed, some_ends_seen, word_seen};
+
+use crate::Version;
+use crate::comparator::Comparator;
+use crate::parse::skip_blanks;
+use crate::set::merge;
+use crate::word::{Ends, read_leading_hyphen, read_word};
+use semver_cuts::Span;
+use std::alloc::{AllocError, Global};
+
+// The set of an alternative, or `None` where its comparators give none.
+pub(crate) fn read_set(alloc: Global, text: &[u8]) -> Result<Option<Span<Version>>, AllocError>
+    ensures { IfOk result (λ set. IsSetOfAlternative text.now set) }
+{
+    match read_merged(alloc, text)? {
+        Some(merged) => Ok(Span::new(merged.lower, merged.upper)),
+        None => Ok(None),
+    }
+}
+
+// The comparators of an alternative, merged into one.
+fn read_merged(alloc: Global, text: &[u8]) -> Result<Option<Comparator>, AllocError>
+    ensures { IfOk result (λ merged. IsMergedAlternative text.now merged) }
+{
+    let mut merged = None;
+    let (leading, rest) = skip_leading_hyphen(text);
+    keep(alloc, &mut merged, leading)?;
+    let mut rest = skip_blanks(rest);
+    while !rest.is_empty() {
+        let (ends, others) = read_word(rest);
+        keep(alloc, &mut merged, ends)?;
+        rest = skip_blanks(others);
+    }
+    Ok(merged)
+}
+
+// One comparator more, where a word writes one.
+#[inline(always)]
+fn keep(alloc: Global, merged: &mut Option<Comparator>, ends: Option<Ends>) -> Result<(), AllocError>
+    ensures { OnOk result ((comparators : List Comparator) → IsMerged comparators merged.old
+        → IsMerged (comparators ++ listed (some_ends_seen ends.entry)) merged.new) }
+{
+    if let Some(ends) = ends {
+        let later = ends.comparator(alloc)?;
+        *merged = Some(match merged.take() {
+            Some(earlier) => merge(earlier, later),
+            None => later,
+        });
+    }
+    Ok(())
+}
+
+// A hyphen without a left side, with which a text may begin: ` - 3`
+#[inline(always)]
+fn skip_leading_hyphen(text: &[u8]) -> (Option<Ends>, &[u8])
+    ensures { word_seen result ≡ leading_or_none (read_right text.now) text.now }
+{
+    match read_leading_hyphen(text) {
+        Some(word) => word,
+        None => (None, text),
+    }
+}

@@ -1,0 +1,82 @@
+ghost use Rattle.std.specs.Prelude.{◌≡◌, ◌↔◌, IfSome, IsSome, IsTrue};
+ghost use Rattle.semver_cuts.specs.declared.cut.Cut.TheVariants.{Before};
+ghost use Rattle.semver_cuts.specs.Ends.{HoldsCut, IsCutAtMost, IsCutBelow, IsInSpan, span_between};
+
+use crate::Cut;
+use std::marker::Model;
+
+/// The cuts from a lower one up to but not including an upper one. A span always holds a cut.
+#[derive(Debug, Drop)]
+pub struct Span<T: Ord> {
+    lower: Cut<T>,
+    upper: Cut<T>,
+}
+
+impl<T: Ord> Model for Span<T> {
+    ghost use Rattle.semver_cuts.specs.Ends.{Ends, IsCutBelow, span_between};
+
+    ghost Value = { Ends T };
+
+    ghost view = { λ s. span_between s.lower s.upper };
+
+    ghost invariant = { λ s. IsCutBelow T.cmp s.lower s.upper };
+}
+
+impl<T: Ord + Drop> Span<T> {
+    /// The span between two cuts, or `None` exactly where no cut lies between them.
+    pub fn new(lower: Cut<T>, upper: Cut<T>) -> Option<Span<T>>
+        ensures cut { IsSome result ↔ HoldsCut T.cmp (span_between lower upper) }
+        ensures ends { IfSome result (λ span. span ≡ span_between lower upper) }
+    {
+        if lower < upper { Some(Span { lower, upper }) } else { None }
+    }
+}
+
+impl<T: Ord> Span<T> {
+    /// The least cut of the span.
+    pub fn lower(&self) -> &Cut<T>
+        ensures { result.now ≡ self.now.lower }
+    {
+        &self.lower
+    }
+
+    /// The cut at which the span ends, which it does not hold.
+    pub fn upper(&self) -> &Cut<T>
+        ensures { result.now ≡ self.now.upper }
+    {
+        &self.upper
+    }
+
+    /// Whether the value lies in the span: whether the cut before it does.
+    pub fn contains(&self, value: &T) -> bool
+        ensures { IsTrue result ↔ IsInSpan T.cmp self.now (Before value.now) }
+    {
+        begins_before(&self.lower, value) && ends_after(&self.upper, value)
+    }
+}
+
+// The cut is at most the one before the value.
+#[inline]
+fn begins_before<T: Ord>(cut: &Cut<T>, value: &T) -> bool
+    ensures { IsTrue result ↔ IsCutAtMost T.cmp cut.now (Before value.now) }
+{
+    match cut {
+        Cut::Start => true,
+        Cut::Before(low) => low <= value,
+        Cut::After(low) => low < value,
+        Cut::End => false,
+    }
+}
+
+// The cut before the value is less than this one.
+#[inline]
+fn ends_after<T: Ord>(cut: &Cut<T>, value: &T) -> bool
+    ensures { IsTrue result ↔ IsCutBelow T.cmp (Before value.now) cut.now }
+{
+    match cut {
+        Cut::Start => false,
+        Cut::Before(high) => value < high,
+        Cut::After(high) => value <= high,
+        Cut::End => true,
+    }
+}

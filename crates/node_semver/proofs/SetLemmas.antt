@@ -1,14 +1,14 @@
 -- The sets of a text: one list for each text, empty exactly where it is refused, and admitting what the text admits.
-use Rattle.std.proofs.Common.{◌≡◌, ◌≢◌, ◌↔◌, ◌∙◌, ℕ, List, [], ◌∷◌, ◌++◌, refl, sym, ap, subst, inl, inr}
-use Rattle.std.specs.List.{AllByRecursion}
+use Rattle.std.proofs.Common.{◌≡◌, ◌≢◌, ◌↔◌, ◌∙◌, ℕ, List, [], ◌∷◌, ◌++◌, Option, Some, None, refl, sym, ap, subst, inl, inr}
+use Rattle.std.proofs.lemmas.List.{append-nil}
 use Rattle.semver_cuts.specs.declared.cut.Cut.TheVariants.{Before}
 use Rattle.semver_cuts.specs.Ends.{Ends}
 use Rattle.node_semver.specs.Comparator.{Comparator}
-use Rattle.node_semver.specs.Division.{IsWritten}
+use Rattle.node_semver.specs.Division.{IsAlternative, IsWritten}
 use Rattle.node_semver.specs.Meaning.{Admit, AnyByRecursion, GiveSet, IsRefused, RangeAdmits, TextAdmits}
 use Rattle.node_semver.specs.Merging.{AreSetsOf, AreSetsOfText, IsSetOf, no_more, none, one_more}
 use Rattle.node_semver.specs.Version.{VersionValue}
-use Rattle.node_semver.specs.Private.RangeViews.{IsKept, kept, not_kept}
+use Rattle.node_semver.specs.Private.RangeViews.{IsSetOfAlternative, given, listed_set, not_given}
 use Rattle.node_semver.proofs.AlternativeLemmas.{written-unique}
 use Rattle.node_semver.proofs.MeaningLemmas.{AdmitSome, NoneGive, none-from_refused, refused-from_none}
 use Rattle.node_semver.proofs.Merging.{merged-admits, set-unique}
@@ -35,13 +35,27 @@ more-none (c ∷ done) (s ∷ sets) a (one_more _ _ _ _ g i more) nothing =
 more-none (c ∷ done) sets a (no_more _ _ _ n more) nothing =
     no_more c (done ++ a ∷ []) sets n (more-none done sets a more nothing)
 
+-- an alternative that is read, and what is made of it
+pub record ReadsMore (text : List ℕ) (done : List (List Comparator)) (more : List (Ends VersionValue)) : Type 0 where
+  pub comparators : List Comparator
+  pub alternative : IsAlternative text comparators
+  pub merged : AreSetsOf (done ++ comparators ∷ []) more
+
 -- one more alternative
-pub kept-more : (done : List (List Comparator)) (sets more : List (Ends VersionValue)) (a : List Comparator)
-    → AreSetsOf done sets → IsKept a sets more → AreSetsOf (done ++ a ∷ []) more
-kept-more done sets more a merged (kept set gives is same) =
-    subst (λ (l : List (Ends VersionValue)). AreSetsOf (done ++ a ∷ []) l) (sym same) (more-set done sets a set merged gives is)
-kept-more done sets more a merged (not_kept nothing same) =
-    subst (λ (l : List (Ends VersionValue)). AreSetsOf (done ++ a ∷ []) l) (sym same) (more-none done sets a merged nothing)
+pub reads-set : (text : List ℕ) (done : List (List Comparator)) (sets : List (Ends VersionValue)) (set : Option (Ends VersionValue))
+    → AreSetsOf done sets → IsSetOfAlternative text set → ReadsMore text done (sets ++ listed_set set)
+reads-set text done sets set merged (given comparators ends alternative gives is same) = record {
+  comparators = comparators;
+  alternative = alternative;
+  merged = subst (λ (o : Option (Ends VersionValue)). AreSetsOf (done ++ comparators ∷ []) (sets ++ listed_set o)) (sym same)
+      (more-set done sets comparators ends merged gives is);
+}
+reads-set text done sets set merged (not_given comparators alternative nothing same) = record {
+  comparators = comparators;
+  alternative = alternative;
+  merged = subst (λ (o : Option (Ends VersionValue)). AreSetsOf (done ++ comparators ∷ []) (sets ++ listed_set o)) (sym same)
+      (subst (AreSetsOf (done ++ comparators ∷ [])) (sym (append-nil sets)) (more-none done sets comparators merged nothing));
+}
 
 -- ---- no sets
 

@@ -18,7 +18,8 @@ use std::marker::Model;
 
 /// The versions that a range text asks for: npm's ranges, in their loose form.
 ///
-/// A range text is words with blanks between them. Each comparator among the words asks something of a version:
+/// A range text is alternatives with `||` between them, each of words with blanks between them. Each comparator among
+/// the words asks something of a version:
 ///
 /// | word | asks for |
 /// |---|---|
@@ -33,8 +34,11 @@ use std::marker::Model;
 ///
 /// `docs/GRAMMAR.md` has all of them. `x`, `X` and `*` stand for a component that is absent. A `v` and blanks may stand
 /// before the numbers, and blanks after an operator: `>= v 1.0`. A build may stand at the end, and changes nothing.
-/// Every other word is thrown away: `foo >=1.0.0` is `>=1.0.0`. So is a word that holds `||`, which is not read yet.
-/// Spaces and tabs are blanks, and newlines are not.
+/// Every other word is thrown away: `foo >=1.0.0` is `>=1.0.0`, and so is `|` alone. Spaces and tabs are blanks, and
+/// newlines are not.
+///
+/// A range is the list of its sets: one for each alternative that has a comparator, from the greatest lower end of its
+/// comparators to their least upper end, where a cut lies between. Sets are not joined: `1||1` has two.
 ///
 /// # Source
 ///
@@ -56,23 +60,26 @@ impl Model for Range {
 }
 
 impl Range {
-    /// Reads a range text of any length, in one pass.
+    /// Reads a range text of any length.
+    ///
+    /// Of lower ends at one cut, which differ in the build alone, the last stays, and of upper ends the first:
+    /// `>=1.0.0+a >=1.0.0+b` is `>=1.0.0+b`.
     ///
     /// # Errors
     ///
-    /// - the empty text, `foo`, `~*`: `NoValidRanges` at 0, since no word is a comparator;
-    /// - `>4 <3`, `2 - 1`: `NoValidRanges` at 0, since the comparators have no cut in common. `>1.0.0-a <1.0.0-a.0` has
-    ///   one, and is read, though no version lies there;
+    /// - the empty text, `foo`, `~*`, `||`: `NoValidRanges` at 0, since no word is a comparator;
+    /// - `>4 <3`, `2 - 1`: `NoValidRanges` at 0, since the comparators of no alternative have a cut in common.
+    ///   `>1.0.0-a <1.0.0-a.0` has one, and is read, though no version lies there;
     /// - any text: `OutOfMemory` at 0, with no text, where memory is refused.
     ///
     /// # Memory
     ///
-    /// Takes a list of the comparators and the identifiers of their ends, one for each `-0`. A word that is thrown away
-    /// takes none. An error holds a copy of the text.
+    /// Takes the identifiers of the ends, one for each `-0`, and a list of the sets where the text has `||`. A word that
+    /// is thrown away takes none. An error holds a copy of the text.
     ///
     /// # Examples
     ///
-    /// `^1.2.3`, `1.2 - 3` and `foo >= v 1.0.0` are read, `foo` is refused.
+    /// `^1.2.3`, `1.2 - 3`, `foo >= v 1.0.0` and `foo || 2` are read, `foo` is refused.
     pub fn parse(alloc: Global, text: &str) -> Result<Range, SemverError>
         ensures refused { IfErr result (λ e.
             IsOutOfMemory e ⊎ (IsRefusalAt text.now no_valid_ranges 0 e × IsRefused text.now)) }
@@ -89,7 +96,21 @@ impl Range {
         }
     }
 
-    /// The range of all cuts.
+    /// The range of one set, which has all cuts.
+    ///
+    /// It admits every release, and no prerelease, since no triple is at an end of it.
+    ///
+    /// # Memory
+    ///
+    /// Takes none.
+    ///
+    /// # Examples
+    ///
+    /// It prints as `*`. The text `*` is read as `>=0.0.0`, another range.
+    ///
+    /// # Source
+    ///
+    /// The Rust crate `node-semver` 2.2.0.
     pub fn any() -> Range
         ensures { result ≡ all_cuts ∷ [] }
     {
@@ -98,8 +119,8 @@ impl Range {
 
     /// Whether the range admits a version.
     ///
-    /// The version lies inside each comparator and, if it is a prerelease, a prerelease of its triple stands in one of
-    /// them. So `<1.0.1-beta` admits `1.0.1-0` and `1.0.0`, and not `1.0.0-a`.
+    /// One of the sets has it inside and, if it is a prerelease, an end of that set is a prerelease of its triple. So
+    /// `<1.0.1-beta` admits `1.0.1-0` and `1.0.0`, and not `1.0.0-a`.
     ///
     /// # Memory
     ///
@@ -107,8 +128,8 @@ impl Range {
     ///
     /// # Examples
     ///
-    /// `^1.2.3-rc.4` admits `1.9.0` and `1.2.3-rc.5`. It does not admit `2.0.0`, nor `1.2.4-rc.6`, a prerelease of
-    /// another triple.
+    /// `^1.2.3-rc.4 || >=3` admits `1.9.0`, `3.0.0` and `1.2.3-rc.5`. It does not admit `2.0.0`, nor `1.2.4-rc.6`, a
+    /// prerelease of another triple.
     ///
     /// # Source
     ///

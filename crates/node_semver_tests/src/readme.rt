@@ -10,12 +10,14 @@ use std::test::Fail;
 #[test]
 fn reads_a_range_and_asks_it(rt: HostRuntime) -> Result<(), Fail> {
     let alloc = rt.alloc();
-    let range = Range::parse(alloc, "^1.2.3-rc.4")?;
-    assert!(rt; range.satisfies(&Version::parse(alloc, "1.9.0")?));
+    let range = Range::parse(alloc, "^1.2.3-rc.4 || >=3")?;
     assert!(rt; range.satisfies(&Version::parse(alloc, "1.2.3-rc.5")?));
+    assert!(rt; range.satisfies(&Version::parse(alloc, "3.0.0")?));
     assert!(rt; !range.satisfies(&Version::parse(alloc, "2.0.0")?));
     // A prerelease of a triple at no end.
     assert!(rt; !range.satisfies(&Version::parse(alloc, "1.2.4-rc.6")?));
+    let print = format!(in alloc; "{range}")?;
+    assert_eq!(rt; print.as_str(), ">=1.2.3-rc.4 <2.0.0-0||>=3.0.0");
     // A fault has a kind and a byte offset.
     let error = Version::parse(alloc, "1.2").err().ok_or("1.2 was read")?;
     assert_eq!(rt; error.kind(), &SemverErrorKind::Context("version"));
@@ -33,8 +35,9 @@ pub fn is_wanted(alloc: Global, text: &str, version: &Version) -> Result<bool, S
 #[test]
 fn asks_what_a_text_admits(rt: HostRuntime) -> Result<(), Fail> {
     for (text, version, wanted) in [
-        ("^1.2.3-rc.4", "1.9.0", true),
-        ("^1.2.3-rc.4", "1.2.4-rc.6", false),
+        ("^1.2.3-rc.4 || >=3", "1.9.0", true),
+        ("^1.2.3-rc.4 || >=3", "3.0.0", true),
+        ("^1.2.3-rc.4 || >=3", "1.2.4-rc.6", false),
     ] {
         let version = Version::parse(rt.alloc(), version)?;
         let answer = is_wanted(rt.alloc(), text, &version)?;

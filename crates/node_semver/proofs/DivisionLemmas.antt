@@ -1,10 +1,10 @@
--- Range texts: each is divided into words in exactly one way.
+-- Alternatives: each is divided into words in exactly one way.
 use Rattle.std.proofs.Common.{◌≡◌, ◌<◌, ◌≤◌, ℕ, zero, suc, Bool, List, [], ◌∷◌, ◌++◌, length, Option, Some, None, append_assoc, length-append, arith, refl, sym, ap, subst, ◌∙◌, inl, inr}
 use Rattle.std.proofs.lemmas.Bool.{cases_Bool}
 use Rattle.std.proofs.lemmas.List.{append-nil}
 use Rattle.node_semver.specs.Characters.{AreAll, BeginsWith, BeginsWithNo, is_blank}
 use Rattle.node_semver.specs.Comparator.{Comparator}
-use Rattle.node_semver.specs.Division.{IsDivision, IsWord, IsWritten, comparators_of}
+use Rattle.node_semver.specs.Division.{IsAlternative, IsDivision, IsWord, comparators_of}
 use Rattle.node_semver.specs.Private.Reading.{prefix_of, rest_of, skip_one}
 use Rattle.node_semver.specs.Private.WordReading.{ReadPartial, Word, leading_or_none, read_component, read_components, read_hyphen, read_lead, read_partial, read_right, read_simple, read_word}
 use Rattle.node_semver.specs.Private.WordViews.{listed}
@@ -231,20 +231,19 @@ completes-leading text (Some right) leading rest some read =
     completes-more text [] text leading rest (completes-nothing text) (word-leading text right some ∙ sym read)
 
 -- all is read
-pub completes-end : (text : List ℕ) (done : List Comparator) → Completes text done [] → IsWritten text (done ∷ [])
+pub completes-end : (text : List ℕ) (done : List Comparator) → Completes text done [] → IsAlternative text done
 completes-end text done completes =
     let whole = completes.whole (None ∷ []) empty-thrown in
-    (whole.0, whole.1, ap (λ (l : List Comparator). l ∷ []) (sym (whole.2 ∙ append-nil done)))
+    record { words = whole.0; divided = whole.1; kept = sym (whole.2 ∙ append-nil done) }
 
--- ---- what is written is one list
+-- ---- the comparators of an alternative are one list
 
-pub written-exists : (text : List ℕ) → (alternatives : List (List Comparator)) × IsWritten text alternatives
-written-exists text =
+pub alternative-exists : (text : List ℕ) → (comparators : List Comparator) × IsAlternative text comparators
+alternative-exists text =
     let d = divides text in
-    (comparators_of d.0 ∷ [], (d.0, d.1, refl))
+    (comparators_of d.0, record { words = d.0; divided = d.1; kept = refl })
 
-pub written-unique : (text : List ℕ) (one other : List (List Comparator)) → IsWritten text one → IsWritten text other
+pub alternative-unique : (text : List ℕ) (one other : List Comparator) → IsAlternative text one → IsAlternative text other
     → one ≡ other
-written-unique text one other w x =
-    w.2 ∙ ap (λ (words : List (Option Comparator)). comparators_of words ∷ []) (division-unique text w.0 x.0 w.1 x.1)
-    ∙ sym x.2
+alternative-unique text one other a b =
+    a.kept ∙ ap comparators_of (division-unique text a.words b.words a.divided b.divided) ∙ sym b.kept

@@ -29,7 +29,8 @@ pub fn a_text_has_one_fault()
     ensures only { (text : List ℕ) → HasOneFault text }
 {}
 
-/// Each text is divided into words in one way: it has one list of comparators.
+/// Each text is divided into alternatives, and these into words, in one way: it has one list of alternatives, each the
+/// list of its comparators.
 pub fn every_range_text_is_written_one_way()
     ensures exists { (text : List ℕ) → HasWriting text }
     ensures only { (text : List ℕ) → IsWrittenOneWay text }

@@ -1,7 +1,7 @@
-use Rattle.std.proofs.Common.{◌≡◌, ◌∙◌, ap, arith, drop, sym, true, false}
+use Rattle.std.proofs.Common.{◌≡◌, ◌∙◌, ap, arith, drop, true, false}
 use Rattle.std.specs.Option.{is_some}
 use Rattle.node_semver.specs.Private.PieceReading.{bars_after, some_seen}
-use Rattle.node_semver.proofs.PieceLemmas.{passed-end, passed-nothing, seen-step, seen-stop}
+use Rattle.node_semver.proofs.PieceLemmas.{passed-end, seen-step, seen-stop}
 use Rattle.node_semver.proofs.Places.{to-end}
 use Rattle.node_semver.proofs.range.pieces.next_piece.Goals as goal
 

@@ -6,3 +6,5 @@ pub mod CutOrder
 pub mod Ends
 -- the chosen ends of a list of spans, and what the spans have in common
 pub mod Merging
+-- what equal cuts and equal spans feed a hasher
+pub mod Hash

@@ -41,7 +41,11 @@ fn read_merged(alloc: Global, text: &[u8]) -> Result<Option<Comparator>, AllocEr
 
 // One comparator more, where a word writes one.
 #[inline(always)]
-fn keep(alloc: Global, merged: &mut Option<Comparator>, ends: Option<Ends>) -> Result<(), AllocError>
+fn keep(
+    alloc: Global,
+    merged: &mut Option<Comparator>,
+    ends: Option<Ends>,
+) -> Result<(), AllocError>
     ensures { OnOk result ((comparators : List Comparator) → IsMerged comparators merged.old
         → IsMerged (comparators ++ listed (some_ends_seen ends.entry)) merged.new) }
 {

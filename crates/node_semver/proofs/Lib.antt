@@ -24,6 +24,7 @@ pub mod MeaningLemmas
 pub mod Merging
 pub mod NumberReading
 pub mod OneReading
+pub mod PartialBounds
 pub mod PartialReading
 pub mod PartialViews
 pub mod PieceLemmas
@@ -39,6 +40,7 @@ pub mod SimpleReading
 pub mod SomeElement
 pub mod VersionParse
 pub mod VersionReading
+pub mod WordBounds
 pub mod WordExamples
 pub mod WordLemmas
 pub mod WordViews

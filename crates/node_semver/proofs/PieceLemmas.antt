@@ -1,10 +1,11 @@
 -- Range texts: each is divided at `||` in exactly one way.
-use Rattle.std.proofs.Common.{◌≡◌, ◌+◌, ◌<◌, ◌≤◌, ℕ, zero, suc, true, false, List, [], ◌∷◌, ◌++◌, length, get_or, take, drop, Option, Some, None, append_assoc, length-append, arith, refl, sym, ap, subst, ◌∙◌, inl, inr}
+use Rattle.std.proofs.Common.{◌≡◌, ◌+◌, ◌-◌, ◌<◌, ◌≤◌, ℕ, zero, suc, true, false, List, [], ◌∷◌, ◌++◌, length, get_or, take, drop, Option, Some, None, append_assoc, length-append, arith, refl, sym, ap, subst, ◌∙◌, inl, inr}
 use Rattle.std.specs.Borrow.{Bor}
 use Rattle.std.specs.Option.{is_some}
 use Rattle.std.specs.Prelude.{◌⊎◌, ◌==◌, ◌&&◌}
 use Rattle.std.proofs.lemmas.Bool.{and_parts, cases_Bool, eqb-true}
-use Rattle.std.proofs.lemmas.List.{append-nil, drop_all, take_all}
+use Rattle.std.proofs.lemmas.List.{append-nil, drop_all, get_or-drop, take_all}
+use Rattle.memchr.specs.Find.{Nowhere, Passes, is_byte}
 use Rattle.node_semver.specs.Characters.{bar}
 use Rattle.node_semver.specs.Division.{EndsInBar, HasBars, HasFirstPiece, IsPieces}
 use Rattle.node_semver.specs.Private.PieceReading.{Piece, bars_after, behind, piece_at, some_seen}
@@ -271,3 +272,37 @@ passed-end text i h passed =
     let read : piece_at (drop i text) ≡ ([], None) = ap piece_at (drop_all i text h) ∙ piece-of_nothing in
     ap (λ (l : List ℕ). (l, None)) (sym (take_all i text h) ∙ sym (append-nil (take i text)))
     ∙ ap (behind (take i text)) (sym read) ∙ sym passed
+
+-- ---- the first piece, from bar to bar
+
+no-bars-here : (b : ℕ) (rest : List ℕ) → (b == bar) ≡ false → bars_after (b ∷ rest) ≡ None
+no-bars-here b [] h = refl
+no-bars-here b (c ∷ rest) h = rw h refl
+
+-- characters that are no bars
+pub pass-free : (text : List ℕ) (i n : ℕ) → i + n ≤ length text
+    → ((k : ℕ) → i ≤ k → k < i + n → (get_or text k 0 == bar) ≡ false) → Passed text i → Passed text (i + n)
+pass-free text i zero h free passed = subst (Passed text) (omega arith) passed
+pass-free text i (suc n) h free passed =
+    let before : Passed text (i + n) = pass-free text i n (omega arith) (λ k low high. free k low (omega arith)) passed in
+    let none : bars_after (drop (i + n) text) ≡ None =
+    ap bars_after (at-place text (i + n) (omega arith))
+    ∙ no-bars-here (get_or text (i + n) 0) (drop (i + n + 1) text) (free (i + n) (omega arith) (omega arith)) in
+    let after : Passed text (i + n + 1) = seen-step text (i + n) None (omega arith) refl (sym none) before in
+    subst (Passed text) (omega arith) after
+
+free-from : (text hay : List ℕ) (i n : ℕ) → hay ≡ drop i text → Nowhere (Passes (is_byte bar) hay) 0 n
+    → (k : ℕ) → i ≤ k → k < i + n → (get_or text k 0 == bar) ≡ false
+free-from text hay i n same none k low high =
+    let here : get_or hay (k - i) 0 ≡ get_or text k 0 =
+    ap (λ (l : List ℕ). get_or l (k - i) 0) same ∙ get_or-drop i text (k - i) 0
+    ∙ ap (λ (m : ℕ). get_or text m 0) (omega arith) in
+    elim (cases_Bool (get_or text k 0 == bar)) [
+      | inl is ↦ absurd (none (k - i) (omega arith) (omega arith) (ap (λ (b : ℕ). b == bar) here ∙ is))
+      | inr no ↦ no
+    ]
+
+-- up to the first bar of what is left
+pub pass-to_bar : (text hay : List ℕ) (i n : ℕ) → hay ≡ drop i text → i + n ≤ length text
+    → Nowhere (Passes (is_byte bar) hay) 0 n → Passed text i → Passed text (i + n)
+pass-to_bar text hay i n same h none passed = pass-free text i n h (free-from text hay i n same none) passed

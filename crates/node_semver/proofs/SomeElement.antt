@@ -1,22 +1,29 @@
--- The two ways to say that some element of a list is so.
-use Rattle.std.proofs.Common.{◌≡◌, ◌↔◌, ◌<◌, ℕ, zero, suc, List, [], ◌∷◌, length, arith, refl, sym, subst, inl, inr}
-use Rattle.std.specs.List.{Any}
-use Rattle.std.specs.Prelude.{slice_index_or}
+-- A list that is walked until some element is so.
+use Rattle.std.proofs.Common.{◌≡◌, ◌<◌, ◌+◌, ℕ, zero, suc, List, [], ◌∷◌, get_or, length, take, arith, sym, subst, inl, inr}
 use Rattle.node_semver.specs.Meaning.{AnyByRecursion}
 
-any-at : {X : Type 0} (P : X → Type 0) (xs : List X) (k : ℕ) (x : X) → k < length xs → slice_index_or xs k x ≡ x → P x
+-- the element at which the walk stops
+pub some-at : {X : Type 0} (P : X → Type 0) (xs : List X) (k : ℕ) (x : X) → k < length xs → x ≡ get_or xs k x → P x
     → AnyByRecursion P xs
-any-at P [] k x lt e p = absurd (omega arith)
-any-at P (y ∷ xs) zero x lt e p = inl (subst P (sym e) p)
-any-at P (y ∷ xs) (suc k) x lt e p = inr (any-at P xs k x (omega arith) e p)
+some-at P [] k x lt e p = absurd (omega arith)
+some-at P (y ∷ xs) zero x lt e p = inl (subst P e p)
+some-at P (y ∷ xs) (suc k) x lt e p = inr (some-at P xs k x (omega arith) e p)
 
-from-recursion : {X : Type 0} (P : X → Type 0) (xs : List X) → AnyByRecursion P xs → Any P xs
-from-recursion P [] a = absurd a
-from-recursion P (y ∷ xs) (inl p) = (zero, y, omega arith, refl, p)
-from-recursion P (y ∷ xs) (inr a) =
-    let more = from-recursion P xs a in
-    let within : more.0 < length xs = more.2 in
-    (suc more.0, more.1, omega arith, more.3, more.4)
+passed-one : {X : Type 0} (P : X → Type 0) (xs : List X) (k : ℕ) (x : X) → k < length xs → x ≡ get_or xs k x
+    → ¬ AnyByRecursion P (take k xs) → ¬ P x → ¬ AnyByRecursion P (take (suc k) xs)
+passed-one P [] k x lt e none other = absurd (omega arith)
+passed-one P (y ∷ xs) zero x lt e none other = λ some. elim some [
+  | inl here ↦ other (subst P (sym e) here)
+  | inr there ↦ absurd there
+]
+passed-one P (y ∷ xs) (suc k) x lt e none other = λ some. elim some [
+  | inl here ↦ none (inl here)
+  | inr there ↦ passed-one P xs k x (omega arith) e (λ earlier. none (inr earlier)) other there
+]
 
-pub some_by_recursion : {X : Type 0} (P : X → Type 0) (xs : List X) → Any P xs ↔ AnyByRecursion P xs
-some_by_recursion P xs = (λ a. any-at P xs a.0 a.1 a.2 a.3 a.4, from-recursion P xs)
+-- one more element that is not so
+pub none-more : {X : Type 0} (P : X → Type 0) (xs : List X) (k : ℕ) (x : X) → k < length xs → x ≡ get_or xs k x
+    → ¬ AnyByRecursion P (take k xs) → ¬ P x → ¬ AnyByRecursion P (take (k + 1) xs)
+none-more P xs k x lt e none other =
+    let next : suc k ≡ k + 1 = omega arith in
+    subst (λ (n : ℕ). ¬ AnyByRecursion P (take n xs)) next (passed-one P xs k x lt e none other)

@@ -25,6 +25,7 @@ pub mod HyphenRanges
 pub mod Division
 pub mod Meaning
 pub mod Merging
+pub mod RangeSets
 pub mod RangePrint
 pub mod RangeEquality
 -- ---- errors: where they stand, and how they print

@@ -3,6 +3,7 @@ ghost use Rattle.std.specs.Prelude.{◌≡◌, ◌⊎◌, ◌↔◌, [], ◌∷�
 ghost use Rattle.node_semver.specs.Error.{IsOutOfMemory, IsRefusalAt, no_valid_ranges};
 ghost use Rattle.node_semver.specs.Meaning.{IsRefused, RangeAdmits, TextAdmits};
 ghost use Rattle.node_semver.specs.Merging.{AreSetsOfText, all_cuts};
+ghost use Rattle.node_semver.specs.RangeSets.{IsRangeValue};
 ghost use Rattle.node_semver.specs.Version.{VersionValue};
 
 mod alternative;
@@ -52,11 +53,14 @@ impl Model for Range {
     ghost use Rattle.std.specs.Prelude.{List};
     ghost use Rattle.semver_cuts.specs.Ends.{Ends};
     ghost use Rattle.node_semver.specs.Private.RangeViews.{sets_seen};
+    ghost use Rattle.node_semver.specs.RangeSets.{IsRangeValue};
     ghost use Rattle.node_semver.specs.Version.{VersionValue};
 
     ghost Value = { List (Ends VersionValue) };
 
     ghost view = { λ r. sets_seen r.sets };
+
+    ghost invariant = { λ r. IsRangeValue (sets_seen r.sets) };
 }
 
 impl Range {
@@ -86,6 +90,7 @@ impl Range {
         ensures accepted { OnOk result (¬ IsRefused text.now) }
         ensures means { IfOk result (λ r. (v : VersionValue) → RangeAdmits r v ↔ TextAdmits text.now v) }
         ensures sets { IfOk result (λ r. AreSetsOfText text.now r) }
+        ensures holds { IfOk result IsRangeValue }
     {
         let Ok(sets) = read_sets(alloc, text.as_bytes()) else {
             return Err(SemverError::out_of_memory(alloc));
@@ -111,8 +116,10 @@ impl Range {
     /// # Source
     ///
     /// The Rust crate `node-semver` 2.2.0.
+    #[tactic(auto, using(crate::proofs::RangeBounds::all_cuts_bounded))]
     pub fn any() -> Range
-        ensures { result ≡ all_cuts ∷ [] }
+        ensures all { result ≡ all_cuts ∷ [] }
+        ensures holds { IsRangeValue result }
     {
         Range { sets: Sets::One(Span::new(Cut::Start, Cut::End).unwrap()) }
     }

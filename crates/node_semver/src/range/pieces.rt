@@ -2,15 +2,20 @@
 ghost use Rattle.std.specs.Prelude.{◌≡◌};
 ghost use Rattle.node_semver.specs.Private.PieceReading.{bars_after, piece_at, piece_seen, some_seen};
 
+use memchr::memchr;
+
 // The text before the first `||`, or the whole text, and what follows the `||`: `1` and `|2` of `1|||2`.
 pub(crate) fn next_piece(text: &[u8]) -> (&[u8], Option<&[u8]>)
     ensures { piece_seen result ≡ piece_at text.now }
 {
-    'bytes: for i in 0..text.len() {
-        let after = skip_bars(&text[i..]);
+    let mut passed = 0;
+    'bars: while let Some(at) = memchr(b'|', &text[passed..]) {
+        let bar = passed + at;
+        let after = skip_bars(&text[bar..]);
         if after.is_some() {
-            return (&text[..i], after);
+            return (&text[..bar], after);
         }
+        passed = bar + 1;
     }
     (text, None)
 }

@@ -1,21 +1,22 @@
-use Rattle.std.proofs.Common.{◌≡◌, ◌∙◌, ap, arith, drop, true, false}
+use Rattle.std.proofs.Common.{◌≡◌, ◌∙◌, ℕ, ◌+◌, ◌-◌, ◌≤◌, List, length, ap, arith, drop, sym, take, true, false}
 use Rattle.std.specs.Option.{is_some}
+use Rattle.std.proofs.lemmas.List.{length-drop}
 use Rattle.node_semver.specs.Private.PieceReading.{bars_after, some_seen}
-use Rattle.node_semver.proofs.PieceLemmas.{passed-end, seen-step, seen-stop}
+use Rattle.node_semver.proofs.PieceLemmas.{Passed, pass-to_bar, passed-end, seen-step, seen-stop}
 use Rattle.node_semver.proofs.Places.{to-end}
 use Rattle.node_semver.proofs.range.pieces.next_piece.Goals as goal
 
-pub returns-then-is_some : goal.returns-then-is_some
-returns-then-is_some c =
-    let seen : some_seen c.skip_bars-after.result ≡ bars_after (drop c.bytes.i c.args.text.now) = c.skip_bars-after.ensures ∙ ap bars_after (to-end c.args.text.now c.bytes.i) in
-    let some : is_some c.skip_bars-after.result ≡ true = cc (c.is_some.ensures, c.if-is_some.true) in
-    seen-stop c.args.text.now c.bytes.i c.skip_bars-after.result c.bytes-test.true some seen c.bytes.invariant
+-- the place of the bar lies in the text
+within : (text hay : List ℕ) (i n : ℕ) → hay ≡ drop i text → i ≤ length text → n < length hay → i + n < length text
+within text hay i n same h lt =
+    let left : length hay ≡ length text - i = ap length same ∙ length-drop i text in
+    omega arith
 
-pub bytes-preserved : goal.bytes-preserved
-bytes-preserved c =
-    let seen : some_seen c.skip_bars-after.result ≡ bars_after (drop c.bytes.i c.args.text.now) = c.skip_bars-after.ensures ∙ ap bars_after (to-end c.args.text.now c.bytes.i) in
-    let none : is_some c.skip_bars-after.result ≡ false = cc (c.is_some.ensures, c.if-is_some.false) in
-    seen-step c.args.text.now c.bytes.i c.skip_bars-after.result c.bytes-test.true none seen c.bytes.invariant
+pub returns-then-is_some : goal.returns-then-is_some
+returns-then-is_some c = ?
+
+pub bars-preserved : goal.bars-preserved
+bars-preserved c = ?
 
 pub returns : goal.returns
-returns c = passed-end c.args.text.now c.bytes.i (omega arith) c.bytes.invariant
+returns c = ?

@@ -1,5 +1,9 @@
+use Rattle.std.proofs.Common.{◌≤◌, ◌-◌, length}
 use Rattle.node_semver.proofs.PieceLemmas.{Passed}
 use Rattle.node_semver.proofs.range.pieces.next_piece.Given as goal
 
-abbrev pub invariant-bytes : goal.invariant-bytes
-invariant-bytes l = Passed l.text l.i
+abbrev pub invariant-bars : goal.invariant-bars
+invariant-bars l = (l.passed ≤ length l.text) × Passed l.text l.passed
+
+abbrev pub decreases-bars : goal.decreases-bars
+decreases-bars l = length l.text - l.passed

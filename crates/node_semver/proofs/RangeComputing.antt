@@ -11,19 +11,20 @@ use Rattle.semver_cuts.specs.Ends.{IsInSpan}
 use Rattle.semver_cuts.specs.Lemmas.Ends.{at_most-below, at_most-from_le, below-from_lt, le-from_at_most, lt-from_below}
 use Rattle.node_semver.specs.Characters.{is_blank}
 use Rattle.node_semver.specs.Comparator.{Comparator}
-use Rattle.node_semver.specs.Division.{IsWritten}
-use Rattle.node_semver.specs.IdentifierValue.{IdentifierValue}
+use Rattle.node_semver.specs.Division.{IsAlternative, IsWritten}
 use Rattle.node_semver.specs.Meaning.{Admit, AnyByRecursion, GiveSet, HasOpenEnd, IsInside, IsRefused, Opens, TextAdmits}
 use Rattle.node_semver.specs.Comparison.{version_cmp}
 use Rattle.node_semver.specs.Lemmas.Order.{version_total}
+use Rattle.node_semver.specs.Private.PieceReading.{piece_at}
 use Rattle.node_semver.specs.Private.Reading.{list_prefix, list_rest, prefix_of, read_build, read_extras, read_number, read_prerelease, rest_of, skip_one, skip_plus}
 use Rattle.node_semver.specs.Version.{HasSameTriple, IsPrerelease, VersionValue}
 use Rattle.node_semver.specs.Private.WordReading.{leading_or_none, read_component, read_components, read_hyphen, read_lead, read_operator, read_partial, read_right, read_simple, read_word}
-use Rattle.node_semver.proofs.DivisionLemmas.{Completes, completes-end, completes-leading, completes-more, written-unique}
+use Rattle.node_semver.proofs.AlternativeLemmas.{AreLeft, left-more, reads-start, written-unique}
+use Rattle.node_semver.proofs.DivisionLemmas.{Completes, completes-end, completes-leading, completes-more}
 use Rattle.node_semver.specs.Private.WordViews.{listed}
-use Rattle.node_semver.proofs.MeaningLemmas.{none-from_refused, refused-from_none}
+use Rattle.node_semver.proofs.MeaningLemmas.{AdmitSome, NoneGive, none-from_refused, refused-from_none}
 
--- ---- the comparators of a text
+-- ---- the comparators of an alternative
 
 -- word by word, after those that are done; nothing if the text has n words or more
 unfoldable pub read_words : ℕ → List ℕ → List Comparator → Option (List Comparator)
@@ -33,41 +34,98 @@ read_words (suc n) (b ∷ rest) done =
     read_words n (rest_of is_blank (read_word (b ∷ rest)).1) (done ++ listed (read_word (b ∷ rest)).0)
 
 words-complete : (n : ℕ) (text rest : List ℕ) (done all : List Comparator) → Completes text done rest
-    → read_words n rest done ≡ Some all → IsWritten text (all ∷ [])
+    → read_words n rest done ≡ Some all → IsAlternative text all
 unfolding read_words
 words-complete zero text rest done all completes read = cc read
 words-complete (suc n) text [] done all completes read =
     let same : done ≡ all = cc read in
-    subst (λ (l : List Comparator). IsWritten text (l ∷ [])) same (completes-end text done completes)
+    subst (IsAlternative text) same (completes-end text done completes)
 words-complete (suc n) text (b ∷ rest) done all completes read =
     words-complete n text _ _ all
     (completes-more text done (b ∷ rest) (read_word (b ∷ rest)).0 (read_word (b ∷ rest)).1 completes refl) read
 
--- the comparators of a text of fewer than nine words
+-- the comparators of an alternative of fewer than nine words
 unfoldable pub comparators_in : List ℕ → Option (List Comparator)
-unfolding read_words read_word read_hyphen read_simple read_right read_partial read_components read_component read_lead read_operator
-    rest_of prefix_of skip_one skip_plus read_number read_extras read_prerelease read_build list_prefix list_rest
+unfolding read_words read_word read_hyphen read_simple read_right read_partial read_components read_component read_lead
+    read_operator rest_of prefix_of skip_one skip_plus read_number read_extras read_prerelease read_build list_prefix
+    list_rest
 comparators_in text =
     let start = leading_or_none (read_right text) text in
     read_words 9 (rest_of is_blank start.1) (listed start.0)
 
-pub written-by : (text : List ℕ) (all : List Comparator) → comparators_in text ≡ Some all → IsWritten text (all ∷ [])
+alternative-by : (text : List ℕ) (all : List Comparator) → comparators_in text ≡ Some all → IsAlternative text all
 unfolding comparators_in
-written-by text all read =
+alternative-by text all read =
     let start = leading_or_none (read_right text) text in
     words-complete 9 text (rest_of is_blank start.1) (listed start.0) all
     (completes-leading text (read_right text) start.0 start.1 refl refl) read
 
--- texts and the comparators that they write
+-- ---- the alternatives of a text
+
+-- the first alternative before the others, where both are there
+abbrev pub both_read : Option (List Comparator) → Option (List (List Comparator)) → Option (List (List Comparator))
+both_read None others = None
+both_read (Some first) None = None
+both_read (Some first) (Some others) = Some (first ∷ others)
+
+-- the alternatives of what is left, each without the blanks with which it begins; nothing if there are n or more
+unfoldable pub read_left : ℕ → Option (List ℕ) → Option (List (List Comparator))
+unfolding piece_at comparators_in
+read_left zero left = None
+read_left (suc n) None = Some []
+read_left (suc n) (Some rest) =
+    both_read (comparators_in (rest_of is_blank (piece_at rest).0)) (read_left n (piece_at rest).1)
+
+-- the alternatives of a text of fewer than nine
+unfoldable pub alternatives_in : List ℕ → Option (List (List Comparator))
+unfolding piece_at comparators_in read_left
+alternatives_in text = both_read (comparators_in (piece_at text).0) (read_left 8 (piece_at text).1)
+
+left-from : (n : ℕ) (rest piece : List ℕ) (left : Option (List ℕ)) (first : Option (List Comparator))
+    (others : Option (List (List Comparator))) (all : List (List Comparator)) → piece_at rest ≡ (piece, left)
+    → comparators_in (rest_of is_blank piece) ≡ first → read_left n left ≡ others
+    → ((later : List (List Comparator)) → read_left n left ≡ Some later → AreLeft left later)
+    → both_read first others ≡ Some all → AreLeft (Some rest) all
+left-from n rest piece left None others all at one more lefts read = cc read
+left-from n rest piece left (Some first) None all at one more lefts read = cc read
+left-from n rest piece left (Some first) (Some later) all at one more lefts read =
+    let same : first ∷ later ≡ all = cc read in
+    subst (AreLeft (Some rest)) same
+    (left-more rest piece left first later at (alternative-by (rest_of is_blank piece) first one) (lefts later more))
+
+left-by : (n : ℕ) (left : Option (List ℕ)) (all : List (List Comparator)) → read_left n left ≡ Some all
+    → AreLeft left all
+unfolding read_left
+left-by zero left all read = cc read
+left-by (suc n) None all read = cc read
+left-by (suc n) (Some rest) all read =
+    left-from n rest (piece_at rest).0 (piece_at rest).1 _ _ all refl refl refl (left-by n (piece_at rest).1) read
+
+written-from : (text piece : List ℕ) (left : Option (List ℕ)) (first : Option (List Comparator))
+    (others : Option (List (List Comparator))) (all : List (List Comparator)) → piece_at text ≡ (piece, left)
+    → comparators_in piece ≡ first → read_left 8 left ≡ others → both_read first others ≡ Some all
+    → IsWritten text all
+written-from text piece left None others all at one more read = cc read
+written-from text piece left (Some first) None all at one more read = cc read
+written-from text piece left (Some first) (Some later) all at one more read =
+    let same : first ∷ later ≡ all = cc read in
+    let reads = reads-start text piece left first at (alternative-by piece first one) in
+    subst (IsWritten text) same (reads.whole later (left-by 8 left later more))
+
+pub written-by : (text : List ℕ) (all : List (List Comparator)) → alternatives_in text ≡ Some all → IsWritten text all
+unfolding alternatives_in
+written-by text all read = written-from text (piece_at text).0 (piece_at text).1 _ _ all refl refl refl read
+
+-- texts of one alternative, and the comparators that they write
 abbrev pub AreComputed : List (List ℕ × List Comparator) → Type 0
-AreComputed rows = map (λ (row : List ℕ × List Comparator). comparators_in row.0) rows
-    ≡ map (λ (row : List ℕ × List Comparator). Some row.1) rows
+AreComputed rows = map (λ (row : List ℕ × List Comparator). alternatives_in row.0) rows
+    ≡ map (λ (row : List ℕ × List Comparator). Some (row.1 ∷ [])) rows
 
 abbrev pub AreWritten : List (List ℕ × List Comparator) → Type 0
 AreWritten rows = AllByRecursion (λ (row : List ℕ × List Comparator). IsWritten row.0 (row.1 ∷ [])) rows
 
 -- equal lists of answers have the same first answer, and the same others
-first-same : (one other : Option (List Comparator)) (ones others : List (Option (List Comparator)))
+first-same : (one other : Option (List (List Comparator))) (ones others : List (Option (List (List Comparator))))
     → one ∷ ones ≡ other ∷ others
     → (one ≡ other) × (ones ≡ others)
 first-same one other ones others same = (cc same, cc same)
@@ -75,8 +133,8 @@ first-same one other ones others same = (cc same, cc same)
 pub all-written : (rows : List (List ℕ × List Comparator)) → AreComputed rows → AreWritten rows
 all-written [] computed = tt
 all-written (row ∷ rows) computed =
-    let both = first-same (comparators_in row.0) (Some row.1) _ _ computed in
-    (written-by row.0 row.1 both.0, all-written rows both.1)
+    let both = first-same (alternatives_in row.0) (Some (row.1 ∷ [])) _ _ computed in
+    (written-by row.0 (row.1 ∷ []) both.0, all-written rows both.1)
 
 -- ---- what they have in common
 
@@ -123,10 +181,18 @@ none-by : (comparators : List Comparator) → are_crossed comparators ≡ true �
 none-by [] crossed gives = gives.some refl
 none-by (c ∷ cs) crossed gives = none-crossed (c ∷ cs) (c ∷ cs) gives.common.0 gives.common.1 gives.common.1 crossed
 
--- a text whose comparators cross is refused
-pub refused-by : (text : List ℕ) (all : List Comparator) → IsWritten text (all ∷ []) → are_crossed all ≡ true
-    → IsRefused text
-refused-by text all written crossed = refused-from_none text all written (none-by all crossed)
+none-given_by : (alternatives : List (List Comparator)) → list_all are_crossed alternatives ≡ true
+    → NoneGive alternatives
+none-given_by [] crossed = tt
+none-given_by (comparators ∷ alternatives) crossed =
+    let parts = and_parts (are_crossed comparators) (list_all are_crossed alternatives) crossed in
+    (none-by comparators parts.0, none-given_by alternatives parts.1)
+
+-- a text is refused where the comparators of each alternative cross
+pub refused-by : (text : List ℕ) (alternatives : List (List Comparator)) → IsWritten text alternatives
+    → list_all are_crossed alternatives ≡ true → IsRefused text
+refused-by text alternatives written crossed =
+    refused-from_none text alternatives written (none-given_by alternatives crossed)
 
 -- ---- what they admit
 
@@ -146,27 +212,27 @@ holds-iff cut c = (
       (lt-from_below version_cmp cut c.upper inside.upper),
 )
 
-abbrev has_identifiers : List IdentifierValue → Bool
-has_identifiers [] = false
-has_identifiers (i ∷ is) = true
+abbrev has_elements : {X : Type 0} → List X → Bool
+has_elements [] = false
+has_elements (x ∷ xs) = true
 
-identifiers-iff : (is : List IdentifierValue) → (has_identifiers is ≡ true) ↔ (is ≢ [])
-identifiers-iff [] = (λ h. cc h, λ some. absurd (some refl))
-identifiers-iff (i ∷ is) = (λ h none. cc none, λ some. refl)
+elements-iff : {X : Type 0} → (xs : List X) → (has_elements xs ≡ true) ↔ (xs ≢ [])
+elements-iff [] = (λ h. cc h, λ some. absurd (some refl))
+elements-iff (x ∷ xs) = (λ h none. cc none, λ some. refl)
 
 abbrev same_triple : VersionValue → VersionValue → Bool
 same_triple p v = (p.major == v.major) && ((p.minor == v.minor) && (p.patch == v.patch))
 
 abbrev opens_by : VersionValue → VersionValue → Bool
-opens_by p v = has_identifiers p.pre_release && same_triple p v
+opens_by p v = has_elements p.pre_release && same_triple p v
 
 opens_by-iff : (p v : VersionValue) → (opens_by p v ≡ true) ↔ (IsPrerelease p × HasSameTriple p v)
 opens_by-iff p v = (
   λ h.
-      let a = and_parts (has_identifiers p.pre_release) (same_triple p v) h in
+      let a = and_parts (has_elements p.pre_release) (same_triple p v) h in
       let b = and_parts (p.major == v.major) ((p.minor == v.minor) && (p.patch == v.patch)) a.1 in
       let c = and_parts (p.minor == v.minor) (p.patch == v.patch) b.1 in (
-        (identifiers-iff p.pre_release).0 a.0,
+        (elements-iff p.pre_release).0 a.0,
         record {
           major = eqb-true p.major v.major b.0;
           minor = eqb-true p.minor v.minor c.0;
@@ -174,7 +240,7 @@ opens_by-iff p v = (
               eqb-true p.patch v.patch c.1;
         },
       ),
-  λ h. and_from _ _ ((identifiers-iff p.pre_release).1 h.0)
+  λ h. and_from _ _ ((elements-iff p.pre_release).1 h.0)
       (and_from _ _ (eq-eqb p.major v.major h.1.major)
       (and_from _ _ (eq-eqb p.minor v.minor h.1.minor) (eq-eqb p.patch v.patch h.1.patch))),
 )
@@ -231,57 +297,92 @@ any-iff P p iff (x ∷ xs) = (
 abbrev pub admit : List Comparator → VersionValue → Bool
 admit comparators v =
     list_all (holds (Before v)) comparators &&
-    (not (has_identifiers v.pre_release) || list_any (has_open v) comparators)
+    (not (has_elements v.pre_release) || list_any (has_open v) comparators)
 
 admit-iff : (comparators : List Comparator) (v : VersionValue) → (admit comparators v ≡ true) ↔ Admit comparators v
 admit-iff comparators v = (
   λ h.
       let parts = and_parts (list_all (holds (Before v)) comparators)
-      (not (has_identifiers v.pre_release) || list_any (has_open v) comparators) h in
+      (not (has_elements v.pre_release) || list_any (has_open v) comparators) h in
       record {
         inside = (all-iff (IsInside v) (holds (Before v)) (holds-iff (Before v)) comparators).0 parts.0;
         opened = λ prerelease.
-            let some : has_identifiers v.pre_release ≡ true = (identifiers-iff v.pre_release).1 prerelease in
+            let some : has_elements v.pre_release ≡ true = (elements-iff v.pre_release).1 prerelease in
             (any-iff (HasOpenEnd v) (has_open v) (has_open-iff v) comparators).0 (rw some at parts.1);
       },
   λ h. and_from _ _ ((all-iff (IsInside v) (holds (Before v)) (holds-iff (Before v)) comparators).1 h.inside)
-      (elim (cases_Bool (has_identifiers v.pre_release)) [
+      (elim (cases_Bool (has_elements v.pre_release)) [
         | inl some ↦ or_right _ _
             ((any-iff (HasOpenEnd v) (has_open v) (has_open-iff v) comparators).1
-            (h.opened ((identifiers-iff v.pre_release).0 some)))
+            (h.opened ((elements-iff v.pre_release).0 some)))
         | inr none ↦ rw none refl
       ]),
 )
 
--- what the comparators of a text admit, the text does
-pub admits-by : (text : List ℕ) (c : Comparator) (cs : List Comparator) (v : VersionValue)
-    → IsWritten text ((c ∷ cs) ∷ []) → admit (c ∷ cs) v ≡ true → TextAdmits text v
-admits-by text c cs v written passes = record {
-  alternatives = (c ∷ cs) ∷ [];
+-- there is a comparator, and all of them together admit the version
+abbrev admit_some : VersionValue → List Comparator → Bool
+admit_some v comparators = has_elements comparators && admit comparators v
+
+admit_some-iff : (v : VersionValue) (comparators : List Comparator)
+    → (admit_some v comparators ≡ true) ↔ AdmitSome v comparators
+admit_some-iff v comparators = (
+  λ h.
+      let parts = and_parts (has_elements comparators) (admit comparators v) h in
+      ((elements-iff comparators).0 parts.0, (admit-iff comparators v).0 parts.1),
+  λ h. and_from _ _ ((elements-iff comparators).1 h.0) ((admit-iff comparators v).1 h.1),
+)
+
+-- some alternative admits the version
+abbrev pub some_admits : List (List Comparator) → VersionValue → Bool
+some_admits alternatives v = list_any (admit_some v) alternatives
+
+-- what an alternative of a text admits, the text does
+pub admits-by : (text : List ℕ) (alternatives : List (List Comparator)) (v : VersionValue)
+    → IsWritten text alternatives → some_admits alternatives v ≡ true → TextAdmits text v
+admits-by text alternatives v written passes = record {
+  alternatives = alternatives;
   written = written;
-  admitted = inl (λ none. cc none, (admit-iff (c ∷ cs) v).0 passes);
+  admitted = (any-iff (AdmitSome v) (admit_some v) (admit_some-iff v) alternatives).0 passes;
 }
 
 -- and nothing else
-pub turns_away-by : (text : List ℕ) (all : List Comparator) (v : VersionValue) → IsWritten text (all ∷ [])
-    → admit all v ≡ false → ¬ TextAdmits text v
-turns_away-by text all v written fails = λ admits.
-    let some : AnyByRecursion (λ comparators. (comparators ≢ []) × Admit comparators v) (all ∷ []) =
-    subst (AnyByRecursion (λ comparators. (comparators ≢ []) × Admit comparators v))
-    (written-unique text admits.alternatives (all ∷ []) admits.written written) admits.admitted in
-    elim some [
-      | inl here ↦ let passes : admit all v ≡ true = (admit-iff all v).1 here.1 in cc (passes, fails)
-      | inr nowhere ↦ absurd nowhere
+pub turns_away-by : (text : List ℕ) (alternatives : List (List Comparator)) (v : VersionValue)
+    → IsWritten text alternatives → some_admits alternatives v ≡ false → ¬ TextAdmits text v
+turns_away-by text alternatives v written fails = λ admits.
+    let some : AnyByRecursion (AdmitSome v) alternatives = subst (AnyByRecursion (AdmitSome v))
+    (written-unique text admits.alternatives alternatives admits.written written) admits.admitted in
+    let passes : some_admits alternatives v ≡ true =
+    (any-iff (AdmitSome v) (admit_some v) (admit_some-iff v) alternatives).1 some in
+    cc (passes, fails)
+
+-- there is a comparator, and the cut lies in all of them
+abbrev lies_in : Cut VersionValue → List Comparator → Bool
+lies_in cut comparators = has_elements comparators && list_all (holds cut) comparators
+
+pub gives-by : (comparators : List Comparator) (cut : Cut VersionValue) → lies_in cut comparators ≡ true
+    → GiveSet comparators
+gives-by comparators cut lies =
+    let parts = and_parts (has_elements comparators) (list_all (holds cut) comparators) lies in
+    record {
+      some = (elements-iff comparators).0 parts.0;
+      common = (cut, (all-iff (Holds cut) (holds cut) (holds-iff cut) comparators).0 parts.1);
+    }
+
+-- the cut lies in all comparators of some alternative
+abbrev pub lies_in_some : Cut VersionValue → List (List Comparator) → Bool
+lies_in_some cut alternatives = list_any (lies_in cut) alternatives
+
+some-gives : (alternatives : List (List Comparator)) (cut : Cut VersionValue) → lies_in_some cut alternatives ≡ true
+    → ¬ NoneGive alternatives
+some-gives [] cut lies none = cc lies
+some-gives (comparators ∷ alternatives) cut lies none =
+    elim (or_cases (lies_in cut comparators) (lies_in_some cut alternatives) lies) [
+      | inl here ↦ none.0 (gives-by comparators cut here)
+      | inr behind ↦ some-gives alternatives cut behind none.1
     ]
 
-abbrev pub lies_in : Cut VersionValue → List Comparator → Bool
-lies_in cut comparators = list_all (holds cut) comparators
-
--- a text with a comparator and a cut in all of them is not refused
-pub accepted-by : (text : List ℕ) (c : Comparator) (cs : List Comparator) (cut : Cut VersionValue)
-    → IsWritten text ((c ∷ cs) ∷ []) → lies_in cut (c ∷ cs) ≡ true → ¬ IsRefused text
-accepted-by text c cs cut written passes = λ refused.
-    none-from_refused text (c ∷ cs) written refused (record {
-      some = λ none. cc none;
-      common = (cut, (all-iff (Holds cut) (holds cut) (holds-iff cut) (c ∷ cs)).0 passes);
-    })
+-- a text with such an alternative is not refused
+pub accepted-by : (text : List ℕ) (alternatives : List (List Comparator)) (cut : Cut VersionValue)
+    → IsWritten text alternatives → lies_in_some cut alternatives ≡ true → ¬ IsRefused text
+accepted-by text alternatives cut written passes = λ refused.
+    some-gives alternatives cut passes (none-from_refused text alternatives written refused)

@@ -299,7 +299,7 @@ free-from text hay i n same none k low high =
     ∙ ap (λ (m : ℕ). get_or text m 0) (omega arith) in
     elim (cases_Bool (get_or text k 0 == bar)) [
       | inl is ↦ absurd (none (k - i) (omega arith) (omega arith) (ap (λ (b : ℕ). b == bar) here ∙ is))
-      | inr no ↦ no
+      | inr other ↦ other
     ]
 
 -- up to the first bar of what is left

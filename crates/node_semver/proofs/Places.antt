@@ -1,5 +1,5 @@
 -- The longest prefix whose characters all pass, from place to place, as a loop goes over a text.
-use Rattle.std.proofs.Common.{◌≡◌, ◌+◌, ◌-◌, ◌<◌, ◌≤◌, ℕ, Bool, true, false, List, [], ◌∷◌, ◌++◌, length, get_or, take, drop, refl, sym, ap, ◌∙◌, add-one, append-nil, append_assoc, drop-cons}
+use Rattle.std.proofs.Common.{◌≡◌, ◌+◌, ◌-◌, ◌<◌, ◌≤◌, ℕ, Bool, true, false, List, [], ◌∷◌, ◌++◌, length, get_or, take, drop, refl, sym, ap, ◌∙◌, add-one, append-nil, append_assoc, drop-cons, suc, zero, arith}
 use Rattle.std.proofs.lemmas.List.{drop_all, take_rest}
 use Rattle.std.proofs.Math.Seq.{take-suc}
 use Rattle.node_semver.specs.Private.Reading.{rest_of, prefix_of}
@@ -78,3 +78,24 @@ over-end test s i h over = record {
   prefix = over.prefix ∙ ap (λ (l : List ℕ). take i s ++ l) (prefix_of-end test s i h) ∙ append-nil (take i s);
   rest = over.rest ∙ rest_of-end test s i h;
 }
+
+-- ---- the first place that does not pass, as a search finds it
+
+rest_of-far : (test : ℕ → Bool) (s : List ℕ) (n : ℕ) → n ≤ length s
+    → ((k : ℕ) → k < n → test (get_or s k 0) ≡ true) → rest_of test s ≡ rest_of test (drop n s)
+rest_of-far test s zero h all = refl
+rest_of-far test s (suc n) h all =
+    let more : n + 1 ≡ suc n = omega arith in
+    rest_of-far test s n (omega arith) (λ k lt. all k (omega arith))
+    ∙ rest_of-step test s n (omega arith) (all n (omega arith))
+    ∙ ap (λ (m : ℕ). rest_of test (drop m s)) more
+
+-- all before it pass, and it does not
+pub rest_of-first : (test : ℕ → Bool) (s : List ℕ) (n : ℕ) → n < length s
+    → ((k : ℕ) → k < n → test (get_or s k 0) ≡ true) → test (get_or s n 0) ≡ false → rest_of test s ≡ drop n s
+rest_of-first test s n h all stops = rest_of-far test s n (omega arith) all ∙ rest_of-stop test s n h stops
+
+-- all pass
+pub rest_of-all : (test : ℕ → Bool) (s : List ℕ) → ((k : ℕ) → k < length s → test (get_or s k 0) ≡ true)
+    → rest_of test s ≡ drop (length s) s
+rest_of-all test s all = rest_of-far test s (length s) (omega arith) all ∙ rest_of-end test s (length s) (omega arith)

@@ -1,11 +1,13 @@
 //! What stands at the start of a text and is gone over: runs of bytes that pass a test, and marks of one byte.
 //!
-//! Everything here is `#[inline(always)]`: a test that is handed in is then part of the loop.
+//! What is `#[inline(always)]` takes a test that is then part of the loop.
 ghost use Rattle.std.specs.Prelude.{◌≡◌, ℕ, Bool, false, IfSome, IfNone, IsTrue};
 ghost use Rattle.node_semver.specs.Characters as Characters;
 ghost use Rattle.node_semver.specs.Private.Reading as Reading;
 ghost use Rattle.node_semver.specs.Private.ReadingViews.{IsTest};
 ghost use Rattle.node_semver.specs.Private.WordReading as WordReading;
+
+use memchr::memchr2;
 
 // The longest prefix whose bytes all pass, and the rest.
 #[inline(always)]
@@ -85,9 +87,12 @@ pub(crate) fn begins_clean(text: &[u8]) -> bool
 }
 
 // ` <2` of `foo <2`
-#[inline(always)]
+#[inline]
 pub(crate) fn skip_solid(text: &[u8]) -> &[u8]
     ensures { result.now ≡ Reading.rest_of WordReading.is_solid text.now }
 {
-    skip_while(text, |byte| !is_blank(byte))
+    match memchr2(b' ', b'\t', text) {
+        Some(end) => &text[end..],
+        None => &text[text.len()..],
+    }
 }

@@ -168,7 +168,8 @@ module _ {T : Type 0} {cmp : T → T → Ordering} (o : IsTotalOrder cmp) where
       → IsLaterGreatest cmp old span.lower new → IsLastGreatestLower cmp (spans ++ span ∷ []) new
   chosen_lower-push spans span old new is (inl h) =
       subst (IsLastGreatestLower cmp (spans ++ span ∷ [])) (sym h.1)
-      (chosen-kept (λ (s : Ends T). s.lower) (λ c d. IsCutAtMost cmp c d) (λ c d. IsCutBelow cmp c d) spans span old is h.0)
+      (chosen-kept (λ (s : Ends T). s.lower) (λ c d. IsCutAtMost cmp c d) (λ c d. IsCutBelow cmp c d) spans span old is
+      h.0)
   chosen_lower-push spans span old new is (inr h) =
       let all : AllByRecursion (λ (s : Ends T). IsCutAtMost cmp s.lower span.lower) spans =
       all_map (λ (s : Ends T). IsCutAtMost cmp s.lower old) (λ (s : Ends T). IsCutAtMost cmp s.lower span.lower)
@@ -186,7 +187,8 @@ module _ {T : Type 0} {cmp : T → T → Ordering} (o : IsTotalOrder cmp) where
       (chosen-last (λ (s : Ends T). s.upper) (λ c d. IsCutBelow cmp d c) (λ c d. IsCutAtMost cmp d c) spans span all)
   chosen_upper-push spans span old new is (inr h) =
       subst (IsFirstLeastUpper cmp (spans ++ span ∷ [])) (sym h.1)
-      (chosen-kept (λ (s : Ends T). s.upper) (λ c d. IsCutBelow cmp d c) (λ c d. IsCutAtMost cmp d c) spans span old is h.0)
+      (chosen-kept (λ (s : Ends T). s.upper) (λ c d. IsCutBelow cmp d c) (λ c d. IsCutAtMost cmp d c) spans span old is
+      h.0)
 
   -- one end alone is chosen
   pub chosen_lower-unique : (spans : List (Ends T)) (one other : Cut T) → IsLastGreatestLower cmp spans one

@@ -94,7 +94,7 @@ right_at-none [] h = refl
 right_at-none (b ∷ rest) h = rw h refl
 
 -- and none is read
-right-none : (text : List ℕ) (r : Partial × List ℕ) → read_partial text ≡ Some r → read_right text ≡ None
+pub right-none : (text : List ℕ) (r : Partial × List ℕ) → read_partial text ≡ Some r → read_right text ≡ None
 unfolding read_right
 right-none text r h = elim (cases_Bool (begins is_blank text)) [
   | inr none ↦ rw none refl

@@ -22,8 +22,10 @@ pub mod LongestReading
 pub mod Marks
 pub mod MeaningLemmas
 pub mod Merging
+pub mod NoBars
 pub mod NumberReading
 pub mod OneReading
+pub mod OnlyWord
 pub mod PartialBounds
 pub mod PartialReading
 pub mod PartialViews

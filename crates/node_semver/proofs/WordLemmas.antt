@@ -29,7 +29,7 @@ no_solid-from_clean (b ∷ rest) h = rw h refl
 
 -- ---- no prefix is a word of a kind exactly where none is read
 
-no-hyphen : (text : List ℕ) → read_hyphen text ≡ None → NoneAt IsHyphenText text
+pub no-hyphen : (text : List ℕ) → read_hyphen text ≡ None → NoneAt IsHyphenText text
 no-hyphen text none prefix rest c whole clean read = cc (none, whole, hyphen-again prefix rest c read clean)
 
 no-simple : (text : List ℕ) → read_simple text ≡ None → NoneAt IsSimpleText text
@@ -118,7 +118,7 @@ pub right-no_blank : (text : List ℕ) → BeginsWithNo is_blank text → read_r
 unfolding read_right
 right-no_blank text h = rw (with_no-begins is_blank text h) refl
 
-hyphen-with_left : (text : List ℕ) → read_right text ≡ None → read_hyphen text ≡ with_left (read_partial text)
+pub hyphen-with_left : (text : List ℕ) → read_right text ≡ None → read_hyphen text ≡ with_left (read_partial text)
 unfolding read_hyphen
 hyphen-with_left text none = rw none refl
 
@@ -128,7 +128,7 @@ unfolding read_simple
 simple-of_partial text r lead read = rw (lead, read) refl
 
 -- a blank leads nothing
-blank-lead : (b : ℕ) (rest : List ℕ) → is_blank b ≡ true → read_lead (b ∷ rest) ≡ (no_lead, b ∷ rest)
+pub blank-lead : (b : ℕ) (rest : List ℕ) → is_blank b ≡ true → read_lead (b ∷ rest) ≡ (no_lead, b ∷ rest)
 unfolding read_lead read_operator
 blank-lead b rest blank = elim (or_cases (b == 32) (b == 9) blank) [
   | inl space ↦ rw (eqb-true b 32 space) refl

@@ -34,7 +34,7 @@ lead-operator (b ∷ text) rest o h =
     rw (first.0, first.1, ← h) refl
 
 -- a lead, or none
-lead-cases : (l : Lead) → (l ≡ no_lead) ⊎ (l ≡ no_lead → ⊥)
+pub lead-cases : (l : Lead) → (l ≡ no_lead) ⊎ (l ≡ no_lead → ⊥)
 lead-cases no_lead = inl refl
 lead-cases (operator o) = inr (λ h. cc h)
 lead-cases tilde_lead = inr (λ h. cc h)

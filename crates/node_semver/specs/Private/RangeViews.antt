@@ -2,7 +2,7 @@
 use Rattle.std.specs.Prelude.{◌≡◌, ℕ, List, [], ◌∷◌, Option, Some, None}
 use Rattle.semver_cuts.specs.Ends.{Ends}
 use Rattle.node_semver.specs.Comparator.{Comparator}
-use Rattle.node_semver.specs.Division.{IsAlternative}
+use Rattle.node_semver.specs.Division.{HasBars, IsAlternative}
 use Rattle.node_semver.specs.Meaning.{GiveSet}
 use Rattle.node_semver.specs.Merging.{IsSetOf}
 use Rattle.node_semver.specs.Version.{VersionValue}
@@ -24,6 +24,11 @@ pub data IsSetOfAlternative (text : List ℕ) (set : Option (Ends VersionValue))
       → IsSetOf comparators ends → set ≡ Some ends → IsSetOfAlternative text set
   not_given : (comparators : List Comparator) → IsAlternative text comparators → ¬ GiveSet comparators → set ≡ None
       → IsSetOfAlternative text set
+
+-- the text is one alternative, which is all of the range, and it has one comparator: `^1.2.3`
+pub record IsOnlyComparator (text : List ℕ) (comparator : Comparator) : Type 0 where
+  pub alternative : IsAlternative text (comparator ∷ [])
+  pub no_bars : ¬ HasBars text
 
 -- a list of the set, or of none
 abbrev pub listed_set : Option (Ends VersionValue) → List (Ends VersionValue)

@@ -1,0 +1,91 @@
+-- A text that is one word and no hyphen range: its comparator is the only one of the range.
+use Rattle.std.proofs.Common.{◌≡◌, ℕ, true, List, [], ◌∷◌, Option, Some, None, refl, sym, ap, subst, ◌∙◌, inl, inr, append-nil, arith}
+use Rattle.std.proofs.lemmas.Bool.{cases_Bool, eqb-true}
+use Rattle.std.specs.Prelude.{IfSome, ◌==◌, length}
+use Rattle.node_semver.specs.Characters.{is_blank}
+use Rattle.node_semver.specs.Comparator.{Comparator}
+use Rattle.node_semver.specs.Division.{IsSimpleText, IsWord, NoneAt, simple}
+use Rattle.node_semver.specs.HyphenRanges.{IsHyphenText}
+use Rattle.node_semver.specs.PartialText.{Partial}
+use Rattle.node_semver.specs.Private.RangeViews.{IsOnlyComparator}
+use Rattle.node_semver.specs.Private.WordReading.{Lead, lead_comparator, no_lead, read_hyphen, read_lead, read_partial, read_right, read_simple, with_left}
+use Rattle.node_semver.specs.Private.WordViews.{ends_seen, some_ends_seen}
+use Rattle.node_semver.specs.declared.word.ends.Ends.{Ends as CodeEnds}
+use Rattle.node_semver.proofs.HyphenReading.{right-none}
+use Rattle.node_semver.proofs.LeadReading.{lead-not_partial, lead-plain}
+use Rattle.node_semver.proofs.NoBars.{simple-no_bars}
+use Rattle.node_semver.proofs.SimpleReading.{TakesSimple, simple-takes}
+use Rattle.node_semver.proofs.WordLemmas.{blank-lead, hyphen-with_left, no-hyphen, right-no_blank}
+use Rattle.node_semver.proofs.WordViews.{lead-cases}
+
+-- a text of no bytes
+pub nothing-left : (text : List ℕ) → (length text == 0) ≡ true → text ≡ []
+nothing-left [] h = refl
+nothing-left (b ∷ rest) h =
+    let none : length (b ∷ rest) ≡ 0 = eqb-true _ _ h in
+    absurd (omega arith)
+
+-- ---- no hyphen range
+
+-- nothing follows the left side
+left-ends : (p : Partial) → with_left (Some (p, [])) ≡ None
+unfolding read_right
+left-ends p = refl
+
+-- no hyphen range without a left side begins with a lead
+led-no_right : (text : List ℕ) → ((read_lead text).0 ≡ no_lead → ⊥) → read_right text ≡ None
+led-no_right [] some = right-no_blank [] tt
+led-no_right (b ∷ rest) some = elim (cases_Bool (is_blank b)) [
+  | inr solid ↦ right-no_blank (b ∷ rest) solid
+  | inl blank ↦ absurd (some (ap (λ (l : Lead × List ℕ). l.0) (blank-lead b rest blank)))
+]
+
+-- nor is a lead and a partial one, where nothing is left
+only-no_hyphen : (text operand : List ℕ) (l : Lead) (p : Partial) → (l, operand) ≡ read_lead text
+    → Some (p, []) ≡ read_partial operand → read_hyphen text ≡ None
+only-no_hyphen text operand l p led read =
+    let lead : (read_lead text).0 ≡ l = ap (λ (x : Lead × List ℕ). x.0) (sym led) in
+    elim (lead-cases l) [
+      | inl plain ↦
+          let same : operand ≡ text = ap (λ (x : Lead × List ℕ). x.1) led ∙ lead-plain text (lead ∙ plain) in
+          let here : read_partial text ≡ Some (p, []) = ap read_partial (sym same) ∙ sym read in
+          hyphen-with_left text (right-none text (p, []) here) ∙ ap with_left here ∙ left-ends p
+      | inr some ↦
+          let other : (read_lead text).0 ≡ no_lead → ⊥ = λ none. some (sym lead ∙ none) in
+          hyphen-with_left text (led-no_right text other) ∙ ap with_left (lead-not_partial text other)
+    ]
+
+-- ---- the only comparator
+
+-- the lead and the partial are a word
+only-simple : (text operand : List ℕ) (l : Lead) (p : Partial) → (l, operand) ≡ read_lead text
+    → Some (p, []) ≡ read_partial operand → read_simple text ≡ Some (lead_comparator l p, [])
+unfolding read_simple
+only-simple text operand l p led read = rw (← led, ← read) refl
+
+-- which is all of the text
+only-taken : (text : List ℕ) (c : Comparator) → read_hyphen text ≡ None → TakesSimple text (Some c) []
+    → IsOnlyComparator text c
+only-taken text c none t =
+    let taken : t.taken ≡ text = sym (t.whole ∙ append-nil t.taken) in
+    let word : IsWord t.taken [] (Some c) =
+    simple (subst (NoneAt IsHyphenText) t.whole (no-hyphen text none)) t.read t.clean in
+    record {
+      alternative = record {
+        words = Some c ∷ [];
+        divided = subst (λ (l : List ℕ). IsWord l [] (Some c)) taken word;
+        kept = refl;
+      };
+      no_bars = simple-no_bars text (Some c) (subst (λ (l : List ℕ). IsSimpleText l (Some c)) taken t.read);
+    }
+
+-- what a lead and a partial make, where nothing is left
+pub only-word : (text operand : List ℕ) (l : Lead) (p : Partial) (found : Option CodeEnds)
+    → (l, operand) ≡ read_lead text → Some (p, []) ≡ read_partial operand
+    → some_ends_seen found ≡ lead_comparator l p
+    → IfSome found (λ ends. IsOnlyComparator text (ends_seen ends))
+only-word text operand l p None led read found = tt
+only-word text operand l p (Some ends) led read found =
+    only-taken text (ends_seen ends) (only-no_hyphen text operand l p led read)
+    (simple-takes text (Some (ends_seen ends)) []
+    (only-simple text operand l p led read ∙ ap (λ (c : Option Comparator). Some (c, [])) (sym found)))

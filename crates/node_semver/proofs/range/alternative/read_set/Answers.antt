@@ -29,8 +29,9 @@ with-ends text merged ends (Some set) m some cut same =
 
 pub returns-in-Some : goal.returns-in-Some
 returns-in-Some c =
-    with-ends c.args.text.now c.in_ok-merged.field-0 (span_between c.merged.inside.lower c.merged.inside.upper) c.new.result
-    c.in_ok-merged.ensures (c.in-Some.is ∙ ap Some (sym c.merged.view_is)) c.new.ensures.cut c.new.ensures.ends
+    with-ends c.args.text.now c.in_ok-merged.field-0 (span_between c.merged.inside.lower c.merged.inside.upper)
+    c.new.result c.in_ok-merged.ensures (c.in-Some.is ∙ ap Some (sym c.merged.view_is)) c.new.ensures.cut
+    c.new.ensures.ends
 
 pub returns-in-None : goal.returns-in-None
 returns-in-None c = without c.args.text.now c.in_ok-merged.field-0 c.in_ok-merged.ensures c.in-None.is

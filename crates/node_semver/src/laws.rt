@@ -1,6 +1,10 @@
 //! The laws of versions and ranges. Each function here does nothing: its contract is the law.
 ghost use Rattle.std.specs.Prelude.{◌≡◌, ℕ, List};
+ghost use Rattle.semver_cuts.specs.Ends.{Ends};
 ghost use Rattle.node_semver.specs.declared.TheConstants.{MAX_LENGTH, MAX_SAFE_INTEGER};
+ghost use Rattle.node_semver.specs.Comparator.{Comparator};
+ghost use Rattle.node_semver.specs.Merging.{AdmitsTheSame, HasOneSet, IsSetOf, LosesNothing};
+ghost use Rattle.node_semver.specs.Version.{VersionValue};
 ghost use Rattle.node_semver.specs.VersionLaws.{HasOneFault, HasOneReading, IsNeverBoth, IsReadOrFaulty};
 ghost use Rattle.node_semver.specs.RangeLaws.{HasWriting, IsOneHyphenRange, IsOnePartial, IsOneSimpleWord, IsWrittenOneWay};
 
@@ -41,4 +45,26 @@ pub fn a_text_is_at_most_one_partial()
     ensures partial { (text : List ℕ) → IsOnePartial text }
     ensures hyphen { (text : List ℕ) → IsOneHyphenRange text }
     ensures simple { (text : List ℕ) → IsOneSimpleWord text }
+{}
+
+/// Comparators merge into one set, if there are any.
+///
+/// It begins at their greatest lower end and ends at their least upper end: of `>=1.0.0 >=1.2.0 <2.0.0 <3.0.0` it is
+/// `>=1.2.0 <2.0.0`. Where builds alone tell equal ends apart, it has the last of the lower ends and the first of the
+/// upper ends.
+pub fn comparators_have_one_set()
+    ensures one { (comparators : List Comparator) → HasOneSet comparators }
+{}
+
+/// Merging comparators loses nothing: their set admits the versions that they admit.
+///
+/// A prerelease is admitted where an end of one of the comparators opens its triple, and the set keeps two of the ends
+/// only. Of a prerelease inside all of the comparators these two open the triple exactly where some end does, since the
+/// set's end lies between the end that opens it and the prerelease. So `>=1.2.3-a >=1.2.3-b` admits `1.2.3-c` as
+/// `>=1.2.3-b` does.
+pub fn merging_loses_nothing()
+    ensures opened { (comparators : List Comparator) (set : Ends VersionValue) (v : VersionValue) →
+        IsSetOf comparators set → LosesNothing comparators set v }
+    ensures admits { (comparators : List Comparator) (set : Ends VersionValue) (v : VersionValue) →
+        IsSetOf comparators set → AdmitsTheSame comparators set v }
 {}

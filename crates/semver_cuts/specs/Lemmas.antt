@@ -4,3 +4,5 @@
 pub mod CutOrder
 -- less and at most, and the tests of them
 pub mod Ends
+-- the chosen ends of a list of spans, and what the spans have in common
+pub mod Merging

@@ -243,7 +243,7 @@ alternative-exists text =
     let d = divides text in
     (comparators_of d.0, record { words = d.0; divided = d.1; kept = refl })
 
-pub alternative-unique : (text : List ℕ) (one other : List Comparator) → IsAlternative text one → IsAlternative text other
-    → one ≡ other
+pub alternative-unique : (text : List ℕ) (one other : List Comparator) → IsAlternative text one
+    → IsAlternative text other → one ≡ other
 alternative-unique text one other a b =
     a.kept ∙ ap comparators_of (division-unique text a.words b.words a.divided b.divided) ∙ sym b.kept

@@ -123,8 +123,10 @@ read-step b rest p none read = record {
 is-read : (text : List ℕ) → IsRead text (piece_at text)
 is-read [] = subst (IsRead []) (sym piece-of_nothing) read-nothing
 is-read (b ∷ rest) = elim (bars-cases (b ∷ rest)) [
-  | inl none ↦ subst (IsRead (b ∷ rest)) (sym (piece-step b rest none)) (read-step b rest (piece_at rest) none (is-read rest))
-  | inr some ↦ subst (IsRead (b ∷ rest)) (sym (piece-stop (b ∷ rest) some.0 some.1)) (read-bars (b ∷ rest) some.0 some.1)
+  | inl none ↦ subst (IsRead (b ∷ rest)) (sym (piece-step b rest none))
+      (read-step b rest (piece_at rest) none (is-read rest))
+  | inr some ↦ subst (IsRead (b ∷ rest)) (sym (piece-stop (b ∷ rest) some.0 some.1))
+      (read-bars (b ∷ rest) some.0 some.1)
 ]
 
 -- a piece with more after it
@@ -252,10 +254,11 @@ seen-step text i (Some r) h none seen passed = cc none
 seen-step text i None h none seen passed =
     let here = at-place text i h in
     let more = drop (i + 1) text in
-    let read : piece_at (drop i text) ≡ (get_or text i 0 ∷ (piece_at more).0, (piece_at more).1) =
-    ap piece_at here ∙ piece-step (get_or text i 0) more (sym (seen ∙ ap bars_after here)) in
+    let b = get_or text i 0 in
+    let read : piece_at (drop i text) ≡ (b ∷ (piece_at more).0, (piece_at more).1) =
+    ap piece_at here ∙ piece-step b more (sym (seen ∙ ap bars_after here)) in
     passed ∙ ap (behind (take i text)) read
-    ∙ ap (λ (l : List ℕ). (l, (piece_at more).1)) (sym (append_assoc (take i text) (get_or text i 0 ∷ []) (piece_at more).0))
+    ∙ ap (λ (l : List ℕ). (l, (piece_at more).1)) (sym (append_assoc (take i text) (b ∷ []) (piece_at more).0))
     ∙ ap (λ (l : List ℕ). (l ++ (piece_at more).0, (piece_at more).1)) (sym (take-more text i h))
 
 -- where `||` stands, the piece ends
@@ -264,7 +267,8 @@ pub seen-stop : (text : List ℕ) (i : ℕ) (after : Option (Bor (List ℕ))) �
 seen-stop text i None h some seen passed = cc some
 seen-stop text i (Some r) h some seen passed =
     let read = piece-stop (drop i text) r.now (sym seen) in
-    ap (λ (l : List ℕ). (l, Some r.now)) (sym (append-nil (take i text))) ∙ ap (behind (take i text)) (sym read) ∙ sym passed
+    ap (λ (l : List ℕ). (l, Some r.now)) (sym (append-nil (take i text))) ∙ ap (behind (take i text)) (sym read)
+    ∙ sym passed
 
 -- and so it does at the end of the text
 pub passed-end : (text : List ℕ) (i : ℕ) → length text ≤ i → Passed text i → (text, None) ≡ piece_at text

@@ -30,13 +30,14 @@ impl Sets {
 }
 
 // The sets of a text, in the order of its alternatives, or `None` where no alternative gives one.
+#[inline(never)]
 pub(crate) fn read_sets(alloc: Global, text: &[u8]) -> Result<Option<Sets>, AllocError>
     ensures { IfOk result (λ sets. AreSetsOfText text.now (some_sets_seen sets)) }
 {
     let (piece, mut left) = next_piece(text);
     let first = read_set(alloc, piece)?;
     if left.is_none() {
-        return Ok(first.map(Sets::One));
+        return Ok(one_set(first));
     }
     let mut sets = Vec::new(alloc);
     keep(&mut sets, first)?;
@@ -46,6 +47,14 @@ pub(crate) fn read_sets(alloc: Global, text: &[u8]) -> Result<Option<Sets>, Allo
         left = others;
     }
     if sets.is_empty() { Ok(None) } else { Ok(Some(Sets::Many(sets))) }
+}
+
+// The list of one set, or none.
+#[inline(always)]
+fn one_set(set: Option<Span<Version>>) -> Option<Sets>
+    ensures { some_sets_seen result ≡ listed_set set }
+{
+    set.map(Sets::One)
 }
 
 // One set more, or none.

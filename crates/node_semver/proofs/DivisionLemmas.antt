@@ -206,7 +206,8 @@ completes-more text done rest c [] completes read = record {
 }
 completes-more text done rest c (b ∷ behind) completes read = record {
   whole = λ words d.
-      let all = completes.whole (c ∷ words) (divide-more rest c behind b words (has-word rest c (b ∷ behind) read) d) in (
+      let rest_divided = divide-more rest c behind b words (has-word rest c (b ∷ behind) read) d in
+      let all = completes.whole (c ∷ words) rest_divided in (
         all.0,
         all.1,
         all.2 ∙ ap (λ (l : List Comparator). done ++ l) (comparators-more c words)

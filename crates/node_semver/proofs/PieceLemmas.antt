@@ -13,7 +13,7 @@ use Rattle.node_semver.proofs.Places.{at-place, take-more}
 
 -- ---- `||`
 
--- it stands at the start of a text, or doesn't
+-- a text begins with it, or doesn't
 bars-cases : (text : List ℕ) → (bars_after text ≡ None) ⊎ ((after : List ℕ) × (bars_after text ≡ Some after))
 bars-cases [] = inl refl
 bars-cases (b ∷ []) = inl refl
@@ -22,7 +22,7 @@ bars-cases (b ∷ c ∷ rest) = elim (cases_Bool ((b == bar) && (c == bar))) [
   | inr none ↦ inl (rw none refl)
 ]
 
--- where it stands, it is there
+-- where it does, it is two bars and what follows
 bars-are : (text after : List ℕ) → bars_after text ≡ Some after → text ≡ bar ∷ bar ∷ after
 bars-are [] after h = cc h
 bars-are (b ∷ []) after h = cc h
@@ -39,16 +39,19 @@ bars-are (b ∷ c ∷ rest) after h = elim (cases_Bool ((b == bar) && (c == bar)
 
 -- ---- the first piece
 
+-- one character more where the text does not begin with `||`
 piece-step : (b : ℕ) (rest : List ℕ) → bars_after (b ∷ rest) ≡ None
     → piece_at (b ∷ rest) ≡ (b ∷ (piece_at rest).0, (piece_at rest).1)
 unfolding piece_at
 piece-step b rest none = rw none refl
 
+-- nothing where it does
 piece-stop : (text after : List ℕ) → bars_after text ≡ Some after → piece_at text ≡ ([], Some after)
 unfolding piece_at
 piece-stop [] after h = cc h
 piece-stop (b ∷ rest) after h = rw h refl
 
+-- and nothing of the empty text
 piece-of_nothing : piece_at [] ≡ ([], None)
 unfolding piece_at
 piece-of_nothing = refl
@@ -64,6 +67,7 @@ record IsRead (text : List ℕ) (p : Piece) : Type 0 where
   no_bars : ¬ HasBars p.0
   ends_in_none : (rest : List ℕ) → p.1 ≡ Some rest → ¬ EndsInBar p.0
 
+-- the empty text has no bar
 none-of_nothing : (before end : List ℕ) → [] ≡ before ++ (bar ∷ end) → ⊥
 none-of_nothing [] end e = cc e
 none-of_nothing (b ∷ before) end e = cc e
@@ -89,6 +93,7 @@ no-two b rest more none first second =
     let some : bars_after (b ∷ rest) ≡ Some more = ap bars_after bars in
     cc (none, some)
 
+-- so a character before a piece without `||` makes none
 no-bars-step : (b : ℕ) (rest piece end before after : List ℕ) → bars_after (b ∷ rest) ≡ None → rest ≡ piece ++ end
     → ¬ HasBars piece → b ∷ piece ≡ before ++ (bar ∷ bar ∷ after) → ⊥
 no-bars-step b rest piece end [] after none whole free e =
@@ -99,6 +104,7 @@ no-bars-step b rest piece end (c ∷ before) after none whole free e =
     let others : piece ≡ before ++ (bar ∷ bar ∷ after) = cc e in
     free (before, after, others)
 
+-- and a character before a piece that does not end in a bar is none at its end
 ends-step : (b : ℕ) (rest piece left before : List ℕ) → bars_after (b ∷ rest) ≡ None
     → rest ≡ piece ++ (bar ∷ bar ∷ left) → ¬ EndsInBar piece → b ∷ piece ≡ before ++ (bar ∷ []) → ⊥
 ends-step b rest piece left [] none whole free e =
@@ -120,6 +126,7 @@ read-step b rest p none read = record {
       (read.ends_in_none left same) end.1;
 }
 
+-- what is read is such a piece
 is-read : (text : List ℕ) → IsRead text (piece_at text)
 is-read [] = subst (IsRead []) (sym piece-of_nothing) read-nothing
 is-read (b ∷ rest) = elim (bars-cases (b ∷ rest)) [
@@ -185,6 +192,7 @@ no-bars-before b (c ∷ piece) others after free ends e =
     let second : c ≡ bar = cc e in
     free ([], piece, cc (first, second))
 
+-- what stands in a text, or at its end, stands there with a character before it
 more-bars : (b : ℕ) (text : List ℕ) → HasBars text → HasBars (b ∷ text)
 more-bars b text bars = (b ∷ bars.0, bars.1, ap (λ (l : List ℕ). b ∷ l) bars.2)
 
@@ -215,6 +223,7 @@ last-again (b ∷ rest) free = elim (bars-cases (b ∷ rest)) [
   | inr some ↦ absurd (free ([], some.0, bars-are _ some.0 some.1))
 ]
 
+-- so the first piece of a division is the one that is read
 first-is : (text piece others : List ℕ) → HasFirstPiece text piece others → piece_at text ≡ (piece, Some others)
 first-is text piece others first =
     ap piece_at first.whole ∙ first-again piece others first.no_bars first.ends_in_none

@@ -37,6 +37,8 @@ pub mod RangeComputing
 pub mod RangeEquality
 pub mod RangeExamples
 pub mod RangeText
+pub mod SetComputing
+pub mod SetExamples
 pub mod SetLemmas
 pub mod SimpleReading
 pub mod SomeElement

@@ -177,7 +177,7 @@ none-crossed (c ∷ ones) others cut h all crossed =
       | inr behind ↦ none-crossed ones others cut h.1 all behind
     ]
 
-none-by : (comparators : List Comparator) → are_crossed comparators ≡ true → ¬ GiveSet comparators
+pub none-by : (comparators : List Comparator) → are_crossed comparators ≡ true → ¬ GiveSet comparators
 none-by [] crossed gives = gives.some refl
 none-by (c ∷ cs) crossed gives = none-crossed (c ∷ cs) (c ∷ cs) gives.common.0 gives.common.1 gives.common.1 crossed
 
@@ -272,7 +272,7 @@ has_open-iff v c = (
   ],
 )
 
-all-iff : {X : Type 0} (P : X → Type 0) (p : X → Bool) → ((x : X) → (p x ≡ true) ↔ P x) → (xs : List X)
+pub all-iff : {X : Type 0} (P : X → Type 0) (p : X → Bool) → ((x : X) → (p x ≡ true) ↔ P x) → (xs : List X)
     → (list_all p xs ≡ true) ↔ AllByRecursion P xs
 all-iff P p iff [] = (λ h. tt, λ h. refl)
 all-iff P p iff (x ∷ xs) = (
@@ -356,7 +356,7 @@ turns_away-by text alternatives v written fails = λ admits.
     cc (passes, fails)
 
 -- there is a comparator, and the cut lies in all of them
-abbrev lies_in : Cut VersionValue → List Comparator → Bool
+abbrev pub lies_in : Cut VersionValue → List Comparator → Bool
 lies_in cut comparators = has_elements comparators && list_all (holds cut) comparators
 
 pub gives-by : (comparators : List Comparator) (cut : Cut VersionValue) → lies_in cut comparators ≡ true

@@ -1,4 +1,4 @@
--- Worked examples: the comparators that texts write, by npm's headings. Each row is computed, and holds of the definitions.
+-- Worked examples: the comparators that texts write, by npm's headings. Each row is computed over the definitions.
 use Rattle.std.proofs.Common.{ℕ, List, [], ◌∷◌, refl, codes}
 use Rattle.semver_cuts.specs.declared.cut.Cut.TheVariants.{Before, After}
 use Rattle.node_semver.specs.Comparator.{Comparator, above, at_least, at_most, below, exactly, from_up_to, with_major, with_minor}

@@ -25,6 +25,7 @@ pub mod Merging
 pub mod NoBars
 pub mod NumberReading
 pub mod OneReading
+pub mod OnlySet
 pub mod OnlyWord
 pub mod PartialBounds
 pub mod PartialReading

@@ -1,12 +1,14 @@
 //! The sets of a range text: one for each alternative that gives one.
-ghost use Rattle.std.specs.Prelude.{◌≡◌, ◌++◌, IfOk, OnOk};
+ghost use Rattle.std.specs.Prelude.{ℕ, ◌≡◌, ◌++◌, IfOk, List, OnOk};
 ghost use Rattle.node_semver.specs.Merging.{AreSetsOfText};
-ghost use Rattle.node_semver.specs.Private.RangeViews.{listed_set, sets_seen, some_sets_seen};
+ghost use Rattle.node_semver.specs.Private.RangeViews.{IsOnlyComparator, listed_set, sets_seen, some_sets_seen};
+ghost use Rattle.node_semver.specs.Private.WordViews.{ends_seen};
 
 use crate::Version;
 use crate::parse::skip_blanks;
 use crate::range::alternative::read_set;
 use crate::range::pieces::next_piece;
+use crate::word::{Ends, read_only_word};
 use semver_cuts::Span;
 use std::alloc::{AllocError, Global};
 
@@ -29,11 +31,24 @@ impl Sets {
     }
 }
 
+// The sets of a text whose only comparator has these ends: one, or none where no cut lies between them.
+#[inline(always)]
+fn only_set(alloc: Global, ends: Ends) -> Result<Option<Sets>, AllocError>
+    ensures { IfOk result (λ sets. (text : List ℕ) → IsOnlyComparator text (ends_seen ends.entry)
+        → AreSetsOfText text (some_sets_seen sets)) }
+{
+    let only = ends.comparator(alloc)?;
+    Ok(Span::new(only.lower, only.upper).map(Sets::One))
+}
+
 // The sets of a text, in the order of its alternatives, or `None` where no alternative gives one.
 #[inline(never)]
 pub(crate) fn read_sets(alloc: Global, text: &[u8]) -> Result<Option<Sets>, AllocError>
     ensures { IfOk result (λ sets. AreSetsOfText text.now (some_sets_seen sets)) }
 {
+    if let Some(ends) = read_only_word(text) {
+        return only_set(alloc, ends);
+    }
     let (piece, mut left) = next_piece(text);
     let first = read_set(alloc, piece)?;
     if left.is_none() {

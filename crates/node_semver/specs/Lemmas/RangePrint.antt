@@ -9,8 +9,12 @@ abbrev pub barred_text : Ends VersionValue → List ℕ
 barred_text set = codes "||" ++ set_text set
 
 -- the first set, and each other after `||`
-pub range_text-barred : (set : Ends VersionValue) (rest : List (Ends VersionValue))
-    → set_text set ++ flat_map barred_text rest ≡ range_text (set ∷ rest)
-range_text-barred set [] = append-nil (set_text set)
-range_text-barred set (next ∷ rest) =
-    ap (λ (l : List ℕ). set_text set ++ (codes "||" ++ l)) (range_text-barred next rest)
+abbrev pub led_sets : List (Ends VersionValue) → List ℕ
+led_sets [] = []
+led_sets (set ∷ rest) = set_text set ++ flat_map barred_text rest
+
+pub led_sets-range : (sets : List (Ends VersionValue)) → led_sets sets ≡ range_text sets
+led_sets-range [] = refl
+led_sets-range (set ∷ []) = append-nil (set_text set)
+led_sets-range (set ∷ next ∷ rest) =
+    ap (λ (l : List ℕ). set_text set ++ (codes "||" ++ l)) (led_sets-range (next ∷ rest))

@@ -10,6 +10,25 @@ use crate::{Range, Version};
 use semver_cuts::{Cut, Span};
 use std::fmt;
 
+/// The sets in their order, with `||` and no blank between. Each prints as a text that asks for it:
+///
+/// | set | text |
+/// |---|---|
+/// | all cuts | `*` |
+/// | one end open | `>=1.2.3`, `>1.2.3`, `<1.2.3` or `<=1.2.3` |
+/// | from before a version to after an equal one | `1.2.3` |
+/// | any other | both ends, as `>=1.2.3 <2.0.0-0` |
+///
+/// A width or a fill is not looked at. Builds of the ends are printed, but of a version alone only the lower end's. The
+/// text `*` is read as `>=0.0.0`, and so prints: only [`Range::any`] prints `*`.
+///
+/// # Memory
+///
+/// Takes none.
+///
+/// # Examples
+///
+/// `^1.2.3-rc.4` prints `>=1.2.3-rc.4 <2.0.0-0`, and `= 1.2.3 || >4` prints `1.2.3||>=5.0.0`.
 impl fmt::Display for Range {
     ghost output = { λ r. Some (range_text r) };
 

@@ -13,6 +13,18 @@ ghost use Rattle.node_semver.specs.Version.{VersionValue};
 use crate::Range;
 use std::hash::{Hash, Hasher};
 
+/// Two ranges are equal where they have as many sets, and those at each place begin at equal cuts and end at equal cuts.
+///
+/// Builds are not looked at, so equal ranges may print differently. Equal ranges admit the same versions, and ranges
+/// that do may still not be equal: `1||2` and `2||1`.
+///
+/// # Memory
+///
+/// Takes none.
+///
+/// # Examples
+///
+/// `^1.2.3` equals `>=1.2.3 <2.0.0-0`, and not `>=1.2.3 <2.0.0`.
 impl PartialEq for Range {
     ghost eq = { are_same_cuts };
 
@@ -32,6 +44,11 @@ impl Eq for Range {
     ghost laws = { are_same_cuts-equiv };
 }
 
+/// Equal ranges hash alike: how many sets there are is fed, and then the two ends of each, without their builds.
+///
+/// # Memory
+///
+/// Takes none.
 impl Hash for Range {
     ghost hash_input = { range_writes };
 

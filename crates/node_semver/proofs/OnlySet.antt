@@ -10,18 +10,12 @@ use Rattle.node_semver.specs.Division.{IsAlternative}
 use Rattle.node_semver.specs.Meaning.{GiveSet}
 use Rattle.node_semver.specs.Merging.{AreSetsOf, AreSetsOfText, IsSetOf, no_more, none, one_more}
 use Rattle.node_semver.specs.Version.{VersionValue}
+use Rattle.node_semver.proofs.Merging.{set-one}
 use Rattle.node_semver.specs.Private.RangeViews.{IsOnlyComparator, listed_set, some_sets_seen}
 use Rattle.node_semver.specs.declared.range.sets.Sets.{Sets}
 use Rattle.node_semver.specs.declared.range.sets.Sets.TheVariants.{One}
 
--- one comparator is its own set
-set-one : (c : Comparator) → IsSetOf (c ∷ []) c
-set-one c = record {
-  lower = record { before = []; span = c; after = []; parts = refl; end_of = refl; earlier = tt; later = tt };
-  upper = record { before = []; span = c; after = []; parts = refl; end_of = refl; earlier = tt; later = tt };
-}
-
--- and gives it where a cut lies in it
+-- one comparator gives a set where a cut lies in it
 one-gives : (c : Comparator) → HoldsCut version_cmp c → GiveSet (c ∷ [])
 one-gives c h = record { some = λ e. cc e; common = (h.0, (h.1, tt)) }
 
@@ -49,10 +43,3 @@ only-set text c lower upper set only is cut ends = record {
   };
   merged = only-merged (span_between lower upper) set cut ends;
 }
-
--- and the same, listed as the sets of a range are
-pub some-set : (set : Option (Ends VersionValue)) (sets : Option Sets)
-    → MatchOption set (sets ≡ None) (λ span. IsSomeAnd sets (λ r. r ≡ One span)) → listed_set set ≡ some_sets_seen sets
-some-set None sets h = rw h refl
-some-set (Some span) None h = absurd h
-some-set (Some span) (Some r) h = rw h refl

@@ -1,5 +1,5 @@
 //! The sets of a range text: one for each alternative that gives one.
-ghost use Rattle.std.specs.Prelude.{ℕ, ◌≡◌, ◌++◌, IfOk, List, OnOk};
+ghost use Rattle.std.specs.Prelude.{◌≡◌, ◌≢◌, ◌++◌, ℕ, IfOk, IfSome, List, [], OnOk};
 ghost use Rattle.node_semver.specs.Merging.{AreSetsOfText};
 ghost use Rattle.node_semver.specs.Private.RangeViews.{IsOnlyComparator, listed_set, sets_seen, some_sets_seen};
 ghost use Rattle.node_semver.specs.Private.WordViews.{ends_seen};
@@ -31,24 +31,35 @@ impl Sets {
     }
 }
 
+// The sets of a text, in the order of its alternatives, or `None` where no alternative gives one.
+#[inline(always)]
+pub(crate) fn read_sets(alloc: Global, text: &[u8]) -> Result<Option<Sets>, AllocError>
+    ensures of_text { IfOk result (λ sets. AreSetsOfText text.now (some_sets_seen sets)) }
+    ensures some { IfOk result (λ sets. IfSome sets (λ s. sets_seen s ≢ [])) }
+{
+    match read_only_word(text) {
+        Some(ends) => only_set(alloc, ends),
+        None => read_alternatives(alloc, text),
+    }
+}
+
 // The sets of a text whose only comparator has these ends: one, or none where no cut lies between them.
 #[inline(always)]
 fn only_set(alloc: Global, ends: Ends) -> Result<Option<Sets>, AllocError>
-    ensures { IfOk result (λ sets. (text : List ℕ) → IsOnlyComparator text (ends_seen ends.entry)
+    ensures of_text { IfOk result (λ sets. (text : List ℕ) → IsOnlyComparator text (ends_seen ends.entry)
         → AreSetsOfText text (some_sets_seen sets)) }
+    ensures some { IfOk result (λ sets. IfSome sets (λ s. sets_seen s ≢ [])) }
 {
     let only = ends.comparator(alloc)?;
-    Ok(Span::new(only.lower, only.upper).map(Sets::One))
+    Ok(one_set(Span::new(only.lower, only.upper)))
 }
 
-// The sets of a text, in the order of its alternatives, or `None` where no alternative gives one.
+// Alternative after alternative.
 #[inline(never)]
-pub(crate) fn read_sets(alloc: Global, text: &[u8]) -> Result<Option<Sets>, AllocError>
-    ensures { IfOk result (λ sets. AreSetsOfText text.now (some_sets_seen sets)) }
+fn read_alternatives(alloc: Global, text: &[u8]) -> Result<Option<Sets>, AllocError>
+    ensures of_text { IfOk result (λ sets. AreSetsOfText text.now (some_sets_seen sets)) }
+    ensures some { IfOk result (λ sets. IfSome sets (λ s. sets_seen s ≢ [])) }
 {
-    if let Some(ends) = read_only_word(text) {
-        return only_set(alloc, ends);
-    }
     let (piece, mut left) = next_piece(text);
     let first = read_set(alloc, piece)?;
     if left.is_none() {
@@ -67,9 +78,13 @@ pub(crate) fn read_sets(alloc: Global, text: &[u8]) -> Result<Option<Sets>, Allo
 // The list of one set, or none.
 #[inline(always)]
 fn one_set(set: Option<Span<Version>>) -> Option<Sets>
-    ensures { some_sets_seen result ≡ listed_set set }
+    ensures listed { some_sets_seen result ≡ listed_set set }
+    ensures some { IfSome result (λ s. sets_seen s ≢ []) }
 {
-    set.map(Sets::One)
+    match set {
+        Some(set) => Some(Sets::One(set)),
+        None => None,
+    }
 }
 
 // One set more, or none.

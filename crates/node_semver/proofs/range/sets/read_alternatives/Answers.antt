@@ -13,7 +13,7 @@ use Rattle.node_semver.specs.Private.Reading.{rest_of}
 use Rattle.node_semver.proofs.AlternativeLemmas.{Reads, left-shorter, left_length, reads-end, reads-more, reads-start}
 use Rattle.node_semver.proofs.Merging.{no-items}
 use Rattle.node_semver.proofs.SetLemmas.{reads-set}
-use Rattle.node_semver.proofs.range.sets.read_sets.Goals as goal
+use Rattle.node_semver.proofs.range.sets.read_alternatives.Goals as goal
 
 -- no bars are left
 none-left : (left : Option (Bor (List ℕ))) → is_some left ≡ false → some_seen left ≡ None
@@ -38,10 +38,10 @@ all-read text done sets left reads none_left merged = record {
   merged = merged;
 }
 
-pub returns-then-is_none : goal.returns-then-is_none
-returns-then-is_none c =
+pub returns-then-is_none-clause-of_text : goal.returns-then-is_none-clause-of_text
+returns-then-is_none-clause-of_text c =
     let some : is_some c.next_piece.result.1 ≡ false = c.if-is_none.ensures in
-    subst (AreSetsOfText c.args.text.now) (sym c.one_set.ensures)
+    subst (AreSetsOfText c.args.text.now) (sym c.one_set.ensures.listed)
     (one-read c.args.text.now c.next_piece.result.0.now (some_seen c.next_piece.result.1) c.in_ok-first.first
     c.next_piece.ensures (none-left c.next_piece.result.1 some) c.in_ok-first.ensures)
 
@@ -77,15 +77,15 @@ loop-left-preserved c =
         reads (sym c.next_piece-in-Some.ensures) read.alternative in
     (done ++ read.comparators ∷ [], next, subst (AreSetsOf (done ++ read.comparators ∷ [])) (sym c.in_ok-keep-2.ensures) read.merged)
 
-pub returns-then-is_empty : goal.returns-then-is_empty
-returns-then-is_empty c =
+pub returns-then-is_empty-clause-of_text : goal.returns-then-is_empty-clause-of_text
+returns-then-is_empty-clause-of_text c =
     let sets = c.loop-left.sets in
     let empty : sets.items ≡ [] = no-items sets.items sets.len sets.ok.0 (eqb-true sets.len 0 (sym c.if-is_empty.ensures)) in
     subst (AreSetsOfText c.args.text.now) empty
     (all-read c.args.text.now c.loop-left.invariant.0 sets.items (some_seen c.loop-left.left) c.loop-left.invariant.1
     (ap some_seen c.in_default.is) c.loop-left.invariant.2)
 
-pub returns-else-is_empty : goal.returns-else-is_empty
-returns-else-is_empty c =
+pub returns-else-is_empty-clause-of_text : goal.returns-else-is_empty-clause-of_text
+returns-else-is_empty-clause-of_text c =
     all-read c.args.text.now c.loop-left.invariant.0 c.loop-left.sets.items (some_seen c.loop-left.left)
     c.loop-left.invariant.1 (ap some_seen c.in_default.is) c.loop-left.invariant.2

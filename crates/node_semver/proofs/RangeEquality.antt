@@ -10,7 +10,6 @@ use Rattle.semver_cuts.specs.Lemmas.Ends.{same_ends-back, same_ends-in_span}
 use Rattle.node_semver.specs.Comparison.{version_cmp}
 use Rattle.node_semver.specs.Lemmas.Order.{Equal-version, version_total}
 use Rattle.node_semver.specs.Meaning.{HasOpenEnd, Opens, RangeAdmits, SetAdmits}
-use Rattle.node_semver.specs.Order.{IsSame}
 use Rattle.node_semver.specs.RangeEquality.{AreSameCuts}
 use Rattle.node_semver.specs.Version.{HasSameTriple, IsPrerelease, VersionValue}
 

@@ -5,11 +5,11 @@ use Rattle.node_semver.proofs.range.line.put_set.Goals as goal
 pub returns-in-Before-After-clause-text : goal.returns-in-Before-After-clause-text
 returns-in-Before-After-clause-text c =
     whole_if_put _ c.args.line.now _ _ _ (omega arith)
-        (alone_text c.args.set.now c.in-Before-After.low c.in-Before-After.high (search rules) (search rules) (search rules))
-        c.put_version.ensures.text
+    (alone_text c.args.set.now c.in-Before-After.low c.in-Before-After.high (search rules) (search rules) (search rules))
+    c.put_version.ensures.text
 
 pub returns-in-Before-End-clause-text : goal.returns-in-Before-End-clause-text
 returns-in-Before-End-clause-text c =
     whole_if_put _ c.args.line.now _ _ _ (omega arith)
-        (at_least_text c.args.set.now c.in-Before-End.low (search rules) (search rules))
-        c.put_at_least-in-Before-End.ensures.text
+    (at_least_text c.args.set.now c.in-Before-End.low (search rules) (search rules))
+    c.put_at_least-in-Before-End.ensures.text

@@ -11,7 +11,7 @@ use std::str;
 // Room for two versions of four numbers of at most 20 digits, their dots and hyphens, their marks and a space.
 pub(crate) const ROOM: usize = 176;
 
-// The set's text, for `>=1.2.3 <2.0.0-0`, `1.2.3` and `>=1.2.3`, where its versions have numbers alone.
+// The set's text, where it is like `>=1.2.3 <2.0.0-0`, `1.2.3` or `>=1.2.3` and its versions have numbers alone.
 #[inline]
 pub(crate) fn line_of<'a>(line: &'a mut [u8; ROOM], set: &Span<Version>) -> Option<&'a str>
     ensures { IfSome result (λ text. text.now ≡ set_text set.now) }
@@ -20,6 +20,7 @@ pub(crate) fn line_of<'a>(line: &'a mut [u8; ROOM], set: &Span<Version>) -> Opti
     str::from_utf8(&line[start..]).ok()
 }
 
+// Puts the set's text at the end of the line, and says where it begins.
 #[inline]
 fn put_set(line: &mut [u8; ROOM], set: &Span<Version>) -> Option<usize>
     ensures place { IfSome result (λ start. start ≤ 176) }

@@ -1,1 +1,82 @@
--- Equal ranges.
+-- Ranges of the same cuts admit the same versions.
+use Rattle.std.proofs.Common.{◌≡◌, ◌↔◌, ◌∙◌, List, [], ◌∷◌, sym, inl, inr}
+use Rattle.std.specs.declared.cmp.Ordering.{Ordering}
+use Rattle.std.specs.declared.cmp.Ordering.TheVariants.{Less, Equal, Greater}
+use Rattle.std.specs.Ordering.{ordering_then}
+use Rattle.semver_cuts.specs.declared.cut.Cut.{Cut}
+use Rattle.semver_cuts.specs.declared.cut.Cut.TheVariants.{Start, Before, After, End}
+use Rattle.semver_cuts.specs.Cut.{cut_cmp}
+use Rattle.semver_cuts.specs.Ends.{AreSameEnds, Ends}
+use Rattle.semver_cuts.specs.Lemmas.Ends.{same_ends-back, same_ends-in_span}
+use Rattle.node_semver.specs.Comparison.{version_cmp}
+use Rattle.node_semver.specs.Lemmas.Order.{Equal-version, version_total}
+use Rattle.node_semver.specs.Meaning.{HasOpenEnd, Opens, RangeAdmits, SetAdmits}
+use Rattle.node_semver.specs.Order.{IsSame}
+use Rattle.node_semver.specs.RangeEquality.{AreSameCuts}
+use Rattle.node_semver.specs.Version.{HasSameTriple, IsPrerelease, VersionValue}
+
+-- versions that are the same but for the build open the same triple
+opened-same : (p q v : VersionValue) → version_cmp p q ≡ Equal → IsPrerelease p × HasSameTriple p v
+    → IsPrerelease q × HasSameTriple q v
+opened-same p q v e opened = let same = Equal-version p q e in (
+  λ none. opened.0 (same.pre_release ∙ none),
+  record {
+    major = sym same.triple.major ∙ opened.1.major;
+    minor = sym same.triple.minor ∙ opened.1.minor;
+    patch = sym same.triple.patch ∙ opened.1.patch;
+  },
+)
+
+never : {P : Type 0} (r : Ordering) → ordering_then r Less ≡ Equal → P
+never Less e = cc e
+never Equal e = cc e
+never Greater e = cc e
+
+never_above : {P : Type 0} (r : Ordering) → ordering_then r Greater ≡ Equal → P
+never_above Less e = cc e
+never_above Equal e = cc e
+never_above Greater e = cc e
+
+-- and so do equal cuts
+opens-same : (c d : Cut VersionValue) (v : VersionValue) → cut_cmp version_cmp c d ≡ Equal → Opens c v → Opens d v
+opens-same Start d v e opened = absurd opened
+opens-same End d v e opened = absurd opened
+opens-same (Before p) Start v e opened = cc e
+opens-same (Before p) (Before q) v e opened = opened-same p q v e opened
+opens-same (Before p) (After q) v e opened = never (version_cmp p q) e
+opens-same (Before p) End v e opened = cc e
+opens-same (After p) Start v e opened = cc e
+opens-same (After p) (Before q) v e opened = never_above (version_cmp p q) e
+opens-same (After p) (After q) v e opened = opened-same p q v e opened
+opens-same (After p) End v e opened = cc e
+
+open_end-same : (one other : Ends VersionValue) (v : VersionValue) → AreSameEnds version_cmp one other
+    → HasOpenEnd v one → HasOpenEnd v other
+open_end-same one other v same (inl opened) = inl (opens-same one.lower other.lower v same.lower opened)
+open_end-same one other v same (inr opened) = inr (opens-same one.upper other.upper v same.upper opened)
+
+set-admits : (one other : Ends VersionValue) (v : VersionValue) → AreSameEnds version_cmp one other
+    → SetAdmits one v → SetAdmits other v
+set-admits one other v same admits = record {
+  inside = same_ends-in_span version_total one other (Before v) same admits.inside;
+  opened = λ pre. open_end-same one other v same (admits.opened pre);
+}
+
+admits-onward : (one other : List (Ends VersionValue)) → AreSameCuts one other → (v : VersionValue)
+    → RangeAdmits one v → RangeAdmits other v
+admits-onward [] other same v admits = absurd admits
+admits-onward (s ∷ one) [] same v admits = absurd same
+admits-onward (s ∷ one) (t ∷ other) same v (inl here) = inl (set-admits s t v same.0 here)
+admits-onward (s ∷ one) (t ∷ other) same v (inr there) = inr (admits-onward one other same.1 v there)
+
+same-back : (one other : List (Ends VersionValue)) → AreSameCuts one other → AreSameCuts other one
+same-back [] [] same = tt
+same-back [] (t ∷ other) same = absurd same
+same-back (s ∷ one) [] same = absurd same
+same-back (s ∷ one) (t ∷ other) same = (same_ends-back version_total s t same.0, same-back one other same.1)
+
+-- ranges of the same cuts admit the same versions
+pub same-admit : (one other : List (Ends VersionValue)) → AreSameCuts one other → (v : VersionValue)
+    → RangeAdmits one v ↔ RangeAdmits other v
+same-admit one other same v =
+    (admits-onward one other same v, admits-onward other one (same-back one other same) v)

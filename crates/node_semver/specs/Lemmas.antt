@@ -1,3 +1,5 @@
 pub mod Hash
 pub mod Order
 pub mod Print
+pub mod RangeEquality
+pub mod RangePrint

@@ -1,9 +1,7 @@
 -- When two ranges are equal: set by set, at ends that are the same cuts.
 use Rattle.std.specs.Prelude.{Bool, List, [], ◌∷◌}
 use Rattle.std.specs.Cmp.Lexicographic.{pointwise}
-use Rattle.std.specs.Ordering.{eq_by_cmp, eq_of_both, on}
-use Rattle.semver_cuts.specs.Cut.{cut_cmp}
-use Rattle.semver_cuts.specs.Ends.{AreSameEnds, Ends}
+use Rattle.semver_cuts.specs.Ends.{AreSameEnds, Ends, are_same_ends}
 use Rattle.node_semver.specs.Comparison.{version_cmp}
 use Rattle.node_semver.specs.Version.{VersionValue}
 
@@ -14,11 +12,6 @@ AreSameCuts [] (other ∷ others) = ⊥
 AreSameCuts (one ∷ ones) [] = ⊥
 AreSameCuts (one ∷ ones) (other ∷ others) = AreSameEnds version_cmp one other × AreSameCuts ones others
 
--- the test of one set
-abbrev pub are_same_ends : Ends VersionValue → Ends VersionValue → Bool
-are_same_ends = eq_of_both (on (λ (set : Ends VersionValue). set.lower) (eq_by_cmp (cut_cmp version_cmp)))
-    (on (λ (set : Ends VersionValue). set.upper) (eq_by_cmp (cut_cmp version_cmp)))
-
--- and of a range: what `==` answers
+-- the test of it: what `==` answers
 abbrev pub are_same_cuts : List (Ends VersionValue) → List (Ends VersionValue) → Bool
-are_same_cuts = pointwise are_same_ends
+are_same_cuts = pointwise (are_same_ends version_cmp)

@@ -6,8 +6,12 @@ ghost use Rattle.node_semver.specs.Merging.{AreSetsOfText, all_cuts};
 ghost use Rattle.node_semver.specs.Version.{VersionValue};
 
 mod alternative;
+mod display;
+mod equality;
 mod pieces;
 mod sets;
+
+pub use equality::ranges_are_equal_where_their_cuts_are;
 
 use crate::set::admits;
 use crate::{SemverError, SemverErrorKind, Version};

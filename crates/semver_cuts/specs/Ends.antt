@@ -1,5 +1,6 @@
 -- A span of cuts, seen by its two ends, and the cuts that lie in it.
-use Rattle.std.specs.Prelude.{◌≡◌, ◌⊎◌}
+use Rattle.std.specs.Prelude.{◌≡◌, ◌⊎◌, Bool}
+use Rattle.std.specs.Ordering.{eq_by_cmp, eq_of_both, on}
 use Rattle.std.specs.declared.cmp.Ordering.{Ordering}
 use Rattle.std.specs.declared.cmp.Ordering.TheVariants.{Less, Equal}
 use Rattle.semver_cuts.specs.declared.cut.Cut.{Cut}
@@ -35,3 +36,8 @@ HoldsCut {T} cmp span = (cut : Cut T) × IsInSpan cmp span cut
 pub record AreSameEnds {T : Type 0} (cmp : T → T → Ordering) (one other : Ends T) : Type 0 where
   pub lower : cut_cmp cmp one.lower other.lower ≡ Equal
   pub upper : cut_cmp cmp one.upper other.upper ≡ Equal
+
+-- the test of it: what `==` answers
+abbrev pub are_same_ends : {T : Type 0} → (T → T → Ordering) → Ends T → Ends T → Bool
+are_same_ends {T} cmp = eq_of_both (on (λ (span : Ends T). span.lower) (eq_by_cmp (cut_cmp cmp)))
+    (on (λ (span : Ends T). span.upper) (eq_by_cmp (cut_cmp cmp)))

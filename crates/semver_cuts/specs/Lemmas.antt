@@ -4,3 +4,5 @@
 pub mod CutOrder
 -- less and at most, and the tests of them
 pub mod Ends
+-- what equal cuts and equal spans feed a hasher
+pub mod Hash

@@ -8,6 +8,8 @@ pub mod CutLaws
 -- ---- Spans of cuts
 -- a span by its two ends, and which cuts lie in it
 pub mod Ends
+-- what cuts and spans feed a hasher
+pub mod Hash
 -- what the spans of a list have in common
 pub mod Common
 -- the ends of what they have in common

@@ -75,5 +75,6 @@ impl<T: Ord> Ord for Cut<T> {
     }
 }
 
+mod hash;
 #[cfg(test)]
 mod tests;

@@ -5,12 +5,14 @@
 //! its ends alone whether it has its least and its greatest value: from `Before(3)` up to `After(5)` it has both 3 and
 //! 5, and from `After(3)` up to `Before(5)` neither.
 //!
+//! A [`Span`] is such a pair of ends with a cut between them.
+//!
 //! The module [`laws`] holds what is proved of the order.
 #![tactic(auto)]
 
 mod cut;
-mod span;
 pub mod laws;
+mod span;
 
 pub use cut::Cut;
 pub use span::Span;

@@ -2,10 +2,27 @@ ghost use Rattle.std.specs.Prelude.{◌≡◌, ◌↔◌, IfSome, IsSome, IsTrue
 ghost use Rattle.semver_cuts.specs.declared.cut.Cut.TheVariants.{Before};
 ghost use Rattle.semver_cuts.specs.Ends.{HoldsCut, IsCutAtMost, IsCutBelow, IsInSpan, span_between};
 
+mod equality;
+#[cfg(test)]
+mod tests;
+
 use crate::Cut;
 use std::marker::Model;
 
-/// The cuts from a lower one up to but not including an upper one. A span always holds a cut.
+/// The cuts from a lower one up to but not including an upper one: at least one, its lower end.
+///
+/// A value lies in a span where the cut before it does. So from `Before(3)` up to `After(5)` lie 3, 5 and what is
+/// between, and from `After(3)` up to `Before(5)` neither of the two. `Start` leaves a span open below, and `End` above.
+///
+/// A span has a cut, and may still have no value: no whole number lies from `After(3)` up to `Before(4)`.
+///
+/// # Memory
+///
+/// Takes none beside its two cuts.
+///
+/// # Examples
+///
+/// The span from `Before(3)` up to `Before(5)` contains 3 and 4, and not 5.
 #[derive(Debug, Drop)]
 pub struct Span<T: Ord> {
     lower: Cut<T>,
@@ -23,24 +40,45 @@ impl<T: Ord> Model for Span<T> {
 }
 
 impl<T: Ord + Drop> Span<T> {
-    /// The span between two cuts, or `None` exactly where no cut lies between them.
+    /// The span between two cuts, or `None` where no cut lies between them: where the lower is not less than the upper.
+    ///
+    /// # Memory
+    ///
+    /// Takes none.
+    ///
+    /// # Examples
+    ///
+    /// There is one from `Before(3)` up to `After(3)`, which contains 3. There is none from `After(3)` up to `Before(3)`,
+    /// and none from a cut up to itself.
     pub fn new(lower: Cut<T>, upper: Cut<T>) -> Option<Span<T>>
         ensures cut { IsSome result ↔ HoldsCut T.cmp (span_between lower upper) }
         ensures ends { IfSome result (λ span. span ≡ span_between lower upper) }
     {
-        if lower < upper { Some(Span { lower, upper }) } else { None }
+        if lower < upper {
+            Some(Span { lower, upper })
+        } else {
+            None
+        }
     }
 }
 
 impl<T: Ord> Span<T> {
-    /// The least cut of the span.
+    /// The least cut of the span: `Before(3)` of `Before(3)` up to `After(5)`.
+    ///
+    /// # Memory
+    ///
+    /// Takes none.
     pub fn lower(&self) -> &Cut<T>
         ensures { result.now ≡ self.now.lower }
     {
         &self.lower
     }
 
-    /// The cut at which the span ends, which it does not hold.
+    /// The cut at which the span ends, and which is not in it: `After(5)` of `Before(3)` up to `After(5)`.
+    ///
+    /// # Memory
+    ///
+    /// Takes none.
     pub fn upper(&self) -> &Cut<T>
         ensures { result.now ≡ self.now.upper }
     {
@@ -48,6 +86,16 @@ impl<T: Ord> Span<T> {
     }
 
     /// Whether the value lies in the span: whether the cut before it does.
+    ///
+    /// `s.contains(&v)` is true exactly where `s.lower() <= &Cut::Before(v)` and `&Cut::Before(v) < s.upper()`.
+    ///
+    /// # Memory
+    ///
+    /// Takes none.
+    ///
+    /// # Examples
+    ///
+    /// `After(3)` up to `After(5)` contains 4 and 5, and not 3.
     pub fn contains(&self, value: &T) -> bool
         ensures { IsTrue result ↔ IsInSpan T.cmp self.now (Before value.now) }
     {

@@ -1,13 +1,17 @@
--- Equal identifiers and equal versions are fed alike.
+-- Equal identifiers, equal versions and equal ranges are fed alike.
 use Rattle.std.proofs.Common.{◌≡◌, ◌++◌, ℕ, true, List, ap, sym}
 use Rattle.std.specs.Hash as fed
+use Rattle.std.specs.Hash.{items_Alike}
 use Rattle.std.specs.Ordering.{eq_by_cmp}
 use Rattle.std.specs.Cmp.{Equal-is}
+use Rattle.semver_cuts.specs.Ends.{Ends}
+use Rattle.semver_cuts.specs.Lemmas.Hash.{span_alike}
 use Rattle.node_semver.specs.IdentifierValue.{IdentifierValue}
 use Rattle.node_semver.specs.Version.{VersionValue}
 use Rattle.node_semver.specs.Comparison.{identifier_cmp, version_cmp}
 use Rattle.node_semver.specs.Lemmas.Order.{identifier-IsAntisymmetric, Equal-version}
-use Rattle.node_semver.specs.Hash.{identifier_writes, version_writes}
+use Rattle.node_semver.specs.Hash.{identifier_writes, range_writes, version_writes}
+use Rattle.node_semver.specs.RangeEquality.{are_same_cuts}
 use Rattle.node_semver.specs.Identifier.{value_of, values_of}
 use Rattle.node_semver.specs.declared.identifier.Identifier.{Identifier}
 use Rattle.std.specs.Cmp.Derive.Mapped.{items_map}
@@ -20,6 +24,10 @@ pub version_alike : (v w : VersionValue) → eq_by_cmp version_cmp v w ≡ true 
 version_alike v w e = let s = Equal-version v w ((Equal-is (version_cmp v w)).0 e) in
     λ i. fed.u64 (s.triple.major i) ++ fed.u64 (s.triple.minor i) ++ fed.u64 (s.triple.patch i)
     ++ fed.slice identifier_writes (s.pre_release i)
+
+pub range_alike : (one other : List (Ends VersionValue)) → are_same_cuts one other ≡ true
+    → range_writes one ≡ range_writes other
+range_alike = (items_Alike (record { fed = span_alike version_cmp version_alike })).fed
 
 -- the identifiers of a version, one by one
 pub version_writes-fields : (major minor patch : ℕ) (identifiers : List Identifier) (build : List IdentifierValue)

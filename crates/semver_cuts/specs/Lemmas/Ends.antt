@@ -1,16 +1,16 @@
 -- Less and at most of cuts, wherever the order of the values is total, and the tests of them in a program.
-use Rattle.std.specs.Prelude.{◌≡◌, ◌⊎◌, refl, true, false}
+use Rattle.std.specs.Prelude.{◌≡◌, ◌⊎◌, ◌↔◌, ◌&&◌, Bool, IsTrue, refl, true, false}
 use mathlib.Core.Path.{sym, ap, ◌∙◌}
 use mathlib.Core.Logic.{inl, inr}
 use mathlib.Core.Bool.{true≢false}
 use Rattle.std.specs.declared.cmp.Ordering.{Ordering}
 use Rattle.std.specs.declared.cmp.Ordering.TheVariants.{Less, Equal, Greater}
-use Rattle.std.specs.Ordering.{is_lt, is_le, ordering_reverse}
-use Rattle.std.specs.Cmp.{IsTotalOrder, tied_itself, tied_back, alike_right}
+use Rattle.std.specs.Ordering.{is_eq, is_lt, is_le, ordering_reverse}
+use Rattle.std.specs.Cmp.{Equal-is, IsEquivalence, IsTotalOrder, alike_right, and_equiv, eq_by_cmp_equiv, first_so, on_equiv, second_so, tied_back, tied_itself}
 use Rattle.semver_cuts.specs.declared.cut.Cut.{Cut}
 use Rattle.semver_cuts.specs.Cut.{cut_cmp}
 use Rattle.semver_cuts.specs.Lemmas.CutOrder.{cut_total}
-use Rattle.semver_cuts.specs.Ends.{IsCutBelow, IsCutAtMost}
+use Rattle.semver_cuts.specs.Ends.{AreSameEnds, Ends, IsCutAtMost, IsCutBelow, IsInSpan, are_same_ends}
 
 less≢equal : (r : Ordering) → r ≡ Less → r ≡ Equal → ⊥
 less≢equal r p q = true≢false (ap is_lt (sym p ∙ q))
@@ -106,6 +106,27 @@ module _ {T : Type 0} {cmp : T → T → Ordering} (o : IsTotalOrder cmp) where
   pub below-from_not_le : (c d : Cut T) → is_le (cut_cmp cmp c d) ≡ false → IsCutBelow cmp d c
   below-from_not_le c d h = not_at_most_by c d (cut_cmp cmp c d) refl h
 
+  -- the same two ends, as a test, is an equivalence
+  pub are_same_ends-equiv : IsEquivalence (are_same_ends cmp)
+  are_same_ends-equiv =
+      and_equiv (on_equiv (λ (span : Ends T). span.lower) (eq_by_cmp_equiv (cut_total o)))
+      (on_equiv (λ (span : Ends T). span.upper) (eq_by_cmp_equiv (cut_total o)))
+
+  -- spans of the same two ends the other way round
+  pub same_ends-back : (one other : Ends T) → AreSameEnds cmp one other → AreSameEnds cmp other one
+  same_ends-back one other same = record {
+    lower = cut_cmp-equal_back one.lower other.lower same.lower;
+    upper = cut_cmp-equal_back one.upper other.upper same.upper;
+  }
+
+  -- the same cuts lie in spans of the same two ends
+  pub same_ends-in_span : (one other : Ends T) (cut : Cut T) → AreSameEnds cmp one other → IsInSpan cmp one cut
+      → IsInSpan cmp other cut
+  same_ends-in_span one other cut same inside = record {
+    lower = at_most_trans other.lower one.lower cut (inr (cut_cmp-equal_back one.lower other.lower same.lower)) inside.lower;
+    upper = below-at_most cut one.upper other.upper inside.upper (inr same.upper);
+  }
+
 module _ {T : Type 0} (cmp : T → T → Ordering) where
   below_by : (r : Ordering) → is_lt r ≡ true → r ≡ Less
   below_by Less h = refl
@@ -133,3 +154,18 @@ module _ {T : Type 0} (cmp : T → T → Ordering) where
   pub le-from_at_most : (c d : Cut T) → IsCutAtMost cmp c d → is_le (cut_cmp cmp c d) ≡ true
   le-from_at_most c d (inl p) = ap is_le p
   le-from_at_most c d (inr p) = ap is_le p
+
+  ends-from_test : (one other : Ends T) → are_same_ends cmp one other ≡ true → AreSameEnds cmp one other
+  ends-from_test one other h = record {
+    lower = (Equal-is (cut_cmp cmp one.lower other.lower)).0 (first_so _ _ h);
+    upper = (Equal-is (cut_cmp cmp one.upper other.upper)).0 (second_so _ _ h);
+  }
+
+  test-from_ends : (one other : Ends T) → AreSameEnds cmp one other → are_same_ends cmp one other ≡ true
+  test-from_ends one other same = λ i. is_eq (same.lower i) && is_eq (same.upper i)
+
+  -- the test of the same two ends says just this
+  pub span_same : (one other : Ends T) (r : Bool) → r ≡ are_same_ends cmp one other
+      → IsTrue r ↔ AreSameEnds cmp one other
+  span_same one other r e =
+      (λ h. ends-from_test one other (sym e ∙ h), λ same. e ∙ test-from_ends one other same)

@@ -1,0 +1,72 @@
+//! When ranges are equal, and what they feed a hasher.
+
+ghost use Rattle.std.specs.Prelude.{◌≡◌, ◌↔◌, IsTrue, List};
+ghost use Rattle.std.specs.Cmp.{partial_equiv_from_equiv};
+ghost use Rattle.semver_cuts.specs.Ends.{Ends};
+ghost use Rattle.node_semver.specs.Hash.{range_writes};
+ghost use Rattle.node_semver.specs.Lemmas.Hash.{range_alike};
+ghost use Rattle.node_semver.specs.Lemmas.RangeEquality.{are_same_cuts-equiv};
+ghost use Rattle.node_semver.specs.Meaning.{RangeAdmits};
+ghost use Rattle.node_semver.specs.RangeEquality.{AreSameCuts, are_same_cuts};
+ghost use Rattle.node_semver.specs.Version.{VersionValue};
+
+use crate::Range;
+use std::hash::{Hash, Hasher};
+
+/// Two ranges are equal where they have as many sets, and those at each place begin at equal cuts and end at equal cuts.
+///
+/// Builds are not looked at, so equal ranges may print differently. Equal ranges admit the same versions, and ranges
+/// that do may still not be equal: `1||2` and `2||1`.
+///
+/// # Memory
+///
+/// Takes none.
+///
+/// # Examples
+///
+/// `^1.2.3` equals `>=1.2.3 <2.0.0-0`, and not `>=1.2.3 <2.0.0`.
+impl PartialEq for Range {
+    ghost eq = { are_same_cuts };
+
+    ghost laws = { partial_equiv_from_equiv are_same_cuts-equiv };
+
+    #[inline]
+    #[tactic(auto, using(crate::specs::Lemmas::RangeEquality::ranges_same))]
+    fn eq(&self, other: &Range) -> bool
+        ensures answer { result ≡ are_same_cuts self.now other.now }
+        ensures same { IsTrue result ↔ AreSameCuts self.now other.now }
+    {
+        self.sets.as_slice() == other.sets.as_slice()
+    }
+}
+
+impl Eq for Range {
+    ghost laws = { are_same_cuts-equiv };
+}
+
+/// Equal ranges hash alike: how many sets there are is fed, and then the two ends of each, without their builds.
+///
+/// # Memory
+///
+/// Takes none.
+impl Hash for Range {
+    ghost hash_input = { range_writes };
+
+    ghost respects_eq = { range_alike };
+
+    fn hash<H: Hasher>(&self, state: &mut H) {
+        self.sets.as_slice().hash(state);
+    }
+}
+
+/// Ranges are equal where they have as many sets, each with the same two ends. Then they hash alike, and admit the same
+/// versions.
+///
+/// This does nothing: its contract is the law.
+pub fn ranges_are_equal_where_their_cuts_are()
+    ensures same { (one other : List (Ends VersionValue)) → IsTrue (are_same_cuts one other) ↔ AreSameCuts one other }
+    ensures alike { (one other : List (Ends VersionValue)) → AreSameCuts one other →
+        range_writes one ≡ range_writes other }
+    ensures admit { (one other : List (Ends VersionValue)) → AreSameCuts one other → (v : VersionValue) →
+        RangeAdmits one v ↔ RangeAdmits other v }
+{}

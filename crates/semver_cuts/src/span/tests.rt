@@ -1,0 +1,90 @@
+use super::*;
+use std::hash::{DefaultHasher, Hash, Hasher};
+
+// The cuts of 3 and 5, lowest first.
+fn line() -> [Cut<u64>; 6] {
+    [
+        Cut::Start,
+        Cut::Before(3),
+        Cut::After(3),
+        Cut::Before(5),
+        Cut::After(5),
+        Cut::End,
+    ]
+}
+
+// The cut at a place of that line.
+fn cut_at(place: usize) -> Cut<u64> {
+    match place {
+        0 => Cut::Start,
+        1 => Cut::Before(3),
+        2 => Cut::After(3),
+        3 => Cut::Before(5),
+        4 => Cut::After(5),
+        _ => Cut::End,
+    }
+}
+
+// The spans between two of them, each at one of 36 places.
+fn span_at(place: usize) -> Option<Span<u64>> {
+    Span::new(cut_at(place / 6), cut_at(place % 6))
+}
+
+fn hash_of<T: Hash>(value: &T) -> u64 {
+    let mut hasher = DefaultHasher::new();
+    value.hash(&mut hasher);
+    hasher.finish()
+}
+
+#[test]
+fn makes_a_span_where_a_cut_lies_between(rt: HostRuntime) {
+    for (i, lower) in line().iter().enumerate() {
+        for (j, upper) in line().iter().enumerate() {
+            let span = Span::new(cut_at(i), cut_at(j));
+            assert_eq!(rt; span.is_some(), i < j, "{lower:?} to {upper:?}");
+            if let Some(span) = span {
+                assert_eq!(rt; span.lower(), lower, "{lower:?} to {upper:?}");
+                assert_eq!(rt; span.upper(), upper, "{lower:?} to {upper:?}");
+            }
+        }
+    }
+}
+
+// From `Before(3)` to `After(5)` lie 3, 4 and 5, and from `After(3)` to `Before(5)` only 4.
+#[test]
+fn contains_the_values_between_its_ends(rt: HostRuntime) {
+    for i in 0..6usize {
+        for j in i + 1..6 {
+            let Some(span) = Span::new(cut_at(i), cut_at(j)) else {
+                continue;
+            };
+            // A value, and the last cut of the line that is at most the one before it.
+            for (value, place) in [(2u64, 0usize), (3, 1), (4, 2), (5, 3), (6, 4)] {
+                let inside = i <= place && place < j;
+                assert_eq!(rt; span.contains(&value), inside, "{value} in {span:?}");
+            }
+        }
+    }
+}
+
+#[test]
+fn equals_and_hashes_by_its_ends(rt: HostRuntime) {
+    for place in 0..36usize {
+        let Some(one) = span_at(place) else {
+            continue;
+        };
+        for other_place in 0..36usize {
+            let Some(other) = span_at(other_place) else {
+                continue;
+            };
+            let same = place == other_place;
+            assert_eq!(rt; one == other, same, "{one:?} and {other:?}");
+            assert_eq!(rt; one != other, !same, "{one:?} and {other:?}");
+            assert_eq!(rt;
+                hash_of(&one) == hash_of(&other),
+                same,
+                "{one:?} and {other:?}"
+            );
+        }
+    }
+}

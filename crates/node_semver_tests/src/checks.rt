@@ -1,5 +1,6 @@
 use node_semver::{Range, SemverError, SemverErrorKind, Version};
 use std::alloc::{AllocError, AllocGlobal, Global};
+use std::num::ParseIntError;
 use std::process::Abort;
 use std::test::Fail;
 
@@ -47,8 +48,8 @@ fn answers_each(
 
 // Both calls give this answer.
 pub(crate) fn answers(rt: &impl Abort, text: &str, range: &Range, version: &Version, answer: bool) {
-    let answers = (range.satisfies(version), version.satisfies(range));
-    assert!(rt; answers == (answer, answer), "{text} and {version}");
+    let both = range.satisfies(version) == answer && version.satisfies(range) == answer;
+    assert!(rt; both, "{text} and {version}");
 }
 
 // No text is a range.
@@ -78,11 +79,17 @@ pub(crate) fn refuses_version(
 }
 
 pub(crate) fn version_error(alloc: Global, text: &str) -> Result<SemverError, Fail> {
-    Ok(Version::parse(alloc, text).err().ok_or("a version")?)
+    match Version::parse(alloc, text) {
+        Ok(_) => Err(Fail::new(format_args!("{text} is a version"))),
+        Err(error) => Ok(error),
+    }
 }
 
 pub(crate) fn range_error(alloc: Global, text: &str) -> Result<SemverError, Fail> {
-    Ok(Range::parse(alloc, text).err().ok_or("a range")?)
+    match Range::parse(alloc, text) {
+        Ok(_) => Err(Fail::new(format_args!("{text} is a range"))),
+        Err(error) => Ok(error),
+    }
 }
 
 // The error tells the whole text, this kind, and this place: byte offset, line and column.
@@ -94,18 +101,27 @@ pub(crate) fn tells(
     place: (usize, usize, usize),
 ) {
     let (line, column) = error.location();
-    let (offset, input) = (error.offset(), error.input());
-    let span = (error.span().offset(), error.span().len());
-    let told = error.kind() == kind && (offset, line, column) == place && span == (place.0, 0);
+    let span = error.span();
+    let told = error.kind() == kind && error.input() == text;
+    let located = error.offset() == place.0 && line == place.1 && column == place.2;
+    let spanned = span.offset() == place.0 && span.len() == 0;
     assert!(rt;
-        told && input == text,
-        "{text}: {error} {offset}, {line}, {column}: {input}"
+        told && located && spanned,
+        "{text}: {error} at {line}, {column}"
     );
 }
 
 // The print is this text.
 pub(crate) fn is_text(rt: &impl Abort, print: &str, text: &str) {
     assert!(rt; print == text, "{print} and not {text}");
+}
+
+// What std's `parse` says of digits that make no `u64`.
+pub(crate) fn int_fault(digits: &str) -> Result<ParseIntError, Fail> {
+    match digits.parse::<u64>() {
+        Ok(_) => Err(Fail::new("digits that make a u64")),
+        Err(error) => Ok(error),
+    }
 }
 
 // A text, and a piece some times after it.

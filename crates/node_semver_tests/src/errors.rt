@@ -1,14 +1,8 @@
-use crate::checks::{is_text, range_error, repeated, tells, version_error};
+use crate::checks::{int_fault, is_text, range_error, repeated, tells, version_error};
 use node_semver::{SemverError, SemverErrorKind};
 use std::alloc::{AllocGlobal, Global};
-use std::num::ParseIntError;
 use std::process::Abort;
 use std::test::Fail;
-
-// What std's `parse` says of digits that make no `u64`.
-fn int_fault(digits: &str) -> Result<ParseIntError, Fail> {
-    Ok(digits.parse::<u64>().err().ok_or("digits that make a u64")?)
-}
 
 fn kind_prints(
     rt: &(impl Abort + AllocGlobal),

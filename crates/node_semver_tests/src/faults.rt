@@ -1,4 +1,4 @@
-use crate::checks::{refuses_version, repeated};
+use crate::checks::{int_fault, refuses_version, repeated};
 use node_semver::SemverErrorKind;
 use std::test::Fail;
 
@@ -46,9 +46,7 @@ fn refuses_numbers_that_are_too_large(rt: HostRuntime) -> Result<(), Fail> {
     let beyond = SemverErrorKind::MaxIntError(900719925474100);
     refuses_version(&rt, "1.2.900719925474100", &beyond, (4, 0, 4))?;
     refuses_version(&rt, "900719925474100.a", &beyond, (0, 0, 0))?;
-    let digits = "18446744073709551616";
-    let too_large = digits.parse::<u64>().err().ok_or("64 bits")?;
-    let kind = SemverErrorKind::ParseIntError(too_large);
+    let kind = SemverErrorKind::ParseIntError(int_fault("18446744073709551616")?);
     refuses_version(&rt, "18446744073709551616.0.0", &kind, (0, 0, 0))
 }
 

@@ -1,5 +1,7 @@
 use crate::checks::{admits_and_turns_away, answers, refuses};
 use node_semver::{MAX_LENGTH, MAX_SAFE_INTEGER, Range, Version};
+use std::alloc::AllocGlobal;
+use std::process::Abort;
 use std::test::Fail;
 
 // The Rust crate `node-semver` 2.2.0.
@@ -108,6 +110,18 @@ const BEYOND: [(&str, (u64, u64, u64), bool); 10] = [
     (">=1.0.0", (u64::MAX, u64::MAX, u64::MAX), true),
     ("<1", (u64::MAX, u64::MAX, u64::MAX), false),
 ];
+
+fn end_answers(
+    rt: &(impl Abort + AllocGlobal),
+    text: &str,
+    triple: (u64, u64, u64),
+    answer: bool,
+) -> Result<(), Fail> {
+    let range = Range::parse(rt.alloc(), text)?;
+    let version = Version::new(rt.alloc(), triple.0, triple.1, triple.2);
+    answers(rt, text, &range, &version, answer);
+    Ok(())
+}
 
 #[test]
 fn ends_beyond_the_greatest_number(rt: HostRuntime) -> Result<(), Fail> {

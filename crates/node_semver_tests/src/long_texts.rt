@@ -1,5 +1,5 @@
 use crate::checks::{
-    admits, is_text, refuses_range, refuses_version, repeated, tells, version_error,
+    admits, answers, is_text, refuses_range, refuses_version, repeated, tells, version_error,
 };
 use node_semver::{Identifier, Range, SemverErrorKind, Version};
 use std::alloc::{AllocError, AllocGlobal, Global};
@@ -29,9 +29,11 @@ fn copies_an_error_with_a_long_text(rt: HostRuntime) -> Result<(), Fail> {
 
 // Numbers and letters take turns.
 fn takes_turns(rt: &impl Abort, identifiers: &[Identifier]) {
-    for (i, identifier) in identifiers.iter().enumerate() {
-        let letter = matches!(identifier, Identifier::AlphaNumeric(_));
-        assert!(rt; letter == (i % 2 == 1), "{identifier} at {i}");
+    let mut letter = false;
+    for identifier in identifiers {
+        let lettered = matches!(identifier, Identifier::AlphaNumeric(_));
+        assert!(rt; lettered == letter, "{identifier}");
+        letter = !letter;
     }
 }
 
@@ -80,27 +82,33 @@ fn prints_a_long_version(rt: HostRuntime) -> Result<(), Fail> {
 #[test]
 fn reads_a_range_of_many_identifiers(rt: HostRuntime) -> Result<(), Fail> {
     let text = repeated(rt.alloc(), "=1.2.3-a", ".b", 10000)?;
-    let range = Range::parse(rt.alloc(), &text)?;
     let mut version = Version::parse(rt.alloc(), "1.2.3-a")?;
-    assert!(rt; !range.satisfies(&version));
+    range_answers(&rt, &text, &version, false)?;
     longer(rt.alloc(), &mut version, "b", 10000)?;
-    assert!(rt; range.satisfies(&version));
+    range_answers(&rt, &text, &version, true)?;
     version.pre_release.push(Identifier::Numeric(0))?;
-    assert!(rt; !range.satisfies(&version));
-    Ok(())
+    range_answers(&rt, &text, &version, false)
 }
 
 // Nor has an identifier in it.
 #[test]
 fn reads_a_range_of_a_long_identifier(rt: HostRuntime) -> Result<(), Fail> {
     let text = repeated(rt.alloc(), ">1.2.3-", "c", 5000)?;
-    let range = Range::parse(rt.alloc(), &text)?;
-    let word = repeated(rt.alloc(), "", "c", 5000)?;
     let mut version = Version::new(rt.alloc(), 1, 2, 3);
+    let word = repeated(rt.alloc(), "", "c", 5000)?;
     longer(rt.alloc(), &mut version, &word, 1)?;
-    assert!(rt; !range.satisfies(&version));
+    range_answers(&rt, &text, &version, false)?;
     version.pre_release.push(Identifier::Numeric(0))?;
-    assert!(rt; range.satisfies(&version));
+    range_answers(&rt, &text, &version, true)
+}
+
+fn range_answers(
+    rt: &(impl Abort + AllocGlobal),
+    text: &str,
+    version: &Version,
+    answer: bool,
+) -> Result<(), Fail> {
+    answers(rt, text, &Range::parse(rt.alloc(), text)?, version, answer);
     Ok(())
 }
 
@@ -128,7 +136,7 @@ fn reads_a_range_of_many_comparators(rt: HostRuntime) -> Result<(), Fail> {
 }
 
 // Each text is read in one pass: what is thrown away is gone over a few times, however long it is.
-const WORDS: [(&str, &str, usize, &str); 11] = [
+const WORDS: [(&str, &str, usize, &str); 16] = [
     ("1", " =*", 50000, ""),
     ("1", " ", 200000, ""),
     ("1", " -", 50000, ""),
@@ -140,6 +148,11 @@ const WORDS: [(&str, &str, usize, &str); 11] = [
     ("1 ", "9", 200000, ""),
     ("0 - ", "0", 200000, "1"),
     ("", " ", 200000, "- 1 1"),
+    ("", "| ", 50000, "1"),
+    ("", "||", 50000, "1"),
+    ("", "foo||", 50000, "1"),
+    ("1", " || ", 50000, ""),
+    ("1", "||1", 10000, ""),
 ];
 
 fn reads_between_words(
@@ -162,7 +175,7 @@ fn reads_a_range_between_many_words(rt: HostRuntime) -> Result<(), Fail> {
     Ok(())
 }
 
-const REFUSED: [(&str, &str, usize); 9] = [
+const REFUSED: [(&str, &str, usize); 11] = [
     ("", "a", 1000000),
     ("", "\u{161}", 5000),
     ("", " ", 200000),
@@ -172,6 +185,8 @@ const REFUSED: [(&str, &str, usize); 9] = [
     (">=1.0.0-", "a.", 50000),
     ("2.0.0 ", ">=1.0.0 <2.0.0 ", 10000),
     ("", "- ", 50000),
+    ("", "foo || ", 50000),
+    ("", "1 2||", 10000),
 ];
 
 #[test]

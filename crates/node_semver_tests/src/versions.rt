@@ -66,27 +66,46 @@ fn reads_versions(rt: HostRuntime) -> Result<(), Fail> {
     Ok(())
 }
 
-fn is_read(
+fn reads_long(
     rt: &(impl Abort + AllocGlobal),
     text: &str,
     piece: &str,
     times: usize,
-    read: bool,
 ) -> Result<(), Fail> {
     let whole = repeated(rt.alloc(), text, piece, times)?;
-    let answer = Version::parse(rt.alloc(), &whole).is_ok();
-    assert!(rt; answer == read, "{text} and {times} times {piece}");
+    reads_as_major(rt, &whole, 1)
+}
+
+fn reads_as_major(rt: &(impl Abort + AllocGlobal), text: &str, major: u64) -> Result<(), Fail> {
+    let version = Version::parse(rt.alloc(), text)?;
+    assert!(rt; version.major == major, "{text}");
     Ok(())
+}
+
+fn refuses_long(
+    rt: &(impl Abort + AllocGlobal),
+    text: &str,
+    piece: &str,
+    times: usize,
+) -> Result<(), Fail> {
+    let whole = repeated(rt.alloc(), text, piece, times)?;
+    let last = whole.len().saturating_sub(1);
+    refuses_version(
+        rt,
+        &whole,
+        &SemverErrorKind::MaxLengthError,
+        (last, 0, last),
+    )
 }
 
 // At most 256 bytes, whatever is printed of them.
 #[test]
 fn reads_at_most_256_bytes(rt: HostRuntime) -> Result<(), Fail> {
-    is_read(&rt, "1.1.1-", "X", 249, true)?;
-    is_read(&rt, "1.1.1-", "X", 250, true)?;
-    is_read(&rt, "1.1.1-", "X", 251, false)?;
-    is_read(&rt, "1.1.1-", "X", 257, false)?;
-    is_read(&rt, "1.0.0", "a", 251, true)
+    reads_long(&rt, "1.1.1-", "X", 249)?;
+    reads_long(&rt, "1.1.1-", "X", 250)?;
+    reads_long(&rt, "1.0.0", "a", 251)?;
+    refuses_long(&rt, "1.1.1-", "X", 251)?;
+    refuses_long(&rt, "1.1.1-", "X", 257)
 }
 
 #[test]
@@ -101,22 +120,34 @@ fn prints_as(rt: &(impl Abort + AllocGlobal), version: &Version, print: &str) ->
     Ok(())
 }
 
-fn reads_back(rt: &(impl Abort + AllocGlobal), text: &str, print: &str) -> Result<(), Fail> {
+fn text_prints(rt: &(impl Abort + AllocGlobal), text: &str, print: &str) -> Result<(), Fail> {
+    prints_as(rt, &Version::parse(rt.alloc(), text)?, print)
+}
+
+fn are_equal(rt: &(impl Abort + AllocGlobal), text: &str, other: &str) -> Result<(), Fail> {
     let version = Version::parse(rt.alloc(), text)?;
-    prints_as(rt, &version, print)?;
-    let again = Version::parse(rt.alloc(), print)?;
-    prints_as(rt, &again, print)?;
-    assert!(rt; again == version, "{text}");
+    let equal = version == Version::parse(rt.alloc(), other)?;
+    assert!(rt; equal, "{text} and {other}");
     Ok(())
 }
+
+// A text, and its print.
+const PRINTS: [(&str, &str); 4] = [
+    ("1.2.34-abc.213+2", "1.2.34-abc.213+2"),
+    ("v 01.02.03", "1.2.3"),
+    ("1.2.3beta", "1.2.3-beta"),
+    ("1.2.3-001+007.x", "1.2.3-1+7.x"),
+];
 
 // Each text prints as the other, and an equal version is read from that.
 #[test]
 fn prints_what_it_read(rt: HostRuntime) -> Result<(), Fail> {
-    reads_back(&rt, "1.2.34-abc.213+2", "1.2.34-abc.213+2")?;
-    reads_back(&rt, "v 01.02.03", "1.2.3")?;
-    reads_back(&rt, "1.2.3beta", "1.2.3-beta")?;
-    reads_back(&rt, "1.2.3-001+007.x", "1.2.3-1+7.x")
+    for (text, print) in &PRINTS {
+        text_prints(&rt, text, print)?;
+        text_prints(&rt, print, print)?;
+        are_equal(&rt, print, text)?;
+    }
+    Ok(())
 }
 
 // The Rust crate `node-semver` 2.2.0 makes them by `From`.

@@ -1,5 +1,7 @@
 use crate::checks::{int_fault, refuses_version, repeated};
 use node_semver::SemverErrorKind;
+use std::alloc::AllocGlobal;
+use std::process::Abort;
 use std::test::Fail;
 
 // A digit or a dot is missing at this byte offset.
@@ -27,6 +29,24 @@ const BYTES_LEFT: [(&str, usize); 10] = [
     ("1.2.3-a.+b", 7),
 ];
 
+// A number is told by where it begins, before what follows it.
+fn refuses_large_numbers(rt: &(impl Abort + AllocGlobal)) -> Result<(), Fail> {
+    let beyond = SemverErrorKind::MaxIntError(900719925474100);
+    refuses_version(rt, "1.2.900719925474100", &beyond, (4, 0, 4))?;
+    refuses_version(rt, "900719925474100.a", &beyond, (0, 0, 0))?;
+    let kind = SemverErrorKind::ParseIntError(int_fault("18446744073709551616")?);
+    refuses_version(rt, "18446744073709551616.0.0", &kind, (0, 0, 0))
+}
+
+// Line and column count newlines and bytes, inside a character too.
+fn refuses_long_texts(rt: &(impl Abort + AllocGlobal)) -> Result<(), Fail> {
+    let lines = repeated(rt.alloc(), "a\n", "b", 298)?;
+    let kind = SemverErrorKind::MaxLengthError;
+    refuses_version(rt, &lines, &kind, (299, 1, 297))?;
+    let characters = repeated(rt.alloc(), "a", "\u{161}", 128)?;
+    refuses_version(rt, &characters, &kind, (256, 0, 256))
+}
+
 #[test]
 fn refuses_versions_at_the_first_fault(rt: HostRuntime) -> Result<(), Fail> {
     for (text, offset) in &NO_VERSION {
@@ -37,25 +57,6 @@ fn refuses_versions_at_the_first_fault(rt: HostRuntime) -> Result<(), Fail> {
         let place = (*offset, 0, *offset);
         refuses_version(&rt, text, &SemverErrorKind::Other, place)?;
     }
-    Ok(())
-}
-
-// A number is told by where it begins, before what follows it.
-#[test]
-fn refuses_numbers_that_are_too_large(rt: HostRuntime) -> Result<(), Fail> {
-    let beyond = SemverErrorKind::MaxIntError(900719925474100);
-    refuses_version(&rt, "1.2.900719925474100", &beyond, (4, 0, 4))?;
-    refuses_version(&rt, "900719925474100.a", &beyond, (0, 0, 0))?;
-    let kind = SemverErrorKind::ParseIntError(int_fault("18446744073709551616")?);
-    refuses_version(&rt, "18446744073709551616.0.0", &kind, (0, 0, 0))
-}
-
-// Line and column count newlines and bytes, inside a character too.
-#[test]
-fn refuses_long_versions(rt: HostRuntime) -> Result<(), Fail> {
-    let lines = repeated(rt.alloc(), "a\n", "b", 298)?;
-    let kind = SemverErrorKind::MaxLengthError;
-    refuses_version(&rt, &lines, &kind, (299, 1, 297))?;
-    let characters = repeated(rt.alloc(), "a", "\u{161}", 128)?;
-    refuses_version(&rt, &characters, &kind, (256, 0, 256))
+    refuses_large_numbers(&rt)?;
+    refuses_long_texts(&rt)
 }

@@ -128,11 +128,20 @@ fn is_located(
     Ok(())
 }
 
+fn repeated_is_located(
+    rt: &(impl Abort + AllocGlobal),
+    text: &str,
+    (piece, times): (&str, usize),
+    place: (usize, usize, usize),
+) -> Result<(), Fail> {
+    is_located(rt, &repeated(rt.alloc(), text, piece, times)?, place)
+}
+
 // The newlines before the offset, and the bytes between the last of them and the offset.
 #[test]
 fn locates_a_fault_by_newlines_and_bytes(rt: HostRuntime) -> Result<(), Fail> {
     for (text, piece, times, place) in &PLACES {
-        is_located(&rt, &repeated(rt.alloc(), text, piece, *times)?, *place)?;
+        repeated_is_located(&rt, text, (piece, *times), *place)?;
     }
     Ok(())
 }

@@ -126,11 +126,23 @@ const COMPARATORS: [(&str, &str, usize, &str, &str); 4] = [
     ("1", " 1 - 2", 5000, "1.0.0", "2.0.0"),
 ];
 
+// The text, a piece some times after it, and an end.
+fn admits_repeated(
+    rt: &(impl Abort + AllocGlobal),
+    text: &str,
+    (piece, times): (&str, usize),
+    end: &str,
+    (admitted, turned_away): (&str, &str),
+) -> Result<(), Fail> {
+    let whole = repeated(rt.alloc(), text, piece, times)?;
+    let whole = repeated(rt.alloc(), &whole, end, 1)?;
+    admits(rt, &whole, admitted, turned_away)
+}
+
 #[test]
 fn reads_a_range_of_many_comparators(rt: HostRuntime) -> Result<(), Fail> {
     for (text, piece, times, admitted, turned_away) in &COMPARATORS {
-        let whole = repeated(rt.alloc(), text, piece, *times)?;
-        admits(&rt, &whole, admitted, turned_away)?;
+        admits_repeated(&rt, text, (piece, *times), "", (admitted, turned_away))?;
     }
     Ok(())
 }
@@ -155,22 +167,10 @@ const WORDS: [(&str, &str, usize, &str); 16] = [
     ("1", "||1", 10000, ""),
 ];
 
-fn reads_between_words(
-    rt: &(impl Abort + AllocGlobal),
-    text: &str,
-    piece: &str,
-    times: usize,
-    end: &str,
-) -> Result<(), Fail> {
-    let whole = repeated(rt.alloc(), text, piece, times)?;
-    let whole = repeated(rt.alloc(), &whole, end, 1)?;
-    admits(rt, &whole, "1.0.0", "2.0.0")
-}
-
 #[test]
 fn reads_a_range_between_many_words(rt: HostRuntime) -> Result<(), Fail> {
     for (text, piece, times, end) in &WORDS {
-        reads_between_words(&rt, text, piece, *times, end)?;
+        admits_repeated(&rt, text, (piece, *times), end, ("1.0.0", "2.0.0"))?;
     }
     Ok(())
 }
@@ -189,10 +189,19 @@ const REFUSED: [(&str, &str, usize); 11] = [
     ("", "1 2||", 10000),
 ];
 
+fn refuses_repeated(
+    rt: &(impl Abort + AllocGlobal),
+    text: &str,
+    piece: &str,
+    times: usize,
+) -> Result<(), Fail> {
+    refuses_range(rt, &repeated(rt.alloc(), text, piece, times)?)
+}
+
 #[test]
 fn refuses_long_ranges(rt: HostRuntime) -> Result<(), Fail> {
     for (text, piece, times) in &REFUSED {
-        refuses_range(&rt, &repeated(rt.alloc(), text, piece, *times)?)?;
+        refuses_repeated(&rt, text, piece, *times)?;
     }
     Ok(())
 }

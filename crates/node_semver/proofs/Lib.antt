@@ -17,6 +17,7 @@ pub mod FaultReading
 pub mod HyphenReading
 pub mod IdentifierReading
 pub mod LeadReading
+pub mod LineText
 pub mod ListReading
 pub mod LongestReading
 pub mod Marks

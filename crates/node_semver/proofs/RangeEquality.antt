@@ -1,17 +1,15 @@
 -- Ranges of the same cuts admit the same versions.
 use Rattle.std.proofs.Common.{◌≡◌, ◌↔◌, ◌∙◌, List, [], ◌∷◌, sym, inl, inr}
-use Rattle.std.specs.declared.cmp.Ordering.{Ordering}
-use Rattle.std.specs.declared.cmp.Ordering.TheVariants.{Less, Equal, Greater}
-use Rattle.std.specs.Ordering.{ordering_then}
+use Rattle.std.specs.declared.cmp.Ordering.TheVariants.{Equal}
 use Rattle.semver_cuts.specs.declared.cut.Cut.{Cut}
-use Rattle.semver_cuts.specs.declared.cut.Cut.TheVariants.{Start, Before, After, End}
+use Rattle.semver_cuts.specs.declared.cut.Cut.TheVariants.{Before}
 use Rattle.semver_cuts.specs.Cut.{cut_cmp}
 use Rattle.semver_cuts.specs.Ends.{AreSameEnds, Ends}
+use Rattle.semver_cuts.specs.Lemmas.CutOrder.{equal-by_kind}
 use Rattle.semver_cuts.specs.Lemmas.Ends.{same_ends-back, same_ends-in_span}
 use Rattle.node_semver.specs.Comparison.{version_cmp}
 use Rattle.node_semver.specs.Lemmas.Order.{Equal-version, version_total}
 use Rattle.node_semver.specs.Meaning.{HasOpenEnd, Opens, RangeAdmits, SetAdmits}
-use Rattle.node_semver.specs.Order.{IsSame}
 use Rattle.node_semver.specs.RangeEquality.{AreSameCuts}
 use Rattle.node_semver.specs.Version.{HasSameTriple, IsPrerelease, VersionValue}
 
@@ -27,28 +25,10 @@ opened-same p q v e opened = let same = Equal-version p q e in (
   },
 )
 
-never : {P : Type 0} (r : Ordering) → ordering_then r Less ≡ Equal → P
-never Less e = cc e
-never Equal e = cc e
-never Greater e = cc e
-
-never_above : {P : Type 0} (r : Ordering) → ordering_then r Greater ≡ Equal → P
-never_above Less e = cc e
-never_above Equal e = cc e
-never_above Greater e = cc e
-
 -- and so do equal cuts
 opens-same : (c d : Cut VersionValue) (v : VersionValue) → cut_cmp version_cmp c d ≡ Equal → Opens c v → Opens d v
-opens-same Start d v e opened = absurd opened
-opens-same End d v e opened = absurd opened
-opens-same (Before p) Start v e opened = cc e
-opens-same (Before p) (Before q) v e opened = opened-same p q v e opened
-opens-same (Before p) (After q) v e opened = never (version_cmp p q) e
-opens-same (Before p) End v e opened = cc e
-opens-same (After p) Start v e opened = cc e
-opens-same (After p) (Before q) v e opened = never_above (version_cmp p q) e
-opens-same (After p) (After q) v e opened = opened-same p q v e opened
-opens-same (After p) End v e opened = cc e
+opens-same c d v = equal-by_kind version_cmp (λ c d. Opens c v → Opens d v) (λ opened. opened)
+    (λ p q e. opened-same p q v e) (λ p q e. opened-same p q v e) (λ opened. opened) c d
 
 open_end-same : (one other : Ends VersionValue) (v : VersionValue) → AreSameEnds version_cmp one other
     → HasOpenEnd v one → HasOpenEnd v other

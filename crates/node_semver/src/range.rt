@@ -8,6 +8,7 @@ ghost use Rattle.node_semver.specs.Version.{VersionValue};
 mod alternative;
 mod display;
 mod equality;
+mod line;
 mod pieces;
 mod sets;
 

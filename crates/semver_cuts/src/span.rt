@@ -12,7 +12,8 @@ use std::marker::Model;
 /// The cuts from a lower one up to but not including an upper one: at least one, its lower end.
 ///
 /// A value lies in a span where the cut before it does. So from `Before(3)` up to `After(5)` lie 3, 5 and what is
-/// between, and from `After(3)` up to `Before(5)` neither of the two. `Start` leaves a span open below, and `End` above.
+/// between, and from `After(3)` up to `Before(5)` neither of the two. `Start` leaves a span open below, and `End`
+/// above.
 ///
 /// A span has a cut, and may still have no value: no whole number lies from `After(3)` up to `Before(4)`.
 ///
@@ -48,8 +49,8 @@ impl<T: Ord + Drop> Span<T> {
     ///
     /// # Examples
     ///
-    /// There is one from `Before(3)` up to `After(3)`, which contains 3. There is none from `After(3)` up to `Before(3)`,
-    /// and none from a cut up to itself.
+    /// There is one from `Before(3)` up to `After(3)`, which contains 3. There is none from `After(3)` up to
+    /// `Before(3)`, and none from a cut up to itself.
     pub fn new(lower: Cut<T>, upper: Cut<T>) -> Option<Span<T>>
         ensures cut { IsSome result ↔ HoldsCut T.cmp (span_between lower upper) }
         ensures ends { IfSome result (λ span. span ≡ span_between lower upper) }

@@ -4,7 +4,7 @@ use mathlib.Core.Path.{sym, ◌∙◌}
 use mathlib.Core.Bool.{true≢false}
 use Rattle.std.specs.Cmp.{IsEquivalence, first_so, second_so}
 use Rattle.std.specs.Cmp.Lexicographic.{lists_equiv}
-use Rattle.semver_cuts.specs.Ends.{Ends, are_same_ends}
+use Rattle.semver_cuts.specs.Ends.{Ends}
 use Rattle.semver_cuts.specs.Lemmas.Ends.{are_same_ends-equiv, span_same}
 use Rattle.node_semver.specs.Comparison.{version_cmp}
 use Rattle.node_semver.specs.Lemmas.Order.{version_total}

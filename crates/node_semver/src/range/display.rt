@@ -6,6 +6,7 @@ ghost use Rattle.node_semver.specs.Print.{version_text};
 ghost use Rattle.node_semver.specs.RangePrint.{lower_text, range_text, set_text, upper_text};
 ghost use Rattle.node_semver.specs.Lemmas.RangePrint.{barred_text};
 
+use crate::range::line::{ROOM, line_of};
 use crate::{Range, Version};
 use semver_cuts::{Cut, Span};
 use std::fmt;
@@ -54,8 +55,20 @@ fn write_barred<W: fmt::Write>(f: &mut fmt::Formatter<W>, sets: &[Span<Version>]
     Ok(())
 }
 
-// `*`, `>=1.2.3`, `1.2.3`, `>1.2.3 <=2.0.0`
+// `*`, `>=1.2.3`, `1.2.3`, `>1.2.3 <=2.0.0`: one write where the set has a line
 fn write_set<W: fmt::Write>(f: &mut fmt::Formatter<W>, set: &Span<Version>) -> fmt::Result
+    ensures { WritesOnOk W.write_str_gives f.old result (set_text set.now) f.new }
+{
+    let mut line = [0; ROOM];
+    match line_of(&mut line, set) {
+        Some(text) => f.write_str(text),
+        None => write_ends(f, set),
+    }
+}
+
+// The same for every set, in pieces.
+#[inline(never)]
+fn write_ends<W: fmt::Write>(f: &mut fmt::Formatter<W>, set: &Span<Version>) -> fmt::Result
     ensures { WritesOnOk W.write_str_gives f.old result (set_text set.now) f.new }
 {
     match (set.lower(), set.upper()) {

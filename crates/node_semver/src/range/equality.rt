@@ -13,7 +13,8 @@ ghost use Rattle.node_semver.specs.Version.{VersionValue};
 use crate::Range;
 use std::hash::{Hash, Hasher};
 
-/// Two ranges are equal where they have as many sets, and those at each place begin at equal cuts and end at equal cuts.
+/// Two ranges are equal where they have as many sets, and those at each place begin at equal cuts and end at equal
+/// cuts.
 ///
 /// Builds are not looked at, so equal ranges may print differently. Equal ranges admit the same versions, and ranges
 /// that do may still not be equal: `1||2` and `2||1`.

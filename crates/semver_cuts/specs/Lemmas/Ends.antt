@@ -123,7 +123,8 @@ module _ {T : Type 0} {cmp : T → T → Ordering} (o : IsTotalOrder cmp) where
   pub same_ends-in_span : (one other : Ends T) (cut : Cut T) → AreSameEnds cmp one other → IsInSpan cmp one cut
       → IsInSpan cmp other cut
   same_ends-in_span one other cut same inside = record {
-    lower = at_most_trans other.lower one.lower cut (inr (cut_cmp-equal_back one.lower other.lower same.lower)) inside.lower;
+    lower =
+        at_most_trans other.lower one.lower cut (inr (cut_cmp-equal_back one.lower other.lower same.lower)) inside.lower;
     upper = below-at_most cut one.upper other.upper inside.upper (inr same.upper);
   }
 

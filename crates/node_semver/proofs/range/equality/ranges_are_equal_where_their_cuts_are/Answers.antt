@@ -1,4 +1,3 @@
-use Rattle.std.proofs.Common.{refl}
 use Rattle.node_semver.specs.Lemmas.Hash.{range_alike}
 use Rattle.node_semver.specs.Lemmas.RangeEquality.{cuts-from_test, test-from_cuts}
 use Rattle.node_semver.proofs.RangeEquality.{same-admit}

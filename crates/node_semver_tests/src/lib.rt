@@ -2,6 +2,8 @@
 #![tactic(auto)]
 
 #[cfg(test)]
+mod alternatives;
+#[cfg(test)]
 mod carets;
 #[cfg(test)]
 mod checks;
@@ -23,6 +25,10 @@ mod order;
 mod prerelease_tags;
 #[cfg(test)]
 mod prints;
+#[cfg(test)]
+mod range_equality;
+#[cfg(test)]
+mod range_prints;
 #[cfg(test)]
 mod readme;
 #[cfg(test)]

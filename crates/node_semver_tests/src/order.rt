@@ -1,7 +1,8 @@
 use node_semver::{Identifier, Version};
-use std::alloc::{AllocError, Global};
+use std::alloc::{AllocError, AllocGlobal, Global};
 use std::cmp::Ordering;
 use std::hash::{DefaultHasher, Hash, Hasher};
+use std::process::Abort;
 use std::test::Fail;
 
 // The identifiers between the dots of a text, and none of the empty text.
@@ -40,6 +41,10 @@ fn agreed(v: &Version, w: &Version) -> Option<Ordering> {
     if agree { Some(ordering) } else { None }
 }
 
+fn is_ordered(rt: &impl Abort, v: &Version, w: &Version, wanted: Ordering) {
+    assert!(rt; agreed(v, w) == Some(wanted), "{v} and {w}");
+}
+
 fn hash_of(version: &Version) -> u64 {
     let mut state = DefaultHasher::new();
     version.hash(&mut state);
@@ -47,81 +52,93 @@ fn hash_of(version: &Version) -> u64 {
 }
 
 // SemVer 2.0.0, section 11.4: the prereleases of `1.0.0`, and `1.0.0` itself.
+const CHAIN: [&str; 8] = [
+    "alpha",
+    "alpha.1",
+    "alpha.beta",
+    "beta",
+    "beta.2",
+    "beta.11",
+    "rc.1",
+    "",
+];
+
+fn are_ordered(
+    rt: &(impl Abort + AllocGlobal),
+    pre_release: &str,
+    other: &str,
+    wanted: Ordering,
+) -> Result<(), Fail> {
+    let v = version(rt.alloc(), (1, 0, 0), pre_release, "")?;
+    let w = version(rt.alloc(), (1, 0, 0), other, "")?;
+    is_ordered(rt, &v, &w, wanted);
+    Ok(())
+}
+
 #[test]
 fn orders_the_standards_chain(rt: HostRuntime) -> Result<(), Fail> {
-    let alloc = rt.alloc();
-    let chain = [
-        "alpha",
-        "alpha.1",
-        "alpha.beta",
-        "beta",
-        "beta.2",
-        "beta.11",
-        "rc.1",
-        "",
-    ];
-    for i in 0..chain.len() {
-        for j in 0..chain.len() {
-            let (v, w) = (
-                version(alloc, (1, 0, 0), chain[i], "")?,
-                version(alloc, (1, 0, 0), chain[j], "")?,
-            );
-            assert_eq!(rt; agreed(&v, &w), Some(i.cmp(&j)), "{v} and {w}");
+    for (i, pre_release) in CHAIN.iter().enumerate() {
+        for (j, other) in CHAIN.iter().enumerate() {
+            are_ordered(&rt, pre_release, other, i.cmp(&j))?;
         }
     }
     Ok(())
 }
 
+type Below = ((u64, u64, u64), &'static str, (u64, u64, u64), &'static str);
+
 // Numbers come first, by size, and a number is below each text.
+const BELOW: [Below; 7] = [
+    ((1, 2, 34), "abc.123", (2, 2, 34), "abc.123"),
+    ((1, 2, 34), "abc.123", (1, 3, 34), "abc.123"),
+    ((1, 2, 34), "abc.123", (1, 2, 56), "abc.123"),
+    ((1, 0, 0), "", (2, 0, 0), "alpha"),
+    ((1, 9, 9), "", (2, 0, 0), ""),
+    (
+        (1, 0, 0),
+        "18446744073709551615",
+        (1, 0, 0),
+        "99999999999999999999",
+    ),
+    ((1, 0, 0), "Beta", (1, 0, 0), "alpha"),
+];
+
+fn is_below(rt: &(impl Abort + AllocGlobal), row: &Below) -> Result<(), Fail> {
+    let (below, low, above, high) = row;
+    let v = version(rt.alloc(), *below, low, "")?;
+    let w = version(rt.alloc(), *above, high, "")?;
+    is_ordered(rt, &v, &w, Ordering::Less);
+    is_ordered(rt, &w, &v, Ordering::Greater);
+    Ok(())
+}
+
 #[test]
 fn orders_by_the_triple_and_then_by_identifiers(rt: HostRuntime) -> Result<(), Fail> {
-    let alloc = rt.alloc();
-    for (below, low, above, high) in [
-        ((1, 2, 34), "abc.123", (2, 2, 34), "abc.123"),
-        ((1, 2, 34), "abc.123", (1, 3, 34), "abc.123"),
-        ((1, 2, 34), "abc.123", (1, 2, 56), "abc.123"),
-        ((1, 0, 0), "", (2, 0, 0), "alpha"),
-        ((1, 9, 9), "", (2, 0, 0), ""),
-        (
-            (1, 0, 0),
-            "18446744073709551615",
-            (1, 0, 0),
-            "99999999999999999999",
-        ),
-        ((1, 0, 0), "Beta", (1, 0, 0), "alpha"),
-    ] {
-        let (v, w) = (
-            version(alloc, below, low, "")?,
-            version(alloc, above, high, "")?,
-        );
-        let answers = (agreed(&v, &w), agreed(&w, &v));
-        assert_eq!(rt;
-            answers,
-            (Some(Ordering::Less), Some(Ordering::Greater)),
-            "{v} and {w}"
-        );
+    for row in &BELOW {
+        is_below(&rt, row)?;
     }
     Ok(())
+}
+
+fn is_same(rt: &impl Abort, v: &Version, w: &Version, same: bool) {
+    let equal = agreed(v, w) == Some(Ordering::Equal);
+    assert!(rt; equal == same, "{v} and {w}");
+    assert!(rt; (hash_of(v) == hash_of(w)) == same, "hashes of {v} and {w}");
 }
 
 // SemVer 2.0.0, section 10.
 #[test]
 fn equality_order_and_hash_ignore_the_build(rt: HostRuntime) -> Result<(), Fail> {
-    let alloc = rt.alloc();
-    let v = version(alloc, (1, 0, 0), "rc.1", "7")?;
-    for (pre_release, build, same) in [
+    let v = version(rt.alloc(), (1, 0, 0), "rc.1", "7")?;
+    for (pre_release, build, same) in &[
         ("rc.1", "7", true),
         ("rc.1", "", true),
         ("rc.1", "other.8", true),
         ("rc.2", "7", false),
         ("", "7", false),
     ] {
-        let w = version(alloc, (1, 0, 0), pre_release, build)?;
-        let answers = (
-            agreed(&v, &w) == Some(Ordering::Equal),
-            hash_of(&v) == hash_of(&w),
-        );
-        assert_eq!(rt; answers, (same, same), "{v} and {w}");
+        let w = version(rt.alloc(), (1, 0, 0), pre_release, build)?;
+        is_same(&rt, &v, &w, *same);
     }
     Ok(())
 }

@@ -14,12 +14,6 @@ fn texts_without_comparators(rt: HostRuntime) -> Result<(), Fail> {
     )
 }
 
-// Today `||` is part of a word.
-#[test]
-fn alternatives(rt: HostRuntime) -> Result<(), Fail> {
-    refuses(&rt, &["1||2", ">=1.2.3||<1", "||"])
-}
-
 // A newline, a carriage return, a vertical tab, a form feed and U+00A0 are no blanks. U+0161 has the low byte of `a`.
 #[test]
 fn characters_that_are_no_blanks_and_no_letters(rt: HostRuntime) -> Result<(), Fail> {

@@ -43,7 +43,7 @@ const FIRST: &[u8] = b">=1.2.3 <2.0.0\n1.9.0\n";
 
 #[test]
 fn answers_the_first_two_lines_with_ample_memory(rt: HostRuntime) {
-    let rows: [(&[u8], &[u8]); 22] = [
+    let rows: [(&[u8], &[u8]); 24] = [
         (FIRST, b"yes\n"),
         (b">=1.2.3-rc.4 <2.0.0\n1.2.3-rc.5\n", b"yes\n"),
         (b">=1.2.3-rc.4 <2.0.0\n1.2.4-rc.6\n", b"no\n"),
@@ -55,6 +55,8 @@ fn answers_the_first_two_lines_with_ample_memory(rt: HostRuntime) {
         (b"~1.2\n1.3.0\n", b"no\n"),
         (b"1.2 - 2\n2.9.9\n", b"yes\n"),
         (b"latest\n1.2.3\n", b"bad range\n"),
+        (b"1 || 3\n3.0.0\n", b"yes\n"),
+        (b"1 || 3\n2.0.0\n", b"no\n"),
         // Fewer than two lines.
         (b"", b""),
         (b"\n", b""),

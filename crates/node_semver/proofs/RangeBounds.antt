@@ -1,11 +1,11 @@
 -- What the ends of a range always hold, from the words of its text to its sets.
-use Rattle.std.proofs.Common.{◌≡◌, ◌≢◌, ℕ, List, [], ◌∷◌, ◌++◌, Option, Some, None, refl, sym, subst, inr}
+use Rattle.std.proofs.Common.{◌≢◌, ℕ, List, [], ◌∷◌, ◌++◌, Option, Some, None, refl, sym, subst, inr}
 use Rattle.std.specs.List.{AllByRecursion}
 use Rattle.semver_cuts.specs.declared.cut.Cut.TheVariants.{Start}
 use Rattle.semver_cuts.specs.Ends.{Ends, HoldsCut, IsCutAtMost, IsCutBelow, IsInSpan}
 use Rattle.node_semver.specs.Comparator.{Comparator}
 use Rattle.node_semver.specs.Comparison.{version_cmp}
-use Rattle.node_semver.specs.Division.{AreAlternatives, AreLaterAlternatives, IsAlternative, IsDivision, IsWritten, comparators_of}
+use Rattle.node_semver.specs.Division.{AreAlternatives, AreLaterAlternatives, IsAlternative, IsDivision, comparators_of}
 use Rattle.node_semver.specs.Meaning.{GiveSet}
 use Rattle.node_semver.specs.Merging.{AreSetsOf, AreSetsOfText, IsSetOf, all_cuts, no_more, none, one_more}
 use Rattle.node_semver.specs.RangeSets.{IsRangeSet, IsRangeValue, IsReadCut}

@@ -1,5 +1,5 @@
 //! The sets of a range text: one for each alternative that gives one.
-ghost use Rattle.std.specs.Prelude.{◌≡◌, ◌++◌, IfOk, OnOk};
+ghost use Rattle.std.specs.Prelude.{◌≡◌, ◌≢◌, ◌++◌, [], IfOk, IfSome, OnOk};
 ghost use Rattle.node_semver.specs.Merging.{AreSetsOfText};
 ghost use Rattle.node_semver.specs.Private.RangeViews.{listed_set, sets_seen, some_sets_seen};
 
@@ -31,7 +31,8 @@ impl Sets {
 
 // The sets of a text, in the order of its alternatives, or `None` where no alternative gives one.
 pub(crate) fn read_sets(alloc: Global, text: &[u8]) -> Result<Option<Sets>, AllocError>
-    ensures { IfOk result (λ sets. AreSetsOfText text.now (some_sets_seen sets)) }
+    ensures sets { IfOk result (λ sets. AreSetsOfText text.now (some_sets_seen sets)) }
+    ensures some { IfOk result (λ sets. IfSome sets (λ some. sets_seen some ≢ [])) }
 {
     let (piece, mut left) = next_piece(text);
     let first = read_set(alloc, piece)?;

@@ -100,7 +100,9 @@ impl Range {
         ensures sets { result ≡ all_cuts ∷ [] }
         ensures holds { IsRangeValue result }
     {
-        Range { sets: Sets::One(Span::new(Cut::Start, Cut::End).unwrap()) }
+        Range {
+            sets: Sets::One(Span::new(Cut::Start, Cut::End).unwrap()),
+        }
     }
 
     /// Whether the range admits a version.

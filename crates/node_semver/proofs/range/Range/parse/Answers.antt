@@ -13,7 +13,7 @@ of-text : (bytes text : List ℕ) (read seen : Option Sets) → bytes ≡ text �
     → AreSetsOfText bytes (some_sets_seen read) → AreSetsOfText text (some_sets_seen seen)
 of-text bytes text read seen value same are =
     subst (λ (l : List ℕ). AreSetsOfText l (some_sets_seen seen)) value
-        (subst (λ (s : Option Sets). AreSetsOfText bytes (some_sets_seen s)) same are)
+    (subst (λ (s : Option Sets). AreSetsOfText bytes (some_sets_seen s)) same are)
 
 -- where there are sets, there is one at least
 some-sets : (read : Option Sets) (sets : Sets) → read ≡ Some sets → IfSome read (λ s. sets_seen s ≢ [])
@@ -24,38 +24,39 @@ some-sets read sets same some = subst (λ (s : Option Sets). IfSome s (λ s. set
 bounded : (bytes text : List ℕ) (read : Option Sets) (sets : Sets) → bytes ≡ text → read ≡ Some sets
     → AreSetsOfText bytes (some_sets_seen read) → IfSome read (λ s. sets_seen s ≢ []) → IsRangeValue (sets_seen sets)
 bounded bytes text read sets value same are some =
-    text-bounded text (sets_seen sets) (of-text bytes text read (Some sets) value same are) (some-sets read sets same some)
+    text-bounded text (sets_seen sets) (of-text bytes text read (Some sets) value same are)
+    (some-sets read sets same some)
 
 pub invariant_of-result : goal.invariant_of-result
 invariant_of-result c =
     bounded c.as_bytes.result.now c.args.text.now c.in-Ok.sets c.in-Some.sets c.as_bytes.ensures.value c.in-Some.is
-        c.in-Ok.ensures.sets c.in-Ok.ensures.some
+    c.in-Ok.ensures.sets c.in-Ok.ensures.some
 
 pub returns-in-Some-clause-holds : goal.returns-in-Some-clause-holds
 returns-in-Some-clause-holds c =
     bounded c.as_bytes.result.now c.args.text.now c.in-Ok.sets c.in-Some.sets c.as_bytes.ensures.value c.in-Some.is
-        c.in-Ok.ensures.sets c.in-Ok.ensures.some
+    c.in-Ok.ensures.sets c.in-Ok.ensures.some
 
 pub returns-in-Some-clause-accepted : goal.returns-in-Some-clause-accepted
 returns-in-Some-clause-accepted c = λ refused.
     some-sets c.in-Ok.sets c.in-Some.sets c.in-Some.is c.in-Ok.ensures.some
-        (empty-from_refused c.args.text.now (sets_seen c.in-Some.sets)
-        (of-text c.as_bytes.result.now c.args.text.now c.in-Ok.sets (Some c.in-Some.sets) c.as_bytes.ensures.value
-        c.in-Some.is c.in-Ok.ensures.sets) refused)
+    (empty-from_refused c.args.text.now (sets_seen c.in-Some.sets)
+    (of-text c.as_bytes.result.now c.args.text.now c.in-Ok.sets (Some c.in-Some.sets) c.as_bytes.ensures.value
+    c.in-Some.is c.in-Ok.ensures.sets) refused)
 
 pub returns-in-Some-clause-means : goal.returns-in-Some-clause-means
 returns-in-Some-clause-means c =
     text-admits c.args.text.now (sets_seen c.in-Some.sets)
-        (of-text c.as_bytes.result.now c.args.text.now c.in-Ok.sets (Some c.in-Some.sets) c.as_bytes.ensures.value
-        c.in-Some.is c.in-Ok.ensures.sets)
+    (of-text c.as_bytes.result.now c.args.text.now c.in-Ok.sets (Some c.in-Some.sets) c.as_bytes.ensures.value
+    c.in-Some.is c.in-Ok.ensures.sets)
 
 pub returns-in-None-clause-refused : goal.returns-in-None-clause-refused
 returns-in-None-clause-refused c = elim c.new.ensures [
   | inl memory ↦ inl memory
   | inr refusal ↦ inr (
-      refusal,
-      refused-from_empty c.args.text.now []
-          (of-text c.as_bytes.result.now c.args.text.now c.in-Ok.sets None c.as_bytes.ensures.value c.in-None.is
-          c.in-Ok.ensures.sets) refl,
-    )
+    refusal,
+    refused-from_empty c.args.text.now []
+        (of-text c.as_bytes.result.now c.args.text.now c.in-Ok.sets None c.as_bytes.ensures.value c.in-None.is
+        c.in-Ok.ensures.sets) refl,
+  )
 ]

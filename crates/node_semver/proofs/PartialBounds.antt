@@ -54,7 +54,7 @@ unmarked-read text p (one major same is) =
     subst IsReadPartial (sym same) (plain-read major None None (component-read text major is) tt tt)
 unmarked-read text p (two major minor same is) =
     subst IsReadPartial (sym same) (plain-read major minor None (component-read is.first major is.major_text)
-        (component-read is.second minor is.minor_text) tt)
+    (component-read is.second minor is.minor_text) tt)
 unmarked-read text p (three is) = record {
   major = component-read is.first p.major is.major_text;
   minor = component-read is.second p.minor is.minor_text;

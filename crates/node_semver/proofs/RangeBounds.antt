@@ -1,11 +1,11 @@
 -- What the ends of a range always hold, from the words of its text to its sets.
-use Rattle.std.proofs.Common.{◌≡◌, ◌≢◌, ℕ, List, [], ◌∷◌, ◌++◌, Option, Some, None, refl, sym, subst, inr}
+use Rattle.std.proofs.Common.{◌≢◌, ℕ, List, [], ◌∷◌, ◌++◌, Option, Some, None, refl, sym, subst, inr}
 use Rattle.std.specs.List.{AllByRecursion}
 use Rattle.semver_cuts.specs.declared.cut.Cut.TheVariants.{Start}
 use Rattle.semver_cuts.specs.Ends.{Ends, HoldsCut, IsCutAtMost, IsCutBelow, IsInSpan}
 use Rattle.node_semver.specs.Comparator.{Comparator}
 use Rattle.node_semver.specs.Comparison.{version_cmp}
-use Rattle.node_semver.specs.Division.{AreAlternatives, AreLaterAlternatives, IsAlternative, IsDivision, IsWritten, comparators_of}
+use Rattle.node_semver.specs.Division.{AreAlternatives, AreLaterAlternatives, IsAlternative, IsDivision, comparators_of}
 use Rattle.node_semver.specs.Meaning.{GiveSet}
 use Rattle.node_semver.specs.Merging.{AreSetsOf, AreSetsOfText, IsSetOf, all_cuts, no_more, none, one_more}
 use Rattle.node_semver.specs.RangeSets.{IsRangeSet, IsRangeValue, IsReadCut}
@@ -14,7 +14,8 @@ use Rattle.node_semver.proofs.WordBounds.{IsReadEnds, IsReadWord, word-bounded}
 
 -- ---- alternatives
 
-words-bounded : (text : List ℕ) (words : List (Option Comparator)) → IsDivision text words → AllByRecursion IsReadWord words
+words-bounded : (text : List ℕ) (words : List (Option Comparator)) → IsDivision text words
+    → AllByRecursion IsReadWord words
 words-bounded text [] d = absurd d
 words-bounded text (w ∷ []) d = (word-bounded text [] w d, tt)
 words-bounded text (w ∷ x ∷ words) d =
@@ -36,8 +37,8 @@ alternative-bounded text comparators is =
 abbrev pub IsReadAlternative : List Comparator → Type 0
 IsReadAlternative comparators = AllByRecursion IsReadEnds comparators
 
-later-bounded : (pieces : List (List ℕ)) (alternatives : List (List Comparator)) → AreLaterAlternatives pieces alternatives
-    → AllByRecursion IsReadAlternative alternatives
+later-bounded : (pieces : List (List ℕ)) (alternatives : List (List Comparator))
+    → AreLaterAlternatives pieces alternatives → AllByRecursion IsReadAlternative alternatives
 later-bounded [] [] are = tt
 later-bounded [] (a ∷ alternatives) are = absurd are
 later-bounded (piece ∷ pieces) [] are = tt
@@ -54,7 +55,8 @@ all-bounded (piece ∷ pieces) (a ∷ alternatives) are =
 -- ---- sets
 
 -- what all elements are, each of them is
-all-of : {X : Type 0} (P : X → Type 0) (before : List X) (x : X) (after : List X) → AllByRecursion P (before ++ x ∷ after) → P x
+all-of : {X : Type 0} (P : X → Type 0) (before : List X) (x : X) (after : List X)
+    → AllByRecursion P (before ++ x ∷ after) → P x
 all-of P [] x after all = all.0
 all-of P (y ∷ before) x after all = all-of P before x after all.1
 
@@ -65,9 +67,9 @@ set-holds comparators set gives is =
     let cut = gives.common.0 in
     let Within = λ (c : Comparator). IsInSpan version_cmp c cut in
     let low : IsInSpan version_cmp is.lower.span cut = all-of Within is.lower.before is.lower.span is.lower.after
-        (subst (AllByRecursion Within) is.lower.parts gives.common.1) in
+    (subst (AllByRecursion Within) is.lower.parts gives.common.1) in
     let high : IsInSpan version_cmp is.upper.span cut = all-of Within is.upper.before is.upper.span is.upper.after
-        (subst (AllByRecursion Within) is.upper.parts gives.common.1) in (
+    (subst (AllByRecursion Within) is.upper.parts gives.common.1) in (
       cut,
       record {
         lower = subst (λ c. IsCutAtMost version_cmp c cut) is.lower.end_of low.lower;
@@ -76,13 +78,13 @@ set-holds comparators set gives is =
     )
 
 -- the set of such comparators is one that a range can have
-pub set-bounded : (comparators : List Comparator) (set : Ends VersionValue) → GiveSet comparators → IsSetOf comparators set
-    → IsReadAlternative comparators → IsRangeSet set
+pub set-bounded : (comparators : List Comparator) (set : Ends VersionValue) → GiveSet comparators
+    → IsSetOf comparators set → IsReadAlternative comparators → IsRangeSet set
 set-bounded comparators set gives is read =
     let low : IsReadEnds is.lower.span = all-of IsReadEnds is.lower.before is.lower.span is.lower.after
-        (subst (AllByRecursion IsReadEnds) is.lower.parts read) in
+    (subst (AllByRecursion IsReadEnds) is.lower.parts read) in
     let high : IsReadEnds is.upper.span = all-of IsReadEnds is.upper.before is.upper.span is.upper.after
-        (subst (AllByRecursion IsReadEnds) is.upper.parts read) in
+    (subst (AllByRecursion IsReadEnds) is.upper.parts read) in
     record {
       holds = set-holds comparators set gives is;
       lower = subst IsReadCut is.lower.end_of low.lower;
@@ -90,8 +92,8 @@ set-bounded comparators set gives is read =
     }
 
 -- so are the sets of such alternatives
-pub sets-bounded : (alternatives : List (List Comparator)) (sets : List (Ends VersionValue)) → AreSetsOf alternatives sets
-    → AllByRecursion IsReadAlternative alternatives → AllByRecursion IsRangeSet sets
+pub sets-bounded : (alternatives : List (List Comparator)) (sets : List (Ends VersionValue))
+    → AreSetsOf alternatives sets → AllByRecursion IsReadAlternative alternatives → AllByRecursion IsRangeSet sets
 sets-bounded [] [] none all = tt
 sets-bounded [] (s ∷ sets) are all = elim are [ ]
 sets-bounded (a ∷ alternatives) (s ∷ sets) (one_more _ _ _ _ gives is more) all =
@@ -99,7 +101,8 @@ sets-bounded (a ∷ alternatives) (s ∷ sets) (one_more _ _ _ _ gives is more) 
 sets-bounded (a ∷ alternatives) sets (no_more _ _ _ nothing more) all = sets-bounded alternatives sets more all.1
 
 -- the sets of a text, where there are any, are what a range holds
-pub text-bounded : (text : List ℕ) (sets : List (Ends VersionValue)) → AreSetsOfText text sets → sets ≢ [] → IsRangeValue sets
+pub text-bounded : (text : List ℕ) (sets : List (Ends VersionValue)) → AreSetsOfText text sets → sets ≢ []
+    → IsRangeValue sets
 text-bounded text sets are some =
     let written = are.written in
     record {

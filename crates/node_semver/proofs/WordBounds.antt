@@ -43,14 +43,15 @@ below-read v a = record { lower = tt; upper = a }
 major-read : (major : ℕ) → major ≤ MAX_SAFE_INTEGER → IsReadEnds (with_major major)
 major-read major a =
     from_up_to-read (release major 0 0) (least_of (major + 1) 0 0)
-        (release-read major 0 0 (omega arith) (omega arith) (omega arith))
-        (least-read (major + 1) 0 0 (omega arith) (omega arith) (omega arith))
+    (release-read major 0 0 (omega arith) (omega arith) (omega arith))
+    (least-read (major + 1) 0 0 (omega arith) (omega arith) (omega arith))
 
-minor-read : (major minor : ℕ) → major ≤ MAX_SAFE_INTEGER → minor ≤ MAX_SAFE_INTEGER → IsReadEnds (with_minor major minor)
+minor-read : (major minor : ℕ) → major ≤ MAX_SAFE_INTEGER → minor ≤ MAX_SAFE_INTEGER
+    → IsReadEnds (with_minor major minor)
 minor-read major minor a b =
     from_up_to-read (release major minor 0) (least_of major (minor + 1) 0)
-        (release-read major minor 0 (omega arith) (omega arith) (omega arith))
-        (least-read major (minor + 1) 0 (omega arith) (omega arith) (omega arith))
+    (release-read major minor 0 (omega arith) (omega arith) (omega arith))
+    (least-read major (minor + 1) 0 (omega arith) (omega arith) (omega arith))
 
 -- ---- the tables
 
@@ -106,7 +107,7 @@ tilde-read : (major minor patch : Option ℕ) (z : VersionValue) → IsReadCompo
     → IsReadVersion z → IsReadWord (tilde_row major minor patch z)
 tilde-read (Some major) (Some minor) (Some patch) z a b v =
     from_up_to-read (without_build z) (least_of major (minor + 1) 0) (without_build-read z v)
-        (least-read major (minor + 1) 0 (omega arith) (omega arith) (omega arith))
+    (least-read major (minor + 1) 0 (omega arith) (omega arith) (omega arith))
 tilde-read (Some major) (Some minor) None z a b v = minor-read major minor a b
 tilde-read (Some major) None None z a b v = major-read major a
 tilde-read (Some major) None (Some patch) z a b v = tt
@@ -116,7 +117,7 @@ tilde_greater-read : (major minor patch : Option ℕ) (z : VersionValue) → IsR
     → IsReadVersion z → IsReadWord (tilde_greater_row major minor patch z)
 tilde_greater-read (Some major) (Some minor) None z a b v =
     from_up_to-read (without_build z) (least_of major (minor + 1) 0) (without_build-read z v)
-        (least-read major (minor + 1) 0 (omega arith) (omega arith) (omega arith))
+    (least-read major (minor + 1) 0 (omega arith) (omega arith) (omega arith))
 tilde_greater-read (Some major) (Some minor) (Some patch) z a b v =
     tilde-read (Some major) (Some minor) (Some patch) z a b v
 tilde_greater-read (Some major) None patch z a b v = tilde-read (Some major) None patch z a b v
@@ -129,21 +130,21 @@ caret-read (Some zero) None None z a b c v = below-read (least_of 1 0 0)
 caret-read (Some (suc major)) None None z a b c v = major-read (suc major) a
 caret-read (Some zero) (Some minor) None z a b c v =
     from_up_to-read (release 0 minor 0) (least_of 0 (minor + 1) 0)
-        (release-read 0 minor 0 (omega arith) (omega arith) (omega arith))
-        (least-read 0 (minor + 1) 0 (omega arith) (omega arith) (omega arith))
+    (release-read 0 minor 0 (omega arith) (omega arith) (omega arith))
+    (least-read 0 (minor + 1) 0 (omega arith) (omega arith) (omega arith))
 caret-read (Some (suc major)) (Some minor) None z a b c v =
     from_up_to-read (release (suc major) minor 0) (least_of (suc major + 1) 0 0)
-        (release-read (suc major) minor 0 (omega arith) (omega arith) (omega arith))
-        (least-read (suc major + 1) 0 0 (omega arith) (omega arith) (omega arith))
+    (release-read (suc major) minor 0 (omega arith) (omega arith) (omega arith))
+    (least-read (suc major + 1) 0 0 (omega arith) (omega arith) (omega arith))
 caret-read (Some zero) (Some zero) (Some patch) z a b c v =
     from_up_to-read (without_build z) (least_of 0 0 (patch + 1)) (without_build-read z v)
-        (least-read 0 0 (patch + 1) (omega arith) (omega arith) (omega arith))
+    (least-read 0 0 (patch + 1) (omega arith) (omega arith) (omega arith))
 caret-read (Some zero) (Some (suc minor)) (Some patch) z a b c v =
     from_up_to-read (without_build z) (least_of 0 (suc minor + 1) 0) (without_build-read z v)
-        (least-read 0 (suc minor + 1) 0 (omega arith) (omega arith) (omega arith))
+    (least-read 0 (suc minor + 1) 0 (omega arith) (omega arith) (omega arith))
 caret-read (Some (suc major)) (Some minor) (Some patch) z a b c v =
     from_up_to-read (without_build z) (least_of (suc major + 1) 0 0) (without_build-read z v)
-        (least-read (suc major + 1) 0 0 (omega arith) (omega arith) (omega arith))
+    (least-read (suc major + 1) 0 0 (omega arith) (omega arith) (omega arith))
 caret-read (Some zero) None (Some patch) z a b c v = tt
 caret-read (Some (suc major)) None (Some patch) z a b c v = tt
 caret-read None minor patch z a b c v = tt
@@ -181,7 +182,7 @@ tilde-word text c (with_tilde p led says) =
 tilde-word text c (with_tilde_greater blanks p blank led says) =
     let is = led-read _ text p led in
     subst IsReadWord (sym says)
-        (tilde_greater-read p.major p.minor p.patch (zeroed p) is.major is.minor (zeroed-read p is))
+    (tilde_greater-read p.major p.minor p.patch (zeroed p) is.major is.minor (zeroed-read p is))
 
 simple-word : (text : List ℕ) (c : Option Comparator) → IsSimpleText text c → IsReadWord c
 simple-word text c (by_operator w) =
@@ -195,7 +196,7 @@ simple-word text c (by_caret w) =
     let p = w.partial in
     let is = led-read _ text p w.written in
     subst IsReadWord (sym w.says)
-        (caret-read p.major p.minor p.patch (zeroed p) is.major is.minor is.patch (zeroed-read p is))
+    (caret-read p.major p.minor p.patch (zeroed p) is.major is.minor is.patch (zeroed-read p is))
 
 pub word-bounded : (word rest : List ℕ) (c : Option Comparator) → IsWord word rest c → IsReadWord c
 word-bounded word rest c (hyphen_range is clean) = hyphen-word word c is

@@ -15,5 +15,5 @@ returns-then-admits c =
 pub loop-set-preserved : goal.loop-set-preserved
 loop-set-preserved c =
     none-more (λ set. SetAdmits set c.args.version.now) c.args.sets.now c.loop-set.set-index c.set-item.result
-        c.loop-set-test.true c.set-item.is c.loop-set.invariant
-        (λ admits. cc (c.if-admits.false, c.admits.ensures.1 admits))
+    c.loop-set-test.true c.set-item.is c.loop-set.invariant
+    (λ admits. cc (c.if-admits.false, c.admits.ensures.1 admits))

@@ -1,7 +1,6 @@
 -- The sets of a text that is one word and no hyphen range: the set between the ends of its comparator, or none.
 use Rattle.std.proofs.Common.{◌≡◌, ℕ, List, [], ◌∷◌, Option, Some, None, refl, sym, subst}
 use Rattle.std.specs.Prelude.{IfSome, IsSome, ◌↔◌}
-use Rattle.std.specs.Option.{IsSomeAnd, MatchOption}
 use Rattle.semver_cuts.specs.declared.cut.Cut.{Cut}
 use Rattle.semver_cuts.specs.Ends.{Ends, HoldsCut, span_between}
 use Rattle.node_semver.specs.Comparator.{Comparator}
@@ -11,9 +10,7 @@ use Rattle.node_semver.specs.Meaning.{GiveSet}
 use Rattle.node_semver.specs.Merging.{AreSetsOf, AreSetsOfText, IsSetOf, no_more, none, one_more}
 use Rattle.node_semver.specs.Version.{VersionValue}
 use Rattle.node_semver.proofs.Merging.{set-one}
-use Rattle.node_semver.specs.Private.RangeViews.{IsOnlyComparator, listed_set, some_sets_seen}
-use Rattle.node_semver.specs.declared.range.sets.Sets.{Sets}
-use Rattle.node_semver.specs.declared.range.sets.Sets.TheVariants.{One}
+use Rattle.node_semver.specs.Private.RangeViews.{IsOnlyComparator, listed_set}
 
 -- one comparator gives a set where a cut lies in it
 one-gives : (c : Comparator) → HoldsCut version_cmp c → GiveSet (c ∷ [])

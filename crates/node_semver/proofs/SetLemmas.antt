@@ -1,11 +1,11 @@
 -- The sets of a text: one list for each text, empty exactly where it is refused, and admitting what the text admits.
-use Rattle.std.proofs.Common.{◌≡◌, ◌≢◌, ◌↔◌, ◌∙◌, ℕ, List, [], ◌∷◌, ◌++◌, Option, Some, None, refl, sym, ap, subst, inl, inr}
+use Rattle.std.proofs.Common.{◌≡◌, ◌↔◌, ◌∙◌, ℕ, List, [], ◌∷◌, ◌++◌, Option, refl, sym, ap, subst, inl, inr}
 use Rattle.std.proofs.lemmas.List.{append-nil}
 use Rattle.semver_cuts.specs.declared.cut.Cut.TheVariants.{Before}
 use Rattle.semver_cuts.specs.Ends.{Ends}
 use Rattle.node_semver.specs.Comparator.{Comparator}
-use Rattle.node_semver.specs.Division.{IsAlternative, IsWritten}
-use Rattle.node_semver.specs.Meaning.{Admit, AnyByRecursion, GiveSet, IsRefused, RangeAdmits, TextAdmits}
+use Rattle.node_semver.specs.Division.{IsAlternative}
+use Rattle.node_semver.specs.Meaning.{AnyByRecursion, GiveSet, IsRefused, RangeAdmits, TextAdmits}
 use Rattle.node_semver.specs.Merging.{AreSetsOf, AreSetsOfText, IsSetOf, no_more, none, one_more}
 use Rattle.node_semver.specs.Version.{VersionValue}
 use Rattle.node_semver.specs.Private.RangeViews.{IsSetOfAlternative, given, listed_set, not_given}

@@ -3,7 +3,7 @@ ghost use Rattle.std.specs.Prelude.{◌≡◌, ℕ, List};
 ghost use Rattle.semver_cuts.specs.Ends.{Ends};
 ghost use Rattle.node_semver.specs.declared.TheConstants.{MAX_LENGTH, MAX_SAFE_INTEGER};
 ghost use Rattle.node_semver.specs.Comparator.{Comparator};
-ghost use Rattle.node_semver.specs.Merging.{AdmitsTheSame, HasOneSet, IsSetOf, LosesNothing};
+ghost use Rattle.node_semver.specs.Merging.{AdmitsTheSame, HasOneMerging, HasOneSet, IsSetOf, LosesNothing};
 ghost use Rattle.node_semver.specs.Version.{VersionValue};
 ghost use Rattle.node_semver.specs.VersionLaws.{HasOneFault, HasOneReading, IsNeverBoth, IsReadOrFaulty};
 ghost use Rattle.node_semver.specs.RangeLaws.{HasWriting, IsOneHyphenRange, IsOnePartial, IsOneSimpleWord, IsWrittenOneWay};
@@ -68,4 +68,9 @@ pub fn merging_loses_nothing()
         IsSetOf comparators set → LosesNothing comparators set v }
     ensures admits { (comparators : List Comparator) (set : Ends VersionValue) (v : VersionValue) →
         IsSetOf comparators set → AdmitsTheSame comparators set v }
+{}
+
+/// A text writes one list of sets, versions and builds of their ends included.
+pub fn a_text_writes_one_list_of_sets()
+    ensures { (text : List ℕ) → HasOneMerging text }
 {}

@@ -13,10 +13,9 @@ mod line;
 mod pieces;
 mod sets;
 
-pub use equality::ranges_are_equal_where_their_cuts_are;
-
 use crate::set::admits;
 use crate::{SemverError, SemverErrorKind, Version};
+pub use equality::ranges_are_equal_where_their_cuts_are;
 use semver_cuts::{Cut, Span};
 use sets::{Sets, read_sets};
 use std::alloc::Global;
@@ -126,7 +125,9 @@ impl Range {
         ensures all { result ≡ all_cuts ∷ [] }
         ensures holds { IsRangeValue result }
     {
-        Range { sets: Sets::One(Span::new(Cut::Start, Cut::End).unwrap()) }
+        Range {
+            sets: Sets::One(Span::new(Cut::Start, Cut::End).unwrap()),
+        }
     }
 
     /// Whether the range admits a version.

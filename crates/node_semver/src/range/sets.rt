@@ -72,7 +72,11 @@ fn read_alternatives(alloc: Global, text: &[u8]) -> Result<Option<Sets>, AllocEr
         keep(&mut sets, read_set(alloc, skip_blanks(piece))?)?;
         left = others;
     }
-    if sets.is_empty() { Ok(None) } else { Ok(Some(Sets::Many(sets))) }
+    if sets.is_empty() {
+        Ok(None)
+    } else {
+        Ok(Some(Sets::Many(sets)))
+    }
 }
 
 // The list of one set, or none.

@@ -78,6 +78,6 @@ returns c =
     let done = c.loop-rest.invariant.done in (
       done,
       completes-end c.args.text.now done
-      (subst (λ (l : List ℕ). Completes c.args.text.now done l) none c.loop-rest.invariant.read),
+          (subst (λ (l : List ℕ). Completes c.args.text.now done l) none c.loop-rest.invariant.read),
       c.loop-rest.invariant.are_merged,
     )

@@ -26,7 +26,7 @@ one-read : (text piece : List ℕ) (left : Option (List ℕ)) (set : Option (End
 one-read text piece left set divided none_left is_set =
     let read = reads-set piece [] [] set none is_set in
     let reads = reads-start text piece None read.comparators
-        (sym divided ∙ ap (λ (l : Option (List ℕ)). (piece, l)) none_left) read.alternative in
+    (sym divided ∙ ap (λ (l : Option (List ℕ)). (piece, l)) none_left) read.alternative in
     record { alternatives = read.comparators ∷ []; written = reads-end text (read.comparators ∷ []) reads; merged = read.merged }
 
 -- all alternatives
@@ -50,16 +50,16 @@ loop-left-init c =
     let text = c.args.text.now in
     let read = reads-set c.next_piece.result.0.now [] [] c.in_ok-first.first none c.in_ok-first.ensures in
     let reads = reads-start text c.next_piece.result.0.now (some_seen c.next_piece.result.1) read.comparators
-        (sym c.next_piece.ensures) read.alternative in
+    (sym c.next_piece.ensures) read.alternative in
     let same : c.keep.new.sets.items ≡ listed_set c.in_ok-first.first =
-        c.in_ok-keep.ensures ∙ ap (λ (l : List (Ends VersionValue)). l ++ listed_set c.in_ok-first.first) c.new-sets.ensures.items in
+    c.in_ok-keep.ensures ∙ ap (λ (l : List (Ends VersionValue)). l ++ listed_set c.in_ok-first.first) c.new-sets.ensures.items in
     (read.comparators ∷ [], reads, subst (AreSetsOf (read.comparators ∷ [])) (sym same) read.merged)
 
 pub loop-left-smaller : goal.loop-left-smaller
 loop-left-smaller c =
     let left : some_seen c.loop-left.left ≡ Some c.in-Some.rest.now = ap some_seen c.in-Some.is in
     let shorter = left-shorter c.in-Some.rest.now c.next_piece-in-Some.result.0.now (some_seen c.next_piece-in-Some.result.1)
-        (sym c.next_piece-in-Some.ensures) in
+    (sym c.next_piece-in-Some.ensures) in
     subst (λ (l : Option (List ℕ)). left_length (some_seen c.next_piece-in-Some.result.1) < left_length l) (sym left) shorter
 
 pub loop-left-preserved : goal.loop-left-preserved
@@ -71,10 +71,10 @@ loop-left-preserved c =
     let left : some_seen c.loop-left.left ≡ Some c.in-Some.rest.now = ap some_seen c.in-Some.is in
     let reads : Reads text done (Some c.in-Some.rest.now) = subst (Reads text done) left c.loop-left.invariant.1 in
     let is_set : IsSetOfAlternative (rest_of is_blank piece) set =
-        subst (λ (l : List ℕ). IsSetOfAlternative l set) c.skip_blanks.ensures c.in_ok-read_set.ensures in
+    subst (λ (l : List ℕ). IsSetOfAlternative l set) c.skip_blanks.ensures c.in_ok-read_set.ensures in
     let read = reads-set (rest_of is_blank piece) done c.loop-left.sets.items set c.loop-left.invariant.2 is_set in
     let next = reads-more text done c.in-Some.rest.now piece (some_seen c.next_piece-in-Some.result.1) read.comparators
-        reads (sym c.next_piece-in-Some.ensures) read.alternative in
+    reads (sym c.next_piece-in-Some.ensures) read.alternative in
     (done ++ read.comparators ∷ [], next, subst (AreSetsOf (done ++ read.comparators ∷ [])) (sym c.in_ok-keep-2.ensures) read.merged)
 
 pub returns-then-is_empty-clause-of_text : goal.returns-then-is_empty-clause-of_text

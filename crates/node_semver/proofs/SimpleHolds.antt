@@ -124,10 +124,10 @@ caret-holds (Some (suc major)) (Some minor) None z has =
     major-less (release (suc major) minor 0) (suc major + 1) 0 0 (omega arith)
 caret-holds (Some zero) (Some zero) (Some patch) z has =
     patch-less (without_build z) 0 0 (patch + 1) has.major has.minor
-        (let e : z.patch ≡ patch = has.patch in omega arith)
+    (let e : z.patch ≡ patch = has.patch in omega arith)
 caret-holds (Some zero) (Some (suc minor)) (Some patch) z has =
     minor-less (without_build z) 0 (suc minor + 1) 0 has.major
-        (let e : z.minor ≡ suc minor = has.minor in omega arith)
+    (let e : z.minor ≡ suc minor = has.minor in omega arith)
 caret-holds (Some (suc major)) (Some minor) (Some patch) z has =
     major-less (without_build z) (suc major + 1) 0 0 (let e : z.major ≡ suc major = has.major in omega arith)
 caret-holds (Some zero) None (Some patch) z has = tt
@@ -153,5 +153,6 @@ simple-word text c (by_caret w) =
     subst AreWordsInOrder (sym w.says) (caret-holds p.major p.minor p.patch (zeroed p) (numbers p))
 
 -- the comparator of a word that is no hyphen range holds a cut
-pub simple-below : (text : List ℕ) (c : Comparator) → IsSimpleText text (Some c) → IsCutBelow version_cmp c.lower c.upper
+pub simple-below : (text : List ℕ) (c : Comparator) → IsSimpleText text (Some c)
+    → IsCutBelow version_cmp c.lower c.upper
 simple-below text c is = simple-word text (Some c) is

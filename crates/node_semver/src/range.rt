@@ -125,7 +125,9 @@ impl Range {
         ensures all { result ≡ all_cuts ∷ [] }
         ensures holds { IsRangeValue result }
     {
-        Range { sets: Sets::One(Span::new(Cut::Start, Cut::End).unwrap()) }
+        Range {
+            sets: Sets::One(Span::between(Cut::Start, Cut::End)),
+        }
     }
 
     /// Whether the range admits a version.

@@ -42,6 +42,7 @@ pub mod RangeText
 pub mod SetComputing
 pub mod SetExamples
 pub mod SetLemmas
+pub mod SimpleHolds
 pub mod SimpleReading
 pub mod SomeElement
 pub mod VersionParse

@@ -14,6 +14,7 @@ use Rattle.node_semver.specs.declared.word.ends.Ends.{Ends as CodeEnds}
 use Rattle.node_semver.proofs.HyphenReading.{right-none}
 use Rattle.node_semver.proofs.LeadReading.{lead-not_partial, lead-plain}
 use Rattle.node_semver.proofs.NoBars.{simple-no_bars}
+use Rattle.node_semver.proofs.SimpleHolds.{simple-below}
 use Rattle.node_semver.proofs.SimpleReading.{TakesSimple, simple-takes}
 use Rattle.node_semver.proofs.WordLemmas.{blank-lead, hyphen-with_left, no-hyphen, right-no_blank}
 use Rattle.node_semver.proofs.WordViews.{lead-cases}
@@ -77,6 +78,7 @@ only-taken text c none t =
         kept = refl;
       };
       no_bars = simple-no_bars text (Some c) (subst (λ (l : List ℕ). IsSimpleText l (Some c)) taken t.read);
+      below = simple-below t.taken c t.read;
     }
 
 -- what a lead and a partial make, where nothing is left

@@ -126,7 +126,7 @@ impl Range {
         ensures holds { IsRangeValue result }
     {
         Range {
-            sets: Sets::One(Span::new(Cut::Start, Cut::End).unwrap()),
+            sets: Sets::One(Span::between(Cut::Start, Cut::End)),
         }
     }
 

@@ -64,6 +64,23 @@ impl<T: Ord + Drop> Span<T> {
 }
 
 impl<T: Ord> Span<T> {
+    /// The span between two cuts of which the first is less than the second, which is not looked at.
+    ///
+    /// # Memory
+    ///
+    /// Takes none.
+    ///
+    /// # Examples
+    ///
+    /// From `Before(3)` up to `After(3)` it contains 3, as the one that [`Span::new`] gives.
+    #[inline(always)]
+    pub fn between(lower: Cut<T>, upper: Cut<T>) -> Span<T>
+        requires { IsCutBelow T.cmp lower upper }
+        ensures { result ≡ span_between lower upper }
+    {
+        Span { lower, upper }
+    }
+
     /// The least cut of the span: `Before(3)` of `Before(3)` up to `After(5)`.
     ///
     /// # Memory

@@ -1,7 +1,8 @@
 -- What the private functions that make the sets of a range do.
 use Rattle.std.specs.Prelude.{◌≡◌, ℕ, List, [], ◌∷◌, Option, Some, None}
-use Rattle.semver_cuts.specs.Ends.{Ends}
+use Rattle.semver_cuts.specs.Ends.{Ends, IsCutBelow}
 use Rattle.node_semver.specs.Comparator.{Comparator}
+use Rattle.node_semver.specs.Comparison.{version_cmp}
 use Rattle.node_semver.specs.Division.{HasBars, IsAlternative}
 use Rattle.node_semver.specs.Meaning.{GiveSet}
 use Rattle.node_semver.specs.Merging.{IsSetOf}
@@ -25,10 +26,11 @@ pub data IsSetOfAlternative (text : List ℕ) (set : Option (Ends VersionValue))
   not_given : (comparators : List Comparator) → IsAlternative text comparators → ¬ GiveSet comparators → set ≡ None
       → IsSetOfAlternative text set
 
--- the text is one alternative, which is all of the range, and it has one comparator: `^1.2.3`
+-- the text is one alternative, which is all of the range, and it has one comparator, which holds a cut: `^1.2.3`
 pub record IsOnlyComparator (text : List ℕ) (comparator : Comparator) : Type 0 where
   pub alternative : IsAlternative text (comparator ∷ [])
   pub no_bars : ¬ HasBars text
+  pub below : IsCutBelow version_cmp comparator.lower comparator.upper
 
 -- a list of the set, or of none
 abbrev pub listed_set : Option (Ends VersionValue) → List (Ends VersionValue)

@@ -50,6 +50,24 @@ fn makes_a_span_where_a_cut_lies_between(rt: HostRuntime) {
     }
 }
 
+#[test]
+fn makes_a_span_between_two_cuts(rt: HostRuntime) {
+    let cases = [
+        (Span::between(Cut::Start, Cut::End), 0usize, 5usize),
+        (Span::between(Cut::Before(3), Cut::After(3)), 1, 2),
+        (Span::between(Cut::After(3), Cut::Before(5)), 2, 3),
+    ];
+    for (span, i, j) in &cases {
+        assert_eq!(rt; span.lower(), &cut_at(*i), "{span:?}");
+        assert_eq!(rt; span.upper(), &cut_at(*j), "{span:?}");
+        assert_eq!(rt;
+            Some(span),
+            Span::new(cut_at(*i), cut_at(*j)).as_ref(),
+            "{span:?}"
+        );
+    }
+}
+
 // From `Before(3)` to `After(5)` lie 3, 4 and 5, and from `After(3)` to `Before(5)` only 4.
 #[test]
 fn contains_the_values_between_its_ends(rt: HostRuntime) {

@@ -229,3 +229,10 @@ extras-again text rest prerelease build h ends =
     let e : text ++ rest ≡ h.prefix ++ (h.rest ++ rest) = ap (λ (l : List ℕ). l ++ rest) h.whole
     ∙ append_assoc h.prefix h.rest rest in
     rw (e, p, b) refl
+
+-- ---- nothing
+
+-- no extras are read of nothing
+pub no_extras : read_extras [] ≡ (([], []), [])
+unfolding read_extras read_prerelease read_build skip_one skip_plus
+no_extras = refl

@@ -9,8 +9,6 @@ use Rattle.node_semver.specs.HyphenRanges.{IsHyphenText}
 use Rattle.node_semver.specs.PartialText.{Partial}
 use Rattle.node_semver.specs.Private.RangeViews.{IsOnlyComparator}
 use Rattle.node_semver.specs.Private.WordReading.{Lead, lead_comparator, no_lead, read_hyphen, read_lead, read_partial, read_right, read_simple, with_left}
-use Rattle.node_semver.specs.Private.WordViews.{ends_seen, some_ends_seen}
-use Rattle.node_semver.specs.declared.word.ends.Ends.{Ends as CodeEnds}
 use Rattle.node_semver.proofs.HyphenReading.{right-none}
 use Rattle.node_semver.proofs.LeadReading.{lead-not_partial, lead-plain}
 use Rattle.node_semver.proofs.NoBars.{simple-no_bars}
@@ -82,12 +80,11 @@ only-taken text c none t =
     }
 
 -- what a lead and a partial make, where nothing is left
-pub only-word : (text operand : List ℕ) (l : Lead) (p : Partial) (found : Option CodeEnds)
-    → (l, operand) ≡ read_lead text → Some (p, []) ≡ read_partial operand
-    → some_ends_seen found ≡ lead_comparator l p
-    → IfSome found (λ ends. IsOnlyComparator text (ends_seen ends))
+pub only-word : (text operand : List ℕ) (l : Lead) (p : Partial) (found : Option Comparator)
+    → (l, operand) ≡ read_lead text → Some (p, []) ≡ read_partial operand → found ≡ lead_comparator l p
+    → IfSome found (IsOnlyComparator text)
 only-word text operand l p None led read found = tt
-only-word text operand l p (Some ends) led read found =
-    only-taken text (ends_seen ends) (only-no_hyphen text operand l p led read)
-    (simple-takes text (Some (ends_seen ends)) []
-    (only-simple text operand l p led read ∙ ap (λ (c : Option Comparator). Some (c, [])) (sym found)))
+only-word text operand l p (Some c) led read found =
+    only-taken text c (only-no_hyphen text operand l p led read)
+    (simple-takes text (Some c) []
+    (only-simple text operand l p led read ∙ ap (λ (o : Option Comparator). Some (o, [])) (sym found)))

@@ -1,5 +1,5 @@
 //! Ranges: which versions a text asks for.
-ghost use Rattle.std.specs.Prelude.{◌≡◌, ◌⊎◌, ◌↔◌, [], ◌∷◌, IfErr, IfOk, IsTrue, OnOk};
+ghost use Rattle.std.specs.Prelude.{◌≡◌, ◌≢◌, ◌⊎◌, ◌↔◌, [], ◌∷◌, IfErr, IfOk, IsTrue, OnOk};
 ghost use Rattle.node_semver.specs.Error.{IsOutOfMemory, IsRefusalAt, no_valid_ranges};
 ghost use Rattle.node_semver.specs.Meaning.{IsRefused, RangeAdmits, TextAdmits};
 ghost use Rattle.node_semver.specs.Merging.{AreSetsOfText, all_cuts};
@@ -14,6 +14,7 @@ mod pieces;
 mod sets;
 
 use crate::set::admits;
+use crate::word::read_only_word;
 use crate::{SemverError, SemverErrorKind, Version};
 pub use equality::ranges_are_equal_where_their_cuts_are;
 use semver_cuts::{Cut, Span};
@@ -96,12 +97,15 @@ impl Range {
         ensures sets { IfOk result (λ r. AreSetsOfText text.now r) }
         ensures holds { IfOk result IsRangeValue }
     {
-        let Ok(sets) = read_sets(alloc, text.as_bytes()) else {
-            return Err(SemverError::out_of_memory(alloc));
-        };
-        match sets {
-            Some(sets) => Ok(Range { sets }),
-            None => Err(SemverError::new(alloc, text, 0, SemverErrorKind::NoValidRanges)),
+        let only = read_only_word(text.as_bytes());
+        if !only.is_plain() {
+            return read_range(alloc, text);
+        }
+        match only.plain_set(alloc) {
+            Ok(set) => Ok(Range {
+                sets: Sets::One(set),
+            }),
+            Err(_) => Err(SemverError::out_of_memory(alloc)),
         }
     }
 
@@ -168,6 +172,26 @@ impl Version {
         ensures { IsTrue result ↔ RangeAdmits range.now self.now }
     {
         range.satisfies(self)
+    }
+}
+
+// Alternative after alternative.
+#[inline(never)]
+fn read_range(alloc: Global, text: &str) -> Result<Range, SemverError>
+    ensures refused { IfErr result (λ e.
+        IsOutOfMemory e ⊎ (IsRefusalAt text.now no_valid_ranges 0 e × IsRefused text.now)) }
+    ensures sets { IfOk result (λ r. AreSetsOfText text.now r) }
+    ensures some { IfOk result (λ r. r ≢ []) }
+{
+    let Ok(sets) = read_sets(alloc, text.as_bytes()) else {
+        return Err(SemverError::out_of_memory(alloc));
+    };
+    match sets {
+        Some(sets) => Ok(Range { sets }),
+        None => {
+            let kind = SemverErrorKind::NoValidRanges;
+            Err(SemverError::new(alloc, text, 0, kind))
+        }
     }
 }
 

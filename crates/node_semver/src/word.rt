@@ -14,7 +14,7 @@ mod plain;
 mod tilde;
 
 use crate::parse::{Partial, begins_clean, read_partial, skip_solid};
-pub(crate) use ends::Ends;
+pub(crate) use ends::{Ends, nothing};
 pub(crate) use hyphen::read_leading_hyphen;
 use hyphen::{hyphen_ends, read_right};
 use lead::{Lead, lead_ends, read_lead};
@@ -22,33 +22,32 @@ use plain::plain_ends;
 
 // The ends of a text that is one word and no hyphen range: those of `^1.2.3`, and none of `1 2`
 #[inline(always)]
-pub(crate) fn read_only_word(text: &[u8]) -> Option<Ends>
-    ensures { IfSome result (λ ends. IsOnlyComparator text.now (ends_seen ends)) }
+pub(crate) fn read_only_word(text: &[u8]) -> Ends
+    ensures { IfSome (ends_seen result) (IsOnlyComparator text.now) }
 {
     let (lead, operand) = read_lead(text);
-    let (partial, rest) = read_partial(operand)?;
-    if !rest.is_empty() {
-        return None;
+    match read_partial(operand) {
+        Some((partial, rest)) if rest.is_empty() => lead_ends(lead, partial),
+        _ => nothing(),
     }
-    lead_ends(lead, partial)
 }
 
 // `>=1.2.3` of `>=1.2.3 <2`, or nothing of `foo`, and the rest
 #[inline(always)]
 #[tactic(auto, unfolding(crate::specs::Private::WordReading::read_word))]
-pub(crate) fn read_word(text: &[u8]) -> (Option<Ends>, &[u8])
+pub(crate) fn read_word(text: &[u8]) -> (Ends, &[u8])
     requires { BeginsWithNo is_blank text.now }
     ensures { word_seen result ≡ Reading.read_word text.now }
 {
     match read_comparator(text) {
         Some(word) => word,
-        None => (None, skip_solid(text)),
+        None => (nothing(), skip_solid(text)),
     }
 }
 
 // A word that is not thrown away: its ends, or nothing where it writes no comparator.
 #[inline(always)]
-fn read_comparator(text: &[u8]) -> Option<(Option<Ends>, &[u8])>
+fn read_comparator(text: &[u8]) -> Option<(Ends, &[u8])>
     requires { BeginsWithNo is_blank text.now }
     ensures { some_word_seen result ≡ Reading.or_else (Reading.read_hyphen text.now) (Reading.read_simple text.now) }
 {
@@ -65,14 +64,14 @@ fn read_comparator(text: &[u8]) -> Option<(Option<Ends>, &[u8])>
 
 // A plain partial before a blank: alone, or the left side of a hyphen.
 #[inline(never)]
-fn plain_or_hyphen<'a>(partial: Partial<'a>, text: &'a [u8]) -> (Option<Ends<'a>>, &'a [u8])
+fn plain_or_hyphen<'a>(partial: Partial<'a>, text: &'a [u8]) -> (Ends<'a>, &'a [u8])
     requires { IsSound partial }
     ensures { Some (word_seen result) ≡ Reading.or_else
         (Reading.said_hyphen (Some (partial_seen partial.entry)) (Reading.read_right text.now))
         (Some (Reading.lead_comparator Reading.no_lead (partial_seen partial.entry), text.now)) }
 {
     match read_right(text) {
-        Some((right, rest)) => (Some(hyphen_ends(partial, right)), rest),
-        None => (Some(plain_ends(partial)), text),
+        Some((right, rest)) => (hyphen_ends(partial, right), rest),
+        None => (plain_ends(partial), text),
     }
 }

@@ -1,13 +1,12 @@
 -- What is seen of what the private readers of words answer.
-use Rattle.std.specs.Prelude.{◌≡◌, ◌≤◌, ℕ, Bool, true, false, List, [], ◌∷◌, Option, Some, None, if◌then◌else◌}
+use Rattle.std.specs.Prelude.{◌≡◌, ◌≢◌, ◌≤◌, ℕ, Bool, true, false, List, [], ◌∷◌, Option, Some, None, if◌then◌else◌}
 use Rattle.std.specs.Borrow.{Bor}
 use Rattle.semver_cuts.specs.declared.cut.Cut.{Cut}
-use Rattle.semver_cuts.specs.declared.cut.Cut.TheVariants.{Start, Before, After, End}
-use Rattle.node_semver.specs.Comparator.{Comparator}
-use Rattle.node_semver.specs.IdentifierValue.{IdentifierValue, numeric}
+use Rattle.semver_cuts.specs.declared.cut.Cut.TheVariants.{Before, After}
+use Rattle.node_semver.specs.Comparator.{Comparator, above, at_least, at_most, below, exactly, from_up_to}
 use Rattle.node_semver.specs.Operators.{Operator, equal, greater, greater_or_equal, less, less_or_equal}
 use Rattle.node_semver.specs.PartialText.{Partial}
-use Rattle.node_semver.specs.Version.{VersionValue}
+use Rattle.node_semver.specs.Version.{VersionValue, least_of, without_build}
 use Rattle.node_semver.specs.Private.Reading.{read_extras}
 use Rattle.node_semver.specs.Private.WordReading as Reading
 use Rattle.node_semver.specs.Private.WordReading.{ReadPartial, Word, with_extras}
@@ -16,13 +15,11 @@ use Rattle.node_semver.specs.declared.parse.partial.Component.{Component}
 use Rattle.node_semver.specs.declared.parse.partial.Partial.{Partial as CodePartial}
 use Rattle.node_semver.specs.declared.parse.partial.Shape.{Shape}
 use Rattle.node_semver.specs.declared.parse.partial.Shape.TheVariants.{Full, Major, MajorMinor, MajorPatch, Minor, MinorPatch, Nothing, Patch}
-use Rattle.node_semver.specs.declared.word.ends.End.{End as CodeEnd}
 use Rattle.node_semver.specs.declared.word.ends.Ends.{Ends as CodeEnds}
-use Rattle.node_semver.specs.declared.word.ends.Place.{Place}
-use Rattle.node_semver.specs.declared.word.ends.Place.TheVariants.{AfterIt, AtEnd, AtStart, BeforeIt}
-use Rattle.node_semver.specs.declared.word.ends.Tail.{Tail}
-use Rattle.node_semver.specs.declared.word.ends.Tail.TheVariants.{Extras, PreRelease, Release, Zero}
+use Rattle.node_semver.specs.declared.word.ends.Form.{Form}
+use Rattle.node_semver.specs.declared.word.ends.Form.TheVariants.{Above as AboveForm, AtLeast as AtLeastForm, AtMost as AtMostForm, AtMostLeast as AtMostLeastForm, BareUpTo as BareUpToForm, Below as BelowForm, BelowLeast as BelowLeastForm, Equal as EqualForm, Exactly as ExactlyForm, Nothing as NothingForm, Through as ThroughForm, UpTo as UpToForm}
 use Rattle.node_semver.specs.declared.word.ends.WrittenVersion.{WrittenVersion}
+use Rattle.node_semver.specs.declared.word.hyphen.RightEnd.{RightEnd}
 use Rattle.node_semver.specs.declared.word.lead.Lead.{Lead}
 use Rattle.node_semver.specs.declared.word.lead.Lead.TheVariants.{Caret, Operator as OperatorLead, Plain, Tilde, TildeGreater}
 use Rattle.node_semver.specs.declared.word.operator.Operator.{Operator as CodeOperator}
@@ -123,49 +120,61 @@ lead_seen Caret = Reading.caret_lead
 
 -- ---- ends as they are written
 
--- the prerelease and the build that a tail stands for
-abbrev pub tail_seen : Tail → List ℕ → List IdentifierValue × List IdentifierValue
-tail_seen Release extras = ([], [])
-tail_seen Zero extras = (numeric 0 ∷ [], [])
-tail_seen PreRelease extras = ((read_extras extras).0.0, [])
-tail_seen Extras extras = (read_extras extras).0
-
 -- the version
 abbrev pub written_seen : WrittenVersion → VersionValue
 written_seen w = record {
   major = w.major;
   minor = w.minor;
   patch = w.patch;
-  pre_release = (tail_seen w.tail w.extras.now).0;
-  build = (tail_seen w.tail w.extras.now).1;
+  pre_release = (read_extras w.extras.now).0.0;
+  build = (read_extras w.extras.now).0.1;
 }
 
--- the cut
-abbrev pub cut_at : Place → VersionValue → Cut VersionValue
-cut_at AtStart v = Start
-cut_at BeforeIt v = Before v
-cut_at AfterIt v = After v
-cut_at AtEnd v = End
+-- the least version with the triple of this one
+abbrev pub least : VersionValue → VersionValue
+least v = least_of v.major v.minor v.patch
 
-abbrev pub end_seen : CodeEnd → Cut VersionValue
-end_seen e = cut_at e.place (written_seen e.version)
+-- `>=1.2.3 <=2.0.0`
+abbrev pub from_through : VersionValue → VersionValue → Comparator
+from_through v w = record { lower = Before v; upper = After w }
 
--- the comparator
-abbrev pub ends_seen : CodeEnds → Comparator
-ends_seen e = record { lower = end_seen e.lower; upper = end_seen e.upper }
+-- by the form, of the two versions
+abbrev pub form_comparator : Form → VersionValue → VersionValue → Option Comparator
+form_comparator NothingForm v w = None
+form_comparator AtLeastForm v w = Some (at_least v)
+form_comparator AboveForm v w = Some (above v)
+form_comparator BelowForm v w = Some (below v)
+form_comparator BelowLeastForm v w = Some (below (least v))
+form_comparator AtMostForm v w = Some (at_most v)
+form_comparator AtMostLeastForm v w = Some (at_most (least v))
+form_comparator ExactlyForm v w = Some (exactly v)
+form_comparator EqualForm v w = Some (exactly (without_build v))
+form_comparator UpToForm v w = Some (from_up_to v (least w))
+form_comparator BareUpToForm v w = Some (from_up_to (without_build v) (least w))
+form_comparator ThroughForm v w = Some (from_through v w)
 
-abbrev pub some_ends_seen : Option CodeEnds → Option Comparator
-some_ends_seen None = None
-some_ends_seen (Some e) = Some (ends_seen e)
+-- the comparator, if there is one
+abbrev pub ends_seen : CodeEnds → Option Comparator
+ends_seen e = form_comparator e.form (written_seen e.lower) (written_seen e.upper)
+
+-- there is a comparator, and its one version, or the lower one before an upper triple, has no extras
+pub record IsPlain (e : CodeEnds) : Type 0 where
+  pub some : e.form ≢ NothingForm
+  pub one : e.form ≢ ThroughForm
+  pub no_extras : e.lower.extras.now ≡ []
+
+-- where a hyphen range ends
+abbrev pub right_end_seen : RightEnd → Cut VersionValue
+right_end_seen e = if e.is_held then After (written_seen e.version) else Before (least (written_seen e.version))
 
 -- ---- words
 
 -- the word
-abbrev pub word_seen : Option CodeEnds × Bor (List ℕ) → Word
-word_seen w = (some_ends_seen w.0, w.1.now)
+abbrev pub word_seen : CodeEnds × Bor (List ℕ) → Word
+word_seen w = (ends_seen w.0, w.1.now)
 
 -- or none
-abbrev pub some_word_seen : Option (Option CodeEnds × Bor (List ℕ)) → Option Word
+abbrev pub some_word_seen : Option (CodeEnds × Bor (List ℕ)) → Option Word
 some_word_seen None = None
 some_word_seen (Some w) = Some (word_seen w)
 

@@ -1,15 +1,16 @@
 //! One alternative of a range text: its words, merged as they are read.
-ghost use Rattle.std.specs.Prelude.{◌≡◌, ◌++◌, IfOk, List, OnOk};
+ghost use Rattle.std.specs.Prelude.{◌≡◌, ◌∷◌, ◌++◌, [], IfOk, List, OnOk};
 ghost use Rattle.node_semver.specs.Comparator.{Comparator};
+ghost use Rattle.node_semver.specs.Merging.{IsSetOf};
 ghost use Rattle.node_semver.specs.Private.RangeViews.{IsMerged, IsMergedAlternative, IsSetOfAlternative};
 ghost use Rattle.node_semver.specs.Private.WordReading.{leading_or_none, read_right};
-ghost use Rattle.node_semver.specs.Private.WordViews.{listed, some_ends_seen, word_seen};
+ghost use Rattle.node_semver.specs.Private.WordViews.{listed, ends_seen, word_seen};
 
 use crate::Version;
 use crate::comparator::Comparator;
 use crate::parse::skip_blanks;
 use crate::set::merge;
-use crate::word::{Ends, read_leading_hyphen, read_word};
+use crate::word::{Ends, nothing, read_leading_hyphen, read_word};
 use semver_cuts::Span;
 use std::alloc::{AllocError, Global};
 
@@ -41,31 +42,34 @@ fn read_merged(alloc: Global, text: &[u8]) -> Result<Option<Comparator>, AllocEr
 
 // One comparator more, where a word writes one.
 #[inline(always)]
-fn keep(
-    alloc: Global,
-    merged: &mut Option<Comparator>,
-    ends: Option<Ends>,
-) -> Result<(), AllocError>
+fn keep(alloc: Global, merged: &mut Option<Comparator>, ends: Ends) -> Result<(), AllocError>
     ensures { OnOk result ((comparators : List Comparator) → IsMerged comparators merged.old
-        → IsMerged (comparators ++ listed (some_ends_seen ends.entry)) merged.new) }
+        → IsMerged (comparators ++ listed (ends_seen ends.entry)) merged.new) }
 {
-    if let Some(ends) = ends {
-        let later = ends.comparator(alloc)?;
-        *merged = Some(match merged.take() {
-            Some(earlier) => merge(earlier, later),
-            None => later,
-        });
+    if let Some(later) = ends.comparator(alloc)? {
+        *merged = Some(merge_some(merged.take(), later));
     }
     Ok(())
 }
 
+// What the comparators before, if there are any, have in common with one more.
+#[inline(always)]
+fn merge_some(earlier: Option<Comparator>, later: Comparator) -> Comparator
+    ensures { (comparators : List Comparator) → IsMerged comparators earlier → IsSetOf (comparators ++ later ∷ []) result }
+{
+    match earlier {
+        Some(earlier) => merge(earlier, later),
+        None => later,
+    }
+}
+
 // A hyphen without a left side, with which a text may begin: ` - 3`
 #[inline(always)]
-fn skip_leading_hyphen(text: &[u8]) -> (Option<Ends>, &[u8])
+fn skip_leading_hyphen(text: &[u8]) -> (Ends, &[u8])
     ensures { word_seen result ≡ leading_or_none (read_right text.now) text.now }
 {
     match read_leading_hyphen(text) {
         Some(word) => word,
-        None => (None, text),
+        None => (nothing(), text),
     }
 }

@@ -1,16 +1,12 @@
 //! The sets of a range text: one for each alternative that gives one.
 ghost use Rattle.std.specs.Prelude.{◌≡◌, ◌≢◌, ◌++◌, ℕ, IfOk, IfSome, List, [], OnOk};
-ghost use Rattle.semver_cuts.specs.Ends.{IsCutBelow};
-ghost use Rattle.node_semver.specs.Comparison.{version_cmp};
 ghost use Rattle.node_semver.specs.Merging.{AreSetsOfText};
-ghost use Rattle.node_semver.specs.Private.RangeViews.{IsOnlyComparator, listed_set, sets_seen, some_sets_seen};
-ghost use Rattle.node_semver.specs.Private.WordViews.{ends_seen};
+ghost use Rattle.node_semver.specs.Private.RangeViews.{listed_set, sets_seen, some_sets_seen};
 
 use crate::Version;
 use crate::parse::skip_blanks;
 use crate::range::alternative::read_set;
 use crate::range::pieces::next_piece;
-use crate::word::{Ends, read_only_word};
 use semver_cuts::Span;
 use std::alloc::{AllocError, Global};
 
@@ -34,32 +30,7 @@ impl Sets {
 }
 
 // The sets of a text, in the order of its alternatives, or `None` where no alternative gives one.
-#[inline(always)]
 pub(crate) fn read_sets(alloc: Global, text: &[u8]) -> Result<Option<Sets>, AllocError>
-    ensures of_text { IfOk result (λ sets. AreSetsOfText text.now (some_sets_seen sets)) }
-    ensures some { IfOk result (λ sets. IfSome sets (λ s. sets_seen s ≢ [])) }
-{
-    match read_only_word(text) {
-        Some(ends) => Ok(Some(only_set(alloc, ends)?)),
-        None => read_alternatives(alloc, text),
-    }
-}
-
-// The sets of a text whose only comparator has these ends, between which a cut lies: one.
-#[inline(always)]
-fn only_set(alloc: Global, ends: Ends) -> Result<Sets, AllocError>
-    requires { IsCutBelow version_cmp (ends_seen ends).lower (ends_seen ends).upper }
-    ensures of_text { IfOk result (λ sets. (text : List ℕ) → IsOnlyComparator text (ends_seen ends.entry)
-        → AreSetsOfText text (sets_seen sets)) }
-    ensures some { IfOk result (λ sets. sets_seen sets ≢ []) }
-{
-    let only = ends.comparator(alloc)?;
-    Ok(Sets::One(Span::between(only.lower, only.upper)))
-}
-
-// Alternative after alternative.
-#[inline(never)]
-fn read_alternatives(alloc: Global, text: &[u8]) -> Result<Option<Sets>, AllocError>
     ensures of_text { IfOk result (λ sets. AreSetsOfText text.now (some_sets_seen sets)) }
     ensures some { IfOk result (λ sets. IfSome sets (λ s. sets_seen s ≢ [])) }
 {

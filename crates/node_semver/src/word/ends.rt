@@ -1,97 +1,79 @@
 //! The ends of a comparator as its word writes them. Their versions are built only where they are kept.
 //!
-//! What is `#[inline(always)]` hands numbers on, and is gone once a word is read.
-ghost use Rattle.std.specs.Prelude.{◌≡◌, ◌≤◌, ◌+◌, IfOk};
+//! All is flat: one form, two triples and what stands after them. What is `#[inline(always)]` hands numbers on, and is
+//! gone once a word is read.
+ghost use Rattle.std.specs.Prelude.{◌≡◌, ◌≤◌, ◌+◌, [], IfOk, IfSome, IsTrue, None, Some};
+ghost use Rattle.semver_cuts.specs.Ends.{IsCutBelow};
 ghost use Rattle.node_semver.specs.Comparator as Comparators;
+ghost use Rattle.node_semver.specs.Comparison.{version_cmp};
 ghost use Rattle.node_semver.specs.PartialText as PartialText;
 ghost use Rattle.node_semver.specs.Version as Versions;
-ghost use Rattle.node_semver.specs.Private.WordViews.{IsSound, cut_at, end_seen, ends_seen, partial_seen, tail_seen, written_seen};
+ghost use Rattle.node_semver.specs.Private.WordViews.{IsPlain, IsSound, ends_seen, from_through, partial_seen, written_seen};
 
 use crate::comparator::Comparator;
 use crate::parse::{Partial, read_extras, read_prerelease};
 use crate::{MAX_SAFE_INTEGER, Version};
-use semver_cuts::Cut;
+use semver_cuts::{Cut, Span};
 use std::alloc::{AllocError, Global};
 
-// What stands after the triple of a version.
-#[derive(Clone, Copy)]
-pub(crate) enum Tail {
-    // nothing
-    Release,
-    // `-0`
-    Zero,
-    // the prerelease of the partial, without the build
-    PreRelease,
-    // the extras of the partial
-    Extras,
-}
-
-// A version as it is written: a triple and what stands after it.
+// A version as it is written: a triple, and the text that begins with its extras.
 #[derive(Clone, Copy)]
 pub(crate) struct WrittenVersion<'a> {
-    major: u64,
-    minor: u64,
-    patch: u64,
-    tail: Tail,
+    pub(crate) major: u64,
+    pub(crate) minor: u64,
+    pub(crate) patch: u64,
     extras: &'a [u8],
 }
 
-// Where a comparator begins or ends.
+// What stands at the two ends. A form of one version has it as the lower one.
 #[derive(Clone, Copy)]
-pub(crate) enum Place {
-    AtStart,
-    BeforeIt,
-    AfterIt,
-    AtEnd,
+enum Form {
+    // no comparator
+    Nothing,
+    // `>=1.2.3`
+    AtLeast,
+    // `>1.2.3`
+    Above,
+    // `<1.2.3`
+    Below,
+    // `<1.2.3-0`, of the triple
+    BelowLeast,
+    // `<=1.2.3`
+    AtMost,
+    // `<=1.2.3-0`, of the triple
+    AtMostLeast,
+    // `>=1.2.3 <=1.2.3`
+    Exactly,
+    // the same without the build
+    Equal,
+    // `>=1.2.3 <2.0.0-0`, of the upper triple
+    UpTo,
+    // the same, the lower one without its build
+    BareUpTo,
+    // `>=1.2.3 <=2.0.0`
+    Through,
 }
 
-// A cut as it is written. At the start and at the end the version is not looked at.
-#[derive(Clone, Copy)]
-pub(crate) struct End<'a> {
-    place: Place,
-    version: WrittenVersion<'a>,
-}
-
-// Where a comparator begins and where it ends.
+// The ends of a comparator, or none.
 #[derive(Clone, Copy)]
 pub(crate) struct Ends<'a> {
-    pub(crate) lower: End<'a>,
-    pub(crate) upper: End<'a>,
+    form: Form,
+    lower: WrittenVersion<'a>,
+    upper: WrittenVersion<'a>,
 }
 
+// `1.2.3`
 #[inline(always)]
-fn written(major: u64, minor: u64, patch: u64, tail: Tail, extras: &[u8]) -> WrittenVersion
-    ensures { written_seen result ≡ record {
-      major = major;
-      minor = minor;
-      patch = patch;
-      pre_release = (tail_seen tail extras.now).0;
-      build = (tail_seen tail extras.now).1;
-    } }
+#[tactic(auto, using(crate::proofs::ExtrasReading::no_extras))]
+pub(crate) fn release(major: u64, minor: u64, patch: u64) -> WrittenVersion<'static>
+    ensures { written_seen result ≡ Versions.release major minor patch }
 {
     WrittenVersion {
         major,
         minor,
         patch,
-        tail,
-        extras,
+        extras: b"",
     }
-}
-
-// `1.2.3`
-#[inline(always)]
-pub(crate) fn release(major: u64, minor: u64, patch: u64) -> WrittenVersion<'static>
-    ensures { written_seen result ≡ Versions.release major minor patch }
-{
-    written(major, minor, patch, Tail::Release, b"")
-}
-
-// `1.2.3-0`: the least version with this triple
-#[inline(always)]
-pub(crate) fn least_of(major: u64, minor: u64, patch: u64) -> WrittenVersion<'static>
-    ensures { written_seen result ≡ Versions.least_of major minor patch }
-{
-    written(major, minor, patch, Tail::Zero, b"")
 }
 
 // The numbers of a partial, 0 for each absent one, and its extras.
@@ -100,28 +82,12 @@ pub(crate) fn zeroed(partial: Partial) -> WrittenVersion
     requires { IsSound partial }
     ensures { written_seen result ≡ PartialText.zeroed (partial_seen partial.entry) }
 {
-    written(
-        partial.major,
-        partial.minor,
-        partial.patch,
-        Tail::Extras,
-        partial.extras,
-    )
-}
-
-// The same without the build.
-#[inline(always)]
-pub(crate) fn without_build(partial: Partial) -> WrittenVersion
-    requires { IsSound partial }
-    ensures { written_seen result ≡ Versions.without_build (PartialText.zeroed (partial_seen partial.entry)) }
-{
-    written(
-        partial.major,
-        partial.minor,
-        partial.patch,
-        Tail::PreRelease,
-        partial.extras,
-    )
+    WrittenVersion {
+        major: partial.major,
+        minor: partial.minor,
+        patch: partial.patch,
+        extras: partial.extras,
+    }
 }
 
 // The number that follows this one.
@@ -134,112 +100,262 @@ pub(crate) fn next(number: u64) -> u64
 }
 
 #[inline(always)]
-fn end_at<'a>(place: Place, version: WrittenVersion<'a>) -> End<'a>
-    ensures { end_seen result ≡ cut_at place (written_seen version.entry) }
+fn of_one<'a>(form: Form, version: WrittenVersion<'a>) -> Ends<'a>
+    ensures form { result.form ≡ form }
+    ensures lower { written_seen result.lower ≡ written_seen version.entry }
 {
-    End { place, version }
+    Ends {
+        form,
+        lower: version,
+        upper: version,
+    }
+}
+
+// no comparator
+#[inline(always)]
+pub(crate) fn nothing() -> Ends<'static>
+    ensures { ends_seen result ≡ None }
+{
+    of_one(Form::Nothing, release(0, 0, 0))
 }
 
 // `>=1.2.3`
 #[inline(always)]
 pub(crate) fn at_least<'a>(version: WrittenVersion<'a>) -> Ends<'a>
-    ensures { ends_seen result ≡ Comparators.at_least (written_seen version.entry) }
+    ensures { ends_seen result ≡ Some (Comparators.at_least (written_seen version.entry)) }
 {
-    let lower = end_at(Place::BeforeIt, version);
-    let upper = end_at(Place::AtEnd, release(0, 0, 0));
-    Ends { lower, upper }
+    of_one(Form::AtLeast, version)
 }
 
 // `>1.2.3`
 #[inline(always)]
 pub(crate) fn above<'a>(version: WrittenVersion<'a>) -> Ends<'a>
-    ensures { ends_seen result ≡ Comparators.above (written_seen version.entry) }
+    ensures { ends_seen result ≡ Some (Comparators.above (written_seen version.entry)) }
 {
-    let lower = end_at(Place::AfterIt, version);
-    let upper = end_at(Place::AtEnd, release(0, 0, 0));
-    Ends { lower, upper }
+    of_one(Form::Above, version)
 }
 
 // `<1.2.3`
 #[inline(always)]
 pub(crate) fn below<'a>(version: WrittenVersion<'a>) -> Ends<'a>
-    ensures { ends_seen result ≡ Comparators.below (written_seen version.entry) }
+    ensures { ends_seen result ≡ Some (Comparators.below (written_seen version.entry)) }
 {
-    let lower = end_at(Place::AtStart, release(0, 0, 0));
-    let upper = end_at(Place::BeforeIt, version);
-    Ends { lower, upper }
+    of_one(Form::Below, version)
+}
+
+// `<1.2.3-0`
+#[inline(always)]
+pub(crate) fn below_least(major: u64, minor: u64, patch: u64) -> Ends<'static>
+    ensures { ends_seen result ≡ Some (Comparators.below (Versions.least_of major minor patch)) }
+{
+    of_one(Form::BelowLeast, release(major, minor, patch))
 }
 
 // `<=1.2.3`
 #[inline(always)]
 pub(crate) fn at_most<'a>(version: WrittenVersion<'a>) -> Ends<'a>
-    ensures { ends_seen result ≡ Comparators.at_most (written_seen version.entry) }
+    ensures { ends_seen result ≡ Some (Comparators.at_most (written_seen version.entry)) }
 {
-    let lower = end_at(Place::AtStart, release(0, 0, 0));
-    let upper = end_at(Place::AfterIt, version);
-    Ends { lower, upper }
+    of_one(Form::AtMost, version)
 }
 
-// `>=1.2.3 <2.0.0-0`
+// `<=1.2.3-0`
 #[inline(always)]
-pub(crate) fn from_up_to<'a>(lower: WrittenVersion<'a>, upper: WrittenVersion<'a>) -> Ends<'a>
-    ensures { ends_seen result ≡ Comparators.from_up_to (written_seen lower.entry) (written_seen upper.entry) }
+pub(crate) fn at_most_least(major: u64, minor: u64, patch: u64) -> Ends<'static>
+    ensures { ends_seen result ≡ Some (Comparators.at_most (Versions.least_of major minor patch)) }
 {
-    let lower = end_at(Place::BeforeIt, lower);
-    let upper = end_at(Place::BeforeIt, upper);
-    Ends { lower, upper }
+    of_one(Form::AtMostLeast, release(major, minor, patch))
 }
 
-// `>=1.2.3 <=1.2.3`
+// `>=1.2.3+5 <=1.2.3+5`
 #[inline(always)]
 pub(crate) fn exactly<'a>(version: WrittenVersion<'a>) -> Ends<'a>
-    ensures { ends_seen result ≡ Comparators.exactly (written_seen version.entry) }
+    ensures { ends_seen result ≡ Some (Comparators.exactly (written_seen version.entry)) }
 {
-    let lower = end_at(Place::BeforeIt, version);
-    let upper = end_at(Place::AfterIt, version);
-    Ends { lower, upper }
+    of_one(Form::Exactly, version)
+}
+
+// `>=1.2.3 <=1.2.3` of `1.2.3+5`
+#[inline(always)]
+pub(crate) fn equal<'a>(version: WrittenVersion<'a>) -> Ends<'a>
+    ensures { ends_seen result ≡ Some (Comparators.exactly (Versions.without_build (written_seen version.entry))) }
+{
+    of_one(Form::Equal, version)
+}
+
+// `>=1.2.3+5 <2.0.0-0`
+#[inline(always)]
+pub(crate) fn up_to<'a>(lower: WrittenVersion<'a>, major: u64, minor: u64, patch: u64) -> Ends<'a>
+    ensures { ends_seen result
+        ≡ Some (Comparators.from_up_to (written_seen lower.entry) (Versions.least_of major minor patch)) }
+{
+    Ends {
+        form: Form::UpTo,
+        lower,
+        upper: release(major, minor, patch),
+    }
+}
+
+// `>=1.2.3 <2.0.0-0` of `1.2.3+5`
+#[inline(always)]
+pub(crate) fn bare_up_to<'a>(
+    lower: WrittenVersion<'a>,
+    major: u64,
+    minor: u64,
+    patch: u64,
+) -> Ends<'a>
+    ensures { ends_seen result ≡ Some (Comparators.from_up_to (Versions.without_build (written_seen lower.entry))
+        (Versions.least_of major minor patch)) }
+{
+    Ends {
+        form: Form::BareUpTo,
+        lower,
+        upper: release(major, minor, patch),
+    }
+}
+
+// `>=1.2.3 <=2.0.0`
+#[inline(always)]
+pub(crate) fn through<'a>(lower: WrittenVersion<'a>, upper: WrittenVersion<'a>) -> Ends<'a>
+    ensures { ends_seen result ≡ Some (from_through (written_seen lower.entry) (written_seen upper.entry)) }
+{
+    Ends {
+        form: Form::Through,
+        lower,
+        upper,
+    }
 }
 
 // All with this major: `>=1.0.0 <2.0.0-0`
 #[inline(always)]
 pub(crate) fn with_major(major: u64) -> Ends<'static>
     requires { major ≤ MAX_SAFE_INTEGER }
-    ensures { ends_seen result ≡ Comparators.with_major major }
+    ensures { ends_seen result ≡ Some (Comparators.with_major major) }
 {
-    from_up_to(release(major, 0, 0), least_of(next(major), 0, 0))
+    up_to(release(major, 0, 0), next(major), 0, 0)
 }
 
 // All with this major and this minor: `>=1.2.0 <1.3.0-0`
 #[inline(always)]
 pub(crate) fn with_minor(major: u64, minor: u64) -> Ends<'static>
     requires { minor ≤ MAX_SAFE_INTEGER }
-    ensures { ends_seen result ≡ Comparators.with_minor major minor }
+    ensures { ends_seen result ≡ Some (Comparators.with_minor major minor) }
 {
-    from_up_to(release(major, minor, 0), least_of(major, next(minor), 0))
+    up_to(release(major, minor, 0), major, next(minor), 0)
 }
 
 impl<'a> Ends<'a> {
-    // Takes memory for the identifiers of the ends alone.
+    // Whether there is a comparator, and no version of it has extras. Of two that are written the answer is no.
     #[inline(always)]
-    pub(crate) fn comparator(self, alloc: Global) -> Result<Comparator, AllocError>
+    pub(crate) fn is_plain(&self) -> bool
+        ensures { IsTrue result → IsPlain self.now }
+    {
+        match self.form {
+            Form::Nothing | Form::Through => false,
+            _ => self.lower.extras.is_empty(),
+        }
+    }
+
+    // The set of plain ends. Takes memory for a `-0` alone.
+    #[inline(always)]
+    pub(crate) fn plain_set(self, alloc: Global) -> Result<Span<Version>, AllocError>
+        requires plain { IsPlain self }
+        requires below { IfSome (ends_seen self) (λ c. IsCutBelow version_cmp c.lower c.upper) }
+        ensures { IfOk result (λ set. ends_seen self.entry ≡ Some set) }
+    {
+        let lower = self.lower;
+        match self.form {
+            Form::UpTo | Form::BareUpTo => {
+                let upper = least(alloc, self.upper)?;
+                Ok(Span::between(Cut::Before(plain(alloc, lower)), Cut::Before(upper)))
+            }
+            Form::Exactly | Form::Equal => {
+                let upper = plain(alloc, lower);
+                Ok(Span::between(Cut::Before(plain(alloc, lower)), Cut::After(upper)))
+            }
+            Form::Above => Ok(Span::between(Cut::After(plain(alloc, lower)), Cut::End)),
+            Form::Below => Ok(Span::between(Cut::Start, Cut::Before(plain(alloc, lower)))),
+            Form::BelowLeast => Ok(Span::between(Cut::Start, Cut::Before(least(alloc, lower)?))),
+            Form::AtMost => Ok(Span::between(Cut::Start, Cut::After(plain(alloc, lower)))),
+            Form::AtMostLeast => Ok(Span::between(Cut::Start, Cut::After(least(alloc, lower)?))),
+            Form::AtLeast | Form::Nothing | Form::Through => {
+                Ok(Span::between(Cut::Before(plain(alloc, lower)), Cut::End))
+            }
+        }
+    }
+
+    // Takes memory for the identifiers of the ends alone.
+    pub(crate) fn comparator(self, alloc: Global) -> Result<Option<Comparator>, AllocError>
         ensures { IfOk result (λ c. c ≡ ends_seen self.entry) }
     {
-        let lower = cut(alloc, self.lower)?;
-        let upper = cut(alloc, self.upper)?;
-        Ok(Comparator { lower, upper })
+        let (lower, upper) = (self.lower, self.upper);
+        let (lower, upper) = match self.form {
+            Form::Nothing => return Ok(None),
+            Form::AtLeast => (Cut::Before(version(alloc, lower)?), Cut::End),
+            Form::Above => (Cut::After(version(alloc, lower)?), Cut::End),
+            Form::Below => (Cut::Start, Cut::Before(version(alloc, lower)?)),
+            Form::BelowLeast => (Cut::Start, Cut::Before(least(alloc, lower)?)),
+            Form::AtMost => (Cut::Start, Cut::After(version(alloc, lower)?)),
+            Form::AtMostLeast => (Cut::Start, Cut::After(least(alloc, lower)?)),
+            Form::Exactly => (
+                Cut::Before(version(alloc, lower)?),
+                Cut::After(version(alloc, lower)?),
+            ),
+            Form::Equal => (
+                Cut::Before(bare(alloc, lower)?),
+                Cut::After(bare(alloc, lower)?),
+            ),
+            Form::UpTo => (
+                Cut::Before(version(alloc, lower)?),
+                Cut::Before(least(alloc, upper)?),
+            ),
+            Form::BareUpTo => (
+                Cut::Before(bare(alloc, lower)?),
+                Cut::Before(least(alloc, upper)?),
+            ),
+            Form::Through => (
+                Cut::Before(version(alloc, lower)?),
+                Cut::After(version(alloc, upper)?),
+            ),
+        };
+        Ok(Some(Comparator { lower, upper }))
     }
 }
 
+// A version without extras.
 #[inline(always)]
-fn cut(alloc: Global, end: End) -> Result<Cut<Version>, AllocError>
-    ensures { IfOk result (λ c. c ≡ end_seen end.entry) }
+#[tactic(auto, using(crate::proofs::ExtrasReading::no_extras))]
+fn plain(alloc: Global, written: WrittenVersion) -> Version
+    requires { written.extras.now ≡ [] }
+    ensures plain { result ≡ written_seen written.entry }
+    ensures bare { result ≡ Versions.without_build (written_seen written.entry) }
 {
-    match end.place {
-        Place::AtStart => Ok(Cut::Start),
-        Place::BeforeIt => Ok(Cut::Before(version(alloc, end.version)?)),
-        Place::AfterIt => Ok(Cut::After(version(alloc, end.version)?)),
-        Place::AtEnd => Ok(Cut::End),
-    }
+    Version::new(alloc, written.major, written.minor, written.patch)
+}
+
+// The least version with this triple: `1.2.3-0`
+#[inline(always)]
+fn least(alloc: Global, written: WrittenVersion) -> Result<Version, AllocError>
+    ensures { IfOk result (λ v. v ≡ Versions.least_of written.entry.major written.entry.minor written.entry.patch) }
+{
+    Version::with_pre_release(alloc, written.major, written.minor, written.patch, 0)
+}
+
+#[inline(always)]
+#[tactic(auto, unfolding(crate::specs::Private::Reading::read_extras))]
+fn bare(alloc: Global, written: WrittenVersion) -> Result<Version, AllocError>
+    ensures { IfOk result (λ v. v ≡ Versions.without_build (written_seen written.entry)) }
+{
+    let (major, minor, patch) = (written.major, written.minor, written.patch);
+    let (pre_release, _) = read_prerelease(alloc, written.extras)?;
+    let build = Vec::new(alloc);
+    Ok(Version {
+        major,
+        minor,
+        patch,
+        build,
+        pre_release,
+    })
 }
 
 #[inline(always)]
@@ -248,29 +364,12 @@ fn version(alloc: Global, written: WrittenVersion) -> Result<Version, AllocError
     ensures { IfOk result (λ v. v ≡ written_seen written.entry) }
 {
     let (major, minor, patch) = (written.major, written.minor, written.patch);
-    match written.tail {
-        Tail::Release => Ok(Version::new(alloc, major, minor, patch)),
-        Tail::Zero => Version::with_pre_release(alloc, major, minor, patch, 0),
-        Tail::PreRelease => {
-            let (pre_release, _) = read_prerelease(alloc, written.extras)?;
-            let build = Vec::new(alloc);
-            Ok(Version {
-                major,
-                minor,
-                patch,
-                build,
-                pre_release,
-            })
-        }
-        Tail::Extras => {
-            let ((pre_release, build), _) = read_extras(alloc, written.extras)?;
-            Ok(Version {
-                major,
-                minor,
-                patch,
-                build,
-                pre_release,
-            })
-        }
-    }
+    let ((pre_release, build), _) = read_extras(alloc, written.extras)?;
+    Ok(Version {
+        major,
+        minor,
+        patch,
+        build,
+        pre_release,
+    })
 }

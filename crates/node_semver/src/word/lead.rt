@@ -1,7 +1,7 @@
 //! What stands before the partial of a word, and what the two make together.
 ghost use Rattle.std.specs.Prelude.{◌≡◌};
 ghost use Rattle.node_semver.specs.Private.WordReading as Reading;
-ghost use Rattle.node_semver.specs.Private.WordViews.{IsSound, lead_seen, partial_seen, some_ends_seen};
+ghost use Rattle.node_semver.specs.Private.WordViews.{IsSound, lead_seen, partial_seen, ends_seen};
 
 use crate::parse::{Partial, skip_blanks};
 use crate::word::caret::caret_ends;
@@ -42,12 +42,12 @@ pub(crate) fn read_lead(text: &[u8]) -> (Lead, &[u8])
 
 // The ends of the comparator that a lead and a partial write, where they write one.
 #[inline(always)]
-pub(crate) fn lead_ends(lead: Lead, partial: Partial) -> Option<Ends>
+pub(crate) fn lead_ends(lead: Lead, partial: Partial) -> Ends
     requires { IsSound partial }
-    ensures { some_ends_seen result ≡ Reading.lead_comparator (lead_seen lead) (partial_seen partial.entry) }
+    ensures { ends_seen result ≡ Reading.lead_comparator (lead_seen lead) (partial_seen partial.entry) }
 {
     match lead {
-        Lead::Plain => Some(plain_ends(partial)),
+        Lead::Plain => plain_ends(partial),
         Lead::Operator(operator) => operator_ends(operator, partial),
         Lead::Tilde => tilde_ends(partial),
         Lead::TildeGreater => tilde_greater_ends(partial),

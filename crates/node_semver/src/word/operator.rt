@@ -1,14 +1,14 @@
 //! `>=1.2.3`, `>1.2`, `=1`, `<=1.x`, `< v 2`
-ghost use Rattle.std.specs.Prelude.{◌≡◌};
+ghost use Rattle.std.specs.Prelude.{◌≡◌, Some};
 ghost use Rattle.node_semver.specs.Operators as Operators;
 ghost use Rattle.node_semver.specs.PartialText as PartialText;
 ghost use Rattle.node_semver.specs.Private.WordReading as Reading;
-ghost use Rattle.node_semver.specs.Private.WordViews.{IsSound, ends_seen, operator_seen, partial_seen, read_operator_seen, some_ends_seen};
+ghost use Rattle.node_semver.specs.Private.WordViews.{IsSound, ends_seen, operator_seen, partial_seen, read_operator_seen};
 
 use crate::parse::{Partial, Shape};
 use crate::word::ends::{
-    Ends, above, at_least, at_most, below, exactly, least_of, next, release, with_major,
-    with_minor, without_build, zeroed,
+    Ends, above, at_least, at_most, at_most_least, below, below_least, equal, next, nothing,
+    release, with_major, with_minor, zeroed,
 };
 
 #[derive(Clone, Copy)]
@@ -37,17 +37,17 @@ pub(crate) fn read_operator(text: &[u8]) -> Option<(Operator, &[u8])>
 }
 
 #[inline(always)]
-pub(crate) fn operator_ends<'a>(operator: Operator, partial: Partial<'a>) -> Option<Ends<'a>>
+pub(crate) fn operator_ends<'a>(operator: Operator, partial: Partial<'a>) -> Ends<'a>
     requires { IsSound partial }
-    ensures { some_ends_seen result
+    ensures { ends_seen result
         ≡ Operators.operator_comparator (operator_seen operator) (partial_seen partial.entry) }
 {
     match operator {
-        Operator::AtLeast => Some(at_least(zeroed(partial))),
-        Operator::Above => Some(above_ends(partial)),
-        Operator::Exactly => exactly_ends(partial),
-        Operator::AtMost => Some(at_most_ends(partial)),
-        Operator::Below => Some(below_ends(partial)),
+        Operator::AtLeast => at_least(zeroed(partial)),
+        Operator::Above => above_ends(partial),
+        Operator::Exactly => equal_ends(partial),
+        Operator::AtMost => at_most_ends(partial),
+        Operator::Below => below_ends(partial),
     }
 }
 
@@ -56,7 +56,7 @@ pub(crate) fn operator_ends<'a>(operator: Operator, partial: Partial<'a>) -> Opt
 fn above_ends(partial: Partial) -> Ends
     requires { IsSound partial }
     ensures { let p = partial_seen partial.entry in
-        ends_seen result ≡ Operators.greater_row p.major p.minor p.patch (PartialText.zeroed p) }
+        ends_seen result ≡ Some (Operators.greater_row p.major p.minor p.patch (PartialText.zeroed p)) }
 {
     let Partial { major, minor, .. } = partial;
     match partial.shape {
@@ -71,10 +71,10 @@ fn above_ends(partial: Partial) -> Ends
 fn below_ends(partial: Partial) -> Ends
     requires { IsSound partial }
     ensures { let p = partial_seen partial.entry in
-        ends_seen result ≡ Operators.less_row p.major p.minor p.patch (PartialText.zeroed p) }
+        ends_seen result ≡ Some (Operators.less_row p.major p.minor p.patch (PartialText.zeroed p)) }
 {
     match partial.shape {
-        Shape::MajorMinor => below(least_of(partial.major, partial.minor, 0)),
+        Shape::MajorMinor => below_least(partial.major, partial.minor, 0),
         _ => below(zeroed(partial)),
     }
 }
@@ -84,27 +84,27 @@ fn below_ends(partial: Partial) -> Ends
 fn at_most_ends(partial: Partial) -> Ends
     requires { IsSound partial }
     ensures { let p = partial_seen partial.entry in
-        ends_seen result ≡ Operators.less_or_equal_row p.major p.minor p.patch (PartialText.zeroed p) }
+        ends_seen result ≡ Some (Operators.less_or_equal_row p.major p.minor p.patch (PartialText.zeroed p)) }
 {
     match partial.shape {
         Shape::Full | Shape::MajorPatch | Shape::MinorPatch | Shape::Patch => {
             at_most(zeroed(partial))
         }
-        _ => at_most(least_of(partial.major, partial.minor, 0)),
+        _ => at_most_least(partial.major, partial.minor, 0),
     }
 }
 
 // `=1.2.3+5` is `>=1.2.3 <=1.2.3`, `=1.2` is `>=1.2.0 <1.3.0-0`, `=*` is nothing.
 #[inline(always)]
-fn exactly_ends(partial: Partial) -> Option<Ends>
+fn equal_ends(partial: Partial) -> Ends
     requires { IsSound partial }
     ensures { let p = partial_seen partial.entry in
-        some_ends_seen result ≡ Operators.equal_row p.major p.minor p.patch (PartialText.zeroed p) }
+        ends_seen result ≡ Operators.equal_row p.major p.minor p.patch (PartialText.zeroed p) }
 {
     match partial.shape {
-        Shape::Full => Some(exactly(without_build(partial))),
-        Shape::MajorMinor => Some(with_minor(partial.major, partial.minor)),
-        Shape::Major | Shape::MajorPatch => Some(with_major(partial.major)),
-        Shape::MinorPatch | Shape::Minor | Shape::Patch | Shape::Nothing => None,
+        Shape::Full => equal(zeroed(partial)),
+        Shape::MajorMinor => with_minor(partial.major, partial.minor),
+        Shape::Major | Shape::MajorPatch => with_major(partial.major),
+        Shape::MinorPatch | Shape::Minor | Shape::Patch | Shape::Nothing => nothing(),
     }
 }

@@ -1,5 +1,5 @@
 //! `1.2.3`, `1.2`, `1.x`, `*`
-ghost use Rattle.std.specs.Prelude.{◌≡◌, Some};
+ghost use Rattle.std.specs.Prelude.{◌≡◌};
 ghost use Rattle.node_semver.specs.Operators as Operators;
 ghost use Rattle.node_semver.specs.Private.WordViews.{IsSound, ends_seen, partial_seen};
 
@@ -10,7 +10,7 @@ use crate::word::ends::{Ends, at_least, exactly, release, with_major, with_minor
 #[inline(always)]
 pub(crate) fn plain_ends(partial: Partial) -> Ends
     requires { IsSound partial }
-    ensures { Some (ends_seen result) ≡ Operators.plain_comparator (partial_seen partial.entry) }
+    ensures { ends_seen result ≡ Operators.plain_comparator (partial_seen partial.entry) }
 {
     match partial.shape {
         Shape::Full => exactly(zeroed(partial)),

@@ -1,5 +1,5 @@
 //! `~1.2.3`, `~1.2`, `~> 1`
-ghost use Rattle.std.specs.Prelude.{◌≡◌, ◌+◌};
+ghost use Rattle.std.specs.Prelude.{◌≡◌, ◌+◌, Some};
 ghost use Rattle.node_semver.specs.Comparator as Comparators;
 ghost use Rattle.node_semver.specs.Version as Versions;
 ghost use Rattle.node_semver.specs.Characters.{is_blank};
@@ -7,10 +7,10 @@ ghost use Rattle.node_semver.specs.Private.Reading.{rest_of};
 ghost use Rattle.node_semver.specs.PartialText as PartialText;
 ghost use Rattle.node_semver.specs.TildeRanges as TildeRanges;
 ghost use Rattle.node_semver.specs.Private.WordReading as Reading;
-ghost use Rattle.node_semver.specs.Private.WordViews.{IsSound, ends_seen, lead_seen, partial_seen, some_ends_seen};
+ghost use Rattle.node_semver.specs.Private.WordViews.{IsSound, ends_seen, lead_seen, partial_seen};
 
 use crate::parse::{Partial, Shape, skip_blanks};
-use crate::word::ends::{Ends, from_up_to, least_of, next, with_major, with_minor, without_build};
+use crate::word::ends::{Ends, bare_up_to, next, nothing, with_major, with_minor, zeroed};
 use crate::word::lead::Lead;
 
 // `> 1.2` of `~ > 1.2`: which tilde it is, and the rest without its blanks
@@ -26,29 +26,29 @@ pub(crate) fn read_tilde(text: &[u8]) -> (Lead, &[u8])
 
 // `~1.2.3` is `>=1.2.3 <1.3.0-0`, `~1.2` is `>=1.2.0 <1.3.0-0`, `~1` is `>=1.0.0 <2.0.0-0`.
 #[inline(always)]
-pub(crate) fn tilde_ends(partial: Partial) -> Option<Ends>
+pub(crate) fn tilde_ends(partial: Partial) -> Ends
     requires { IsSound partial }
     ensures { let p = partial_seen partial.entry in
-        some_ends_seen result ≡ TildeRanges.tilde_row p.major p.minor p.patch (PartialText.zeroed p) }
+        ends_seen result ≡ TildeRanges.tilde_row p.major p.minor p.patch (PartialText.zeroed p) }
 {
     match partial.shape {
-        Shape::Full => Some(up_to_next_minor(partial)),
-        Shape::MajorMinor => Some(with_minor(partial.major, partial.minor)),
-        Shape::Major => Some(with_major(partial.major)),
+        Shape::Full => up_to_next_minor(partial),
+        Shape::MajorMinor => with_minor(partial.major, partial.minor),
+        Shape::Major => with_major(partial.major),
         Shape::MajorPatch | Shape::MinorPatch | Shape::Minor | Shape::Patch | Shape::Nothing =>
-            None,
+            nothing(),
     }
 }
 
 // `~>1.2.x-b` is `>=1.2.0-b <1.3.0-0`; every other shape reads as after `~`.
 #[inline(always)]
-pub(crate) fn tilde_greater_ends(partial: Partial) -> Option<Ends>
+pub(crate) fn tilde_greater_ends(partial: Partial) -> Ends
     requires { IsSound partial }
     ensures { let p = partial_seen partial.entry in
-        some_ends_seen result ≡ TildeRanges.tilde_greater_row p.major p.minor p.patch (PartialText.zeroed p) }
+        ends_seen result ≡ TildeRanges.tilde_greater_row p.major p.minor p.patch (PartialText.zeroed p) }
 {
     match partial.shape {
-        Shape::MajorMinor => Some(up_to_next_minor(partial)),
+        Shape::MajorMinor => up_to_next_minor(partial),
         _ => tilde_ends(partial),
     }
 }
@@ -57,12 +57,9 @@ pub(crate) fn tilde_greater_ends(partial: Partial) -> Option<Ends>
 #[inline(always)]
 fn up_to_next_minor(partial: Partial) -> Ends
     requires { IsSound partial }
-    ensures { ends_seen result ≡ Comparators.from_up_to
+    ensures { ends_seen result ≡ Some (Comparators.from_up_to
         (Versions.without_build (PartialText.zeroed (partial_seen partial.entry)))
-        (Versions.least_of partial.entry.major (partial.entry.minor + 1) 0) }
+        (Versions.least_of partial.entry.major (partial.entry.minor + 1) 0)) }
 {
-    from_up_to(
-        without_build(partial),
-        least_of(partial.major, next(partial.minor), 0),
-    )
+    bare_up_to(zeroed(partial), partial.major, next(partial.minor), 0)
 }

@@ -1,52 +1,73 @@
-use Rattle.std.proofs.Common.{◌≡◌, ◌≢◌, ℕ, List, [], Option, Some, ap, refl, subst, inl, inr}
-use Rattle.std.specs.Prelude.{IfSome}
+use Rattle.std.proofs.Common.{◌≡◌, ◌≢◌, ◌↔◌, ℕ, List, [], ◌∷◌, Option, Some, Ok, Err, IfOk, OnOk, refl, subst}
+use Rattle.std.specs.Prelude.{IfSome, Result}
 use Rattle.semver_cuts.specs.Ends.{Ends}
+use Rattle.node_semver.specs.Comparator.{Comparator}
+use Rattle.node_semver.specs.Meaning.{IsRefused, RangeAdmits, TextAdmits}
 use Rattle.node_semver.specs.Merging.{AreSetsOfText}
+use Rattle.node_semver.specs.RangeSets.{IsRangeValue}
 use Rattle.node_semver.specs.Version.{VersionValue}
-use Rattle.node_semver.specs.Private.RangeViews.{sets_seen, some_sets_seen}
-use Rattle.node_semver.specs.declared.range.sets.Sets.{Sets}
+use Rattle.node_semver.specs.Private.RangeViews.{IsOnlyComparator}
+use Rattle.node_semver.proofs.OnlySet.{only-between}
 use Rattle.node_semver.proofs.RangeBounds.{text-bounded}
-use Rattle.node_semver.proofs.SetLemmas.{empty-from_refused, refused-from_empty, text-admits}
+use Rattle.node_semver.proofs.SetLemmas.{empty-from_refused, text-admits}
 use Rattle.node_semver.proofs.range.Range.parse.Goals as goal
 
--- the sets that were read, of the text and not of its bytes
-given : (text bytes : List ℕ) (read : Option Sets) (sets : List (Ends VersionValue)) → bytes ≡ text
-    → AreSetsOfText bytes (some_sets_seen read) → some_sets_seen read ≡ sets → AreSetsOfText text sets
-given text bytes read sets same of_text is =
-    subst (AreSetsOfText text) is (subst (λ (l : List ℕ). AreSetsOfText l (some_sets_seen read)) same of_text)
+-- ---- alternative after alternative
 
--- there are some
-some-given : (read : Option Sets) (sets : Sets) → IfSome read (λ s. sets_seen s ≢ []) → read ≡ Some sets → sets_seen sets ≢ []
-some-given read sets some is = subst (λ (o : Option Sets). IfSome o (λ s. sets_seen s ≢ [])) is some
+accepted-read : {E : Type 0} (text : List ℕ) (r : Result (List (Ends VersionValue)) E) → IfOk r (AreSetsOfText text)
+    → IfOk r (λ s. s ≢ []) → OnOk r (¬ IsRefused text)
+accepted-read text (Ok s) sets some = λ refused. some (empty-from_refused text s sets refused)
+accepted-read text (Err e) sets some = tt
+
+means-read : {E : Type 0} (text : List ℕ) (r : Result (List (Ends VersionValue)) E) → IfOk r (AreSetsOfText text)
+    → IfOk r (λ s. (v : VersionValue) → RangeAdmits s v ↔ TextAdmits text v)
+means-read text (Ok s) sets = text-admits text s sets
+means-read text (Err e) sets = tt
+
+holds-read : {E : Type 0} (text : List ℕ) (r : Result (List (Ends VersionValue)) E) → IfOk r (AreSetsOfText text)
+    → IfOk r (λ s. s ≢ []) → IfOk r IsRangeValue
+holds-read text (Ok s) sets some = text-bounded text s sets some
+holds-read text (Err e) sets some = tt
+
+pub returns-then-not-is_plain-clause-accepted : goal.returns-then-not-is_plain-clause-accepted
+returns-then-not-is_plain-clause-accepted c =
+    accepted-read c.args.text.now c.read_range.result c.read_range.ensures.sets c.read_range.ensures.some
+
+pub returns-then-not-is_plain-clause-means : goal.returns-then-not-is_plain-clause-means
+returns-then-not-is_plain-clause-means c = means-read c.args.text.now c.read_range.result c.read_range.ensures.sets
+
+-- ---- a text that is one word
+
+-- the only comparator is the set of the text
+only-sets : (text bytes : List ℕ) (found : Option Comparator) (set : Ends VersionValue) → bytes ≡ text
+    → IfSome found (IsOnlyComparator bytes) → found ≡ Some set → AreSetsOfText text (set ∷ [])
+only-sets text bytes found set same only is =
+    subst (λ (l : List ℕ). AreSetsOfText l (set ∷ [])) same
+    (only-between bytes set set (subst (λ (o : Option Comparator). IfSome o (IsOnlyComparator bytes)) is only) refl)
+
+some-set : (set : Ends VersionValue) → set ∷ [] ≢ []
+some-set set e = cc e
 
 pub invariant_of-result : goal.invariant_of-result
 invariant_of-result c =
-    text-bounded c.args.text.now (sets_seen c.in-Some.sets)
-    (given _ _ c.in-Ok.sets _ c.as_bytes.ensures.value c.in-Ok.ensures.of_text (ap some_sets_seen c.in-Some.is))
-    (some-given c.in-Ok.sets c.in-Some.sets c.in-Ok.ensures.some c.in-Some.is)
+    text-bounded c.args.text.now _
+    (only-sets _ _ _ _ c.as_bytes.ensures.value c.read_only_word-only.ensures c.in-Ok.ensures) (some-set _)
 
-pub returns-in-Some-clause-accepted : goal.returns-in-Some-clause-accepted
-returns-in-Some-clause-accepted c = λ refused.
-    some-given c.in-Ok.sets c.in-Some.sets c.in-Ok.ensures.some c.in-Some.is
-    (empty-from_refused c.args.text.now (sets_seen c.in-Some.sets)
-    (given _ _ c.in-Ok.sets _ c.as_bytes.ensures.value c.in-Ok.ensures.of_text (ap some_sets_seen c.in-Some.is)) refused)
+pub returns-in-Ok-clause-accepted : goal.returns-in-Ok-clause-accepted
+returns-in-Ok-clause-accepted c = λ refused.
+    some-set _ (empty-from_refused c.args.text.now _
+    (only-sets _ _ _ _ c.as_bytes.ensures.value c.read_only_word-only.ensures c.in-Ok.ensures) refused)
 
-pub returns-in-Some-clause-means : goal.returns-in-Some-clause-means
-returns-in-Some-clause-means c =
-    text-admits c.args.text.now (sets_seen c.in-Some.sets)
-    (given _ _ c.in-Ok.sets _ c.as_bytes.ensures.value c.in-Ok.ensures.of_text (ap some_sets_seen c.in-Some.is))
+pub returns-in-Ok-clause-means : goal.returns-in-Ok-clause-means
+returns-in-Ok-clause-means c =
+    text-admits c.args.text.now _
+    (only-sets _ _ _ _ c.as_bytes.ensures.value c.read_only_word-only.ensures c.in-Ok.ensures)
 
-pub returns-in-Some-clause-holds : goal.returns-in-Some-clause-holds
-returns-in-Some-clause-holds c =
-    text-bounded c.args.text.now (sets_seen c.in-Some.sets)
-    (given _ _ c.in-Ok.sets _ c.as_bytes.ensures.value c.in-Ok.ensures.of_text (ap some_sets_seen c.in-Some.is))
-    (some-given c.in-Ok.sets c.in-Some.sets c.in-Ok.ensures.some c.in-Some.is)
+pub returns-in-Ok-clause-sets : goal.returns-in-Ok-clause-sets
+returns-in-Ok-clause-sets c =
+    only-sets _ _ _ _ c.as_bytes.ensures.value c.read_only_word-only.ensures c.in-Ok.ensures
 
-pub returns-in-None-clause-refused : goal.returns-in-None-clause-refused
-returns-in-None-clause-refused c =
-    let sets : AreSetsOfText c.args.text.now [] =
-    given _ _ c.in-Ok.sets _ c.as_bytes.ensures.value c.in-Ok.ensures.of_text (ap some_sets_seen c.in-None.is) in
-    elim c.new.ensures [
-      | inl memory ↦ inl memory
-      | inr refusal ↦ inr (refusal, refused-from_empty c.args.text.now [] sets refl)
-    ]
+pub returns-in-Ok-clause-holds : goal.returns-in-Ok-clause-holds
+returns-in-Ok-clause-holds c =
+    text-bounded c.args.text.now _
+    (only-sets _ _ _ _ c.as_bytes.ensures.value c.read_only_word-only.ensures c.in-Ok.ensures) (some-set _)

@@ -5,7 +5,7 @@ use Rattle.node_semver.specs.Characters.{BeginsWithNo, is_blank}
 use Rattle.node_semver.specs.Comparator.{Comparator}
 use Rattle.node_semver.specs.Private.Reading.{rest_of}
 use Rattle.node_semver.specs.Private.WordReading.{read_right}
-use Rattle.node_semver.specs.Private.WordViews.{listed, some_ends_seen}
+use Rattle.node_semver.specs.Private.WordViews.{listed, ends_seen}
 use Rattle.node_semver.proofs.DivisionLemmas.{Completes, completes-end, completes-leading, completes-more, next-shorter}
 use Rattle.node_semver.proofs.Prefixes.{rest_of-no}
 use Rattle.node_semver.proofs.range.alternative.read_merged.Goals as goal
@@ -22,7 +22,7 @@ no-blank rest left skipped = subst (λ (l : List ℕ). BeginsWithNo is_blank l) 
 
 pub loop-rest-init : goal.loop-rest-init
 loop-rest-init c =
-    let leading = some_ends_seen c.skip_leading_hyphen.result.0 in
+    let leading = ends_seen c.skip_leading_hyphen.result.0 in
     let rest = c.skip_leading_hyphen.result.1.now in
     let start = completes-leading c.args.text.now (read_right c.args.text.now) leading rest refl
     c.skip_leading_hyphen.ensures in
@@ -51,14 +51,14 @@ pub loop-rest-smaller : goal.loop-rest-smaller
 loop-rest-smaller c =
     let rest = c.loop-rest.rest.now in
     let some : 0 < length rest = some-from_not_empty rest c.is_empty.result c.is_empty.ensures c.loop-rest-test.true in
-    let shorter = next-shorter rest (some_ends_seen c.read_word.result.0) c.read_word.result.1.now
+    let shorter = next-shorter rest (ends_seen c.read_word.result.0) c.read_word.result.1.now
     (sym c.read_word.ensures) some in
     subst (λ (l : List ℕ). length l < length rest) (sym c.skip_blanks-rest-in-loop-rest.ensures) shorter
 
 pub loop-rest-preserved : goal.loop-rest-preserved
 loop-rest-preserved c =
     let rest = c.loop-rest.rest.now in
-    let word = some_ends_seen c.read_word.result.0 in
+    let word = ends_seen c.read_word.result.0 in
     let others = c.read_word.result.1.now in
     let done = c.loop-rest.invariant.done in
     let more = completes-more c.args.text.now done rest word others c.loop-rest.invariant.read

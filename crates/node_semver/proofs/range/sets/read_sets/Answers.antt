@@ -13,7 +13,7 @@ use Rattle.node_semver.specs.Private.Reading.{rest_of}
 use Rattle.node_semver.proofs.AlternativeLemmas.{Reads, left-shorter, left_length, reads-end, reads-more, reads-start}
 use Rattle.node_semver.proofs.Merging.{no-items}
 use Rattle.node_semver.proofs.SetLemmas.{reads-set}
-use Rattle.node_semver.proofs.range.sets.read_alternatives.Goals as goal
+use Rattle.node_semver.proofs.range.sets.read_sets.Goals as goal
 
 -- no bars are left
 none-left : (left : Option (Bor (List ℕ))) → is_some left ≡ false → some_seen left ≡ None

@@ -3,7 +3,7 @@ use Rattle.node_semver.specs.Comparator.{Comparator}
 use Rattle.node_semver.specs.Merging.{AreSetsOf}
 use Rattle.node_semver.specs.Private.PieceReading.{some_seen}
 use Rattle.node_semver.proofs.AlternativeLemmas.{Reads, left_length}
-use Rattle.node_semver.proofs.range.sets.read_alternatives.Given as goal
+use Rattle.node_semver.proofs.range.sets.read_sets.Given as goal
 
 -- the sets so far are those of the alternatives so far
 abbrev pub invariant-loop-left : goal.invariant-loop-left

@@ -46,6 +46,9 @@ fn keep(alloc: Global, merged: &mut Option<Comparator>, ends: Ends) -> Result<()
     ensures { OnOk result ((comparators : List Comparator) → IsMerged comparators merged.old
         → IsMerged (comparators ++ listed (ends_seen ends.entry)) merged.new) }
 {
+    if ends.is_nothing() {
+        return Ok(());
+    }
     if let Some(later) = ends.comparator(alloc)? {
         *merged = Some(merge_some(merged.take(), later));
     }

@@ -2,7 +2,7 @@
 //!
 //! All is flat: one form, two triples and what stands after them. What is `#[inline(always)]` hands numbers on, and is
 //! gone once a word is read.
-ghost use Rattle.std.specs.Prelude.{◌≡◌, ◌≤◌, ◌+◌, [], IfOk, IfSome, IsTrue, None, Some};
+ghost use Rattle.std.specs.Prelude.{◌≡◌, ◌↔◌, ◌≤◌, ◌+◌, [], IfOk, IfSome, IsTrue, None, Some};
 ghost use Rattle.semver_cuts.specs.Ends.{IsCutBelow};
 ghost use Rattle.node_semver.specs.Comparator as Comparators;
 ghost use Rattle.node_semver.specs.Comparison.{version_cmp};
@@ -245,6 +245,16 @@ pub(crate) fn with_minor(major: u64, minor: u64) -> Ends<'static>
 }
 
 impl<'a> Ends<'a> {
+    #[inline(always)]
+    pub(crate) fn is_nothing(&self) -> bool
+        ensures { IsTrue result ↔ (ends_seen self.now ≡ None) }
+    {
+        match self.form {
+            Form::Nothing => true,
+            _ => false,
+        }
+    }
+
     // Whether there is a comparator, and no version of it has extras. Of two that are written the answer is no.
     #[inline(always)]
     pub(crate) fn is_plain(&self) -> bool
@@ -288,35 +298,21 @@ impl<'a> Ends<'a> {
     pub(crate) fn comparator(self, alloc: Global) -> Result<Option<Comparator>, AllocError>
         ensures { IfOk result (λ c. c ≡ ends_seen self.entry) }
     {
-        let (lower, upper) = (self.lower, self.upper);
-        let (lower, upper) = match self.form {
+        let first = match self.form {
             Form::Nothing => return Ok(None),
-            Form::AtLeast => (Cut::Before(version(alloc, lower)?), Cut::End),
-            Form::Above => (Cut::After(version(alloc, lower)?), Cut::End),
-            Form::Below => (Cut::Start, Cut::Before(version(alloc, lower)?)),
-            Form::BelowLeast => (Cut::Start, Cut::Before(least(alloc, lower)?)),
-            Form::AtMost => (Cut::Start, Cut::After(version(alloc, lower)?)),
-            Form::AtMostLeast => (Cut::Start, Cut::After(least(alloc, lower)?)),
-            Form::Exactly => (
-                Cut::Before(version(alloc, lower)?),
-                Cut::After(version(alloc, lower)?),
-            ),
-            Form::Equal => (
-                Cut::Before(bare(alloc, lower)?),
-                Cut::After(bare(alloc, lower)?),
-            ),
-            Form::UpTo => (
-                Cut::Before(version(alloc, lower)?),
-                Cut::Before(least(alloc, upper)?),
-            ),
-            Form::BareUpTo => (
-                Cut::Before(bare(alloc, lower)?),
-                Cut::Before(least(alloc, upper)?),
-            ),
-            Form::Through => (
-                Cut::Before(version(alloc, lower)?),
-                Cut::After(version(alloc, upper)?),
-            ),
+            Form::BelowLeast | Form::AtMostLeast => least(alloc, self.lower)?,
+            Form::Equal | Form::BareUpTo => bare(alloc, self.lower)?,
+            _ => version(alloc, self.lower)?,
+        };
+        let (lower, upper) = match self.form {
+            Form::Nothing | Form::AtLeast => (Cut::Before(first), Cut::End),
+            Form::Above => (Cut::After(first), Cut::End),
+            Form::Below | Form::BelowLeast => (Cut::Start, Cut::Before(first)),
+            Form::AtMost | Form::AtMostLeast => (Cut::Start, Cut::After(first)),
+            Form::Exactly => (Cut::Before(first), Cut::After(version(alloc, self.lower)?)),
+            Form::Equal => (Cut::Before(first), Cut::After(bare(alloc, self.lower)?)),
+            Form::UpTo | Form::BareUpTo => (Cut::Before(first), Cut::Before(least(alloc, self.upper)?)),
+            Form::Through => (Cut::Before(first), Cut::After(version(alloc, self.upper)?)),
         };
         Ok(Some(Comparator { lower, upper }))
     }

@@ -42,13 +42,30 @@ fn read_merged(alloc: Global, text: &[u8]) -> Result<Option<Comparator>, AllocEr
 
 // One comparator more, where a word writes one.
 #[inline(always)]
-fn keep(alloc: Global, merged: &mut Option<Comparator>, ends: Ends) -> Result<(), AllocError>
+fn keep(
+    alloc: Global,
+    merged: &mut Option<Comparator>,
+    ends: Ends,
+) -> Result<(), AllocError>
     ensures { OnOk result ((comparators : List Comparator) → IsMerged comparators merged.old
         → IsMerged (comparators ++ listed (ends_seen ends.entry)) merged.new) }
 {
     if ends.is_nothing() {
         return Ok(());
     }
+    add(alloc, merged, ends)
+}
+
+// The comparator of these ends more.
+#[inline(never)]
+fn add(
+    alloc: Global,
+    merged: &mut Option<Comparator>,
+    ends: Ends,
+) -> Result<(), AllocError>
+    ensures { OnOk result ((comparators : List Comparator) → IsMerged comparators merged.old
+        → IsMerged (comparators ++ listed (ends_seen ends.entry)) merged.new) }
+{
     if let Some(later) = ends.comparator(alloc)? {
         *merged = Some(merge_some(merged.take(), later));
     }

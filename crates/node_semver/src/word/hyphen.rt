@@ -30,8 +30,18 @@ pub(crate) fn read_right(text: &[u8]) -> Option<(Partial, &[u8])>
     }
 }
 
-// ` - 3` at the start of a range text: a hyphen without a left side
+// ` - 3` at the start of a range text: a hyphen without a left side. Few texts begin with a blank.
+#[inline(always)]
+#[tactic(auto, unfolding(crate::specs::Private::WordReading::read_right))]
 pub(crate) fn read_leading_hyphen(text: &[u8]) -> Option<(Ends, &[u8])>
+    ensures { some_word_seen result ≡ Reading.said_hyphen None (Reading.read_right text.now) }
+{
+    skip_some_blanks(text)?;
+    read_right_alone(text)
+}
+
+#[inline(never)]
+fn read_right_alone(text: &[u8]) -> Option<(Ends, &[u8])>
     ensures { some_word_seen result ≡ Reading.said_hyphen None (Reading.read_right text.now) }
 {
     let (right, rest) = read_right(text)?;

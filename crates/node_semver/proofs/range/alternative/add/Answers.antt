@@ -3,7 +3,7 @@ use Rattle.node_semver.specs.Comparator.{Comparator}
 use Rattle.node_semver.specs.Merging.{IsSetOf}
 use Rattle.node_semver.specs.Private.RangeViews.{IsMerged}
 use Rattle.node_semver.specs.Private.WordViews.{ends_seen, listed}
-use Rattle.node_semver.proofs.range.alternative.keep.Goals as goal
+use Rattle.node_semver.proofs.range.alternative.add.Goals as goal
 
 pub returns-in-Some : goal.returns-in-Some
 returns-in-Some c = λ comparators merged.

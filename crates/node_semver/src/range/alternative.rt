@@ -42,11 +42,7 @@ fn read_merged(alloc: Global, text: &[u8]) -> Result<Option<Comparator>, AllocEr
 
 // One comparator more, where a word writes one.
 #[inline(always)]
-fn keep(
-    alloc: Global,
-    merged: &mut Option<Comparator>,
-    ends: Ends,
-) -> Result<(), AllocError>
+fn keep(alloc: Global, merged: &mut Option<Comparator>, ends: Ends) -> Result<(), AllocError>
     ensures { OnOk result ((comparators : List Comparator) → IsMerged comparators merged.old
         → IsMerged (comparators ++ listed (ends_seen ends.entry)) merged.new) }
 {
@@ -58,11 +54,7 @@ fn keep(
 
 // The comparator of these ends more.
 #[inline(never)]
-fn add(
-    alloc: Global,
-    merged: &mut Option<Comparator>,
-    ends: Ends,
-) -> Result<(), AllocError>
+fn add(alloc: Global, merged: &mut Option<Comparator>, ends: Ends) -> Result<(), AllocError>
     ensures { OnOk result ((comparators : List Comparator) → IsMerged comparators merged.old
         → IsMerged (comparators ++ listed (ends_seen ends.entry)) merged.new) }
 {

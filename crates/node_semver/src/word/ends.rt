@@ -311,7 +311,10 @@ impl<'a> Ends<'a> {
             Form::AtMost | Form::AtMostLeast => (Cut::Start, Cut::After(first)),
             Form::Exactly => (Cut::Before(first), Cut::After(version(alloc, self.lower)?)),
             Form::Equal => (Cut::Before(first), Cut::After(bare(alloc, self.lower)?)),
-            Form::UpTo | Form::BareUpTo => (Cut::Before(first), Cut::Before(least(alloc, self.upper)?)),
+            Form::UpTo | Form::BareUpTo => (
+                Cut::Before(first),
+                Cut::Before(least(alloc, self.upper)?),
+            ),
             Form::Through => (Cut::Before(first), Cut::After(version(alloc, self.upper)?)),
         };
         Ok(Some(Comparator { lower, upper }))

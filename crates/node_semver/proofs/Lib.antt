@@ -2,6 +2,7 @@ mod OrderExamples
 mod Prereleases
 mod PrintExamples
 pub mod AlternativeLemmas
+pub mod AlternativeSets
 pub mod ByteTable
 pub mod Characters
 pub mod CleanEnds

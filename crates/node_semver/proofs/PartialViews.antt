@@ -23,8 +23,8 @@ clean-end [] h = tt
 clean-end (b ∷ rest) h = h
 
 -- no extras stand at a clean end
-pub clean-extras : (text : List ℕ) → is_clean text ≡ true → read_extras text ≡ (([], []), text)
-clean-extras text h =
+pub clean_extras : (text : List ℕ) → is_clean text ≡ true → read_extras text ≡ (([], []), text)
+clean_extras text h =
     extras-again [] text [] [] (record { prefix = []; rest = []; whole = refl; first = refl; second = refl })
     (clean-ends_extras text (clean-end text h))
 
@@ -74,7 +74,7 @@ number-limit text rest number h = (number-takes text number rest (sym h)).read.l
 
 -- the extras of the empty text
 no-extras : read_extras [] ≡ (([], []), [])
-no-extras = clean-extras [] refl
+no-extras = clean_extras [] refl
 
 minor-none : (major : Option ℕ) (rest : List ℕ)
     → NoDot rest → read_from_minor major rest ≡ Some (plain_partial major None None, rest)

@@ -1,6 +1,7 @@
 //! npm's versions and version ranges.
 #![tactic(auto)]
 
+mod bound;
 mod comparator;
 mod error;
 mod identifier;

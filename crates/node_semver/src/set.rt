@@ -22,16 +22,16 @@ pub(crate) fn merge(earlier: Comparator, later: Comparator) -> Comparator
 
 // The greater of two lower ends, and of equal ones the later.
 #[inline]
-fn later_greatest(earlier: Cut<Version>, later: Cut<Version>) -> Cut<Version>
-    ensures { IsLaterGreatest version_cmp earlier later result }
+pub(crate) fn later_greatest<T: Ord + Drop>(earlier: Cut<T>, later: Cut<T>) -> Cut<T>
+    ensures { IsLaterGreatest T.cmp earlier later result }
 {
     if later < earlier { earlier } else { later }
 }
 
 // The lesser of two upper ends, and of equal ones the earlier.
 #[inline]
-fn earlier_least(earlier: Cut<Version>, later: Cut<Version>) -> Cut<Version>
-    ensures { IsEarlierLeast version_cmp earlier later result }
+pub(crate) fn earlier_least<T: Ord + Drop>(earlier: Cut<T>, later: Cut<T>) -> Cut<T>
+    ensures { IsEarlierLeast T.cmp earlier later result }
 {
     if later < earlier { later } else { earlier }
 }

@@ -9,7 +9,7 @@ use Rattle.node_semver.specs.PartialText.{Partial}
 use Rattle.node_semver.specs.Version.{VersionValue, least_of, without_build}
 use Rattle.node_semver.specs.Private.Reading.{read_extras}
 use Rattle.node_semver.specs.Private.WordReading as Reading
-use Rattle.node_semver.specs.Private.WordReading.{ReadPartial, Word, with_extras}
+use Rattle.node_semver.specs.Private.WordReading.{ReadPartial, Word, is_clean, with_extras}
 use Rattle.node_semver.specs.declared.TheConstants.{MAX_SAFE_INTEGER}
 use Rattle.node_semver.specs.declared.parse.partial.Component.{Component}
 use Rattle.node_semver.specs.declared.parse.partial.Partial.{Partial as CodePartial}
@@ -161,7 +161,7 @@ ends_seen e = form_comparator e.form (written_seen e.lower) (written_seen e.uppe
 pub record IsPlain (e : CodeEnds) : Type 0 where
   pub some : e.form ≢ NothingForm
   pub one : e.form ≢ ThroughForm
-  pub no_extras : e.lower.extras.now ≡ []
+  pub no_extras : is_clean e.lower.extras.now ≡ true
 
 -- where a hyphen range ends
 abbrev pub right_end_seen : RightEnd → Cut VersionValue

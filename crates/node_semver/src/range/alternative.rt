@@ -1,12 +1,15 @@
 //! One alternative of a range text: its words, merged as they are read.
-ghost use Rattle.std.specs.Prelude.{◌≡◌, ◌∷◌, ◌++◌, [], IfOk, List, OnOk};
+ghost use Rattle.std.specs.Prelude.{◌≡◌, ◌↔◌, ◌∷◌, ◌++◌, [], IfOk, IfSome, IsSome, IsTrue, List, None, OnOk};
+ghost use Rattle.semver_cuts.specs.Ends.{HoldsCut};
 ghost use Rattle.node_semver.specs.Comparator.{Comparator};
+ghost use Rattle.node_semver.specs.Comparison.{version_cmp};
 ghost use Rattle.node_semver.specs.Merging.{IsSetOf};
 ghost use Rattle.node_semver.specs.Private.RangeViews.{IsMerged, IsMergedAlternative, IsSetOfAlternative};
 ghost use Rattle.node_semver.specs.Private.WordReading.{leading_or_none, read_right};
 ghost use Rattle.node_semver.specs.Private.WordViews.{listed, ends_seen, word_seen};
 
 use crate::Version;
+use crate::bound::{Bounds, built, merge_bounds};
 use crate::comparator::Comparator;
 use crate::parse::skip_blanks;
 use crate::set::merge;
@@ -16,6 +19,85 @@ use std::alloc::{AllocError, Global};
 
 // The set of an alternative, or `None` where its comparators give none.
 pub(crate) fn read_set(alloc: Global, text: &[u8]) -> Result<Option<Span<Version>>, AllocError>
+    ensures { IfOk result (λ set. IsSetOfAlternative text.now set) }
+{
+    let mut merged = None;
+    if !read_plain(text, &mut merged) {
+        return read_set_with_extras(alloc, text);
+    }
+    match merged {
+        Some(merged) => bounded_set(alloc, merged),
+        None => Ok(None),
+    }
+}
+
+// Where no version has extras: the comparators of an alternative, merged into one. Says whether it is so.
+#[inline(always)]
+fn read_plain(text: &[u8], merged: &mut Option<Bounds>) -> bool
+    requires { merged.old ≡ None }
+    ensures { IsTrue result → IsMergedAlternative text.now merged.new }
+{
+    let (leading, rest) = skip_leading_hyphen(text);
+    if !keep_plain(merged, leading) {
+        return false;
+    }
+    let mut rest = skip_blanks(rest);
+    while !rest.is_empty() {
+        let (ends, others) = read_word(rest);
+        if !keep_plain(merged, ends) {
+            return false;
+        }
+        rest = skip_blanks(others);
+    }
+    true
+}
+
+// One comparator more, where a word writes one. Says whether it writes none or one without extras.
+#[inline(always)]
+fn keep_plain(merged: &mut Option<Bounds>, ends: Ends) -> bool
+    ensures { IsTrue result → (comparators : List Comparator) → IsMerged comparators merged.old
+        → IsMerged (comparators ++ listed (ends_seen ends.entry)) merged.new }
+{
+    if ends.is_nothing() {
+        return true;
+    }
+    if !ends.is_plain() {
+        return false;
+    }
+    let later = ends.bounds();
+    *merged = Some(merge_some_bounds(merged.take(), later));
+    true
+}
+
+// What the comparators before, if there are any, have in common with one more.
+#[inline(always)]
+fn merge_some_bounds(earlier: Option<Bounds>, later: Bounds) -> Bounds
+    ensures { (comparators : List Comparator) → IsMerged comparators earlier → IsSetOf (comparators ++ later ∷ []) result }
+{
+    match earlier {
+        Some(earlier) => merge_bounds(earlier, later),
+        None => later,
+    }
+}
+
+// The set between two bounds, or `None` where no cut lies between them.
+#[inline(never)]
+fn bounded_set(alloc: Global, bounds: Bounds) -> Result<Option<Span<Version>>, AllocError>
+    ensures cut { IfOk result (λ set. IsSome set ↔ HoldsCut version_cmp bounds) }
+    ensures ends { IfOk result (λ set. IfSome set (λ span. span ≡ bounds)) }
+{
+    if bounds.lower < bounds.upper {
+        let lower = built(alloc, bounds.lower)?;
+        let upper = built(alloc, bounds.upper)?;
+        Ok(Some(Span::between(lower, upper)))
+    } else {
+        Ok(None)
+    }
+}
+
+// The set of any alternative.
+#[inline(never)]
+fn read_set_with_extras(alloc: Global, text: &[u8]) -> Result<Option<Span<Version>>, AllocError>
     ensures { IfOk result (λ set. IsSetOfAlternative text.now set) }
 {
     match read_merged(alloc, text)? {

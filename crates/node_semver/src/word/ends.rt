@@ -2,16 +2,18 @@
 //!
 //! All is flat: one form, two triples and what stands after them. What is `#[inline(always)]` hands numbers on, and is
 //! gone once a word is read.
-ghost use Rattle.std.specs.Prelude.{◌≡◌, ◌↔◌, ◌≤◌, ◌+◌, [], IfOk, IfSome, IsTrue, None, Some};
+ghost use Rattle.std.specs.Prelude.{◌≡◌, ◌↔◌, ◌≤◌, ◌+◌, IfOk, IfSome, IsTrue, None, Some, true};
 ghost use Rattle.semver_cuts.specs.Ends.{IsCutBelow};
 ghost use Rattle.node_semver.specs.Comparator as Comparators;
 ghost use Rattle.node_semver.specs.Comparison.{version_cmp};
 ghost use Rattle.node_semver.specs.PartialText as PartialText;
 ghost use Rattle.node_semver.specs.Version as Versions;
+ghost use Rattle.node_semver.specs.Private.WordReading.{is_clean};
 ghost use Rattle.node_semver.specs.Private.WordViews.{IsPlain, IsSound, ends_seen, from_through, partial_seen, written_seen};
 
+use crate::bound::{Bound, Bounds, between};
 use crate::comparator::Comparator;
-use crate::parse::{Partial, read_extras, read_prerelease};
+use crate::parse::{Partial, begins_clean, read_extras, read_prerelease};
 use crate::{MAX_SAFE_INTEGER, Version};
 use semver_cuts::{Cut, Span};
 use std::alloc::{AllocError, Global};
@@ -262,7 +264,7 @@ impl<'a> Ends<'a> {
     {
         match self.form {
             Form::Nothing | Form::Through => false,
-            _ => self.lower.extras.is_empty(),
+            _ => begins_clean(self.lower.extras),
         }
     }
 
@@ -290,6 +292,31 @@ impl<'a> Ends<'a> {
             Form::AtMostLeast => Ok(Span::between(Cut::Start, Cut::After(least(alloc, lower)?))),
             Form::AtLeast | Form::Nothing | Form::Through => {
                 Ok(Span::between(Cut::Before(plain(alloc, lower)), Cut::End))
+            }
+        }
+    }
+
+    // Plain ends as bounds.
+    #[inline(always)]
+    pub(crate) fn bounds(self) -> Bounds
+        requires { IsPlain self }
+        ensures { ends_seen self.entry ≡ Some result }
+    {
+        let lower = self.lower;
+        match self.form {
+            Form::UpTo | Form::BareUpTo => {
+                between(Cut::Before(bound_of(lower)), Cut::Before(least_bound(self.upper)))
+            }
+            Form::Exactly | Form::Equal => {
+                between(Cut::Before(bound_of(lower)), Cut::After(bound_of(lower)))
+            }
+            Form::Above => between(Cut::After(bound_of(lower)), Cut::End),
+            Form::Below => between(Cut::Start, Cut::Before(bound_of(lower))),
+            Form::BelowLeast => between(Cut::Start, Cut::Before(least_bound(lower))),
+            Form::AtMost => between(Cut::Start, Cut::After(bound_of(lower))),
+            Form::AtMostLeast => between(Cut::Start, Cut::After(least_bound(lower))),
+            Form::AtLeast | Form::Nothing | Form::Through => {
+                between(Cut::Before(bound_of(lower)), Cut::End)
             }
         }
     }
@@ -323,13 +350,41 @@ impl<'a> Ends<'a> {
 
 // A version without extras.
 #[inline(always)]
-#[tactic(auto, using(crate::proofs::ExtrasReading::no_extras))]
+#[tactic(auto, using(crate::proofs::PartialViews::clean_extras))]
 fn plain(alloc: Global, written: WrittenVersion) -> Version
-    requires { written.extras.now ≡ [] }
+    requires { is_clean written.extras.now ≡ true }
     ensures plain { result ≡ written_seen written.entry }
     ensures bare { result ≡ Versions.without_build (written_seen written.entry) }
 {
     Version::new(alloc, written.major, written.minor, written.patch)
+}
+
+// The same as a bound.
+#[inline(always)]
+#[tactic(auto, using(crate::proofs::PartialViews::clean_extras))]
+fn bound_of(written: WrittenVersion) -> Bound
+    requires { is_clean written.extras.now ≡ true }
+    ensures plain { result ≡ written_seen written.entry }
+    ensures bare { result ≡ Versions.without_build (written_seen written.entry) }
+{
+    Bound {
+        major: written.major,
+        minor: written.minor,
+        patch: written.patch,
+        is_least: false,
+    }
+}
+
+#[inline(always)]
+fn least_bound(written: WrittenVersion) -> Bound
+    ensures { result ≡ Versions.least_of written.entry.major written.entry.minor written.entry.patch }
+{
+    Bound {
+        major: written.major,
+        minor: written.minor,
+        patch: written.patch,
+        is_least: true,
+    }
 }
 
 // The least version with this triple: `1.2.3-0`

@@ -1,6 +1,6 @@
 use Rattle.std.proofs.Common.{ap, sym, ◌∙◌, List, ℕ}
 use Rattle.node_semver.specs.IdentifierValue.{IdentifierValue}
-use Rattle.node_semver.proofs.PartialViews.{clean-extras}
+use Rattle.node_semver.proofs.PartialViews.{clean_extras}
 use Rattle.node_semver.proofs.parse.extras.skip_extras.Goals as goal
 
 -- a prerelease, a build and the rest
@@ -10,4 +10,4 @@ Extras = (List IdentifierValue × List IdentifierValue) × List ℕ
 pub returns-then-begins_clean : goal.returns-then-begins_clean
 returns-then-begins_clean c =
     let clean = sym c.begins_clean.ensures ∙ c.if-begins_clean.true in
-    sym (ap (λ (read : Extras). read.1) (clean-extras c.args.text.now clean))
+    sym (ap (λ (read : Extras). read.1) (clean_extras c.args.text.now clean))

@@ -32,11 +32,11 @@ impl Model for Bound {
     ghost Value = { VersionValue };
 
     ghost view = { λ b. record {
-        major = b.major;
-        minor = b.minor;
-        patch = b.patch;
-        pre_release = if b.is_least then numeric 0 ∷ [] else [];
-        build = [];
+      major = b.major;
+      minor = b.minor;
+      patch = b.patch;
+      pre_release = if b.is_least then numeric 0 ∷ [] else [];
+      build = [];
     } };
 }
 

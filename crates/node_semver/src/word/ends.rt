@@ -305,7 +305,10 @@ impl<'a> Ends<'a> {
         let lower = self.lower;
         match self.form {
             Form::UpTo | Form::BareUpTo => {
-                between(Cut::Before(bound_of(lower)), Cut::Before(least_bound(self.upper)))
+                between(
+                    Cut::Before(bound_of(lower)),
+                    Cut::Before(least_bound(self.upper)),
+                )
             }
             Form::Exactly | Form::Equal => {
                 between(Cut::Before(bound_of(lower)), Cut::After(bound_of(lower)))

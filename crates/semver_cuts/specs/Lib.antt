@@ -10,10 +10,15 @@ pub mod CutLaws
 pub mod Ends
 -- what cuts and spans feed a hasher
 pub mod Hash
--- what the spans of a list have in common
+-- the cuts in each and in one of the spans of a list
 pub mod Common
 -- the ends of what they have in common
 pub mod Merging
+-- ---- Algebra of lists of spans
+-- what two lists have in common
+pub mod CommonSpans
+-- what one has and the other has not
+pub mod Rest
 -- ---- Said of no public call
 -- what private functions compute
 pub mod Private

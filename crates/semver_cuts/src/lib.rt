@@ -10,6 +10,7 @@
 //! The module [`laws`] holds what is proved of the order.
 #![tactic(auto)]
 
+pub mod algebra;
 mod cut;
 pub mod laws;
 mod span;

@@ -6,5 +6,7 @@ pub mod CutOrder
 pub mod Ends
 -- the chosen ends of a list of spans, and what the spans have in common
 pub mod Merging
+-- spans that are apart
+pub mod Apart
 -- what equal cuts and equal spans feed a hasher
 pub mod Hash

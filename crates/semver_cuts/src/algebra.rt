@@ -2,6 +2,8 @@
 ghost use Rattle.std.specs.Prelude.{◌≡◌, ◌++◌, ◌∷◌, [], List, OnOk};
 ghost use Rattle.semver_cuts.specs.Ends.{Ends, IsCutBelow, span_between};
 
+mod joined;
+
 use crate::Cut;
 use std::alloc::AllocError;
 

@@ -1,1 +1,4 @@
 pub mod CutLine
+pub mod Greatest
+pub mod Parts
+pub mod Pieces

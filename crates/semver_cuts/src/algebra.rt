@@ -3,6 +3,7 @@ ghost use Rattle.std.specs.Prelude.{◌≡◌, ◌++◌, ◌∷◌, [], List, On
 ghost use Rattle.semver_cuts.specs.Ends.{Ends, IsCutBelow, span_between};
 
 mod joined;
+mod rest;
 
 use crate::Cut;
 use std::alloc::AllocError;

@@ -8,5 +8,7 @@ pub mod Ends
 pub mod Merging
 -- spans that are apart
 pub mod Apart
+-- spans with their places
+pub mod Placed
 -- what equal cuts and equal spans feed a hasher
 pub mod Hash

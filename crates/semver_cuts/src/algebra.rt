@@ -2,7 +2,9 @@
 ghost use Rattle.std.specs.Prelude.{◌≡◌, ◌++◌, ◌∷◌, [], List, OnOk};
 ghost use Rattle.semver_cuts.specs.Ends.{Ends, IsCutBelow, span_between};
 
+mod join;
 mod joined;
+mod placed;
 mod rest;
 
 use crate::Cut;

@@ -1,17 +1,16 @@
 -- What the spans of a list are joined to: apart, with their cuts, and of equal ends the first of the list.
-use Rattle.std.proofs.Common.{◌≡◌, ◌⊎◌, ◌↔◌, ℕ, ◌+◌, ◌<◌, ◌≤◌, suc, List, [], ◌∷◌, ◌++◌, map, length, get_or, Ordering, Equal, Bool, false, refl, sym, ap, subst, ◌∙◌, inl, inr, ⊎_elim, arith, add-one}
+use Rattle.std.proofs.Common.{◌≡◌, ◌↔◌, ℕ, ◌+◌, ◌≤◌, suc, List, [], ◌∷◌, ◌++◌, map, Ordering, Equal, Bool, false, refl, sym, ap, subst, ◌∙◌, inl, inr, arith, add-one}
 use Rattle.std.specs.List.{AllByRecursion}
 use Rattle.std.specs.List.Sorted.{IsPermutation, IsSorted, IsSortedBy}
 use Rattle.std.specs.Ordering.{is_lt}
 use Rattle.std.specs.Cmp.{IsStrictWeakOrder, IsTotalOrder}
 use Rattle.std.proofs.lemmas.List.{append_assoc}
-use Rattle.std.proofs.lemmas.List.Elements.{All-from_get_or, All-from_recursion, recursion_from_All}
+use Rattle.std.proofs.lemmas.List.Elements.{All-from_recursion, recursion_from_All}
 use Rattle.std.proofs.lemmas.List.Sorted.{All-permutation, IsPermutation-sym, ranks_by, sorted_far}
 use Rattle.semver_cuts.specs.declared.cut.Cut.{Cut}
 use Rattle.semver_cuts.specs.Cut.{cut_cmp}
 use Rattle.semver_cuts.specs.Common.{AreApart, IsInSome}
 use Rattle.semver_cuts.specs.Ends.{Ends, IsCutBelow, IsInSpan}
-use Rattle.semver_cuts.specs.Merging.{IsChosenEnd}
 use Rattle.semver_cuts.specs.Rest.{IsFirstAt}
 use Rattle.semver_cuts.specs.Private.Apart.{AreRising}
 use Rattle.semver_cuts.specs.Private.Joined.{AreJoined}
@@ -22,7 +21,7 @@ use Rattle.semver_cuts.specs.Lemmas.Ends.{below-not-at_most, below_trans, cut_cm
 use Rattle.semver_cuts.specs.Lemmas.Merging.{all_both, all_map, all_middle}
 use Rattle.semver_cuts.specs.Lemmas.Placed.{placed_total}
 use Rattle.semver_cuts.proofs.PlacedOrder.{AreInOrder, IsAmong, all-among}
-use Rattle.semver_cuts.proofs.Joining.{AreEntries, IsFirstPlaced, entries-from, new-run}
+use Rattle.semver_cuts.proofs.Joining.{IsFirstPlaced, entries-from, new-run}
 
 all_unit : {X : Type 0} (xs : List X) → AllByRecursion (λ (x : X). Unit {0}) xs
 all_unit [] = tt

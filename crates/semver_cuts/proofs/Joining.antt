@@ -1,10 +1,8 @@
 -- Spans that are joined in the order of their lower ends: what comes out is apart, has their cuts, and of equal ends the first.
-use Rattle.std.proofs.Common.{◌≡◌, ◌⊎◌, ◌↔◌, ℕ, ◌<◌, ◌≤◌, List, [], ◌∷◌, map, Ordering, Less, Equal, Greater, Bool, true, false, if◌then◌else◌, refl, sym, ap, subst, ◌∙◌, inl, inr, ⊎_elim, arith}
-use mathlib.Core.Bool.{true≢false}
+use Rattle.std.proofs.Common.{◌≡◌, ◌⊎◌, ◌↔◌, ℕ, ◌≤◌, List, [], ◌∷◌, map, Ordering, Equal, Bool, true, false, if◌then◌else◌, refl, sym, ap, subst, ◌∙◌, inl, inr, ⊎_elim, arith}
 use Rattle.std.specs.List.{AllByRecursion}
-use Rattle.std.specs.Ordering.{is_lt, nat_cmp, ordering_then}
+use Rattle.std.specs.Ordering.{is_lt}
 use Rattle.std.specs.Cmp.{IsTotalOrder}
-use Rattle.std.proofs.lemmas.Cmp.{ranked}
 use Rattle.semver_cuts.specs.declared.cut.Cut.{Cut}
 use Rattle.semver_cuts.specs.Cut.{cut_cmp}
 use Rattle.semver_cuts.specs.Common.{AreApart, IsInSome}
@@ -13,7 +11,7 @@ use Rattle.semver_cuts.specs.Private.Apart.{AreRising}
 use Rattle.semver_cuts.specs.Private.Joining.{ends_later, joined_from}
 use Rattle.semver_cuts.specs.Private.Placed.{PlacedSpan, placed_cmp}
 use Rattle.semver_cuts.specs.Lemmas.Apart.{apart-cons}
-use Rattle.semver_cuts.specs.Lemmas.Ends.{at_most-below, at_most-from_not_lt, at_most-or-below, at_most_refl, at_most_trans, below-at_most, below-from_greater, below-from_lt, below-not-at_most, below_irrefl, below_trans, cut_cmp-equal_back, cut_cmp-equal_left, cut_cmp-refl}
+use Rattle.semver_cuts.specs.Lemmas.Ends.{at_most-below, at_most-from_not_lt, at_most-or-below, at_most_refl, at_most_trans, below-at_most, below-from_lt, below-not-at_most, below_trans, cut_cmp-equal_back, cut_cmp-refl}
 use Rattle.semver_cuts.specs.Lemmas.Merging.{all_map}
 use Rattle.semver_cuts.proofs.PlacedOrder.{AreInOrder, EndsNoLater, IsAmong, all-among, later_by, lower-later, no_later-trans, no_later_by, place-later}
 

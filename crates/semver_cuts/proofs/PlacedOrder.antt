@@ -1,5 +1,5 @@
 -- Spans in the order of their lower ends: which begins and which ends later.
-use Rattle.std.proofs.Common.{◌≡◌, ◌⊎◌, ◌↔◌, ℕ, ◌<◌, ◌≤◌, List, [], ◌∷◌, map, Ordering, Less, Equal, Greater, Bool, true, false, if◌then◌else◌, refl, sym, ap, subst, ◌∙◌, inl, inr, ⊎_elim, arith}
+use Rattle.std.proofs.Common.{◌≡◌, ◌⊎◌, ℕ, ◌<◌, ◌≤◌, List, [], ◌∷◌, Ordering, Less, Equal, Greater, true, false, refl, sym, ap, subst, ◌∙◌, inl, inr, ⊎_elim, arith}
 use mathlib.Core.Bool.{true≢false}
 use Rattle.std.specs.List.{AllByRecursion}
 use Rattle.std.specs.Ordering.{is_lt, nat_cmp, ordering_then}
@@ -7,14 +7,9 @@ use Rattle.std.specs.Cmp.{IsTotalOrder}
 use Rattle.std.proofs.lemmas.Cmp.{ranked}
 use Rattle.semver_cuts.specs.declared.cut.Cut.{Cut}
 use Rattle.semver_cuts.specs.Cut.{cut_cmp}
-use Rattle.semver_cuts.specs.Common.{AreApart, IsInSome}
-use Rattle.semver_cuts.specs.Ends.{Ends, IsCutAtMost, IsCutBelow, IsInSpan, span_between}
-use Rattle.semver_cuts.specs.Private.Apart.{AreRising}
-use Rattle.semver_cuts.specs.Private.Joining.{ends_later, joined_from}
+use Rattle.semver_cuts.specs.Ends.{IsCutAtMost, IsCutBelow}
 use Rattle.semver_cuts.specs.Private.Placed.{PlacedSpan, placed_cmp}
-use Rattle.semver_cuts.specs.Lemmas.Apart.{apart-cons}
-use Rattle.semver_cuts.specs.Lemmas.Ends.{at_most-below, at_most-from_not_lt, at_most-or-below, at_most_refl, at_most_trans, below-at_most, below-from_greater, below-from_lt, below-not-at_most, below_irrefl, below_trans, cut_cmp-equal_back, cut_cmp-equal_left, cut_cmp-refl}
-use Rattle.semver_cuts.specs.Lemmas.Merging.{all_map}
+use Rattle.semver_cuts.specs.Lemmas.Ends.{at_most-below, below-at_most, below-from_greater, cut_cmp-equal_back, cut_cmp-equal_left}
 
 -- ---- tests of numbers
 

@@ -8,6 +8,7 @@ mod placed;
 mod rest;
 
 use crate::Cut;
+pub use rest::rest_spans;
 use std::alloc::AllocError;
 
 /// What takes the spans of an answer one after another, by their ends: a list of them, or of copies.

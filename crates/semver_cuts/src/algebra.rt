@@ -2,6 +2,10 @@
 ghost use Rattle.std.specs.Prelude.{◌≡◌, ◌++◌, ◌∷◌, [], List, OnOk};
 ghost use Rattle.semver_cuts.specs.Ends.{Ends, IsCutBelow, span_between};
 
+mod common;
+
+pub use common::common_spans;
+
 use crate::Cut;
 use std::alloc::AllocError;
 

@@ -18,5 +18,7 @@ pub mod SpanRest
 pub mod CommonSpans
 -- when two lists share a cut
 pub mod Sharing
+-- spans that are apart
+pub mod Apart
 -- what equal cuts and equal spans feed a hasher
 pub mod Hash

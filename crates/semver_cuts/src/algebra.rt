@@ -4,6 +4,7 @@ ghost use Rattle.semver_cuts.specs.Ends.{Ends, IsCutBelow, span_between};
 
 mod ask;
 mod common;
+mod joined;
 
 use crate::Cut;
 pub use ask::{covers_one, share_cut};

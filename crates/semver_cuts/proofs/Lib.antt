@@ -1,2 +1,5 @@
 pub mod CommonSpans
 pub mod CutLine
+pub mod Greatest
+pub mod Parts
+pub mod Pieces

@@ -1,3 +1,4 @@
+pub mod CommonAlong
 pub mod CommonSpans
 pub mod CutLine
 pub mod Greatest

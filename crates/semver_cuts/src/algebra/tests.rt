@@ -1,4 +1,5 @@
 ghost use Rattle.std.specs.Prelude.{map};
+ghost use Rattle.semver_cuts.specs.Ends.{span_between};
 
 use super::*;
 use crate::Span;

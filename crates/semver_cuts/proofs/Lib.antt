@@ -1,3 +1,5 @@
+pub mod CommonAlong
+pub mod CommonSpans
 pub mod CutLine
 pub mod Greatest
 pub mod Parts

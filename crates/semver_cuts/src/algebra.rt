@@ -2,12 +2,18 @@
 ghost use Rattle.std.specs.Prelude.{◌≡◌, ◌++◌, ◌∷◌, [], List, OnOk};
 ghost use Rattle.semver_cuts.specs.Ends.{Ends, IsCutBelow, span_between};
 
+mod ask;
+mod common;
 mod join;
 mod joined;
 mod placed;
 mod rest;
+#[cfg(test)]
+mod tests;
 
 use crate::Cut;
+pub use ask::{covers_one, share_cut};
+pub use common::common_spans;
 pub use rest::rest_spans;
 use std::alloc::AllocError;
 

@@ -7,6 +7,7 @@ ghost use Rattle.node_semver.specs.RangeSets.{IsRangeValue};
 ghost use Rattle.node_semver.specs.Version.{VersionValue};
 
 mod alternative;
+mod copy;
 mod display;
 mod equality;
 mod line;

@@ -6,5 +6,19 @@ pub mod CutOrder
 pub mod Ends
 -- the chosen ends of a list of spans, and what the spans have in common
 pub mod Merging
+-- facts of some element and of each element of a list
+pub mod Lists
+-- cuts in some span of a list
+pub mod InSome
+-- what two spans have in common, and when one lies in the other
+pub mod TwoSpans
+-- what one span has and another has not
+pub mod SpanRest
+-- what two lists of spans have in common
+pub mod CommonSpans
+-- when two lists share a cut
+pub mod Sharing
+-- spans that are apart
+pub mod Apart
 -- what equal cuts and equal spans feed a hasher
 pub mod Hash

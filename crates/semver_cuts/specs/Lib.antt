@@ -14,11 +14,15 @@ pub mod Hash
 pub mod Common
 -- the ends of what they have in common
 pub mod Merging
+-- what one span has and another has not
+pub mod SpanRest
 -- ---- Algebra of lists of spans
 -- what two lists have in common
 pub mod CommonSpans
 -- what one has and the other has not
 pub mod Rest
+-- whether they share a cut, and whether a span of one has all cuts of a span of the other
+pub mod Sharing
 -- ---- Said of no public call
 -- what private functions compute
 pub mod Private

@@ -2,3 +2,9 @@
 
 -- which of two ends stays where two spans are merged
 pub mod Merging
+-- spans each of which has a cut
+pub mod Apart
+-- spans that are apart and have the cuts of a list
+pub mod Joined
+-- the pieces of a span, found along such spans
+pub mod Rest

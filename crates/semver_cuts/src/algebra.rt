@@ -2,7 +2,13 @@
 ghost use Rattle.std.specs.Prelude.{◌≡◌, ◌++◌, ◌∷◌, [], List, OnOk};
 ghost use Rattle.semver_cuts.specs.Ends.{Ends, IsCutBelow, span_between};
 
+mod ask;
+mod common;
+mod joined;
+
 use crate::Cut;
+pub use ask::{covers_one, share_cut};
+pub use common::common_spans;
 use std::alloc::AllocError;
 
 /// What takes the spans of an answer one after another, by their ends: a list of them, or of copies.

@@ -1,1 +1,2 @@
+pub mod CommonSpans
 pub mod CutLine

@@ -1,6 +1,6 @@
 -- The spans that two lists have in common: their cuts, their ends, and from which two spans each comes.
-use Rattle.std.specs.Prelude.{◌≡◌, ◌≢◌, ◌⊎◌, ◌↔◌, Bool, List, [], ◌∷◌, ◌++◌, if◌then◌else◌, refl, true, false}
-use mathlib.Core.Path.{sym, subst}
+use Rattle.std.specs.Prelude.{◌≡◌, ◌≢◌, ◌↔◌, Bool, List, [], ◌∷◌, if◌then◌else◌, refl, true, false}
+use mathlib.Core.Path.{subst}
 use mathlib.Core.Logic.{inl, inr}
 use Rattle.std.specs.declared.cmp.Ordering.{Ordering}
 use Rattle.std.specs.Ordering.{is_lt}

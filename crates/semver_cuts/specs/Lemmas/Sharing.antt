@@ -1,5 +1,5 @@
 -- Cuts that two lists share: by two spans that share one, and the other way round.
-use Rattle.std.specs.Prelude.{◌⊎◌, ◌↔◌, List, [], ◌∷◌}
+use Rattle.std.specs.Prelude.{◌↔◌, List, [], ◌∷◌}
 use mathlib.Core.Logic.{inl, inr}
 use Rattle.std.specs.declared.cmp.Ordering.{Ordering}
 use Rattle.semver_cuts.specs.declared.cut.Cut.{Cut}

@@ -8,7 +8,7 @@ use Rattle.std.specs.Ordering.{is_lt}
 use Rattle.std.specs.Cmp.{IsTotalOrder}
 use Rattle.semver_cuts.specs.declared.cut.Cut.{Cut}
 use Rattle.semver_cuts.specs.Cut.{cut_cmp}
-use Rattle.semver_cuts.specs.Ends.{Ends, IsCutAtMost, IsCutBelow, IsInSpan, span_between}
+use Rattle.semver_cuts.specs.Ends.{Ends, IsCutBelow, IsInSpan, span_between}
 use Rattle.semver_cuts.specs.Common.{IsInSome}
 use Rattle.semver_cuts.specs.CommonSpans.{common_ends, common_of}
 use Rattle.semver_cuts.specs.SpanRest.{piece_above, piece_below, span_if_any, spans_share}

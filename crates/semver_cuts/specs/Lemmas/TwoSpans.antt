@@ -1,5 +1,5 @@
 -- Two spans: which cuts they have in common, when they share one, and when one has all cuts of the other.
-use Rattle.std.specs.Prelude.{◌≡◌, ◌⊎◌, ◌↔◌, Bool, IsTrue, List, [], ◌∷◌, if◌then◌else◌, refl, true, false}
+use Rattle.std.specs.Prelude.{◌≡◌, ◌↔◌, Bool, IsTrue, List, [], ◌∷◌, if◌then◌else◌, refl, true, false}
 use mathlib.Core.Path.{sym, ap, ◌∙◌}
 use mathlib.Core.Logic.{inl, inr}
 use mathlib.Core.Bool.{true≢false}

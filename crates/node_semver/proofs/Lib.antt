@@ -1,6 +1,7 @@
 mod OrderExamples
 mod Prereleases
 mod PrintExamples
+pub mod AlgebraBounds
 pub mod AlternativeLemmas
 pub mod AlternativeSets
 pub mod ByteTable
@@ -35,6 +36,7 @@ pub mod PartialViews
 pub mod PieceLemmas
 pub mod Places
 pub mod Prefixes
+pub mod RangeAlgebra
 pub mod RangeBounds
 pub mod RangeComputing
 pub mod RangeEquality

@@ -28,6 +28,7 @@ pub mod Merging
 pub mod RangeSets
 pub mod RangePrint
 pub mod RangeEquality
+pub mod RangeAlgebra
 -- ---- errors: where they stand, and how they print
 pub mod ErrorLocation
 pub mod ErrorParts

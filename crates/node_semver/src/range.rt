@@ -6,10 +6,12 @@ ghost use Rattle.node_semver.specs.Merging.{AreSetsOfText, all_cuts};
 ghost use Rattle.node_semver.specs.RangeSets.{IsRangeValue};
 ghost use Rattle.node_semver.specs.Version.{VersionValue};
 
+mod algebra;
 mod alternative;
 mod copy;
 mod display;
 mod equality;
+mod gathered;
 mod line;
 mod pieces;
 mod sets;

@@ -1,4 +1,3 @@
-use Rattle.std.proofs.Common.{◌≡◌, sym, subst}
 use Rattle.std.specs.List.{AllByRecursion}
 use Rattle.node_semver.specs.RangeSets.{IsRangeSet}
 use Rattle.node_semver.proofs.RangeBounds.{set-below}

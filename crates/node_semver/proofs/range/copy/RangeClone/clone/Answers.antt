@@ -1,4 +1,4 @@
-use Rattle.std.proofs.Common.{◌≡◌, subst}
+use Rattle.std.proofs.Common.{subst}
 use Rattle.std.specs.List.{AllByRecursion}
 use Rattle.node_semver.specs.RangeSets.{IsRangeSet}
 use Rattle.node_semver.specs.Private.RangeViews.{sets_seen}

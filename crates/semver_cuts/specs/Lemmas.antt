@@ -16,6 +16,8 @@ pub mod TwoSpans
 pub mod SpanRest
 -- what two lists of spans have in common
 pub mod CommonSpans
+-- what one list of spans has and another has not
+pub mod Rest
 -- when two lists share a cut
 pub mod Sharing
 -- spans that are apart

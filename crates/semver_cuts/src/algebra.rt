@@ -5,6 +5,7 @@ ghost use Rattle.semver_cuts.specs.Ends.{Ends, IsCutBelow, span_between};
 mod ask;
 mod common;
 mod joined;
+mod rest;
 
 use crate::Cut;
 pub use ask::{covers_one, share_cut};

@@ -104,6 +104,16 @@ impl<T: Ord> Span<T> {
         &self.upper
     }
 
+    // Both ends, of which the lower is less.
+    #[inline]
+    pub(crate) fn ends(&self) -> (&Cut<T>, &Cut<T>)
+        ensures ends { self.now ≡ span_between result.0.now result.1.now }
+        ensures rising { IsCutBelow T.cmp result.0.now result.1.now }
+    {
+        let Span { lower, upper } = self;
+        (lower, upper)
+    }
+
     /// Whether the value lies in the span: whether the cut before it does.
     ///
     /// `s.contains(&v)` is true exactly where `s.lower() <= &Cut::Before(v)` and `&Cut::Before(v) < s.upper()`.

@@ -12,8 +12,8 @@ use Rattle.semver_cuts.specs.Ends.{Ends, HoldsCut, IsInSpan}
 use Rattle.semver_cuts.specs.Common.{IsInSome}
 use Rattle.semver_cuts.specs.CommonSpans.{common_ends, common_of, common_spans, common_with, greater_cut, lesser_cut}
 use Rattle.semver_cuts.specs.Sharing.{AnyByRecursion, HaveCommonCut, ShareCut}
-use Rattle.semver_cuts.specs.Lemmas.InSome.{in_some-either, in_some-left, in_some-right}
-use Rattle.semver_cuts.specs.Lemmas.Lists.{all-append, any-either, any-left, any-right}
+use Rattle.semver_cuts.specs.Lemmas.InSome.{in_some-either, in_some-left, in_some-right, none_held}
+use Rattle.semver_cuts.specs.Lemmas.Lists.{all-always, all-append, any-either, any-left, any-right}
 use Rattle.semver_cuts.specs.Lemmas.TwoSpans.{common_ends-hold, common_of-cases, common_of-cuts, holds-below}
 
 -- the greater and the lesser of two cuts are one of them
@@ -101,16 +101,12 @@ module _ {T : Type 0} {cmp : T → T → Ordering} (o : IsTotalOrder cmp) where
         all-append Q (common_with cmp one others) (common_spans cmp ones others) (with-all one others all.0 all')
         (common_spans-each ones others all.1 all')
 
-  all-unit : (spans : List (Ends T)) → AllByRecursion (λ (span : Ends T). Unit {0}) spans
-  all-unit [] = tt
-  all-unit (span ∷ spans) = (tt, all-unit spans)
-
   -- each common span holds a cut
   pub common_spans-hold : (ones others : List (Ends T)) → AllByRecursion (HoldsCut cmp) (common_spans cmp ones others)
   common_spans-hold ones others =
       common_spans-each (λ one. Unit {0}) (λ other. Unit {0}) (HoldsCut cmp)
       (λ one other p p' shared. (holds-below o (common_ends cmp one other)).1 ((common_ends-hold o one other).0 shared))
-      ones others (all-unit ones) (all-unit others)
+      ones others (all-always (λ (one : Ends T). Unit {0}) (λ one. tt) ones) (all-always (λ (other : Ends T). Unit {0}) (λ other. tt) others)
 
   -- what holds of all lower ends and of all upper ends holds of those of the common spans
   pub common_spans-ends : (Lower Upper : Cut T → Type 0) (ones others : List (Ends T))
@@ -186,11 +182,6 @@ module _ {T : Type 0} {cmp : T → T → Ordering} (o : IsTotalOrder cmp) where
 
   -- ---- no common span
 
-  none-none : (spans : List (Ends T)) → AllByRecursion (HoldsCut cmp) spans
-      → ((cut : Cut T) → ¬ IsInSome cmp spans cut) → spans ≡ []
-  none-none [] held none = refl
-  none-none (span ∷ spans) held none = absurd (none held.0.0 (inl held.0.1))
-
   some-held : (spans : List (Ends T)) → AllByRecursion (HoldsCut cmp) spans → spans ≢ []
       → (cut : Cut T) × IsInSome cmp spans cut
   some-held [] held some = absurd (some refl)
@@ -202,7 +193,7 @@ module _ {T : Type 0} {cmp : T → T → Ordering} (o : IsTotalOrder cmp) where
   common_spans-none ones others = (
     λ none shared. subst (λ spans. IsInSome cmp spans shared.0) none
         (both-spans ones others shared.0 shared.1 shared.2),
-    λ apart. none-none (common_spans cmp ones others) (common_spans-hold ones others)
+    λ apart. none_held cmp (common_spans cmp ones others) (common_spans-hold ones others)
         (λ cut is. apart (cut, (spans-both ones others cut is).0, (spans-both ones others cut is).1)),
   )
 

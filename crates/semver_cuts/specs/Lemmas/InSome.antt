@@ -1,10 +1,11 @@
 -- Cuts in some span of a list: of two lists one after the other, and found or not found.
-use Rattle.std.specs.Prelude.{◌⊎◌, ◌↔◌, List, [], ◌∷◌, ◌++◌}
+use Rattle.std.specs.Prelude.{◌≡◌, ◌⊎◌, ◌↔◌, List, [], ◌∷◌, ◌++◌, refl}
 use mathlib.Core.Logic.{inl, inr}
 use Rattle.std.specs.declared.cmp.Ordering.{Ordering}
 use Rattle.std.specs.Cmp.{IsTotalOrder}
+use Rattle.std.specs.List.{AllByRecursion}
 use Rattle.semver_cuts.specs.declared.cut.Cut.{Cut}
-use Rattle.semver_cuts.specs.Ends.{Ends, IsInSpan}
+use Rattle.semver_cuts.specs.Ends.{Ends, HoldsCut, IsInSpan}
 use Rattle.semver_cuts.specs.Common.{IsInSome}
 use Rattle.semver_cuts.specs.Sharing.{AnyByRecursion}
 use Rattle.semver_cuts.specs.Lemmas.Ends.{at_most-or-below, below-not-at_most}
@@ -45,6 +46,13 @@ module _ {T : Type 0} (cmp : T → T → Ordering) (cut : Cut T) where
     | inl l ↦ inl (inr l)
     | inr r ↦ inr r
   ]
+
+module _ {T : Type 0} (cmp : T → T → Ordering) where
+  -- spans that hold a cut each, and no cut in any: there are none
+  pub none_held : (spans : List (Ends T)) → AllByRecursion (HoldsCut cmp) spans
+      → ((cut : Cut T) → ¬ IsInSome cmp spans cut) → spans ≡ []
+  none_held [] held none = refl
+  none_held (span ∷ spans) held none = absurd (none held.0.0 (inl held.0.1))
 
 module _ {T : Type 0} {cmp : T → T → Ordering} (o : IsTotalOrder cmp) (cut : Cut T) where
   -- a cut lies in a span or it does not

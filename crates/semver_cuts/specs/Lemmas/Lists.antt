@@ -7,6 +7,11 @@ use Rattle.std.proofs.Common.{arith}
 use Rattle.semver_cuts.specs.Sharing.{AnyByRecursion}
 
 module _ {X : Type 0} (P : X → Type 0) where
+  -- what is always so is so of each element
+  pub all-always : ((x : X) → P x) → (xs : List X) → AllByRecursion P xs
+  all-always f [] = tt
+  all-always f (x ∷ xs) = (f x, all-always f xs)
+
   -- each element of two lists is so where each of both is
   pub all-append : (xs ys : List X) → AllByRecursion P xs → AllByRecursion P ys → AllByRecursion P (xs ++ ys)
   all-append [] ys a b = b

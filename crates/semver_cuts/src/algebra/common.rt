@@ -1,9 +1,12 @@
 //! What two lists of spans have in common.
 ghost use Rattle.std.specs.Prelude.{◌≡◌, ◌++◌, OnOk};
+ghost use Rattle.semver_cuts.specs.Common.{AreApart};
+ghost use Rattle.semver_cuts.specs.Private.Apart.{AreRising};
 ghost use Rattle.semver_cuts.specs.CommonSpans.{common_spans, common_with};
 
 use crate::Span;
 use crate::algebra::Gather;
+use crate::algebra::joined::{Joined, are_apart};
 use std::alloc::AllocError;
 
 /// Hands over what two lists of spans have in common: for each span of the first list with each span of the second, from
@@ -31,11 +34,20 @@ pub fn common_spans<'a, T: Ord, S: Gather<'a, T>>(
 ) -> Result<(), AllocError>
     ensures spans { OnOk result (S.gathered into.new ≡ S.gathered into.old ++ common_spans T.cmp ones.now others.now) }
 {
-    for one in ones {
-        common_with(one, others, into)?;
+    if others.len() < FEW || !are_apart(others) {
+        for one in ones {
+            common_with(one, others, into)?;
+        }
+    } else {
+        for one in ones {
+            common_along(one, others, into)?;
+        }
     }
     Ok(())
 }
+
+// Lists shorter than this are gone through whole for each span, without a look whether they are apart.
+const FEW: usize = 3;
 
 // What one span has in common with each of the others.
 #[inline]
@@ -47,6 +59,42 @@ fn common_with<'a, T: Ord, S: Gather<'a, T>>(
     ensures { OnOk result (S.gathered into.new ≡ S.gathered into.old ++ common_with T.cmp one.now others.now) }
 {
     for other in others {
+        if let Some((lower, upper)) = one.ends_in_common(other) {
+            into.gather(lower, upper)?;
+        }
+    }
+    Ok(())
+}
+
+// The same along others that are apart: from the first that ends above where the span begins.
+fn common_along<'a, T: Ord, S: Gather<'a, T>>(
+    one: &'a Span<T>,
+    others: &'a [Span<T>],
+    into: &mut S,
+) -> Result<(), AllocError>
+    requires apart { AreApart T.cmp others.now }
+    requires rising { AreRising T.cmp others.now }
+    ensures { OnOk result (S.gathered into.new ≡ S.gathered into.old ++ common_with T.cmp one.now others.now) }
+{
+    let first = Joined::Itself(others).first_above(one.lower());
+    common_until(one, &others[first..], into)
+}
+
+// The same up to the first that begins where the span ends or above.
+#[inline]
+fn common_until<'a, T: Ord, S: Gather<'a, T>>(
+    one: &'a Span<T>,
+    others: &'a [Span<T>],
+    into: &mut S,
+) -> Result<(), AllocError>
+    requires apart { AreApart T.cmp others.now }
+    requires rising { AreRising T.cmp others.now }
+    ensures { OnOk result (S.gathered into.new ≡ S.gathered into.old ++ common_with T.cmp one.now others.now) }
+{
+    for other in others {
+        if one.upper() <= other.lower() {
+            return Ok(());
+        }
         if let Some((lower, upper)) = one.ends_in_common(other) {
             into.gather(lower, upper)?;
         }

@@ -10,17 +10,19 @@ use crate::{Cut, Span};
 
 // Whether each span ends below where the next one begins.
 pub(crate) fn are_apart<T: Ord>(spans: &[Span<T>]) -> bool
-    ensures { IsTrue result ↔ AreApart T.cmp spans.now }
+    ensures apart { IsTrue result ↔ AreApart T.cmp spans.now }
+    ensures rising { IsTrue result → AreRising T.cmp spans.now }
 {
     let Some((first, others)) = spans.split_first() else {
         return true;
     };
-    let mut last = first;
+    let mut last = first.ends();
     for span in others {
-        if last.upper() >= span.lower() {
+        let ends = span.ends();
+        if last.1 >= ends.0 {
             return false;
         }
-        last = span;
+        last = ends;
     }
     true
 }
@@ -31,8 +33,7 @@ fn ends_at<'a, T: Ord>(spans: &'a [Span<T>], place: usize) -> (&'a Cut<T>, &'a C
     requires { place < length spans.now }
     ensures { drop place spans.now ≡ span_between result.0.now result.1.now ∷ drop (place + 1) spans.now }
 {
-    let span = &spans[place];
-    (span.lower(), span.upper())
+    spans[place].ends()
 }
 
 // Spans that are apart: those of a list, or what lies between ends that were chosen from one.

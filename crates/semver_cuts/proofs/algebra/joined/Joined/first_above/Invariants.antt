@@ -1,6 +1,6 @@
 use Rattle.std.proofs.Common.{◌-◌, ◌≤◌, length, take, drop}
 use Rattle.std.specs.List.{AllByRecursion}
-use Rattle.semver_cuts.specs.Ends.{Ends, IsCutAtMost, IsCutBelow}
+use Rattle.semver_cuts.specs.Ends.{IsCutAtMost, IsCutBelow}
 use Rattle.semver_cuts.specs.Private.Joined.{joined_spans}
 use Rattle.semver_cuts.proofs.algebra.joined.Joined.first_above.Given as goal
 

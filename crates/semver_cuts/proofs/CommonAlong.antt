@@ -1,5 +1,5 @@
 -- What a span has in common with others that are apart: nothing with those before it and those behind it.
-use Rattle.std.proofs.Common.{◌≡◌, ◌<◌, ◌+◌, ℕ, Bool, List, [], ◌∷◌, ◌++◌, get_or, length, take, drop, ap, subst, sym, refl, ◌∙◌, inl, inr, true, false, Ordering}
+use Rattle.std.proofs.Common.{◌≡◌, ◌<◌, ◌+◌, ℕ, Bool, List, [], ◌∷◌, ◌++◌, get_or, length, take, drop, ap, subst, sym, refl, ◌∙◌, inl, true, false, Ordering}
 use Rattle.std.proofs.lemmas.List.{append-nil, drop_more, take-append-drop}
 use Rattle.std.specs.Bool.{if◌then◌else◌}
 use Rattle.std.specs.Cmp.{IsTotalOrder}
@@ -13,7 +13,7 @@ use Rattle.semver_cuts.specs.Sharing.{HaveCommonCut}
 use Rattle.semver_cuts.specs.Private.Apart.{AreRising}
 use Rattle.semver_cuts.specs.Private.Rest.{ending_above}
 use Rattle.semver_cuts.specs.Lemmas.Apart.{apart-above, apart-behind, rising-behind}
-use Rattle.semver_cuts.specs.Lemmas.Ends.{at_most-below, at_most-from_le, at_most_trans, below-at_most, below-not-at_most, below_trans}
+use Rattle.semver_cuts.specs.Lemmas.Ends.{at_most-below, at_most-from_le, at_most_trans, below-not-at_most, below_trans}
 use Rattle.semver_cuts.specs.Lemmas.Merging.{all_map}
 use Rattle.semver_cuts.specs.Lemmas.TwoSpans.{common_of-cases}
 use Rattle.semver_cuts.proofs.CommonSpans.{common_with-append}

@@ -6,6 +6,8 @@ mod ask;
 mod common;
 mod joined;
 mod rest;
+#[cfg(test)]
+mod tests;
 
 use crate::Cut;
 pub use ask::{covers_one, share_cut};

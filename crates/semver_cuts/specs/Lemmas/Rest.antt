@@ -115,6 +115,19 @@ module _ {T : Type 0} (cmp : T → T → Ordering) where
         (λ cut is. let left = of-rest ones others rest cut are is in covered (cut, left.0, left.1)),
   )
 
+module _ {T : Type 0} {cmp : T → T → Ordering} (o : IsTotalOrder cmp) where
+  -- nothing is left where each cut of the first list lies in some span of the second
+  pub rest_spans-covered : (ones others rest : List (Ends T)) → AreRestSpans cmp ones others rest
+      → (rest ≡ []) ↔ ((cut : Cut T) → IsInSome cmp ones cut → IsInSome cmp others cut)
+  rest_spans-covered ones others rest are =
+      let law = rest_spans-none cmp ones others rest are in (
+        λ none cut is. elim (in_some-or_not o cut others) [
+          | inl there ↦ there
+          | inr out ↦ absurd (law.0 none (cut, is, out))
+        ],
+        λ covered. law.1 (λ left. left.2 (covered left.0 left.1)),
+      )
+
 -- ---- what is common and what is left
 
 module _ {T : Type 0} {cmp : T → T → Ordering} (o : IsTotalOrder cmp) (ones others rest : List (Ends T))

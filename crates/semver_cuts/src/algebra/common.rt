@@ -2,7 +2,7 @@
 ghost use Rattle.std.specs.Prelude.{◌≡◌, ◌++◌, OnOk};
 ghost use Rattle.semver_cuts.specs.Common.{AreApart};
 ghost use Rattle.semver_cuts.specs.Private.Apart.{AreRising};
-ghost use Rattle.semver_cuts.specs.CommonSpans.{common_spans, common_with};
+ghost use Rattle.semver_cuts.specs.CommonSpans.{common_of, common_spans, common_with};
 
 use crate::Span;
 use crate::algebra::Gather;
@@ -49,6 +49,21 @@ pub fn common_spans<'a, T: Ord, S: Gather<'a, T>>(
 // Lists shorter than this are gone through whole for each span, without a look whether they are apart.
 const FEW: usize = 3;
 
+// What two spans have in common, if anything.
+#[inline]
+fn common_of<'a, T: Ord, S: Gather<'a, T>>(
+    one: &'a Span<T>,
+    other: &'a Span<T>,
+    into: &mut S,
+) -> Result<(), AllocError>
+    ensures { OnOk result (S.gathered into.new ≡ S.gathered into.old ++ common_of T.cmp one.now other.now) }
+{
+    match one.ends_in_common(other) {
+        Some((lower, upper)) => into.gather(lower, upper),
+        None => Ok(()),
+    }
+}
+
 // What one span has in common with each of the others.
 #[inline]
 fn common_with<'a, T: Ord, S: Gather<'a, T>>(
@@ -59,9 +74,7 @@ fn common_with<'a, T: Ord, S: Gather<'a, T>>(
     ensures { OnOk result (S.gathered into.new ≡ S.gathered into.old ++ common_with T.cmp one.now others.now) }
 {
     for other in others {
-        if let Some((lower, upper)) = one.ends_in_common(other) {
-            into.gather(lower, upper)?;
-        }
+        common_of(one, other, into)?;
     }
     Ok(())
 }
@@ -95,9 +108,7 @@ fn common_until<'a, T: Ord, S: Gather<'a, T>>(
         if one.upper() <= other.lower() {
             return Ok(());
         }
-        if let Some((lower, upper)) = one.ends_in_common(other) {
-            into.gather(lower, upper)?;
-        }
+        common_of(one, other, into)?;
     }
     Ok(())
 }

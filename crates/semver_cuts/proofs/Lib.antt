@@ -4,3 +4,6 @@ pub mod CutLine
 pub mod Greatest
 pub mod Parts
 pub mod Pieces
+pub mod PlacedOrder
+pub mod Joining
+pub mod JoinedSpans

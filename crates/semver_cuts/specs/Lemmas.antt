@@ -22,5 +22,7 @@ pub mod Rest
 pub mod Sharing
 -- spans that are apart
 pub mod Apart
+-- spans with their places
+pub mod Placed
 -- what equal cuts and equal spans feed a hasher
 pub mod Hash

@@ -4,7 +4,9 @@ ghost use Rattle.semver_cuts.specs.Ends.{Ends, IsCutBelow, span_between};
 
 mod ask;
 mod common;
+mod join;
 mod joined;
+mod placed;
 mod rest;
 #[cfg(test)]
 mod tests;
@@ -12,6 +14,7 @@ mod tests;
 use crate::Cut;
 pub use ask::{covers_one, share_cut};
 pub use common::common_spans;
+pub use rest::rest_spans;
 use std::alloc::AllocError;
 
 /// What takes the spans of an answer one after another, by their ends: a list of them, or of copies.

@@ -1,12 +1,15 @@
 //! The cuts of a list of spans, as spans that are apart from one another, in ascending order.
-ghost use Rattle.std.specs.Prelude.{◌≡◌, ◌↔◌, ◌<◌, ◌≤◌, ◌+◌, ◌∷◌, IsTrue, length, take, drop, OnOk};
+ghost use Rattle.std.specs.Prelude.{◌≡◌, ◌↔◌, ◌<◌, ◌≤◌, ◌+◌, ◌∷◌, IsTrue, length, take, drop, IfOk};
 ghost use Rattle.semver_cuts.specs.Common.{AreApart};
 ghost use Rattle.semver_cuts.specs.Ends.{span_between};
 ghost use Rattle.semver_cuts.specs.Private.Apart.{AreRising};
-ghost use Rattle.semver_cuts.specs.Private.Joined.{joined_spans};
+ghost use Rattle.semver_cuts.specs.Private.Joined.{AreJoined, joined_spans};
 ghost use Rattle.semver_cuts.specs.Private.Rest.{ending_above};
 
+use crate::algebra::join::join_in_order;
+use crate::algebra::placed::in_order;
 use crate::{Cut, Span};
+use std::alloc::{AllocError, Global};
 
 // Whether each span ends below where the next one begins.
 pub(crate) fn are_apart<T: Ord>(spans: &[Span<T>]) -> bool
@@ -44,6 +47,17 @@ pub(crate) enum Joined<'a, T: Ord> {
 }
 
 impl<'a, T: Ord> Joined<'a, T> {
+    // The spans of a list joined: as they stand where they are apart, which takes no memory.
+    pub(crate) fn of(alloc: Global, spans: &'a [Span<T>]) -> Result<Joined<'a, T>, AllocError>
+        ensures { IfOk result (λ joined. AreJoined T.cmp spans.now (joined_spans joined)) }
+    {
+        if are_apart(spans) {
+            return Ok(Joined::Itself(spans));
+        }
+        let order = in_order(alloc, spans)?;
+        Ok(Joined::Between(join_in_order(alloc, &order)?))
+    }
+
     // How many spans there are.
     pub(crate) fn len(&self) -> usize
         ensures { result ≡ length (joined_spans self.now) }

@@ -11,6 +11,8 @@ use Rattle.semver_cuts.specs.Private.Merging.{IsEarlierLeast, IsLaterGreatest}
 use Rattle.semver_cuts.specs.Lemmas.Ends.{at_most-from_not_lt, below-from_lt}
 use Rattle.semver_cuts.specs.Sharing.{HaveCommonCut}
 use Rattle.semver_cuts.specs.Lemmas.CommonSpans.{common_spans-cuts, common_spans-some}
+use Rattle.semver_cuts.specs.Rest.{AreRestSpans}
+use Rattle.semver_cuts.specs.Lemmas.Rest.{rest_spans-cuts}
 use Rattle.semver_cuts.specs.Lemmas.Lists.{any-map}
 use Rattle.node_semver.specs.Comparison.{version_cmp}
 use Rattle.node_semver.specs.Lemmas.Order.{version_total}
@@ -91,4 +93,16 @@ common-releases ones others v release =
     let cuts = common_spans-cuts version_total ones others (Before v) in (
       λ admits. let inside = cuts.0 (both.0 admits) in (one.1 inside.0, other.1 inside.1),
       λ admits. both.1 (cuts.1 (one.0 admits.0, other.0 admits.1)),
+    )
+
+-- what is left of one range less another admits a release exactly where the first does and the second does not
+pub rest-releases : (ones others rest : List (Ends VersionValue)) → AreRestSpans version_cmp ones others rest
+    → (v : VersionValue) → ¬ IsPrerelease v → RangeAdmits rest v ↔ (RangeAdmits ones v × (¬ RangeAdmits others v))
+rest-releases ones others rest are v release =
+    let left = release-admitted rest v release in
+    let one = release-admitted ones v release in
+    let other = release-admitted others v release in
+    let cuts = rest_spans-cuts version_cmp ones others rest are (Before v) in (
+      λ admits. let inside = cuts.0 (left.0 admits) in (one.1 inside.0, λ admits'. inside.1 (other.0 admits')),
+      λ admits. left.1 (cuts.1 (one.0 admits.0, λ inside. admits.1 (other.1 inside))),
     )

@@ -57,7 +57,7 @@ all-bounded (piece ∷ pieces) (a ∷ alternatives) are =
 -- ---- sets
 
 -- what all elements are, each of them is
-pub all-of : {X : Type 0} (P : X → Type 0) (before : List X) (x : X) (after : List X)
+all-of : {X : Type 0} (P : X → Type 0) (before : List X) (x : X) (after : List X)
     → AllByRecursion P (before ++ x ∷ after) → P x
 all-of P [] x after all = all.0
 all-of P (y ∷ before) x after all = all-of P before x after all.1

@@ -9,6 +9,7 @@ ghost use Rattle.node_semver.specs.Version.{VersionValue};
 mod algebra;
 mod alternative;
 mod copy;
+mod difference;
 mod display;
 mod equality;
 mod gathered;

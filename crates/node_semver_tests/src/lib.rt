@@ -2,11 +2,15 @@
 #![tactic(auto)]
 
 #[cfg(test)]
+mod algebra;
+#[cfg(test)]
 mod alternatives;
 #[cfg(test)]
 mod carets;
 #[cfg(test)]
 mod checks;
+#[cfg(test)]
+mod clones;
 #[cfg(test)]
 mod errors;
 #[cfg(test)]

@@ -48,6 +48,9 @@ pub mod SetLemmas
 pub mod SimpleHolds
 pub mod SimpleReading
 pub mod SomeElement
+pub mod TextCuts
+pub mod TreeAnswers
+pub mod TreeExamples
 pub mod VersionParse
 pub mod VersionReading
 pub mod WordBounds

@@ -29,6 +29,8 @@ pub mod RangeSets
 pub mod RangePrint
 pub mod RangeEquality
 pub mod RangeAlgebra
+-- ---- trees of ranges
+pub mod SetTree
 -- ---- errors: where they stand, and how they print
 pub mod ErrorLocation
 pub mod ErrorParts

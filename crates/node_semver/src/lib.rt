@@ -9,12 +9,14 @@ pub mod laws;
 mod parse;
 mod range;
 mod set;
+mod tree;
 mod version;
 mod word;
 
 pub use error::{SemverError, SemverErrorKind, SourceSpan};
 pub use identifier::Identifier;
 pub use range::Range;
+pub use tree::SetTree;
 pub use version::Version;
 
 /// The greatest major, minor or patch of a text.

@@ -40,6 +40,8 @@ mod refusals;
 #[cfg(test)]
 mod tildes;
 #[cfg(test)]
+mod trees;
+#[cfg(test)]
 mod versions;
 #[cfg(test)]
 mod words;

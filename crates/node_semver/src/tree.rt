@@ -48,12 +48,13 @@ impl SetTree {
     ///
     /// # Errors
     ///
-    /// `AllocError` where memory is refused. A text that is not read for want of memory is never taken for a refused one.
+    /// `AllocError` where memory is refused. A text that is not read for want of memory is never taken for a refused
+    /// one.
     ///
     /// # Memory
     ///
-    /// Takes the ranges of the texts, and those of the sides that are joined, each as long as it is needed. A right side
-    /// is not read where the left one has no cut. The stack grows with the depth of the tree.
+    /// Takes the ranges of the texts, and those of the sides that are joined, each as long as it is needed. A right
+    /// side is not read where the left one has no cut. The stack grows with the depth of the tree.
     ///
     /// # Examples
     ///

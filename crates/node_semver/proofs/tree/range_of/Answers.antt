@@ -17,6 +17,10 @@ memory-kind _ is = cc is
 pub returns : goal.returns
 returns c =
     elim c.in-Err.ensures.refused [
-      | inl memory ↦ absurd (c.in_default.not-OutOfMemory (memory-kind c.kind.result.now (cc (c.kind.ensures.kind, ap (λ (r : Refusal). r.kind) memory))))
-      | inr refused ↦ record { cuts = λ cut. (λ nowhere. absurd nowhere, refused-cut c.args.text.now refused.1 cut); holds = tt }
+      | inl memory ↦ absurd (c.in_default.not-OutOfMemory
+          (memory-kind c.kind.result.now (cc (c.kind.ensures.kind, ap (λ (r : Refusal). r.kind) memory))))
+      | inr refused ↦ record {
+        cuts = λ cut. (λ nowhere. absurd nowhere, refused-cut c.args.text.now refused.1 cut);
+        holds = tt;
+      }
     ]

@@ -35,6 +35,7 @@ pub mod PartialViews
 pub mod PieceLemmas
 pub mod Places
 pub mod Prefixes
+pub mod PrintReading
 pub mod RangeBounds
 pub mod RangeComputing
 pub mod RangeEquality

@@ -28,6 +28,8 @@ pub mod Merging
 pub mod RangeSets
 pub mod RangePrint
 pub mod RangeEquality
+-- ---- prints that are read again
+pub mod ReadingBack
 -- ---- errors: where they stand, and how they print
 pub mod ErrorLocation
 pub mod ErrorParts

@@ -2,6 +2,7 @@ ghost use Rattle.std.specs.Prelude.{◌≡◌, ◌⊎◌, [], IfOk, IfErr, IsOk}
 ghost use Rattle.node_semver.specs.Error.{IsOutOfMemory, kind_of};
 ghost use Rattle.node_semver.specs.Fault.{IsFaultOf};
 ghost use Rattle.node_semver.specs.Private.ReadingViews.{IsErrorOf, IsMemoryOr, kind_in};
+ghost use Rattle.node_semver.specs.ReadingBack.{VersionReadsBack};
 ghost use Rattle.node_semver.specs.Version.{VersionValue};
 ghost use Rattle.node_semver.specs.declared.parse.fault.Fault.TheVariants.{TooLarge};
 ghost use Rattle.node_semver.specs.VersionText.{IsReadAs, IsVersionText};
@@ -48,6 +49,8 @@ impl Version {
         // A version without prerelease and build takes no memory.
         ensures plain { (v : VersionValue) → IsVersionText text.now v → v.pre_release ≡ []
             → v.build ≡ [] → IsOk result }
+        // The print of what was read is read as the same version.
+        ensures print { IfOk result VersionReadsBack }
     {
         match whole(alloc, text.as_bytes()) {
             Ok(version) => Ok(version),

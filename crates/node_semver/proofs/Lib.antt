@@ -40,10 +40,12 @@ pub mod RangeBounds
 pub mod RangeComputing
 pub mod RangeEquality
 pub mod RangeExamples
+pub mod RangePrintReading
 pub mod RangeText
 pub mod SetComputing
 pub mod SetExamples
 pub mod SetLemmas
+pub mod SetPrintReading
 pub mod SimpleHolds
 pub mod SimpleReading
 pub mod SomeElement

@@ -5,14 +5,14 @@ use Rattle.std.proofs.lemmas.Fmt.{decimal_nonempty, digits_decimal, digits_value
 use Rattle.std.specs.Fmt.{decimal}
 use Rattle.std.specs.List.{AllByRecursion, join_with_byte, list_all}
 use Rattle.std.specs.Prelude.{◌&&◌, nat_lt}
-use Rattle.node_semver.specs.declared.TheConstants.{MAX_SAFE_INTEGER}
+use Rattle.node_semver.specs.declared.TheConstants.{MAX_LENGTH, MAX_SAFE_INTEGER}
 use Rattle.node_semver.specs.Characters.{AreAll, BeginsWith, BeginsWithNo, dot, hyphen, is_digit, is_identifier_character, is_version_mark, mark_of, plus}
 use Rattle.node_semver.specs.IdentifierText.{IsBuildText, IsIdentifierList, IsIdentifierText, IsPrereleaseText, identifier_of, parts_of}
 use Rattle.node_semver.specs.IdentifierValue.{IdentifierValue, numeric}
 use Rattle.node_semver.specs.NumberText.{IsNumberText, number_of}
 use Rattle.node_semver.specs.Print.{identifier_text, marked_text, version_text}
 use Rattle.node_semver.specs.RangeSets.{IsReadIdentifier}
-use Rattle.node_semver.specs.ReadingBack.{HasTextNumbers, VersionReadsBack}
+use Rattle.node_semver.specs.ReadingBack.{HasText, HasTextNumbers, VersionReadsBack}
 use Rattle.node_semver.specs.Version.{VersionValue}
 use Rattle.node_semver.specs.VersionText.{IsMarked, IsUnmarkedVersion, IsVersionText}
 use Rattle.node_semver.proofs.Digits.{digits-numerals}
@@ -228,3 +228,10 @@ text-version text v is =
 -- its print, where it is short enough, is read as that version
 pub version-reads_back : (text : List ℕ) (v : VersionValue) → IsVersionText text v → VersionReadsBack v
 version-reads_back text v is = version-printed v (text-version text v is)
+
+-- so a text that is its print is that version
+pub version-print_read : (text : List ℕ) (v : VersionValue) → HasText v → version_text v ≡ text
+    → length text ≤ MAX_LENGTH → IsVersionText text v
+version-print_read text v has print short =
+    subst (λ (l : List ℕ). IsVersionText l v) print
+    (version-reads_back has.0 v has.1 (subst (λ (l : List ℕ). length l ≤ MAX_LENGTH) (sym print) short))

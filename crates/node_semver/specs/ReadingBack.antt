@@ -1,11 +1,13 @@
 -- Which prints read back: as texts, they are read as what was printed. So what a file keeps of a version or of a range
 -- can be its print.
-use Rattle.std.specs.Prelude.{◌≡◌, ℕ, ◌≤◌, List, length}
+use Rattle.std.specs.Prelude.{◌≡◌, ℕ, ◌≤◌, List, length, Result, Ok, Err}
 use Rattle.std.specs.List.{AllByRecursion}
 use Rattle.semver_cuts.specs.declared.cut.Cut.{Cut}
 use Rattle.semver_cuts.specs.declared.cut.Cut.TheVariants.{Start, Before, After, End}
 use Rattle.semver_cuts.specs.Ends.{Ends}
 use Rattle.node_semver.specs.declared.TheConstants.{MAX_LENGTH, MAX_SAFE_INTEGER}
+use Rattle.node_semver.specs.declared.error.SemverError.{SemverError}
+use Rattle.node_semver.specs.Error.{IsOutOfMemory}
 use Rattle.node_semver.specs.Meaning.{IsRefused}
 use Rattle.node_semver.specs.Merging.{AreSetsOfText}
 use Rattle.node_semver.specs.Print.{version_text}
@@ -19,6 +21,10 @@ use Rattle.node_semver.specs.VersionText.{IsVersionText}
 -- the print of the version, where it has at most 256 bytes, is a version text of just its five fields
 abbrev pub VersionReadsBack : VersionValue → Type 0
 VersionReadsBack v = length (version_text v) ≤ MAX_LENGTH → IsVersionText (version_text v) v
+
+-- some text is read as the version
+abbrev pub HasText : VersionValue → Type 0
+HasText v = (text : List ℕ) × IsVersionText text v
 
 -- ---- ranges
 
@@ -53,3 +59,8 @@ pub record IsReadAsEqual (text : List ℕ) (sets : List (Ends VersionValue)) : T
 -- the print of a range of such sets is read as an equal range
 abbrev pub RangeReadsBack : List (Ends VersionValue) → Type 0
 RangeReadsBack sets = AllByRecursion IsPlainlyBounded sets → IsReadAsEqual (range_text sets) sets
+
+-- the answer is a range equal to these sets, or want of memory
+abbrev pub IsReadAsRange : List (Ends VersionValue) → Result (List (Ends VersionValue)) SemverError → Type 0
+IsReadAsRange sets (Ok r) = AreSameCuts r sets
+IsReadAsRange sets (Err e) = IsOutOfMemory e

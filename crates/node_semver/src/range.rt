@@ -1,9 +1,13 @@
 //! Ranges: which versions a text asks for.
-ghost use Rattle.std.specs.Prelude.{◌≡◌, ◌≢◌, ◌⊎◌, ◌↔◌, [], ◌∷◌, IfErr, IfOk, IsTrue, OnOk};
+ghost use Rattle.std.specs.Prelude.{◌≡◌, ◌≢◌, ◌⊎◌, ◌↔◌, List, [], ◌∷◌, IfErr, IfOk, IsTrue, OnOk};
+ghost use Rattle.std.specs.List.{AllByRecursion};
+ghost use Rattle.semver_cuts.specs.Ends.{Ends};
 ghost use Rattle.node_semver.specs.Error.{IsOutOfMemory, IsRefusalAt, no_valid_ranges};
 ghost use Rattle.node_semver.specs.Meaning.{IsRefused, RangeAdmits, TextAdmits};
 ghost use Rattle.node_semver.specs.Merging.{AreSetsOfText, all_cuts};
+ghost use Rattle.node_semver.specs.RangePrint.{range_text};
 ghost use Rattle.node_semver.specs.RangeSets.{IsRangeValue};
+ghost use Rattle.node_semver.specs.ReadingBack.{IsPlainlyBounded, IsReadAsRange, RangeReadsBack};
 ghost use Rattle.node_semver.specs.Version.{VersionValue};
 
 mod alternative;
@@ -96,6 +100,10 @@ impl Range {
         ensures means { IfOk result (λ r. (v : VersionValue) → RangeAdmits r v ↔ TextAdmits text.now v) }
         ensures sets { IfOk result (λ r. AreSetsOfText text.now r) }
         ensures holds { IfOk result IsRangeValue }
+        // The print of what was read is read as an equal range, and so is each print of a range.
+        ensures print { IfOk result RangeReadsBack }
+        ensures printed { (sets : List (Ends VersionValue)) → IsRangeValue sets
+            → AllByRecursion IsPlainlyBounded sets → range_text sets ≡ text.now → IsReadAsRange sets result }
     {
         let only = read_only_word(text.as_bytes());
         if !only.is_plain() {

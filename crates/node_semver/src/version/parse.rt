@@ -1,8 +1,10 @@
-ghost use Rattle.std.specs.Prelude.{◌≡◌, ◌⊎◌, [], IfOk, IfErr, IsOk};
+ghost use Rattle.std.specs.Prelude.{◌≡◌, ◌⊎◌, ◌≤◌, [], IfOk, IfErr, IsOk, length};
 ghost use Rattle.node_semver.specs.Error.{IsOutOfMemory, kind_of};
 ghost use Rattle.node_semver.specs.Fault.{IsFaultOf};
 ghost use Rattle.node_semver.specs.Private.ReadingViews.{IsErrorOf, IsMemoryOr, kind_in};
-ghost use Rattle.node_semver.specs.ReadingBack.{VersionReadsBack};
+ghost use Rattle.node_semver.specs.Print.{version_text};
+ghost use Rattle.node_semver.specs.ReadingBack.{HasText, VersionReadsBack};
+ghost use Rattle.node_semver.specs.declared.TheConstants.{MAX_LENGTH};
 ghost use Rattle.node_semver.specs.Version.{VersionValue};
 ghost use Rattle.node_semver.specs.declared.parse.fault.Fault.TheVariants.{TooLarge};
 ghost use Rattle.node_semver.specs.VersionText.{IsReadAs, IsVersionText};
@@ -51,6 +53,8 @@ impl Version {
             → v.build ≡ [] → IsOk result }
         // The print of what was read is read as the same version.
         ensures print { IfOk result VersionReadsBack }
+        ensures printed { (v : VersionValue) → HasText v → version_text v ≡ text.now
+            → length text.now ≤ MAX_LENGTH → IsReadAs v result }
     {
         match whole(alloc, text.as_bytes()) {
             Ok(version) => Ok(version),

@@ -9,6 +9,7 @@ use Rattle.node_semver.specs.Version.{VersionValue}
 use Rattle.node_semver.specs.Private.RangeViews.{IsOnlyComparator}
 use Rattle.node_semver.proofs.OnlySet.{only-between}
 use Rattle.node_semver.proofs.RangeBounds.{text-bounded}
+use Rattle.node_semver.proofs.RangePrintReading.{print-read, range-reads_back, read-back}
 use Rattle.node_semver.proofs.SetLemmas.{empty-from_refused, text-admits}
 use Rattle.node_semver.proofs.range.Range.parse.Goals as goal
 
@@ -71,3 +72,21 @@ pub returns-in-Ok-clause-holds : goal.returns-in-Ok-clause-holds
 returns-in-Ok-clause-holds c =
     text-bounded c.args.text.now _
     (only-sets _ _ _ _ c.as_bytes.ensures.value c.read_only_word-only.ensures c.in-Ok.ensures) (some-set _)
+
+-- ---- prints
+
+pub returns-then-not-is_plain-clause-print : goal.returns-then-not-is_plain-clause-print
+returns-then-not-is_plain-clause-print c =
+    read-back c.read_range.result
+    (holds-read c.args.text.now c.read_range.result c.read_range.ensures.sets c.read_range.ensures.some)
+
+pub returns-then-not-is_plain-clause-printed : goal.returns-then-not-is_plain-clause-printed
+returns-then-not-is_plain-clause-printed c =
+    print-read c.args.text.now c.read_range.result c.read_range.ensures.refused c.read_range.ensures.sets
+
+pub returns-in-Ok-clause-print : goal.returns-in-Ok-clause-print
+returns-in-Ok-clause-print c = range-reads_back _ (returns-in-Ok-clause-holds c)
+
+pub returns-in-Ok-clause-printed : goal.returns-in-Ok-clause-printed
+returns-in-Ok-clause-printed c =
+    print-read c.args.text.now (Ok (c.in-Ok.set ∷ [])) tt (returns-in-Ok-clause-sets c)

@@ -30,6 +30,8 @@ pub mod RangePrint
 pub mod RangeEquality
 -- ---- prints that are read again
 pub mod ReadingBack
+-- ---- JSON strings
+pub mod Json
 -- ---- errors: where they stand, and how they print
 pub mod ErrorLocation
 pub mod ErrorParts

@@ -5,6 +5,7 @@ mod bound;
 mod comparator;
 mod error;
 mod identifier;
+mod json;
 pub mod laws;
 mod parse;
 mod range;
@@ -14,6 +15,7 @@ mod word;
 
 pub use error::{SemverError, SemverErrorKind, SourceSpan};
 pub use identifier::Identifier;
+pub use json::JsonError;
 pub use range::Range;
 pub use version::Version;
 

@@ -1,12 +1,14 @@
 -- Versions and ranges as JSON strings: what is answered to a string is what `parse` answers to its text.
-use Rattle.std.specs.Prelude.{◌≡◌, ◌⊎◌, ◌↔◌, ℕ, ◌≤◌, List, [], length, Result, Ok, Err, IfErr, IfOk, IsOk, OnOk}
+use Rattle.std.specs.Prelude.{◌≡◌, ◌⊎◌, ◌↔◌, ℕ, ◌≤◌, List, [], length, Option, Some, None, Result, Ok, Err, IfErr, IfOk, IsOk, OnOk}
+use Rattle.std.specs.declared.num.ParseIntError.{ParseIntError as IntFault}
 use Rattle.std.specs.List.{AllByRecursion}
 use Rattle.semver_cuts.specs.Ends.{Ends}
 use Rattle.node_semver.specs.declared.TheConstants.{MAX_LENGTH}
 use Rattle.node_semver.specs.declared.error.SemverError.{SemverError}
 use Rattle.node_semver.specs.declared.json.JsonError.{JsonError}
 use Rattle.node_semver.specs.declared.json.JsonError.TheVariants.{NotAString, Semver}
-use Rattle.node_semver.specs.Error.{IsOutOfMemory, IsRefusalAt, no_valid_ranges}
+use Rattle.node_semver.specs.Error.{IsOutOfMemory, IsRefusalAt, Refusal, no_valid_ranges}
+use Rattle.node_semver.specs.ErrorEquality.{error_value}
 use Rattle.node_semver.specs.Fault.{IsFaultOf}
 use Rattle.node_semver.specs.Meaning.{IsRefused, RangeAdmits, TextAdmits}
 use Rattle.node_semver.specs.Merging.{AreSetsOfText}
@@ -42,3 +44,8 @@ abbrev pub PassesOn : {V : Type 0} → (Result V SemverError → Type 0) → Res
 PassesOn Holds (Ok v) = Holds (Ok v)
 PassesOn Holds (Err (Semver e)) = Holds (Err e)
 PassesOn Holds (Err NotAString) = ⊥
+
+-- a JSON error as a value: none where the JSON value is no string, else the refusal of its text
+abbrev pub json_error_value : JsonError → Option (Refusal × Option IntFault)
+json_error_value NotAString = None
+json_error_value (Semver e) = Some (error_value e)

@@ -1,13 +1,15 @@
 //! Versions and ranges as JSON strings.
-ghost use Rattle.std.specs.Prelude.{◌≡◌, ◌↔◌, Err, IfOk, IfSome, None};
+ghost use Rattle.std.specs.Prelude.{◌≡◌, ◌↔◌, Err, IfOk, IfSome, IsTrue, None};
 ghost use Rattle.serde_json.specs.Data.{string};
 ghost use Rattle.serde_json.specs.Find.{as_str};
 ghost use Rattle.serde_json.specs.View.{view};
+ghost use Rattle.node_semver.specs.declared.json.JsonError.{JsonError};
 ghost use Rattle.node_semver.specs.declared.json.JsonError.TheVariants.{NotAString};
-ghost use Rattle.node_semver.specs.Json.{IsRangeAnswer, IsVersionAnswer, PassesOn};
+ghost use Rattle.node_semver.specs.Json.{IsRangeAnswer, IsVersionAnswer, PassesOn, json_error_value};
 ghost use Rattle.node_semver.specs.Print.{version_text};
 ghost use Rattle.node_semver.specs.RangePrint.{range_text};
 
+use crate::laws::errors_are_equal_where_their_parts_are;
 use crate::{Range, SemverError, Version};
 use serde_json::Value;
 use std::alloc::{AllocError, Global};
@@ -30,6 +32,16 @@ pub enum JsonError {
     /// A string that is refused, with the refusal of its text.
     #[error(transparent)]
     Semver(SemverError),
+}
+
+/// JSON errors are equal where the variant is, and the errors inside are.
+///
+/// This does nothing: its contract is the law.
+pub fn json_errors_are_equal_where_their_parts_are()
+    ensures { (e f : JsonError) →
+        IsTrue (⟦<JsonError as PartialEq>⟧.eq e f) ↔ (json_error_value e ≡ json_error_value f) }
+{
+    errors_are_equal_where_their_parts_are();
 }
 
 impl Version {

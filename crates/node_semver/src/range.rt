@@ -78,6 +78,9 @@ impl Range {
     /// Of lower ends at one cut, which differ in the build alone, the last stays, and of upper ends the first:
     /// `>=1.0.0+a >=1.0.0+b` is `>=1.0.0+b`.
     ///
+    /// The print of what was read is read as an equal range, where no set is unbounded at both sides and no number of an
+    /// end is above `MAX_SAFE_INTEGER`.
+    ///
     /// # Errors
     ///
     /// - the empty text, `foo`, `~*`, `||`: `NoValidRanges` at 0, since no word is a comparator;

@@ -20,6 +20,8 @@ impl Version {
     /// it may begin with a `v` or `V` and blanks, numbers and identifiers may have leading zeros, and the `-` of a
     /// prerelease may be left out. No blank may follow. An identifier of digits above the greatest `u64` is a text.
     ///
+    /// The print of what was read is read as the same version, where it has at most `MAX_LENGTH` bytes.
+    ///
     /// # Errors
     ///
     /// Byte offsets from 0.

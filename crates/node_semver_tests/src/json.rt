@@ -1,5 +1,5 @@
-use crate::checks::is_text;
-use node_semver::{JsonError, Range, SemverErrorKind, Version};
+use crate::checks::{is_text, range_error, version_error};
+use node_semver::{JsonError, Range, SemverError, Version};
 use serde_json::Value;
 use std::alloc::{AllocError, AllocGlobal, Global};
 use std::process::Abort;
@@ -13,113 +13,131 @@ fn is_string(rt: &impl Abort, value: &Value, text: &str) {
     assert!(rt; value.as_str() == Some(text), "{value} and not {text}");
 }
 
-// A version that is read from a string is written as this one, and read as an equal one again.
+// The print of what is read of a value.
+fn version_print(alloc: Global, value: &Value) -> Result<String, Fail> {
+    let version = Version::from_json(alloc, value)?;
+    Ok(version.to_string(alloc)?)
+}
+
+fn range_print(alloc: Global, value: &Value) -> Result<String, Fail> {
+    let range = Range::from_json(alloc, value)?;
+    Ok(range.to_string(alloc)?)
+}
+
+// The JSON string of what is read of a text.
+fn version_json(alloc: Global, text: &str) -> Result<Value, Fail> {
+    let version = Version::parse(alloc, text)?;
+    Ok(version.to_json(alloc)?)
+}
+
+fn range_json(alloc: Global, text: &str) -> Result<Value, Fail> {
+    let range = Range::parse(alloc, text)?;
+    Ok(range.to_json(alloc)?)
+}
+
+// A version is written as this string, and read of it again.
 fn version_is_written(
     rt: &(impl Abort + AllocGlobal),
-    text: &str,
+    value: &Value,
     written: &str,
 ) -> Result<(), Fail> {
-    let alloc = rt.alloc();
-    let version = Version::from_json(alloc, &string(alloc, text)?)?;
-    let value = version.to_json(alloc)?;
-    is_string(rt, &value, written);
-    assert!(rt; Version::from_json(alloc, &value)? == version, "{written}");
+    is_string(rt, value, written);
+    is_text(rt, &version_print(rt.alloc(), value)?, written);
     Ok(())
 }
 
 #[test]
 fn writes_and_reads_versions(rt: HostRuntime) -> Result<(), Fail> {
-    version_is_written(&rt, "1.2.34-abc.213+2", "1.2.34-abc.213+2")?;
-    version_is_written(&rt, "v 01.2.3alpha.001", "1.2.3-alpha.1")?;
-    let alloc = rt.alloc();
-    let made = Version::with_pre_release(alloc, 1, 2, 3, 4)?;
-    is_string(&rt, &made.to_json(alloc)?, "1.2.3-4");
+    for (text, written) in &[
+        ("1.2.34-abc.213+2", "1.2.34-abc.213+2"),
+        ("v 01.2.3alpha.001", "1.2.3-alpha.1"),
+    ] {
+        version_is_written(&rt, &version_json(rt.alloc(), text)?, written)?;
+    }
     Ok(())
 }
 
+fn made_json(alloc: Global) -> Result<Value, AllocError> {
+    Version::with_pre_release(alloc, 1, 2, 3, 4)?.to_json(alloc)
+}
+
+#[test]
+fn writes_a_version_that_was_made(rt: HostRuntime) -> Result<(), Fail> {
+    version_is_written(&rt, &made_json(rt.alloc())?, "1.2.3-4")
+}
+
+// A range is written as this string, and what is read of it is printed as this text.
 fn range_is_written(
     rt: &(impl Abort + AllocGlobal),
-    text: &str,
+    value: &Value,
     written: &str,
+    read: &str,
 ) -> Result<(), Fail> {
-    let alloc = rt.alloc();
-    let range = Range::from_json(alloc, &string(alloc, text)?)?;
-    let value = range.to_json(alloc)?;
-    is_string(rt, &value, written);
-    assert!(rt; Range::from_json(alloc, &value)? == range, "{written}");
+    is_string(rt, value, written);
+    is_text(rt, &range_print(rt.alloc(), value)?, read);
     Ok(())
 }
 
 #[test]
 fn writes_and_reads_ranges(rt: HostRuntime) -> Result<(), Fail> {
-    range_is_written(&rt, "^1.2.3", ">=1.2.3 <2.0.0-0")?;
-    range_is_written(&rt, "<1.2.3", "<1.2.3")?;
-    range_is_written(&rt, "= 1.2.3-rc || >4", "1.2.3-rc||>=5.0.0")?;
-    range_is_written(&rt, ">1.2.3+a <=2.0.0+b", ">1.2.3+a <=2.0.0+b")
+    for (text, written) in &[
+        ("^1.2.3", ">=1.2.3 <2.0.0-0"),
+        ("<1.2.3", "<1.2.3"),
+        ("= 1.2.3-rc || >4", "1.2.3-rc||>=5.0.0"),
+        (">1.2.3+a <=2.0.0+b", ">1.2.3+a <=2.0.0+b"),
+    ] {
+        range_is_written(&rt, &range_json(rt.alloc(), text)?, written, written)?;
+    }
+    Ok(())
+}
+
+fn any_json(alloc: Global) -> Result<Value, AllocError> {
+    Range::any().to_json(alloc)
 }
 
 // The text of the range of all cuts is read as another range.
 #[test]
 fn any_is_not_read_back(rt: HostRuntime) -> Result<(), Fail> {
-    let alloc = rt.alloc();
-    let any = Range::any();
-    let value = any.to_json(alloc)?;
-    is_string(&rt, &value, "*");
-    let read = Range::from_json(alloc, &value)?;
-    is_text(&rt, &read.to_string(alloc)?, ">=0.0.0");
-    assert!(rt; read != any);
-    Ok(())
+    range_is_written(&rt, &any_json(rt.alloc())?, "*", ">=0.0.0")
 }
 
 // A major above the limit is printed, and no text has it.
 #[test]
 fn a_number_above_the_limit_is_not_read_back(rt: HostRuntime) -> Result<(), Fail> {
-    let alloc = rt.alloc();
-    let value = Range::parse(alloc, ">900719925474099")?.to_json(alloc)?;
+    let value = range_json(rt.alloc(), ">900719925474099")?;
     is_string(&rt, &value, ">=900719925474100.0.0");
-    assert!(rt; Range::from_json(alloc, &value).is_err());
+    assert!(rt; Range::from_json(rt.alloc(), &value).is_err());
     Ok(())
+}
+
+// Neither a version nor a range, since it is no string.
+fn is_no_string(rt: &(impl Abort + AllocGlobal), value: &Value) {
+    let version = Version::from_json(rt.alloc(), value).err();
+    assert!(rt; version == Some(JsonError::NotAString), "{value}");
+    let range = Range::from_json(rt.alloc(), value).err();
+    assert!(rt; range == Some(JsonError::NotAString), "{value}");
 }
 
 const NO_STRINGS: [&str; 6] = ["null", "true", "1", "1.5", "[\"1\"]", "{\"version\":\"1\"}"];
 
 #[test]
 fn refuses_what_is_no_string(rt: HostRuntime) -> Result<(), Fail> {
-    let alloc = rt.alloc();
     for text in &NO_STRINGS {
-        let value = Value::from_str(alloc, text)?;
-        let (version, range) = (
-            Version::from_json(alloc, &value),
-            Range::from_json(alloc, &value),
-        );
-        assert!(rt;
-            version == Err(JsonError::NotAString),
-            "{text} as a version"
-        );
-        assert!(rt; range == Err(JsonError::NotAString), "{text} as a range");
+        is_no_string(&rt, &Value::from_str(rt.alloc(), text)?);
     }
-    is_text(
-        &rt,
-        &JsonError::NotAString.to_string(alloc)?,
-        "expected a string",
-    );
     Ok(())
 }
 
-// The error is the refusal of the text, and prints as it.
+// The string is refused as its text is, and the error prints as that refusal.
 fn tells(
     rt: &(impl Abort + AllocGlobal),
     error: Option<JsonError>,
-    kind: &SemverErrorKind,
-    offset: usize,
+    refusal: SemverError,
     text: &str,
 ) -> Result<(), Fail> {
-    let Some(JsonError::Semver(inner)) = &error else {
-        return Err(Fail::new("no refusal of a text"));
-    };
-    assert!(rt; inner.kind() == kind && inner.offset() == offset, "{text}");
-    let error = error.ok_or("no error")?;
+    let error = error.ok_or("a string that was read")?;
     is_text(rt, &error.to_string(rt.alloc())?, text);
+    assert!(rt; error == JsonError::Semver(refusal), "{text}");
     Ok(())
 }
 
@@ -127,11 +145,26 @@ fn tells(
 fn refuses_strings_as_their_texts(rt: HostRuntime) -> Result<(), Fail> {
     let alloc = rt.alloc();
     let version = Version::from_json(alloc, &string(alloc, "1.2")?).err();
-    let kind = SemverErrorKind::Context("version");
-    tells(&rt, version, &kind, 3, "Failed to parse version.")?;
+    let refusal = version_error(alloc, "1.2")?;
+    tells(&rt, version, refusal, "Failed to parse version.")
+}
+
+#[test]
+fn refuses_empty_ranges_as_their_texts(rt: HostRuntime) -> Result<(), Fail> {
+    let alloc = rt.alloc();
     let range = Range::from_json(alloc, &string(alloc, "")?).err();
-    let kind = SemverErrorKind::NoValidRanges;
-    tells(&rt, range, &kind, 0, "No valid ranges could be parsed")
+    let refusal = range_error(alloc, "")?;
+    tells(&rt, range, refusal, "No valid ranges could be parsed")
+}
+
+#[test]
+fn prints_what_is_no_string(rt: HostRuntime) -> Result<(), Fail> {
+    is_text(
+        &rt,
+        &JsonError::NotAString.to_string(rt.alloc())?,
+        "expected a string",
+    );
+    Ok(())
 }
 
 const PACKAGE: &str = "{
@@ -147,32 +180,39 @@ const PACKAGE: &str = "{
   \"engines\": { \"node\": \">= 14.17 <21\" }
 }";
 
-// The ranges of one member, each name with the print of its range.
-fn ranges_of(alloc: Global, package: &Value, member: &str) -> Result<String, Fail> {
-    let ranges = package.get(member).and_then(Value::as_object);
-    let mut lines = String::new(alloc);
-    for (name, value) in ranges.ok_or("no such member")? {
-        let range = Range::from_json(alloc, value)?;
-        lines.push_str(&format!(in alloc; "{name} {range}\n")?)?;
+// The print of each range of a member.
+fn ranges_are(
+    rt: &(impl Abort + AllocGlobal),
+    package: &Value,
+    rows: &[(&str, &str, &str)],
+) -> Result<(), Fail> {
+    for (member, name, text) in rows {
+        let range = package.get(*member).and_then(|ranges| ranges.get(*name));
+        is_text(
+            rt,
+            &range_print(rt.alloc(), range.ok_or("no such range")?)?,
+            text,
+        );
     }
-    Ok(lines)
+    Ok(())
 }
+
+fn version_is(rt: &(impl Abort + AllocGlobal), package: &Value, text: &str) -> Result<(), Fail> {
+    let version = package.get("version").ok_or("no version")?;
+    is_text(rt, &version_print(rt.alloc(), version)?, text);
+    Ok(())
+}
+
+const RANGES: [(&str, &str, &str); 4] = [
+    ("dependencies", "chalk", ">=4.1.2 <5.0.0-0"),
+    ("dependencies", "lodash", ">=4.17.0 <4.18.0-0"),
+    ("dependencies", "semver", "6.3.1||>=7.5.0"),
+    ("engines", "node", ">=14.17.0 <21.0.0"),
+];
 
 #[test]
 fn reads_a_package(rt: HostRuntime) -> Result<(), Fail> {
-    let alloc = rt.alloc();
-    let package = Value::from_str(alloc, PACKAGE)?;
-    let version = Version::from_json(alloc, package.get("version").ok_or("no version")?)?;
-    is_text(&rt, &version.to_string(alloc)?, "1.2.3-rc.4");
-    is_text(
-        &rt,
-        &ranges_of(alloc, &package, "dependencies")?,
-        "chalk >=4.1.2 <5.0.0-0\nlodash >=4.17.0 <4.18.0-0\nsemver 6.3.1||>=7.5.0\n",
-    );
-    is_text(
-        &rt,
-        &ranges_of(alloc, &package, "engines")?,
-        "node >=14.17.0 <21.0.0\n",
-    );
-    Ok(())
+    let package = Value::from_str(rt.alloc(), PACKAGE)?;
+    version_is(&rt, &package, "1.2.3-rc.4")?;
+    ranges_are(&rt, &package, &RANGES)
 }

@@ -54,4 +54,5 @@ pub mod VersionReading
 pub mod WordBounds
 pub mod WordExamples
 pub mod WordLemmas
+pub mod WordPrintReading
 pub mod WordViews

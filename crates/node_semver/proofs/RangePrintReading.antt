@@ -17,7 +17,8 @@ use Rattle.node_semver.specs.Version.{VersionValue}
 use Rattle.node_semver.proofs.Merging.{merged-gives}
 use Rattle.node_semver.proofs.NoBars.{no_bars-of_none, no_end-of_none}
 use Rattle.node_semver.proofs.SetLemmas.{empty-from_refused, one-merging}
-use Rattle.node_semver.proofs.SetPrintReading.{IsReadAlike, set-read, solid-begins}
+use Rattle.node_semver.proofs.SetPrintReading.{IsReadAlike, set-read}
+use Rattle.node_semver.proofs.WordPrintReading.{solid-begins}
 
 -- the print of the set is read as a set of the same cuts
 abbrev IsReadSet : Ends VersionValue → Type 0

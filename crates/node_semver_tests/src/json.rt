@@ -1,5 +1,5 @@
-use crate::checks::{is_text, range_error, version_error};
-use node_semver::{JsonError, Range, SemverError, Version};
+use crate::checks::is_text;
+use node_semver::{JsonError, Range, SemverErrorKind, Version};
 use serde_json::Value;
 use std::alloc::{AllocError, AllocGlobal, Global};
 use std::process::Abort;
@@ -128,33 +128,41 @@ fn refuses_what_is_no_string(rt: HostRuntime) -> Result<(), Fail> {
     Ok(())
 }
 
-// The string is refused as its text is, and the error prints as that refusal.
+// The error is a refusal of this kind at this byte offset, and prints as it.
 fn tells(
     rt: &(impl Abort + AllocGlobal),
-    error: Option<JsonError>,
-    refusal: SemverError,
+    error: &JsonError,
+    kind: &SemverErrorKind,
+    offset: usize,
     text: &str,
 ) -> Result<(), Fail> {
-    let error = error.ok_or("a string that was read")?;
+    let told = match error {
+        JsonError::Semver(refusal) => refusal.kind() == kind && refusal.offset() == offset,
+        JsonError::NotAString => false,
+    };
+    assert!(rt; told, "{text}");
     is_text(rt, &error.to_string(rt.alloc())?, text);
-    assert!(rt; error == JsonError::Semver(refusal), "{text}");
     Ok(())
 }
 
 #[test]
 fn refuses_strings_as_their_texts(rt: HostRuntime) -> Result<(), Fail> {
-    let alloc = rt.alloc();
-    let version = Version::from_json(alloc, &string(alloc, "1.2")?).err();
-    let refusal = version_error(alloc, "1.2")?;
-    tells(&rt, version, refusal, "Failed to parse version.")
+    let value = string(rt.alloc(), "1.2")?;
+    let error = Version::from_json(rt.alloc(), &value)
+        .err()
+        .ok_or("1.2 was read")?;
+    let kind = SemverErrorKind::Context("version");
+    tells(&rt, &error, &kind, 3, "Failed to parse version.")
 }
 
 #[test]
 fn refuses_empty_ranges_as_their_texts(rt: HostRuntime) -> Result<(), Fail> {
-    let alloc = rt.alloc();
-    let range = Range::from_json(alloc, &string(alloc, "")?).err();
-    let refusal = range_error(alloc, "")?;
-    tells(&rt, range, refusal, "No valid ranges could be parsed")
+    let value = string(rt.alloc(), "")?;
+    let error = Range::from_json(rt.alloc(), &value)
+        .err()
+        .ok_or("nothing was read")?;
+    let kind = SemverErrorKind::NoValidRanges;
+    tells(&rt, &error, &kind, 0, "No valid ranges could be parsed")
 }
 
 #[test]

@@ -8,6 +8,7 @@ pub mod Characters
 pub mod CleanEnds
 pub mod ComponentReading
 pub mod Convex
+pub mod Decisions
 pub mod Digits
 pub mod DivisionLemmas
 pub mod DottedReading

@@ -1,4 +1,6 @@
+pub mod AnswerLemmas
 pub mod ByteLemmas
 pub mod LineLemmas
 pub mod OutputLemmas
+pub mod PairLemmas
 pub mod WorkedRows

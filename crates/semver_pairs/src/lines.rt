@@ -1,8 +1,9 @@
-//! The lines of some bytes with an end behind them, the first ones first.
-ghost use Rattle.std.specs.Prelude.{◌≡◌, ℕ, ◌==◌, ◌<◌, ◌≤◌, [], ◌∷◌, true, length, IfSome, IfNone, position};
+//! The lines of some bytes with their end behind them, the first ones first.
+ghost use Rattle.std.specs.Prelude.{◌≡◌, ◌<◌, [], ◌∷◌, true, length, IfSome, IfNone};
 ghost use Rattle.std.specs.Str.Lines.{strip_carriage_return};
-ghost use Rattle.node_semver.specs.ErrorLocation.{newline};
 ghost use Rattle.semver_pairs.specs.Pairs.{lines_read};
+
+use memchr::memchr;
 
 /// The first line and the rest, which holds the other lines.
 #[tactic(auto, using(crate::proofs::LineLemmas::first_line))]
@@ -14,7 +15,7 @@ pub(crate) fn first_line(bytes: &[u8]) -> Option<(&[u8], &[u8])>
     if bytes.is_empty() {
         return None;
     }
-    match newline_at(bytes) {
+    match memchr(b'\n', bytes) {
         Some(at) => Some((without_return(&bytes[..at]), &bytes[at + 1..])),
         None => Some((bytes, &[])),
     }
@@ -29,13 +30,4 @@ fn without_return(line: &[u8]) -> &[u8]
         [text @ .., b'\r'] => text,
         _ => line,
     }
-}
-
-/// Where the first newline stands.
-#[inline]
-fn newline_at(bytes: &[u8]) -> Option<usize>
-    ensures within { IfSome result (λ at. at < length bytes.now) }
-    ensures at { result ≡ position (λ byte. byte == newline) bytes.now }
-{
-    bytes.iter().position(|&byte| byte == b'\n')
 }

@@ -53,12 +53,12 @@ answer-exists : (range version : List ℕ) → (answer : List ℕ) × IsAnswer r
 answer-exists range version = elim (range_bad_or_good range) [
   | inl bad ↦ (codes "bad range", bad_range bad)
   | inr good ↦ elim (version_bad_or_good version) [
-      | inl bad ↦ (codes "bad version", bad_version good bad)
-      | inr read ↦ elim (admits_or_not range read.0) [
-          | inl passes ↦ (codes "yes", admitted read.0 good read.1 passes)
-          | inr fails ↦ (codes "no", turned_away read.0 good read.1 fails)
-        ]
+    | inl bad ↦ (codes "bad version", bad_version good bad)
+    | inr read ↦ elim (admits_or_not range read.0) [
+      | inl passes ↦ (codes "yes", admitted read.0 good read.1 passes)
+      | inr fails ↦ (codes "no", turned_away read.0 good read.1 fails)
     ]
+  ]
 ]
 
 -- two readings of a version line are one

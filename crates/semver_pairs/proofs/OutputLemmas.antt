@@ -39,6 +39,10 @@ exchanges-part Ended remaining remaining_new contents contents_new output ended 
   written = take part.0 output;
   taken = all.1;
   put = part.1;
-  together = (true, λ is_end. ended, drop part.0 output,
-      subst (IsOutput all.0) (sym (take-append-drop part.0 output)) all.2);
+  together = (
+    true,
+    λ is_end. ended,
+    drop part.0 output,
+    subst (IsOutput all.0) (sym (take-append-drop part.0 output)) all.2,
+  );
 }

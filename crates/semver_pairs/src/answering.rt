@@ -1,5 +1,5 @@
 //! The answers to what was read.
-ghost use Rattle.std.specs.Prelude.{◌≡◌, ◌↔◌, [], true, ◌<◌, length, IfOk, IfErr, IfSome, IfNone, IsTrue};
+ghost use Rattle.std.specs.Prelude.{◌≡◌, ◌↔◌, [], true, ◌<◌, length, IfOk, IfErr, IfSome, IfNone, IsTrue, IsUtf8};
 ghost use Rattle.node_semver.specs.Error.{out_of_memory, refusal_of};
 ghost use Rattle.node_semver.specs.Meaning.{RangeAdmits, TextAdmits};
 ghost use Rattle.node_semver.specs.Version.{VersionValue};
@@ -73,7 +73,7 @@ fn range_of(alloc: Global, line: &[u8]) -> Result<Option<Range>, RunError>
         → RangeAdmits range v ↔ TextAdmits line.now v)) }
     ensures memory { IfErr result (λ e. e ≡ RunError.Memory) }
 {
-    let Ok(text) = str::from_utf8(line) else {
+    let Some(text) = text_of(line) else {
         return Ok(None);
     };
     match Range::parse(alloc, text) {
@@ -89,7 +89,7 @@ fn version_of(alloc: Global, line: &[u8]) -> Result<Option<Version>, RunError>
     ensures good { IfOk result (λ found. IfSome found (IsGoodVersion line.now)) }
     ensures memory { IfErr result (λ e. e ≡ RunError.Memory) }
 {
-    let Ok(text) = str::from_utf8(line) else {
+    let Some(text) = text_of(line) else {
         return Ok(None);
     };
     match Version::parse(alloc, text) {
@@ -104,4 +104,15 @@ fn is_want_of_memory(error: &SemverError) -> bool
     ensures { IsTrue result ↔ ((refusal_of error.now).kind ≡ out_of_memory) }
 {
     matches!(error.kind(), SemverErrorKind::OutOfMemory)
+}
+
+/// The text of a line, or none where it is not UTF-8.
+fn text_of(line: &[u8]) -> Option<&str>
+    ensures text { IfSome result (λ text. (text.now ≡ line.now) × IsUtf8 line.now) }
+    ensures none { IfNone result (¬ IsUtf8 line.now) }
+{
+    if line.is_ascii() {
+        return Some(unsafe { str::from_utf8_unchecked(line) });
+    }
+    str::from_utf8(line).ok()
 }

@@ -15,7 +15,7 @@ use Rattle.node_semver.proofs.RangeComputing.{accepted-by, admits-by, alternativ
 use Rattle.node_semver.proofs.RangeExamples.{no_word-refused}
 use Rattle.semver_pairs.specs.Answer.{admitted, bad_range, bad_version, IsBadVersion, IsGoodRange, IsGoodVersion}
 use Rattle.semver_pairs.specs.Lines.{divided}
-use Rattle.semver_pairs.specs.Output.{IsOutput}
+use Rattle.semver_pairs.specs.Output.{IsOutput, IsOutputPrefix}
 use Rattle.semver_pairs.specs.Pairs.{both, lone, lines_read, pairs_read}
 
 -- ---- lines and pairs
@@ -60,6 +60,16 @@ nothing_for_no_bytes = refl
 
 pub a_lone_line_has_no_version : IsOutput (codes "\n") (codes "missing version\n")
 a_lone_line_has_no_version = (codes "missing version", [], refl, refl, refl)
+
+-- where a read failed, the rest has no answer, whatever the version would be
+pub an_unended_rest_is_not_answered : ¬ IsOutputPrefix ⊥ (codes "1\n1.0.0") (codes "yes\n")
+an_unended_rest_is_not_answered (true, ended, more, answers) = ended refl
+an_unended_rest_is_not_answered (false, ended, more, answers) = cc answers
+
+-- nor does a range line, though it is ended
+pub a_range_line_is_not_answered : ¬ IsOutputPrefix ⊥ (codes "1\n") (codes "missing version\n")
+a_range_line_is_not_answered (true, ended, more, answers) = ended refl
+a_range_line_is_not_answered (false, ended, more, answers) = cc answers
 
 -- the byte 255 begins no character
 not_utf8 : ¬ IsUtf8 (255 ∷ [])

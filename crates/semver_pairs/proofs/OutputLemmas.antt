@@ -8,8 +8,7 @@ use Rattle.semver_pairs.proofs.AnswerLemmas.{answers-exist}
 
 -- nothing is a beginning, also where the end was not read
 nothing-begins : (Ended : Type 0) (read : List ℕ) → IsOutputPrefix Ended read []
-nothing-begins Ended read = let answers = answers-exist (pairs_read false read) in
-    (false, λ is_end. cc is_end, answers.0, answers.1)
+nothing-begins Ended read = (false, λ is_end. cc is_end, answers-exist (pairs_read false read))
 
 -- some bytes were read, and nothing was written
 pub exchanges-read : (Ended : Type 0) (remaining remaining_new contents : Option (List ℕ))
@@ -42,7 +41,6 @@ exchanges-part Ended remaining remaining_new contents contents_new output ended 
   together = (
     true,
     λ is_end. ended,
-    drop part.0 output,
-    subst (IsOutput all.0) (sym (take-append-drop part.0 output)) all.2,
+    (drop part.0 output, subst (IsOutput all.0) (sym (take-append-drop part.0 output)) all.2),
   );
 }

@@ -63,13 +63,13 @@ a_lone_line_has_no_version = (codes "missing version", [], refl, refl, refl)
 
 -- where a read failed, the rest has no answer, whatever the version would be
 pub an_unended_rest_is_not_answered : ¬ IsOutputPrefix ⊥ (codes "1\n1.0.0") (codes "yes\n")
-an_unended_rest_is_not_answered (true, ended, more, answers) = ended refl
-an_unended_rest_is_not_answered (false, ended, more, answers) = cc answers
+an_unended_rest_is_not_answered (true, ended, begins) = ended refl
+an_unended_rest_is_not_answered (false, ended, begins) = cc begins.1
 
 -- nor does a range line, though it is ended
 pub a_range_line_is_not_answered : ¬ IsOutputPrefix ⊥ (codes "1\n") (codes "missing version\n")
-a_range_line_is_not_answered (true, ended, more, answers) = ended refl
-a_range_line_is_not_answered (false, ended, more, answers) = cc answers
+a_range_line_is_not_answered (true, ended, begins) = ended refl
+a_range_line_is_not_answered (false, ended, begins) = cc begins.1
 
 -- the byte 255 begins no character
 not_utf8 : ¬ IsUtf8 (255 ∷ [])

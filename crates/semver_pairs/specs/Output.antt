@@ -21,14 +21,18 @@ AreAnswers (pair ∷ pairs) written = (answer : List ℕ) × (others : List ℕ)
 abbrev pub IsOutput : (read written : List ℕ) → Type 0
 IsOutput read written = AreAnswers (pairs_read true read) written
 
+-- a beginning of the answers to the pairs
+abbrev pub BeginsAnswers : List Pair → (written : List ℕ) → Type 0
+BeginsAnswers pairs written = (more : List ℕ) × AreAnswers pairs (written ++ more)
+
 -- the end of what is read was reached: nothing is left, and no read has failed
 abbrev pub HasEnded : {R : Type 0} → (R → Option (List ℕ)) → GaugeValue R → Type 0
 HasEnded remaining gauge = IsAtEnd (remaining gauge.inner) × (¬ HasFailed gauge)
 
 -- a beginning of the answers to the pairs that were wholly read
 abbrev pub IsOutputPrefix : (Ended : Type 0) → (read written : List ℕ) → Type 0
-IsOutputPrefix Ended read written = (is_end : Bool) × (IsTrue is_end → Ended)
-    × (more : List ℕ) × AreAnswers (pairs_read is_end read) (written ++ more)
+IsOutputPrefix Ended read written =
+    (is_end : Bool) × (IsTrue is_end → Ended) × BeginsAnswers (pairs_read is_end read) written
 
 -- Some bytes were read and some were written, and they go together so.
 pub record Exchanges (GoTogether : List ℕ → List ℕ → Type 0)

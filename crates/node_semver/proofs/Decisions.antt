@@ -23,13 +23,16 @@ Decided P = P ⊎ (¬ P)
 -- a span holds a cut or none
 holds_or_not : (span : Ends VersionValue) → Decided (HoldsCut version_cmp span)
 holds_or_not span = elim (cases_Bool (is_lt (cut_cmp version_cmp span.lower span.upper))) [
-  | inl passes ↦ inl (span.lower, record {
+  | inl passes ↦ inl (
+    span.lower,
+    record {
       lower = at_most_refl version_total span.lower;
       upper = below-from_lt version_cmp span.lower span.upper passes;
-    })
+    },
+  )
   | inr fails ↦ inr (λ holds. let passes : is_lt (cut_cmp version_cmp span.lower span.upper) ≡ true =
       lt-from_below version_cmp span.lower span.upper
-          (at_most-below version_total span.lower holds.0 span.upper holds.1.lower holds.1.upper) in
+      (at_most-below version_total span.lower holds.0 span.upper holds.1.lower holds.1.upper) in
       cc (passes, fails))
 ]
 
@@ -48,9 +51,9 @@ none_or_some [] = inl tt
 none_or_some (comparators ∷ alternatives) = elim (gives_or_not comparators) [
   | inl gives ↦ inr (λ none. none.0 gives)
   | inr fails ↦ elim (none_or_some alternatives) [
-      | inl none ↦ inl (fails, none)
-      | inr some ↦ inr (λ none. some none.1)
-    ]
+    | inl none ↦ inl (fails, none)
+    | inr some ↦ inr (λ none. some none.1)
+  ]
 ]
 
 -- a text is refused or not

@@ -14,6 +14,9 @@ pub mod Hash
 pub mod Common
 -- the ends of what they have in common
 pub mod Merging
+-- ---- Steps from value to value
+-- the least value, and the next one
+pub mod Steps
 -- ---- Said of no public call
 -- what private functions compute
 pub mod Private

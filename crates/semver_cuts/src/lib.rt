@@ -13,6 +13,8 @@
 mod cut;
 pub mod laws;
 mod span;
+mod stepped;
 
 pub use cut::Cut;
 pub use span::Span;
+pub use stepped::Stepped;

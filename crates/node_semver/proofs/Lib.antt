@@ -1,3 +1,4 @@
+mod LeastExamples
 mod OrderExamples
 mod Prereleases
 mod PrintExamples
@@ -18,6 +19,8 @@ pub mod FaultReading
 pub mod HyphenReading
 pub mod IdentifierReading
 pub mod LeadReading
+pub mod LeastLemmas
+pub mod LeastOfSets
 pub mod LineText
 pub mod ListReading
 pub mod LongestReading
@@ -48,7 +51,9 @@ pub mod SimpleReading
 pub mod SomeElement
 pub mod VersionParse
 pub mod VersionReading
+pub mod VersionSteps
 pub mod WordBounds
 pub mod WordExamples
 pub mod WordLemmas
 pub mod WordViews
+pub mod ZeroLists

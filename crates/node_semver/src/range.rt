@@ -9,9 +9,11 @@ ghost use Rattle.node_semver.specs.Version.{VersionValue};
 mod alternative;
 mod display;
 mod equality;
+mod least;
 mod line;
 mod pieces;
 mod sets;
+mod unbuilt;
 
 use crate::set::admits;
 use crate::word::read_only_word;

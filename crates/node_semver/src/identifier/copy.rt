@@ -1,7 +1,8 @@
 //! Copies of identifiers.
 
-ghost use Rattle.std.specs.Prelude.{◌≡◌, [], IfOk, IsOk};
+ghost use Rattle.std.specs.Prelude.{◌≡◌, ◌++◌, [], ◌∷◌, IfOk, IsOk};
 ghost use Rattle.node_semver.specs.Identifier.{value_of, values_of};
+ghost use Rattle.node_semver.specs.IdentifierValue.{numeric};
 
 use crate::Identifier;
 use std::alloc::{AllocError, Global};
@@ -35,5 +36,17 @@ pub(crate) fn copies_of(
     'identifiers: for identifier in identifiers {
         copies.push(identifier.copy_of(alloc)?)?;
     }
+    Ok(copies)
+}
+
+// The identifiers and a numeric 0 after them.
+pub(crate) fn copies_with_zero(
+    alloc: Global,
+    identifiers: &[Identifier],
+) -> Result<Vec<Identifier>, AllocError>
+    ensures copies { IfOk result (λ v. values_of v.items ≡ values_of identifiers.now ++ numeric 0 ∷ []) }
+{
+    let mut copies = copies_of(alloc, identifiers)?;
+    copies.push(Identifier::Numeric(0))?;
     Ok(copies)
 }

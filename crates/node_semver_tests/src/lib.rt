@@ -14,6 +14,8 @@ mod faults;
 #[cfg(test)]
 mod hyphens;
 #[cfg(test)]
+mod least;
+#[cfg(test)]
 mod limits;
 #[cfg(test)]
 mod long_texts;

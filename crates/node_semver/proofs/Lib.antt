@@ -15,6 +15,7 @@ pub mod ExtrasReading
 pub mod FaultExamples
 pub mod FaultLemmas
 pub mod FaultReading
+pub mod FullRange
 pub mod HyphenReading
 pub mod IdentifierReading
 pub mod LeadReading

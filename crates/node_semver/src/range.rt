@@ -9,14 +9,15 @@ ghost use Rattle.node_semver.specs.Version.{VersionValue};
 mod alternative;
 mod display;
 mod equality;
+mod full;
 mod line;
 mod pieces;
 mod sets;
 
 use crate::set::admits;
-use crate::word::read_only_word;
 use crate::{SemverError, SemverErrorKind, Version};
 pub use equality::ranges_are_equal_where_their_cuts_are;
+use full::{Sign, caret_range, exact_range, read_full, tilde_range};
 use semver_cuts::{Cut, Span};
 use sets::{Sets, read_sets};
 use std::alloc::Global;
@@ -97,15 +98,11 @@ impl Range {
         ensures sets { IfOk result (λ r. AreSetsOfText text.now r) }
         ensures holds { IfOk result IsRangeValue }
     {
-        let only = read_only_word(text.as_bytes());
-        if !only.is_plain() {
-            return read_range(alloc, text);
-        }
-        match only.plain_set(alloc) {
-            Ok(set) => Ok(Range {
-                sets: Sets::One(set),
-            }),
-            Err(_) => Err(SemverError::out_of_memory(alloc)),
+        match read_full(text.as_bytes()) {
+            Some((Sign::Caret, major, minor, patch)) => caret_range(alloc, major, minor, patch),
+            Some((Sign::Tilde, major, minor, patch)) => tilde_range(alloc, major, minor, patch),
+            Some((Sign::Nothing, major, minor, patch)) => exact_range(alloc, major, minor, patch),
+            None => read_range(alloc, text),
         }
     }
 

@@ -1,7 +1,6 @@
 //! The words of a range text, and the comparator that each of them writes.
-ghost use Rattle.std.specs.Prelude.{◌≡◌, IfSome, Some};
+ghost use Rattle.std.specs.Prelude.{◌≡◌, Some};
 ghost use Rattle.node_semver.specs.Characters.{BeginsWithNo, is_blank};
-ghost use Rattle.node_semver.specs.Private.RangeViews.{IsOnlyComparator};
 ghost use Rattle.node_semver.specs.Private.WordReading as Reading;
 ghost use Rattle.node_semver.specs.Private.WordViews.{IsSound, ends_seen, partial_seen, some_word_seen, word_seen};
 
@@ -19,18 +18,6 @@ pub(crate) use hyphen::read_leading_hyphen;
 use hyphen::{hyphen_ends, read_right};
 use lead::{Lead, lead_ends, read_lead};
 use plain::plain_ends;
-
-// The ends of a text that is one word and no hyphen range: those of `^1.2.3`, and none of `1 2`
-#[inline(always)]
-pub(crate) fn read_only_word(text: &[u8]) -> Ends
-    ensures { IfSome (ends_seen result) (IsOnlyComparator text.now) }
-{
-    let (lead, operand) = read_lead(text);
-    match read_partial(operand) {
-        Some((partial, rest)) if rest.is_empty() => lead_ends(lead, partial),
-        _ => nothing(),
-    }
-}
 
 // `>=1.2.3` of `>=1.2.3 <2`, or nothing of `foo`, and the rest
 #[inline(always)]

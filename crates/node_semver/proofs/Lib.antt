@@ -40,6 +40,7 @@ pub mod RangeBounds
 pub mod RangeComputing
 pub mod RangeEquality
 pub mod RangeExamples
+pub mod RangeReading
 pub mod RangeText
 pub mod SetComputing
 pub mod SetExamples

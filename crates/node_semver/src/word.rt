@@ -26,14 +26,29 @@ pub(crate) fn read_word(text: &[u8]) -> (Ends, &[u8])
     requires { BeginsWithNo is_blank text.now }
     ensures { word_seen result ≡ Reading.read_word text.now }
 {
-    match read_comparator(text) {
+    match comparator_at(text) {
         Some(word) => word,
         None => (nothing(), skip_solid(text)),
     }
 }
 
-// A word that is not thrown away: its ends, or nothing where it writes no comparator.
+// The same as `read_comparator`, which is called where the first byte can begin a comparator, and nowhere else.
 #[inline(always)]
+fn comparator_at(text: &[u8]) -> Option<(Ends, &[u8])>
+    requires { BeginsWithNo is_blank text.now }
+    ensures { some_word_seen result ≡ Reading.or_else (Reading.read_hyphen text.now) (Reading.read_simple text.now) }
+{
+    match text {
+        [
+            b'0'..=b'9' | b'<'..=b'>' | b'^' | b'~' | b'v' | b'x' | b'X' | b'*',
+            ..
+        ] => read_comparator(text),
+        _ => None,
+    }
+}
+
+// A word that is not thrown away: its ends, or nothing where it writes no comparator.
+#[inline(never)]
 fn read_comparator(text: &[u8]) -> Option<(Ends, &[u8])>
     requires { BeginsWithNo is_blank text.now }
     ensures { some_word_seen result ≡ Reading.or_else (Reading.read_hyphen text.now) (Reading.read_simple text.now) }
@@ -50,7 +65,7 @@ fn read_comparator(text: &[u8]) -> Option<(Ends, &[u8])>
 }
 
 // A plain partial before a blank: alone, or the left side of a hyphen.
-#[inline(never)]
+#[inline(always)]
 fn plain_or_hyphen<'a>(partial: Partial<'a>, text: &'a [u8]) -> (Ends<'a>, &'a [u8])
     requires { IsSound partial }
     ensures { Some (word_seen result) ≡ Reading.or_else

@@ -1,16 +1,18 @@
 -- What the private functions that make the sets of a range do.
-use Rattle.std.specs.Prelude.{◌≡◌, ◌≤◌, ℕ, List, [], ◌∷◌, Option, Some, None}
+use Rattle.std.specs.Prelude.{◌≡◌, ◌≢◌, ◌⊎◌, ◌≤◌, ℕ, List, [], ◌∷◌, ◌++◌, Option, Some, None, Result, Ok, Err}
 use Rattle.semver_cuts.specs.Ends.{Ends, IsCutBelow}
 use Rattle.node_semver.specs.Comparator.{Comparator}
 use Rattle.node_semver.specs.Comparison.{version_cmp}
 use Rattle.node_semver.specs.Division.{HasBars, IsAlternative}
-use Rattle.node_semver.specs.Meaning.{GiveSet}
-use Rattle.node_semver.specs.Merging.{IsSetOf}
+use Rattle.node_semver.specs.Error.{IsOutOfMemory, IsRefusalAt, no_valid_ranges}
+use Rattle.node_semver.specs.Meaning.{GiveSet, IsRefused}
+use Rattle.node_semver.specs.Merging.{AreSetsOfText, IsSetOf}
 use Rattle.node_semver.specs.PartialText.{plain_partial}
 use Rattle.node_semver.specs.Version.{VersionValue}
 use Rattle.node_semver.specs.Characters.{BeginsWith, is_digit}
 use Rattle.node_semver.specs.Private.WordReading.{Lead, caret_lead, lead_comparator, no_lead, read_partial, tilde_lead}
 use Rattle.node_semver.specs.declared.TheConstants.{MAX_SAFE_INTEGER}
+use Rattle.node_semver.specs.declared.error.SemverError.{SemverError}
 use Rattle.node_semver.specs.declared.range.full.Sign.{Sign}
 use Rattle.node_semver.specs.declared.range.full.Sign.TheVariants.{Caret, Nothing, Tilde}
 use Rattle.node_semver.specs.declared.range.sets.Sets.{Sets}
@@ -70,12 +72,16 @@ abbrev pub listed_set : Option (Ends VersionValue) → List (Ends VersionValue)
 listed_set None = []
 listed_set (Some set) = set ∷ []
 
+-- the sets of one alternative more
+abbrev pub IsOneMore : List ℕ → List (Ends VersionValue) → List (Ends VersionValue) → Type 0
+IsOneMore text before after = (set : Option (Ends VersionValue)) × IsSetOfAlternative text set × (after ≡ before ++ listed_set set)
+
 -- the list of the sets of a range
 abbrev pub sets_seen : Sets → List (Ends VersionValue)
 sets_seen (One set) = set ∷ []
 sets_seen (Many sets) = sets.items
 
--- and of a text, where it gives any
-abbrev pub some_sets_seen : Option Sets → List (Ends VersionValue)
-some_sets_seen None = []
-some_sets_seen (Some sets) = sets_seen sets
+-- what is answered for a text: its sets, at least one, or its refusal, unless memory ran out
+abbrev pub IsReadRange : List ℕ → Result (List (Ends VersionValue)) SemverError → Type 0
+IsReadRange text (Ok sets) = AreSetsOfText text sets × (sets ≢ [])
+IsReadRange text (Err e) = IsOutOfMemory e ⊎ (IsRefusalAt text no_valid_ranges 0 e × IsRefused text)

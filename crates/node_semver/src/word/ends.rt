@@ -333,7 +333,7 @@ fn bound_of(written: WrittenVersion) -> Bound
         major: written.major,
         minor: written.minor,
         patch: written.patch,
-        is_least: false,
+        rank: 1,
     }
 }
 
@@ -345,7 +345,7 @@ fn least_bound(written: WrittenVersion) -> Bound
         major: written.major,
         minor: written.minor,
         patch: written.patch,
-        is_least: true,
+        rank: 0,
     }
 }
 

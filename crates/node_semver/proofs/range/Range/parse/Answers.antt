@@ -6,6 +6,7 @@ use Rattle.node_semver.specs.Merging.{AreSetsOfText}
 use Rattle.node_semver.specs.Version.{VersionValue}
 use Rattle.node_semver.specs.Private.WordReading.{caret_lead, no_lead, tilde_lead}
 use Rattle.node_semver.proofs.FullRange.{full-sets, full-some}
+use Rattle.node_semver.proofs.RangeReading.{read-refused, read-sets, read-some}
 use Rattle.node_semver.proofs.SetLemmas.{empty-from_refused, text-admits}
 use Rattle.node_semver.proofs.range.Range.parse.Goals as goal
 
@@ -23,12 +24,21 @@ means-read text (Err e) sets = tt
 
 -- ---- alternative after alternative
 
+pub returns-in-None-clause-refused : goal.returns-in-None-clause-refused
+returns-in-None-clause-refused c = read-refused c.args.text.now c.read_range.result c.read_range.ensures
+
 pub returns-in-None-clause-accepted : goal.returns-in-None-clause-accepted
 returns-in-None-clause-accepted c =
-    accepted-read c.args.text.now c.read_range.result c.read_range.ensures.sets c.read_range.ensures.some
+    let read = c.read_range.ensures in
+    let result = c.read_range.result in
+    accepted-read c.args.text.now result (read-sets c.args.text.now result read) (read-some c.args.text.now result read)
 
 pub returns-in-None-clause-means : goal.returns-in-None-clause-means
-returns-in-None-clause-means c = means-read c.args.text.now c.read_range.result c.read_range.ensures.sets
+returns-in-None-clause-means c =
+    means-read c.args.text.now c.read_range.result (read-sets c.args.text.now c.read_range.result c.read_range.ensures)
+
+pub returns-in-None-clause-sets : goal.returns-in-None-clause-sets
+returns-in-None-clause-sets c = read-sets c.args.text.now c.read_range.result c.read_range.ensures
 
 -- ---- `^1.2.3`
 

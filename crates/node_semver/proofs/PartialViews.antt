@@ -139,6 +139,17 @@ unfolding read_components
 none-three text first second next third major minor one dotted two dotted_again h =
     rw (← one, dotted, ← two, dotted_again, ← h) refl
 
+-- a text that has no digit first begins with none
+pub no-digit_first : (text : List ℕ) → (0 < length text → is_digit (get_or text 0 0) ≡ false) → BeginsWithNo is_digit text
+no-digit_first [] h = tt
+no-digit_first (b ∷ rest) h = h (omega arith)
+
+-- neither an x nor a digit is no component
+pub no-component : (text : List ℕ) → BeginsWithNo is_x text → BeginsWithNo is_digit text → None ≡ read_component text
+unfolding read_component read_number
+no-component [] x digit = refl
+no-component (b ∷ text) x digit = rw (x, digit) refl
+
 -- ---- full versions
 
 -- a number begins with a digit
@@ -198,3 +209,9 @@ full-text text first second next third major minor patch one dot1 two dot2 three
       minor_limit = number-limit second next minor two;
       patch_limit = number-limit third [] patch three;
     }
+
+-- the same by the first byte
+pub digit-first_byte : (text : List ℕ) → 0 < length text → is_digit (get_or text 0 0) ≡ true
+    → text ≡ rest_of is_blank (skip_one is_partial_mark text)
+digit-first_byte [] some digit = absurd (omega arith)
+digit-first_byte (b ∷ text) some digit = sym (digit-begins (b ∷ text) digit)

@@ -32,7 +32,7 @@ pub(crate) fn read_word(text: &[u8]) -> (Ends, &[u8])
     }
 }
 
-// The same as `read_comparator`, which is called where the first byte can begin a comparator, and nowhere else.
+// The same as `read_comparator`, where the first byte can begin a comparator.
 #[inline(always)]
 fn comparator_at(text: &[u8]) -> Option<(Ends, &[u8])>
     requires { BeginsWithNo is_blank text.now }
@@ -42,9 +42,18 @@ fn comparator_at(text: &[u8]) -> Option<(Ends, &[u8])>
         [
             b'0'..=b'9' | b'<'..=b'>' | b'^' | b'~' | b'v' | b'x' | b'X' | b'*',
             ..
-        ] => read_comparator(text),
+        ] => some_comparator(text),
         _ => None,
     }
+}
+
+// The same, whose place is then cleared where it is called, and nowhere else.
+#[inline(always)]
+fn some_comparator(text: &[u8]) -> Option<(Ends, &[u8])>
+    requires { BeginsWithNo is_blank text.now }
+    ensures { some_word_seen result ≡ Reading.or_else (Reading.read_hyphen text.now) (Reading.read_simple text.now) }
+{
+    read_comparator(text)
 }
 
 // A word that is not thrown away: its ends, or nothing where it writes no comparator.

@@ -2,6 +2,7 @@ pub mod CommonAlong
 pub mod CommonSpans
 pub mod CutLine
 pub mod Greatest
+pub mod Near
 pub mod Parts
 pub mod Pieces
 pub mod PlacedOrder

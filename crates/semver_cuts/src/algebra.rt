@@ -6,6 +6,7 @@ mod ask;
 mod common;
 mod join;
 mod joined;
+mod near;
 mod placed;
 mod rest;
 #[cfg(test)]

@@ -6,7 +6,8 @@ ghost use Rattle.semver_cuts.specs.CommonSpans.{common_of, common_spans, common_
 
 use crate::Span;
 use crate::algebra::Gather;
-use crate::algebra::joined::{Joined, are_apart};
+use crate::algebra::joined::are_apart;
+use crate::algebra::near::first_near;
 use std::alloc::AllocError;
 
 /// Hands over what two lists of spans have in common: for each span of the first list with each span of the second, from
@@ -39,8 +40,9 @@ pub fn common_spans<'a, T: Ord, S: Gather<'a, T>>(
             common_with(one, others, into)?;
         }
     } else {
+        let mut place = 0;
         for one in ones {
-            common_along(one, others, into)?;
+            place = common_along(one, others, place, into)?;
         }
     }
     Ok(())
@@ -79,18 +81,21 @@ fn common_with<'a, T: Ord, S: Gather<'a, T>>(
     Ok(())
 }
 
-// The same along others that are apart: from the first that ends above where the span begins.
+// The same along others that are apart: from the first that ends above where the span begins, looked for near a place.
+// Answers its place.
 fn common_along<'a, T: Ord, S: Gather<'a, T>>(
     one: &'a Span<T>,
     others: &'a [Span<T>],
+    place: usize,
     into: &mut S,
-) -> Result<(), AllocError>
+) -> Result<usize, AllocError>
     requires apart { AreApart T.cmp others.now }
     requires rising { AreRising T.cmp others.now }
     ensures { OnOk result (S.gathered into.new ≡ S.gathered into.old ++ common_with T.cmp one.now others.now) }
 {
-    let first = Joined::Itself(others).first_above(one.lower());
-    common_until(one, &others[first..], into)
+    let first = first_near(others, place, one.lower());
+    common_until(one, &others[first..], into)?;
+    Ok(first)
 }
 
 // The same up to the first that begins where the span ends or above.

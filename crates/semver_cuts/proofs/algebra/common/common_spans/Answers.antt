@@ -12,4 +12,4 @@ loop-one-else-not-are_apart-preserved g c =
     let item = c.one-item-in-loop-one-else-not-are_apart in
     gathered_spans-more g.T.Ord.cmp _ _ _ c.args.ones.now c.args.others.now k item.result
     c.loop-one-else-not-are_apart-test.true item.is c.loop-one-else-not-are_apart.invariant
-    c.in_ok-common_along.ensures
+    c.in_ok-place.ensures

@@ -7,7 +7,8 @@
 //!
 //! A [`Span`] is such a pair of ends with a cut between them.
 //!
-//! The module [`laws`] holds what is proved of the order.
+//! The module [`algebra`] has what lists of spans have in common, and what one has and another has not. The module
+//! [`laws`] holds what is proved of the order and of these lists.
 #![tactic(auto)]
 
 pub mod algebra;

@@ -10,6 +10,9 @@ use crate::algebra::joined::are_apart;
 use crate::algebra::near::first_near;
 use std::alloc::AllocError;
 
+// Lists shorter than this are gone through whole for each span, without a look whether they are apart.
+const FEW: usize = 3;
+
 /// Hands over what two lists of spans have in common: for each span of the first list with each span of the second, from
 /// the greater of their lower ends up to the lesser of their upper ends, where a cut lies there.
 ///
@@ -47,9 +50,6 @@ pub fn common_spans<'a, T: Ord, S: Gather<'a, T>>(
     }
     Ok(())
 }
-
-// Lists shorter than this are gone through whole for each span, without a look whether they are apart.
-const FEW: usize = 3;
 
 // What two spans have in common, if anything.
 #[inline]

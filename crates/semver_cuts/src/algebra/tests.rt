@@ -67,6 +67,40 @@ fn hands_over_what_two_lists_have_in_common(rt: HostRuntime) {
     }
 }
 
+// Two lists, and what the first has and the second has not: others that fall, overlap, touch, ascend apart, and none.
+const REST_ROWS: &[(&[(u64, u64)], &[(u64, u64)], &[(u64, u64)])] = &[
+    (&[(1, 9)], &[(5, 6), (2, 3)], &[(1, 2), (3, 5), (6, 9)]),
+    (
+        &[(1, 9)],
+        &[(5, 7), (6, 8), (2, 3)],
+        &[(1, 2), (3, 5), (8, 9)],
+    ),
+    (&[(1, 9)], &[(0, 5), (5, 9)], &[]),
+    (
+        &[(5, 9), (0, 4)],
+        &[(1, 2), (3, 6)],
+        &[(6, 9), (0, 1), (2, 3)],
+    ),
+    (&[(3, 5)], &[(0, 3), (5, 9)], &[(3, 5)]),
+    (&[(3, 5)], &[], &[(3, 5)]),
+];
+
+#[test]
+fn hands_over_what_one_list_has_and_another_has_not(rt: HostRuntime) {
+    for (ones, others, rest) in REST_ROWS {
+        let ones = spans_of(rt.alloc(), ones).expect(&rt, "memory");
+        let others = spans_of(rt.alloc(), others).expect(&rt, "memory");
+        let mut taken = Taken {
+            ends: Vec::new(rt.alloc()),
+        };
+        assert!(rt; rest_spans(rt.alloc(), &ones, &others, &mut taken).is_ok());
+        assert!(rt; taken.ends.len() == rest.len());
+        for ((lower, upper), (low, high)) in taken.ends.iter().zip(rest.iter()) {
+            assert!(rt; **lower == Cut::Before(*low) && **upper == Cut::Before(*high));
+        }
+    }
+}
+
 #[test]
 fn asks_whether_lists_share_and_cover(rt: HostRuntime) {
     for (ones, others, common, covers) in ROWS {

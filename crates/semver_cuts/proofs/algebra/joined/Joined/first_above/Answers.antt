@@ -18,7 +18,7 @@ loop-low-preserved-then-le g c =
       ordered = omega arith;
       within = omega arith;
       below = halved_below g.met.T.Ord.total spans c.requires.rising c.requires.apart c.args.cut.now middle span within
-          c.ends.ensures (at_most-from_le g.T.Ord.cmp c.ends.result.1.now c.args.cut.now (sym c.le.ensures ∙ c.if-le.true));
+          c.ends.ensures (at_most-from_le g.T.Ord.cmp c.ends.result.1.now c.args.cut.now (sym c.if-le.ensures));
       above = c.loop-low.invariant.above;
     }
 
@@ -33,7 +33,7 @@ loop-low-preserved g c =
       within = omega arith;
       below = c.loop-low.invariant.below;
       above = halved_above g.met.T.Ord.total spans c.requires.rising c.requires.apart c.args.cut.now middle span within
-          c.ends.ensures (below-from_not_le g.met.T.Ord.total c.ends.result.1.now c.args.cut.now (sym c.le.ensures ∙ c.if-le.false));
+          c.ends.ensures (below-from_not_le g.met.T.Ord.total c.ends.result.1.now c.args.cut.now (sym c.if-le.ensures));
     }
 
 pub returns-clause-above : goal.returns-clause-above
@@ -42,6 +42,7 @@ returns-clause-above g c =
     let low = c.loop-low.low in
     let Above : List (Ends g.row.T.Denot) → Type 0 = AllByRecursion (λ s. IsCutBelow g.T.Ord.cmp c.args.cut.now s.upper) in
     let e : drop c.loop-low.high spans ≡ drop low spans = ap (λ k. drop k spans) (omega arith) in
-    sym (ending_above-at g.met.T.Ord.total c.args.cut.now (take low spans) (drop low spans) c.loop-low.invariant.below
-    (subst Above e c.loop-low.invariant.above))
-    ∙ ap (ending_above g.T.Ord.cmp c.args.cut.now) (take-append-drop low spans)
+    let found = ending_above-at g.met.T.Ord.total c.args.cut.now (take low spans) (drop low spans)
+    c.loop-low.invariant.below (subst Above e c.loop-low.invariant.above) in
+    let whole = ap (ending_above g.T.Ord.cmp c.args.cut.now) (take-append-drop low spans) in
+    cc

@@ -44,3 +44,20 @@ pub holds_not-from_not_lt : (lower upper : Cut VersionValue) → is_lt (cut_cmp 
 holds_not-from_not_lt lower upper lt holds =
     let below = at_most-below version_total lower holds.0 upper holds.1.lower holds.1.upper in
     absurd (cc (lt, lt-from_below version_cmp lower upper below))
+
+-- those of merged ends of which the lower is less
+pub ordered-set : (text : List ℕ) (merged : Option Comparator) (lower upper : Cut VersionValue) (ends : Ends VersionValue)
+    → IsMergedAlternative text merged → merged ≡ Some ends → span_between lower upper ≡ ends
+    → is_lt (cut_cmp version_cmp lower upper) ≡ true → IsSetOfAlternative text (Some ends)
+ordered-set text merged lower upper ends m some same lt =
+    let holds = subst (HoldsCut version_cmp) same (holds-from_lt lower upper lt) in
+    with-set text merged ends (Some ends) m some (λ h. holds, λ h. refl) refl
+
+-- and of others none
+pub crossed-set : (text : List ℕ) (merged : Option Comparator) (lower upper : Cut VersionValue) (ends : Ends VersionValue)
+    → IsMergedAlternative text merged → merged ≡ Some ends → span_between lower upper ≡ ends
+    → is_lt (cut_cmp version_cmp lower upper) ≡ false → IsSetOfAlternative text None
+crossed-set text merged lower upper ends m some same lt =
+    let none = holds_not-from_not_lt lower upper lt in
+    with-set text merged ends None m some
+    (λ h. absurd (cc h), λ h. absurd (none (subst (HoldsCut version_cmp) (sym same) h))) tt

@@ -12,7 +12,7 @@ use Rattle.node_semver.specs.Lemmas.Order.{Equal-version, Less-version}
 
 -- ---- versions
 
-major≤ : (v w : VersionValue) → IsBelow v w ⊎ IsSame v w → v.major ≤ w.major
+pub major≤ : (v w : VersionValue) → IsBelow v w ⊎ IsSame v w → v.major ≤ w.major
 major≤ v w (inl (by_major h)) = omega arith
 major≤ v w (inl (by_minor a h)) = omega arith
 major≤ v w (inl (by_patch a b h)) = omega arith
@@ -20,7 +20,7 @@ major≤ v w (inl (before_release t n m)) = let a : v.major ≡ w.major = t.majo
 major≤ v w (inl (by_identifiers t n m h)) = let a : v.major ≡ w.major = t.major in omega arith
 major≤ v w (inr s) = let a : v.major ≡ w.major = s.triple.major in omega arith
 
-minor≤ : (v w : VersionValue) → IsBelow v w ⊎ IsSame v w → v.major ≡ w.major → v.minor ≤ w.minor
+pub minor≤ : (v w : VersionValue) → IsBelow v w ⊎ IsSame v w → v.major ≡ w.major → v.minor ≤ w.minor
 minor≤ v w (inl (by_major h)) e = absurd (omega arith)
 minor≤ v w (inl (by_minor a h)) e = omega arith
 minor≤ v w (inl (by_patch a b h)) e = omega arith
@@ -28,7 +28,7 @@ minor≤ v w (inl (before_release t n m)) e = let a : v.minor ≡ w.minor = t.mi
 minor≤ v w (inl (by_identifiers t n m h)) e = let a : v.minor ≡ w.minor = t.minor in omega arith
 minor≤ v w (inr s) e = let a : v.minor ≡ w.minor = s.triple.minor in omega arith
 
-patch≤ : (v w : VersionValue) → IsBelow v w ⊎ IsSame v w → v.major ≡ w.major → v.minor ≡ w.minor → v.patch ≤ w.patch
+pub patch≤ : (v w : VersionValue) → IsBelow v w ⊎ IsSame v w → v.major ≡ w.major → v.minor ≡ w.minor → v.patch ≤ w.patch
 patch≤ v w (inl (by_major h)) e f = absurd (omega arith)
 patch≤ v w (inl (by_minor a h)) e f = absurd (omega arith)
 patch≤ v w (inl (by_patch a b h)) e f = omega arith
@@ -37,7 +37,7 @@ patch≤ v w (inl (by_identifiers t n m h)) e f = let a : v.patch ≡ w.patch = 
 patch≤ v w (inr s) e f = let a : v.patch ≡ w.patch = s.triple.patch in omega arith
 
 -- a version between two of one triple is of that triple
-triple-between : (u v w : VersionValue) → IsBelow u v ⊎ IsSame u v → IsBelow v w ⊎ IsSame v w → HasSameTriple u w
+pub triple-between : (u v w : VersionValue) → IsBelow u v ⊎ IsSame u v → IsBelow v w ⊎ IsSame v w → HasSameTriple u w
     → HasSameTriple v w
 triple-between u v w h k t =
     let major : v.major ≡ w.major = let a = major≤ u v h in let b = major≤ v w k in let e = t.major in omega arith in
@@ -50,7 +50,7 @@ triple-between u v w h k t =
     record { major = major; minor = minor; patch = patch }
 
 -- of one triple, what is at most a prerelease is one
-prerelease-below : (v w : VersionValue) → IsBelow v w ⊎ IsSame v w → HasSameTriple v w → IsPrerelease w → IsPrerelease v
+pub prerelease-below : (v w : VersionValue) → IsBelow v w ⊎ IsSame v w → HasSameTriple v w → IsPrerelease w → IsPrerelease v
 prerelease-below v w (inl (by_major h)) t p = let e = t.major in absurd (omega arith)
 prerelease-below v w (inl (by_minor a h)) t p = let e = t.minor in absurd (omega arith)
 prerelease-below v w (inl (by_patch a b h)) t p = let e = t.patch in absurd (omega arith)
@@ -60,15 +60,15 @@ prerelease-below v w (inr s) t p = λ empty. p (sym s.pre_release ∙ empty)
 
 -- ---- ends
 
-triple-back : (v w : VersionValue) → HasSameTriple v w → HasSameTriple w v
+pub triple-back : (v w : VersionValue) → HasSameTriple v w → HasSameTriple w v
 triple-back v w t = record { major = sym t.major; minor = sym t.minor; patch = sym t.patch }
 
-from-cmp : (v w : VersionValue) → (version_cmp v w ≡ Less) ⊎ (version_cmp v w ≡ Equal) → IsBelow v w ⊎ IsSame v w
+pub from-cmp : (v w : VersionValue) → (version_cmp v w ≡ Less) ⊎ (version_cmp v w ≡ Equal) → IsBelow v w ⊎ IsSame v w
 from-cmp v w (inl e) = inl (Less-version v w e)
 from-cmp v w (inr e) = inr (Equal-version v w e)
 
 -- what is first by its value, whichever its side, has a value at most the other's
-by-value : (r s : Ordering) → (ordering_then r s ≡ Less) ⊎ (ordering_then r s ≡ Equal) → (r ≡ Less) ⊎ (r ≡ Equal)
+pub by-value : (r s : Ordering) → (ordering_then r s ≡ Less) ⊎ (ordering_then r s ≡ Equal) → (r ≡ Less) ⊎ (r ≡ Equal)
 by-value Less s h = inl refl
 by-value Equal s h = inr refl
 by-value Greater s (inl e) = cc e

@@ -53,8 +53,8 @@ read_number-large s n b ds some digit above value =
     rw (begins_so, over) refl
 
 -- digits as `parse` reads them
-own : IsNumeralModel (AreAll is_digit) number_of
-own = numerals_by_value (AreAll is_digit) (search rules)
+pub digits-numerals : IsNumeralModel (AreAll is_digit) number_of
+digits-numerals = numerals_by_value (AreAll is_digit) (search rules)
 
 -- a text with a first character is not empty
 some-length : (s : List ℕ) → BeginsWith is_digit s → 0 < length s
@@ -65,14 +65,14 @@ some-length (b ∷ s) h = omega arith
 pub large-ok : (s : List ℕ) (r : Result ℕ ParseIntError) (value : ℕ) → ParsesUnsigned 64 10 s r → AreAll is_digit s
     → r ≡ Ok value → max_int value ≡ too_large (number_of s)
 large-ok s r value h all e =
-    let w = OkIff-at_ok r _ _ value (parse_digits own 64 s r h all) e in
+    let w = OkIff-at_ok r _ _ value (parse_digits digits-numerals 64 s r h all) e in
     let fits : nat_lt (number_of s) (2 ^ 64) ≡ true = lt-ltb _ _ w.0.1 in
     rw (fits, w.1) refl
 
 pub large-err : (s : List ℕ) (r : Result ℕ ParseIntError) (error : ParseIntError) → ParsesUnsigned 64 10 s r
     → AreAll is_digit s → BeginsWith is_digit s → r ≡ Err error → parse_int ≡ too_large (number_of s)
 large-err s r error h all some e =
-    let none = OkIff-at_err r _ _ error (parse_digits own 64 s r h all) e in
+    let none = OkIff-at_err r _ _ error (parse_digits digits-numerals 64 s r h all) e in
     elim (cases_Bool (nat_lt (number_of s) (2 ^ 64))) [
       | inl fits ↦ absurd (none (some-length s some, ltb-true _ _ fits))
       | inr large ↦ rw large refl

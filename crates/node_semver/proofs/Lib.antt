@@ -1,6 +1,8 @@
+mod LeastExamples
 mod OrderExamples
 mod Prereleases
 mod PrintExamples
+pub mod AlgebraBounds
 pub mod AlternativeLemmas
 pub mod AlternativeSets
 pub mod ByteTable
@@ -8,6 +10,7 @@ pub mod Characters
 pub mod CleanEnds
 pub mod ComponentReading
 pub mod Convex
+pub mod Decisions
 pub mod Digits
 pub mod DivisionLemmas
 pub mod DottedReading
@@ -15,9 +18,12 @@ pub mod ExtrasReading
 pub mod FaultExamples
 pub mod FaultLemmas
 pub mod FaultReading
+pub mod FullRange
 pub mod HyphenReading
 pub mod IdentifierReading
 pub mod LeadReading
+pub mod LeastLemmas
+pub mod LeastOfSets
 pub mod LineText
 pub mod ListReading
 pub mod LongestReading
@@ -35,20 +41,31 @@ pub mod PartialViews
 pub mod PieceLemmas
 pub mod Places
 pub mod Prefixes
+pub mod RangeAlgebra
+pub mod PrintReading
 pub mod RangeBounds
 pub mod RangeComputing
 pub mod RangeEquality
 pub mod RangeExamples
+pub mod RangeReading
+pub mod RangePrintReading
 pub mod RangeText
 pub mod SetComputing
 pub mod SetExamples
 pub mod SetLemmas
+pub mod SetPrintReading
 pub mod SimpleHolds
 pub mod SimpleReading
 pub mod SomeElement
+pub mod TextCuts
+pub mod TreeAnswers
+pub mod TreeExamples
 pub mod VersionParse
 pub mod VersionReading
+pub mod VersionSteps
 pub mod WordBounds
 pub mod WordExamples
 pub mod WordLemmas
+pub mod WordPrintReading
 pub mod WordViews
+pub mod ZeroLists

@@ -15,14 +15,14 @@ use Rattle.node_semver.proofs.Prefixes.{prefix_of-rest_of, prefix_of-all, prefix
 use Rattle.node_semver.proofs.IdentifierReading.{goes_on-dot, list-none, list-through, no-dot, parts-other, parts-dot}
 
 -- the parts of identifier characters, with a dot after them or nothing
-parts-before : (text rest : List ℕ) → AreAll is_identifier_character text
+pub parts-before : (text rest : List ℕ) → AreAll is_identifier_character text
     → parts_of (text ++ (dot ∷ rest)) ≡ text ∷ parts_of rest
 parts-before [] rest all = parts-dot dot rest refl
 parts-before (b ∷ text) rest all =
     let both = and_parts (is_identifier_character b) (list_all is_identifier_character text) all in
     parts-other b (text ++ (dot ∷ rest)) text (parts_of rest) (no-dot b both.0) (parts-before text rest both.1)
 
-parts-alone : (text : List ℕ) → AreAll is_identifier_character text → parts_of text ≡ text ∷ []
+pub parts-alone : (text : List ℕ) → AreAll is_identifier_character text → parts_of text ≡ text ∷ []
 parts-alone [] all = refl
 parts-alone (b ∷ text) all =
     let both = and_parts (is_identifier_character b) (list_all is_identifier_character text) all in

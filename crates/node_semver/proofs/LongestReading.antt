@@ -171,7 +171,7 @@ version-longest text more rest v w h read =
     unmarked-longest h.unmarked more rest v w h.read (rw (version-follows text more w h) at read)
 
 -- a digit is an identifier character
-digit-character : (b : ℕ) → is_digit b ≡ true → is_identifier_character b ≡ true
+pub digit-character : (b : ℕ) → is_digit b ≡ true → is_identifier_character b ≡ true
 digit-character b h = rw h refl
 
 -- so no digit follows the longest list

@@ -6,7 +6,7 @@ use Rattle.std.specs.Prelude.{◌==◌, not}
 use Rattle.std.specs.List.{AllByRecursion, list_all}
 use Rattle.node_semver.specs.Characters.{AreAll, bar, caret, dot, greater_sign, is_blank, is_digit, is_identifier_character, is_partial_mark, is_x, mark_of, tilde}
 use Rattle.node_semver.specs.Comparator.{Comparator}
-use Rattle.node_semver.specs.Division.{HasBars, IsSimpleText, by_caret, by_operator, by_tilde, plain}
+use Rattle.node_semver.specs.Division.{EndsInBar, HasBars, IsSimpleText, by_caret, by_operator, by_tilde, plain}
 use Rattle.node_semver.specs.IdentifierText.{IsBuildText, IsExtrasText, IsIdentifierList, IsIdentifierText, IsPrereleaseText, parts_of}
 use Rattle.node_semver.specs.IdentifierValue.{IdentifierValue}
 use Rattle.node_semver.specs.Operators.{Operator, equal, greater, greater_or_equal, less, less_or_equal, operator_text}
@@ -16,14 +16,14 @@ use Rattle.node_semver.proofs.IdentifierReading.{parts-dot, parts-other, parts-s
 
 -- ---- texts whose characters are all no `|`
 
-abbrev is_no_bar : ℕ → Bool
+abbrev pub is_no_bar : ℕ → Bool
 is_no_bar b = not (b == bar)
 
-abbrev HasNoBar : List ℕ → Type 0
+abbrev pub HasNoBar : List ℕ → Type 0
 HasNoBar text = AreAll is_no_bar text
 
 -- two of them, one after the other
-none-append : (text rest : List ℕ) → HasNoBar text → HasNoBar rest → HasNoBar (text ++ rest)
+pub none-append : (text rest : List ℕ) → HasNoBar text → HasNoBar rest → HasNoBar (text ++ rest)
 none-append text rest h g = list_all-append is_no_bar text rest ∙ and_from _ _ h g
 
 -- what passes a test that `|` does not is no `|`
@@ -135,7 +135,7 @@ operator-none equal = refl
 operator-none less_or_equal = refl
 operator-none less = refl
 
-simple-none : (text : List ℕ) (c : Option Comparator) → IsSimpleText text c → HasNoBar text
+pub simple-none : (text : List ℕ) (c : Option Comparator) → IsSimpleText text c → HasNoBar text
 simple-none text c (by_operator h) =
     led-none (operator_text h.operator) text h.partial (operator-none h.operator) h.written
 simple-none text c (plain h) = partial-none text h.partial h.written
@@ -146,11 +146,19 @@ simple-none text c (by_tilde (with_tilde_greater blanks p all h says)) =
 simple-none text c (by_caret h) = led-none (caret ∷ []) text h.partial refl h.written
 
 -- where there is none, there is no `||`
-no_bars-of_none : (text : List ℕ) → HasNoBar text → ¬ HasBars text
+pub no_bars-of_none : (text : List ℕ) → HasNoBar text → ¬ HasBars text
 no_bars-of_none text none bars =
     let all : HasNoBar (bars.0 ++ (bar ∷ bar ∷ bars.1)) = subst HasNoBar bars.2 none in
     let parts = and_parts (list_all is_no_bar bars.0) (list_all is_no_bar (bar ∷ bar ∷ bars.1))
     (sym (list_all-append is_no_bar bars.0 (bar ∷ bar ∷ bars.1)) ∙ all) in
+    cc parts.1
+
+-- nor is one its last character
+pub no_end-of_none : (text : List ℕ) → HasNoBar text → ¬ EndsInBar text
+no_end-of_none text none ends =
+    let all : HasNoBar (ends.0 ++ (bar ∷ [])) = subst HasNoBar ends.1 none in
+    let parts = and_parts (list_all is_no_bar ends.0) (list_all is_no_bar (bar ∷ []))
+    (sym (list_all-append is_no_bar ends.0 (bar ∷ [])) ∙ all) in
     cc parts.1
 
 -- such a word has no `||`

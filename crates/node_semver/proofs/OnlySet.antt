@@ -9,7 +9,9 @@ use Rattle.node_semver.specs.Lemmas.Order.{version_total}
 use Rattle.node_semver.specs.Meaning.{GiveSet}
 use Rattle.node_semver.specs.Merging.{AreSetsOfText, IsSetOf, none, one_more}
 use Rattle.node_semver.specs.Version.{VersionValue}
+use Rattle.node_semver.specs.RangeSets.{IsRangeValue}
 use Rattle.node_semver.proofs.Merging.{set-one}
+use Rattle.node_semver.proofs.RangeBounds.{text-bounded}
 use Rattle.node_semver.specs.Private.RangeViews.{IsOnlyComparator}
 
 -- where the lower end is less than the upper, the lower lies between them
@@ -37,3 +39,7 @@ only-between text c set only is = record {
   merged = one_more (c ∷ []) [] set [] (one-gives c (below-holds c only.below))
       (subst (λ (s : Ends VersionValue). IsSetOf (c ∷ []) s) (sym is) (set-one c)) none;
 }
+
+-- which a range can have
+pub only-value : (text : List ℕ) (c : Comparator) → IsOnlyComparator text c → IsRangeValue (c ∷ [])
+only-value text c only = text-bounded text (c ∷ []) (only-between text c c only refl) (λ e. cc e)

@@ -1,7 +1,7 @@
 -- A text that is one word and no hyphen range: its comparator is the only one of the range.
-use Rattle.std.proofs.Common.{◌≡◌, ℕ, true, List, [], ◌∷◌, Option, Some, None, refl, sym, ap, subst, ◌∙◌, inl, inr, append-nil, arith}
-use Rattle.std.proofs.lemmas.Bool.{cases_Bool, eqb-true}
-use Rattle.std.specs.Prelude.{IfSome, ◌==◌, length}
+use Rattle.std.proofs.Common.{◌≡◌, ℕ, List, [], ◌∷◌, Option, Some, None, refl, sym, ap, subst, ◌∙◌, inl, inr, append-nil}
+use Rattle.std.proofs.lemmas.Bool.{cases_Bool}
+use Rattle.std.specs.Prelude.{IfSome}
 use Rattle.node_semver.specs.Characters.{is_blank}
 use Rattle.node_semver.specs.Comparator.{Comparator}
 use Rattle.node_semver.specs.Division.{IsSimpleText, IsWord, NoneAt, simple}
@@ -16,13 +16,6 @@ use Rattle.node_semver.proofs.SimpleHolds.{simple-below}
 use Rattle.node_semver.proofs.SimpleReading.{TakesSimple, simple-takes}
 use Rattle.node_semver.proofs.WordLemmas.{blank-lead, hyphen-with_left, no-hyphen, right-no_blank}
 use Rattle.node_semver.proofs.WordViews.{lead-cases}
-
--- a text of no bytes
-pub nothing-left : (text : List ℕ) → (length text == 0) ≡ true → text ≡ []
-nothing-left [] h = refl
-nothing-left (b ∷ rest) h =
-    let none : length (b ∷ rest) ≡ 0 = eqb-true _ _ h in
-    absurd (omega arith)
 
 -- ---- no hyphen range
 

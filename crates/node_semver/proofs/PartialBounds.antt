@@ -33,13 +33,13 @@ values-read : (parts : List (List ℕ)) → AllByRecursion IsIdentifierText part
 values-read [] all = tt
 values-read (part ∷ parts) all = ((part, all.0, refl), values-read parts all.1)
 
-prerelease-read : (text : List ℕ) (identifiers : List IdentifierValue) → IsPrereleaseText text identifiers
+pub prerelease-read : (text : List ℕ) (identifiers : List IdentifierValue) → IsPrereleaseText text identifiers
     → AllByRecursion IsReadIdentifier identifiers
 prerelease-read text [] is = tt
 prerelease-read text (i ∷ identifiers) is =
     subst (AllByRecursion IsReadIdentifier) (sym is.2.values) (values-read _ is.2.parts)
 
-build-read : (text : List ℕ) (identifiers : List IdentifierValue) → IsBuildText text identifiers
+pub build-read : (text : List ℕ) (identifiers : List IdentifierValue) → IsBuildText text identifiers
     → AllByRecursion IsReadIdentifier identifiers
 build-read text [] is = tt
 build-read text (i ∷ identifiers) is =

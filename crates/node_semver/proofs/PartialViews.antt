@@ -1,21 +1,23 @@
 -- Partials, as the readers see them.
-use Rattle.std.proofs.Common.{◌≡◌, ◌≢◌, ◌<◌, ◌≤◌, ℕ, arith, ◌-◌, drop, get_or, length, take, true, List, [], ◌∷◌, Ok, Err, Option, Some, None, refl, sym, ap, ◌∙◌}
+use Rattle.std.proofs.Common.{◌≡◌, ◌≢◌, ◌<◌, ◌≤◌, ℕ, arith, ◌-◌, drop, get_or, length, take, false, true, List, [], ◌∷◌, Ok, Err, Option, Some, None, refl, sym, ap, ◌∙◌, inl, inr}
 use Rattle.std.specs.Borrow.{Bor}
-use Rattle.std.specs.Prelude.{◌==◌, Result}
+use Rattle.std.specs.Prelude.{◌==◌, ◌||◌, Result}
 use Rattle.std.specs.Result.{result_ok}
 use Rattle.node_semver.specs.declared.TheConstants.{MAX_SAFE_INTEGER}
 use Rattle.node_semver.specs.declared.parse.fault.Fault.{Fault}
 use Rattle.node_semver.specs.Private.ReadingViews.{seen}
-use Rattle.std.proofs.lemmas.Bool.{ne_eqb}
+use Rattle.std.proofs.lemmas.Bool.{cases_Bool, eqb-true, ne_eqb, or_cases}
 use Rattle.std.proofs.lemmas.List.{take_all}
-use Rattle.node_semver.specs.Characters.{BeginsWithNo, dot, is_x}
+use Rattle.node_semver.specs.Characters.{BeginsWith, BeginsWithNo, dot, is_blank, is_digit, is_partial_mark, is_x}
 use Rattle.node_semver.specs.Division.{IsCleanEnd}
 use Rattle.node_semver.specs.PartialText.{Partial, plain_partial}
-use Rattle.node_semver.specs.Private.Reading.{read_extras, read_number}
-use Rattle.node_semver.specs.Private.WordReading.{is_clean, read_component, read_components, read_from_minor, read_from_patch, with_extras}
+use Rattle.node_semver.specs.Private.RangeViews.{IsFullText}
+use Rattle.node_semver.specs.Private.Reading.{begins, read_extras, read_number, rest_of, skip_one}
+use Rattle.node_semver.specs.Private.WordReading.{is_clean, read_component, read_components, read_from_minor, read_from_patch, read_partial, with_extras}
 use Rattle.node_semver.proofs.ExtrasReading.{extras-again}
 use Rattle.node_semver.proofs.NumberReading.{number-takes}
-use Rattle.node_semver.proofs.VersionReading.{clean-ends_extras}
+use Rattle.node_semver.proofs.Prefixes.{begins-with}
+use Rattle.node_semver.proofs.VersionReading.{clean-ends_extras, digit-no_blank}
 
 -- a clean end, as it is tested
 pub clean-end : (text : List ℕ) → is_clean text ≡ true → IsCleanEnd text
@@ -47,13 +49,18 @@ no-x_first (b ∷ rest) h =
     let n = h (omega arith) in
     rw (ne_eqb b 120 n.0, ne_eqb b 88 n.1, ne_eqb b 42 n.2) refl
 
--- what stands behind a dot
+-- what stands behind the first byte
+pub behind-first : (first : ℕ) (rest : List ℕ) → 0 < length rest → get_or rest 0 0 ≡ first
+    → rest ≡ first ∷ take (length rest - 1) (drop 1 rest)
+behind-first first [] some h = absurd (omega arith)
+behind-first first (b ∷ rest) some h =
+    ap (λ (c : ℕ). c ∷ rest) h
+    ∙ ap (λ (l : List ℕ). first ∷ l) (sym (take_all (length (b ∷ rest) - 1) rest (omega arith)))
+
+-- and behind a dot
 pub behind-dot : (rest : List ℕ) → 0 < length rest → get_or rest 0 0 ≡ dot
     → rest ≡ dot ∷ take (length rest - 1) (drop 1 rest)
-behind-dot [] some h = absurd (omega arith)
-behind-dot (b ∷ rest) some h =
-    ap (λ (c : ℕ). c ∷ rest) h
-    ∙ ap (λ (l : List ℕ). dot ∷ l) (sym (take_all (length (b ∷ rest) - 1) rest (omega arith)))
+behind-dot rest some h = behind-first dot rest some h
 
 -- a number that is read is a component
 pub component-number : (text rest : List ℕ) (number : ℕ) → Ok (number, rest) ≡ read_number text → BeginsWithNo is_x text
@@ -131,3 +138,80 @@ pub none-three : (text first second next third : List ℕ) (major minor : Option
 unfolding read_components
 none-three text first second next third major minor one dotted two dotted_again h =
     rw (← one, dotted, ← two, dotted_again, ← h) refl
+
+-- a text that has no digit first begins with none
+pub no-digit_first : (text : List ℕ) → (0 < length text → is_digit (get_or text 0 0) ≡ false) → BeginsWithNo is_digit text
+no-digit_first [] h = tt
+no-digit_first (b ∷ rest) h = h (omega arith)
+
+-- neither an x nor a digit is no component
+pub no-component : (text : List ℕ) → BeginsWithNo is_x text → BeginsWithNo is_digit text → None ≡ read_component text
+unfolding read_component read_number
+no-component [] x digit = refl
+no-component (b ∷ text) x digit = rw (x, digit) refl
+
+-- ---- full versions
+
+-- a number begins with a digit
+number-digit : (text rest : List ℕ) (number : ℕ) → Ok (number, rest) ≡ read_number text → BeginsWith is_digit text
+unfolding read_number
+number-digit text rest number h = elim (cases_Bool (begins is_digit text)) [
+  | inl some ↦ begins-with is_digit text some
+  | inr none ↦ cc (rw none at h)
+]
+
+-- a digit is no x, and no mark of a partial
+digit-no_x : (text : List ℕ) → BeginsWith is_digit text → BeginsWithNo is_x text
+digit-no_x [] h = absurd h
+digit-no_x (b ∷ rest) h = elim (cases_Bool (is_x b)) [
+  | inr none ↦ none
+  | inl here ↦ elim (or_cases ((b == 120) || (b == 88)) (b == 42) here) [
+    | inl other ↦ elim (or_cases (b == 120) (b == 88) other) [
+      | inl e ↦ cc (sym h ∙ ap is_digit (eqb-true b 120 e))
+      | inr e ↦ cc (sym h ∙ ap is_digit (eqb-true b 88 e))
+    ]
+    | inr e ↦ cc (sym h ∙ ap is_digit (eqb-true b 42 e))
+  ]
+]
+
+digit-no_mark : (b : ℕ) → is_digit b ≡ true → is_partial_mark b ≡ false
+digit-no_mark b h = elim (cases_Bool (is_partial_mark b)) [
+  | inr none ↦ none
+  | inl mark ↦ cc (sym h ∙ ap is_digit (eqb-true b 118 mark))
+]
+
+-- where a digit stands first, there is neither a mark nor a blank
+digit-begins : (text : List ℕ) → BeginsWith is_digit text → rest_of is_blank (skip_one is_partial_mark text) ≡ text
+unfolding rest_of skip_one
+digit-begins [] digit = absurd digit
+digit-begins (b ∷ text) digit = rw (digit-no_mark b digit, digit-no_blank (b ∷ text) digit) refl
+
+-- a number as a component
+number-component : (text rest : List ℕ) (number : ℕ) → Ok (number, rest) ≡ read_number text
+    → Some (Some number, rest) ≡ read_component text
+number-component text rest number h = component-number text rest number h (digit-no_x text (number-digit text rest number h))
+
+-- three numbers with dots between them, and nothing else
+pub full-text : (text first second next third : List ℕ) (major minor patch : ℕ)
+    → Ok (major, first) ≡ read_number text → first ≡ dot ∷ second
+    → Ok (minor, next) ≡ read_number second → next ≡ dot ∷ third → Ok (patch, []) ≡ read_number third
+    → IsFullText text major minor patch
+unfolding read_partial
+full-text text first second next third major minor patch one dot1 two dot2 three =
+    let digit = number-digit text first major one in
+    record {
+      digit = digit;
+      read = components-three text first second next third [] [] (Some major) (Some minor) (Some patch) _
+          (number-component text first major one) dot1 (number-component second next minor two) dot2
+          (number-component third [] patch three) (rw no-extras refl) (rw no-extras refl)
+          ∙ ap read_components (sym (digit-begins text digit));
+      major_limit = number-limit text first major one;
+      minor_limit = number-limit second next minor two;
+      patch_limit = number-limit third [] patch three;
+    }
+
+-- the same by the first byte
+pub digit-first_byte : (text : List ℕ) → 0 < length text → is_digit (get_or text 0 0) ≡ true
+    → text ≡ rest_of is_blank (skip_one is_partial_mark text)
+digit-first_byte [] some digit = absurd (omega arith)
+digit-first_byte (b ∷ text) some digit = sym (digit-begins (b ∷ text) digit)

@@ -3,9 +3,11 @@ use Rattle.std.proofs.Common.{◌≢◌, ℕ, List, [], ◌∷◌, ◌++◌, Opt
 use Rattle.std.specs.List.{AllByRecursion}
 use Rattle.semver_cuts.specs.declared.cut.Cut.TheVariants.{Start}
 use Rattle.semver_cuts.specs.Ends.{Ends, HoldsCut, IsCutAtMost, IsCutBelow, IsInSpan}
+use Rattle.semver_cuts.specs.Lemmas.Ends.{at_most-below}
 use Rattle.node_semver.specs.Comparator.{Comparator}
 use Rattle.node_semver.specs.Comparison.{version_cmp}
 use Rattle.node_semver.specs.Division.{AreAlternatives, AreLaterAlternatives, IsAlternative, IsDivision, comparators_of}
+use Rattle.node_semver.specs.Lemmas.Order.{version_total}
 use Rattle.node_semver.specs.Meaning.{GiveSet}
 use Rattle.node_semver.specs.Merging.{AreSetsOf, AreSetsOfText, IsSetOf, all_cuts, no_more, none, one_more}
 use Rattle.node_semver.specs.RangeSets.{IsRangeSet, IsRangeValue, IsReadCut}
@@ -109,6 +111,11 @@ text-bounded text sets are some =
       some = some;
       each = sets-bounded are.alternatives sets are.merged (all-bounded written.pieces are.alternatives written.read);
     }
+
+-- the ends of a set that holds a cut are in order
+pub set-below : (set : Ends VersionValue) → IsRangeSet set → IsCutBelow version_cmp set.lower set.upper
+set-below set is = let cut = is.holds.0 in let inside = is.holds.1 in
+    at_most-below version_total set.lower cut set.upper inside.lower inside.upper
 
 -- ---- the range of all cuts
 

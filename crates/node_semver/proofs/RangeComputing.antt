@@ -139,7 +139,7 @@ all-written (row ∷ rows) computed =
 -- ---- what they have in common
 
 -- the cut lies in the comparator
-abbrev Holds : Cut VersionValue → Comparator → Type 0
+abbrev pub Holds : Cut VersionValue → Comparator → Type 0
 Holds cut c = IsInSpan version_cmp c cut
 
 -- some lower end is not below some upper end
@@ -196,10 +196,10 @@ refused-by text alternatives written crossed =
 
 -- ---- what they admit
 
-abbrev holds : Cut VersionValue → Comparator → Bool
+abbrev pub holds : Cut VersionValue → Comparator → Bool
 holds cut c = is_le (cut_cmp version_cmp c.lower cut) && is_lt (cut_cmp version_cmp cut c.upper)
 
-holds-iff : (cut : Cut VersionValue) (c : Comparator) → (holds cut c ≡ true) ↔ Holds cut c
+pub holds-iff : (cut : Cut VersionValue) (c : Comparator) → (holds cut c ≡ true) ↔ Holds cut c
 holds-iff cut c = (
   λ h.
       let parts = and_parts (is_le (cut_cmp version_cmp c.lower cut)) (is_lt (cut_cmp version_cmp cut c.upper)) h in
@@ -212,11 +212,11 @@ holds-iff cut c = (
       (lt-from_below version_cmp cut c.upper inside.upper),
 )
 
-abbrev has_elements : {X : Type 0} → List X → Bool
+abbrev pub has_elements : {X : Type 0} → List X → Bool
 has_elements [] = false
 has_elements (x ∷ xs) = true
 
-elements-iff : {X : Type 0} → (xs : List X) → (has_elements xs ≡ true) ↔ (xs ≢ [])
+pub elements-iff : {X : Type 0} → (xs : List X) → (has_elements xs ≡ true) ↔ (xs ≢ [])
 elements-iff [] = (λ h. cc h, λ some. absurd (some refl))
 elements-iff (x ∷ xs) = (λ h none. cc none, λ some. refl)
 
@@ -280,7 +280,7 @@ all-iff P p iff (x ∷ xs) = (
   λ h. and_from _ _ ((iff x).1 h.0) ((all-iff P p iff xs).1 h.1),
 )
 
-any-iff : {X : Type 0} (P : X → Type 0) (p : X → Bool) → ((x : X) → (p x ≡ true) ↔ P x) → (xs : List X)
+pub any-iff : {X : Type 0} (P : X → Type 0) (p : X → Bool) → ((x : X) → (p x ≡ true) ↔ P x) → (xs : List X)
     → (list_any p xs ≡ true) ↔ AnyByRecursion P xs
 any-iff P p iff [] = (λ h. cc h, λ h. absurd h)
 any-iff P p iff (x ∷ xs) = (

@@ -177,7 +177,7 @@ digit-no_blank (b ∷ rest) h = elim (cases_Bool (is_blank b)) [
 ]
 
 -- a digit is no mark of a version
-digit-no_mark : (b : ℕ) → is_digit b ≡ true → is_version_mark b ≡ false
+pub digit-no_mark : (b : ℕ) → is_digit b ≡ true → is_version_mark b ≡ false
 digit-no_mark b h = elim (cases_Bool (is_version_mark b)) [
   | inr none ↦ none
   | inl mark ↦ elim (or_cases (b == 118) (b == 86) mark) [

@@ -1,12 +1,12 @@
 -- Words, as the readers see them.
-use Rattle.std.proofs.Common.{◌≡◌, ◌⊎◌, ◌<◌, ℕ, arith, length, true, false, List, [], ◌∷◌, Option, Some, None, refl, sym, ap, ◌∙◌, inl, inr}
-use Rattle.std.proofs.lemmas.Bool.{cases_Bool, eqb-true}
+use Rattle.std.proofs.Common.{◌≡◌, ◌≢◌, ◌⊎◌, ◌<◌, ◌≤◌, ℕ, arith, get_or, length, true, false, List, [], ◌∷◌, Option, Some, None, refl, sym, ap, ◌∙◌, inl, inr}
+use Rattle.std.proofs.lemmas.Bool.{and_parts, cases_Bool, eqb-true, leb-true, ne_eqb}
 use Rattle.std.specs.Prelude.{◌==◌}
-use Rattle.node_semver.specs.Characters.{BeginsWithNo, caret, is_blank, tilde}
+use Rattle.node_semver.specs.Characters.{BeginsWithNo, caret, is_blank, is_digit, tilde}
 use Rattle.node_semver.specs.Operators.{Operator as SpecOperator}
 use Rattle.node_semver.specs.PartialText.{Partial}
-use Rattle.node_semver.specs.Private.Reading.{begins, rest_of}
-use Rattle.node_semver.specs.Private.WordReading.{Lead, Word, caret_lead, is_clean, lead_comparator, no_lead, operator, or_else, read_hyphen, read_lead, read_operator, read_partial, read_right, read_simple, said, said_hyphen, tilde_greater_lead, tilde_lead, up_to_clean, with_left}
+use Rattle.node_semver.specs.Private.Reading.{begins, read_number, rest_of, skip_one}
+use Rattle.node_semver.specs.Private.WordReading.{Lead, Word, caret_lead, is_clean, lead_comparator, no_lead, operator, or_else, read_component, read_components, read_hyphen, read_lead, read_operator, read_partial, read_right, read_simple, said, said_hyphen, tilde_greater_lead, tilde_lead, up_to_clean, with_left}
 use Rattle.node_semver.specs.Private.WordViews.{lead_seen}
 use Rattle.node_semver.specs.declared.word.lead.Lead.{Lead as CodeLead}
 use Rattle.node_semver.specs.declared.word.lead.Lead.TheVariants.{Caret, Operator, Plain, Tilde, TildeGreater}
@@ -131,3 +131,49 @@ word-led text operand rest l p solid led read clean end = elim (lead-cases l) [
       rw (plain, at-plain text operand solid here, ← read, clean, none) refl
   | inr some ↦ rw (at-led text operand l solid led some, ← read, clean) refl
 ]
+
+-- ---- first bytes
+
+-- a byte with which no comparator begins
+pub record BeginsNone (b : ℕ) : Type 0 where
+  pub digit : (b < 48) ⊎ (57 < b)
+  pub operator : (b < 60) ⊎ (62 < b)
+  pub caret : b ≢ 94
+  pub tilde : b ≢ 126
+  pub mark : b ≢ 118
+  pub x : (b ≢ 120) × (b ≢ 88) × (b ≢ 42)
+
+not-digit : (b : ℕ) → (b < 48) ⊎ (57 < b) → is_digit b ≡ false
+not-digit b out = elim (cases_Bool (is_digit b)) [
+  | inr none ↦ none
+  | inl digit ↦
+      let parts = and_parts _ _ digit in
+      let low : 48 ≤ b = leb-true 48 b parts.0 in
+      let high : b ≤ 57 = leb-true b 57 parts.1 in
+      absurd (elim out [ inl less ↦ omega arith | inr more ↦ omega arith ])
+]
+
+-- there is no lead
+none-led : (b : ℕ) (text : List ℕ) → BeginsNone b → (no_lead, b ∷ text) ≡ read_lead (b ∷ text)
+unfolding read_lead read_operator
+none-led b text none =
+    let less : b ≢ 60 = elim none.operator [ inl l ↦ omega arith | inr g ↦ omega arith ] in
+    let equals : b ≢ 61 = elim none.operator [ inl l ↦ omega arith | inr g ↦ omega arith ] in
+    let greater : b ≢ 62 = elim none.operator [ inl l ↦ omega arith | inr g ↦ omega arith ] in
+    rw (ne_eqb b 94 none.caret, ne_eqb b 126 none.tilde, ne_eqb b 62 greater, ne_eqb b 61 equals, ne_eqb b 60 less) refl
+
+-- and no partial
+none-partial : (b : ℕ) (text : List ℕ) → is_blank b ≡ false → BeginsNone b → None ≡ read_partial (b ∷ text)
+unfolding read_partial read_components read_component read_number rest_of skip_one
+none-partial b text solid none =
+    let x = none.x in
+    rw (ne_eqb b 118 none.mark, solid, ne_eqb b 120 x.0, ne_eqb b 88 x.1, ne_eqb b 42 x.2, not-digit b none.digit) refl
+
+-- so there is no comparator
+pub none-begins : (text : List ℕ) → BeginsWithNo is_blank text → (0 < length text → BeginsNone (get_or text 0 0))
+    → None ≡ comparator_at text
+unfolding read_hyphen read_simple read_lead read_partial read_right read_components read_component read_number rest_of skip_one
+none-begins [] solid none = refl
+none-begins (b ∷ text) solid none =
+    let begins = none (omega arith) in
+    none-missing (b ∷ text) (b ∷ text) no_lead solid (none-led b text begins) (none-partial b text solid begins)

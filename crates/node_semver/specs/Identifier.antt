@@ -11,3 +11,8 @@ value_of (AlphaNumeric text) = alphanumeric (string_bytes text)
 
 abbrev pub values_of : List Identifier → List IdentifierValue
 values_of identifiers = map value_of identifiers
+
+-- a number, and no text
+abbrev pub IsNumber : Identifier → Type 0
+IsNumber (Numeric n) = Unit {0}
+IsNumber (AlphaNumeric text) = ⊥

@@ -13,6 +13,7 @@ pub mod Fault
 -- ---- versions: order, print, hash
 pub mod Order
 pub mod Comparison
+pub mod VersionSteps
 pub mod Print
 pub mod Hash
 -- ---- ranges: words, alternatives, and what they mean
@@ -26,8 +27,16 @@ pub mod Division
 pub mod Meaning
 pub mod Merging
 pub mod RangeSets
+pub mod Least
 pub mod RangePrint
 pub mod RangeEquality
+pub mod RangeAlgebra
+-- ---- trees of ranges
+pub mod SetTree
+-- ---- prints that are read again
+pub mod ReadingBack
+-- ---- JSON strings
+pub mod Json
 -- ---- errors: where they stand, and how they print
 pub mod ErrorLocation
 pub mod ErrorParts

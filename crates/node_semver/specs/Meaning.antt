@@ -7,21 +7,17 @@
 --   2.0.0 is turned away: the cut before it is not below the upper end of the second.
 --   1.2.3-rc.5 is admitted: it lies inside both, and the lower end of the first is a prerelease of its triple.
 --   1.2.4-rc.6 is turned away: it lies inside both, and no end is a prerelease of 1.2.4.
-use Rattle.std.specs.Prelude.{◌≢◌, ◌⊎◌, ℕ, List, [], ◌∷◌}
+use Rattle.std.specs.Prelude.{◌≢◌, ◌⊎◌, ℕ, List, []}
 use Rattle.std.specs.List.{AllByRecursion}
 use Rattle.semver_cuts.specs.declared.cut.Cut.{Cut}
 use Rattle.semver_cuts.specs.declared.cut.Cut.TheVariants.{Start, Before, After, End}
 use Rattle.semver_cuts.specs.Common.{HasCommonCut}
 use Rattle.semver_cuts.specs.Ends.{Ends, IsInSpan}
+pub use Rattle.semver_cuts.specs.Sharing.{AnyByRecursion}
 use Rattle.node_semver.specs.Comparator.{Comparator}
 use Rattle.node_semver.specs.Comparison.{version_cmp}
 use Rattle.node_semver.specs.Division.{IsWritten}
 use Rattle.node_semver.specs.Version.{HasSameTriple, IsPrerelease, VersionValue}
-
--- some element is so
-abbrev pub AnyByRecursion : {X : Type 0} → (X → Type 0) → List X → Type 0
-AnyByRecursion P [] = ⊥
-AnyByRecursion P (x ∷ xs) = P x ⊎ AnyByRecursion P xs
 
 -- a version lies inside a comparator where the cut before it does
 abbrev pub IsInside : VersionValue → Comparator → Type 0

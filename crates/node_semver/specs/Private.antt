@@ -4,3 +4,4 @@ pub mod WordReading
 pub mod WordViews
 pub mod PieceReading
 pub mod RangeViews
+pub mod LeastViews

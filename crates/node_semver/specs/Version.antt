@@ -14,6 +14,11 @@ pub record VersionValue : Type 0 where
 abbrev pub IsPrerelease : VersionValue → Type 0
 IsPrerelease v = v.pre_release ≢ []
 
+-- a version with neither prerelease nor build: `1.2.3`
+pub record IsPlain (v : VersionValue) : Type 0 where
+  pub pre_release : v.pre_release ≡ []
+  pub build : v.build ≡ []
+
 -- the two have one major, minor and patch
 pub record HasSameTriple (v w : VersionValue) : Type 0 where
   pub major : v.major ≡ w.major

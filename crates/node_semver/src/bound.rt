@@ -21,11 +21,12 @@ pub(crate) struct Bound {
     pub(crate) major: u64,
     pub(crate) minor: u64,
     pub(crate) patch: u64,
-    pub(crate) is_least: bool,
+    // 0 for the least version, else 1. A `bool` would leave bytes unused, which are copied with it.
+    pub(crate) rank: u64,
 }
 
 impl Model for Bound {
-    ghost use Rattle.std.specs.Prelude.{[], ◌∷◌, if◌then◌else◌};
+    ghost use Rattle.std.specs.Prelude.{[], ◌∷◌, ◌==◌, if◌then◌else◌};
     ghost use Rattle.node_semver.specs.IdentifierValue.{numeric};
     ghost use Rattle.node_semver.specs.Version.{VersionValue};
 
@@ -35,7 +36,7 @@ impl Model for Bound {
       major = b.major;
       minor = b.minor;
       patch = b.patch;
-      pre_release = if b.is_least then numeric 0 ∷ [] else [];
+      pre_release = if b.rank == 0 then numeric 0 ∷ [] else [];
       build = [];
     } };
 }
@@ -86,7 +87,7 @@ impl Ord for Bound {
         if self.patch != other.patch {
             return self.patch.cmp(&other.patch);
         }
-        match (self.is_least, other.is_least) {
+        match (self.rank == 0, other.rank == 0) {
             (true, true) | (false, false) => Ordering::Equal,
             (true, false) => Ordering::Less,
             (false, true) => Ordering::Greater,
@@ -145,7 +146,7 @@ pub(crate) fn built(alloc: Global, cut: Cut<Bound>) -> Result<Cut<Version>, Allo
 fn version(alloc: Global, bound: Bound) -> Result<Version, AllocError>
     ensures { IfOk result (λ v. v ≡ bound) }
 {
-    if bound.is_least {
+    if bound.rank == 0 {
         Version::with_pre_release(alloc, bound.major, bound.minor, bound.patch, 0)
     } else {
         Ok(Version::new(alloc, bound.major, bound.minor, bound.patch))

@@ -39,8 +39,7 @@ pub struct SemverError {
 
 impl SemverError {
     // The refusal of `input` at `offset`, with a place of no bytes.
-    #[cold]
-    #[inline(never)]
+    #[inline(always)]
     pub(crate) fn new(
         alloc: Global,
         input: &str,

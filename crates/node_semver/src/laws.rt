@@ -9,6 +9,7 @@ ghost use Rattle.node_semver.specs.VersionLaws.{HasOneFault, HasOneReading, IsNe
 ghost use Rattle.node_semver.specs.RangeLaws.{HasWriting, IsOneHyphenRange, IsOnePartial, IsOneSimpleWord, IsWrittenOneWay};
 
 pub use crate::error::errors_are_equal_where_their_parts_are;
+pub use crate::json::json_errors_are_equal_where_their_parts_are;
 pub use crate::range::ranges_are_equal_where_their_cuts_are;
 
 /// The limits, as numbers.

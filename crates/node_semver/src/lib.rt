@@ -5,16 +5,20 @@ mod bound;
 mod comparator;
 mod error;
 mod identifier;
+mod json;
 pub mod laws;
 mod parse;
 mod range;
 mod set;
+mod tree;
 mod version;
 mod word;
 
 pub use error::{SemverError, SemverErrorKind, SourceSpan};
 pub use identifier::Identifier;
+pub use json::JsonError;
 pub use range::Range;
+pub use tree::SetTree;
 pub use version::Version;
 
 /// The greatest major, minor or patch of a text.

@@ -14,7 +14,7 @@ mod triple;
 
 pub(crate) use fault::Fault;
 pub(crate) use identifiers::read_prerelease;
-pub(crate) use number::large_kind;
+pub(crate) use number::{large_kind, read_number};
 pub(crate) use partial::{Partial, Shape, read_partial};
 pub(crate) use skip::{begins_clean, skip_blanks, skip_solid, skip_some_blanks};
 pub(crate) use triple::{read_extras, read_version};

@@ -1,22 +1,40 @@
 //! Ranges: which versions a text asks for.
-ghost use Rattle.std.specs.Prelude.{◌≡◌, ◌≢◌, ◌⊎◌, ◌↔◌, [], ◌∷◌, IfErr, IfOk, IsTrue, OnOk};
+ghost use Rattle.std.specs.Prelude.{◌≡◌, ◌⊎◌, ◌↔◌, List, [], ◌∷◌, IfErr, IfOk, IsTrue, None, OnOk};
+ghost use Rattle.std.specs.List.{AllByRecursion};
+ghost use Rattle.semver_cuts.specs.Ends.{Ends, IsCutBelow};
+ghost use Rattle.node_semver.specs.Comparison.{version_cmp};
 ghost use Rattle.node_semver.specs.Error.{IsOutOfMemory, IsRefusalAt, no_valid_ranges};
 ghost use Rattle.node_semver.specs.Meaning.{IsRefused, RangeAdmits, TextAdmits};
 ghost use Rattle.node_semver.specs.Merging.{AreSetsOfText, all_cuts};
+ghost use Rattle.node_semver.specs.RangePrint.{range_text};
 ghost use Rattle.node_semver.specs.RangeSets.{IsRangeValue};
+ghost use Rattle.node_semver.specs.ReadingBack.{IsPlainlyBounded, IsReadAsRange, RangeReadsBack};
 ghost use Rattle.node_semver.specs.Version.{VersionValue};
+ghost use Rattle.node_semver.specs.Private.PieceReading.{piece_at};
+ghost use Rattle.node_semver.specs.Private.RangeViews.{IsReadRange};
 
+mod algebra;
 mod alternative;
+mod copy;
+mod difference;
 mod display;
 mod equality;
+mod full;
+mod gathered;
+mod least;
 mod line;
 mod pieces;
 mod sets;
+mod unbuilt;
 
+use crate::bound::Bounds;
+use crate::range::alternative::{bounded_set, read_plain, read_set_with_extras};
+use crate::range::pieces::next_piece;
 use crate::set::admits;
-use crate::word::read_only_word;
+use crate::word::skip_thrown_away;
 use crate::{SemverError, SemverErrorKind, Version};
 pub use equality::ranges_are_equal_where_their_cuts_are;
+use full::{Sign, caret_range, exact_range, read_full, tilde_range};
 use semver_cuts::{Cut, Span};
 use sets::{Sets, read_sets};
 use std::alloc::Global;
@@ -74,6 +92,9 @@ impl Range {
     /// Of lower ends at one cut, which differ in the build alone, the last stays, and of upper ends the first:
     /// `>=1.0.0+a >=1.0.0+b` is `>=1.0.0+b`.
     ///
+    /// The print of what was read is read as an equal range, where no set is unbounded at both sides and no number of an
+    /// end is above `MAX_SAFE_INTEGER`.
+    ///
     /// # Errors
     ///
     /// - the empty text, `foo`, `~*`, `||`: `NoValidRanges` at 0, since no word is a comparator;
@@ -96,16 +117,16 @@ impl Range {
         ensures means { IfOk result (λ r. (v : VersionValue) → RangeAdmits r v ↔ TextAdmits text.now v) }
         ensures sets { IfOk result (λ r. AreSetsOfText text.now r) }
         ensures holds { IfOk result IsRangeValue }
+        // The print of what was read is read as an equal range, and so is each print of a range.
+        ensures print { IfOk result RangeReadsBack }
+        ensures printed { (sets : List (Ends VersionValue)) → IsRangeValue sets
+            → AllByRecursion IsPlainlyBounded sets → range_text sets ≡ text.now → IsReadAsRange sets result }
     {
-        let only = read_only_word(text.as_bytes());
-        if !only.is_plain() {
-            return read_range(alloc, text);
-        }
-        match only.plain_set(alloc) {
-            Ok(set) => Ok(Range {
-                sets: Sets::One(set),
-            }),
-            Err(_) => Err(SemverError::out_of_memory(alloc)),
+        match read_full(text.as_bytes()) {
+            Some((Sign::Caret, major, minor, patch)) => caret_range(alloc, major, minor, patch),
+            Some((Sign::Tilde, major, minor, patch)) => tilde_range(alloc, major, minor, patch),
+            Some((Sign::Nothing, major, minor, patch)) => exact_range(alloc, major, minor, patch),
+            None => read_range(alloc, text),
         }
     }
 
@@ -175,24 +196,83 @@ impl Version {
     }
 }
 
-// Alternative after alternative.
+// A text of one alternative, without a list of sets. Few texts have bars or versions with extras.
 #[inline(never)]
 fn read_range(alloc: Global, text: &str) -> Result<Range, SemverError>
-    ensures refused { IfErr result (λ e.
-        IsOutOfMemory e ⊎ (IsRefusalAt text.now no_valid_ranges 0 e × IsRefused text.now)) }
-    ensures sets { IfOk result (λ r. AreSetsOfText text.now r) }
-    ensures some { IfOk result (λ r. r ≢ []) }
+    ensures { IsReadRange text.now result }
+{
+    let (piece, left) = next_piece(text.as_bytes());
+    if left.is_some() {
+        return barred_range(alloc, text);
+    }
+    let mut merged = None;
+    if !read_plain(skip_thrown_away(piece), &mut merged) {
+        return extended_range(alloc, text, piece);
+    }
+    if let Some(bounds) = merged {
+        if bounds.lower < bounds.upper {
+            return bounded_range(alloc, bounds);
+        }
+    }
+    refused(alloc, text)
+}
+
+// Alternative after alternative.
+#[inline(never)]
+fn barred_range(alloc: Global, text: &str) -> Result<Range, SemverError>
+    ensures { IsReadRange text.now result }
 {
     let Ok(sets) = read_sets(alloc, text.as_bytes()) else {
         return Err(SemverError::out_of_memory(alloc));
     };
-    match sets {
-        Some(sets) => Ok(Range { sets }),
-        None => {
-            let kind = SemverErrorKind::NoValidRanges;
-            Err(SemverError::new(alloc, text, 0, kind))
-        }
+    if sets.is_empty() {
+        return refused(alloc, text);
     }
+    Ok(Range {
+        sets: Sets::Many(sets),
+    })
+}
+
+// The one alternative of a text, where a version of it has extras.
+#[inline(never)]
+fn extended_range(alloc: Global, text: &str, piece: &[u8]) -> Result<Range, SemverError>
+    requires { (piece.now, None) ≡ piece_at text.now }
+    ensures { IsReadRange text.now result }
+{
+    match read_set_with_extras(alloc, piece) {
+        Ok(Some(set)) => Ok(Range {
+            sets: Sets::One(set),
+        }),
+        Ok(None) => refused(alloc, text),
+        Err(_) => Err(SemverError::out_of_memory(alloc)),
+    }
+}
+
+// The range of one set, without extras.
+#[inline(never)]
+fn bounded_range(alloc: Global, bounds: Bounds) -> Result<Range, SemverError>
+    requires below { IsCutBelow version_cmp bounds.lower bounds.upper }
+    requires holds { IsRangeValue (bounds ∷ []) }
+    ensures refused { IfErr result IsOutOfMemory }
+    ensures set { IfOk result (λ r. r ≡ bounds ∷ []) }
+{
+    match bounded_set(alloc, bounds) {
+        Ok(set) => Ok(Range {
+            sets: Sets::One(set),
+        }),
+        Err(_) => Err(SemverError::out_of_memory(alloc)),
+    }
+}
+
+// No alternative gives a set.
+#[cold]
+#[inline(never)]
+fn refused(alloc: Global, text: &str) -> Result<Range, SemverError>
+    requires { IsRefused text.now }
+    ensures { IsReadRange text.now result }
+{
+    let kind = SemverErrorKind::NoValidRanges;
+    Err(SemverError::new(alloc, text, 0, kind))
 }
 
 // Whether one of the sets admits a version.

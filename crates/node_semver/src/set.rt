@@ -52,7 +52,7 @@ fn has_open_end(set: &Span<Version>, version: &Version) -> bool
 }
 
 #[inline]
-fn opens(cut: &Cut<Version>, version: &Version) -> bool
+pub(crate) fn opens(cut: &Cut<Version>, version: &Version) -> bool
     ensures { IsTrue result ↔ Opens cut.now version.now }
 {
     match cut {

@@ -4,8 +4,9 @@ ghost use Rattle.node_semver.specs.Version.{IsPrerelease, release, with_pre_rele
 mod copy;
 mod display;
 mod hash;
-mod order;
+pub(crate) mod order;
 mod parse;
+mod stepped;
 
 use crate::Identifier;
 use std::alloc::{AllocError, Global};

@@ -1,7 +1,8 @@
 //! The words of a range text, and the comparator that each of them writes.
-ghost use Rattle.std.specs.Prelude.{◌≡◌, IfSome, Some};
+ghost use Rattle.std.specs.Prelude.{◌≡◌, List, None, Some, false};
+ghost use Rattle.node_semver.specs.Comparator.{Comparator};
+ghost use Rattle.node_semver.specs.Division.{IsAlternative};
 ghost use Rattle.node_semver.specs.Characters.{BeginsWithNo, is_blank};
-ghost use Rattle.node_semver.specs.Private.RangeViews.{IsOnlyComparator};
 ghost use Rattle.node_semver.specs.Private.WordReading as Reading;
 ghost use Rattle.node_semver.specs.Private.WordViews.{IsSound, ends_seen, partial_seen, some_word_seen, word_seen};
 
@@ -13,24 +14,12 @@ mod operator;
 mod plain;
 mod tilde;
 
-use crate::parse::{Partial, begins_clean, read_partial, skip_solid};
+use crate::parse::{Partial, begins_clean, read_partial, skip_blanks, skip_solid};
 pub(crate) use ends::{Ends, nothing};
 pub(crate) use hyphen::read_leading_hyphen;
 use hyphen::{hyphen_ends, read_right};
 use lead::{Lead, lead_ends, read_lead};
 use plain::plain_ends;
-
-// The ends of a text that is one word and no hyphen range: those of `^1.2.3`, and none of `1 2`
-#[inline(always)]
-pub(crate) fn read_only_word(text: &[u8]) -> Ends
-    ensures { IfSome (ends_seen result) (IsOnlyComparator text.now) }
-{
-    let (lead, operand) = read_lead(text);
-    match read_partial(operand) {
-        Some((partial, rest)) if rest.is_empty() => lead_ends(lead, partial),
-        _ => nothing(),
-    }
-}
 
 // `>=1.2.3` of `>=1.2.3 <2`, or nothing of `foo`, and the rest
 #[inline(always)]
@@ -39,14 +28,67 @@ pub(crate) fn read_word(text: &[u8]) -> (Ends, &[u8])
     requires { BeginsWithNo is_blank text.now }
     ensures { word_seen result ≡ Reading.read_word text.now }
 {
-    match read_comparator(text) {
+    match comparator_at(text) {
         Some(word) => word,
         None => (nothing(), skip_solid(text)),
     }
 }
 
-// A word that is not thrown away: its ends, or nothing where it writes no comparator.
+// The same as `read_comparator`, where the first byte can begin a comparator.
 #[inline(always)]
+fn comparator_at(text: &[u8]) -> Option<(Ends, &[u8])>
+    requires { BeginsWithNo is_blank text.now }
+    ensures { some_word_seen result ≡ Reading.or_else (Reading.read_hyphen text.now) (Reading.read_simple text.now) }
+{
+    if begins_comparator(text) {
+        some_comparator(text)
+    } else {
+        None
+    }
+}
+
+// Whether the first byte can begin a comparator.
+#[inline(always)]
+fn begins_comparator(text: &[u8]) -> bool
+    requires { BeginsWithNo is_blank text.now }
+    ensures { result ≡ false → None ≡ Reading.or_else (Reading.read_hyphen text.now) (Reading.read_simple text.now) }
+{
+    match text {
+        [
+            b'0'..=b'9' | b'<'..=b'>' | b'^' | b'~' | b'v' | b'x' | b'X' | b'*',
+            ..
+        ] => true,
+        _ => false,
+    }
+}
+
+// The text without its first words, as long as their first bytes begin no comparator. What is merged later is not yet
+// there to be kept.
+#[inline(always)]
+pub(crate) fn skip_thrown_away(text: &[u8]) -> &[u8]
+    ensures { (comparators : List Comparator) → IsAlternative result.now comparators → IsAlternative text.now comparators }
+{
+    if begins_clean(text) {
+        return text;
+    }
+    let mut rest = text;
+    'words: while !rest.is_empty() && !begins_comparator(rest) {
+        rest = skip_blanks(skip_solid(rest));
+    }
+    rest
+}
+
+// The same, whose place is then cleared where it is called, and nowhere else.
+#[inline(always)]
+fn some_comparator(text: &[u8]) -> Option<(Ends, &[u8])>
+    requires { BeginsWithNo is_blank text.now }
+    ensures { some_word_seen result ≡ Reading.or_else (Reading.read_hyphen text.now) (Reading.read_simple text.now) }
+{
+    read_comparator(text)
+}
+
+// A word that is not thrown away: its ends, or nothing where it writes no comparator.
+#[inline(never)]
 fn read_comparator(text: &[u8]) -> Option<(Ends, &[u8])>
     requires { BeginsWithNo is_blank text.now }
     ensures { some_word_seen result ≡ Reading.or_else (Reading.read_hyphen text.now) (Reading.read_simple text.now) }
@@ -63,7 +105,7 @@ fn read_comparator(text: &[u8]) -> Option<(Ends, &[u8])>
 }
 
 // A plain partial before a blank: alone, or the left side of a hyphen.
-#[inline(never)]
+#[inline(always)]
 fn plain_or_hyphen<'a>(partial: Partial<'a>, text: &'a [u8]) -> (Ends<'a>, &'a [u8])
     requires { IsSound partial }
     ensures { Some (word_seen result) ≡ Reading.or_else

@@ -2,17 +2,24 @@
 #![tactic(auto)]
 
 #[cfg(test)]
+mod algebra;
+#[cfg(test)]
 mod alternatives;
 #[cfg(test)]
 mod carets;
 #[cfg(test)]
 mod checks;
 #[cfg(test)]
+mod clones;
+#[cfg(test)]
 mod errors;
 #[cfg(test)]
 mod faults;
 #[cfg(test)]
 mod hyphens;
+mod json;
+#[cfg(test)]
+mod least;
 #[cfg(test)]
 mod limits;
 #[cfg(test)]
@@ -35,6 +42,8 @@ mod readme;
 mod refusals;
 #[cfg(test)]
 mod tildes;
+#[cfg(test)]
+mod trees;
 #[cfg(test)]
 mod versions;
 #[cfg(test)]

@@ -1,1 +1,10 @@
+pub mod CommonAlong
+pub mod CommonSpans
 pub mod CutLine
+pub mod Greatest
+pub mod Near
+pub mod Parts
+pub mod Pieces
+pub mod PlacedOrder
+pub mod Joining
+pub mod JoinedSpans

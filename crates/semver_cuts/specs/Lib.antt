@@ -10,10 +10,22 @@ pub mod CutLaws
 pub mod Ends
 -- what cuts and spans feed a hasher
 pub mod Hash
--- what the spans of a list have in common
+-- the cuts in each and in one of the spans of a list
 pub mod Common
 -- the ends of what they have in common
 pub mod Merging
+-- what one span has and another has not
+pub mod SpanRest
+-- ---- Algebra of lists of spans
+-- what two lists have in common
+pub mod CommonSpans
+-- what one has and the other has not
+pub mod Rest
+-- whether they share a cut, and whether a span of one has all cuts of a span of the other
+pub mod Sharing
+-- ---- Steps from value to value
+-- the least value, and the next one
+pub mod Steps
 -- ---- Said of no public call
 -- what private functions compute
 pub mod Private

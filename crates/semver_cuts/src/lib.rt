@@ -7,12 +7,16 @@
 //!
 //! A [`Span`] is such a pair of ends with a cut between them.
 //!
-//! The module [`laws`] holds what is proved of the order.
+//! The module [`algebra`] has what lists of spans have in common, and what one has and another has not. The module
+//! [`laws`] holds what is proved of the order and of these lists.
 #![tactic(auto)]
 
+pub mod algebra;
 mod cut;
 pub mod laws;
 mod span;
+mod stepped;
 
 pub use cut::Cut;
 pub use span::Span;
+pub use stepped::Stepped;

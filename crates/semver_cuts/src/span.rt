@@ -2,6 +2,7 @@ ghost use Rattle.std.specs.Prelude.{◌≡◌, ◌↔◌, IfSome, IsSome, IsTrue
 ghost use Rattle.semver_cuts.specs.declared.cut.Cut.TheVariants.{Before};
 ghost use Rattle.semver_cuts.specs.Ends.{HoldsCut, IsCutAtMost, IsCutBelow, IsInSpan, span_between};
 
+mod common;
 mod equality;
 #[cfg(test)]
 mod tests;
@@ -101,6 +102,16 @@ impl<T: Ord> Span<T> {
         ensures { result.now ≡ self.now.upper }
     {
         &self.upper
+    }
+
+    // Both ends, of which the lower is less.
+    #[inline]
+    pub(crate) fn ends(&self) -> (&Cut<T>, &Cut<T>)
+        ensures ends { self.now ≡ span_between result.0.now result.1.now }
+        ensures rising { IsCutBelow T.cmp result.0.now result.1.now }
+    {
+        let Span { lower, upper } = self;
+        (lower, upper)
     }
 
     /// Whether the value lies in the span: whether the cut before it does.

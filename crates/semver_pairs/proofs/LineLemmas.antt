@@ -1,64 +1,68 @@
 -- The first line of some bytes, by where the first newline stands.
-use Rattle.std.proofs.Common.{◌≡◌, ◌≢◌, ℕ, suc, ◌+◌, ◌<◌, ◌≤◌, ◌==◌, Bool, true, false, not, cond, if◌then◌else◌, refl}
-use Rattle.std.proofs.Common.{List, [], ◌∷◌, length, take, drop, Some, None}
-use Rattle.std.proofs.Common.{arith, add-one, one-add, ltb-false, ltb-true}
-use Rattle.std.specs.List.{position, position_or_len}
+use Rattle.std.proofs.Common.{◌≡◌, ◌≢◌, ℕ, zero, suc, ◌+◌, ◌<◌, ◌==◌, true, false, ap, inl, inr, refl}
+use Rattle.std.proofs.Common.{List, [], ◌∷◌, ◌++◌, length, take, drop}
+use Rattle.std.proofs.Common.{add-one, arith}
+use Rattle.std.specs.Prelude.{map}
+use Rattle.std.specs.Str.Lines.{strip_carriage_return}
+use Rattle.std.proofs.lemmas.Bool.{cases_Bool}
 use Rattle.std.proofs.lemmas.List.{take_rest}
-use Rattle.std.proofs.lemmas.Option.{cond_some}
+use Rattle.memchr.specs.Find.{NoneBefore, Nowhere, Passes, is_byte}
 use Rattle.node_semver.specs.ErrorLocation.{newline}
-use Rattle.semver_pairs.specs.Lines.{lines_of, with_byte}
+use Rattle.semver_pairs.specs.Lines.{Lines, divided, rest_line, with_line}
+use Rattle.semver_pairs.specs.Pairs.{lines_read}
 
--- where the first newline stands, or the length
-abbrev newline_at : List ℕ → ℕ
-newline_at bytes = position_or_len (λ b. b == newline) bytes
+-- a newline stands at this place
+abbrev IsNewlineAt : List ℕ → ℕ → Type 0
+IsNewlineAt bytes at = Passes (is_byte newline) bytes at
 
--- the first line goes up to this place, and the other lines are those of the rest past it
-abbrev pub IsEndedAt : ℕ → List ℕ → Type 0
-IsEndedAt at bytes = lines_of bytes ≡ take at bytes ∷ lines_of (drop (at + 1) bytes)
+-- the first line goes up to this place, and the others are those of the bytes past it
+abbrev IsEndedAt : ℕ → List ℕ → Type 0
+IsEndedAt at bytes = divided bytes ≡ with_line (take at bytes) (divided (drop (at + 1) bytes))
 
--- one more byte, a newline or not
-ended-step : (b : ℕ) (bytes : List ℕ) (at : ℕ) (test : Bool) → (at < length bytes → IsEndedAt at bytes)
-    → (let place : ℕ = cond (not test) (1 + at) 0 in
-    place < suc (length bytes)
-    → (if test then [] ∷ lines_of bytes else with_byte b (lines_of bytes))
-    ≡ take place (b ∷ bytes) ∷ lines_of (drop (place + 1) (b ∷ bytes)))
-ended-step b bytes at true fewer within = refl
-ended-step b bytes at false fewer within =
-    let here : at < length bytes = omega (arith, within) in
-    simp (fewer here, one-add, add-one)
+-- no line is ended
+abbrev IsUnended : List ℕ → Type 0
+IsUnended bytes = divided bytes ≡ record { ended = []; rest = bytes }
 
-lines-ended : (bytes : List ℕ) → newline_at bytes < length bytes → IsEndedAt (newline_at bytes) bytes
-lines-ended [] within = absurd (omega arith)
-lines-ended (b ∷ bytes) within =
-    ended-step b bytes (newline_at bytes) (b == newline) (lines-ended bytes) within
+-- the first byte is no newline
+not_first : (b : ℕ) (bytes : List ℕ) → ¬ IsNewlineAt (b ∷ bytes) 0 → (b == newline) ≡ false
+not_first b bytes none = elim (cases_Bool (b == newline)) [ inl here ↦ absurd (none here) | inr other ↦ other ]
 
--- a newline at this place, and none sooner
-pub lines_at : (bytes : List ℕ) (at : ℕ) → position (λ b. b == newline) bytes ≡ Some at → IsEndedAt at bytes
-lines_at bytes at found =
-    let (within, same) = cond_some _ _ _ found in
-    rw (← same) (lines-ended bytes (ltb-true _ _ within))
+-- what holds of no place but the first one holds of no place of the bytes past it
+none_later : (b : ℕ) (bytes : List ℕ) (to : ℕ) → Nowhere (IsNewlineAt (b ∷ bytes)) 0 (suc to)
+    → Nowhere (IsNewlineAt bytes) 0 to
+none_later b bytes to none = λ k low high here. none (suc k) (omega arith) (omega arith) here
 
--- no byte up to the end is a newline
-unended-step : (b : ℕ) (bytes : List ℕ) (test : Bool)
-    → (length bytes ≤ newline_at bytes → bytes ≢ [] → lines_of bytes ≡ bytes ∷ [])
-    → suc (length bytes) ≤ cond (not test) (1 + newline_at bytes) 0
-    → (if test then [] ∷ lines_of bytes else with_byte b (lines_of bytes)) ≡ (b ∷ bytes) ∷ []
-unended-step b bytes true fewer whole = absurd (omega arith)
-unended-step b [] false fewer whole = refl
-unended-step b (c ∷ bytes) false fewer whole = let some : (c ∷ bytes) ≢ [] = λ e. cc in
-    rw (fewer (omega (arith, whole)) some) refl
+divided_at : (bytes : List ℕ) (at : ℕ) → at < length bytes → Nowhere (IsNewlineAt bytes) 0 at → IsNewlineAt bytes at
+    → IsEndedAt at bytes
+divided_at [] at within none here = absurd (omega arith)
+divided_at (b ∷ bytes) zero within none here = rw here refl
+divided_at (b ∷ bytes) (suc at) within none here =
+    let other = not_first b bytes (none 0 (omega arith) (omega arith)) in
+    let fewer = divided_at bytes at (omega arith) (none_later b bytes at none) here in
+    simp (other, fewer, add-one)
 
-lines-unended : (bytes : List ℕ) → length bytes ≤ newline_at bytes → bytes ≢ [] → lines_of bytes ≡ bytes ∷ []
-lines-unended [] whole some = absurd (some refl)
-lines-unended (b ∷ bytes) whole some = unended-step b bytes (b == newline) (lines-unended bytes) whole
+not_divided : (bytes : List ℕ) → Nowhere (IsNewlineAt bytes) 0 (length bytes) → IsUnended bytes
+not_divided [] none = refl
+not_divided (b ∷ bytes) none =
+    let other = not_first b bytes (none 0 (omega arith) (omega arith)) in
+    let fewer = not_divided bytes (none_later b bytes (length bytes) none) in
+    simp (other, fewer)
 
-no_place : (test : Bool) (at : ℕ) → cond test (Some at) None ≡ None → test ≡ false
-no_place true at none = cc
-no_place false at none = refl
+-- ---- all lines, where the end was read
 
--- no newline
-pub lines_unended : (bytes : List ℕ) → bytes ≢ [] → position (λ b. b == newline) bytes ≡ None
-    → lines_of bytes ≡ bytes ∷ []
-lines_unended bytes some none = lines-unended bytes (ltb-false _ _ (no_place _ _ none)) some
+-- all lines of divided bytes
+abbrev all_lines : Lines → List (List ℕ)
+all_lines lines = map strip_carriage_return lines.ended ++ rest_line lines.rest
+
+-- the first line ends at the first newline
+pub lines_at : (bytes : List ℕ) (at : ℕ) → NoneBefore (IsNewlineAt bytes) 0 (length bytes) at → IsNewlineAt bytes at
+    → lines_read true bytes ≡ strip_carriage_return (take at bytes) ∷ lines_read true (drop (at + 1) bytes)
+lines_at bytes at first here = ap all_lines (divided_at bytes at first.high first.before here)
+
+-- or at the end
+pub lines_unended : (bytes : List ℕ) → bytes ≢ [] → Nowhere (IsNewlineAt bytes) 0 (length bytes)
+    → lines_read true bytes ≡ bytes ∷ []
+lines_unended [] some none = absurd (some refl)
+lines_unended (b ∷ bytes) some none = ap all_lines (not_divided (b ∷ bytes) none)
 
 pub ruleset first_line = (lines_at, lines_unended, take_rest)

@@ -1,9 +1,8 @@
 -- The answer to a range line and a version line.
-use Rattle.std.specs.Prelude.{◌≡◌, ◌⊎◌, ℕ, List, [], ◌∷◌, ◌++◌, IsUtf8, codes}
+use Rattle.std.specs.Prelude.{◌⊎◌, ℕ, List, IsUtf8, codes}
 use Rattle.node_semver.specs.Meaning.{IsRefused, TextAdmits}
 use Rattle.node_semver.specs.Version.{VersionValue}
 use Rattle.node_semver.specs.VersionText.{IsVersionText}
-use Rattle.node_semver.specs.ErrorLocation.{newline}
 
 -- a line that is not UTF-8, or is refused as a range text
 abbrev pub IsBadRange : List ℕ → Type 0
@@ -29,8 +28,3 @@ pub data IsAnswer (range version : List ℕ) : List ℕ → Type 0 where
       → IsAnswer range version (codes "yes")
   turned_away : (v : VersionValue) → IsGoodRange range → IsGoodVersion version v → ¬ TextAdmits range v
       → IsAnswer range version (codes "no")
-
--- an answer and a newline byte
-abbrev pub IsAnswerLine : (range version written : List ℕ) → Type 0
-IsAnswerLine range version written =
-    (answer : List ℕ) × IsAnswer range version answer × (written ≡ answer ++ (newline ∷ []))

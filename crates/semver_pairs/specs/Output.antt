@@ -1,22 +1,38 @@
 -- What the program writes for what it reads.
-use Rattle.std.specs.Prelude.{◌≡◌, ◌⊎◌, ℕ, List, [], ◌∷◌, ◌++◌, Option}
-use Rattle.std.specs.Io.KnownBytes.{Appends, Consumes}
-use Rattle.semver_pairs.specs.Answer.{IsAnswerLine}
-use Rattle.semver_pairs.specs.Lines.{lines_of}
+use Rattle.std.specs.Prelude.{◌≡◌, ℕ, List, [], ◌∷◌, ◌++◌, Bool, true, IsTrue, Option, codes}
+use Rattle.std.specs.Io.KnownBytes.{Appends, Consumes, IsAtEnd}
+use Rattle.node_semver.specs.ErrorLocation.{newline}
+use Rattle.semver_pairs.specs.Answer.{IsAnswer}
+use Rattle.semver_pairs.specs.GaugeValue.{GaugeValue, HasFailed}
+use Rattle.semver_pairs.specs.Pairs.{Pair, both, lone, pairs_read}
 
--- the answer to the first two lines, or nothing where there are fewer
-abbrev pub AnswersLines : List (List ℕ) → List ℕ → Type 0
-AnswersLines [] written = written ≡ []
-AnswersLines (range ∷ []) written = written ≡ []
-AnswersLines (range ∷ version ∷ lines) written = IsAnswerLine range version written
+-- the answer to a pair: a lone last line has no version, whatever it holds
+abbrev pub IsPairAnswer : Pair → List ℕ → Type 0
+IsPairAnswer (both range version) answer = IsAnswer range version answer
+IsPairAnswer (lone line) answer = answer ≡ codes "missing version"
 
--- what is written for all that was read
+-- an answer for each of the pairs in turn, and a newline byte after each answer
+abbrev pub AreAnswers : List Pair → (written : List ℕ) → Type 0
+AreAnswers [] written = written ≡ []
+AreAnswers (pair ∷ pairs) written = (answer : List ℕ) × (others : List ℕ) × IsPairAnswer pair answer
+    × AreAnswers pairs others × (written ≡ answer ++ (newline ∷ others))
+
+-- what is written for all that was read, up to its end
 abbrev pub IsOutput : (read written : List ℕ) → Type 0
-IsOutput read written = AnswersLines (lines_of read) written
+IsOutput read written = AreAnswers (pairs_read true read) written
 
--- nothing, or a prefix of what is written for all that was read
-abbrev pub IsOutputPrefix : (read written : List ℕ) → Type 0
-IsOutputPrefix read written = (written ≡ []) ⊎ ((rest : List ℕ) × IsOutput read (written ++ rest))
+-- a beginning of the answers to the pairs
+abbrev pub BeginsAnswers : List Pair → (written : List ℕ) → Type 0
+BeginsAnswers pairs written = (more : List ℕ) × AreAnswers pairs (written ++ more)
+
+-- the end of what is read was reached: nothing is left, and no read has failed
+abbrev pub HasEnded : {R : Type 0} → (R → Option (List ℕ)) → GaugeValue R → Type 0
+HasEnded remaining gauge = IsAtEnd (remaining gauge.inner) × (¬ HasFailed gauge)
+
+-- a beginning of the answers to the pairs that were wholly read
+abbrev pub IsOutputPrefix : (Ended : Type 0) → (read written : List ℕ) → Type 0
+IsOutputPrefix Ended read written =
+    (is_end : Bool) × (IsTrue is_end → Ended) × BeginsAnswers (pairs_read is_end read) written
 
 -- Some bytes were read and some were written, and they go together so.
 pub record Exchanges (GoTogether : List ℕ → List ℕ → Type 0)
@@ -26,3 +42,13 @@ pub record Exchanges (GoTogether : List ℕ → List ℕ → Type 0)
   pub taken : Consumes remaining remaining_new read
   pub put : Appends contents contents_new written
   pub together : GoTogether read written
+
+-- ---- laws
+
+-- some text answers the pairs
+abbrev pub HasAnswers : List Pair → Type 0
+HasAnswers pairs = (written : List ℕ) × AreAnswers pairs written
+
+-- and no other does
+abbrev pub HasOneAnswer : List Pair → Type 0
+HasOneAnswer pairs = (one other : List ℕ) → AreAnswers pairs one → AreAnswers pairs other → one ≡ other

@@ -1,25 +1,49 @@
-//! The answer to what was read.
-ghost use Rattle.std.specs.Prelude.{◌≡◌, ◌↔◌, IfOk, IfErr, IfSome, IfNone, IsTrue};
+//! The answers to what was read.
+ghost use Rattle.std.specs.Prelude.{◌≡◌, ◌↔◌, [], true, ◌<◌, length, IfOk, IfErr, IfSome, IfNone, IsTrue, IsUtf8};
 ghost use Rattle.node_semver.specs.Error.{out_of_memory, refusal_of};
 ghost use Rattle.node_semver.specs.Meaning.{RangeAdmits, TextAdmits};
 ghost use Rattle.node_semver.specs.Version.{VersionValue};
-ghost use Rattle.semver_pairs.specs.Answer.{IsAnswerLine, IsBadRange, IsBadVersion, IsGoodRange, IsGoodVersion};
+ghost use Rattle.semver_pairs.specs.Answer.{IsBadRange, IsBadVersion, IsGoodRange, IsGoodVersion};
 ghost use Rattle.semver_pairs.specs.Output.{IsOutput};
+ghost use Rattle.semver_pairs.specs.Pairs.{pairs_read};
+ghost use Rattle.semver_pairs.specs.Private.Answering.{AnswersFirst, IsAnswerLine};
 
-use crate::lines::first_two_lines;
+use crate::lines::first_line;
 use crate::run_error::RunError;
 use node_semver::{Range, SemverError, SemverErrorKind, Version};
 use std::alloc::Global;
 use std::str;
 
-/// What is written for all that was read.
-pub(crate) fn output_for(alloc: Global, read: &[u8]) -> Result<&'static str, RunError>
-    ensures output { IfOk result (λ text. IsOutput read.now text.now) }
+/// What is written for all that was read, up to its end.
+#[tactic(auto, using(crate::proofs::PairLemmas::output_more, crate::proofs::PairLemmas::output_all))]
+pub(crate) fn output_for(alloc: Global, read: &[u8]) -> Result<Vec<u8>, RunError>
+    ensures output { IfOk result (λ written. IsOutput read.now written.items) }
     ensures memory { IfErr result (λ e. e ≡ RunError.Memory) }
 {
-    match first_two_lines(read) {
-        Some((range, version)) => answer_line(alloc, range, version),
-        None => Ok(""),
+    let mut output = Vec::new(alloc);
+    let mut rest = read;
+    'pairs: while let Some((line, others)) = first_answer(alloc, rest)? {
+        if output.extend_from_slice(line.as_bytes()).is_err() {
+            return Err(RunError::Memory);
+        }
+        rest = others;
+    }
+    Ok(output)
+}
+
+/// The answer to the first pair and a newline, and the rest, which holds the other pairs.
+fn first_answer(alloc: Global, bytes: &[u8]) -> Result<Option<(&'static str, &[u8])>, RunError>
+    ensures first { IfOk result (λ found. IfSome found (λ pair. AnswersFirst bytes.now pair.0.now pair.1.now)) }
+    ensures fewer { IfOk result (λ found. IfSome found (λ pair. length pair.1.now < length bytes.now)) }
+    ensures none { IfOk result (λ found. IfNone found (pairs_read true bytes.now ≡ [])) }
+    ensures memory { IfErr result (λ e. e ≡ RunError.Memory) }
+{
+    let Some((range, others)) = first_line(bytes) else {
+        return Ok(None);
+    };
+    match first_line(others) {
+        Some((version, others)) => Ok(Some((answer_line(alloc, range, version)?, others))),
+        None => Ok(Some(("missing version\n", others))),
     }
 }
 
@@ -49,7 +73,7 @@ fn range_of(alloc: Global, line: &[u8]) -> Result<Option<Range>, RunError>
         → RangeAdmits range v ↔ TextAdmits line.now v)) }
     ensures memory { IfErr result (λ e. e ≡ RunError.Memory) }
 {
-    let Ok(text) = str::from_utf8(line) else {
+    let Some(text) = text_of(line) else {
         return Ok(None);
     };
     match Range::parse(alloc, text) {
@@ -65,7 +89,7 @@ fn version_of(alloc: Global, line: &[u8]) -> Result<Option<Version>, RunError>
     ensures good { IfOk result (λ found. IfSome found (IsGoodVersion line.now)) }
     ensures memory { IfErr result (λ e. e ≡ RunError.Memory) }
 {
-    let Ok(text) = str::from_utf8(line) else {
+    let Some(text) = text_of(line) else {
         return Ok(None);
     };
     match Version::parse(alloc, text) {
@@ -80,4 +104,15 @@ fn is_want_of_memory(error: &SemverError) -> bool
     ensures { IsTrue result ↔ ((refusal_of error.now).kind ≡ out_of_memory) }
 {
     matches!(error.kind(), SemverErrorKind::OutOfMemory)
+}
+
+/// The text of a line, or none where it is not UTF-8.
+fn text_of(line: &[u8]) -> Option<&str>
+    ensures text { IfSome result (λ text. (text.now ≡ line.now) × IsUtf8 line.now) }
+    ensures none { IfNone result (¬ IsUtf8 line.now) }
+{
+    if line.is_ascii() {
+        return Some(unsafe { str::from_utf8_unchecked(line) });
+    }
+    str::from_utf8(line).ok()
 }

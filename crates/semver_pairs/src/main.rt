@@ -1,9 +1,11 @@
-//! Reads a range and a version from standard input, a line each, and writes whether the version
-//! satisfies the range: `yes`, `no`, `bad range` or `bad version`.
+//! Reads ranges and versions from standard input, by turns and a line each, and writes for each two lines whether the
+//! version satisfies the range: `yes`, `no`, `bad range`, `bad version` or `missing version`.
 #![tactic(auto)]
 
 mod answering;
+mod exit;
 mod gauge;
+mod laws;
 mod lines;
 mod program;
 mod reading;
@@ -12,20 +14,29 @@ mod run_error;
 mod tests;
 mod writing;
 
+use exit::ending;
 use gauge::Gauge;
 use program::run;
+use run_error::RunError;
+use std::env;
 use std::process::ExitCode;
 
-/// Ends with status 0, or with status 1 and a line on standard error. A line that cannot be written
-/// is dropped.
+/// Takes no arguments. Ends with the status of `ending`, and with its line on standard error, if there is one. A line
+/// that cannot be written is dropped.
 fn main(rt: HostRuntime) -> ExitCode {
-    let mut reader = Gauge::new(rt.stdin());
-    let mut writer = Gauge::new(rt.stdout());
-    match run(rt.alloc(), &mut reader, &mut writer) {
-        Ok(()) => ExitCode::SUCCESS,
-        Err(error) => {
-            let _ = eprintln!(rt; "semver_pairs: {error}");
-            ExitCode::FAILURE
+    // The first word is the program's name.
+    let outcome = match env::args(&rt).map(|words| words.count()) {
+        Ok(count) if count > 1 => None,
+        Ok(_) => {
+            let mut reader = Gauge::new(rt.stdin());
+            let mut writer = Gauge::new(rt.stdout());
+            Some(run(rt.alloc(), &mut reader, &mut writer))
         }
+        Err(_) => Some(Err(RunError::Read)),
+    };
+    let (status, line) = ending(outcome.as_ref());
+    if !line.is_empty() {
+        let _ = eprintln!(rt; "{line}");
     }
+    ExitCode::from(status)
 }

@@ -1,8 +1,8 @@
 //! What the program does with a reader and a writer.
 ghost use Rattle.std.specs.Prelude.{◌≡◌, ◌⊎◌, ◌↔◌, ◌^◌, ◌-◌, ◌≤◌, ℕ, List, length, IfOk, OnOk, OnErr, IfSome, IsErrOf};
-ghost use Rattle.std.specs.Io.KnownBytes.{Consumes, IsAtEnd};
+ghost use Rattle.std.specs.Io.KnownBytes.{Consumes};
 ghost use Rattle.semver_pairs.specs.GaugeValue.{HasFailed};
-ghost use Rattle.semver_pairs.specs.Output.{Exchanges, IsOutput, IsOutputPrefix};
+ghost use Rattle.semver_pairs.specs.Output.{Exchanges, HasEnded, IsOutput, IsOutputPrefix};
 
 use crate::answering::output_for;
 use crate::gauge::Gauge;
@@ -12,13 +12,14 @@ use crate::writing::write_all;
 use std::alloc::Global;
 use std::io::{Read, Write};
 
-/// Reads to the end, and answers the first two lines, a range and a version, in a line of its own.
+/// Reads to the end, and writes one line for each pair of lines: a range line and then a version line.
 ///
-/// A line ends at a newline byte, or at the end of what is read where bytes are left. The answer is `bad range`,
-/// `bad version`, `yes` or `no`, the first that fits.
+/// The answer is `bad range` where the range is refused, else `bad version` where the version is, else `yes` or `no`. A
+/// last range line without a version line gives `missing version`, whatever it holds.
 ///
-/// With fewer than two lines nothing is written. Lines past the second are read and not answered. A carriage return is
-/// part of its line. A line that is not UTF-8 is a bad one. A call that failed is not made again.
+/// A line ends at a newline byte. One carriage return just before that byte is dropped. What is left past the last
+/// newline byte is a line too, unless it is empty; a carriage return at its end stays. A line that is not UTF-8 is
+/// refused. A call that failed is not made again.
 ///
 /// # Errors
 ///
@@ -27,15 +28,19 @@ use std::io::{Read, Write};
 /// - `Memory`: memory was refused.
 /// - `Endless`: 18446744073709551615 reads gave bytes and no end came.
 ///
+/// What was written is then a beginning of the answers to the pairs that were wholly read: a pair is so once the
+/// newline byte of its version line was read, or the end was; a last line without a second one is so once the end was.
+///
 /// # Memory
 ///
-/// All that is read is held until it is answered.
+/// All that is read and all answers are held until they are written.
 ///
 /// # Examples
 ///
-/// - `>=1.2.3 <2.0.0` and `1.9.0` give `yes`.
+/// - `^1.2.3-rc.4`, `1.2.3-rc.5`, `foo`, `1.0.0`, `1`, `bad`, `1`, a line each, give `yes`, `bad range`,
+///   `bad version`, `missing version`, a line each.
 /// - `>=1.2.3 <2.0.0` and `2.0.0` give `no`.
-/// - `>=1.2.3 <2.0.0` alone gives nothing.
+/// - No bytes give no bytes.
 pub fn run<R: Read, W: Write>(
     alloc: Global,
     reader: &mut Gauge<R>,
@@ -44,9 +49,10 @@ pub fn run<R: Read, W: Write>(
     // What was read and what was written.
     ensures answered { OnOk result (Exchanges IsOutput (R.remaining reader.old.inner)
         (R.remaining reader.new.inner) (W.contents writer.old.inner) (W.contents writer.new.inner)) }
-    ensures ended { OnOk result (IsAtEnd (R.remaining reader.new.inner)) }
-    ensures begun { OnErr result (Exchanges IsOutputPrefix (R.remaining reader.old.inner)
-        (R.remaining reader.new.inner) (W.contents writer.old.inner) (W.contents writer.new.inner)) }
+    ensures ended { OnOk result (HasEnded R.remaining reader.new) }
+    ensures begun { OnErr result (Exchanges (IsOutputPrefix (HasEnded R.remaining reader.new))
+        (R.remaining reader.old.inner) (R.remaining reader.new.inner)
+        (W.contents writer.old.inner) (W.contents writer.new.inner)) }
 
     // When each error comes.
     ensures read { IsErrOf result RunError.Read ↔ HasFailed reader.new }
@@ -65,15 +71,15 @@ pub fn run<R: Read, W: Write>(
         return Err(RunError::Write);
     }
     let output = read_output(alloc, reader)?;
-    write_all(writer, output.as_bytes())
+    write_all(writer, &output)
 }
 
 /// What is to be written for all that is left to read.
-fn read_output<R: Read>(alloc: Global, reader: &mut Gauge<R>) -> Result<&'static str, RunError>
+fn read_output<R: Read>(alloc: Global, reader: &mut Gauge<R>) -> Result<Vec<u8>, RunError>
     requires { ¬ HasFailed reader.old }
     ensures output { IfOk result (λ output. (read : List ℕ) × Consumes (R.remaining reader.old.inner)
-        (R.remaining reader.new.inner) read × IsOutput read output.now) }
-    ensures ended { OnOk result (IsAtEnd (R.remaining reader.new.inner)) }
+        (R.remaining reader.new.inner) read × IsOutput read output.items) }
+    ensures ended { OnOk result (HasEnded R.remaining reader.new) }
     ensures some { OnErr result ((read : List ℕ) × Consumes (R.remaining reader.old.inner)
         (R.remaining reader.new.inner) read) }
     ensures read { IsErrOf result RunError.Read ↔ HasFailed reader.new }

@@ -1,7 +1,8 @@
 //! Reading to the end.
 ghost use Rattle.std.specs.Prelude.{◌↔◌, ℕ, ◌^◌, ◌-◌, ◌≤◌, List, length, IfOk, OnOk, OnErr, IfSome, IsErrOf};
-ghost use Rattle.std.specs.Io.KnownBytes.{Consumes, IsAtEnd};
+ghost use Rattle.std.specs.Io.KnownBytes.{Consumes};
 ghost use Rattle.semver_pairs.specs.GaugeValue.{HasFailed};
+ghost use Rattle.semver_pairs.specs.Output.{HasEnded};
 
 use crate::gauge::Gauge;
 use crate::run_error::RunError;
@@ -14,7 +15,7 @@ pub(crate) fn read_all<R: Read>(alloc: Global, reader: &mut Gauge<R>) -> Result<
     requires { ¬ HasFailed reader.old }
     ensures bytes { IfOk result (λ bytes. Consumes (R.remaining reader.old.inner)
         (R.remaining reader.new.inner) bytes.items) }
-    ensures ended { OnOk result (IsAtEnd (R.remaining reader.new.inner)) }
+    ensures ended { OnOk result (HasEnded R.remaining reader.new) }
     ensures some { OnErr result ((bytes : List ℕ) × Consumes (R.remaining reader.old.inner)
         (R.remaining reader.new.inner) bytes) }
     ensures read { IsErrOf result RunError.Read ↔ HasFailed reader.new }

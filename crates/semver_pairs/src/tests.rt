@@ -1,121 +1,180 @@
+mod outcome;
 mod stepwise;
 
+use crate::exit::ending;
 use crate::gauge::Gauge;
 use crate::program::run;
 use crate::run_error::RunError;
-use std::alloc::Global;
+use outcome::{WHOLE, gives, outcome_of};
 use std::io::Cursor;
 use std::test::Fail;
 use stepwise::Stepwise;
 
-/// A run over memory, and what it left.
-#[derive(Drop)]
-struct Outcome {
-    result: Result<(), RunError>,
-    has_read_failed: bool,
-    has_write_failed: bool,
-    written: Cursor<[u8; 32]>,
-}
+/// What some inputs give.
+const ROWS: &[(&[u8], &[u8])] = &[
+    // Two lines.
+    (b">=1.2.3 <2.0.0\n1.9.0\n", b"yes\n"),
+    (b">=1.2.3-rc.4 <2.0.0\n1.2.3-rc.5\n", b"yes\n"),
+    (b">=1.2.3-rc.4 <2.0.0\n1.2.4-rc.6\n", b"no\n"),
+    (b">4.0.0 <3.0.0\n1.0.0\n", b"bad range\n"),
+    (b"foo >= v 1.0.0\n1.2\n", b"bad version\n"),
+    (b"=1.2.3+a\n1.2.3+b\n", b"yes\n"),
+    (b"1 || 3\n2.0.0\n", b"no\n"),
+    // A bad range comes before a bad version.
+    (b"foo\nbar\n", b"bad range\n"),
+    // The end ends a line, and an empty line is one.
+    (b"", b""),
+    (b"1\n1.0.0", b"yes\n"),
+    (b"\n\n", b"bad range\n"),
+    (b"1\n\n", b"bad version\n"),
+    // A lone last line, whatever it holds.
+    (b"\n", b"missing version\n"),
+    (b"1", b"missing version\n"),
+    (b"foo\n", b"missing version\n"),
+    (b"\xff", b"missing version\n"),
+    (b"1\n1.0.0\n\n", b"yes\nmissing version\n"),
+    // One carriage return just before a newline goes with it, and no other one.
+    (b"1\r\n1.0.0\r\n", b"yes\n"),
+    (b"1\r\r\n1.0.0\n", b"bad range\n"),
+    (b"1\n1.0.0\r", b"bad version\n"),
+    (b"\r\n", b"missing version\n"),
+    (b"1\r1\n1.0.0\n", b"bad range\n"),
+    // Lines that are not UTF-8.
+    (b"\xff\n1.0.0\n", b"bad range\n"),
+    (b"1\n\xff\n", b"bad version\n"),
+    (b"1\n1.0.0-\xc5", b"bad version\n"),
+    (b"1\n1.0.0-\xc5\xa1\n", b"bad version\n"),
+    // More than one pair, and each kind of answer.
+    (PAIRS, b"yes\nbad range\nbad version\nmissing version\n"),
+    (
+        b"1\n1.0.0\n1\n2.0.0\n\n\n1\n1.0.0",
+        b"yes\nno\nbad range\nyes\n",
+    ),
+];
 
-impl Outcome {
-    fn text(&self) -> &[u8] {
-        let count = self.written.position() as usize;
-        self.written.get_ref().get(..count).unwrap_or(&[])
-    }
-}
-
-/// Runs over the input, with at most so many bytes a call and in all.
-fn outcome_of(alloc: Global, input: &[u8], read: (usize, usize), write: (usize, usize)) -> Outcome {
-    let mut reader = Gauge::new(Stepwise::new(input, read));
-    let mut writer = Gauge::new(Stepwise::new(Cursor::new([0; 32]), write));
-    let result = run(alloc, &mut reader, &mut writer);
-    Outcome {
-        result,
-        has_read_failed: reader.failed(),
-        has_write_failed: writer.failed(),
-        written: writer.into_inner().inner,
-    }
-}
-
-const WHOLE: (usize, usize) = (usize::MAX, usize::MAX);
-
-const FIRST: &[u8] = b">=1.2.3 <2.0.0\n1.9.0\n";
+const PAIRS: &[u8] = b"^1.2.3-rc.4\n1.2.3-rc.5\nfoo\n1.0.0\n1\nbad\n1\n";
 
 #[test]
-fn answers_the_first_two_lines_with_ample_memory(rt: HostRuntime) {
-    let rows: [(&[u8], &[u8]); 24] = [
-        (FIRST, b"yes\n"),
-        (b">=1.2.3-rc.4 <2.0.0\n1.2.3-rc.5\n", b"yes\n"),
-        (b">=1.2.3-rc.4 <2.0.0\n1.2.4-rc.6\n", b"no\n"),
-        (b">=1.2.3-a >=1.2.3-b\n1.2.3-c\n", b"yes\n"),
-        (b">4.0.0 <3.0.0\n1.0.0\n", b"bad range\n"),
-        (b"foo >= v 1.0.0\n1.2\n", b"bad version\n"),
-        (b"=1.2.3+a\n1.2.3+b\n", b"yes\n"),
-        (b"1.2.3\n1.2.3\n", b"yes\n"),
-        (b"~1.2\n1.3.0\n", b"no\n"),
-        (b"1.2 - 2\n2.9.9\n", b"yes\n"),
-        (b"latest\n1.2.3\n", b"bad range\n"),
-        (b"1 || 3\n3.0.0\n", b"yes\n"),
-        (b"1 || 3\n2.0.0\n", b"no\n"),
-        // Fewer than two lines.
-        (b"", b""),
-        (b"\n", b""),
-        (b">=1.0.0", b""),
-        (b">=1.0.0\n", b""),
-        // The end of the input ends a line, and an empty line is one.
-        (b">=1.0.0\n1.0.0", b"yes\n"),
-        (b"\n\n", b"bad range\n"),
-        (b">=1.0.0\n\n", b"bad version\n"),
-        // Lines that are not UTF-8, a carriage return, and a third line.
-        (b"\xff\n1.0.0\n", b"bad range\n"),
-        (b">=1.0.0\n\xff\n", b"bad version\n"),
-        (b">=1.0.0\r\n1.0.0\r\n", b"bad range\n"),
-        (b">=1.0.0\n1.0.0\n>=1.0.0\n", b"yes\n"),
-    ];
-    for (input, output) in rows {
-        let input_text = input.escape_ascii();
-        for (read, write) in [(usize::MAX, usize::MAX), (1, 1), (7, 1)] {
+fn answers_each_pair_with_ample_memory(rt: HostRuntime) {
+    for (input, output) in ROWS {
+        for (read, write) in [(usize::MAX, usize::MAX), (1, 1), (7, usize::MAX)] {
             let outcome = outcome_of(rt.alloc(), input, (read, usize::MAX), (write, usize::MAX));
-            assert_eq!(rt; outcome.result, Ok(()), "{input_text} by {read}");
-            assert_eq!(rt; outcome.text(), output, "{input_text} by {read}");
+            assert!(rt; gives(&outcome, output), "{}", input.escape_ascii());
         }
     }
+}
+
+/// The answers to the first bytes of the four pairs, where the input ends there.
+fn output_up_to(count: usize) -> &'static [u8] {
+    match count {
+        0 => b"",
+        1..=12 => b"missing version\n",
+        // `1.2.3` is a version, and so are `1.2.3-r` and `1.2.3-rc`, which are less than `1.2.3-rc.4`.
+        17 | 22 | 23 => b"yes\n",
+        19 | 20 => b"no\n",
+        13..=23 => b"bad version\n",
+        24..=27 => b"yes\nmissing version\n",
+        28..=33 => b"yes\nbad range\n",
+        34 | 35 => b"yes\nbad range\nmissing version\n",
+        36..=39 => b"yes\nbad range\nbad version\n",
+        _ => b"yes\nbad range\nbad version\nmissing version\n",
+    }
+}
+
+/// The answers to the pairs of which the newline of the version line is among these bytes.
+fn answers_up_to(count: usize) -> &'static [u8] {
+    match count {
+        0..=22 => b"",
+        23..=32 => b"yes\n",
+        33..=38 => b"yes\nbad range\n",
+        _ => b"yes\nbad range\nbad version\n",
+    }
+}
+
+#[test]
+fn answers_what_was_read_up_to_any_end(rt: HostRuntime) {
+    for count in 0..=PAIRS.len() {
+        let outcome = outcome_of(
+            rt.alloc(),
+            &PAIRS[..count],
+            (7, usize::MAX),
+            (1, usize::MAX),
+        );
+        assert!(rt; gives(&outcome, output_up_to(count)), "{count} bytes");
+    }
+}
+
+#[test]
+fn stops_at_a_read_that_fails(rt: HostRuntime) {
+    for count in 0..=PAIRS.len() {
+        let outcome = outcome_of(rt.alloc(), PAIRS, (7, count), WHOLE);
+        assert!(rt; outcome.result == Err(RunError::Read), "after {count}");
+        assert!(rt;
+            outcome.has_read_failed && !outcome.has_write_failed,
+            "after {count}"
+        );
+        assert!(rt;
+            answers_up_to(count).starts_with(outcome.text()),
+            "after {count}"
+        );
+        // The failed read is the last one.
+        assert!(rt; outcome.reads == count.div_ceil(7) + 1, "after {count}");
+    }
+}
+
+#[test]
+fn stops_at_a_write_that_fails(rt: HostRuntime) {
+    let output = output_up_to(PAIRS.len());
+    for count in 0..output.len() {
+        let outcome = outcome_of(rt.alloc(), PAIRS, WHOLE, (2, count));
+        assert!(rt; outcome.result == Err(RunError::Write), "after {count}");
+        assert!(rt;
+            !outcome.has_read_failed && outcome.has_write_failed,
+            "after {count}"
+        );
+        assert!(rt; outcome.text() == &output[..count], "after {count}");
+        // The failed write is the last one.
+        assert!(rt; outcome.writes == count.div_ceil(2) + 1, "after {count}");
+    }
+    let outcome = outcome_of(rt.alloc(), PAIRS, WHOLE, (0, usize::MAX));
+    assert!(rt; outcome.result == Err(RunError::Write), "no byte is taken");
+    assert!(rt;
+        outcome.has_write_failed && outcome.writes == 1,
+        "no byte is taken"
+    );
+}
+
+#[test]
+fn writes_all_answers_at_once(rt: HostRuntime) {
+    let outcome = outcome_of(rt.alloc(), PAIRS, WHOLE, WHOLE);
+    assert!(rt; outcome.writes == 1);
+    let outcome = outcome_of(rt.alloc(), b"", WHOLE, WHOLE);
+    assert!(rt; outcome.writes == 0);
 }
 
 /// Inputs of more than 65,536 bytes: a text, a piece so many times, and the rest.
 #[test]
 fn answers_long_input_with_ample_memory(rt: HostRuntime) -> Result<(), Fail> {
-    let rows: [(&[u8], &[u8], usize, &[u8], &[u8]); 8] = [
+    let rows: &[(&[u8], &[u8], usize, &[u8], &[u8])] = &[
         (b"", b">=1.0.0 ", 10_000, b"\n1.0.0\n", b"yes\n"),
-        (b"", b">=1.0.0 ", 10_000, b"\n0.9.9\n", b"no\n"),
         (b"", b">=1.0.0 ", 10_000, b"<1.0.0\n1.0.0\n", b"bad range\n"),
-        (b"", b"a", 70_000, b"\n1.0.0\n", b"bad range\n"),
-        (b">=1.0.0\n1.0.0+", b"a", 70_000, b"\n", b"bad version\n"),
-        (b">=1.0.0\n", b"\xff", 70_000, b"\n", b"bad version\n"),
-        (FIRST, b"1.0.0\n", 20_000, b"", b"yes\n"),
-        (b"", b">=1.0.0 ", 10_000, b"", b""),
+        (
+            b">=1.0.0\n1.0.0+",
+            b"a",
+            70_000,
+            b"\n1",
+            b"bad version\nmissing version\n",
+        ),
+        (b"1\n", b"\xff", 70_000, b"", b"bad version\n"),
     ];
     for (prefix, piece, times, rest, output) in rows {
-        let mut input = Vec::new(rt.alloc());
-        input.extend_from_slice(prefix)?;
-        for _ in 0..times {
+        let mut input = prefix.to_vec(rt.alloc())?;
+        for _ in 0..*times {
             input.extend_from_slice(piece)?;
         }
         input.extend_from_slice(rest)?;
-        let prefix_text = prefix.escape_ascii();
-        let piece_text = piece.escape_ascii();
-        let rest_text = rest.escape_ascii();
         let outcome = outcome_of(rt.alloc(), &input, WHOLE, WHOLE);
-        assert_eq!(rt;
-            outcome.result,
-            Ok(()),
-            "{prefix_text}{piece_text}..{rest_text}"
-        );
-        assert_eq!(rt;
-            outcome.text(),
-            output,
-            "{prefix_text}{piece_text}..{rest_text}"
-        );
+        assert!(rt; gives(&outcome, output), "{}", piece.escape_ascii());
     }
     Ok(())
 }
@@ -128,7 +187,7 @@ fn leaves_both_alone_where_a_gauge_had_failed(rt: HostRuntime) {
         (true, true, RunError::Read),
     ] {
         let none_left = (usize::MAX, 0);
-        let mut reader = Gauge::new(Stepwise::new(FIRST, if has_read { none_left } else { WHOLE }));
+        let mut reader = Gauge::new(Stepwise::new(PAIRS, if has_read { none_left } else { WHOLE }));
         if has_read {
             assert!(rt; reader.read(&mut [0; 4]).is_err());
         }
@@ -140,53 +199,36 @@ fn leaves_both_alone_where_a_gauge_had_failed(rt: HostRuntime) {
         if has_written {
             assert!(rt; writer.write(b"no").is_err());
         }
-        assert_eq!(rt; run(rt.alloc(), &mut reader, &mut writer), Err(error));
+        assert!(rt; run(rt.alloc(), &mut reader, &mut writer) == Err(error));
+        // Of the calls that failed none was made again.
         let calls = (reader.into_inner().calls, writer.into_inner().calls);
-        assert_eq!(rt; calls, (usize::from(has_read), usize::from(has_written)));
+        assert!(rt; calls == (usize::from(has_read), usize::from(has_written)));
     }
-}
-
-#[test]
-fn stops_at_a_read_that_fails(rt: HostRuntime) {
-    for count in 0..=FIRST.len() {
-        let outcome = outcome_of(rt.alloc(), FIRST, (7, count), WHOLE);
-        assert_eq!(rt; outcome.result, Err(RunError::Read), "after {count}");
-        assert!(rt;
-            outcome.has_read_failed && !outcome.has_write_failed,
-            "after {count}"
-        );
-        assert_eq!(rt; outcome.text(), b"".as_slice(), "after {count}");
-    }
-}
-
-#[test]
-fn stops_at_a_write_that_fails(rt: HostRuntime) {
-    for (count, output) in [(0, "".as_bytes()), (1, b"y"), (2, b"ye"), (3, b"yes")] {
-        let outcome = outcome_of(rt.alloc(), FIRST, WHOLE, (2, count));
-        assert_eq!(rt; outcome.result, Err(RunError::Write), "after {count}");
-        assert!(rt;
-            !outcome.has_read_failed && outcome.has_write_failed,
-            "after {count}"
-        );
-        assert_eq!(rt; outcome.text(), output, "after {count}");
-    }
-    let outcome = outcome_of(rt.alloc(), FIRST, WHOLE, (0, usize::MAX));
-    assert_eq!(rt; outcome.result, Err(RunError::Write), "no byte is taken");
-    assert!(rt; outcome.has_write_failed, "no byte is taken");
 }
 
 /// Each request for memory is refused in turn by `rt try --test --fail-alloc N`.
 #[test]
 fn answers_or_says_that_memory_is_out(rt: HostRuntime) {
-    let outcome = outcome_of(rt.alloc(), FIRST, (7, usize::MAX), WHOLE);
+    let outcome = outcome_of(rt.alloc(), PAIRS, (7, usize::MAX), WHOLE);
     assert!(rt; !outcome.has_read_failed && !outcome.has_write_failed);
+    let output = output_up_to(PAIRS.len());
     match &outcome.result {
-        Ok(()) => assert_eq!(rt; outcome.text(), b"yes\n".as_slice()),
+        Ok(()) => assert!(rt; outcome.text() == output),
         Err(error) => {
-            assert_eq!(rt; *error, RunError::Memory);
-            assert_eq!(rt; outcome.text(), b"".as_slice());
+            assert!(rt; *error == RunError::Memory);
+            assert!(rt; output.starts_with(outcome.text()));
         }
     }
+}
+
+#[test]
+fn ends_with_a_status_and_a_line(rt: HostRuntime) {
+    assert!(rt; ending(Some(&Ok(()))) == (0, ""));
+    assert!(rt; ending(Some(&Err(RunError::Read))) == (1, "semver_pairs: read failed"));
+    assert!(rt; ending(Some(&Err(RunError::Write))) == (1, "semver_pairs: write failed"));
+    assert!(rt; ending(Some(&Err(RunError::Memory))) == (1, "semver_pairs: out of memory"));
+    assert!(rt; ending(Some(&Err(RunError::Endless))) == (1, "semver_pairs: input does not end"));
+    assert!(rt; ending(None) == (2, "semver_pairs: takes no arguments"));
 }
 
 #[test]
@@ -197,7 +239,7 @@ fn tells_why_it_stopped(rt: HostRuntime) -> Result<(), Fail> {
         (RunError::Memory, "out of memory"),
         (RunError::Endless, "input does not end"),
     ] {
-        assert_eq!(rt; error.to_string(rt.alloc())?.as_str(), text);
+        assert!(rt; error.to_string(rt.alloc())?.as_str() == text);
     }
     Ok(())
 }

@@ -1,12 +1,20 @@
 -- What the private functions that make the sets of a range do.
-use Rattle.std.specs.Prelude.{◌≡◌, ℕ, List, [], ◌∷◌, Option, Some, None}
+use Rattle.std.specs.Prelude.{◌≡◌, ◌≢◌, ◌⊎◌, ◌≤◌, ℕ, List, [], ◌∷◌, ◌++◌, Option, Some, None, Result, Ok, Err}
 use Rattle.semver_cuts.specs.Ends.{Ends, IsCutBelow}
 use Rattle.node_semver.specs.Comparator.{Comparator}
 use Rattle.node_semver.specs.Comparison.{version_cmp}
 use Rattle.node_semver.specs.Division.{HasBars, IsAlternative}
-use Rattle.node_semver.specs.Meaning.{GiveSet}
-use Rattle.node_semver.specs.Merging.{IsSetOf}
+use Rattle.node_semver.specs.Error.{IsOutOfMemory, IsRefusalAt, no_valid_ranges}
+use Rattle.node_semver.specs.Meaning.{GiveSet, IsRefused}
+use Rattle.node_semver.specs.Merging.{AreSetsOfText, IsSetOf}
+use Rattle.node_semver.specs.PartialText.{plain_partial}
 use Rattle.node_semver.specs.Version.{VersionValue}
+use Rattle.node_semver.specs.Characters.{BeginsWith, is_digit}
+use Rattle.node_semver.specs.Private.WordReading.{Lead, caret_lead, lead_comparator, no_lead, read_partial, tilde_lead}
+use Rattle.node_semver.specs.declared.TheConstants.{MAX_SAFE_INTEGER}
+use Rattle.node_semver.specs.declared.error.SemverError.{SemverError}
+use Rattle.node_semver.specs.declared.range.full.Sign.{Sign}
+use Rattle.node_semver.specs.declared.range.full.Sign.TheVariants.{Caret, Nothing, Tilde}
 use Rattle.node_semver.specs.declared.range.sets.Sets.{Sets}
 use Rattle.node_semver.specs.declared.range.sets.Sets.TheVariants.{One, Many}
 
@@ -32,17 +40,53 @@ pub record IsOnlyComparator (text : List ℕ) (comparator : Comparator) : Type 0
   pub no_bars : ¬ HasBars text
   pub below : IsCutBelow version_cmp comparator.lower comparator.upper
 
+-- what stands before a full version
+abbrev pub sign_seen : Sign → Lead
+sign_seen Caret = caret_lead
+sign_seen Tilde = tilde_lead
+sign_seen Nothing = no_lead
+
+-- three numbers, which are the whole text and the partial that it begins with
+pub record IsFullText (text : List ℕ) (major minor patch : ℕ) : Type 0 where
+  pub digit : BeginsWith is_digit text
+  pub read : Some (plain_partial (Some major) (Some minor) (Some patch), []) ≡ read_partial text
+  pub major_limit : major ≤ MAX_SAFE_INTEGER
+  pub minor_limit : minor ≤ MAX_SAFE_INTEGER
+  pub patch_limit : patch ≤ MAX_SAFE_INTEGER
+
+-- the comparator that they write after a lead
+abbrev pub full_comparator : Lead → ℕ → ℕ → ℕ → Option Comparator
+full_comparator lead major minor patch = lead_comparator lead (plain_partial (Some major) (Some minor) (Some patch))
+
+-- a lead and three numbers are the whole text, and write its only comparator
+pub record IsFull (text : List ℕ) (lead : Lead) (major minor patch : ℕ) : Type 0 where
+  pub comparator : Comparator
+  pub written : full_comparator lead major minor patch ≡ Some comparator
+  pub only : IsOnlyComparator text comparator
+  pub major_limit : major ≤ MAX_SAFE_INTEGER
+  pub minor_limit : minor ≤ MAX_SAFE_INTEGER
+  pub patch_limit : patch ≤ MAX_SAFE_INTEGER
+
 -- a list of the set, or of none
 abbrev pub listed_set : Option (Ends VersionValue) → List (Ends VersionValue)
 listed_set None = []
 listed_set (Some set) = set ∷ []
+
+-- the sets of one alternative more
+abbrev pub IsOneMore : List ℕ → List (Ends VersionValue) → List (Ends VersionValue) → Type 0
+IsOneMore text before after = (set : Option (Ends VersionValue)) × IsSetOfAlternative text set × (after ≡ before ++ listed_set set)
 
 -- the list of the sets of a range
 abbrev pub sets_seen : Sets → List (Ends VersionValue)
 sets_seen (One set) = set ∷ []
 sets_seen (Many sets) = sets.items
 
--- and of a text, where it gives any
+-- and of an answer, where it has any
 abbrev pub some_sets_seen : Option Sets → List (Ends VersionValue)
 some_sets_seen None = []
 some_sets_seen (Some sets) = sets_seen sets
+
+-- what is answered for a text: its sets, at least one, or its refusal, unless memory ran out
+abbrev pub IsReadRange : List ℕ → Result (List (Ends VersionValue)) SemverError → Type 0
+IsReadRange text (Ok sets) = AreSetsOfText text sets × (sets ≢ [])
+IsReadRange text (Err e) = IsOutOfMemory e ⊎ (IsRefusalAt text no_valid_ranges 0 e × IsRefused text)

@@ -1,39 +1,66 @@
 //! Copies of identifiers.
 
-ghost use Rattle.std.specs.Prelude.{◌≡◌, [], IfOk, IsOk};
-ghost use Rattle.node_semver.specs.Identifier.{value_of, values_of};
+ghost use Rattle.std.specs.Prelude.{◌≡◌, ◌++◌, [], ◌∷◌, IfOk, IsOk, MatchResult};
+ghost use Rattle.node_semver.specs.Identifier.{IsNumber, value_of, values_of};
+ghost use Rattle.node_semver.specs.IdentifierValue.{numeric};
 
 use crate::Identifier;
 use std::alloc::{AllocError, Global};
 
-impl Identifier {
-    pub(crate) fn copy_of(&self, alloc: Global) -> Result<Identifier, AllocError>
-        ensures copy { IfOk result (λ c. value_of c ≡ value_of self.now) }
+/// A copy is the same number, or the same text.
+///
+/// # Errors
+///
+/// `AllocError` where memory for the text is refused.
+///
+/// # Memory
+///
+/// Takes none for a number, and the bytes of a text.
+impl Clone for Identifier {
+    ghost is_clone = { λ i copy. value_of copy ≡ value_of i };
+
+    ghost is_infallible = { IsNumber };
+
+    #[inline]
+    fn clone(&self) -> Result<Identifier, AllocError>
+        ensures cases { MatchResult result (λ copy. value_of copy ≡ value_of self.now) (λ _. ¬ IsNumber self.now) }
+        ensures copy { IfOk result (λ copy. value_of copy ≡ value_of self.now) }
+        ensures number { IsNumber self.now → IsOk result }
     {
         match self {
             Identifier::Numeric(n) => Ok(Identifier::Numeric(*n)),
-            Identifier::AlphaNumeric(text) => Ok(Identifier::AlphaNumeric(String::from_str(
-                alloc,
-                text.as_str(),
-            )?)),
+            Identifier::AlphaNumeric(text) => Ok(Identifier::AlphaNumeric(text.clone()?)),
         }
     }
 }
 
 // Takes no memory for no identifiers.
+#[inline]
 pub(crate) fn copies_of(
     alloc: Global,
     identifiers: &[Identifier],
 ) -> Result<Vec<Identifier>, AllocError>
     ensures copies { IfOk result (λ v. values_of v.items ≡ values_of identifiers.now) }
-    ensures plain { identifiers.now ≡ [] → IsOk result }
+    ensures plain { values_of identifiers.now ≡ [] → IsOk result }
 {
     if identifiers.is_empty() {
         return Ok(Vec::new(alloc));
     }
     let mut copies = Vec::with_capacity(alloc, identifiers.len())?;
     'identifiers: for identifier in identifiers {
-        copies.push(identifier.copy_of(alloc)?)?;
+        copies.push(identifier.clone()?)?;
     }
+    Ok(copies)
+}
+
+// The identifiers and a numeric 0 after them.
+pub(crate) fn copies_with_zero(
+    alloc: Global,
+    identifiers: &[Identifier],
+) -> Result<Vec<Identifier>, AllocError>
+    ensures copies { IfOk result (λ v. values_of v.items ≡ values_of identifiers.now ++ numeric 0 ∷ []) }
+{
+    let mut copies = copies_of(alloc, identifiers)?;
+    copies.push(Identifier::Numeric(0))?;
     Ok(copies)
 }

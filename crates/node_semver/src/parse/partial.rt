@@ -3,13 +3,13 @@
 //!
 //! What is `#[inline(always)]` keeps numbers and shapes in registers on the way through the readers of words.
 ghost use Rattle.std.specs.Prelude.{◌≡◌, IfSome};
-ghost use Rattle.node_semver.specs.Characters.{is_partial_mark};
-ghost use Rattle.node_semver.specs.Private.Reading.{read_extras, skip_one};
+ghost use Rattle.node_semver.specs.Characters.{is_blank, is_partial_mark};
+ghost use Rattle.node_semver.specs.Private.Reading.{read_extras, rest_of, skip_one};
 ghost use Rattle.node_semver.specs.Private.WordReading as Reading;
 ghost use Rattle.node_semver.specs.Private.WordViews.{IsComponentSound, IsSound, component_seen, component_value, has_major, has_minor, has_patch, partial_seen, read_partial_seen};
 
 use crate::parse::extras::skip_extras;
-use crate::parse::number::read_number;
+use crate::parse::number::{is_digit, read_number};
 use crate::parse::skip::{skip_blanks, skip_one};
 
 // Which components of a partial are numbers.
@@ -62,15 +62,18 @@ fn read_component(text: &[u8]) -> Option<(Component, &[u8])>
     ensures read { component_seen result ≡ Reading.read_component text.now }
     ensures sound { IfSome result (λ r. IsComponentSound r.0) }
 {
-    if let [b'x' | b'X' | b'*', rest @ ..] = text {
-        return Some((ABSENT, rest));
+    match text {
+        [first, ..] if is_digit(*first) => {
+            let (number, rest) = read_number(text).ok()?;
+            let component = Component {
+                number,
+                is_number: true,
+            };
+            Some((component, rest))
+        }
+        [b'x' | b'X' | b'*', rest @ ..] => Some((ABSENT, rest)),
+        _ => None,
     }
-    let (number, rest) = read_number(text).ok()?;
-    let component = Component {
-        number,
-        is_number: true,
-    };
-    Some((component, rest))
 }
 
 #[inline(always)]
@@ -114,6 +117,18 @@ fn skip_partial_mark(text: &[u8]) -> &[u8]
     skip_one(text, |byte| byte == b'v')
 }
 
+// `1.2` of `v 1.2`. Most texts have neither a mark nor blanks, and begin with a digit.
+#[inline(always)]
+#[tactic(auto, unfolding(crate::specs::Private::Reading::skip_one))]
+fn skip_to_components(text: &[u8]) -> &[u8]
+    ensures { result.now ≡ rest_of is_blank (skip_one is_partial_mark text.now) }
+{
+    match text {
+        [first, ..] if is_digit(*first) => text,
+        _ => skip_blanks(skip_partial_mark(text)),
+    }
+}
+
 // `v 1.2.x` and ` <2` of `v 1.2.x-alpha <2`
 #[inline(always)]
 #[tactic(auto, unfolding(crate::specs::Private::WordReading::read_partial))]
@@ -121,7 +136,7 @@ pub(crate) fn read_partial(text: &[u8]) -> Option<(Partial, &[u8])>
     ensures read { read_partial_seen result ≡ Reading.read_partial text.now }
     ensures sound { IfSome result (λ r. IsSound r.0) }
 {
-    read_components(skip_blanks(skip_partial_mark(text)))
+    read_components(skip_to_components(text))
 }
 
 // `1.2.x` and ` <2` of `1.2.x-alpha <2`

@@ -1,10 +1,10 @@
 //! One alternative of a range text: its words, merged as they are read.
 ghost use Rattle.std.specs.Prelude.{◌≡◌, ◌↔◌, ◌∷◌, ◌++◌, [], IfOk, IfSome, IsSome, IsTrue, List, None, OnOk};
-ghost use Rattle.semver_cuts.specs.Ends.{HoldsCut};
+ghost use Rattle.semver_cuts.specs.Ends.{IsCutBelow};
 ghost use Rattle.node_semver.specs.Comparator.{Comparator};
 ghost use Rattle.node_semver.specs.Comparison.{version_cmp};
 ghost use Rattle.node_semver.specs.Merging.{IsSetOf};
-ghost use Rattle.node_semver.specs.Private.RangeViews.{IsMerged, IsMergedAlternative, IsSetOfAlternative};
+ghost use Rattle.node_semver.specs.Private.RangeViews.{IsMerged, IsMergedAlternative, IsOneMore, IsSetOfAlternative};
 ghost use Rattle.node_semver.specs.Private.WordReading.{leading_or_none, read_right};
 ghost use Rattle.node_semver.specs.Private.WordViews.{listed, ends_seen, word_seen};
 
@@ -17,23 +17,65 @@ use crate::word::{Ends, nothing, read_leading_hyphen, read_word};
 use semver_cuts::Span;
 use std::alloc::{AllocError, Global};
 
-// The set of an alternative, or `None` where its comparators give none.
-pub(crate) fn read_set(alloc: Global, text: &[u8]) -> Result<Option<Span<Version>>, AllocError>
-    ensures { IfOk result (λ set. IsSetOfAlternative text.now set) }
+// One set more, where an alternative gives one.
+pub(crate) fn add_set(
+    alloc: Global,
+    sets: &mut Vec<Span<Version>>,
+    text: &[u8],
+) -> Result<(), AllocError>
+    ensures { OnOk result (IsOneMore text.now sets.old.items sets.new.items) }
 {
     let mut merged = None;
     if !read_plain(text, &mut merged) {
-        return read_set_with_extras(alloc, text);
+        return add_set_with_extras(alloc, sets, text);
     }
     match merged {
-        Some(merged) => bounded_set(alloc, merged),
-        None => Ok(None),
+        Some(bounds) => {
+            if bounds.lower < bounds.upper {
+                add_bounded_set(alloc, sets, bounds)
+            } else {
+                Ok(())
+            }
+        }
+        None => Ok(()),
+    }
+}
+
+// The set between two bounds more.
+#[inline(never)]
+fn add_bounded_set(
+    alloc: Global,
+    sets: &mut Vec<Span<Version>>,
+    bounds: Bounds,
+) -> Result<(), AllocError>
+    requires { IsCutBelow version_cmp bounds.lower bounds.upper }
+    ensures { OnOk result (sets.new.items ≡ sets.old.items ++ bounds ∷ []) }
+{
+    sets.push(bounded_set(alloc, bounds)?)?;
+    Ok(())
+}
+
+// The set of any alternative more, where it gives one.
+#[inline(never)]
+fn add_set_with_extras(
+    alloc: Global,
+    sets: &mut Vec<Span<Version>>,
+    text: &[u8],
+) -> Result<(), AllocError>
+    ensures { OnOk result (IsOneMore text.now sets.old.items sets.new.items) }
+{
+    match read_set_with_extras(alloc, text)? {
+        Some(set) => {
+            sets.push(set)?;
+            Ok(())
+        }
+        None => Ok(()),
     }
 }
 
 // Where no version has extras: the comparators of an alternative, merged into one. Says whether it is so.
 #[inline(always)]
-fn read_plain(text: &[u8], merged: &mut Option<Bounds>) -> bool
+pub(crate) fn read_plain(text: &[u8], merged: &mut Option<Bounds>) -> bool
     requires { merged.old ≡ None }
     ensures { IsTrue result → IsMergedAlternative text.now merged.new }
 {
@@ -80,24 +122,22 @@ fn merge_some_bounds(earlier: Option<Bounds>, later: Bounds) -> Bounds
     }
 }
 
-// The set between two bounds, or `None` where no cut lies between them.
-#[inline(never)]
-fn bounded_set(alloc: Global, bounds: Bounds) -> Result<Option<Span<Version>>, AllocError>
-    ensures cut { IfOk result (λ set. IsSome set ↔ HoldsCut version_cmp bounds) }
-    ensures ends { IfOk result (λ set. IfSome set (λ span. span ≡ bounds)) }
+// The set between two bounds. Takes memory for a `-0` alone.
+#[inline(always)]
+pub(crate) fn bounded_set(alloc: Global, bounds: Bounds) -> Result<Span<Version>, AllocError>
+    requires { IsCutBelow version_cmp bounds.lower bounds.upper }
+    ensures { IfOk result (λ set. set ≡ bounds) }
 {
-    if bounds.lower < bounds.upper {
-        let lower = built(alloc, bounds.lower)?;
-        let upper = built(alloc, bounds.upper)?;
-        Ok(Some(Span::between(lower, upper)))
-    } else {
-        Ok(None)
-    }
+    let lower = built(alloc, bounds.lower)?;
+    let upper = built(alloc, bounds.upper)?;
+    Ok(Span::between(lower, upper))
 }
 
 // The set of any alternative.
-#[inline(never)]
-fn read_set_with_extras(alloc: Global, text: &[u8]) -> Result<Option<Span<Version>>, AllocError>
+pub(crate) fn read_set_with_extras(
+    alloc: Global,
+    text: &[u8],
+) -> Result<Option<Span<Version>>, AllocError>
     ensures { IfOk result (λ set. IsSetOfAlternative text.now set) }
 {
     match read_merged(alloc, text)? {

@@ -5,6 +5,7 @@ ghost use Rattle.node_semver.specs.Private.PieceReading.{bars_after, piece_at, p
 use memchr::memchr;
 
 // The text before the first `||`, or the whole text, and what follows the `||`: `1` and `|2` of `1|||2`.
+#[inline(always)]
 pub(crate) fn next_piece(text: &[u8]) -> (&[u8], Option<&[u8]>)
     ensures { piece_seen result ≡ piece_at text.now }
 {

@@ -1,24 +1,39 @@
 //! Copies of versions.
 
-ghost use Rattle.std.specs.Prelude.{◌≡◌, [], IfOk, IsOk};
-ghost use Rattle.node_semver.specs.Version.{without_build};
+ghost use Rattle.std.specs.Prelude.{◌≡◌, [], IfOk, IsOk, MatchResult};
+ghost use Rattle.node_semver.specs.Version.{IsPlain};
 
 use crate::Version;
 use crate::identifier::copy::copies_of;
-use std::alloc::{AllocError, Global};
+use std::alloc::AllocError;
 
-impl Version {
-    // Takes no memory where there is no prerelease.
-    pub(crate) fn without_build_of(&self, alloc: Global) -> Result<Version, AllocError>
-        ensures copy { IfOk result (λ c. c ≡ without_build self.now) }
-        ensures plain { self.now.pre_release ≡ [] → IsOk result }
+/// A copy has all five fields, the build too.
+///
+/// # Errors
+///
+/// `AllocError` where memory for the identifiers is refused.
+///
+/// # Memory
+///
+/// Takes a list for a prerelease and one for a build, and the texts of their identifiers. A version with neither takes
+/// none.
+impl Clone for Version {
+    ghost is_clone = { λ v copy. copy ≡ v };
+
+    ghost is_infallible = { IsPlain };
+
+    #[inline]
+    fn clone(&self) -> Result<Version, AllocError>
+        ensures cases { MatchResult result (λ copy. copy ≡ self.now) (λ _. ¬ IsPlain self.now) }
+        ensures copy { IfOk result (λ copy. copy ≡ self.now) }
+        ensures plain { IsPlain self.now → IsOk result }
     {
         Ok(Version {
             major: self.major,
             minor: self.minor,
             patch: self.patch,
-            build: Vec::new(alloc),
-            pre_release: copies_of(alloc, &self.pre_release)?,
+            build: copies_of(*self.build.allocator(), &self.build)?,
+            pre_release: copies_of(*self.pre_release.allocator(), &self.pre_release)?,
         })
     }
 }

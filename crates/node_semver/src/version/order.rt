@@ -109,7 +109,7 @@ impl Ord for Version {
 
 // A release, which has no identifiers, is above each prerelease.
 #[inline]
-fn cmp_prereleases(a: &[Identifier], b: &[Identifier]) -> Ordering
+pub(crate) fn cmp_prereleases(a: &[Identifier], b: &[Identifier]) -> Ordering
     ensures { result ≡ prerelease_cmp (values_of a.now) (values_of b.now) }
 {
     match (a.is_empty(), b.is_empty()) {

@@ -1,7 +1,10 @@
-ghost use Rattle.std.specs.Prelude.{◌≡◌, ◌⊎◌, [], IfOk, IfErr, IsOk};
+ghost use Rattle.std.specs.Prelude.{◌≡◌, ◌⊎◌, ◌≤◌, [], IfOk, IfErr, IsOk, length};
 ghost use Rattle.node_semver.specs.Error.{IsOutOfMemory, kind_of};
 ghost use Rattle.node_semver.specs.Fault.{IsFaultOf};
 ghost use Rattle.node_semver.specs.Private.ReadingViews.{IsErrorOf, IsMemoryOr, kind_in};
+ghost use Rattle.node_semver.specs.Print.{version_text};
+ghost use Rattle.node_semver.specs.ReadingBack.{HasText, VersionReadsBack};
+ghost use Rattle.node_semver.specs.declared.TheConstants.{MAX_LENGTH};
 ghost use Rattle.node_semver.specs.Version.{VersionValue};
 ghost use Rattle.node_semver.specs.declared.parse.fault.Fault.TheVariants.{TooLarge};
 ghost use Rattle.node_semver.specs.VersionText.{IsReadAs, IsVersionText};
@@ -16,6 +19,8 @@ impl Version {
     /// A text is a version in one way, or it has one fault, the first one from the left. It is read in npm's loose form:
     /// it may begin with a `v` or `V` and blanks, numbers and identifiers may have leading zeros, and the `-` of a
     /// prerelease may be left out. No blank may follow. An identifier of digits above the greatest `u64` is a text.
+    ///
+    /// The print of what was read is read as the same version, where it has at most `MAX_LENGTH` bytes.
     ///
     /// # Errors
     ///
@@ -48,6 +53,10 @@ impl Version {
         // A version without prerelease and build takes no memory.
         ensures plain { (v : VersionValue) → IsVersionText text.now v → v.pre_release ≡ []
             → v.build ≡ [] → IsOk result }
+        // The print of what was read is read as the same version.
+        ensures print { IfOk result VersionReadsBack }
+        ensures printed { (v : VersionValue) → HasText v → version_text v ≡ text.now
+            → length text.now ≤ MAX_LENGTH → IsReadAs v result }
     {
         match whole(alloc, text.as_bytes()) {
             Ok(version) => Ok(version),

@@ -2,10 +2,8 @@
 //!
 //! All is flat: one form, two triples and what stands after them. What is `#[inline(always)]` hands numbers on, and is
 //! gone once a word is read.
-ghost use Rattle.std.specs.Prelude.{◌≡◌, ◌↔◌, ◌≤◌, ◌+◌, IfOk, IfSome, IsTrue, None, Some, true};
-ghost use Rattle.semver_cuts.specs.Ends.{IsCutBelow};
+ghost use Rattle.std.specs.Prelude.{◌≡◌, ◌↔◌, ◌≤◌, ◌+◌, IfOk, IsTrue, None, Some, true};
 ghost use Rattle.node_semver.specs.Comparator as Comparators;
-ghost use Rattle.node_semver.specs.Comparison.{version_cmp};
 ghost use Rattle.node_semver.specs.PartialText as PartialText;
 ghost use Rattle.node_semver.specs.Version as Versions;
 ghost use Rattle.node_semver.specs.Private.WordReading.{is_clean};
@@ -15,7 +13,7 @@ use crate::bound::{Bound, Bounds, between};
 use crate::comparator::Comparator;
 use crate::parse::{Partial, begins_clean, read_extras, read_prerelease};
 use crate::{MAX_SAFE_INTEGER, Version};
-use semver_cuts::{Cut, Span};
+use semver_cuts::Cut;
 use std::alloc::{AllocError, Global};
 
 // A version as it is written: a triple, and the text that begins with its extras.
@@ -268,34 +266,6 @@ impl<'a> Ends<'a> {
         }
     }
 
-    // The set of plain ends. Takes memory for a `-0` alone.
-    #[inline(always)]
-    pub(crate) fn plain_set(self, alloc: Global) -> Result<Span<Version>, AllocError>
-        requires plain { IsPlain self }
-        requires below { IfSome (ends_seen self) (λ c. IsCutBelow version_cmp c.lower c.upper) }
-        ensures { IfOk result (λ set. ends_seen self.entry ≡ Some set) }
-    {
-        let lower = self.lower;
-        match self.form {
-            Form::UpTo | Form::BareUpTo => {
-                let upper = least(alloc, self.upper)?;
-                Ok(Span::between(Cut::Before(plain(alloc, lower)), Cut::Before(upper)))
-            }
-            Form::Exactly | Form::Equal => {
-                let upper = plain(alloc, lower);
-                Ok(Span::between(Cut::Before(plain(alloc, lower)), Cut::After(upper)))
-            }
-            Form::Above => Ok(Span::between(Cut::After(plain(alloc, lower)), Cut::End)),
-            Form::Below => Ok(Span::between(Cut::Start, Cut::Before(plain(alloc, lower)))),
-            Form::BelowLeast => Ok(Span::between(Cut::Start, Cut::Before(least(alloc, lower)?))),
-            Form::AtMost => Ok(Span::between(Cut::Start, Cut::After(plain(alloc, lower)))),
-            Form::AtMostLeast => Ok(Span::between(Cut::Start, Cut::After(least(alloc, lower)?))),
-            Form::AtLeast | Form::Nothing | Form::Through => {
-                Ok(Span::between(Cut::Before(plain(alloc, lower)), Cut::End))
-            }
-        }
-    }
-
     // Plain ends as bounds.
     #[inline(always)]
     pub(crate) fn bounds(self) -> Bounds
@@ -354,17 +324,6 @@ impl<'a> Ends<'a> {
 // A version without extras.
 #[inline(always)]
 #[tactic(auto, using(crate::proofs::PartialViews::clean_extras))]
-fn plain(alloc: Global, written: WrittenVersion) -> Version
-    requires { is_clean written.extras.now ≡ true }
-    ensures plain { result ≡ written_seen written.entry }
-    ensures bare { result ≡ Versions.without_build (written_seen written.entry) }
-{
-    Version::new(alloc, written.major, written.minor, written.patch)
-}
-
-// The same as a bound.
-#[inline(always)]
-#[tactic(auto, using(crate::proofs::PartialViews::clean_extras))]
 fn bound_of(written: WrittenVersion) -> Bound
     requires { is_clean written.extras.now ≡ true }
     ensures plain { result ≡ written_seen written.entry }
@@ -374,7 +333,7 @@ fn bound_of(written: WrittenVersion) -> Bound
         major: written.major,
         minor: written.minor,
         patch: written.patch,
-        is_least: false,
+        rank: 1,
     }
 }
 
@@ -386,7 +345,7 @@ fn least_bound(written: WrittenVersion) -> Bound
         major: written.major,
         minor: written.minor,
         patch: written.patch,
-        is_least: true,
+        rank: 0,
     }
 }
 

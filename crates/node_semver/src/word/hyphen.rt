@@ -1,5 +1,6 @@
 //! `1.2 - 3`, and ` - 3` at the start of a range text
-ghost use Rattle.std.specs.Prelude.{◌≡◌, IfSome, Some, None};
+ghost use Rattle.std.specs.Prelude.{◌≡◌, ◌∷◌, IfSome, Some, None};
+ghost use Rattle.node_semver.specs.Characters.{hyphen};
 ghost use Rattle.node_semver.specs.HyphenRanges as HyphenRanges;
 ghost use Rattle.semver_cuts.specs.declared.cut.Cut.TheVariants.{Before};
 ghost use Rattle.node_semver.specs.PartialText as PartialText;
@@ -13,7 +14,7 @@ use crate::word::ends::{
 };
 
 // `3` and ` <5` of ` - 3 <5`: the right side of a hyphen with its blanks, up to a clean end
-#[inline(never)]
+#[inline(always)]
 #[tactic(auto, unfolding(crate::specs::Private::WordReading::read_right))]
 pub(crate) fn read_right(text: &[u8]) -> Option<(Partial, &[u8])>
     ensures read { read_partial_seen result ≡ Reading.read_right text.now }
@@ -22,7 +23,25 @@ pub(crate) fn read_right(text: &[u8]) -> Option<(Partial, &[u8])>
     let [b'-', rest @ ..] = skip_some_blanks(text)? else {
         return None;
     };
-    let (partial, rest) = read_partial(skip_some_blanks(rest)?)?;
+    right_operand(rest)
+}
+
+// The same as `read_right_operand`, whose place is then cleared where a hyphen stands, and nowhere else.
+#[inline(always)]
+fn right_operand(text: &[u8]) -> Option<(Partial, &[u8])>
+    ensures read { read_partial_seen result ≡ Reading.right_at (hyphen ∷ text.now) }
+    ensures sound { IfSome result (λ r. IsSound r.0) }
+{
+    read_right_operand(text)
+}
+
+// `3` and ` <5` of ` 3 <5`, behind the hyphen
+#[inline(never)]
+fn read_right_operand(text: &[u8]) -> Option<(Partial, &[u8])>
+    ensures read { read_partial_seen result ≡ Reading.right_at (hyphen ∷ text.now) }
+    ensures sound { IfSome result (λ r. IsSound r.0) }
+{
+    let (partial, rest) = read_partial(skip_some_blanks(text)?)?;
     if begins_clean(rest) {
         Some((partial, rest))
     } else {
@@ -37,6 +56,14 @@ pub(crate) fn read_leading_hyphen(text: &[u8]) -> Option<(Ends, &[u8])>
     ensures { some_word_seen result ≡ Reading.said_hyphen None (Reading.read_right text.now) }
 {
     skip_some_blanks(text)?;
+    right_alone(text)
+}
+
+// The same as `read_right_alone`, whose place is then cleared where a text begins with a blank, and nowhere else.
+#[inline(always)]
+fn right_alone(text: &[u8]) -> Option<(Ends, &[u8])>
+    ensures { some_word_seen result ≡ Reading.said_hyphen None (Reading.read_right text.now) }
+{
     read_right_alone(text)
 }
 

@@ -16,25 +16,25 @@ use Rattle.semver_cuts.specs.Lemmas.Ends.{at_most_refl, at_most_trans, below-at_
 -- ---- facts of each element of a list
 
 module _ {X : Type 0} (P : X → Type 0) where
-  all_push : (xs : List X) (x : X) → AllByRecursion P xs → P x → AllByRecursion P (xs ++ x ∷ [])
+  pub all_push : (xs : List X) (x : X) → AllByRecursion P xs → P x → AllByRecursion P (xs ++ x ∷ [])
   all_push [] x a p = (p, tt)
   all_push (y ∷ xs) x a p = (a.0, all_push xs x a.1 p)
 
-  all_middle : (before after : List X) (x : X) → AllByRecursion P (before ++ x ∷ after) → P x
+  pub all_middle : (before after : List X) (x : X) → AllByRecursion P (before ++ x ∷ after) → P x
   all_middle [] after x a = a.0
   all_middle (y ∷ before) after x a = all_middle before after x a.1
 
-  all_join : (before after : List X) (x : X) → AllByRecursion P before → P x → AllByRecursion P after
+  pub all_join : (before after : List X) (x : X) → AllByRecursion P before → P x → AllByRecursion P after
       → AllByRecursion P (before ++ x ∷ after)
   all_join [] after x a p b = (p, b)
   all_join (y ∷ before) after x a p b = (a.0, all_join before after x a.1 p b)
 
   module _ (Q : X → Type 0) where
-    all_map : ((x : X) → P x → Q x) → (xs : List X) → AllByRecursion P xs → AllByRecursion Q xs
+    pub all_map : ((x : X) → P x → Q x) → (xs : List X) → AllByRecursion P xs → AllByRecursion Q xs
     all_map f [] a = tt
     all_map f (x ∷ xs) a = (f x a.0, all_map f xs a.1)
 
-    all_both : (R : X → Type 0) → ((x : X) → P x → Q x → R x) → (xs : List X)
+    pub all_both : (R : X → Type 0) → ((x : X) → P x → Q x → R x) → (xs : List X)
         → AllByRecursion P xs → AllByRecursion Q xs → AllByRecursion R xs
     all_both R f [] a b = tt
     all_both R f (x ∷ xs) a b = (f x a.0 b.0, all_both R f xs a.1 b.1)

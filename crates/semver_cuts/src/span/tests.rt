@@ -106,3 +106,36 @@ fn equals_and_hashes_by_its_ends(rt: HostRuntime) {
         }
     }
 }
+
+// Two spans between numbers, what they have in common, and what the first has below and above the second.
+type Pair = (u64, u64);
+
+const PAIRS: &[(Pair, Pair, Option<Pair>, Option<Pair>, Option<Pair>)] = &[
+    ((1, 5), (3, 9), Some((3, 5)), Some((1, 3)), None),
+    ((1, 9), (3, 5), Some((3, 5)), Some((1, 3)), Some((5, 9))),
+    ((3, 5), (1, 9), Some((3, 5)), None, None),
+    ((3, 5), (3, 9), Some((3, 5)), None, None),
+    ((3, 9), (3, 5), Some((3, 5)), None, Some((5, 9))),
+    ((1, 3), (3, 5), None, Some((1, 3)), None),
+    ((3, 5), (1, 3), None, Some((3, 5)), None),
+];
+
+fn is_lent(ends: Option<(&Cut<u64>, &Cut<u64>)>, pair: &Option<Pair>) -> bool {
+    match (ends, pair) {
+        (Some((lower, upper)), Some((low, high))) => *lower == Cut::Before(*low)
+            && *upper == Cut::Before(*high),
+        (None, None) => true,
+        _ => false,
+    }
+}
+
+#[test]
+fn lends_what_two_spans_have_in_common_and_the_rest(rt: HostRuntime) {
+    for ((a, b), (c, d), common, below, above) in PAIRS {
+        let one = Span::new(Cut::Before(*a), Cut::Before(*b)).expect(&rt, "a span");
+        let other = Span::new(Cut::Before(*c), Cut::Before(*d)).expect(&rt, "a span");
+        assert!(rt; is_lent(one.common(&other), common));
+        let rest = one.rest(&other);
+        assert!(rt; is_lent(rest.0, below) && is_lent(rest.1, above));
+    }
+}

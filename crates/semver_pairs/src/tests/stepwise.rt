@@ -29,7 +29,7 @@ impl<T> Stepwise<T> {
     {
         self.calls = self.calls.saturating_add(1);
         if self.left == 0 {
-            return Err(io::Error::from(ErrorKind::BrokenPipe));
+            return Err(io::Error::from(ErrorKind::Interrupted));
         }
         Ok(asked.min(self.most).min(self.left))
     }

@@ -1,43 +1,60 @@
-use Rattle.std.proofs.Common.{◌≡◌, ◌≢◌, ℕ, List, [], Option, Some, ap, refl, subst, inl, inr}
-use Rattle.std.specs.Prelude.{IfSome}
-use Rattle.semver_cuts.specs.Ends.{Ends}
-use Rattle.node_semver.specs.Merging.{AreSetsOfText}
-use Rattle.node_semver.specs.Version.{VersionValue}
-use Rattle.node_semver.specs.Private.RangeViews.{sets_seen, some_sets_seen}
-use Rattle.node_semver.specs.declared.range.sets.Sets.{Sets}
-use Rattle.node_semver.proofs.RangeBounds.{text-bounded}
-use Rattle.node_semver.proofs.SetLemmas.{refused-from_empty}
+use Rattle.std.proofs.Common.{◌≡◌, ◌∙◌, ℕ, false, List, Option, None, Some, ap, sym}
+use Rattle.std.specs.Option.{is_some}
+use Rattle.node_semver.specs.Private.PieceReading.{piece_at}
+use Rattle.node_semver.proofs.AlternativeSets.{crossed-set, ordered-set, without-set}
+use Rattle.node_semver.proofs.RangeReading.{none-left, none-read, one-answered, one-read, one-value}
+use Rattle.node_semver.specs.Comparator.{Comparator}
+use Rattle.node_semver.specs.Division.{IsAlternative}
+use Rattle.node_semver.specs.Private.RangeViews.{IsMergedAlternative}
 use Rattle.node_semver.proofs.range.read_range.Goals as goal
+use Rattle.node_semver.proofs.range.read_range.Goals.{in-Some+else-lt, in_default}
 
--- the sets that were read, of the text and not of its bytes
-given : (text bytes : List ℕ) (read : Option Sets) (sets : List (Ends VersionValue)) → bytes ≡ text
-    → AreSetsOfText bytes (some_sets_seen read) → some_sets_seen read ≡ sets → AreSetsOfText text sets
-given text bytes read sets same of_text is =
-    subst (AreSetsOfText text) is (subst (λ (l : List ℕ). AreSetsOfText l (some_sets_seen read)) same of_text)
+-- the comparators of what is left after words that write none
+later-merged : (text left : List ℕ) (merged : Option Comparator)
+    → ((comparators : List Comparator) → IsAlternative left comparators → IsAlternative text comparators)
+    → IsMergedAlternative left merged → IsMergedAlternative text merged
+later-merged text left merged later m = (m.0, later m.0 m.1, m.2)
 
--- there are some
-some-given : (read : Option Sets) (sets : Sets) → IfSome read (λ s. sets_seen s ≢ []) → read ≡ Some sets
-    → sets_seen sets ≢ []
-some-given read sets some is = subst (λ (o : Option Sets). IfSome o (λ s. sets_seen s ≢ [])) is some
+pub bounded_range-requires-clause-holds : goal.bounded_range-requires-clause-holds
+bounded_range-requires-clause-holds c =
+    let piece = c.next_piece.result.0.now in
+    let left : is_some c.next_piece.result.1 ≡ false = cc (c.is_some.ensures, c.if-is_some.false) in
+    let divided : (piece, None) ≡ piece_at c.args.text.now =
+    ap (λ (l : Option (List ℕ)). (piece, l)) (sym (none-left c.next_piece.result.1 left)) ∙ c.next_piece.ensures
+    ∙ ap piece_at c.as_bytes.ensures.value in
+    let set = ordered-set piece c.read_plain.new.merged c.bounds.inside.lower c.bounds.inside.upper c.in-Some.bounds
+    (later-merged piece c.skip_thrown_away.result.now c.read_plain.new.merged c.skip_thrown_away.ensures
+    (c.read_plain.ensures c.if-not-read_plain.false)) c.in-Some.is c.bounds.view_is (sym c.lt.ensures ∙ c.if-lt.true) in
+    one-value c.args.text.now c.in-Some.bounds (one-read c.args.text.now piece (Some c.in-Some.bounds) divided set)
 
-pub invariant_of-result : goal.invariant_of-result
-invariant_of-result c =
-    text-bounded c.args.text.now (sets_seen c.in-Some.sets)
-    (given _ _ c.in-Ok.sets _ c.as_bytes.ensures.value c.in-Ok.ensures.of_text (ap some_sets_seen c.in-Some.is))
-    (some-given c.in-Ok.sets c.in-Some.sets c.in-Ok.ensures.some c.in-Some.is)
+pub returns-then-lt : goal.returns-then-lt
+returns-then-lt c =
+    let piece = c.next_piece.result.0.now in
+    let left : is_some c.next_piece.result.1 ≡ false = cc (c.is_some.ensures, c.if-is_some.false) in
+    let divided : (piece, None) ≡ piece_at c.args.text.now =
+    ap (λ (l : Option (List ℕ)). (piece, l)) (sym (none-left c.next_piece.result.1 left)) ∙ c.next_piece.ensures
+    ∙ ap piece_at c.as_bytes.ensures.value in
+    let set = ordered-set piece c.read_plain.new.merged c.bounds.inside.lower c.bounds.inside.upper c.in-Some.bounds
+    (later-merged piece c.skip_thrown_away.result.now c.read_plain.new.merged c.skip_thrown_away.ensures
+    (c.read_plain.ensures c.if-not-read_plain.false)) c.in-Some.is c.bounds.view_is (sym c.lt.ensures ∙ c.if-lt.true) in
+    one-answered c.args.text.now c.in-Some.bounds c.bounded_range.result
+    (one-read c.args.text.now piece (Some c.in-Some.bounds) divided set) c.bounded_range.ensures.refused
+    c.bounded_range.ensures.set
 
-pub returns-in-Some-clause-sets : goal.returns-in-Some-clause-sets
-returns-in-Some-clause-sets c =
-    given _ _ c.in-Ok.sets _ c.as_bytes.ensures.value c.in-Ok.ensures.of_text (ap some_sets_seen c.in-Some.is)
-
-pub returns-in-Some-clause-some : goal.returns-in-Some-clause-some
-returns-in-Some-clause-some c = some-given c.in-Ok.sets c.in-Some.sets c.in-Ok.ensures.some c.in-Some.is
-
-pub returns-in-None-clause-refused : goal.returns-in-None-clause-refused
-returns-in-None-clause-refused c =
-    let sets : AreSetsOfText c.args.text.now [] =
-    given _ _ c.in-Ok.sets _ c.as_bytes.ensures.value c.in-Ok.ensures.of_text (ap some_sets_seen c.in-None.is) in
-    elim c.new.ensures [
-      | inl memory ↦ inl memory
-      | inr refusal ↦ inr (refusal, refused-from_empty c.args.text.now [] sets refl)
+pub refused-requires : goal.refused-requires
+refused-requires c =
+    let piece = c.next_piece.result.0.now in
+    let merged = c.read_plain.new.merged in
+    let left : is_some c.next_piece.result.1 ≡ false = cc (c.is_some.ensures, c.if-is_some.false) in
+    let divided : (piece, None) ≡ piece_at c.args.text.now =
+    ap (λ (l : Option (List ℕ)). (piece, l)) (sym (none-left c.next_piece.result.1 left)) ∙ c.next_piece.ensures
+    ∙ ap piece_at c.as_bytes.ensures.value in
+    elim c.match-merged.branch [
+      | in-Some+else-lt w ↦ none-read c.args.text.now piece divided
+          (crossed-set piece merged w.bounds.inside.lower w.bounds.inside.upper w.in-Some.bounds
+          (later-merged piece c.skip_thrown_away.result.now c.read_plain.new.merged c.skip_thrown_away.ensures
+          (c.read_plain.ensures c.if-not-read_plain.false)) w.in-Some.is w.bounds.view_is (sym w.lt.ensures ∙ w.if-lt.false))
+      | in_default w ↦ none-read c.args.text.now piece divided
+          (without-set piece merged (later-merged piece c.skip_thrown_away.result.now c.read_plain.new.merged c.skip_thrown_away.ensures
+          (c.read_plain.ensures c.if-not-read_plain.false)) w.in_default.is)
     ]

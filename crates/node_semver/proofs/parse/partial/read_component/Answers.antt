@@ -1,21 +1,26 @@
-use Rattle.std.proofs.Common.{arith, ◌∙◌, ◌<◌, ◌≢◌, get_or, length, rules}
+use Rattle.std.proofs.Common.{◌≡◌, arith, sym, ◌∙◌, ◌<◌, ◌≢◌, false, get_or, length, rules}
 use borrow.Author.Tests.{ltb-true}
-use Rattle.node_semver.proofs.PartialViews.{component-number, no-x_first, number-limit, read-ok}
+use Rattle.node_semver.specs.Characters.{is_digit}
+use Rattle.node_semver.proofs.PartialViews.{no-component, no-digit_first, no-x_first, number-limit, read-ok}
 use Rattle.node_semver.proofs.parse.partial.read_component.Goals as goal
-use Rattle.node_semver.proofs.parse.partial.read_component.Goals.{then-text-lt1, else-text-lt1+in_default-1}
+use Rattle.node_semver.proofs.parse.partial.read_component.Goals.{in_default-via-then-text-lt1, in_default-via-in-len1-up+else-is_digit+in_default}
 
-pub returns-clause-read : goal.returns-clause-read
-returns-clause-read c =
+pub returns-in_ok-number-in-len1-up-clause-sound : goal.returns-in_ok-number-in-len1-up-clause-sound
+returns-in_ok-number-in-len1-up-clause-sound c =
+    let read = read-ok c.read_number.result _ c.in_ok-number-in-len1-up.ensures.value in
+    let number = read ∙ c.read_number.ensures in
+    record { limit = number-limit c.args.text.now _ _ number; absent = λ none. cc none }
+
+pub returns-in_default-clause-read : goal.returns-in_default-clause-read
+returns-in_default-clause-read c =
     let text = c.args.text.now in
     let other : 0 < length text → (get_or text 0 0 ≢ 120) × (get_or text 0 0 ≢ 88) × (get_or text 0 0 ≢ 42) =
-    λ some. elim c.if-text-lt1.branch [
-      | then-text-lt1 w ↦ absurd (omega (arith, ltb-true))
-      | else-text-lt1+in_default-1 w ↦ (search rules, search rules, search rules)
+    λ some. elim c.in_default.branch [
+      | in_default-via-then-text-lt1 w ↦ absurd (omega (arith, ltb-true))
+      | in_default-via-in-len1-up+else-is_digit+in_default w ↦ (search rules, search rules, search rules)
     ] in
-    let number = read-ok c.read_number.result _ c.in_ok-number.ensures.value ∙ c.read_number.ensures in
-    component-number text _ _ number (no-x_first text other)
-
-pub returns-clause-sound : goal.returns-clause-sound
-returns-clause-sound c =
-    let number = read-ok c.read_number.result _ c.in_ok-number.ensures.value ∙ c.read_number.ensures in
-    record { limit = number-limit c.args.text.now _ _ number; absent = λ none. cc none }
+    let digit : 0 < length text → is_digit (get_or text 0 0) ≡ false = λ some. elim c.in_default.branch [
+      | in_default-via-then-text-lt1 w ↦ absurd (omega (arith, ltb-true))
+      | in_default-via-in-len1-up+else-is_digit+in_default w ↦ sym w.if-is_digit.ensures
+    ] in
+    no-component text (no-x_first text other) (no-digit_first text digit)

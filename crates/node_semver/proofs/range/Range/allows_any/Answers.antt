@@ -1,0 +1,12 @@
+use Rattle.std.proofs.Common.{rules, ◌↔◌, IsTrue}
+use Rattle.semver_cuts.specs.Sharing.{ShareCut}
+use Rattle.semver_cuts.specs.Lemmas.CommonSpans.{common_spans-any}
+use Rattle.node_semver.specs.Comparison.{version_cmp}
+use Rattle.node_semver.specs.Lemmas.Order.{version_total}
+use Rattle.node_semver.proofs.range.Range.allows_any.Goals as goal
+
+pub returns-clause-intersection : goal.returns-clause-intersection
+returns-clause-intersection c =
+    let some = common_spans-any version_total c.args.self.now c.args.other.now in
+    let shared : IsTrue c.share_cut.result ↔ ShareCut version_cmp c.args.self.now c.args.other.now = search rules in
+    (λ is. some.1 (shared.0 is), λ is. shared.1 (some.0 is))

@@ -1,0 +1,17 @@
+use Rattle.std.proofs.Common.{List, subst}
+use Rattle.std.proofs.lemmas.List.{take_all}
+use Rattle.semver_cuts.specs.Ends.{Ends}
+use Rattle.node_semver.specs.Private.LeastViews.{IsLeastOfSets}
+use Rattle.node_semver.specs.Version.{VersionValue}
+use Rattle.node_semver.proofs.LeastOfSets.{taken-least}
+use Rattle.node_semver.proofs.range.least.least_of_sets.Goals as goal
+
+pub sets-preserved : goal.sets-preserved
+sets-preserved c =
+    taken-least c.args.sets.now c.sets.set-index c.set-item.result c.sets.least c.least_of_set.result c.lesser-least.result
+    c.sets-test.true c.set-item.is c.sets.invariant c.least_of_set.ensures c.lesser-least.ensures
+
+pub returns : goal.returns
+returns c =
+    subst (λ (l : List (Ends VersionValue)). IsLeastOfSets l c.sets.least)
+    (take_all c.sets.set-index c.args.sets.now c.sets-test.false) c.sets.invariant

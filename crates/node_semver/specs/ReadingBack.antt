@@ -1,0 +1,66 @@
+-- Which prints read back: as texts, they are read as what was printed. So what a file keeps of a version or of a range
+-- can be its print.
+use Rattle.std.specs.Prelude.{◌≡◌, ℕ, ◌≤◌, List, length, Result, Ok, Err}
+use Rattle.std.specs.List.{AllByRecursion}
+use Rattle.semver_cuts.specs.declared.cut.Cut.{Cut}
+use Rattle.semver_cuts.specs.declared.cut.Cut.TheVariants.{Start, Before, After, End}
+use Rattle.semver_cuts.specs.Ends.{Ends}
+use Rattle.node_semver.specs.declared.TheConstants.{MAX_LENGTH, MAX_SAFE_INTEGER}
+use Rattle.node_semver.specs.declared.error.SemverError.{SemverError}
+use Rattle.node_semver.specs.Error.{IsOutOfMemory}
+use Rattle.node_semver.specs.Meaning.{IsRefused}
+use Rattle.node_semver.specs.Merging.{AreSetsOfText}
+use Rattle.node_semver.specs.Print.{version_text}
+use Rattle.node_semver.specs.RangeEquality.{AreSameCuts}
+use Rattle.node_semver.specs.RangePrint.{range_text}
+use Rattle.node_semver.specs.Version.{VersionValue}
+use Rattle.node_semver.specs.VersionText.{IsVersionText}
+
+-- ---- versions
+
+-- the print of the version, where it has at most 256 bytes, is a version text of just its five fields
+abbrev pub VersionReadsBack : VersionValue → Type 0
+VersionReadsBack v = length (version_text v) ≤ MAX_LENGTH → IsVersionText (version_text v) v
+
+-- some text is read as the version
+abbrev pub HasText : VersionValue → Type 0
+HasText v = (text : List ℕ) × IsVersionText text v
+
+-- ---- ranges
+
+-- a text can write its triple: not that of `900719925474100.0.0`, at which `>900719925474099` begins
+pub record HasTextNumbers (v : VersionValue) : Type 0 where
+  pub major : v.major ≤ MAX_SAFE_INTEGER
+  pub minor : v.minor ≤ MAX_SAFE_INTEGER
+  pub patch : v.patch ≤ MAX_SAFE_INTEGER
+
+-- a cut at such a version, or the start, or the end
+abbrev pub IsTextCut : Cut VersionValue → Type 0
+IsTextCut Start = Unit {0}
+IsTextCut (Before v) = HasTextNumbers v
+IsTextCut (After v) = HasTextNumbers v
+IsTextCut End = Unit {0}
+
+-- unbounded at both sides, which prints as `*`: that text is read as `>=0.0.0`
+abbrev pub IsUnbounded : Ends VersionValue → Type 0
+IsUnbounded set = (set.lower ≡ Start) × (set.upper ≡ End)
+
+-- a set with an end at least, and with ends that a text can write: `>=1.2.3`, `>=1.2.3 <2.0.0-0`
+pub record IsPlainlyBounded (set : Ends VersionValue) : Type 0 where
+  pub bounded : ¬ IsUnbounded set
+  pub lower : IsTextCut set.lower
+  pub upper : IsTextCut set.upper
+
+-- the text is not refused, and each list of sets that it writes is equal to these
+pub record IsReadAsEqual (text : List ℕ) (sets : List (Ends VersionValue)) : Type 0 where
+  pub accepted : ¬ IsRefused text
+  pub equal : (others : List (Ends VersionValue)) → AreSetsOfText text others → AreSameCuts others sets
+
+-- the print of a range of such sets is read as an equal range
+abbrev pub RangeReadsBack : List (Ends VersionValue) → Type 0
+RangeReadsBack sets = AllByRecursion IsPlainlyBounded sets → IsReadAsEqual (range_text sets) sets
+
+-- the answer is a range equal to these sets, or want of memory
+abbrev pub IsReadAsRange : List (Ends VersionValue) → Result (List (Ends VersionValue)) SemverError → Type 0
+IsReadAsRange sets (Ok r) = AreSameCuts r sets
+IsReadAsRange sets (Err e) = IsOutOfMemory e

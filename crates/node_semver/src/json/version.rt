@@ -1,0 +1,71 @@
+//! Versions as JSON strings.
+ghost use Rattle.std.specs.Prelude.{◌≡◌, ◌↔◌, Err, IfOk, IfSome, None};
+ghost use Rattle.serde_json.specs.Data.{string};
+ghost use Rattle.serde_json.specs.Find.{as_str};
+ghost use Rattle.serde_json.specs.View.{view};
+ghost use Rattle.node_semver.specs.declared.json.JsonError.TheVariants.{NotAString};
+ghost use Rattle.node_semver.specs.Json.{IsVersionAnswer, PassesOn};
+ghost use Rattle.node_semver.specs.Print.{version_text};
+
+use crate::{JsonError, Version};
+use serde_json::Value;
+use std::alloc::{AllocError, Global};
+
+impl Version {
+    /// The JSON string of the version's print.
+    ///
+    /// [`Version::from_json`] reads it as this version, if the version was read from a text and its print has at most
+    /// `MAX_LENGTH` bytes.
+    ///
+    /// # Errors
+    ///
+    /// `AllocError` where memory for the text is refused.
+    ///
+    /// # Memory
+    ///
+    /// Takes the text.
+    ///
+    /// # Examples
+    ///
+    /// That of `1.2.34-abc.213+2` is the string `1.2.34-abc.213+2`, and that of `v1.2.3` the string `1.2.3`.
+    ///
+    /// # Source
+    ///
+    /// The Rust crate `node-semver` 2.2.0, `Serialize`.
+    pub fn to_json(&self, alloc: Global) -> Result<Value, AllocError>
+        ensures { IfOk result (λ value. view value ≡ string (version_text self.now)) }
+    {
+        Ok(Value::String(format!(in alloc; "{self}")?))
+    }
+
+    /// Reads a JSON string as a version: what [`Version::parse`] answers to its text.
+    ///
+    /// # Errors
+    ///
+    /// - null, a truth value, a number, an array, an object: `NotAString`;
+    /// - the string `1.2`: `Semver` with `Context("version")` at 3, as `Version::parse` refuses its text.
+    ///
+    /// # Memory
+    ///
+    /// As `Version::parse` of its text; none for `NotAString`.
+    ///
+    /// # Examples
+    ///
+    /// The string `v1.2.3` is read as `1.2.3`, the number `1` is refused.
+    ///
+    /// # Source
+    ///
+    /// The Rust crate `node-semver` 2.2.0, `Deserialize`.
+    pub fn from_json(alloc: Global, value: &Value) -> Result<Version, JsonError>
+        ensures other { (result ≡ Err NotAString) ↔ (as_str (view value.now) ≡ None) }
+        ensures text { IfSome (as_str (view value.now)) (λ text. PassesOn (IsVersionAnswer text) result) }
+    {
+        let Some(text) = value.as_str() else {
+            return Err(JsonError::NotAString);
+        };
+        match Version::parse(alloc, text) {
+            Ok(version) => Ok(version),
+            Err(error) => Err(JsonError::Semver(error)),
+        }
+    }
+}

@@ -1,0 +1,103 @@
+//! What two ranges have in common, and questions over two ranges.
+
+ghost use Rattle.std.specs.Prelude.{◌≡◌, ◌≢◌, ◌↔◌, [], IfOk, IfSome, IsNone, IsTrue};
+ghost use Rattle.semver_cuts.specs.declared.cut.Cut.{Cut};
+ghost use Rattle.semver_cuts.specs.Common.{IsInSome};
+ghost use Rattle.semver_cuts.specs.CommonSpans.{common_spans};
+ghost use Rattle.semver_cuts.specs.Sharing.{CoversOne, ShareCut};
+ghost use Rattle.node_semver.specs.Comparison.{version_cmp};
+ghost use Rattle.node_semver.specs.Meaning.{RangeAdmits};
+ghost use Rattle.node_semver.specs.RangeAlgebra.{PairAdmits, sets_of_answer};
+ghost use Rattle.node_semver.specs.RangeSets.{IsRangeValue};
+ghost use Rattle.node_semver.specs.Version.{IsPrerelease, VersionValue};
+
+use crate::Range;
+use crate::range::gathered::Gathered;
+use semver_cuts::algebra::{common_spans, covers_one, share_cut};
+use std::alloc::{AllocError, Global};
+
+impl Range {
+    /// The range of the cuts that both ranges have, or `None` where they have none in common.
+    ///
+    /// Each set of `self` in order is taken with each set of `other` in order, and gives the set from the greater lower
+    /// end to the lesser upper end, where a cut lies between. Of equal lower ends, which differ in the build alone, the
+    /// one of `other` stays, and of equal upper ends the one of `self`.
+    ///
+    /// A release satisfies the answer exactly where it satisfies both ranges. A prerelease does exactly where a set of
+    /// one and a set of the other both have it inside and an end of one of the two is a prerelease of its triple: so
+    /// `1.0.0-b` satisfies what `>=1.0.0-a` and `<2.0.0` have in common, though it does not satisfy `<2.0.0`.
+    ///
+    /// # Errors
+    ///
+    /// `AllocError` where memory is refused.
+    ///
+    /// # Memory
+    ///
+    /// Takes the identifiers of the answer's ends, and a list where the answer has several sets.
+    ///
+    /// # Examples
+    ///
+    /// - `<1 || 3 - 4` with `0.5 - 3.5.0` is `>=0.5.0 <1.0.0||>=3.0.0 <=3.5.0`.
+    /// - `>1.2.3` with `<=1.2.3` is `None`.
+    /// - `>1.0.0-a` with `<1.0.0-a.0` is `>1.0.0-a <1.0.0-a.0`, which has a cut and no version.
+    pub fn intersect(&self, alloc: Global, other: &Range) -> Result<Option<Range>, AllocError>
+        ensures sets { IfOk result (λ answer. sets_of_answer answer ≡ common_spans version_cmp self.now other.now) }
+        ensures cuts { IfOk result (λ answer. (cut : Cut VersionValue) → IsInSome version_cmp (sets_of_answer answer) cut
+            ↔ (IsInSome version_cmp self.now cut × IsInSome version_cmp other.now cut)) }
+        ensures none { IfOk result (λ answer. IsNone answer ↔ ¬ ShareCut version_cmp self.now other.now) }
+        ensures releases { IfOk result (λ answer. (v : VersionValue) → ¬ IsPrerelease v →
+            RangeAdmits (sets_of_answer answer) v ↔ (RangeAdmits self.now v × RangeAdmits other.now v)) }
+        ensures prereleases { IfOk result (λ answer. (v : VersionValue) → IsPrerelease v →
+            RangeAdmits (sets_of_answer answer) v ↔ PairAdmits self.now other.now v) }
+        ensures holds { IfOk result (λ answer. IfSome answer IsRangeValue) }
+    {
+        let mut sets = Gathered::new(alloc);
+        common_spans(self.sets.as_slice(), other.sets.as_slice(), &mut sets)?;
+        Ok(sets.into_range())
+    }
+
+    /// Whether the two ranges have a cut in common.
+    ///
+    /// `a.allows_any(b)` is `b.allows_any(a)`, and true exactly where `a.intersect(b)` is not `None`.
+    ///
+    /// A common cut need not be that of a version: no version satisfies `>1.0.0-a <1.0.0-a.0`, and it shares its cuts
+    /// with `*`.
+    ///
+    /// # Memory
+    ///
+    /// Takes none.
+    ///
+    /// # Examples
+    ///
+    /// `2 - 8` and `<=4.0.0` have some. `<1.2.3` and `>1.2.3` have none, nor have `1.2.3` and `<1.2.3`.
+    pub fn allows_any(&self, other: &Range) -> bool
+        ensures shared { IsTrue result ↔ ShareCut version_cmp self.now other.now }
+        ensures intersection { IsTrue result ↔ (common_spans version_cmp self.now other.now ≢ []) }
+    {
+        share_cut(self.sets.as_slice(), other.sets.as_slice())
+    }
+
+    /// Whether one set of `self` has all cuts of one set of `other`.
+    ///
+    /// One such pair is enough: the other sets of `other` may lie anywhere, and several sets of `self` that have all cuts
+    /// of a set together do not count.
+    ///
+    /// # Memory
+    ///
+    /// Takes none.
+    ///
+    /// # Examples
+    ///
+    /// - `2 - 8` allows `4 - 5`, and not `5 - 9`.
+    /// - `>=1.2.3` allows `0.1 || 1.4`, since it has the cuts of `1.4`.
+    /// - `<1.2.3` does not allow `<=1.2.3`.
+    ///
+    /// # Source
+    ///
+    /// The Rust crate `node-semver` 2.2.0.
+    pub fn allows_all(&self, other: &Range) -> bool
+        ensures { IsTrue result ↔ CoversOne version_cmp self.now other.now }
+    {
+        covers_one(self.sets.as_slice(), other.sets.as_slice())
+    }
+}

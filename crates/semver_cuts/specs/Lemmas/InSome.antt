@@ -1,0 +1,80 @@
+-- Cuts in some span of a list: of two lists one after the other, and found or not found.
+use Rattle.std.specs.Prelude.{◌≡◌, ◌⊎◌, ◌↔◌, List, [], ◌∷◌, ◌++◌, refl}
+use mathlib.Core.Logic.{inl, inr}
+use Rattle.std.specs.declared.cmp.Ordering.{Ordering}
+use Rattle.std.specs.Cmp.{IsTotalOrder}
+use Rattle.std.specs.List.{AllByRecursion}
+use Rattle.semver_cuts.specs.declared.cut.Cut.{Cut}
+use Rattle.semver_cuts.specs.Ends.{Ends, HoldsCut, IsInSpan}
+use Rattle.semver_cuts.specs.Common.{IsInSome}
+use Rattle.semver_cuts.specs.Sharing.{AnyByRecursion}
+use Rattle.semver_cuts.specs.Lemmas.Ends.{at_most-or-below, below-not-at_most}
+
+module _ {T : Type 0} (cmp : T → T → Ordering) (cut : Cut T) where
+  some_of : (spans : List (Ends T)) → IsInSome cmp spans cut → AnyByRecursion (λ (span : Ends T). IsInSpan cmp span cut) spans
+  some_of [] is = is
+  some_of (span ∷ spans) (inl here) = inl here
+  some_of (span ∷ spans) (inr there) = inr (some_of spans there)
+
+  of_some : (spans : List (Ends T)) → AnyByRecursion (λ (span : Ends T). IsInSpan cmp span cut) spans → IsInSome cmp spans cut
+  of_some [] is = is
+  of_some (span ∷ spans) (inl here) = inl here
+  of_some (span ∷ spans) (inr there) = inr (of_some spans there)
+
+  -- the cut lies in some span where some span is one that it lies in
+  pub in_some-any : (spans : List (Ends T))
+      → IsInSome cmp spans cut ↔ AnyByRecursion (λ (span : Ends T). IsInSpan cmp span cut) spans
+  in_some-any spans = (some_of spans, of_some spans)
+
+  -- of two lists in the first
+  pub in_some-left : (ones others : List (Ends T)) → IsInSome cmp ones cut → IsInSome cmp (ones ++ others) cut
+  in_some-left [] others is = absurd is
+  in_some-left (one ∷ ones) others (inl here) = inl here
+  in_some-left (one ∷ ones) others (inr there) = inr (in_some-left ones others there)
+
+  -- in the second
+  pub in_some-right : (ones others : List (Ends T)) → IsInSome cmp others cut → IsInSome cmp (ones ++ others) cut
+  in_some-right [] others is = is
+  in_some-right (one ∷ ones) others is = inr (in_some-right ones others is)
+
+  -- or in none but these
+  pub in_some-either : (ones others : List (Ends T)) → IsInSome cmp (ones ++ others) cut
+      → IsInSome cmp ones cut ⊎ IsInSome cmp others cut
+  in_some-either [] others is = inr is
+  in_some-either (one ∷ ones) others (inl here) = inl (inl here)
+  in_some-either (one ∷ ones) others (inr there) = elim (in_some-either ones others there) [
+    | inl l ↦ inl (inr l)
+    | inr r ↦ inr r
+  ]
+
+module _ {T : Type 0} (cmp : T → T → Ordering) where
+  -- spans that hold a cut each, and no cut in any: there are none
+  pub none_held : (spans : List (Ends T)) → AllByRecursion (HoldsCut cmp) spans
+      → ((cut : Cut T) → ¬ IsInSome cmp spans cut) → spans ≡ []
+  none_held [] held none = refl
+  none_held (span ∷ spans) held none = absurd (none held.0.0 (inl held.0.1))
+
+module _ {T : Type 0} {cmp : T → T → Ordering} (o : IsTotalOrder cmp) (cut : Cut T) where
+  -- a cut lies in a span or it does not
+  pub in_span-or_not : (span : Ends T) → IsInSpan cmp span cut ⊎ (¬ IsInSpan cmp span cut)
+  in_span-or_not span = elim (at_most-or-below o span.lower cut) [
+    | inl begun ↦ elim (at_most-or-below o span.upper cut) [
+      | inl past ↦ inr (λ is. below-not-at_most o cut span.upper is.upper past)
+      | inr inside ↦ inl (record { lower = begun; upper = inside })
+    ]
+    | inr early ↦ inr (λ is. below-not-at_most o cut span.lower early is.lower)
+  ]
+
+  -- and so with some span of a list
+  pub in_some-or_not : (spans : List (Ends T)) → IsInSome cmp spans cut ⊎ (¬ IsInSome cmp spans cut)
+  in_some-or_not [] = inr (λ is. is)
+  in_some-or_not (span ∷ spans) = elim (in_span-or_not span) [
+    | inl here ↦ inl (inl here)
+    | inr not_here ↦ elim (in_some-or_not spans) [
+      | inl there ↦ inl (inr there)
+      | inr not_there ↦ inr (λ is. elim is [
+        | inl here ↦ not_here here
+        | inr there ↦ not_there there
+      ])
+    ]
+  ]

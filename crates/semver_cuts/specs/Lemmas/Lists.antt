@@ -1,0 +1,77 @@
+-- Facts of some element and of each element of a list.
+use Rattle.std.specs.Prelude.{◌≡◌, ◌⊎◌, ◌<◌, ◌+◌, ℕ, zero, suc, List, [], ◌∷◌, ◌++◌, get_or, length, take}
+use mathlib.Core.Path.{sym, subst}
+use mathlib.Core.Logic.{inl, inr}
+use Rattle.std.specs.List.{AllByRecursion}
+use Rattle.std.proofs.Common.{arith}
+use Rattle.semver_cuts.specs.Sharing.{AnyByRecursion}
+
+module _ {X : Type 0} (P : X → Type 0) where
+  -- what is always so is so of each element
+  pub all-always : ((x : X) → P x) → (xs : List X) → AllByRecursion P xs
+  all-always f [] = tt
+  all-always f (x ∷ xs) = (f x, all-always f xs)
+
+  -- each element of two lists is so where each of both is
+  pub all-append : (xs ys : List X) → AllByRecursion P xs → AllByRecursion P ys → AllByRecursion P (xs ++ ys)
+  all-append [] ys a b = b
+  all-append (x ∷ xs) ys a b = (a.0, all-append xs ys a.1 b)
+
+  -- some element of the first of two lists
+  pub any-left : (xs ys : List X) → AnyByRecursion P xs → AnyByRecursion P (xs ++ ys)
+  any-left [] ys a = absurd a
+  any-left (x ∷ xs) ys (inl p) = inl p
+  any-left (x ∷ xs) ys (inr a) = inr (any-left xs ys a)
+
+  -- and of the second
+  pub any-right : (xs ys : List X) → AnyByRecursion P ys → AnyByRecursion P (xs ++ ys)
+  any-right [] ys a = a
+  any-right (x ∷ xs) ys a = inr (any-right xs ys a)
+
+  -- some element of two lists is one of the first or of the second
+  pub any-either : (xs ys : List X) → AnyByRecursion P (xs ++ ys) → AnyByRecursion P xs ⊎ AnyByRecursion P ys
+  any-either [] ys a = inr a
+  any-either (x ∷ xs) ys (inl p) = inl (inl p)
+  any-either (x ∷ xs) ys (inr a) = elim (any-either xs ys a) [
+    | inl l ↦ inl (inr l)
+    | inr r ↦ inr r
+  ]
+
+  -- the element at which a walk stops
+  pub any-at : (xs : List X) (k : ℕ) (x : X) → k < length xs → x ≡ get_or xs k x → P x → AnyByRecursion P xs
+  any-at [] k x lt e p = absurd (omega arith)
+  any-at (y ∷ xs) zero x lt e p = inl (subst P e p)
+  any-at (y ∷ xs) (suc k) x lt e p = inr (any-at xs k x (omega arith) e p)
+
+  passed_one : (xs : List X) (k : ℕ) (x : X) → k < length xs → x ≡ get_or xs k x
+      → ¬ AnyByRecursion P (take k xs) → ¬ P x → ¬ AnyByRecursion P (take (suc k) xs)
+  passed_one [] k x lt e none other = absurd (omega arith)
+  passed_one (y ∷ xs) zero x lt e none other = λ some. elim some [
+    | inl here ↦ other (subst P (sym e) here)
+    | inr there ↦ absurd there
+  ]
+  passed_one (y ∷ xs) (suc k) x lt e none other = λ some. elim some [
+    | inl here ↦ none (inl here)
+    | inr there ↦ passed_one xs k x (omega arith) e (λ earlier. none (inr earlier)) other there
+  ]
+
+  -- one more element that is not so
+  pub none-more : (xs : List X) (k : ℕ) (x : X) → k < length xs → x ≡ get_or xs k x
+      → ¬ AnyByRecursion P (take k xs) → ¬ P x → ¬ AnyByRecursion P (take (k + 1) xs)
+  none-more xs k x lt e none other =
+      let next : suc k ≡ k + 1 = omega arith in
+      subst (λ (n : ℕ). ¬ AnyByRecursion P (take n xs)) next (passed_one xs k x lt e none other)
+
+module _ {X : Type 0} (P Q : X → Type 0) where
+  -- what follows for each element follows for some element
+  pub any-map : ((x : X) → P x → Q x) → (xs : List X) → AnyByRecursion P xs → AnyByRecursion Q xs
+  any-map f [] a = a
+  any-map f (x ∷ xs) (inl p) = inl (f x p)
+  any-map f (x ∷ xs) (inr a) = inr (any-map f xs a)
+
+  -- some element is so, and each is so in another way
+  pub any-with_all : (R : X → Type 0) → ((x : X) → P x → Q x → R x) → (xs : List X)
+      → AnyByRecursion P xs → AllByRecursion Q xs → AnyByRecursion R xs
+  any-with_all R f [] a b = absurd a
+  any-with_all R f (x ∷ xs) (inl p) b = inl (f x p b.0)
+  any-with_all R f (x ∷ xs) (inr a) b = inr (any-with_all R f xs a b.1)

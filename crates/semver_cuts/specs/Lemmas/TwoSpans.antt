@@ -1,0 +1,265 @@
+-- Two spans: which cuts they have in common, when they share one, and when one has all cuts of the other.
+use Rattle.std.specs.Prelude.{◌≡◌, ◌↔◌, Bool, IsTrue, List, [], ◌∷◌, if◌then◌else◌, refl, true, false}
+use mathlib.Core.Path.{sym, ap, ◌∙◌}
+use mathlib.Core.Logic.{inl, inr}
+use mathlib.Core.Bool.{true≢false}
+use Rattle.std.specs.declared.cmp.Ordering.{Ordering}
+use Rattle.std.specs.Ordering.{is_le, is_lt}
+use Rattle.std.specs.Cmp.{IsTotalOrder}
+use Rattle.semver_cuts.specs.declared.cut.Cut.{Cut}
+use Rattle.semver_cuts.specs.Cut.{cut_cmp}
+use Rattle.semver_cuts.specs.Ends.{Ends, HoldsCut, IsCutAtMost, IsCutBelow, IsInSpan, span_between}
+use Rattle.semver_cuts.specs.Common.{IsInSome, IsWithin}
+use Rattle.semver_cuts.specs.CommonSpans.{common_ends, common_of, greater_cut, lesser_cut}
+use Rattle.semver_cuts.specs.Sharing.{HaveCommonCut}
+use Rattle.semver_cuts.specs.Lemmas.Ends.{at_most-from_le, at_most-from_not_lt, at_most-or-below, at_most_refl, at_most_trans, at_most-below, below-at_most, below-from_lt, below-not-at_most, below_irrefl, below_trans, le-from_at_most, lt-from_below}
+
+-- a test that answers both ways is absurd
+both_ways : {P : Type 0} (r : Bool) → r ≡ true → r ≡ false → P
+both_ways r p q = absurd (true≢false (sym p ∙ q))
+
+-- two tests are alike where each answers yes where the other does
+alike : (r s : Bool) → (r ≡ true → s ≡ true) → (s ≡ true → r ≡ true) → r ≡ s
+alike true s f g = sym (f refl)
+alike false true f g = g refl
+alike false false f g = refl
+
+module _ {T : Type 0} {cmp : T → T → Ordering} (o : IsTotalOrder cmp) where
+  -- ---- the greater and the lesser of two cuts
+
+  greater_by : (c d e : Cut T) (r : Bool) → is_lt (cut_cmp cmp d c) ≡ r
+      → IsCutAtMost cmp (if r then c else d) e ↔ (IsCutAtMost cmp c e × IsCutAtMost cmp d e)
+  greater_by c d e true h =
+      (λ p. (p, at_most_trans o d c e (inl (below-from_lt cmp d c h)) p), λ both. both.0)
+  greater_by c d e false h =
+      (λ p. (at_most_trans o c d e (at_most-from_not_lt o d c h) p, p), λ both. both.1)
+
+  -- the greater of two cuts is at most a third where both are
+  pub greater-at_most : (c d e : Cut T)
+      → IsCutAtMost cmp (greater_cut cmp c d) e ↔ (IsCutAtMost cmp c e × IsCutAtMost cmp d e)
+  greater-at_most c d e = greater_by c d e (is_lt (cut_cmp cmp d c)) refl
+
+  lesser_by : (c d e : Cut T) (r : Bool) → is_lt (cut_cmp cmp d c) ≡ r
+      → IsCutBelow cmp e (if r then d else c) ↔ (IsCutBelow cmp e c × IsCutBelow cmp e d)
+  lesser_by c d e true h = (λ p. (below_trans o e d c p (below-from_lt cmp d c h), p), λ both. both.1)
+  lesser_by c d e false h =
+      (λ p. (p, below-at_most o e c d p (at_most-from_not_lt o d c h)), λ both. both.0)
+
+  -- a cut is below the lesser of two where it is below both
+  pub below-lesser : (c d e : Cut T)
+      → IsCutBelow cmp e (lesser_cut cmp c d) ↔ (IsCutBelow cmp e c × IsCutBelow cmp e d)
+  below-lesser c d e = lesser_by c d e (is_lt (cut_cmp cmp d c)) refl
+
+  greater_below_by : (c d e : Cut T) (r : Bool) → is_lt (cut_cmp cmp d c) ≡ r
+      → IsCutBelow cmp (if r then c else d) e ↔ (IsCutBelow cmp c e × IsCutBelow cmp d e)
+  greater_below_by c d e true h =
+      (λ p. (p, below_trans o d c e (below-from_lt cmp d c h) p), λ both. both.0)
+  greater_below_by c d e false h =
+      (λ p. (at_most-below o c d e (at_most-from_not_lt o d c h) p, p), λ both. both.1)
+
+  -- the greater of two cuts is below a third where both are
+  pub greater-below : (c d e : Cut T)
+      → IsCutBelow cmp (greater_cut cmp c d) e ↔ (IsCutBelow cmp c e × IsCutBelow cmp d e)
+  greater-below c d e = greater_below_by c d e (is_lt (cut_cmp cmp d c)) refl
+
+  -- ---- the cuts of a span
+
+  -- a span holds a cut where it begins below where it ends
+  pub holds-below : (span : Ends T) → HoldsCut cmp span ↔ IsCutBelow cmp span.lower span.upper
+  holds-below span = (
+    λ h. at_most-below o span.lower h.0 span.upper h.1.lower h.1.upper,
+    λ p. (span.lower, record { lower = at_most_refl o span.lower; upper = p }),
+  )
+
+  -- a span that holds a cut lies in another where it begins no earlier and ends no later
+  pub within-ends : (one other : Ends T) → IsCutBelow cmp one.lower one.upper
+      → IsWithin cmp one other ↔ (IsCutAtMost cmp other.lower one.lower × IsCutAtMost cmp one.upper other.upper)
+  within-ends one other held =
+      let whole : (within : IsWithin cmp one other) → IsCutAtMost cmp one.upper other.upper = λ within.
+      elim (at_most-or-below o one.upper other.upper) [
+        | inl at_most ↦ at_most
+        | inr below ↦ absurd (elim (at_most-or-below o one.lower other.upper) [
+          | inl begun ↦ below_irrefl o other.upper (within other.upper (record { lower = begun; upper = below })).upper
+          | inr begun ↦ below-not-at_most o other.upper one.lower begun
+              (inl (within one.lower (record { lower = at_most_refl o one.lower; upper = held })).upper)
+        ])
+      ] in (
+        λ within.
+            ((within one.lower (record { lower = at_most_refl o one.lower; upper = held })).lower, whole within),
+        λ ends cut is. record {
+          lower = at_most_trans o other.lower one.lower cut ends.0 is.lower;
+          upper = below-at_most o cut one.upper other.upper is.upper ends.1;
+        },
+      )
+
+  -- ---- what two spans have in common
+
+  -- a cut lies between the common ends where it lies in both spans
+  pub common_ends-cuts : (one other : Ends T) (cut : Cut T)
+      → IsInSpan cmp (common_ends cmp one other) cut ↔ (IsInSpan cmp one cut × IsInSpan cmp other cut)
+  common_ends-cuts one other cut =
+      let begins = greater-at_most one.lower other.lower cut in
+      let goes_on = below-lesser one.upper other.upper cut in (
+        λ is. (
+          record { lower = (begins.0 is.lower).0; upper = (goes_on.0 is.upper).0 },
+          record { lower = (begins.0 is.lower).1; upper = (goes_on.0 is.upper).1 },
+        ),
+        λ both. record {
+          lower = begins.1 (both.0.lower, both.1.lower);
+          upper = goes_on.1 (both.0.upper, both.1.upper);
+        },
+      )
+
+  -- the common ends hold a cut where some cut lies in both spans
+  pub common_ends-hold : (one other : Ends T)
+      → HaveCommonCut cmp one other
+      ↔ IsCutBelow cmp (common_ends cmp one other).lower (common_ends cmp one other).upper
+  common_ends-hold one other =
+      let ends : Ends T = common_ends cmp one other in (
+        λ h. (holds-below ends).0 (h.0, (common_ends-cuts one other h.0).1 (h.1, h.2)),
+        λ p. let held = (holds-below ends).1 p in
+            let both = (common_ends-cuts one other held.0).0 held.1 in (held.0, both.0, both.1),
+      )
+
+  -- two spans that hold cuts share one where each begins below where the other ends
+  pub shares-ends : (one other : Ends T) → IsCutBelow cmp one.lower one.upper → IsCutBelow cmp other.lower other.upper
+      → HaveCommonCut cmp one other ↔ (IsCutBelow cmp one.lower other.upper × IsCutBelow cmp other.lower one.upper)
+  shares-ends one other held held' =
+      let upper : Cut T = lesser_cut cmp one.upper other.upper in
+      let lowers = greater-below one.lower other.lower upper in (
+        λ h. let both = lowers.0 ((common_ends-hold one other).0 h) in (
+          ((below-lesser one.upper other.upper one.lower).0 both.0).1,
+          ((below-lesser one.upper other.upper other.lower).0 both.1).0,
+        ),
+        λ p. (common_ends-hold one other).1 (lowers.1 (
+          (below-lesser one.upper other.upper one.lower).1 (held, p.0),
+          (below-lesser one.upper other.upper other.lower).1 (p.1, held'),
+        )),
+      )
+
+  -- the test of a common cut, where the first span begins last
+  pub shares-from_first : (one other : Ends T) → IsCutBelow cmp one.lower one.upper
+      → is_lt (cut_cmp cmp one.lower (lesser_cut cmp one.upper other.upper)) ≡ is_lt (cut_cmp cmp one.lower other.upper)
+  shares-from_first one other held =
+      alike (is_lt (cut_cmp cmp one.lower (lesser_cut cmp one.upper other.upper)))
+      (is_lt (cut_cmp cmp one.lower other.upper))
+      (λ p. lt-from_below cmp one.lower other.upper
+      ((below-lesser one.upper other.upper one.lower).0 (below-from_lt cmp one.lower _ p)).1)
+      (λ p. lt-from_below cmp one.lower (lesser_cut cmp one.upper other.upper)
+      ((below-lesser one.upper other.upper one.lower).1 (held, below-from_lt cmp one.lower other.upper p)))
+
+  -- and where the second does
+  pub shares-from_second : (one other : Ends T) → IsCutBelow cmp other.lower other.upper
+      → is_lt (cut_cmp cmp other.lower (lesser_cut cmp one.upper other.upper)) ≡ is_lt (cut_cmp cmp other.lower one.upper)
+  shares-from_second one other held =
+      alike (is_lt (cut_cmp cmp other.lower (lesser_cut cmp one.upper other.upper)))
+      (is_lt (cut_cmp cmp other.lower one.upper))
+      (λ p. lt-from_below cmp other.lower one.upper
+      ((below-lesser one.upper other.upper other.lower).0 (below-from_lt cmp other.lower _ p)).0)
+      (λ p. lt-from_below cmp other.lower (lesser_cut cmp one.upper other.upper)
+      ((below-lesser one.upper other.upper other.lower).1 (below-from_lt cmp other.lower one.upper p, held)))
+
+  -- the test of the second end, once that of the first has passed
+  pub shares-tested : (one other : Ends T) → IsCutBelow cmp one.lower one.upper → IsCutBelow cmp other.lower other.upper
+      → is_lt (cut_cmp cmp one.lower other.upper) ≡ true
+      → (r : Bool) → r ≡ is_lt (cut_cmp cmp other.lower one.upper) → IsTrue r ↔ HaveCommonCut cmp one other
+  shares-tested one other held held' first r e = (
+    λ p. (shares-ends one other held held').1
+        (below-from_lt cmp one.lower other.upper first, below-from_lt cmp other.lower one.upper (sym e ∙ p)),
+    λ h. e ∙ lt-from_below cmp other.lower one.upper ((shares-ends one other held held').0 h).1,
+  )
+
+  -- and where it has not
+  pub shares-failed : (one other : Ends T) → IsCutBelow cmp one.lower one.upper → IsCutBelow cmp other.lower other.upper
+      → is_lt (cut_cmp cmp one.lower other.upper) ≡ false
+      → (r : Bool) → r ≡ false → IsTrue r ↔ HaveCommonCut cmp one other
+  shares-failed one other held held' first r e = (
+    λ p. both_ways r p e,
+    λ h. both_ways _ (lt-from_below cmp one.lower other.upper ((shares-ends one other held held').0 h).0) first,
+  )
+
+  -- the test of the upper ends, once that of the lower ends has passed
+  pub covers-tested : (one other : Ends T) → IsCutBelow cmp other.lower other.upper
+      → is_le (cut_cmp cmp one.lower other.lower) ≡ true
+      → (r : Bool) → r ≡ is_le (cut_cmp cmp other.upper one.upper) → IsTrue r ↔ IsWithin cmp other one
+  covers-tested one other held first r e = (
+    λ p. (within-ends other one held).1
+        (at_most-from_le cmp one.lower other.lower first, at_most-from_le cmp other.upper one.upper (sym e ∙ p)),
+    λ h. e ∙ le-from_at_most cmp other.upper one.upper ((within-ends other one held).0 h).1,
+  )
+
+  -- and where it has not
+  pub covers-failed : (one other : Ends T) → IsCutBelow cmp other.lower other.upper
+      → is_le (cut_cmp cmp one.lower other.lower) ≡ false
+      → (r : Bool) → r ≡ false → IsTrue r ↔ IsWithin cmp other one
+  covers-failed one other held first r e = (
+    λ p. both_ways r p e,
+    λ h. both_ways _ (le-from_at_most cmp one.lower other.lower ((within-ends other one held).0 h).0) first,
+  )
+
+  -- ---- the common span, as a list of it or of nothing
+
+  common_by : (one other : Ends T) (P : List (Ends T) → Type 0) (r : Bool)
+      → is_lt (cut_cmp cmp (common_ends cmp one other).lower (common_ends cmp one other).upper) ≡ r
+      → (HaveCommonCut cmp one other → P (common_ends cmp one other ∷ [])) → (¬ HaveCommonCut cmp one other → P [])
+      → P (if r then common_ends cmp one other ∷ [] else [])
+  common_by one other P true h some none =
+      some ((common_ends-hold one other).1 (below-from_lt cmp _ _ h))
+  common_by one other P false h some none =
+      none (λ shared. both_ways _ (lt-from_below cmp _ _ ((common_ends-hold one other).0 shared)) h)
+
+  -- the common span is there where some cut lies in both
+  pub common_of-cases : (one other : Ends T) (P : List (Ends T) → Type 0)
+      → (HaveCommonCut cmp one other → P (common_ends cmp one other ∷ [])) → (¬ HaveCommonCut cmp one other → P [])
+      → P (common_of cmp one other)
+  common_of-cases one other P some none =
+      common_by one other P
+      (is_lt (cut_cmp cmp (common_ends cmp one other).lower (common_ends cmp one other).upper)) refl some none
+
+  -- a cut lies in the common span where it lies in both
+  pub common_of-cuts : (one other : Ends T) (cut : Cut T)
+      → IsInSome cmp (common_of cmp one other) cut ↔ (IsInSpan cmp one cut × IsInSpan cmp other cut)
+  common_of-cuts one other cut =
+      common_of-cases one other (λ spans. IsInSome cmp spans cut ↔ (IsInSpan cmp one cut × IsInSpan cmp other cut))
+      (λ shared. (
+        λ is. elim is [
+          | inl here ↦ (common_ends-cuts one other cut).0 here
+          | inr there ↦ absurd there
+        ],
+        λ both. inl ((common_ends-cuts one other cut).1 both),
+      ))
+      (λ apart. (λ is. absurd is, λ both. absurd (apart (cut, both.0, both.1))))
+
+  -- ---- the common span by the tests of a program
+
+  first_begins_last : (one other : Ends T) → IsCutBelow cmp one.lower one.upper
+      → is_lt (cut_cmp cmp other.lower one.lower) ≡ true → common_of cmp one other
+      ≡ if is_lt (cut_cmp cmp one.lower other.upper)
+      then span_between one.lower (lesser_cut cmp one.upper other.upper) ∷ [] else []
+  first_begins_last one other held last =
+      let upper : Cut T = lesser_cut cmp one.upper other.upper in
+      rw last (ap (λ r. if r then span_between one.lower upper ∷ [] else []) (shares-from_first one other held))
+
+  second_begins_last : (one other : Ends T) → IsCutBelow cmp other.lower other.upper
+      → is_lt (cut_cmp cmp other.lower one.lower) ≡ false → common_of cmp one other
+      ≡ if is_lt (cut_cmp cmp other.lower one.upper)
+      then span_between other.lower (lesser_cut cmp one.upper other.upper) ∷ [] else []
+  second_begins_last one other held last =
+      let upper : Cut T = lesser_cut cmp one.upper other.upper in
+      rw last (ap (λ r. if r then span_between other.lower upper ∷ [] else []) (shares-from_second one other held))
+
+  -- the first begins last, and not below the end of the second
+  pub common_of-past_second : (one other : Ends T) → IsCutBelow cmp one.lower one.upper
+      → is_lt (cut_cmp cmp other.lower one.lower) ≡ true → is_lt (cut_cmp cmp one.lower other.upper) ≡ false
+      → [] ≡ common_of cmp one other
+  common_of-past_second one other held last apart =
+      sym (first_begins_last one other held last
+      ∙ ap (λ r. if r then span_between one.lower (lesser_cut cmp one.upper other.upper) ∷ [] else []) apart)
+
+  -- the second begins last, and not below the end of the first
+  pub common_of-past_first : (one other : Ends T) → IsCutBelow cmp other.lower other.upper
+      → is_lt (cut_cmp cmp other.lower one.lower) ≡ false → is_lt (cut_cmp cmp other.lower one.upper) ≡ false
+      → [] ≡ common_of cmp one other
+  common_of-past_first one other held last apart =
+      sym (second_begins_last one other held last
+      ∙ ap (λ r. if r then span_between other.lower (lesser_cut cmp one.upper other.upper) ∷ [] else []) apart)

@@ -1,0 +1,27 @@
+-- How spans in the order of their lower ends are joined, one after another.
+use Rattle.std.specs.Prelude.{ℕ, List, [], ◌∷◌, if◌then◌else◌}
+use Rattle.std.specs.Ordering.{is_lt, nat_cmp, ordering_then}
+use Rattle.std.specs.declared.cmp.Ordering.{Ordering}
+use Rattle.semver_cuts.specs.declared.cut.Cut.{Cut}
+use Rattle.semver_cuts.specs.Cut.{cut_cmp}
+use Rattle.semver_cuts.specs.Ends.{Ends, span_between}
+use Rattle.semver_cuts.specs.Private.Placed.{PlacedSpan}
+
+-- the span ends above the cut, or there and stands before the place
+abbrev pub ends_later : {T : Type 0} → (T → T → Ordering) → Cut T → ℕ → PlacedSpan T → Ordering
+ends_later cmp upper place next = ordering_then (cut_cmp cmp upper next.span.upper) (nat_cmp next.place place)
+
+-- the spans joined to what lies between two cuts, of which the upper one is the end of the span at the place
+abbrev pub joined_from : {T : Type 0} → (T → T → Ordering) → Cut T → Cut T → ℕ → List (PlacedSpan T) → List (Ends T)
+joined_from cmp lower upper place [] = span_between lower upper ∷ []
+joined_from cmp lower upper place (next ∷ later) =
+    if is_lt (cut_cmp cmp upper next.span.lower)
+    then span_between lower upper ∷ joined_from cmp next.span.lower next.span.upper next.place later
+    else (if is_lt (ends_later cmp upper place next)
+    then joined_from cmp lower next.span.upper next.place later
+    else joined_from cmp lower upper place later)
+
+-- the spans joined
+abbrev pub joined_in_order : {T : Type 0} → (T → T → Ordering) → List (PlacedSpan T) → List (Ends T)
+joined_in_order cmp [] = []
+joined_in_order cmp (first ∷ later) = joined_from cmp first.span.lower first.span.upper first.place later

@@ -1,0 +1,24 @@
+-- What two lists of spans share: a cut, or a span of one with all cuts of a span of the other.
+use Rattle.std.specs.Prelude.{◌⊎◌, List, [], ◌∷◌}
+use Rattle.std.specs.declared.cmp.Ordering.{Ordering}
+use Rattle.semver_cuts.specs.declared.cut.Cut.{Cut}
+use Rattle.semver_cuts.specs.Ends.{Ends, IsInSpan}
+use Rattle.semver_cuts.specs.Common.{IsInSome, IsWithin}
+
+-- P holds of some element
+abbrev pub AnyByRecursion : {X : Type 0} → (X → Type 0) → List X → Type 0
+AnyByRecursion P [] = ⊥
+AnyByRecursion P (x ∷ xs) = P x ⊎ AnyByRecursion P xs
+
+-- some cut lies in both spans: in 1 to 3 and in 2 to 4, and in none of both 1 to 2 and 2 to 4
+abbrev pub HaveCommonCut : {T : Type 0} → (T → T → Ordering) → Ends T → Ends T → Type 0
+HaveCommonCut {T} cmp one other = (cut : Cut T) × IsInSpan cmp one cut × IsInSpan cmp other cut
+
+-- some cut lies in a span of each of the two lists
+abbrev pub ShareCut : {T : Type 0} → (T → T → Ordering) → List (Ends T) → List (Ends T) → Type 0
+ShareCut {T} cmp ones others = (cut : Cut T) × IsInSome cmp ones cut × IsInSome cmp others cut
+
+-- one span of the first list has all cuts of one span of the second
+abbrev pub CoversOne : {T : Type 0} → (T → T → Ordering) → List (Ends T) → List (Ends T) → Type 0
+CoversOne {T} cmp ones others =
+    AnyByRecursion (λ (one : Ends T). AnyByRecursion (λ (other : Ends T). IsWithin cmp other one) others) ones

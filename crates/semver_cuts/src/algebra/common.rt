@@ -1,0 +1,123 @@
+//! What two lists of spans have in common.
+ghost use Rattle.std.specs.Prelude.{◌≡◌, ◌++◌, OnOk};
+ghost use Rattle.semver_cuts.specs.Common.{AreApart};
+ghost use Rattle.semver_cuts.specs.Private.Apart.{AreRising};
+ghost use Rattle.semver_cuts.specs.CommonSpans.{common_of, common_spans, common_with};
+
+use crate::Span;
+use crate::algebra::Gather;
+use crate::algebra::joined::are_apart;
+use crate::algebra::near::first_near;
+use std::alloc::AllocError;
+
+// Lists shorter than this are gone through whole for each span, without a look whether they are apart.
+const FEW: usize = 3;
+
+/// Hands over what two lists of spans have in common: for each span of the first list with each span of the second, from
+/// the greater of their lower ends up to the lesser of their upper ends, where a cut lies there.
+///
+/// The pairs of the first span of the first list come first, in the order of the second list. Where two lower ends are
+/// equal the one of the second list is lent, and where two upper ends are equal the one of the first.
+///
+/// # Errors
+///
+/// What `into` answers where it takes a span. The spans before that were handed over.
+///
+/// # Memory
+///
+/// Takes none beside what `into` takes.
+///
+/// # Examples
+///
+/// `Before(0)` up to `Before(1)` and `Before(3)` up to `Before(5)`, with `After(0)` up to `Before(4)`, give `After(0)` up
+/// to `Before(1)` and `Before(3)` up to `Before(4)`. With `Before(1)` up to `Before(3)` they give nothing.
+pub fn common_spans<'a, T: Ord, S: Gather<'a, T>>(
+    ones: &'a [Span<T>],
+    others: &'a [Span<T>],
+    into: &mut S,
+) -> Result<(), AllocError>
+    ensures spans { OnOk result (S.gathered into.new ≡ S.gathered into.old ++ common_spans T.cmp ones.now others.now) }
+{
+    if let ([this], [that]) = (ones, others) {
+        return common_of(this, that, into);
+    }
+    if others.len() < FEW || !are_apart(others) {
+        for one in ones {
+            common_with(one, others, into)?;
+        }
+    } else {
+        let mut place = 0;
+        for one in ones {
+            place = common_along(one, others, place, into)?;
+        }
+    }
+    Ok(())
+}
+
+// What two spans have in common, if anything.
+#[inline(always)]
+fn common_of<'a, T: Ord, S: Gather<'a, T>>(
+    one: &'a Span<T>,
+    other: &'a Span<T>,
+    into: &mut S,
+) -> Result<(), AllocError>
+    ensures { OnOk result (S.gathered into.new ≡ S.gathered into.old ++ common_of T.cmp one.now other.now) }
+{
+    match one.ends_in_common(other) {
+        Some((lower, upper)) => into.gather(lower, upper),
+        None => Ok(()),
+    }
+}
+
+// What one span has in common with each of the others.
+#[inline(always)]
+fn common_with<'a, T: Ord, S: Gather<'a, T>>(
+    one: &'a Span<T>,
+    others: &'a [Span<T>],
+    into: &mut S,
+) -> Result<(), AllocError>
+    ensures { OnOk result (S.gathered into.new ≡ S.gathered into.old ++ common_with T.cmp one.now others.now) }
+{
+    for other in others {
+        common_of(one, other, into)?;
+    }
+    Ok(())
+}
+
+// The same along others that are apart: from the first that ends above where the span begins, looked for near a place.
+// Answers its place.
+#[inline(never)]
+fn common_along<'a, T: Ord, S: Gather<'a, T>>(
+    one: &'a Span<T>,
+    others: &'a [Span<T>],
+    place: usize,
+    into: &mut S,
+) -> Result<usize, AllocError>
+    requires apart { AreApart T.cmp others.now }
+    requires rising { AreRising T.cmp others.now }
+    ensures { OnOk result (S.gathered into.new ≡ S.gathered into.old ++ common_with T.cmp one.now others.now) }
+{
+    let first = first_near(others, place, one.lower());
+    common_until(one, &others[first..], into)?;
+    Ok(first)
+}
+
+// The same up to the first that begins where the span ends or above.
+#[inline]
+fn common_until<'a, T: Ord, S: Gather<'a, T>>(
+    one: &'a Span<T>,
+    others: &'a [Span<T>],
+    into: &mut S,
+) -> Result<(), AllocError>
+    requires apart { AreApart T.cmp others.now }
+    requires rising { AreRising T.cmp others.now }
+    ensures { OnOk result (S.gathered into.new ≡ S.gathered into.old ++ common_with T.cmp one.now others.now) }
+{
+    for other in others {
+        if one.upper() <= other.lower() {
+            return Ok(());
+        }
+        common_of(one, other, into)?;
+    }
+    Ok(())
+}

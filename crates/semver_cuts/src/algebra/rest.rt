@@ -1,0 +1,79 @@
+//! What one list of spans has and another has not.
+ghost use Rattle.std.specs.Prelude.{◌≡◌, ◌++◌, List, OnOk};
+ghost use Rattle.semver_cuts.specs.Ends.{Ends, IsCutBelow};
+ghost use Rattle.semver_cuts.specs.Rest.{AreRestSpans};
+ghost use Rattle.semver_cuts.specs.Common.{AreApart};
+ghost use Rattle.semver_cuts.specs.Private.Apart.{AreRising};
+ghost use Rattle.semver_cuts.specs.Private.Joined.{joined_spans};
+ghost use Rattle.semver_cuts.specs.Private.Rest.{pieces_of};
+
+use crate::Span;
+use crate::algebra::Gather;
+use crate::algebra::joined::Joined;
+use std::alloc::{AllocError, Global};
+
+/// Hands over what each span of one list has and no span of the other has: its greatest pieces, in ascending order.
+///
+/// A cut lies in one of the pieces of a span exactly where it lies in the span and in none of `others`, and no two
+/// pieces of a span touch. The pieces of an earlier span come first, those of one span lowest first. A span that has no
+/// cut in common with `others` is its own piece, and one whose cuts all lie in `others` has none.
+///
+/// A piece begins and ends where its span does, or at an end of one of `others`. Where several of `others` end or begin
+/// at that cut, the end is that of the first of them.
+///
+/// # Errors
+///
+/// Fails where a request for memory is refused, or where `into` fails.
+///
+/// # Memory
+///
+/// Takes none beside what `into` takes where the spans of `others` stand in ascending order apart from one another, as
+/// one span always does. Else it takes the places of `others` and the ends of the spans that they join to: two requests.
+///
+/// # Examples
+///
+/// Of 1 to 9 less 5 to 6 and 2 to 3 stay 1 to 2, 3 to 5 and 6 to 9. Of 1 to 9 less 0 to 5 and 5 to 9 nothing stays.
+pub fn rest_spans<'a, T: Ord, S: Gather<'a, T>>(
+    alloc: Global,
+    ones: &'a [Span<T>],
+    others: &'a [Span<T>],
+    into: &mut S,
+) -> Result<(), AllocError>
+    ensures rest { OnOk result ((rest : List (Ends T)) × AreRestSpans T.cmp ones.now others.now rest
+        × (S.gathered into.new ≡ S.gathered into.old ++ rest)) }
+{
+    let joined = Joined::of(alloc, others)?;
+    for one in ones {
+        add_pieces(one, &joined, into)?;
+    }
+    Ok(())
+}
+
+// Hands over the pieces of one span, lowest first.
+fn add_pieces<'a, T: Ord, S: Gather<'a, T>>(
+    one: &'a Span<T>,
+    joined: &Joined<'a, T>,
+    into: &mut S,
+) -> Result<(), AllocError>
+    requires rising { AreRising T.cmp (joined_spans joined.now) }
+    requires apart { AreApart T.cmp (joined_spans joined.now) }
+    ensures holds { IsCutBelow T.cmp one.now.lower one.now.upper }
+    ensures pieces { OnOk result
+        (S.gathered into.new ≡ S.gathered into.old ++ pieces_of T.cmp one.now (joined_spans joined.now)) }
+{
+    let (mut low, high) = one.ends();
+    for place in joined.first_above(low)..joined.len() {
+        let (lower, upper) = joined.ends(place);
+        if lower >= high {
+            break;
+        }
+        if low < lower {
+            into.gather(low, lower)?;
+        }
+        if upper >= high {
+            return Ok(());
+        }
+        low = upper;
+    }
+    into.gather(low, high)
+}

@@ -1,0 +1,113 @@
+ghost use Rattle.std.specs.Prelude.{map};
+ghost use Rattle.semver_cuts.specs.Ends.{span_between};
+
+use super::*;
+use crate::Span;
+use std::alloc::Global;
+
+// The ends of the spans that were taken.
+#[derive(Drop)]
+struct Taken<'a> {
+    ends: Vec<(&'a Cut<u64>, &'a Cut<u64>)>,
+}
+
+impl<'a> Gather<'a, u64> for Taken<'a> {
+    ghost gathered = { λ taken. map (λ pair. span_between pair.0.now pair.1.now) taken.ends.items };
+
+    fn gather(&mut self, lower: &'a Cut<u64>, upper: &'a Cut<u64>) -> Result<(), AllocError> {
+        self.ends.push((lower, upper))?;
+        Ok(())
+    }
+}
+
+// A list of spans by two numbers each: from before the first up to before the second.
+fn spans_of(alloc: Global, pairs: &[(u64, u64)]) -> Result<Vec<Span<u64>>, AllocError> {
+    let mut spans = Vec::new(alloc);
+    for (low, high) in pairs {
+        if let Some(span) = Span::new(Cut::Before(*low), Cut::Before(*high)) {
+            spans.push(span)?;
+        }
+    }
+    Ok(spans)
+}
+
+// Two lists, what they have in common, and whether the first covers a span of the second.
+const ROWS: &[(&[(u64, u64)], &[(u64, u64)], &[(u64, u64)], bool)] = &[
+    (&[(0, 1), (3, 5)], &[(0, 4)], &[(0, 1), (3, 4)], false),
+    (&[(0, 1), (3, 5)], &[(1, 3)], &[], false),
+    (
+        &[(0, 9)],
+        &[(5, 6), (2, 3), (0, 1)],
+        &[(5, 6), (2, 3), (0, 1)],
+        true,
+    ),
+    (
+        &[(2, 7), (0, 3)],
+        &[(0, 1), (2, 3), (4, 5), (6, 9)],
+        &[(2, 3), (4, 5), (6, 7), (0, 1), (2, 3)],
+        true,
+    ),
+    (&[(1, 2), (5, 9)], &[(0, 1), (2, 5), (9, 10)], &[], false),
+    (&[(4, 6)], &[], &[], false),
+];
+
+#[test]
+fn hands_over_what_two_lists_have_in_common(rt: HostRuntime) {
+    for (ones, others, common, _) in ROWS {
+        let ones = spans_of(rt.alloc(), ones).expect(&rt, "memory");
+        let others = spans_of(rt.alloc(), others).expect(&rt, "memory");
+        let mut taken = Taken {
+            ends: Vec::new(rt.alloc()),
+        };
+        assert!(rt; common_spans(&ones, &others, &mut taken).is_ok());
+        assert!(rt; taken.ends.len() == common.len());
+        for ((lower, upper), (low, high)) in taken.ends.iter().zip(common.iter()) {
+            assert!(rt; **lower == Cut::Before(*low) && **upper == Cut::Before(*high));
+        }
+    }
+}
+
+// Two lists, and what the first has and the second has not: others that fall, overlap, touch, ascend apart, and none.
+const REST_ROWS: &[(&[(u64, u64)], &[(u64, u64)], &[(u64, u64)])] = &[
+    (&[(1, 9)], &[(5, 6), (2, 3)], &[(1, 2), (3, 5), (6, 9)]),
+    (
+        &[(1, 9)],
+        &[(5, 7), (6, 8), (2, 3)],
+        &[(1, 2), (3, 5), (8, 9)],
+    ),
+    (&[(1, 9)], &[(0, 5), (5, 9)], &[]),
+    (
+        &[(5, 9), (0, 4)],
+        &[(1, 2), (3, 6)],
+        &[(6, 9), (0, 1), (2, 3)],
+    ),
+    (&[(3, 5)], &[(0, 3), (5, 9)], &[(3, 5)]),
+    (&[(3, 5)], &[], &[(3, 5)]),
+];
+
+#[test]
+fn hands_over_what_one_list_has_and_another_has_not(rt: HostRuntime) {
+    for (ones, others, rest) in REST_ROWS {
+        let ones = spans_of(rt.alloc(), ones).expect(&rt, "memory");
+        let others = spans_of(rt.alloc(), others).expect(&rt, "memory");
+        let mut taken = Taken {
+            ends: Vec::new(rt.alloc()),
+        };
+        assert!(rt; rest_spans(rt.alloc(), &ones, &others, &mut taken).is_ok());
+        assert!(rt; taken.ends.len() == rest.len());
+        for ((lower, upper), (low, high)) in taken.ends.iter().zip(rest.iter()) {
+            assert!(rt; **lower == Cut::Before(*low) && **upper == Cut::Before(*high));
+        }
+    }
+}
+
+#[test]
+fn asks_whether_lists_share_and_cover(rt: HostRuntime) {
+    for (ones, others, common, covers) in ROWS {
+        let ones = spans_of(rt.alloc(), ones).expect(&rt, "memory");
+        let others = spans_of(rt.alloc(), others).expect(&rt, "memory");
+        assert!(rt; share_cut(&ones, &others) == !common.is_empty());
+        assert!(rt; share_cut(&others, &ones) == !common.is_empty());
+        assert!(rt; covers_one(&ones, &others) == *covers);
+    }
+}

@@ -17,6 +17,7 @@ mod errors;
 mod faults;
 #[cfg(test)]
 mod hyphens;
+#[cfg(test)]
 mod json;
 #[cfg(test)]
 mod least;

@@ -1,71 +1,20 @@
-mod LeastExamples
-mod OrderExamples
-mod Prereleases
-mod PrintExamples
-pub mod AlgebraBounds
-pub mod AlternativeLemmas
-pub mod AlternativeSets
-pub mod ByteTable
-pub mod Characters
-pub mod CleanEnds
-pub mod ComponentReading
-pub mod Convex
-pub mod Decisions
-pub mod Digits
-pub mod DivisionLemmas
-pub mod DottedReading
-pub mod ExtrasReading
-pub mod FaultExamples
-pub mod FaultLemmas
-pub mod FaultReading
-pub mod FullRange
-pub mod HyphenReading
-pub mod IdentifierReading
-pub mod LeadReading
-pub mod LeastLemmas
-pub mod LeastOfSets
-pub mod LineText
-pub mod ListReading
-pub mod LongestReading
-pub mod Marks
-pub mod MeaningLemmas
-pub mod Merging
-pub mod NoBars
-pub mod NumberReading
-pub mod OneReading
-pub mod OnlySet
-pub mod OnlyWord
-pub mod PartialBounds
-pub mod PartialReading
-pub mod PartialViews
-pub mod PieceLemmas
-pub mod Places
-pub mod Prefixes
-pub mod RangeAlgebra
-pub mod PrintReading
-pub mod RangeBounds
-pub mod RangeComputing
-pub mod RangeEquality
-pub mod RangeExamples
-pub mod RangeReading
-pub mod RangePrintReading
-pub mod RangeText
-pub mod SetComputing
-pub mod SetExamples
-pub mod SetLemmas
-pub mod SetPrintReading
-pub mod SimpleHolds
-pub mod SimpleReading
-pub mod SomeElement
-pub mod TextCuts
-pub mod TreeAnswers
-pub mod TreeExamples
-pub mod VersionParse
-pub mod VersionReading
-pub mod VersionSteps
-pub mod WordBounds
-pub mod WordExamples
-pub mod WordLemmas
-pub mod WordPrintReading
-pub mod WordViews
-pub mod ZeroLists
+-- Lemmas, by subject. Each subject has a list of its files in reading order. The other folders hold the proofs of
+-- functions, by module.
+-- ---- texts: characters, prefixes, numbers, identifiers and extras
+pub mod Texts
+-- ---- versions: what is read, faults, order and steps
+pub mod Versions
+-- ---- words of a range text: partials, kinds of word, and what they write
+pub mod Words
+-- ---- range texts: alternatives, division, meaning
+pub mod Ranges
+-- ---- sets: merging, set algebra, trees
+pub mod Sets
+-- ---- the least version of a range, the least beyond another, and the greatest of a list
+pub mod Least
+-- ---- prints, and reading them back
+pub mod Prints
+-- ---- worked examples, which compute, and what computes them
+pub mod Examples
+-- ---- counts that only proofs read
+pub mod EmptyStruct

@@ -79,7 +79,8 @@ pub record HasFirstPiece (text piece others : List ℕ) : Type 0 where
 abbrev pub IsPieces : List ℕ → List (List ℕ) → Type 0
 IsPieces text [] = ⊥
 IsPieces text (piece ∷ []) = (text ≡ piece) × ¬ HasBars text
-IsPieces text (piece ∷ next ∷ pieces) = (others : List ℕ) × HasFirstPiece text piece others × IsPieces others (next ∷ pieces)
+IsPieces text (piece ∷ next ∷ pieces) =
+    (others : List ℕ) × HasFirstPiece text piece others × IsPieces others (next ∷ pieces)
 
 -- a piece after the first is read without the blanks with which it begins: `- 10` of `1 || - 10`
 pub record IsLaterAlternative (piece : List ℕ) (comparators : List Comparator) : Type 0 where
@@ -95,7 +96,8 @@ abbrev pub AreLaterAlternatives : List (List ℕ) → List (List Comparator) →
 AreLaterAlternatives [] [] = Unit {0}
 AreLaterAlternatives [] (a ∷ alternatives) = ⊥
 AreLaterAlternatives (piece ∷ pieces) [] = ⊥
-AreLaterAlternatives (piece ∷ pieces) (a ∷ alternatives) = IsLaterAlternative piece a × AreLaterAlternatives pieces alternatives
+AreLaterAlternatives (piece ∷ pieces) (a ∷ alternatives) =
+    IsLaterAlternative piece a × AreLaterAlternatives pieces alternatives
 
 -- each piece is one alternative, the first as it stands
 abbrev pub AreAlternatives : List (List ℕ) → List (List Comparator) → Type 0

@@ -1,7 +1,9 @@
 -- What a contract sees of an error: the text that was parsed, where its fault is, and the kind of the fault.
 use Rattle.std.specs.Prelude.{◌≡◌, ℕ, List, [], string_bytes}
 use Rattle.node_semver.specs.declared.error.kind.SemverErrorKind.{SemverErrorKind}
-use Rattle.node_semver.specs.declared.error.kind.SemverErrorKind.TheVariants.{MaxLengthError, IncompleteInput, ParseIntError, MaxIntError, Context, NoValidRanges, Other, OutOfMemory}
+use Rattle.node_semver.specs.declared.error.kind.SemverErrorKind.TheVariants.{MaxLengthError, IncompleteInput}
+use Rattle.node_semver.specs.declared.error.kind.SemverErrorKind.TheVariants.{ParseIntError, MaxIntError, Context}
+use Rattle.node_semver.specs.declared.error.kind.SemverErrorKind.TheVariants.{NoValidRanges, Other, OutOfMemory}
 use Rattle.node_semver.specs.declared.error.SemverError.{SemverError}
 
 -- a kind as a value: the number of `MaxIntError`, the word of `Context` by its bytes

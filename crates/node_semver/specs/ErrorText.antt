@@ -2,7 +2,9 @@
 use Rattle.std.specs.Prelude.{ℕ, List, [], ◌++◌, Option, Some, None, codes}
 use Rattle.std.specs.Fmt.{decimal}
 use Rattle.node_semver.specs.declared.error.kind.SemverErrorKind.{SemverErrorKind}
-use Rattle.node_semver.specs.declared.error.kind.SemverErrorKind.TheVariants.{MaxLengthError, IncompleteInput, ParseIntError, MaxIntError, Context, NoValidRanges, Other, OutOfMemory}
+use Rattle.node_semver.specs.declared.error.kind.SemverErrorKind.TheVariants.{MaxLengthError, IncompleteInput}
+use Rattle.node_semver.specs.declared.error.kind.SemverErrorKind.TheVariants.{ParseIntError, MaxIntError, Context}
+use Rattle.node_semver.specs.declared.error.kind.SemverErrorKind.TheVariants.{NoValidRanges, Other, OutOfMemory}
 
 -- none for `ParseIntError`, since std states no text for its fault
 abbrev pub kind_text : SemverErrorKind → Option (List ℕ)

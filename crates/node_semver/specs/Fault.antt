@@ -1,9 +1,11 @@
 -- The fault of a text that is no version text: a kind, and a byte offset from 0. It is the first fault from the left,
 -- where the text is followed as a version text is written: SemVer 2.0.0, section 2, in npm's loose form.
-use Rattle.std.specs.Prelude.{◌≡◌, ℕ, ◌^◌, ◌-◌, ◌==◌, ◌<◌, ◌≤◌, nat_lt, if◌then◌else◌, false, List, [], ◌∷◌, ◌++◌, length, codes}
+use Rattle.std.specs.Prelude.{◌≡◌, ℕ, ◌^◌, ◌-◌, ◌==◌, ◌<◌, ◌≤◌, nat_lt, if◌then◌else◌}
+use Rattle.std.specs.Prelude.{false, List, [], ◌∷◌, ◌++◌, length, codes}
 use Rattle.std.specs.List.{AllByRecursion}
 use Rattle.node_semver.specs.declared.TheConstants.{MAX_LENGTH, MAX_SAFE_INTEGER}
-use Rattle.node_semver.specs.Characters.{AreAll, BeginsWith, BeginsWithNo, dot, is_blank, is_digit, is_version_mark, mark_of}
+use Rattle.node_semver.specs.Characters.{AreAll, BeginsWith, BeginsWithNo, dot}
+use Rattle.node_semver.specs.Characters.{is_blank, is_digit, is_version_mark, mark_of}
 use Rattle.node_semver.specs.Error.{IsRefusalAt, Kind, context, max_int, max_length, other, parse_int}
 use Rattle.node_semver.specs.declared.error.SemverError.{SemverError}
 use Rattle.node_semver.specs.NumberText.{IsNumberText, number_of}

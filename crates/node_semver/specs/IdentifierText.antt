@@ -1,7 +1,8 @@
 -- Identifiers and lists of them, as they are written: SemVer 2.0.0, sections 9 and 10.
 use Rattle.std.specs.Prelude.{◌≡◌, ◌⊎◌, ℕ, ◌^◌, ◌==◌, ◌&&◌, nat_lt, if◌then◌else◌, List, [], ◌∷◌, ◌++◌, map}
 use Rattle.std.specs.List.{AllByRecursion, list_all, slice_split}
-use Rattle.node_semver.specs.Characters.{AreAll, BeginsWith, BeginsWithNo, hyphen, is_digit, is_identifier_character, plus, dot}
+use Rattle.node_semver.specs.Characters.{AreAll, BeginsWith, BeginsWithNo, hyphen}
+use Rattle.node_semver.specs.Characters.{is_digit, is_identifier_character, plus, dot}
 use Rattle.node_semver.specs.IdentifierValue.{IdentifierValue, alphanumeric, numeric}
 use Rattle.node_semver.specs.NumberText.{number_of}
 

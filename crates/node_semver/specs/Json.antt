@@ -1,21 +1,16 @@
 -- Versions and ranges as JSON strings: what is answered to a string is what `parse` answers to its text.
-use Rattle.std.specs.Prelude.{◌≡◌, ◌⊎◌, ◌↔◌, ℕ, ◌≤◌, List, [], length, Option, Some, None, Result, Ok, Err, IfErr, IfOk, IsOk, OnOk}
+use Rattle.std.specs.Prelude.{◌≡◌, ◌⊎◌, ℕ, ◌≤◌, List, [], length, Option, Some}
+use Rattle.std.specs.Prelude.{None, Result, Ok, Err, IfErr, IfOk, IsOk}
 use Rattle.std.specs.declared.num.ParseIntError.{ParseIntError as IntFault}
-use Rattle.std.specs.List.{AllByRecursion}
-use Rattle.semver_cuts.specs.Ends.{Ends}
 use Rattle.node_semver.specs.declared.TheConstants.{MAX_LENGTH}
 use Rattle.node_semver.specs.declared.error.SemverError.{SemverError}
 use Rattle.node_semver.specs.declared.json.JsonError.{JsonError}
 use Rattle.node_semver.specs.declared.json.JsonError.TheVariants.{NotAString, Semver}
-use Rattle.node_semver.specs.Error.{IsOutOfMemory, IsRefusalAt, Refusal, no_valid_ranges}
+use Rattle.node_semver.specs.Error.{IsOutOfMemory, Refusal}
 use Rattle.node_semver.specs.ErrorEquality.{error_value}
 use Rattle.node_semver.specs.Fault.{IsFaultOf}
-use Rattle.node_semver.specs.Meaning.{IsRefused, RangeAdmits, TextAdmits}
-use Rattle.node_semver.specs.Merging.{AreSetsOfText}
 use Rattle.node_semver.specs.Print.{version_text}
-use Rattle.node_semver.specs.RangePrint.{range_text}
-use Rattle.node_semver.specs.RangeSets.{IsRangeValue}
-use Rattle.node_semver.specs.ReadingBack.{HasText, IsPlainlyBounded, IsReadAsRange, RangeReadsBack, VersionReadsBack}
+use Rattle.node_semver.specs.ReadingBack.{HasText, VersionReadsBack}
 use Rattle.node_semver.specs.Version.{VersionValue}
 use Rattle.node_semver.specs.VersionText.{IsReadAs, IsVersionText}
 
@@ -27,17 +22,6 @@ pub record IsVersionAnswer (text : List ℕ) (answer : Result VersionValue Semve
   pub plain : (v : VersionValue) → IsVersionText text v → v.pre_release ≡ [] → v.build ≡ [] → IsOk answer
   pub print : IfOk answer VersionReadsBack
   pub printed : (v : VersionValue) → HasText v → version_text v ≡ text → length text ≤ MAX_LENGTH → IsReadAs v answer
-
--- what `Range::parse` answers to a text, by the facts that it promises
-pub record IsRangeAnswer (text : List ℕ) (answer : Result (List (Ends VersionValue)) SemverError) : Type 0 where
-  pub refused : IfErr answer (λ e. IsOutOfMemory e ⊎ (IsRefusalAt text no_valid_ranges 0 e × IsRefused text))
-  pub accepted : OnOk answer (¬ IsRefused text)
-  pub means : IfOk answer (λ r. (v : VersionValue) → RangeAdmits r v ↔ TextAdmits text v)
-  pub sets : IfOk answer (λ r. AreSetsOfText text r)
-  pub holds : IfOk answer IsRangeValue
-  pub print : IfOk answer RangeReadsBack
-  pub printed : (sets : List (Ends VersionValue)) → IsRangeValue sets → AllByRecursion IsPlainlyBounded sets
-      → range_text sets ≡ text → IsReadAsRange sets answer
 
 -- the answer passes on an answer of which this holds: what was read, or the refusal of the text
 abbrev pub PassesOn : {V : Type 0} → (Result V SemverError → Type 0) → Result V JsonError → Type 0

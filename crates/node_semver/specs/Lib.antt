@@ -27,7 +27,9 @@ pub mod Division
 pub mod Meaning
 pub mod Merging
 pub mod RangeSets
+pub mod Searching
 pub mod Least
+pub mod Greatest
 pub mod RangePrint
 pub mod RangeEquality
 pub mod RangeAlgebra
@@ -35,6 +37,8 @@ pub mod RangeAlgebra
 pub mod SetTree
 -- ---- prints that are read again
 pub mod ReadingBack
+-- ---- what is answered to a range text
+pub mod RangeAnswer
 -- ---- JSON strings
 pub mod Json
 -- ---- errors: where they stand, and how they print

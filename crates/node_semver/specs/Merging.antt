@@ -55,4 +55,5 @@ AdmitsTheSame comparators set v = Admit comparators v ↔ SetAdmits set v
 
 -- a text writes one list of sets
 abbrev pub HasOneMerging : List ℕ → Type 0
-HasOneMerging text = (one other : List (Ends VersionValue)) → AreSetsOfText text one → AreSetsOfText text other → one ≡ other
+HasOneMerging text =
+    (one other : List (Ends VersionValue)) → AreSetsOfText text one → AreSetsOfText text other → one ≡ other

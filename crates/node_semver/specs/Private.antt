@@ -1,3 +1,4 @@
+pub mod EndViews
 pub mod Reading
 pub mod ReadingViews
 pub mod WordReading
@@ -5,3 +6,6 @@ pub mod WordViews
 pub mod PieceReading
 pub mod RangeViews
 pub mod LeastViews
+pub mod BeyondViews
+pub mod GreatestViews
+pub mod SearchViews

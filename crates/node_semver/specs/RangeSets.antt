@@ -1,5 +1,6 @@
--- What a range always holds: a set at least, a cut in each set, and ends that a range text can write.
-use Rattle.std.specs.Prelude.{◌≡◌, ◌≢◌, ℕ, ◌≤◌, ◌+◌, List, []}
+-- What is seen of a range, the list of its sets, and what it always holds: a set at least, a cut in each set, and ends
+-- that a range text can write.
+use Rattle.std.specs.Prelude.{◌≡◌, ◌≢◌, ℕ, ◌≤◌, ◌+◌, List, [], ◌∷◌}
 use Rattle.std.specs.List.{AllByRecursion}
 use Rattle.semver_cuts.specs.declared.cut.Cut.{Cut}
 use Rattle.semver_cuts.specs.declared.cut.Cut.TheVariants.{Start, Before, After, End}
@@ -9,6 +10,13 @@ use Rattle.node_semver.specs.Comparison.{version_cmp}
 use Rattle.node_semver.specs.IdentifierText.{IsIdentifierText, identifier_of}
 use Rattle.node_semver.specs.IdentifierValue.{IdentifierValue}
 use Rattle.node_semver.specs.Version.{VersionValue}
+use Rattle.node_semver.specs.declared.range.sets.Sets.{Sets}
+use Rattle.node_semver.specs.declared.range.sets.Sets.TheVariants.{One, Many}
+
+-- the sets of a range, in their order
+abbrev pub sets_seen : Sets → List (Ends VersionValue)
+sets_seen (One set) = set ∷ []
+sets_seen (Many sets) = sets
 
 -- what some identifier text stands for: a number below 2^64, or a text that writes no such number
 abbrev pub IsReadIdentifier : IdentifierValue → Type 0

@@ -1,14 +1,20 @@
--- Trees of ranges: which cuts lie in what a tree joins of texts.
+-- Trees of ranges: which cuts lie in what a tree joins of texts, and which sets it has.
 --
 -- `1 || 3` without `1.5`, read with what follows: the cut before 1.4.0 lies in the tree, since it lies in the one
--- comparator of `1` and not in that of `1.5`. The cut before 1.5.0 lies in both, and so not in the tree.
-use Rattle.std.specs.Prelude.{◌≢◌, ℕ, List, [], string_bytes}
+-- comparator of `1` and not in that of `1.5`. The cut before 1.5.0 lies in both, and so not in the tree. Its sets are
+-- `>=1.0.0 <1.5.0`, `>=1.6.0-0 <2.0.0-0` and `>=3.0.0 <4.0.0-0`.
+use Rattle.std.specs.Prelude.{◌≡◌, ◌≢◌, ◌⊎◌, ◌↔◌, ℕ, List, [], string_bytes}
 use Rattle.semver_cuts.specs.declared.cut.Cut.{Cut}
 use Rattle.semver_cuts.specs.Common.{IsInEvery}
+use Rattle.semver_cuts.specs.CommonSpans.{common_spans}
+use Rattle.semver_cuts.specs.Ends.{Ends}
+use Rattle.semver_cuts.specs.Rest.{AreRestSpans}
 use Rattle.node_semver.specs.Comparator.{Comparator}
 use Rattle.node_semver.specs.Comparison.{version_cmp}
 use Rattle.node_semver.specs.Division.{IsWritten}
-use Rattle.node_semver.specs.Meaning.{AnyByRecursion}
+use Rattle.node_semver.specs.Meaning.{AnyByRecursion, RangeAdmits}
+use Rattle.node_semver.specs.Merging.{AreSetsOfText}
+use Rattle.node_semver.specs.RangeAlgebra.{PairAdmits}
 use Rattle.node_semver.specs.Version.{VersionValue}
 use Rattle.node_semver.specs.declared.tree.SetTree.{SetTree}
 use Rattle.node_semver.specs.declared.tree.SetTree.TheVariants.{Text, Both', Without'}
@@ -35,3 +41,30 @@ abbrev pub InFormula : Formula → Cut VersionValue → Type 0
 InFormula (of_text t) cut = TextHasCut t cut
 InFormula (both one other) cut = InFormula one cut × InFormula other cut
 InFormula (without one other) cut = InFormula one cut × ¬ InFormula other cut
+
+-- the sets of a tree in their order: those that its text writes, and none where it is refused; those that its sides have
+-- in common; or what the left side has and the right one has not. There are none where the left side has none, whatever
+-- the right one has
+abbrev pub AreSetsOfTree : Formula → List (Ends VersionValue) → Type 0
+AreSetsOfTree (of_text t) sets = AreSetsOfText t sets
+AreSetsOfTree (both one other) sets =
+    (AreSetsOfTree one [] × (sets ≡ []))
+    ⊎ ((ones others : List (Ends VersionValue)) × AreSetsOfTree one ones × AreSetsOfTree other others
+    × (sets ≡ common_spans version_cmp ones others))
+AreSetsOfTree (without one other) sets =
+    (AreSetsOfTree one [] × (sets ≡ []))
+    ⊎ ((ones others : List (Ends VersionValue)) × AreSetsOfTree one ones × AreSetsOfTree other others
+    × AreRestSpans version_cmp ones others sets)
+
+-- ---- laws
+
+-- a tree has one list of sets at most
+abbrev pub HasOneListOfSets : Formula → Type 0
+HasOneListOfSets tree = (one other : List (Ends VersionValue)) → AreSetsOfTree tree one → AreSetsOfTree tree other
+    → one ≡ other
+
+-- the sets of both sides admit a version, a prerelease too, where a set of each has it inside, and an end of one of these
+-- two opens its triple
+abbrev pub AdmitInPairs : Formula → Formula → VersionValue → Type 0
+AdmitInPairs one other v = (sets ones others : List (Ends VersionValue)) → AreSetsOfTree (both one other) sets
+    → AreSetsOfTree one ones → AreSetsOfTree other others → RangeAdmits sets v ↔ PairAdmits ones others v

@@ -1,7 +1,8 @@
 -- Version texts: SemVer 2.0.0, sections 2, 9 and 10, in npm's loose form.
 use Rattle.std.specs.Prelude.{◌≡◌, ℕ, ◌≤◌, Bool, List, ◌∷◌, ◌++◌, length, Result, Ok, Err}
 use Rattle.node_semver.specs.declared.TheConstants.{MAX_LENGTH}
-use Rattle.node_semver.specs.Characters.{AreAll, BeginsWith, BeginsWithNo, dot, is_blank, is_digit, is_version_mark, mark_of}
+use Rattle.node_semver.specs.Characters.{AreAll, BeginsWith, BeginsWithNo, dot}
+use Rattle.node_semver.specs.Characters.{is_blank, is_digit, is_version_mark, mark_of}
 use Rattle.node_semver.specs.Error.{IsOutOfMemory}
 use Rattle.node_semver.specs.IdentifierText.{IsExtrasText}
 use Rattle.node_semver.specs.IdentifierValue.{IdentifierValue}

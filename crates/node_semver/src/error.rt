@@ -11,7 +11,7 @@ mod kind;
 mod lines;
 mod span;
 
-pub use equality::errors_are_equal_where_their_parts_are;
+pub use equality::{a_kind_is_always_copied, errors_are_equal_where_their_parts_are};
 pub use kind::SemverErrorKind;
 pub use span::SourceSpan;
 use std::alloc::{AllocError, Global};

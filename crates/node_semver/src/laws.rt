@@ -4,11 +4,12 @@ ghost use Rattle.semver_cuts.specs.Ends.{Ends};
 ghost use Rattle.node_semver.specs.declared.TheConstants.{MAX_LENGTH, MAX_SAFE_INTEGER};
 ghost use Rattle.node_semver.specs.Comparator.{Comparator};
 ghost use Rattle.node_semver.specs.Merging.{AdmitsTheSame, HasOneMerging, HasOneSet, IsSetOf, LosesNothing};
+ghost use Rattle.node_semver.specs.SetTree.{AdmitInPairs, Formula, HasOneListOfSets};
 ghost use Rattle.node_semver.specs.Version.{VersionValue};
 ghost use Rattle.node_semver.specs.VersionLaws.{HasOneFault, HasOneReading, IsNeverBoth, IsReadOrFaulty};
 ghost use Rattle.node_semver.specs.RangeLaws.{HasWriting, IsOneHyphenRange, IsOnePartial, IsOneSimpleWord, IsWrittenOneWay};
 
-pub use crate::error::errors_are_equal_where_their_parts_are;
+pub use crate::error::{a_kind_is_always_copied, errors_are_equal_where_their_parts_are};
 pub use crate::json::json_errors_are_equal_where_their_parts_are;
 pub use crate::range::ranges_are_equal_where_their_cuts_are;
 
@@ -74,4 +75,17 @@ pub fn merging_loses_nothing()
 /// A text writes one list of sets, versions and builds of their ends included.
 pub fn a_text_writes_one_list_of_sets()
     ensures { (text : List ℕ) → HasOneMerging text }
+{}
+
+/// A tree of texts has one list of sets, versions and builds of their ends included.
+pub fn a_tree_has_one_list_of_sets()
+    ensures { (tree : Formula) → HasOneListOfSets tree }
+{}
+
+/// What both sides of a tree have in common admits a version exactly where a set of the one side and a set of the other
+/// both have it inside and, if it is a prerelease, an end of one of the two is a prerelease of its triple.
+///
+/// So a tree of `Both` admits the prereleases that [`Range::intersect`](crate::Range::intersect) of its sides admits.
+pub fn both_sides_admit_in_pairs()
+    ensures { (one other : Formula) (v : VersionValue) → AdmitInPairs one other v }
 {}

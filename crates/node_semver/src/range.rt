@@ -1,43 +1,31 @@
 //! Ranges: which versions a text asks for.
-ghost use Rattle.std.specs.Prelude.{◌≡◌, ◌⊎◌, ◌↔◌, List, [], ◌∷◌, IfErr, IfOk, IsTrue, None, OnOk};
-ghost use Rattle.std.specs.List.{AllByRecursion};
-ghost use Rattle.semver_cuts.specs.Ends.{Ends, IsCutBelow};
-ghost use Rattle.node_semver.specs.Comparison.{version_cmp};
-ghost use Rattle.node_semver.specs.Error.{IsOutOfMemory, IsRefusalAt, no_valid_ranges};
-ghost use Rattle.node_semver.specs.Meaning.{IsRefused, RangeAdmits, TextAdmits};
-ghost use Rattle.node_semver.specs.Merging.{AreSetsOfText, all_cuts};
-ghost use Rattle.node_semver.specs.RangePrint.{range_text};
-ghost use Rattle.node_semver.specs.RangeSets.{IsRangeValue};
-ghost use Rattle.node_semver.specs.ReadingBack.{IsPlainlyBounded, IsReadAsRange, RangeReadsBack};
-ghost use Rattle.node_semver.specs.Version.{VersionValue};
-ghost use Rattle.node_semver.specs.Private.PieceReading.{piece_at};
-ghost use Rattle.node_semver.specs.Private.RangeViews.{IsReadRange};
+ghost use Rattle.std.specs.Prelude.{◌≡◌, ◌↔◌, ◌∷◌, [], IfOk, IsTrue};
+ghost use Rattle.node_semver.specs.Meaning.{RangeAdmits};
+ghost use Rattle.node_semver.specs.Merging.{all_cuts};
+ghost use Rattle.node_semver.specs.RangeAnswer.{IsRangeAnswer};
+ghost use Rattle.node_semver.specs.RangeSets.{IsRangeSet, IsRangeValue};
+ghost use Rattle.node_semver.specs.Searching.{IsShortSearch};
 
 mod algebra;
-mod alternative;
-mod copy;
-mod difference;
-mod display;
 mod equality;
-mod full;
-mod gathered;
+mod greatest;
 mod least;
-mod line;
-mod pieces;
+mod opened;
+mod print;
+mod read;
+mod searched;
 mod sets;
-mod unbuilt;
 
-use crate::bound::Bounds;
-use crate::range::alternative::{bounded_set, read_plain, read_set_with_extras};
-use crate::range::pieces::next_piece;
+use crate::end::End;
 use crate::set::admits;
-use crate::word::skip_thrown_away;
-use crate::{SemverError, SemverErrorKind, Version};
+use crate::{Comparisons, SemverError, Version};
 pub use equality::ranges_are_equal_where_their_cuts_are;
-use full::{Sign, caret_range, exact_range, read_full, tilde_range};
+pub use greatest::max_satisfying;
+use read::{Sign, caret_range, exact_range, read_full, read_range, tilde_range};
+use searched::Searched;
 use semver_cuts::{Cut, Span};
-use sets::{Sets, read_sets};
-use std::alloc::Global;
+use sets::Sets;
+use std::alloc::{AllocError, Global};
 use std::marker::Model;
 
 /// The versions that a range text asks for: npm's ranges, in their loose form.
@@ -75,8 +63,7 @@ pub struct Range {
 impl Model for Range {
     ghost use Rattle.std.specs.Prelude.{List};
     ghost use Rattle.semver_cuts.specs.Ends.{Ends};
-    ghost use Rattle.node_semver.specs.Private.RangeViews.{sets_seen};
-    ghost use Rattle.node_semver.specs.RangeSets.{IsRangeValue};
+    ghost use Rattle.node_semver.specs.RangeSets.{IsRangeValue, sets_seen};
     ghost use Rattle.node_semver.specs.Version.{VersionValue};
 
     ghost Value = { List (Ends VersionValue) };
@@ -111,21 +98,12 @@ impl Range {
     ///
     /// `^1.2.3`, `1.2 - 3`, `foo >= v 1.0.0` and `foo || 2` are read, `foo` is refused.
     pub fn parse(alloc: Global, text: &str) -> Result<Range, SemverError>
-        ensures refused { IfErr result (λ e.
-            IsOutOfMemory e ⊎ (IsRefusalAt text.now no_valid_ranges 0 e × IsRefused text.now)) }
-        ensures accepted { OnOk result (¬ IsRefused text.now) }
-        ensures means { IfOk result (λ r. (v : VersionValue) → RangeAdmits r v ↔ TextAdmits text.now v) }
-        ensures sets { IfOk result (λ r. AreSetsOfText text.now r) }
-        ensures holds { IfOk result IsRangeValue }
-        // The print of what was read is read as an equal range, and so is each print of a range.
-        ensures print { IfOk result RangeReadsBack }
-        ensures printed { (sets : List (Ends VersionValue)) → IsRangeValue sets
-            → AllByRecursion IsPlainlyBounded sets → range_text sets ≡ text.now → IsReadAsRange sets result }
+        ensures { IsRangeAnswer text.now result }
     {
         match read_full(text.as_bytes()) {
-            Some((Sign::Caret, major, minor, patch)) => caret_range(alloc, major, minor, patch),
-            Some((Sign::Tilde, major, minor, patch)) => tilde_range(alloc, major, minor, patch),
-            Some((Sign::Nothing, major, minor, patch)) => exact_range(alloc, major, minor, patch),
+            Some((Sign::Caret, major, minor, patch)) => Ok(caret_range(major, minor, patch)),
+            Some((Sign::Tilde, major, minor, patch)) => Ok(tilde_range(major, minor, patch)),
+            Some((Sign::Nothing, major, minor, patch)) => Ok(exact_range(major, minor, patch)),
             None => read_range(alloc, text),
         }
     }
@@ -133,6 +111,10 @@ impl Range {
     /// The range of one set, which has all cuts.
     ///
     /// It admits every release, and no prerelease, since no triple is at an end of it.
+    ///
+    /// # Errors
+    ///
+    /// `AllocError` where memory is refused.
     ///
     /// # Memory
     ///
@@ -145,14 +127,12 @@ impl Range {
     /// # Source
     ///
     /// The Rust crate `node-semver` 2.2.0.
-    #[tactic(auto, using(crate::proofs::RangeBounds::all_cuts_bounded))]
-    pub fn any() -> Range
-        ensures all { result ≡ all_cuts ∷ [] }
-        ensures holds { IsRangeValue result }
+    #[tactic(auto, using(crate::proofs::Ranges::RangeBounds::all_cuts_bounded))]
+    pub fn any(_alloc: Global) -> Result<Range, AllocError>
+        ensures all { IfOk result (λ r. r ≡ all_cuts ∷ []) }
+        ensures holds { IfOk result IsRangeValue }
     {
-        Range {
-            sets: Sets::One(Span::between(Cut::Start, Cut::End)),
-        }
+        Ok(Range::of_set(Span::between(Cut::Start, Cut::End)))
     }
 
     /// Whether the range admits a version.
@@ -175,7 +155,67 @@ impl Range {
     pub fn satisfies(&self, version: &Version) -> bool
         ensures { IsTrue result ↔ RangeAdmits self.now version.now }
     {
-        any_admits(self.sets.as_slice(), version)
+        self.satisfies_counted(version, &mut Comparisons::new())
+    }
+
+    /// Whether the range admits a version, as [`Range::satisfies`] answers, with a count of the comparisons.
+    ///
+    /// Each comparison of the version with a cut, an end of a set, adds one. A release is found by halving among the
+    /// spans that the sets are joined to: that takes at most as many comparisons as the count of these spans has binary
+    /// digits, and one more. Their count is that of the sets whose lower cut no earlier set has, and which no set
+    /// reaches from below. A prerelease is looked for in the sets with an end that is a prerelease of its triple, by at
+    /// most two comparisons for each.
+    ///
+    /// # Memory
+    ///
+    /// Takes none.
+    ///
+    /// # Examples
+    ///
+    /// `1 || 3 || 5` is joined to three spans, so a release takes three comparisons at most. `1 || 1.5 - 3 || 2` is
+    /// joined to one, `>=1.0.0 <4.0.0-0`, and a release takes two.
+    #[inline]
+    pub fn satisfies_counted(&self, version: &Version, comparisons: &mut Comparisons) -> bool
+        ensures answer { IsTrue result ↔ RangeAdmits self.now version.now }
+        ensures short { IsShortSearch self.now version.now comparisons.old comparisons.new }
+    {
+        match &self.sets {
+            Sets::One(set) => admits(set, version, comparisons),
+            Sets::Many(sets) => sets.admits(version, comparisons),
+        }
+    }
+
+    // The range of one set, which takes no list.
+    #[inline(always)]
+    pub(crate) fn of_set(set: Span<End>) -> Range
+        requires { IsRangeSet set }
+        ensures { result ≡ set ∷ [] }
+    {
+        Range {
+            sets: Sets::One(set),
+        }
+    }
+
+    // The range of a list of sets.
+    #[inline(always)]
+    pub(crate) fn of_sets(alloc: Global, sets: Vec<Span<End>>) -> Result<Range, AllocError>
+        requires { IsRangeValue sets.items }
+        ensures { IfOk result (λ r. r ≡ sets.items) }
+    {
+        Ok(Range {
+            sets: Sets::Many(Searched::of(alloc, sets)?),
+        })
+    }
+
+    // The range of such sets, whose versions are found already.
+    #[inline(always)]
+    pub(crate) fn of_searched(sets: Searched) -> Range
+        requires { IsRangeValue sets }
+        ensures { result ≡ sets }
+    {
+        Range {
+            sets: Sets::Many(sets),
+        }
     }
 }
 
@@ -194,96 +234,4 @@ impl Version {
     {
         range.satisfies(self)
     }
-}
-
-// A text of one alternative, without a list of sets. Few texts have bars or versions with extras.
-#[inline(never)]
-fn read_range(alloc: Global, text: &str) -> Result<Range, SemverError>
-    ensures { IsReadRange text.now result }
-{
-    let (piece, left) = next_piece(text.as_bytes());
-    if left.is_some() {
-        return barred_range(alloc, text);
-    }
-    let mut merged = None;
-    if !read_plain(skip_thrown_away(piece), &mut merged) {
-        return extended_range(alloc, text, piece);
-    }
-    if let Some(bounds) = merged {
-        if bounds.lower < bounds.upper {
-            return bounded_range(alloc, bounds);
-        }
-    }
-    refused(alloc, text)
-}
-
-// Alternative after alternative.
-#[inline(never)]
-fn barred_range(alloc: Global, text: &str) -> Result<Range, SemverError>
-    ensures { IsReadRange text.now result }
-{
-    let Ok(sets) = read_sets(alloc, text.as_bytes()) else {
-        return Err(SemverError::out_of_memory(alloc));
-    };
-    if sets.is_empty() {
-        return refused(alloc, text);
-    }
-    Ok(Range {
-        sets: Sets::Many(sets),
-    })
-}
-
-// The one alternative of a text, where a version of it has extras.
-#[inline(never)]
-fn extended_range(alloc: Global, text: &str, piece: &[u8]) -> Result<Range, SemverError>
-    requires { (piece.now, None) ≡ piece_at text.now }
-    ensures { IsReadRange text.now result }
-{
-    match read_set_with_extras(alloc, piece) {
-        Ok(Some(set)) => Ok(Range {
-            sets: Sets::One(set),
-        }),
-        Ok(None) => refused(alloc, text),
-        Err(_) => Err(SemverError::out_of_memory(alloc)),
-    }
-}
-
-// The range of one set, without extras.
-#[inline(never)]
-fn bounded_range(alloc: Global, bounds: Bounds) -> Result<Range, SemverError>
-    requires below { IsCutBelow version_cmp bounds.lower bounds.upper }
-    requires holds { IsRangeValue (bounds ∷ []) }
-    ensures refused { IfErr result IsOutOfMemory }
-    ensures set { IfOk result (λ r. r ≡ bounds ∷ []) }
-{
-    match bounded_set(alloc, bounds) {
-        Ok(set) => Ok(Range {
-            sets: Sets::One(set),
-        }),
-        Err(_) => Err(SemverError::out_of_memory(alloc)),
-    }
-}
-
-// No alternative gives a set.
-#[cold]
-#[inline(never)]
-fn refused(alloc: Global, text: &str) -> Result<Range, SemverError>
-    requires { IsRefused text.now }
-    ensures { IsReadRange text.now result }
-{
-    let kind = SemverErrorKind::NoValidRanges;
-    Err(SemverError::new(alloc, text, 0, kind))
-}
-
-// Whether one of the sets admits a version.
-#[inline]
-fn any_admits(sets: &[Span<Version>], version: &Version) -> bool
-    ensures { IsTrue result ↔ RangeAdmits sets.now version.now }
-{
-    for set in sets {
-        if admits(set, version) {
-            return true;
-        }
-    }
-    false
 }

@@ -1,13 +1,16 @@
 //! Trees of range texts: what ranges have in common, and what one has and another has not.
-ghost use Rattle.std.specs.Prelude.{◌↔◌, IfOk, IfSome, IsNone};
+ghost use Rattle.std.specs.Prelude.{◌≡◌, ◌↔◌, IfOk, IfSome, IsNone};
 ghost use Rattle.semver_cuts.specs.declared.cut.Cut.{Cut};
 ghost use Rattle.semver_cuts.specs.declared.cut.Cut.TheVariants.{Before};
 ghost use Rattle.semver_cuts.specs.Common.{IsInSome};
+ghost use Rattle.semver_cuts.specs.CommonSpans.{common_spans};
+ghost use Rattle.semver_cuts.specs.Rest.{AreRestSpans};
 ghost use Rattle.node_semver.specs.Comparison.{version_cmp};
 ghost use Rattle.node_semver.specs.Meaning.{RangeAdmits};
+ghost use Rattle.node_semver.specs.Merging.{AreSetsOfText};
 ghost use Rattle.node_semver.specs.RangeAlgebra.{sets_of_answer};
 ghost use Rattle.node_semver.specs.RangeSets.{IsRangeValue};
-ghost use Rattle.node_semver.specs.SetTree.{InFormula, TextHasCut, formula_of};
+ghost use Rattle.node_semver.specs.SetTree.{AreSetsOfTree, InFormula, formula_of};
 ghost use Rattle.node_semver.specs.Version.{IsPrerelease, VersionValue};
 
 use crate::{Range, SemverErrorKind};
@@ -43,8 +46,11 @@ impl SetTree {
     /// A release satisfies the range exactly where the formula holds of it: it satisfies the text, both sides, or the
     /// left side and not the right one.
     ///
-    /// Which prereleases satisfy the range is read off its own sets, as [`Range::difference`] makes them. So `>=1`
-    /// without `>=2.0.0-a` admits `2.0.0-0`, and `>=1` does not.
+    /// The sets are those that [`Range::parse`] reads of a text, those that [`Range::intersect`] makes of `Both`, and
+    /// those that [`Range::difference`] makes of `Without`: so `1 || 1` has two, and `Both` of it and `1 || 1` has four.
+    ///
+    /// Which prereleases satisfy the range is read off its own sets. So `>=1` without `>=2.0.0-a` admits `2.0.0-0`, and
+    /// `>=1` does not.
     ///
     /// # Errors
     ///
@@ -63,6 +69,7 @@ impl SetTree {
     ///   and `1`.
     /// - `Without` of `1` and `>=0.0.0-0` is `None`.
     pub fn evaluate(&self, alloc: Global) -> Result<Option<Range>, AllocError>
+        ensures sets { IfOk result (λ answer. AreSetsOfTree (formula_of self.now) (sets_of_answer answer)) }
         ensures cuts { IfOk result (λ answer. (cut : Cut VersionValue) →
             IsInSome version_cmp (sets_of_answer answer) cut ↔ InFormula (formula_of self.now) cut) }
         ensures none { IfOk result (λ answer.
@@ -87,8 +94,7 @@ impl SetTree {
 
 // The range of a text, or None where the text is refused.
 fn range_of(alloc: Global, text: &str) -> Result<Option<Range>, AllocError>
-    ensures cuts { IfOk result (λ answer. (cut : Cut VersionValue) →
-        IsInSome version_cmp (sets_of_answer answer) cut ↔ TextHasCut text.now cut) }
+    ensures sets { IfOk result (λ answer. AreSetsOfText text.now (sets_of_answer answer)) }
     ensures holds { IfOk result (λ answer. IfSome answer IsRangeValue) }
 {
     match Range::parse(alloc, text) {
@@ -102,8 +108,8 @@ fn range_of(alloc: Global, text: &str) -> Result<Option<Range>, AllocError>
 
 // What a range has in common with another, or with none.
 fn common(alloc: Global, one: Range, other: Option<Range>) -> Result<Option<Range>, AllocError>
-    ensures cuts { IfOk result (λ answer. (cut : Cut VersionValue) → IsInSome version_cmp (sets_of_answer answer) cut
-        ↔ (IsInSome version_cmp one cut × IsInSome version_cmp (sets_of_answer other) cut)) }
+    ensures sets { IfOk result (λ answer.
+        sets_of_answer answer ≡ common_spans version_cmp one (sets_of_answer other)) }
     ensures holds { IfOk result (λ answer. IfSome answer IsRangeValue) }
 {
     match other {
@@ -114,8 +120,7 @@ fn common(alloc: Global, one: Range, other: Option<Range>) -> Result<Option<Rang
 
 // What a range has and another has not, or none has.
 fn rest(alloc: Global, one: Range, other: Option<Range>) -> Result<Option<Range>, AllocError>
-    ensures cuts { IfOk result (λ answer. (cut : Cut VersionValue) → IsInSome version_cmp (sets_of_answer answer) cut
-        ↔ (IsInSome version_cmp one cut × ¬ IsInSome version_cmp (sets_of_answer other) cut)) }
+    ensures sets { IfOk result (λ answer. AreRestSpans version_cmp one (sets_of_answer other) (sets_of_answer answer)) }
     ensures holds { IfOk result (λ answer. IfSome answer IsRangeValue) }
 {
     match other {

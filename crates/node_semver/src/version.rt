@@ -2,7 +2,7 @@ ghost use Rattle.std.specs.Prelude.{◌≡◌, ◌↔◌, IfOk, IsTrue};
 ghost use Rattle.node_semver.specs.Version.{IsPrerelease, release, with_pre_release};
 
 mod copy;
-mod display;
+pub(crate) mod display;
 mod hash;
 pub(crate) mod order;
 mod parse;

@@ -15,7 +15,7 @@ mod plain;
 mod tilde;
 
 use crate::parse::{Partial, begins_clean, read_partial, skip_blanks, skip_solid};
-pub(crate) use ends::{Ends, nothing};
+pub(crate) use ends::{WordEnds, nothing};
 pub(crate) use hyphen::read_leading_hyphen;
 use hyphen::{hyphen_ends, read_right};
 use lead::{Lead, lead_ends, read_lead};
@@ -24,7 +24,7 @@ use plain::plain_ends;
 // `>=1.2.3` of `>=1.2.3 <2`, or nothing of `foo`, and the rest
 #[inline(always)]
 #[tactic(auto, unfolding(crate::specs::Private::WordReading::read_word))]
-pub(crate) fn read_word(text: &[u8]) -> (Ends, &[u8])
+pub(crate) fn read_word(text: &[u8]) -> (WordEnds, &[u8])
     requires { BeginsWithNo is_blank text.now }
     ensures { word_seen result ≡ Reading.read_word text.now }
 {
@@ -36,7 +36,7 @@ pub(crate) fn read_word(text: &[u8]) -> (Ends, &[u8])
 
 // The same as `read_comparator`, where the first byte can begin a comparator.
 #[inline(always)]
-fn comparator_at(text: &[u8]) -> Option<(Ends, &[u8])>
+fn comparator_at(text: &[u8]) -> Option<(WordEnds, &[u8])>
     requires { BeginsWithNo is_blank text.now }
     ensures { some_word_seen result ≡ Reading.or_else (Reading.read_hyphen text.now) (Reading.read_simple text.now) }
 {
@@ -80,7 +80,7 @@ pub(crate) fn skip_thrown_away(text: &[u8]) -> &[u8]
 
 // The same, whose place is then cleared where it is called, and nowhere else.
 #[inline(always)]
-fn some_comparator(text: &[u8]) -> Option<(Ends, &[u8])>
+fn some_comparator(text: &[u8]) -> Option<(WordEnds, &[u8])>
     requires { BeginsWithNo is_blank text.now }
     ensures { some_word_seen result ≡ Reading.or_else (Reading.read_hyphen text.now) (Reading.read_simple text.now) }
 {
@@ -89,7 +89,7 @@ fn some_comparator(text: &[u8]) -> Option<(Ends, &[u8])>
 
 // A word that is not thrown away: its ends, or nothing where it writes no comparator.
 #[inline(never)]
-fn read_comparator(text: &[u8]) -> Option<(Ends, &[u8])>
+fn read_comparator(text: &[u8]) -> Option<(WordEnds, &[u8])>
     requires { BeginsWithNo is_blank text.now }
     ensures { some_word_seen result ≡ Reading.or_else (Reading.read_hyphen text.now) (Reading.read_simple text.now) }
 {
@@ -106,7 +106,7 @@ fn read_comparator(text: &[u8]) -> Option<(Ends, &[u8])>
 
 // A plain partial before a blank: alone, or the left side of a hyphen.
 #[inline(always)]
-fn plain_or_hyphen<'a>(partial: Partial<'a>, text: &'a [u8]) -> (Ends<'a>, &'a [u8])
+fn plain_or_hyphen<'a>(partial: Partial<'a>, text: &'a [u8]) -> (WordEnds<'a>, &'a [u8])
     requires { IsSound partial }
     ensures { Some (word_seen result) ≡ Reading.or_else
         (Reading.said_hyphen (Some (partial_seen partial.entry)) (Reading.read_right text.now))

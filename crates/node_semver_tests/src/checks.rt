@@ -1,21 +1,49 @@
-use node_semver::{Range, SemverError, SemverErrorKind, Version};
+use node_semver::{MAX_SAFE_INTEGER, Range, SemverError, SemverErrorKind, Version};
 use std::alloc::{AllocError, AllocGlobal, Global};
 use std::num::ParseIntError;
 use std::process::Abort;
 use std::test::Fail;
 
-// Rows of a range text, the versions that it admits, and those that it turns away, with blanks between versions.
-pub(crate) fn admits_and_turns_away(
+// A row is a text, and what is wanted of it: its parts stand between `; `.
+pub(crate) fn parts(row: &str) -> Result<(&str, &str), &'static str> {
+    row.split_once("; ").ok_or("a row has no `; `")
+}
+
+// The print is this text.
+pub(crate) fn is_text(rt: &impl Abort, print: &str, text: &str) {
+    assert!(rt; print == text, "{print} and not {text}");
+}
+
+// What both calls answer, and nothing where they do not agree.
+pub(crate) fn answer(range: &Range, version: &Version) -> Option<bool> {
+    let answer = range.satisfies(version);
+    if version.satisfies(range) == answer {
+        Some(answer)
+    } else {
+        None
+    }
+}
+
+fn answer_of_text(alloc: Global, range: &Range, version: &str) -> Result<Option<bool>, Fail> {
+    let version = Version::parse(alloc, version)?;
+    Ok(answer(range, &version))
+}
+
+fn answers_each(
     rt: &(impl Abort + AllocGlobal),
-    rows: &[(&str, &str, &str)],
+    text: &str,
+    range: &Range,
+    versions: &str,
+    wanted: bool,
 ) -> Result<(), Fail> {
-    for (text, admitted, turned_away) in rows {
-        admits(rt, text, admitted, turned_away)?;
+    for version in versions.split_whitespace() {
+        let answer = answer_of_text(rt.alloc(), range, version)?;
+        assert!(rt; answer == Some(wanted), "{text} and {version}");
     }
     Ok(())
 }
 
-// One such row.
+// A range text, the versions that it admits, and those that it turns away, with blanks between versions.
 pub(crate) fn admits(
     rt: &(impl Abort + AllocGlobal),
     text: &str,
@@ -27,113 +55,116 @@ pub(crate) fn admits(
     answers_each(rt, text, &range, turned_away, false)
 }
 
-fn answers_each(
-    rt: &(impl Abort + AllocGlobal),
-    text: &str,
-    range: &Range,
-    versions: &str,
-    answer: bool,
-) -> Result<(), Fail> {
-    for version in versions.split_whitespace() {
-        answers(
-            rt,
-            text,
-            range,
-            &Version::parse(rt.alloc(), version)?,
-            answer,
-        );
+pub(crate) fn row_admits(rt: &(impl Abort + AllocGlobal), row: &str) -> Result<(), Fail> {
+    let (text, versions) = parts(row)?;
+    let (admitted, turned_away) = parts(versions)?;
+    admits(rt, text, admitted, turned_away)
+}
+
+pub(crate) fn each_admits(rt: &(impl Abort + AllocGlobal), rows: &[&str]) -> Result<(), Fail> {
+    for row in rows {
+        row_admits(rt, row)?;
     }
     Ok(())
 }
 
-// Both calls give this answer.
-pub(crate) fn answers(rt: &impl Abort, text: &str, range: &Range, version: &Version, answer: bool) {
-    let both = range.satisfies(version) == answer && version.satisfies(range) == answer;
-    assert!(rt; both, "{text} and {version}");
-}
-
-// No text is a range.
-pub(crate) fn refuses(rt: &(impl Abort + AllocGlobal), texts: &[&str]) -> Result<(), Fail> {
-    for text in texts {
-        refuses_range(rt, text)?;
-    }
-    Ok(())
-}
-
-pub(crate) fn refuses_range(rt: &(impl Abort + AllocGlobal), text: &str) -> Result<(), Fail> {
-    let error = range_error(rt.alloc(), text)?;
-    tells(rt, &error, text, &SemverErrorKind::NoValidRanges, (0, 0, 0));
-    Ok(())
-}
-
-// The text is no version, and the error tells this kind and this place.
-pub(crate) fn refuses_version(
-    rt: &(impl Abort + AllocGlobal),
-    text: &str,
-    kind: &SemverErrorKind,
-    place: (usize, usize, usize),
-) -> Result<(), Fail> {
-    let error = version_error(rt.alloc(), text)?;
-    tells(rt, &error, text, kind, place);
-    Ok(())
-}
-
-pub(crate) fn version_error(alloc: Global, text: &str) -> Result<SemverError, Fail> {
-    match Version::parse(alloc, text) {
-        Ok(_) => Err(Fail::new(format_args!("{text} is a version"))),
-        Err(error) => Ok(error),
-    }
-}
-
-pub(crate) fn range_error(alloc: Global, text: &str) -> Result<SemverError, Fail> {
-    match Range::parse(alloc, text) {
-        Ok(_) => Err(Fail::new(format_args!("{text} is a range"))),
-        Err(error) => Ok(error),
-    }
-}
-
-// The error tells the whole text, this kind, and this place: byte offset, line and column.
-pub(crate) fn tells(
-    rt: &impl Abort,
-    error: &SemverError,
-    text: &str,
-    kind: &SemverErrorKind,
-    place: (usize, usize, usize),
-) {
-    let (line, column) = error.location();
+// Whether the error holds this text, and tells an empty span that begins at its byte offset.
+pub(crate) fn holds(error: &SemverError, text: &str) -> bool {
     let span = error.span();
-    let told = error.kind() == kind && error.input() == text;
-    let located = error.offset() == place.0 && line == place.1 && column == place.2;
-    let spanned = span.offset() == place.0 && span.len() == 0;
-    assert!(rt;
-        told && located && spanned,
-        "{text}: {error} at {line}, {column}"
-    );
+    error.input() == text && span.offset() == error.offset() && span.len() == 0
 }
 
-// The print is this text.
-pub(crate) fn is_text(rt: &impl Abort, print: &str, text: &str) {
-    assert!(rt; print == text, "{print} and not {text}");
-}
-
-// What std's `parse` says of digits that make no `u64`.
-pub(crate) fn int_fault(digits: &str) -> Result<ParseIntError, Fail> {
-    match digits.parse::<u64>() {
-        Ok(_) => Err(Fail::new("digits that make a u64")),
-        Err(error) => Ok(error),
+// Whether the text is no range, and the error tells so at the start of the text.
+fn is_refused(alloc: Global, text: &str) -> bool {
+    match Range::parse(alloc, text) {
+        Ok(_) => false,
+        Err(error) => {
+            holds(&error, text)
+                && error.kind() == &SemverErrorKind::NoValidRanges
+                && error.offset() == 0
+                && error.location() == (0, 0)
+        }
     }
 }
 
-// A text, and a piece some times after it.
-pub(crate) fn repeated(
-    alloc: Global,
+pub(crate) fn refuses(rt: &(impl Abort + AllocGlobal), text: &str) {
+    assert!(rt; is_refused(rt.alloc(), text), "{text}");
+}
+
+pub(crate) fn each_refused(rt: &(impl Abort + AllocGlobal), texts: &[&str]) -> Result<(), Fail> {
+    for text in texts {
+        refuses(rt, text);
+    }
+    Ok(())
+}
+
+fn range_print(alloc: Global, text: &str) -> Result<String, Fail> {
+    let range = Range::parse(alloc, text)?;
+    Ok(range.to_string(alloc)?)
+}
+
+pub(crate) fn prints_as(
+    rt: &(impl Abort + AllocGlobal),
     text: &str,
-    piece: &str,
-    times: usize,
-) -> Result<String, AllocError> {
-    let mut whole = String::from_str(alloc, text)?;
+    print: &str,
+) -> Result<(), Fail> {
+    let found = range_print(rt.alloc(), text)?;
+    is_text(rt, &found, print);
+    Ok(())
+}
+
+pub(crate) fn row_prints(rt: &(impl Abort + AllocGlobal), row: &str) -> Result<(), Fail> {
+    let (text, print) = parts(row)?;
+    prints_as(rt, text, print)
+}
+
+// Rows of a range text and its print.
+pub(crate) fn each_prints_as(rt: &(impl Abort + AllocGlobal), rows: &[&str]) -> Result<(), Fail> {
+    for row in rows {
+        row_prints(rt, row)?;
+    }
+    Ok(())
+}
+
+fn add(whole: &mut String, text: &str, times: usize, piece: &str) -> Result<(), AllocError> {
+    whole.push_str(text)?;
     for _ in 0..times {
         whole.push_str(piece)?;
     }
+    Ok(())
+}
+
+// `a{3*bc` adds `abcbcbc`.
+fn add_part(whole: &mut String, part: &str) -> Result<(), Fail> {
+    let (text, repeat) = part.split_once('{').unwrap_or((part, "0*"));
+    let (times, piece) = repeat.split_once('*').ok_or("a repeat has no `*`")?;
+    Ok(add(whole, text, times.parse::<usize>()?, piece)?)
+}
+
+// A long text: `a{3*bc}d` stands for `abcbcbcd`.
+pub(crate) fn long(alloc: Global, text: &str) -> Result<String, Fail> {
+    let mut whole = String::new(alloc);
+    for part in text.split('}') {
+        add_part(&mut whole, part)?;
+    }
     Ok(whole)
+}
+
+// A text with numbers at the limit: `#` stands for the limit, `@` for one less and `$` for one more.
+pub(crate) fn limits(alloc: Global, text: &str) -> Result<String, AllocError> {
+    let mut whole = String::new(alloc);
+    for character in text.chars() {
+        match character {
+            '@' => write!(whole, "{}", MAX_SAFE_INTEGER - 1)?,
+            '#' => write!(whole, "{}", MAX_SAFE_INTEGER)?,
+            '$' => write!(whole, "{}", MAX_SAFE_INTEGER + 1)?,
+            _ => whole.push(character)?,
+        }
+    }
+    Ok(whole)
+}
+
+// What std's `parse` says of digits that make no `u64`.
+pub(crate) fn int_fault(digits: &str) -> Result<ParseIntError, &'static str> {
+    digits.parse::<u64>().err().ok_or("digits that make a u64")
 }

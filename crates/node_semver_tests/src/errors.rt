@@ -1,239 +1,234 @@
-use crate::checks::{int_fault, is_text, range_error, repeated, tells, version_error};
-use node_semver::{SemverError, SemverErrorKind};
-use std::alloc::{AllocGlobal, Global};
+use crate::checks::{int_fault, is_text, limits, long, parts};
+use node_semver::{Range, SemverError, SemverErrorKind, Version};
+use std::alloc::{AllocError, AllocGlobal, Global};
 use std::process::Abort;
 use std::test::Fail;
 
-fn kind_prints(
-    rt: &(impl Abort + AllocGlobal),
-    kind: &SemverErrorKind,
-    text: &str,
-) -> Result<(), Fail> {
-    is_text(rt, &kind.to_string(rt.alloc())?, text);
-    Ok(())
+// A kind by its name and what it holds.
+fn kind(name: &'static str) -> Result<SemverErrorKind, Fail> {
+    match name.split_once(' ') {
+        Some(("ParseIntError", digits)) => Ok(SemverErrorKind::ParseIntError(int_fault(digits)?)),
+        Some(("MaxIntError", number)) => Ok(SemverErrorKind::MaxIntError(number.parse::<u64>()?)),
+        Some(("Context", word)) => Ok(SemverErrorKind::Context(word)),
+        _ => plain_kind(name),
+    }
+}
+
+fn plain_kind(name: &str) -> Result<SemverErrorKind, Fail> {
+    match name {
+        "MaxLengthError" => Ok(SemverErrorKind::MaxLengthError),
+        "IncompleteInput" => Ok(SemverErrorKind::IncompleteInput),
+        "NoValidRanges" => Ok(SemverErrorKind::NoValidRanges),
+        "Other" => Ok(SemverErrorKind::Other),
+        "OutOfMemory" => Ok(SemverErrorKind::OutOfMemory),
+        _ => Err(Fail::new("no such kind")),
+    }
 }
 
 // The texts of the Rust crate's kinds; the last one is our own.
+const KINDS: [&str; 9] = [
+    "MaxLengthError; Semver string can't be longer than 256 characters.",
+    "IncompleteInput; Incomplete input to semver parser.",
+    "ParseIntError 18446744073709551616; \
+        Failed to parse an integer component of a semver string: number too large to fit in target type",
+    "ParseIntError 1x; \
+        Failed to parse an integer component of a semver string: invalid digit found in string",
+    "MaxIntError 900719925474100; \
+        Integer component of semver string is larger than JavaScript's Number.MAX_SAFE_INTEGER: 900719925474100",
+    "Context version; Failed to parse version.",
+    "NoValidRanges; No valid ranges could be parsed",
+    "Other; An unspecified error occurred.",
+    "OutOfMemory; Out of memory.",
+];
+
+fn kind_print(alloc: Global, name: &'static str) -> Result<String, Fail> {
+    let kind = kind(name)?;
+    Ok(kind.to_string(alloc)?)
+}
+
+fn kind_prints(rt: &(impl Abort + AllocGlobal), row: &'static str) -> Result<(), Fail> {
+    let (name, text) = parts(row)?;
+    let print = kind_print(rt.alloc(), name)?;
+    is_text(rt, &print, text);
+    Ok(())
+}
+
 #[test]
 fn each_kind_has_its_text(rt: HostRuntime) -> Result<(), Fail> {
-    let (large, letter) = (int_fault("18446744073709551616")?, int_fault("1x")?);
-    for (kind, text) in &[
-        (
-            SemverErrorKind::MaxLengthError,
-            "Semver string can't be longer than 256 characters.",
-        ),
-        (
-            SemverErrorKind::IncompleteInput,
-            "Incomplete input to semver parser.",
-        ),
-        (
-            SemverErrorKind::ParseIntError(large),
-            "Failed to parse an integer component of a semver string: number too large to fit in target type",
-        ),
-        (
-            SemverErrorKind::ParseIntError(letter),
-            "Failed to parse an integer component of a semver string: invalid digit found in string",
-        ),
-        (
-            SemverErrorKind::MaxIntError(900719925474100),
-            "Integer component of semver string is larger than JavaScript's Number.MAX_SAFE_INTEGER: 900719925474100",
-        ),
-        (
-            SemverErrorKind::Context("version"),
-            "Failed to parse version.",
-        ),
-        (
-            SemverErrorKind::NoValidRanges,
-            "No valid ranges could be parsed",
-        ),
-        (SemverErrorKind::Other, "An unspecified error occurred."),
-        (SemverErrorKind::OutOfMemory, "Out of memory."),
-    ] {
-        kind_prints(&rt, kind, text)?;
+    for row in &KINDS {
+        kind_prints(&rt, row)?;
     }
     Ok(())
 }
 
-// A text that is refused, by the call that refuses it.
-#[derive(Copy, Clone)]
-enum Refused<'a> {
-    Version(&'a str),
-    Range(&'a str),
+// Kinds of which no two are equal.
+const DIFFERENT: [&str; 9] = [
+    "ParseIntError 18446744073709551616",
+    "ParseIntError ",
+    "MaxIntError 7",
+    "MaxIntError 8",
+    "Context version",
+    "Context range",
+    "Other",
+    "NoValidRanges",
+    "OutOfMemory",
+];
+
+// Whether two kinds are equal, and nothing where a kind is not equal to its copy or both ways do not agree.
+fn kinds_equal(name: &'static str, other: &'static str) -> Result<Option<bool>, Fail> {
+    let kind = self::kind(name)?;
+    let other = self::kind(other)?;
+    let copy = kind.clone()?;
+    let equal = kind == other;
+    Ok(if copy == kind && (other == kind) == equal {
+        Some(equal)
+    } else {
+        None
+    })
 }
 
-fn error_of(alloc: Global, text: Refused<'_>) -> Result<SemverError, Fail> {
-    match text {
-        Refused::Version(text) => version_error(alloc, text),
-        Refused::Range(text) => range_error(alloc, text),
-    }
-}
-
-fn error_prints(
-    rt: &(impl Abort + AllocGlobal),
-    text: Refused<'_>,
-    print: &str,
+fn are_equal_kinds(
+    rt: &impl Abort,
+    name: &'static str,
+    other: &'static str,
+    wanted: bool,
 ) -> Result<(), Fail> {
-    let error = error_of(rt.alloc(), text)?;
-    is_text(rt, &error.to_string(rt.alloc())?, print);
+    let equal = kinds_equal(name, other)?;
+    assert!(rt; equal == Some(wanted), "{name} and {other}");
     Ok(())
+}
+
+// What is told of too many digits does not name them.
+#[test]
+fn equal_kinds_hold_equal_values(rt: HostRuntime) -> Result<(), Fail> {
+    for (i, name) in DIFFERENT.iter().enumerate() {
+        for (j, other) in DIFFERENT.iter().enumerate() {
+            are_equal_kinds(&rt, name, other, i == j)?;
+        }
+        are_equal_kinds(&rt, name, "ParseIntError 99999999999999999999", i == 0)?;
+    }
+    Ok(())
+}
+
+// The error of a text that is refused, by the call that refuses it.
+fn error_of(alloc: Global, call: &str, text: &str) -> Option<SemverError> {
+    if call == "version" {
+        Version::parse(alloc, text).err()
+    } else {
+        Range::parse(alloc, text).err()
+    }
+}
+
+fn error_print(alloc: Global, call: &str, text: &str) -> Result<String, Fail> {
+    let error = error_of(alloc, call, text).ok_or("it was read")?;
+    Ok(error.to_string(alloc)?)
+}
+
+// A call, a text that it refuses, and what the error prints. `$` is one more than the greatest number of a text.
+const REFUSALS: [&str; 6] = [
+    "version; {257*1}; Semver string can't be longer than 256 characters.",
+    "version; 18446744073709551616.0.0; \
+        Failed to parse an integer component of a semver string: number too large to fit in target type",
+    "version; 1.2.$; \
+        Integer component of semver string is larger than JavaScript's Number.MAX_SAFE_INTEGER: $",
+    "version; 1.2; Failed to parse version.",
+    "version; 1.2.3 ; An unspecified error occurred.",
+    "range; foo; No valid ranges could be parsed",
+];
+
+fn refusal_prints(rt: &(impl Abort + AllocGlobal), row: &str) -> Result<(), Fail> {
+    let (call, rest) = parts(row)?;
+    let (text, wanted) = parts(rest)?;
+    let print = error_print(rt.alloc(), call, text)?;
+    is_text(rt, &print, wanted);
+    Ok(())
+}
+
+fn row_prints(rt: &(impl Abort + AllocGlobal), row: &str) -> Result<(), Fail> {
+    let row = limits(rt.alloc(), row)?;
+    let row = long(rt.alloc(), &row)?;
+    refusal_prints(rt, &row)
 }
 
 #[test]
 fn each_refusal_has_the_text_of_its_kind(rt: HostRuntime) -> Result<(), Fail> {
-    let long = repeated(rt.alloc(), "", "1", 257)?;
-    for (text, print) in &[
-        (
-            Refused::Version(&long),
-            "Semver string can't be longer than 256 characters.",
-        ),
-        (
-            Refused::Version("18446744073709551616.0.0"),
-            "Failed to parse an integer component of a semver string: number too large to fit in target type",
-        ),
-        (
-            Refused::Version("1.2.900719925474100"),
-            "Integer component of semver string is larger than JavaScript's Number.MAX_SAFE_INTEGER: 900719925474100",
-        ),
-        (Refused::Version("1.2"), "Failed to parse version."),
-        (Refused::Version("1.2.3 "), "An unspecified error occurred."),
-        (Refused::Range("foo"), "No valid ranges could be parsed"),
-    ] {
-        error_prints(&rt, *text, print)?;
-    }
-    Ok(())
-}
-
-// A text, a piece some times after it, and the place of the fault: byte offset, line and column.
-const PLACES: [(&str, &str, usize, (usize, usize, usize)); 11] = [
-    ("a\n", "b", 298, (299, 1, 297)),
-    ("a", "\u{161}", 128, (256, 0, 256)),
-    ("\u{161}\u{161}\nx\u{161}\n", "\u{161}y", 100, (308, 2, 299)),
-    ("", "\n", 300, (299, 299, 0)),
-    ("", "0123456\n", 33, (263, 32, 7)),
-    ("1.2.3\n4", "", 0, (5, 0, 5)),
-    ("v", "", 0, (1, 0, 1)),
-    ("1.", "", 0, (2, 0, 2)),
-    ("900719925474100.a", "", 0, (0, 0, 0)),
-    ("1.2.3 ", "", 0, (5, 0, 5)),
-    ("\n1.2.3", "", 0, (0, 0, 0)),
-];
-
-fn is_located(
-    rt: &(impl Abort + AllocGlobal),
-    text: &str,
-    place: (usize, usize, usize),
-) -> Result<(), Fail> {
-    let error = version_error(rt.alloc(), text)?;
-    tells(rt, &error, text, error.kind(), place);
-    Ok(())
-}
-
-fn repeated_is_located(
-    rt: &(impl Abort + AllocGlobal),
-    text: &str,
-    (piece, times): (&str, usize),
-    place: (usize, usize, usize),
-) -> Result<(), Fail> {
-    is_located(rt, &repeated(rt.alloc(), text, piece, times)?, place)
-}
-
-// The newlines before the offset, and the bytes between the last of them and the offset.
-#[test]
-fn locates_a_fault_by_newlines_and_bytes(rt: HostRuntime) -> Result<(), Fail> {
-    for (text, piece, times, place) in &PLACES {
-        repeated_is_located(&rt, text, (piece, *times), *place)?;
-    }
-    Ok(())
-}
-
-fn kinds_equal(rt: &impl Abort, kind: &SemverErrorKind, other: &SemverErrorKind, equal: bool) {
-    assert!(rt; (kind == other) == equal, "{kind} and {other}");
-}
-
-fn kind_copies(rt: &impl Abort, kind: &SemverErrorKind) -> Result<(), Fail> {
-    kinds_equal(rt, &kind.clone()?, kind, true);
-    Ok(())
-}
-
-// Each pair is asked both ways.
-#[test]
-fn equal_kinds_hold_equal_values(rt: HostRuntime) -> Result<(), Fail> {
-    let (large, empty) = (int_fault("18446744073709551616")?, int_fault("")?);
-    let again = SemverErrorKind::ParseIntError(int_fault("99999999999999999999")?);
-    let kinds = [
-        SemverErrorKind::ParseIntError(large),
-        SemverErrorKind::ParseIntError(empty),
-        SemverErrorKind::MaxIntError(7),
-        SemverErrorKind::MaxIntError(8),
-        SemverErrorKind::Context("version"),
-        SemverErrorKind::Context("range"),
-        SemverErrorKind::Other,
-        SemverErrorKind::NoValidRanges,
-        SemverErrorKind::OutOfMemory,
-    ];
-    for (i, kind) in kinds.iter().enumerate() {
-        for (j, other) in kinds.iter().enumerate() {
-            kinds_equal(&rt, kind, other, i == j);
-        }
-        kind_copies(&rt, kind)?;
-        kinds_equal(&rt, kind, &again, i == 0);
-        kinds_equal(&rt, &again, kind, i == 0);
+    for row in &REFUSALS {
+        row_prints(&rt, row)?;
     }
     Ok(())
 }
 
 // Each error differs from the others in its text, its place or its kind.
-const REFUSED: [Refused<'static>; 10] = [
-    Refused::Version("18446744073709551616.0.0"),
-    Refused::Version("18446744073709551616.0.1"),
-    Refused::Version("1.2"),
-    Refused::Version("3.4"),
-    Refused::Version("1."),
-    Refused::Version("foo"),
-    Refused::Range("foo"),
-    Refused::Range("bar"),
-    Refused::Version("1.2.900719925474100"),
-    Refused::Version("1.2.900719925474101"),
+const REFUSED: [&str; 10] = [
+    "version; 18446744073709551616.0.0",
+    "version; 18446744073709551616.0.1",
+    "version; 1.2",
+    "version; 3.4",
+    "version; 1.",
+    "version; foo",
+    "range; foo",
+    "range; bar",
+    "version; 1.2.900719925474100",
+    "version; 1.2.900719925474101",
 ];
 
-fn are_equal(rt: &impl Abort, error: &SemverError, other: &SemverError, equal: bool) {
-    let (text, place) = (error.input(), error.offset());
-    let (other_text, other_place) = (other.input(), other.offset());
+// Whether two errors are equal, and nothing where both ways do not agree, or the spans are not equal as the offsets
+// are.
+fn agreed(error: &SemverError, other: &SemverError) -> Option<bool> {
+    let equal = error == other;
     let spans_equal = error.span() == other.span();
-    let agree = (error == other) == equal && spans_equal == (place == other_place);
-    assert!(rt;
-        agree,
-        "{text} at {place} and {other_text} at {other_place}"
-    );
+    if (other == error) == equal && spans_equal == (error.offset() == other.offset()) {
+        Some(equal)
+    } else {
+        None
+    }
 }
 
-fn errors_equal(
-    rt: &(impl Abort + AllocGlobal),
-    text: Refused<'_>,
-    other: Refused<'_>,
-    equal: bool,
-) -> Result<(), Fail> {
-    let error = error_of(rt.alloc(), text)?;
-    let other = error_of(rt.alloc(), other)?;
-    are_equal(rt, &error, &other, equal);
-    Ok(())
+fn row_error(alloc: Global, row: &str) -> Option<SemverError> {
+    let (call, text) = row.split_once("; ")?;
+    error_of(alloc, call, text)
 }
 
-fn error_copies(rt: &(impl Abort + AllocGlobal), text: Refused<'_>) -> Result<(), Fail> {
-    let error = error_of(rt.alloc(), text)?;
+fn errors_equal(alloc: Global, row: &str, other: &str) -> Option<bool> {
+    let error = row_error(alloc, row)?;
+    let other = row_error(alloc, other)?;
+    agreed(&error, &other)
+}
+
+fn copy_equals(error: &SemverError) -> Result<Option<bool>, AllocError> {
     let copy = error.clone()?;
-    are_equal(rt, &copy, &error, true);
-    are_equal(rt, &error, &copy, true);
+    Ok(agreed(error, &copy))
+}
+
+fn row_copies(rt: &(impl Abort + AllocGlobal), row: &str) -> Result<(), Fail> {
+    let error = row_error(rt.alloc(), row).ok_or("it was read")?;
+    assert!(rt; copy_equals(&error)? == Some(true), "{row}");
     Ok(())
+}
+
+fn are_equal_errors(rt: &(impl Abort + AllocGlobal), row: &str, other: &str, wanted: bool) {
+    let equal = errors_equal(rt.alloc(), row, other);
+    assert!(rt; equal == Some(wanted), "{row} and {other}");
 }
 
 #[test]
 fn equal_errors_have_one_text_one_place_and_one_kind(rt: HostRuntime) -> Result<(), Fail> {
-    for (i, text) in REFUSED.iter().enumerate() {
+    for (i, row) in REFUSED.iter().enumerate() {
         for (j, other) in REFUSED.iter().enumerate() {
-            errors_equal(&rt, *text, *other, i == j)?;
+            are_equal_errors(&rt, row, other, i == j);
         }
-        error_copies(&rt, *text)?;
+        row_copies(&rt, row)?;
     }
     Ok(())
+}
+
+// A copy of an error holds the whole text, however long it is.
+fn long_copies(rt: &(impl Abort + AllocGlobal), row: &str) -> Result<(), Fail> {
+    let row = long(rt.alloc(), row)?;
+    row_copies(rt, &row)
+}
+
+#[test]
+fn copies_an_error_with_a_long_text(rt: HostRuntime) -> Result<(), Fail> {
+    long_copies(&rt, "version; 1.2.3-{1000*\u{161}abc}")
 }

@@ -1,10 +1,10 @@
-//! Tests of `node_semver` through its public calls alone.
+//! Tests of texts, versions, words, prints and errors of `node_semver`, through its public calls alone.
 #![tactic(auto)]
 
 #[cfg(test)]
-mod algebra;
-#[cfg(test)]
 mod alternatives;
+#[cfg(test)]
+mod bytes;
 #[cfg(test)]
 mod carets;
 #[cfg(test)]
@@ -18,10 +18,6 @@ mod faults;
 #[cfg(test)]
 mod hyphens;
 #[cfg(test)]
-mod json;
-#[cfg(test)]
-mod least;
-#[cfg(test)]
 mod limits;
 #[cfg(test)]
 mod long_texts;
@@ -34,17 +30,15 @@ mod prerelease_tags;
 #[cfg(test)]
 mod prints;
 #[cfg(test)]
-mod range_equality;
-#[cfg(test)]
 mod range_prints;
 #[cfg(test)]
 mod readme;
 #[cfg(test)]
 mod refusals;
 #[cfg(test)]
-mod tildes;
+mod search;
 #[cfg(test)]
-mod trees;
+mod tildes;
 #[cfg(test)]
 mod versions;
 #[cfg(test)]

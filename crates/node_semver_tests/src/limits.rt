@@ -1,8 +1,11 @@
-use crate::checks::{admits_and_turns_away, answers, refuses};
+use crate::checks::{answer, is_text, limits, parts, refuses, row_admits, row_prints};
+use crate::faults::row_is_fault;
 use node_semver::{MAX_LENGTH, MAX_SAFE_INTEGER, Range, Version};
-use std::alloc::AllocGlobal;
+use std::alloc::{AllocGlobal, Global};
 use std::process::Abort;
 use std::test::Fail;
+
+// In these rows `#` stands for the greatest number of a text, `@` for one less and `$` for one more.
 
 // The Rust crate `node-semver` 2.2.0.
 #[test]
@@ -12,133 +15,160 @@ fn the_limits(rt: HostRuntime) {
 }
 
 // The greatest number at each place of each kind of word.
-const GREATEST: [(&str, &str, &str); 11] = [
-    (
-        "900719925474099.0.0",
-        "900719925474099.0.0",
-        "900719925474098.0.0",
-    ),
-    (
-        "0.900719925474099.0",
-        "0.900719925474099.0",
-        "0.900719925474098.0",
-    ),
-    (
-        "0.0.900719925474099",
-        "0.0.900719925474099",
-        "0.0.900719925474098",
-    ),
-    (
-        ">=900719925474099",
-        "900719925474099.0.0",
-        "900719925474098.9.9",
-    ),
-    ("<=0.0.900719925474099", "0.0.900719925474099", "0.1.0"),
-    (
-        "^900719925474099",
-        "900719925474099.9.9",
-        "900719925474098.0.0",
-    ),
-    (
-        "^0.900719925474099",
-        "0.900719925474099.9",
-        "0.900719925474098.0 1.0.0",
-    ),
-    (
-        "^0.0.900719925474099",
-        "0.0.900719925474099",
-        "0.0.900719925474098 0.1.0",
-    ),
-    (
-        "~0.900719925474099",
-        "0.900719925474099.9",
-        "0.900719925474098.0 1.0.0",
-    ),
-    ("1 - 2.900719925474099", "2.900719925474099.9", "3.0.0"),
-    (
-        "1.2.3-900719925474100",
-        "1.2.3-900719925474100",
-        "1.2.3-900719925474099",
-    ),
+const GREATEST: [&str; 11] = [
+    "#.0.0; #.0.0; @.0.0",
+    "0.#.0; 0.#.0; 0.@.0",
+    "0.0.#; 0.0.#; 0.0.@",
+    ">=#; #.0.0; @.9.9",
+    "<=0.0.#; 0.0.#; 0.1.0",
+    "^#; #.9.9; @.0.0",
+    "^0.#; 0.#.9; 0.@.0 1.0.0",
+    "^0.0.#; 0.0.#; 0.0.@ 0.1.0",
+    "~0.#; 0.#.9; 0.@.0 1.0.0",
+    "1 - 2.#; 2.#.9; 3.0.0",
+    "1.2.3-$; 1.2.3-$; 1.2.3-#",
 ];
+
+// One more at each place, and beyond 64 bits: no word, and nothing else is left.
+const TOO_LARGE: [&str; 12] = [
+    "$",
+    "$.0.0",
+    "0.$.0",
+    "0.0.$",
+    ">=$.0.0",
+    ">=0.$",
+    "<=0.0.$",
+    "^$",
+    "~0.$",
+    "1.2.9007199254740999",
+    "18446744073709551616.0.0",
+    "0.0.18446744073709551617",
+];
+
+// A word with a larger number is thrown away.
+const THROWN_AWAY: [&str; 4] = [
+    "1 - $; 1.0.0 1.9.9; 0.9.9 2.0.0",
+    "$ - 1; 1.0.0 1.9.9; 0.9.9 2.0.0",
+    "$ 1.2.3; 1.2.3; 1.2.4",
+    ">=#.0.0 <$.0.0-0; #.0.0; @.0.0",
+];
+
+// Ends of one more, and versions beyond every text.
+const BEYOND: [&str; 10] = [
+    ">#; $ 0 0; yes",
+    ">#; # 9 9; no",
+    ">0.#; 0 $ 0; yes",
+    ">0.#; 0 # 9; no",
+    "^#; $ 0 0; no",
+    "^#; # 18446744073709551615 0; yes",
+    "~0.#; 0 $ 0; no",
+    "^0.0.#; 0 0 $; no",
+    ">=1.0.0; 18446744073709551615 18446744073709551615 18446744073709551615; yes",
+    "<1; 18446744073709551615 18446744073709551615 18446744073709551615; no",
+];
+
+// Prints of ends of one more.
+const PRINTS: [&str; 5] = [
+    "^#; >=#.0.0 <$.0.0-0",
+    ">=#.0.0 <$.0.0-0; >=#.0.0",
+    ">#; >=$.0.0",
+    "~#.#; >=#.#.0 <#.$.0-0",
+    "^0.0.#; >=0.0.# <0.0.$-0",
+];
+
+// A number of a version text that is too large is told by where it begins, before what follows it.
+const FAULTS: [&str; 2] = [
+    "1.2.$; MaxIntError($) at 4 (0, 4)",
+    "$.a; MaxIntError($) at 0 (0, 0)",
+];
+
+fn limit_admits(rt: &(impl Abort + AllocGlobal), row: &str) -> Result<(), Fail> {
+    let row = limits(rt.alloc(), row)?;
+    row_admits(rt, &row)
+}
 
 #[test]
 fn greatest_numbers(rt: HostRuntime) -> Result<(), Fail> {
-    admits_and_turns_away(&rt, &GREATEST)
+    for row in &GREATEST {
+        limit_admits(&rt, row)?;
+    }
+    for row in &THROWN_AWAY {
+        limit_admits(&rt, row)?;
+    }
+    Ok(())
 }
 
-// One more at each place, and beyond 64 bits: no word, and nothing else is left.
+fn limit_is_refused(rt: &(impl Abort + AllocGlobal), row: &str) -> Result<(), Fail> {
+    let text = limits(rt.alloc(), row)?;
+    refuses(rt, &text);
+    Ok(())
+}
+
+fn limit_is_fault(rt: &(impl Abort + AllocGlobal), row: &str) -> Result<(), Fail> {
+    let row = limits(rt.alloc(), row)?;
+    row_is_fault(rt, &row)
+}
+
 #[test]
 fn numbers_that_are_too_large(rt: HostRuntime) -> Result<(), Fail> {
-    refuses(
-        &rt,
-        &[
-            "900719925474100",
-            "900719925474100.0.0",
-            "0.900719925474100.0",
-            "0.0.900719925474100",
-            ">=900719925474100.0.0",
-            ">=0.900719925474100",
-            "<=0.0.900719925474100",
-            "^900719925474100",
-            "~0.900719925474100",
-            "1.2.9007199254740999",
-            "18446744073709551616.0.0",
-            "0.0.18446744073709551617",
-        ],
-    )?;
-    admits_and_turns_away(
-        &rt,
-        &[
-            ("1 - 900719925474100", "1.0.0 1.9.9", "0.9.9 2.0.0"),
-            ("900719925474100 - 1", "1.0.0 1.9.9", "0.9.9 2.0.0"),
-            ("900719925474100 1.2.3", "1.2.3", "1.2.4"),
-            (
-                ">=900719925474099.0.0 <900719925474100.0.0-0",
-                "900719925474099.0.0",
-                "900719925474098.0.0",
-            ),
-        ],
-    )
+    for row in &TOO_LARGE {
+        limit_is_refused(&rt, row)?;
+    }
+    for row in &FAULTS {
+        limit_is_fault(&rt, row)?;
+    }
+    Ok(())
 }
 
-// An upper or lower end of one more, and versions beyond every text.
-const BEYOND: [(&str, (u64, u64, u64), bool); 10] = [
-    (">900719925474099", (900719925474100, 0, 0), true),
-    (">900719925474099", (900719925474099, 9, 9), false),
-    (">0.900719925474099", (0, 900719925474100, 0), true),
-    (">0.900719925474099", (0, 900719925474099, 9), false),
-    ("^900719925474099", (900719925474100, 0, 0), false),
-    ("^900719925474099", (900719925474099, u64::MAX, 0), true),
-    ("~0.900719925474099", (0, 900719925474100, 0), false),
-    ("^0.0.900719925474099", (0, 0, 900719925474100), false),
-    (">=1.0.0", (u64::MAX, u64::MAX, u64::MAX), true),
-    ("<1", (u64::MAX, u64::MAX, u64::MAX), false),
-];
+// The version of three numbers, which may be greater than those of any text.
+fn beyond(alloc: Global, numbers: &str) -> Result<Version, Fail> {
+    let (major, rest) = numbers.split_once(' ').ok_or("no minor")?;
+    let (minor, patch) = rest.split_once(' ').ok_or("no patch")?;
+    let (major, minor) = (major.parse::<u64>()?, minor.parse::<u64>()?);
+    Ok(Version::new(alloc, major, minor, patch.parse::<u64>()?))
+}
 
-fn end_answers(
-    rt: &(impl Abort + AllocGlobal),
-    text: &str,
-    triple: (u64, u64, u64),
-    answer: bool,
-) -> Result<(), Fail> {
-    let range = Range::parse(rt.alloc(), text)?;
-    let version = Version::new(rt.alloc(), triple.0, triple.1, triple.2);
-    answers(rt, text, &range, &version, answer);
+fn beyond_answer(alloc: Global, text: &str, numbers: &str) -> Result<Option<bool>, Fail> {
+    let version = beyond(alloc, numbers)?;
+    let range = Range::parse(alloc, text)?;
+    Ok(answer(&range, &version))
+}
+
+fn beyond_answers(rt: &(impl Abort + AllocGlobal), row: &str) -> Result<(), Fail> {
+    let row = limits(rt.alloc(), row)?;
+    let (text, rest) = parts(&row)?;
+    let (numbers, wanted) = parts(rest)?;
+    let answer = beyond_answer(rt.alloc(), text, numbers)?;
+    assert!(rt; answer == Some(wanted == "yes"), "{text} and {numbers}");
+    Ok(())
+}
+
+fn limit_prints(rt: &(impl Abort + AllocGlobal), row: &str) -> Result<(), Fail> {
+    let row = limits(rt.alloc(), row)?;
+    row_prints(rt, &row)
+}
+
+fn least_print(alloc: Global, text: &str) -> Result<String, Fail> {
+    let range = Range::parse(alloc, text)?;
+    let least = range.min_version(alloc)?.ok_or("no version")?;
+    Ok(least.to_string(alloc)?)
+}
+
+fn limit_is_least(rt: &(impl Abort + AllocGlobal), text: &str, least: &str) -> Result<(), Fail> {
+    let text = limits(rt.alloc(), text)?;
+    let found = least_print(rt.alloc(), &text)?;
+    let wanted = limits(rt.alloc(), least)?;
+    is_text(rt, &found, &wanted);
     Ok(())
 }
 
 #[test]
 fn ends_beyond_the_greatest_number(rt: HostRuntime) -> Result<(), Fail> {
-    for (text, triple, answer) in &BEYOND {
-        let version = Version::new(rt.alloc(), triple.0, triple.1, triple.2);
-        answers(
-            &rt,
-            text,
-            &Range::parse(rt.alloc(), text)?,
-            &version,
-            *answer,
-        );
+    for row in &BEYOND {
+        beyond_answers(&rt, row)?;
     }
-    Ok(())
+    for row in &PRINTS {
+        limit_prints(&rt, row)?;
+    }
+    limit_is_least(&rt, ">#", "$.0.0")
 }

@@ -1,36 +1,10 @@
-use node_semver::{Identifier, Version};
-use std::alloc::{AllocError, AllocGlobal, Global};
+use crate::checks::parts;
+use node_semver::Version;
+use std::alloc::{AllocGlobal, Global};
 use std::cmp::Ordering;
 use std::hash::{DefaultHasher, Hash, Hasher};
 use std::process::Abort;
 use std::test::Fail;
-
-// The identifiers between the dots of a text, and none of the empty text.
-fn identifiers(alloc: Global, text: &str) -> Result<Vec<Identifier>, AllocError> {
-    let mut parts = Vec::new(alloc);
-    if text.is_empty() {
-        return Ok(parts);
-    }
-    for part in text.split('.') {
-        parts.push(match part.parse::<u64>() {
-            Ok(n) => Identifier::Numeric(n),
-            Err(_) => Identifier::AlphaNumeric(String::from_str(alloc, part)?),
-        })?;
-    }
-    Ok(parts)
-}
-
-pub(crate) fn version(
-    alloc: Global,
-    triple: (u64, u64, u64),
-    pre_release: &str,
-    build: &str,
-) -> Result<Version, AllocError> {
-    let mut version = Version::new(alloc, triple.0, triple.1, triple.2);
-    version.pre_release = identifiers(alloc, pre_release)?;
-    version.build = identifiers(alloc, build)?;
-    Ok(version)
-}
 
 // What `cmp` answers, where `partial_cmp`, `==` and `<` agree with it.
 fn agreed(v: &Version, w: &Version) -> Option<Ordering> {
@@ -41,75 +15,60 @@ fn agreed(v: &Version, w: &Version) -> Option<Ordering> {
     if agree { Some(ordering) } else { None }
 }
 
-fn is_ordered(rt: &impl Abort, v: &Version, w: &Version, wanted: Ordering) {
-    assert!(rt; agreed(v, w) == Some(wanted), "{v} and {w}");
+fn compared(alloc: Global, text: &str, other: &str) -> Result<Option<Ordering>, Fail> {
+    let v = Version::parse(alloc, text)?;
+    let w = Version::parse(alloc, other)?;
+    Ok(agreed(&v, &w))
 }
-
-fn hash_of(version: &Version) -> u64 {
-    let mut state = DefaultHasher::new();
-    version.hash(&mut state);
-    state.finish()
-}
-
-// SemVer 2.0.0, section 11.4: the prereleases of `1.0.0`, and `1.0.0` itself.
-const CHAIN: [&str; 8] = [
-    "alpha",
-    "alpha.1",
-    "alpha.beta",
-    "beta",
-    "beta.2",
-    "beta.11",
-    "rc.1",
-    "",
-];
 
 fn are_ordered(
     rt: &(impl Abort + AllocGlobal),
-    pre_release: &str,
+    text: &str,
     other: &str,
     wanted: Ordering,
 ) -> Result<(), Fail> {
-    let v = version(rt.alloc(), (1, 0, 0), pre_release, "")?;
-    let w = version(rt.alloc(), (1, 0, 0), other, "")?;
-    is_ordered(rt, &v, &w, wanted);
+    let ordering = compared(rt.alloc(), text, other)?;
+    assert!(rt; ordering == Some(wanted), "{text} and {other}");
     Ok(())
 }
 
+// SemVer 2.0.0, section 11.4.
+const CHAIN: [&str; 8] = [
+    "1.0.0-alpha",
+    "1.0.0-alpha.1",
+    "1.0.0-alpha.beta",
+    "1.0.0-beta",
+    "1.0.0-beta.2",
+    "1.0.0-beta.11",
+    "1.0.0-rc.1",
+    "1.0.0",
+];
+
 #[test]
 fn orders_the_standards_chain(rt: HostRuntime) -> Result<(), Fail> {
-    for (i, pre_release) in CHAIN.iter().enumerate() {
+    for (i, text) in CHAIN.iter().enumerate() {
         for (j, other) in CHAIN.iter().enumerate() {
-            are_ordered(&rt, pre_release, other, i.cmp(&j))?;
+            are_ordered(&rt, text, other, i.cmp(&j))?;
         }
     }
     Ok(())
 }
 
-type Below = ((u64, u64, u64), &'static str, (u64, u64, u64), &'static str);
-
 // Numbers come first, by size, and a number is below each text.
-const BELOW: [Below; 7] = [
-    ((1, 2, 34), "abc.123", (2, 2, 34), "abc.123"),
-    ((1, 2, 34), "abc.123", (1, 3, 34), "abc.123"),
-    ((1, 2, 34), "abc.123", (1, 2, 56), "abc.123"),
-    ((1, 0, 0), "", (2, 0, 0), "alpha"),
-    ((1, 9, 9), "", (2, 0, 0), ""),
-    (
-        (1, 0, 0),
-        "18446744073709551615",
-        (1, 0, 0),
-        "99999999999999999999",
-    ),
-    ((1, 0, 0), "Beta", (1, 0, 0), "alpha"),
+const BELOW: [&str; 7] = [
+    "1.2.34-abc.123; 2.2.34-abc.123",
+    "1.2.34-abc.123; 1.3.34-abc.123",
+    "1.2.34-abc.123; 1.2.56-abc.123",
+    "1.0.0; 2.0.0-alpha",
+    "1.9.9; 2.0.0",
+    "1.0.0-18446744073709551615; 1.0.0-99999999999999999999",
+    "1.0.0-Beta; 1.0.0-alpha",
 ];
 
-fn is_below(rt: &(impl Abort + AllocGlobal), row: &Below) -> Result<(), Fail> {
-    let (below, low, above, high) = row;
-    let v = version(rt.alloc(), *below, low, "")?;
-    let w = version(rt.alloc(), *above, high, "")?;
-    is_ordered(rt, &v, &w, Ordering::Less);
-    is_ordered(rt, &w, &v, Ordering::Greater);
-    Ok(())
+fn is_below(rt: &(impl Abort + AllocGlobal), row: &str) -> Result<(), Fail> {
+    let (below, above) = parts(row)?;
+    are_ordered(rt, below, above, Ordering::Less)?;
+    are_ordered(rt, above, below, Ordering::Greater)
 }
 
 #[test]
@@ -120,25 +79,41 @@ fn orders_by_the_triple_and_then_by_identifiers(rt: HostRuntime) -> Result<(), F
     Ok(())
 }
 
-fn is_same(rt: &impl Abort, v: &Version, w: &Version, same: bool) {
-    let equal = agreed(v, w) == Some(Ordering::Equal);
-    assert!(rt; equal == same, "{v} and {w}");
-    assert!(rt; (hash_of(v) == hash_of(w)) == same, "hashes of {v} and {w}");
+fn hash_of(version: &Version) -> u64 {
+    let mut state = DefaultHasher::new();
+    version.hash(&mut state);
+    state.finish()
 }
 
-// SemVer 2.0.0, section 10.
+// Whether they are equal and hash alike, and nothing where only one of both is so.
+fn are_same(alloc: Global, text: &str, other: &str) -> Result<Option<bool>, Fail> {
+    let v = Version::parse(alloc, text)?;
+    let w = Version::parse(alloc, other)?;
+    let equal = agreed(&v, &w) == Some(Ordering::Equal);
+    let alike = hash_of(&v) == hash_of(&w);
+    Ok(if equal == alike { Some(equal) } else { None })
+}
+
+// SemVer 2.0.0, section 10: a version, and whether it is that of `1.0.0-rc.1+7`.
+const SAME: [&str; 5] = [
+    "1.0.0-rc.1+7; same",
+    "1.0.0-rc.1; same",
+    "1.0.0-rc.1+other.8; same",
+    "1.0.0-rc.2+7; another",
+    "1.0.0+7; another",
+];
+
+fn is_same(rt: &(impl Abort + AllocGlobal), row: &str) -> Result<(), Fail> {
+    let (text, wanted) = parts(row)?;
+    let same = are_same(rt.alloc(), "1.0.0-rc.1+7", text)?;
+    assert!(rt; same == Some(wanted == "same"), "{text}");
+    Ok(())
+}
+
 #[test]
 fn equality_order_and_hash_ignore_the_build(rt: HostRuntime) -> Result<(), Fail> {
-    let v = version(rt.alloc(), (1, 0, 0), "rc.1", "7")?;
-    for (pre_release, build, same) in &[
-        ("rc.1", "7", true),
-        ("rc.1", "", true),
-        ("rc.1", "other.8", true),
-        ("rc.2", "7", false),
-        ("", "7", false),
-    ] {
-        let w = version(rt.alloc(), (1, 0, 0), pre_release, build)?;
-        is_same(&rt, &v, &w, *same);
+    for row in &SAME {
+        is_same(&rt, row)?;
     }
     Ok(())
 }

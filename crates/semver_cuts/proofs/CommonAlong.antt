@@ -10,7 +10,7 @@ use Rattle.semver_cuts.specs.Ends.{Ends, IsCutAtMost, IsCutBelow}
 use Rattle.semver_cuts.specs.Common.{AreApart}
 use Rattle.semver_cuts.specs.CommonSpans.{common_of, common_with}
 use Rattle.semver_cuts.specs.Sharing.{HaveCommonCut}
-use Rattle.semver_cuts.specs.Private.Apart.{AreRising}
+use Rattle.semver_cuts.specs.Joined.{AreRising}
 use Rattle.semver_cuts.specs.Private.Rest.{ending_above}
 use Rattle.semver_cuts.specs.Lemmas.Apart.{apart-above, apart-behind, rising-behind}
 use Rattle.semver_cuts.specs.Lemmas.Ends.{at_most-below, at_most-from_le, at_most_trans, below-not-at_most, below_trans}

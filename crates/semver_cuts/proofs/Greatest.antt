@@ -5,7 +5,7 @@ use Rattle.std.specs.Cmp.{IsTotalOrder}
 use Rattle.semver_cuts.specs.declared.cut.Cut.{Cut}
 use Rattle.semver_cuts.specs.Common.{AreApart, IsInSome, IsWithin}
 use Rattle.semver_cuts.specs.Ends.{Ends, IsCutBelow, IsInSpan}
-use Rattle.semver_cuts.specs.Private.Apart.{AreRising}
+use Rattle.semver_cuts.specs.Joined.{AreRising}
 use Rattle.semver_cuts.specs.Lemmas.Apart.{apart-above, apart-tail}
 use Rattle.semver_cuts.specs.Lemmas.Ends.{at_most-below, at_most-or-below, at_most_refl, at_most_trans, below-at_most, below-not-at_most, below_irrefl, below_trans}
 use Rattle.semver_cuts.specs.Lemmas.Merging.{all_both, all_map}

@@ -12,85 +12,15 @@ use Rattle.semver_cuts.specs.Cut.{cut_cmp}
 use Rattle.semver_cuts.specs.Common.{AreApart, IsInSome}
 use Rattle.semver_cuts.specs.Ends.{Ends, IsCutBelow, IsInSpan}
 use Rattle.semver_cuts.specs.Rest.{IsFirstAt}
-use Rattle.semver_cuts.specs.Private.Apart.{AreRising}
-use Rattle.semver_cuts.specs.Private.Joined.{AreJoined}
+use Rattle.semver_cuts.specs.Joined.{AreJoined, AreRising}
 use Rattle.semver_cuts.specs.Private.Joining.{joined_in_order}
 use Rattle.semver_cuts.specs.Private.Placed.{PlacedSpan, placed_cmp, placed_from}
-use Rattle.semver_cuts.specs.Lemmas.Apart.{apart-before}
+use Rattle.semver_cuts.specs.Lemmas.Joined.{all_unit}
 use Rattle.semver_cuts.specs.Lemmas.Ends.{below-not-at_most, below_trans, cut_cmp-equal_back}
 use Rattle.semver_cuts.specs.Lemmas.Merging.{all_both, all_map, all_middle}
 use Rattle.semver_cuts.specs.Lemmas.Placed.{placed_total}
 use Rattle.semver_cuts.proofs.PlacedOrder.{AreInOrder, IsAmong, all-among}
 use Rattle.semver_cuts.proofs.Joining.{IsFirstPlaced, entries-from, new-run}
-
-all_unit : {X : Type 0} (xs : List X) → AllByRecursion (λ (x : X). Unit {0}) xs
-all_unit [] = tt
-all_unit (x ∷ xs) = (tt, all_unit xs)
-
--- ---- a list that is apart is joined as it stands
-
-module _ {T : Type 0} {cmp : T → T → Ordering} (o : IsTotalOrder cmp) where
-  first-apart : (end : Ends T → Cut T) (front back : List (Ends T)) (span : Ends T)
-      → AllByRecursion (λ (s : Ends T). IsCutBelow cmp (end s) (end span)) front
-      → IsFirstAt cmp end (front ++ span ∷ back) (end span)
-  first-apart end front back span below = record {
-    before = front;
-    span = span;
-    after = back;
-    parts = refl;
-    end_of = refl;
-    earlier = all_map (λ (s : Ends T). IsCutBelow cmp (end s) (end span))
-        (λ (s : Ends T). ¬ (cut_cmp cmp (end s) (end span) ≡ Equal))
-        (λ s h e. below-not-at_most o (end s) (end span) h (inr (cut_cmp-equal_back o (end s) (end span) e))) front below;
-    later = all_unit back;
-  }
-
-  rising-front : (front back : List (Ends T)) → AreRising cmp (front ++ back) → AreRising cmp front
-  rising-front [] back rising = tt
-  rising-front (span ∷ front) back rising = (rising.0, rising-front front back rising.1)
-
-  abbrev HaveFirstEnds : List (Ends T) → List (Ends T) → Type 0
-  HaveFirstEnds spans some =
-      AllByRecursion (λ (s : Ends T). IsFirstAt cmp (λ (s : Ends T). s.lower) spans s.lower) some
-      × AllByRecursion (λ (s : Ends T). IsFirstAt cmp (λ (s : Ends T). s.upper) spans s.upper) some
-
-  first-ends : (front back : List (Ends T)) → AreRising cmp (front ++ back) → AreApart cmp (front ++ back)
-      → HaveFirstEnds (front ++ back) back
-  first-ends front [] rising apart = (tt, tt)
-  first-ends front (span ∷ back) rising apart =
-      let at : (front ++ span ∷ []) ++ back ≡ front ++ span ∷ back = append_assoc front (span ∷ []) back in
-      let rest : HaveFirstEnds (front ++ span ∷ back) back =
-      subst (λ spans. HaveFirstEnds spans back) at
-      (first-ends (front ++ span ∷ []) back (subst (AreRising cmp) (sym at) rising) (subst (AreApart cmp) (sym at) apart)) in
-      let before : AllByRecursion (λ (s : Ends T). IsCutBelow cmp s.upper span.lower) front =
-      apart-before o front back span apart rising in
-      let rise : AreRising cmp front = rising-front front (span ∷ back) rising in
-      let risen : IsCutBelow cmp span.lower span.upper =
-      all_middle (λ (s : Ends T). IsCutBelow cmp s.lower s.upper) front back span rising in (
-        (
-          first-apart (λ s. s.lower) front back span
-              (all_both (λ (s : Ends T). IsCutBelow cmp s.lower s.upper) (λ (s : Ends T). IsCutBelow cmp s.upper span.lower)
-              (λ (s : Ends T). IsCutBelow cmp s.lower span.lower)
-              (λ s p q. below_trans o s.lower s.upper span.lower p q) front rise before),
-          rest.0,
-        ),
-        (
-          first-apart (λ s. s.upper) front back span
-              (all_map (λ (s : Ends T). IsCutBelow cmp s.upper span.lower) (λ (s : Ends T). IsCutBelow cmp s.upper span.upper)
-              (λ s p. below_trans o s.upper span.lower span.upper p risen) front before),
-          rest.1,
-        ),
-      )
-
-  -- apart as they stand
-  pub apart-joined : (spans : List (Ends T)) → AreRising cmp spans → AreApart cmp spans → AreJoined cmp spans spans
-  apart-joined spans rising apart = record {
-    rising = rising;
-    apart = apart;
-    cuts = λ cut. (λ h. h, λ h. h);
-    lowers = (first-ends [] spans rising apart).0;
-    uppers = (first-ends [] spans rising apart).1;
-  }
 
 -- ---- places in the list and places in the order
 
@@ -99,14 +29,14 @@ module _ {X : Type 0} where
       → AllByRecursion (λ (y : X). IsAmong (x ∷ xs) y) xs
   among-more x xs all = all_map (λ (y : X). IsAmong xs y) (λ (y : X). IsAmong (x ∷ xs) y) (λ y h. inr h) xs all
 
-  among-itself : (xs : List X) → AllByRecursion (λ (y : X). IsAmong xs y) xs
+  pub among-itself : (xs : List X) → AllByRecursion (λ (y : X). IsAmong xs y) xs
   among-itself [] = tt
   among-itself (x ∷ xs) = (inl refl, among-more x xs (among-itself xs))
 
-  all-moved : (P : X → Type 0) (xs ys : List X) → IsPermutation xs ys → AllByRecursion P xs → AllByRecursion P ys
+  pub all-moved : (P : X → Type 0) (xs ys : List X) → IsPermutation xs ys → AllByRecursion P xs → AllByRecursion P ys
   all-moved P xs ys moves all = recursion_from_All P ys (All-permutation P xs ys moves (All-from_recursion P xs all))
 
-  among-moved : (xs ys : List X) → IsPermutation xs ys → (x : X) → IsAmong ys x → IsAmong xs x
+  pub among-moved : (xs ys : List X) → IsPermutation xs ys → (x : X) → IsAmong ys x → IsAmong xs x
   among-moved xs ys moves x is =
       all-among (λ (y : X). IsAmong xs y) ys x (all-moved (λ (y : X). IsAmong xs y) xs ys moves (among-itself xs)) is
 
@@ -214,7 +144,12 @@ module _ {T : Type 0} {cmp : T → T → Ordering} (o : IsTotalOrder cmp) where
     pub order-joined : (order : List (PlacedSpan T)) → IsPermutation (placed_from 0 spans) order
         → IsSorted (placed_cmp cmp) order → AreJoined cmp spans (joined_in_order cmp order)
     unfolding before
-    order-joined [] moves sorted = record { rising = tt; apart = tt; cuts = some-of [] moves; lowers = tt; uppers = tt }
+    order-joined [] moves sorted = record {
+      merged = record { rising = tt; apart = tt };
+      cuts = some-of [] moves;
+      lowers = tt;
+      uppers = tt;
+    }
     order-joined (first ∷ later) moves sorted =
         let order = in-order (first ∷ later) sorted in
         let all = all-moved In (placed_from 0 spans) (first ∷ later) moves (among-itself (placed_from 0 spans)) in
@@ -224,8 +159,7 @@ module _ {T : Type 0} {cmp : T → T → Ordering} (o : IsTotalOrder cmp) where
         let come = entries-from o In rises later all.1 order.1 first.span.lower first.span.upper first.place run in
         let entries = joined_in_order cmp (first ∷ later) in
         record {
-          rising = come.rising;
-          apart = come.apart;
+          merged = record { rising = come.rising; apart = come.apart };
           cuts = λ cut. (
             λ is. (some-of (first ∷ later) moves cut).0 ((come.cuts cut).0 is),
             λ is. (come.cuts cut).1 ((some-of (first ∷ later) moves cut).1 is),

@@ -7,7 +7,7 @@ use Rattle.semver_cuts.specs.declared.cut.Cut.{Cut}
 use Rattle.semver_cuts.specs.Cut.{cut_cmp}
 use Rattle.semver_cuts.specs.Common.{AreApart, IsInSome}
 use Rattle.semver_cuts.specs.Ends.{Ends, IsCutAtMost, IsCutBelow, IsInSpan, span_between}
-use Rattle.semver_cuts.specs.Private.Apart.{AreRising}
+use Rattle.semver_cuts.specs.Joined.{AreRising}
 use Rattle.semver_cuts.specs.Private.Joining.{ends_later, joined_from}
 use Rattle.semver_cuts.specs.Private.Placed.{PlacedSpan, placed_cmp}
 use Rattle.semver_cuts.specs.Lemmas.Apart.{apart-cons}

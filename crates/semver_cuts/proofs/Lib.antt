@@ -8,3 +8,9 @@ pub mod Pieces
 pub mod PlacedOrder
 pub mod Joining
 pub mod JoinedSpans
+pub mod Walks
+pub mod Kept
+pub mod Starts
+pub mod StartsCounted
+pub mod MergedLists
+mod Examples

@@ -8,8 +8,7 @@ use Rattle.semver_cuts.specs.Cut.{cut_cmp}
 use Rattle.semver_cuts.specs.Common.{AreApart, IsInSome}
 use Rattle.semver_cuts.specs.Ends.{Ends, IsCutAtMost, IsCutBelow, IsInSpan}
 use Rattle.semver_cuts.specs.Rest.{AreRestSpans, ArePieces, IsFirstAt, IsLeft, IsPiece, IsPieceLower, IsPieceUpper}
-use Rattle.semver_cuts.specs.Private.Apart.{AreRising}
-use Rattle.semver_cuts.specs.Private.Joined.{AreJoined}
+use Rattle.semver_cuts.specs.Joined.{AreJoined, AreRising}
 use Rattle.semver_cuts.specs.Private.Rest.{ending_above, pieces_of, pieces_of_all}
 use Rattle.semver_cuts.specs.Lemmas.Apart.{apart-above, apart-behind, apart-tail, rising-behind}
 use Rattle.semver_cuts.specs.Lemmas.Ends.{at_most_refl, at_most_trans, below-from_not_le, below-not-at_most, below_trans, at_most-from_le}
@@ -99,9 +98,9 @@ module _ {T : Type 0} {cmp : T → T → Ordering} (o : IsTotalOrder cmp) (other
     unfolding back AllOver
     parts-found =
         found-parts o others one one.lower back rising (at_most_refl o one.lower) (inl refl)
-        (rising-behind cmp stands.front back (subst (AreRising cmp) stands.parts are.rising))
-        (apart-behind cmp stands.front back (subst (AreApart cmp) stands.parts are.apart))
-        (ending_above-over o one.lower joined are.rising are.apart)
+        (rising-behind cmp stands.front back (subst (AreRising cmp) stands.parts are.merged.rising))
+        (apart-behind cmp stands.front back (subst (AreApart cmp) stands.parts are.merged.apart))
+        (ending_above-over o one.lower joined are.merged.rising are.merged.apart)
         (all_behind (HasFirstEnds cmp others) stands.front back
         (subst (AllByRecursion (HasFirstEnds cmp others)) stands.parts
         (all_both (λ (s : Ends T). IsFirstAt cmp (λ (s : Ends T). s.lower) others s.lower)

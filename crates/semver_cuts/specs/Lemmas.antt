@@ -22,6 +22,8 @@ pub mod Rest
 pub mod Sharing
 -- spans that are apart
 pub mod Apart
+-- spans that are merged as they stand
+pub mod Joined
 -- spans with their places
 pub mod Placed
 -- what equal cuts and equal spans feed a hasher

@@ -21,8 +21,14 @@ pub mod SpanRest
 pub mod CommonSpans
 -- what one has and the other has not
 pub mod Rest
--- whether they share a cut, and whether a span of one has all cuts of a span of the other
+-- whether they share a cut, and whether one has all cuts of the other, or of a span of it
 pub mod Sharing
+-- what one list is joined to
+pub mod Joined
+-- the same kept as places in the list
+pub mod Places
+-- how many spans it is joined to
+pub mod Starts
 -- ---- Steps from value to value
 -- the least value, and the next one
 pub mod Steps

@@ -1,4 +1,5 @@
--- What one list of spans has and another has not, as a list of spans: 1 to 9 less 5 to 6 and 2 to 3 is 1 to 2, 3 to 5, 6 to 9.
+-- What one list of spans has and another has not, as a list of spans: 1 to 9 less 5 to 6 and 2 to 3 is 1 to 2, 3 to 5,
+-- 6 to 9.
 use Rattle.std.specs.Prelude.{◌≡◌, ◌⊎◌, List, [], ◌∷◌, ◌++◌}
 use Rattle.std.specs.List.{AllByRecursion}
 use Rattle.std.specs.declared.cmp.Ordering.{Ordering}

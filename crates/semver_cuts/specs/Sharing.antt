@@ -1,4 +1,5 @@
--- What two lists of spans share: a cut, or a span of one with all cuts of a span of the other.
+-- What two lists of spans share: a cut, or a span of one with all cuts of a span of the other; and whether one has all
+-- cuts of the other.
 use Rattle.std.specs.Prelude.{◌⊎◌, List, [], ◌∷◌}
 use Rattle.std.specs.declared.cmp.Ordering.{Ordering}
 use Rattle.semver_cuts.specs.declared.cut.Cut.{Cut}
@@ -22,3 +23,7 @@ ShareCut {T} cmp ones others = (cut : Cut T) × IsInSome cmp ones cut × IsInSom
 abbrev pub CoversOne : {T : Type 0} → (T → T → Ordering) → List (Ends T) → List (Ends T) → Type 0
 CoversOne {T} cmp ones others =
     AnyByRecursion (λ (one : Ends T). AnyByRecursion (λ (other : Ends T). IsWithin cmp other one) others) ones
+
+-- every cut in some span of the second list lies in some span of the first
+abbrev pub CoversAll : {T : Type 0} → (T → T → Ordering) → List (Ends T) → List (Ends T) → Type 0
+CoversAll {T} cmp ones others = (cut : Cut T) → IsInSome cmp others cut → IsInSome cmp ones cut

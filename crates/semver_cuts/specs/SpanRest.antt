@@ -1,4 +1,5 @@
--- What one span has and another has not: a piece below the other and one above it. 1 to 9 less 3 to 5 is 1 to 3 and 5 to 9.
+-- What one span has and another has not: a piece below the other and one above it. 1 to 9 less 3 to 5 is 1 to 3 and
+-- 5 to 9.
 use Rattle.std.specs.Prelude.{Bool, List, [], ◌∷◌, if◌then◌else◌}
 use Rattle.std.specs.Ordering.{is_lt}
 use Rattle.std.specs.declared.cmp.Ordering.{Ordering}

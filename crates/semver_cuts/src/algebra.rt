@@ -4,19 +4,25 @@ ghost use Rattle.semver_cuts.specs.Ends.{Ends, IsCutBelow, span_between};
 
 mod ask;
 mod common;
-mod join;
 mod joined;
+mod merged;
 mod near;
 mod placed;
+mod places;
 mod rest;
 #[cfg(test)]
 mod tests;
+mod walks;
 
 use crate::Cut;
 pub use ask::{covers_one, share_cut};
 pub use common::common_spans;
+pub use joined::join;
+pub use merged::Merged;
+pub use places::{Places, are_merged};
 pub use rest::rest_spans;
 use std::alloc::AllocError;
+pub use walks::covers;
 
 /// What takes the spans of an answer one after another, by their ends: a list of them, or of copies.
 ///

@@ -1,5 +1,5 @@
 //! The laws of the order of cuts and of lists of spans. A function here does nothing: its contract is the law, for every type with an order.
-ghost use Rattle.std.specs.Prelude.{◌≡◌, ◌≢◌, ◌↔◌, ◌⊎◌, List, []};
+ghost use Rattle.std.specs.Prelude.{◌≡◌, ◌≢◌, ◌↔◌, ◌⊎◌, List, [], length};
 ghost use Rattle.std.specs.declared.cmp.Ordering.{Ordering};
 ghost use Rattle.semver_cuts.specs.declared.cut.Cut.{Cut};
 ghost use Rattle.semver_cuts.specs.Cut.{cut_cmp};
@@ -8,7 +8,9 @@ ghost use Rattle.semver_cuts.specs.Ends.{Ends};
 ghost use Rattle.semver_cuts.specs.Common.{IsInSome};
 ghost use Rattle.semver_cuts.specs.CommonSpans.{common_spans};
 ghost use Rattle.semver_cuts.specs.Rest.{AreRestSpans};
+ghost use Rattle.semver_cuts.specs.Joined.{AreJoined, AreMerged, AreRising, AreSameSpans};
 ghost use Rattle.semver_cuts.specs.Sharing.{ShareCut};
+ghost use Rattle.semver_cuts.specs.Starts.{count_of_starts};
 
 /// Where the cuts stand: `Start` first, `End` last, and for values `v` less than `w` `Before(v)`, `After(v)`,
 /// `Before(w)`, `After(w)` in this order.
@@ -47,4 +49,16 @@ pub fn sharing_is_symmetric<T: Ord>()
     ensures back { (ones others : List (Ends T)) → ShareCut T.cmp ones others → ShareCut T.cmp others ones }
     ensures common { (ones others : List (Ends T)) → ShareCut T.cmp ones others
         ↔ common_spans T.cmp ones others ≢ [] }
+{}
+
+/// Merged lists with the same cuts have the same spans: each begins and ends where its fellow does. So what a list is
+/// joined to is fixed by its cuts.
+///
+/// Of a list of spans with a cut each there are as many such spans as it has spans whose lower cut no earlier one has,
+/// and which none reaches from below.
+pub fn merged_spans_are_fixed_by_their_cuts<T: Ord>()
+    ensures same { (ones others : List (Ends T)) → AreMerged T.cmp ones → AreMerged T.cmp others
+        → ((cut : Cut T) → IsInSome T.cmp ones cut ↔ IsInSome T.cmp others cut) → AreSameSpans T.cmp ones others }
+    ensures count { (spans joined : List (Ends T)) → AreRising T.cmp spans → AreJoined T.cmp spans joined
+        → length joined ≡ count_of_starts T.cmp spans }
 {}

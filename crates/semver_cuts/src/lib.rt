@@ -7,8 +7,9 @@
 //!
 //! A [`Span`] is such a pair of ends with a cut between them.
 //!
-//! The module [`algebra`] has what lists of spans have in common, and what one has and another has not. The module
-//! [`laws`] holds what is proved of the order and of these lists.
+//! [`join`] joins the spans of a list to spans that are apart, and [`covers`] asks whether one such list has all cuts
+//! of another. The module [`algebra`] has what lists of spans have in common, and what one has and another has not. The
+//! module [`laws`] holds what is proved of the order and of these lists.
 #![tactic(auto)]
 
 pub mod algebra;
@@ -17,6 +18,7 @@ pub mod laws;
 mod span;
 mod stepped;
 
+pub use algebra::{covers, join};
 pub use cut::Cut;
 pub use span::Span;
 pub use stepped::Stepped;

@@ -1,5 +1,5 @@
 ghost use Rattle.std.specs.Prelude.{◌≡◌, ◌↔◌, IfSome, IsSome, IsTrue};
-ghost use Rattle.semver_cuts.specs.declared.cut.Cut.TheVariants.{Before};
+ghost use Rattle.semver_cuts.specs.declared.cut.Cut.TheVariants.{Before, End, Start};
 ghost use Rattle.semver_cuts.specs.Ends.{HoldsCut, IsCutAtMost, IsCutBelow, IsInSpan, span_between};
 
 mod common;
@@ -9,6 +9,7 @@ mod tests;
 
 use crate::Cut;
 use std::marker::Model;
+use std::mem;
 
 /// The cuts from a lower one up to but not including an upper one: at least one, its lower end.
 ///
@@ -112,6 +113,22 @@ impl<T: Ord> Span<T> {
     {
         let Span { lower, upper } = self;
         (lower, upper)
+    }
+
+    // The lower end. `Start` is left in its place.
+    pub(crate) fn take_lower(&mut self) -> Cut<T>
+        ensures taken { result ≡ self.old.lower }
+        ensures left { self.new ≡ span_between Start self.old.upper }
+    {
+        mem::replace(&mut self.lower, Cut::Start)
+    }
+
+    // The upper end. `End` is left in its place.
+    pub(crate) fn take_upper(&mut self) -> Cut<T>
+        ensures taken { result ≡ self.old.upper }
+        ensures left { self.new ≡ span_between self.old.lower End }
+    {
+        mem::replace(&mut self.upper, Cut::End)
     }
 
     /// Whether the value lies in the span: whether the cut before it does.

@@ -7,9 +7,9 @@ use Rattle.node_semver.specs.ErrorLocation.{newline}
 use Rattle.node_semver.specs.Meaning.{TextAdmits}
 use Rattle.node_semver.specs.Version.{VersionValue}
 use Rattle.node_semver.specs.VersionText.{IsVersionText}
-use Rattle.node_semver.proofs.Decisions.{Decided, admits_or_not, refused_or_not}
-use Rattle.node_semver.proofs.FaultLemmas.{read_or_faulty, version-no_fault}
-use Rattle.node_semver.proofs.OneReading.{one_reading}
+use Rattle.node_semver.proofs.Ranges.Decisions.{Decided, admits_or_not, refused_or_not}
+use Rattle.node_semver.proofs.Versions.FaultLemmas.{read_or_faulty, version-no_fault}
+use Rattle.node_semver.proofs.Versions.OneReading.{one_reading}
 use Rattle.semver_pairs.specs.Answer.{IsAnswer, IsBadRange, IsBadVersion, IsGoodRange, IsGoodVersion}
 use Rattle.semver_pairs.specs.Answer.{admitted, bad_range, bad_version, turned_away}
 use Rattle.semver_pairs.specs.Output.{HasAnswers, HasOneAnswer, IsPairAnswer}
@@ -49,7 +49,7 @@ version_not_both line v bad good = elim bad [ inl fails ↦ fails good.0 | inr n
 
 -- ---- of one pair
 
-answer-exists : (range version : List ℕ) → (answer : List ℕ) × IsAnswer range version answer
+pub answer-exists : (range version : List ℕ) → (answer : List ℕ) × IsAnswer range version answer
 answer-exists range version = elim (range_bad_or_good range) [
   | inl bad ↦ (codes "bad range", bad_range bad)
   | inr good ↦ elim (version_bad_or_good version) [

@@ -1,7 +1,11 @@
 pub mod AnswerLemmas
+pub mod AsciiLemmas
 pub mod ByteLemmas
 pub mod LineLemmas
 pub mod LongerInput
+pub mod MoveLemmas
+pub mod OpenPairLemmas
 pub mod OutputLemmas
 pub mod PairLemmas
+pub mod RunLemmas
 pub mod WorkedRows

@@ -1,27 +1,101 @@
--- The first line of some bytes, by where the first newline stands.
-use Rattle.std.proofs.Common.{◌≡◌, ◌≢◌, ℕ, zero, suc, ◌+◌, ◌<◌, ◌==◌, true, false, ap, inl, inr, refl}
-use Rattle.std.proofs.Common.{List, [], ◌∷◌, ◌++◌, length, take, drop}
-use Rattle.std.proofs.Common.{add-one, arith}
-use Rattle.std.specs.Prelude.{map}
-use Rattle.std.specs.Str.Lines.{strip_carriage_return}
+-- The first line of some bytes.
+use Rattle.std.proofs.Common.{◌≡◌, ◌⊎◌, ℕ, zero, suc, ◌+◌, ◌<◌, ◌==◌, true, false, ap, inl, inr, refl, ◌∙◌, sym}
+use Rattle.std.proofs.Common.{◌≢◌, List, [], ◌∷◌, ◌++◌, length, take, drop, add-one, arith, Option, None, Some, IfSome, eqb-true, MatchOption}
+use Rattle.std.proofs.lemmas.Slice.Eq.{strip_prefix_is}
+use Rattle.std.proofs.lemmas.Bool.Decides.{Decides-eqb}
+use Rattle.std.specs.Prelude.{nat_eq}
+use Rattle.std.specs.Cmp.Lexicographic.{pointwise}
+use denote.Ref.{Bor}
 use Rattle.std.proofs.lemmas.Bool.{cases_Bool}
 use Rattle.std.proofs.lemmas.List.{take_rest}
 use Rattle.memchr.specs.Find.{NoneBefore, Nowhere, Passes, is_byte}
 use Rattle.node_semver.specs.ErrorLocation.{newline}
-use Rattle.semver_pairs.specs.Lines.{Lines, divided, rest_line, with_line}
-use Rattle.semver_pairs.specs.Pairs.{lines_read}
+use Rattle.semver_pairs.specs.Lines.{divided, joined, with_byte, with_line}
+use Rattle.semver_pairs.specs.Private.Splitting.{BeginsWithLine, HasNoNewline}
+
+is_newline : (b : ℕ) → (b == newline) ≡ true → b ≡ newline
+is_newline b here = eqb-true b newline here
+
+-- ---- bytes without a newline
+
+-- two such lists, one behind the other
+pub no_newline-append : (one other : List ℕ) → HasNoNewline one → HasNoNewline other → HasNoNewline (one ++ other)
+no_newline-append [] other none none' = none'
+no_newline-append (b ∷ one) other none none' = (none.0, no_newline-append one other none.1 none')
+
+-- either there is none, or a first line is ended
+pub newline_or_not : (bytes : List ℕ)
+    → HasNoNewline bytes ⊎ ((line : List ℕ) × (rest : List ℕ) × BeginsWithLine bytes line rest)
+newline_or_not [] = inl tt
+newline_or_not (b ∷ bytes) = elim (cases_Bool (b == newline)) [
+  | inl here ↦ inr ([], bytes, record { one_line = tt; split = ap (λ (x : ℕ). x ∷ bytes) (is_newline b here) })
+  | inr other ↦ elim (newline_or_not bytes) [
+    | inl none ↦ inl (other, none)
+    | inr found ↦ inr (
+      b ∷ found.0,
+      found.1,
+      record {
+        one_line = (other, found.2.one_line);
+        split = ap (λ (l : List ℕ). b ∷ l) found.2.split;
+      },
+    )
+  ]
+]
+
+-- a newline byte stands among these
+pub line-some : (line rest : List ℕ) → line ++ (newline ∷ rest) ≢ []
+line-some [] rest is = cc (is)
+line-some (b ∷ line) rest is = cc (is)
+
+-- what is left past a line and the newline byte behind it
+pub past_newline : (bytes line rest : List ℕ) (left : Option (Bor (List ℕ))) → bytes ≡ line ++ rest
+    → MatchOption left (pointwise nat_eq (take 1 rest) (newline ∷ []) ≡ false)
+    (λ past. (pointwise nat_eq (take 1 rest) (newline ∷ []) ≡ true) × (past.now ≡ drop 1 rest)
+    × (length past.now + 1 ≡ length rest))
+    → IfSome left (λ past. bytes ≡ line ++ (newline ∷ past.now))
+past_newline bytes line rest None is cases = tt
+past_newline bytes line rest (Some past) is cases =
+    is ∙ ap (λ (l : List ℕ). line ++ l) (strip_prefix_is Decides-eqb rest (newline ∷ []) (Some past) cases)
+
+-- ---- how bytes are divided
+
+-- joined again, the lines give the bytes
+pub joined-divided : (bytes : List ℕ) → joined (divided bytes).ended (divided bytes).rest ≡ bytes
+joined-divided [] = refl
+joined-divided (b ∷ bytes) = elim (cases_Bool (b == newline)) [
+  | inl here ↦ rw here (ap (λ (l : List ℕ). newline ∷ l) (joined-divided bytes)
+      ∙ ap (λ (x : ℕ). x ∷ bytes) (sym (is_newline b here)))
+  | inr other ↦ rw other (with_byte-joined b (divided bytes).ended (divided bytes).rest
+      ∙ ap (λ (l : List ℕ). b ∷ l) (joined-divided bytes))
+]
+  where
+    with_byte-joined : (b : ℕ) (ended : List (List ℕ)) (rest : List ℕ)
+        → joined (with_byte b ended rest).ended (with_byte b ended rest).rest ≡ b ∷ joined ended rest
+    with_byte-joined b [] rest = refl
+    with_byte-joined b (line ∷ lines) rest = refl
+
+-- bytes without a newline end no line
+pub divided-no_newline : (bytes : List ℕ) → HasNoNewline bytes → divided bytes ≡ record { ended = []; rest = bytes }
+divided-no_newline [] none = refl
+divided-no_newline (b ∷ bytes) none =
+    let other = none.0 in
+    let fewer = divided-no_newline bytes none.1 in
+    simp (other, fewer)
+
+-- a newline ends the first line
+pub divided-line : (line rest : List ℕ) → HasNoNewline line
+    → divided (line ++ (newline ∷ rest)) ≡ with_line line (divided rest)
+divided-line [] rest none = refl
+divided-line (b ∷ line) rest none =
+    let other = none.0 in
+    let fewer = divided-line line rest none.1 in
+    simp (other, fewer)
+
+-- ---- where the first newline stands
 
 -- a newline stands at this place
 abbrev IsNewlineAt : List ℕ → ℕ → Type 0
 IsNewlineAt bytes at = Passes (is_byte newline) bytes at
-
--- the first line goes up to this place, and the others are those of the bytes past it
-abbrev IsEndedAt : ℕ → List ℕ → Type 0
-IsEndedAt at bytes = divided bytes ≡ with_line (take at bytes) (divided (drop (at + 1) bytes))
-
--- no line is ended
-abbrev IsUnended : List ℕ → Type 0
-IsUnended bytes = divided bytes ≡ record { ended = []; rest = bytes }
 
 -- the first byte is no newline
 not_first : (b : ℕ) (bytes : List ℕ) → ¬ IsNewlineAt (b ∷ bytes) 0 → (b == newline) ≡ false
@@ -32,37 +106,27 @@ none_later : (b : ℕ) (bytes : List ℕ) (to : ℕ) → Nowhere (IsNewlineAt (b
     → Nowhere (IsNewlineAt bytes) 0 to
 none_later b bytes to none = λ k low high here. none (suc k) (omega arith) (omega arith) here
 
-divided_at : (bytes : List ℕ) (at : ℕ) → at < length bytes → Nowhere (IsNewlineAt bytes) 0 at → IsNewlineAt bytes at
-    → IsEndedAt at bytes
-divided_at [] at within none here = absurd (omega arith)
-divided_at (b ∷ bytes) zero within none here = rw here refl
-divided_at (b ∷ bytes) (suc at) within none here =
-    let other = not_first b bytes (none 0 (omega arith) (omega arith)) in
-    let fewer = divided_at bytes at (omega arith) (none_later b bytes at none) here in
-    simp (other, fewer, add-one)
+pub no_newline-from : (bytes : List ℕ) → Nowhere (IsNewlineAt bytes) 0 (length bytes) → HasNoNewline bytes
+no_newline-from [] none = tt
+no_newline-from (b ∷ bytes) none =
+    (not_first b bytes (none 0 (omega arith) (omega arith)), no_newline-from bytes (none_later b bytes (length bytes) none))
 
-not_divided : (bytes : List ℕ) → Nowhere (IsNewlineAt bytes) 0 (length bytes) → IsUnended bytes
-not_divided [] none = refl
-not_divided (b ∷ bytes) none =
-    let other = not_first b bytes (none 0 (omega arith) (omega arith)) in
-    let fewer = not_divided bytes (none_later b bytes (length bytes) none) in
-    simp (other, fewer)
-
--- ---- all lines, where the end was read
-
--- all lines of divided bytes
-abbrev all_lines : Lines → List (List ℕ)
-all_lines lines = map strip_carriage_return lines.ended ++ rest_line lines.rest
+begins_at : (bytes : List ℕ) (at : ℕ) → at < length bytes → Nowhere (IsNewlineAt bytes) 0 at → IsNewlineAt bytes at
+    → BeginsWithLine bytes (take at bytes) (drop (suc at) bytes)
+begins_at [] at within none here = absurd (omega arith)
+begins_at (b ∷ bytes) zero within none here = record {
+  one_line = tt;
+  split = ap (λ (x : ℕ). x ∷ bytes) (is_newline b here);
+}
+begins_at (b ∷ bytes) (suc at) within none here =
+    let fewer = begins_at bytes at (omega arith) (none_later b bytes at none) here in record {
+      one_line = (not_first b bytes (none 0 (omega arith) (omega arith)), fewer.one_line);
+      split = ap (λ (l : List ℕ). b ∷ l) fewer.split;
+    }
 
 -- the first line ends at the first newline
-pub lines_at : (bytes : List ℕ) (at : ℕ) → NoneBefore (IsNewlineAt bytes) 0 (length bytes) at → IsNewlineAt bytes at
-    → lines_read true bytes ≡ strip_carriage_return (take at bytes) ∷ lines_read true (drop (at + 1) bytes)
-lines_at bytes at first here = ap all_lines (divided_at bytes at first.high first.before here)
+pub line_at : (bytes : List ℕ) (at : ℕ) → NoneBefore (IsNewlineAt bytes) 0 (length bytes) at → IsNewlineAt bytes at
+    → BeginsWithLine bytes (take at bytes) (drop (at + 1) bytes)
+line_at bytes at first here = rw add-one (begins_at bytes at first.high first.before here)
 
--- or at the end
-pub lines_unended : (bytes : List ℕ) → bytes ≢ [] → Nowhere (IsNewlineAt bytes) 0 (length bytes)
-    → lines_read true bytes ≡ bytes ∷ []
-lines_unended [] some none = absurd (some refl)
-lines_unended (b ∷ bytes) some none = ap all_lines (not_divided (b ∷ bytes) none)
-
-pub ruleset first_line = (lines_at, lines_unended, take_rest)
+pub ruleset first_line = (line_at, no_newline-from, take_rest)

@@ -1,46 +1,91 @@
--- What is written of an output is a beginning of it.
-use Rattle.std.proofs.Common.{ℕ, List, [], take, drop, true, false, Option, subst, sym, take-append-drop}
-use Rattle.std.specs.Io.KnownBytes.{Appends, Consumes}
-use Rattle.std.proofs.KnownBytes.{Appends-nil, Consumes-nil}
-use Rattle.semver_pairs.specs.Output.{Exchanges, IsOutput, IsOutputPrefix}
+-- What was read and written, and what waits.
+use Rattle.std.proofs.Common.{◌≡◌, ℕ, List, [], ◌++◌, take, drop, false, Option, ap, refl, subst, sym, ◌∙◌}
+use Rattle.std.proofs.Common.{append_assoc, append-nil, take-append-drop, Result, Ok, Err, OnErr}
+use Rattle.std.specs.Io.KnownBytes.{Appends}
+use Rattle.std.proofs.KnownBytes.{Appends-nil, Appends-trans, Consumes-nil}
+use Rattle.semver_pairs.specs.Output.{AreAnswers, BeginsAnswers, Exchanges, IsOutputBeforeEnd, IsOutputPrefix}
 use Rattle.semver_pairs.specs.Pairs.{pairs_read}
+use Rattle.semver_pairs.specs.Private.Answering.{AnswersUpTo, Moves}
 use Rattle.semver_pairs.proofs.AnswerLemmas.{answers-exist}
+use Rattle.semver_pairs.proofs.PairLemmas.{answers-all}
 
--- nothing is a beginning, also where the end was not read
-nothing-begins : (Ended : Type 0) (read : List ℕ) → IsOutputPrefix Ended read []
-nothing-begins Ended read = (false, λ is_end. cc is_end, answers-exist (pairs_read false read))
+-- ---- answers that wait
 
--- some bytes were read, and nothing was written
-pub exchanges-read : (Ended : Type 0) (remaining remaining_new contents : Option (List ℕ))
-    → (read : List ℕ) × Consumes remaining remaining_new read
-    → Exchanges (IsOutputPrefix Ended) remaining remaining_new contents contents
-exchanges-read Ended remaining remaining_new contents some = record {
-  read = some.0;
-  written = [];
-  taken = some.1;
-  put = Appends-nil contents;
-  together = nothing-begins Ended some.0;
+pub moves-none : (contents : Option (List ℕ)) (waiting : List ℕ) → Moves contents contents waiting [] waiting
+moves-none contents waiting = record { written = []; put = Appends-nil contents; all = append-nil waiting }
+
+-- what is added waits too
+pub moves-hold : (contents : Option (List ℕ)) (waiting added : List ℕ)
+    → Moves contents contents waiting added (waiting ++ added)
+moves-hold contents waiting added = record { written = []; put = Appends-nil contents; all = refl }
+
+pub moves-trans : (old mid new : Option (List ℕ)) (waiting one then other left : List ℕ)
+    → Moves old mid waiting one then → Moves mid new then other left → Moves old new waiting (one ++ other) left
+moves-trans old mid new waiting one then other left first second = record {
+  written = first.written ++ second.written;
+  put = Appends-trans old mid new first.written second.written first.put second.put;
+  all = sym (append_assoc waiting one other) ∙ ap (λ (l : List ℕ). l ++ other) first.all
+      ∙ append_assoc first.written then other ∙ ap (λ (l : List ℕ). first.written ++ l) second.all
+      ∙ sym (append_assoc first.written second.written left);
 }
+
+-- some of what waits was written, before more is added
+pub moves-part : (old new : Option (List ℕ)) (waiting added : List ℕ) (count : ℕ) → Appends old new (take count waiting)
+    → Moves old new waiting added (drop count waiting ++ added)
+moves-part old new waiting added count part = record {
+  written = take count waiting;
+  put = part;
+  all = ap (λ (l : List ℕ). l ++ added) (sym (take-append-drop count waiting))
+      ∙ append_assoc (take count waiting) (drop count waiting) added;
+}
+
+-- all of it was
+pub moves-all : (old new : Option (List ℕ)) (waiting added : List ℕ) → Appends old new waiting
+    → Moves old new waiting added added
+moves-all old new waiting added all = record { written = waiting; put = all; all = refl }
+
+-- ---- what was read and written
 
 -- nothing was read, and nothing was written
 pub exchanges-nothing : (Ended : Type 0) (remaining contents : Option (List ℕ))
     → Exchanges (IsOutputPrefix Ended) remaining remaining contents contents
-exchanges-nothing Ended remaining contents =
-    exchanges-read Ended remaining remaining contents ([], Consumes-nil remaining)
-
--- all was read, and only part of the output was written
-pub exchanges-part : (Ended : Type 0) (remaining remaining_new contents contents_new : Option (List ℕ)) (output : List ℕ)
-    → Ended → (read : List ℕ) × Consumes remaining remaining_new read × IsOutput read output
-    → (count : ℕ) × Appends contents contents_new (take count output)
-    → Exchanges (IsOutputPrefix Ended) remaining remaining_new contents contents_new
-exchanges-part Ended remaining remaining_new contents contents_new output ended all part = record {
-  read = all.0;
-  written = take part.0 output;
-  taken = all.1;
-  put = part.1;
-  together = (
-    true,
-    λ is_end. ended,
-    (drop part.0 output, subst (IsOutput all.0) (sym (take-append-drop part.0 output)) all.2),
-  );
+exchanges-nothing Ended remaining contents = record {
+  read = [];
+  written = [];
+  taken = Consumes-nil remaining;
+  put = Appends-nil contents;
+  together = (false, λ is_end. cc is_end, ([], refl));
 }
+
+pub exchanges-none_back : (remaining contents : Option (List ℕ))
+    → Exchanges IsOutputBeforeEnd remaining remaining contents contents
+exchanges-none_back remaining contents = record {
+  read = [];
+  written = [];
+  taken = Consumes-nil remaining;
+  put = Appends-nil contents;
+  together = refl;
+}
+
+-- the answers to all whole pairs
+pub before_end : (read rest added : List ℕ) → AnswersUpTo read rest added → pairs_read false rest ≡ []
+    → IsOutputBeforeEnd read added
+before_end read rest added up_to none =
+    let nothing : AreAnswers (pairs_read false rest) [] = subst (λ pairs. AreAnswers pairs []) (sym none) refl in
+    subst (AreAnswers (pairs_read false read)) (append-nil added) (answers-all false read rest added [] up_to nothing)
+
+-- some of them
+pub begins-some : (read rest added written left : List ℕ) → AnswersUpTo read rest added → added ≡ written ++ left
+    → BeginsAnswers (pairs_read false read) written
+begins-some read rest added written left up_to is =
+    let some = answers-exist (pairs_read false rest) in
+    let all : AreAnswers (pairs_read false read) (added ++ some.0) = answers-all false read rest added some.0 up_to some.1 in (
+      left ++ some.0,
+      subst (AreAnswers (pairs_read false read))
+          (ap (λ (l : List ℕ). l ++ some.0) is ∙ append_assoc written left some.0) all,
+    )
+
+-- what holds anyhow holds on an error
+pub on_err-of : {T E P : Type 0} (r : Result T E) → P → OnErr r P
+on_err-of (Ok x) holds = tt
+on_err-of (Err e) holds = holds

@@ -9,10 +9,10 @@ use Rattle.node_semver.specs.IdentifierValue.{alphanumeric, numeric}
 use Rattle.node_semver.specs.Meaning.{TextAdmits}
 use Rattle.node_semver.specs.Private.Reading.{rest_of, skip_one, skip_plus, read_build, read_extras, prefix_of, list_rest, list_prefix, read_version, read_number, read_triple, read_dot, read_prerelease, read_unmarked}
 use Rattle.node_semver.specs.Version.{VersionValue, least_of, release}
-use Rattle.node_semver.proofs.FaultLemmas.{fault-computed, version-no_fault}
-use Rattle.node_semver.proofs.OneReading.{read-version}
-use Rattle.node_semver.proofs.RangeComputing.{accepted-by, admits-by, alternatives_in, written-by}
-use Rattle.node_semver.proofs.RangeExamples.{no_word-refused}
+use Rattle.node_semver.proofs.Versions.FaultLemmas.{fault-computed, version-no_fault}
+use Rattle.node_semver.proofs.Versions.OneReading.{read-version}
+use Rattle.node_semver.proofs.Examples.RangeComputing.{accepted-by, admits-by, alternatives_in, written-by}
+use Rattle.node_semver.proofs.Examples.RangeExamples.{no_word-refused}
 use Rattle.semver_pairs.specs.Answer.{admitted, bad_range, bad_version, IsBadVersion, IsGoodRange, IsGoodVersion}
 use Rattle.semver_pairs.specs.Lines.{divided}
 use Rattle.semver_pairs.specs.Output.{IsOutput, IsOutputPrefix}

@@ -1,16 +1,26 @@
 -- What is seen of a gauge.
 use Rattle.std.specs.Prelude.{◌≡◌, ◌≢◌, ℕ, List, [], Bool, IsTrue, ⊤, Result, Ok, Err}
 
--- the reader or the writer that it holds, and whether a call through it has failed
+-- the reader or the writer that it holds, whether a call through it has failed, and whether the last read told the end
 pub record GaugeValue (T : Type 0) : Type 0 where
   pub inner : T
   pub failed : Bool
+  pub ended : Bool
 
 -- a call through the gauge has failed
 abbrev pub HasFailed : {T : Type 0} → GaugeValue T → Type 0
 HasFailed gauge = IsTrue gauge.failed
 
+-- the last read through the gauge answered that the end is reached
+abbrev pub HasToldEnd : {T : Type 0} → GaugeValue T → Type 0
+HasToldEnd gauge = IsTrue gauge.ended
+
 -- the write of this piece answered an error, or took no byte although there was one
 abbrev pub IsFailedWrite : {E : Type 0} → List ℕ → Result ℕ E → Type 0
 IsFailedWrite piece (Ok n) = (n ≡ 0) × (piece ≢ [])
 IsFailedWrite piece (Err e) = ⊤
+
+-- the read into this piece gave no byte although there was room
+abbrev pub IsEnd : {E : Type 0} → List ℕ → Result ℕ E → Type 0
+IsEnd piece (Ok n) = (n ≡ 0) × (piece ≢ [])
+IsEnd piece (Err e) = ⊥

@@ -1,5 +1,5 @@
 -- The lines of what the program reads.
-use Rattle.std.specs.Prelude.{ℕ, ◌==◌, if◌then◌else◌, List, [], ◌∷◌, map}
+use Rattle.std.specs.Prelude.{ℕ, ◌==◌, if◌then◌else◌, List, [], ◌∷◌, ◌++◌, map}
 use Rattle.std.specs.Str.Lines.{strip_carriage_return}
 use Rattle.node_semver.specs.ErrorLocation.{newline}
 
@@ -22,6 +22,11 @@ abbrev pub divided : List ℕ → Lines
 divided [] = record { ended = []; rest = [] }
 divided (b ∷ bytes) = if b == newline then with_line [] (divided bytes) else
     with_byte b (divided bytes).ended (divided bytes).rest
+
+-- the lines that are ended, a newline byte behind each of them, and then the rest
+abbrev pub joined : (ended : List (List ℕ)) → (rest : List ℕ) → List ℕ
+joined [] rest = rest
+joined (line ∷ lines) rest = line ++ (newline ∷ joined lines rest)
 
 -- the lines that a newline byte ends; one carriage return just before that byte goes with it
 abbrev pub ended_lines : List ℕ → List (List ℕ)

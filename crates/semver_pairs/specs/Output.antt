@@ -1,9 +1,9 @@
 -- What the program writes for what it reads.
-use Rattle.std.specs.Prelude.{◌≡◌, ℕ, List, [], ◌∷◌, ◌++◌, Bool, true, IsTrue, Option, codes}
+use Rattle.std.specs.Prelude.{◌≡◌, ℕ, List, [], ◌∷◌, ◌++◌, Bool, true, false, IsTrue, Option, codes}
 use Rattle.std.specs.Io.KnownBytes.{Appends, Consumes, IsAtEnd}
 use Rattle.node_semver.specs.ErrorLocation.{newline}
 use Rattle.semver_pairs.specs.Answer.{IsAnswer}
-use Rattle.semver_pairs.specs.GaugeValue.{GaugeValue, HasFailed}
+use Rattle.semver_pairs.specs.GaugeValue.{GaugeValue, HasFailed, HasToldEnd}
 use Rattle.semver_pairs.specs.Pairs.{Pair, both, lone, pairs_read}
 
 -- the answer to a pair: a lone last line has no version, whatever it holds
@@ -25,9 +25,13 @@ IsOutput read written = AreAnswers (pairs_read true read) written
 abbrev pub BeginsAnswers : List Pair → (written : List ℕ) → Type 0
 BeginsAnswers pairs written = (more : List ℕ) × AreAnswers pairs (written ++ more)
 
--- the end of what is read was reached: nothing is left, and no read has failed
+-- what is written for all pairs that were wholly read before the end was
+abbrev pub IsOutputBeforeEnd : (read written : List ℕ) → Type 0
+IsOutputBeforeEnd read written = AreAnswers (pairs_read false read) written
+
+-- the end was read: the last read answered so. Nothing is left then, and no read has failed.
 abbrev pub HasEnded : {R : Type 0} → (R → Option (List ℕ)) → GaugeValue R → Type 0
-HasEnded remaining gauge = IsAtEnd (remaining gauge.inner) × (¬ HasFailed gauge)
+HasEnded remaining gauge = HasToldEnd gauge × IsAtEnd (remaining gauge.inner) × (¬ HasFailed gauge)
 
 -- a beginning of the answers to the pairs that were wholly read
 abbrev pub IsOutputPrefix : (Ended : Type 0) → (read written : List ℕ) → Type 0

@@ -1,101 +1,185 @@
-//! The answers to what was read.
-ghost use Rattle.std.specs.Prelude.{◌≡◌, ◌↔◌, [], true, ◌<◌, length, IfOk, IfErr, IfSome, IfNone, IsTrue, IsUtf8};
+//! The answers to pairs of lines.
+ghost use Rattle.std.specs.Prelude.{◌≡◌, ◌↔◌, ℕ, List, [], false, ◌<◌, ◌≤◌, length, MatchOption};
+ghost use Rattle.std.specs.Prelude.{IfOk, IfErr, IfSome, IfNone, OnErr, IsErrOf, IsTrue};
+ghost use Rattle.std.specs.Str.{IsAscii};
+ghost use Rattle.std.specs.Str.Lines.{strip_carriage_return};
 ghost use Rattle.node_semver.specs.Error.{out_of_memory, refusal_of};
-ghost use Rattle.node_semver.specs.Meaning.{RangeAdmits, TextAdmits};
-ghost use Rattle.node_semver.specs.Version.{VersionValue};
-ghost use Rattle.semver_pairs.specs.Answer.{IsBadRange, IsBadVersion, IsGoodRange, IsGoodVersion};
-ghost use Rattle.semver_pairs.specs.Output.{IsOutput};
+ghost use Rattle.node_semver.specs.Meaning.{RangeAdmits};
+ghost use Rattle.semver_pairs.specs.Answer.{IsBadRange};
+ghost use Rattle.semver_pairs.specs.GaugeValue.{HasFailed};
 ghost use Rattle.semver_pairs.specs.Pairs.{pairs_read};
-ghost use Rattle.semver_pairs.specs.Private.Answering.{AnswersFirst, IsAnswerLine};
+ghost use Rattle.semver_pairs.specs.Private.Answering.{AnswersPast, AnswersRange, AnswersRangeSome, AnswersSome};
+ghost use Rattle.semver_pairs.specs.Private.Answering.{IsAnswerLine, IsReadAs};
+ghost use Rattle.semver_pairs.specs.Private.Splitting.{BeginsWithPair, HasNoNewline};
 
-use crate::lines::first_line;
+use crate::answers::Answers;
+use crate::gauge::Gauge;
+use crate::lines::{past_line, split_line, without_return};
 use crate::run_error::RunError;
+use crate::text::text_of;
 use node_semver::{Range, SemverError, SemverErrorKind, Version};
 use std::alloc::Global;
-use std::str;
+use std::io::Write;
 
-/// What is written for all that was read, up to its end.
-#[tactic(auto, using(crate::proofs::PairLemmas::output_more, crate::proofs::PairLemmas::output_all))]
-pub(crate) fn output_for(alloc: Global, read: &[u8]) -> Result<Vec<u8>, RunError>
-    ensures output { IfOk result (λ written. IsOutput read.now written.items) }
-    ensures memory { IfErr result (λ e. e ≡ RunError.Memory) }
+/// A range line and a version line, what follows them, and whether all of it is known to be ASCII.
+#[derive(Clone, Copy)]
+pub(crate) struct Pair<'b> {
+    pub(crate) range: &'b [u8],
+    pub(crate) version: &'b [u8],
+    pub(crate) rest: &'b [u8],
+    pub(crate) is_ascii: bool,
+}
+
+/// Answers the pairs that are whole in these bytes, and gives the rest.
+#[tactic(auto, using(crate::proofs::MoveLemmas::pairs_steps))]
+pub(crate) fn answer_pairs<'b, W: Write>(
+    alloc: Global,
+    bytes: &'b [u8],
+    answers: &mut Answers,
+    writer: &mut Gauge<W>,
+) -> Result<&'b [u8], RunError>
+    requires { ¬ HasFailed writer.old }
+    ensures answers { IfOk result (λ rest. AnswersPast bytes.now rest.now
+        (W.contents writer.old.inner) (W.contents writer.new.inner) answers.old answers.new) }
+    ensures none { IfOk result (λ rest. pairs_read false rest.now ≡ []) }
+    ensures part { OnErr result (AnswersSome bytes.now
+        (W.contents writer.old.inner) (W.contents writer.new.inner) answers.old) }
+    ensures write { IsErrOf result RunError.Write ↔ HasFailed writer.new }
+    ensures never { (¬ IsErrOf result RunError.Read) × (¬ IsErrOf result RunError.Endless) }
 {
-    let mut output = Vec::new(alloc);
-    let mut rest = read;
-    'pairs: while let Some((line, others)) = first_answer(alloc, rest)? {
-        if output.extend_from_slice(line.as_bytes()).is_err() {
-            return Err(RunError::Memory);
-        }
+    let is_ascii = bytes.is_ascii();
+    let mut rest = bytes;
+    'pairs: while let Some(pair) = first_pair(rest, is_ascii) {
+        rest = answer_range(alloc, pair, answers, writer)?;
+    }
+    Ok(rest)
+}
+
+/// The first pair, where it is whole.
+fn first_pair(bytes: &[u8], is_ascii: bool) -> Option<Pair<'_>>
+    ensures found { IfSome result (λ pair. BeginsWithPair bytes.now pair.range.now pair.version.now pair.rest.now) }
+    ensures fewer { IfSome result (λ pair. length pair.rest.now < length bytes.now) }
+    ensures ascii { IfSome result (λ pair. IsAscii bytes.now
+        → IsAscii pair.range.now × IsAscii pair.version.now × IsAscii pair.rest.now) }
+    ensures marked { IfSome result (λ pair. pair.is_ascii ≡ is_ascii) }
+    ensures none { IfNone result (pairs_read false bytes.now ≡ []) }
+{
+    let (range, others) = split_line(bytes)?;
+    let (version, rest) = split_line(others)?;
+    Some(Pair {
+        range,
+        version: without_return(version),
+        rest,
+        is_ascii,
+    })
+}
+
+/// Answers a pair and those right behind it that have the same range line, and gives the rest.
+#[tactic(auto, using(crate::proofs::MoveLemmas::range_steps))]
+pub(crate) fn answer_range<'b, W: Write>(
+    alloc: Global,
+    pair: Pair<'b>,
+    answers: &mut Answers,
+    writer: &mut Gauge<W>,
+) -> Result<&'b [u8], RunError>
+    requires one_line { HasNoNewline pair.range.now }
+    requires ascii { IsTrue pair.is_ascii
+        → IsAscii pair.range.now × IsAscii pair.version.now × IsAscii pair.rest.now }
+    requires unfailed { ¬ HasFailed writer.old }
+    ensures answers { IfOk result (λ rest. AnswersRange
+        pair.entry.range.now pair.entry.version.now pair.entry.rest.now rest.now
+        (W.contents writer.old.inner) (W.contents writer.new.inner) answers.old answers.new) }
+    ensures fewer { IfOk result (λ rest. length rest.now ≤ length pair.entry.rest.now) }
+    ensures ascii { IfOk result (λ rest. IsTrue pair.entry.is_ascii → IsAscii rest.now) }
+    ensures part { OnErr result (AnswersRangeSome pair.entry.range.now pair.entry.version.now pair.entry.rest.now
+        (W.contents writer.old.inner) (W.contents writer.new.inner) answers.old) }
+    ensures write { IsErrOf result RunError.Write ↔ HasFailed writer.new }
+    ensures never { (¬ IsErrOf result RunError.Read) × (¬ IsErrOf result RunError.Endless) }
+{
+    let Some(text) = text_of(without_return(pair.range), pair.is_ascii) else {
+        return answer_versions(alloc, None, pair, answers, writer);
+    };
+    match &Range::parse(alloc, text) {
+        Err(error) if is_want_of_memory(error) => Err(RunError::Memory),
+        Err(_) => answer_versions(alloc, None, pair, answers, writer),
+        Ok(range) => answer_versions(alloc, Some(range), pair, answers, writer),
+    }
+}
+
+/// Answers a pair and those right behind it that have the same range line, which was read as this range or is a bad one.
+#[inline(never)]
+#[tactic(auto, using(crate::proofs::MoveLemmas::version_steps))]
+fn answer_versions<'b, W: Write>(
+    alloc: Global,
+    range: Option<&Range>,
+    pair: Pair<'b>,
+    answers: &mut Answers,
+    writer: &mut Gauge<W>,
+) -> Result<&'b [u8], RunError>
+    requires one_line { HasNoNewline pair.range.now }
+    requires range { MatchOption range (IsBadRange (strip_carriage_return pair.range.now))
+        (λ r. IsReadAs (strip_carriage_return pair.range.now) (RangeAdmits r.now)) }
+    requires ascii { IsTrue pair.is_ascii → IsAscii pair.version.now × IsAscii pair.rest.now }
+    requires unfailed { ¬ HasFailed writer.old }
+    ensures answers { IfOk result (λ rest. AnswersRange
+        pair.entry.range.now pair.entry.version.now pair.entry.rest.now rest.now
+        (W.contents writer.old.inner) (W.contents writer.new.inner) answers.old answers.new) }
+    ensures fewer { IfOk result (λ rest. length rest.now ≤ length pair.entry.rest.now) }
+    ensures ascii { IfOk result (λ rest. IsTrue pair.entry.is_ascii → IsAscii rest.now) }
+    ensures part { OnErr result (AnswersRangeSome pair.entry.range.now pair.entry.version.now pair.entry.rest.now
+        (W.contents writer.old.inner) (W.contents writer.new.inner) answers.old) }
+    ensures write { IsErrOf result RunError.Write ↔ HasFailed writer.new }
+    ensures never { (¬ IsErrOf result RunError.Read) × (¬ IsErrOf result RunError.Endless) }
+{
+    let mut version = pair.version;
+    let mut rest = pair.rest;
+    'versions: loop {
+        let answer = answer_of(alloc, range, version, pair.is_ascii)?;
+        answers.put(writer, answer.as_bytes())?;
+        let Some((next, others)) = next_version(rest, pair.range) else {
+            return Ok(rest);
+        };
+        version = next;
         rest = others;
     }
-    Ok(output)
 }
 
-/// The answer to the first pair and a newline, and the rest, which holds the other pairs.
-fn first_answer(alloc: Global, bytes: &[u8]) -> Result<Option<(&'static str, &[u8])>, RunError>
-    ensures first { IfOk result (λ found. IfSome found (λ pair. AnswersFirst bytes.now pair.0.now pair.1.now)) }
-    ensures fewer { IfOk result (λ found. IfSome found (λ pair. length pair.1.now < length bytes.now)) }
-    ensures none { IfOk result (λ found. IfNone found (pairs_read true bytes.now ≡ [])) }
-    ensures memory { IfErr result (λ e. e ≡ RunError.Memory) }
+/// The version line of the first pair and what stands past it, where the pair is whole and has this range line.
+fn next_version<'b>(bytes: &'b [u8], range: &[u8]) -> Option<(&'b [u8], &'b [u8])>
+    requires { HasNoNewline range.now }
+    ensures found { IfSome result (λ pair. BeginsWithPair bytes.now range.now pair.0.now pair.1.now) }
+    ensures fewer { IfSome result (λ pair. length pair.1.now < length bytes.now) }
+    ensures ascii { IfSome result (λ pair. IsAscii bytes.now → IsAscii pair.0.now × IsAscii pair.1.now) }
 {
-    let Some((range, others)) = first_line(bytes) else {
-        return Ok(None);
-    };
-    match first_line(others) {
-        Some((version, others)) => Ok(Some((answer_line(alloc, range, version)?, others))),
-        None => Ok(Some(("missing version\n", others))),
-    }
+    let (version, rest) = split_line(past_line(bytes, range)?)?;
+    Some((without_return(version), rest))
 }
 
-/// The answer to a range line and a version line, and a newline.
-fn answer_line(alloc: Global, range: &[u8], version: &[u8]) -> Result<&'static str, RunError>
-    ensures answer { IfOk result (λ line. IsAnswerLine range.now version.now line.now) }
+/// The answer to a range, or to none where the range line is a bad one, and a version line, and a newline.
+fn answer_of(
+    alloc: Global,
+    range: Option<&Range>,
+    version: &[u8],
+    is_ascii: bool,
+) -> Result<&'static str, RunError>
+    requires { IsTrue is_ascii → IsAscii version.now }
+    ensures answer { IfOk result (λ answer. (line : List ℕ)
+        → MatchOption range.entry (IsBadRange line) (λ r. IsReadAs line (RangeAdmits r.now))
+        → IsAnswerLine line version.now answer.now) }
+    ensures short { IfOk result (λ answer. length answer.now ≤ 4096) }
     ensures memory { IfErr result (λ e. e ≡ RunError.Memory) }
 {
-    let Some(range) = range_of(alloc, range)? else {
+    let Some(range) = range else {
         return Ok("bad range\n");
     };
-    let Some(version) = version_of(alloc, version)? else {
+    let Some(text) = text_of(version, is_ascii) else {
         return Ok("bad version\n");
     };
-    if range.satisfies(&version) {
-        Ok("yes\n")
-    } else {
-        Ok("no\n")
-    }
-}
-
-/// The range of a line, or none where it is a bad one.
-fn range_of(alloc: Global, line: &[u8]) -> Result<Option<Range>, RunError>
-    ensures bad { IfOk result (λ found. IfNone found (IsBadRange line.now)) }
-    ensures good { IfOk result (λ found. IfSome found (λ range. IsGoodRange line.now)) }
-    ensures means { IfOk result (λ found. IfSome found (λ range. (v : VersionValue)
-        → RangeAdmits range v ↔ TextAdmits line.now v)) }
-    ensures memory { IfErr result (λ e. e ≡ RunError.Memory) }
-{
-    let Some(text) = text_of(line) else {
-        return Ok(None);
-    };
-    match Range::parse(alloc, text) {
-        Ok(range) => Ok(Some(range)),
-        Err(error) if is_want_of_memory(&error) => Err(RunError::Memory),
-        Err(_) => Ok(None),
-    }
-}
-
-/// The version of a line, or none where it is a bad one.
-fn version_of(alloc: Global, line: &[u8]) -> Result<Option<Version>, RunError>
-    ensures bad { IfOk result (λ found. IfNone found (IsBadVersion line.now)) }
-    ensures good { IfOk result (λ found. IfSome found (IsGoodVersion line.now)) }
-    ensures memory { IfErr result (λ e. e ≡ RunError.Memory) }
-{
-    let Some(text) = text_of(line) else {
-        return Ok(None);
-    };
-    match Version::parse(alloc, text) {
-        Ok(version) => Ok(Some(version)),
-        Err(error) if is_want_of_memory(&error) => Err(RunError::Memory),
-        Err(_) => Ok(None),
+    match &Version::parse(alloc, text) {
+        Ok(version) if range.satisfies(version) => Ok("yes\n"),
+        Ok(_) => Ok("no\n"),
+        Err(error) if is_want_of_memory(error) => Err(RunError::Memory),
+        Err(_) => Ok("bad version\n"),
     }
 }
 
@@ -104,15 +188,4 @@ fn is_want_of_memory(error: &SemverError) -> bool
     ensures { IsTrue result ↔ ((refusal_of error.now).kind ≡ out_of_memory) }
 {
     matches!(error.kind(), SemverErrorKind::OutOfMemory)
-}
-
-/// The text of a line, or none where it is not UTF-8.
-fn text_of(line: &[u8]) -> Option<&str>
-    ensures text { IfSome result (λ text. (text.now ≡ line.now) × IsUtf8 line.now) }
-    ensures none { IfNone result (¬ IsUtf8 line.now) }
-{
-    if line.is_ascii() {
-        return Some(unsafe { str::from_utf8_unchecked(line) });
-    }
-    str::from_utf8(line).ok()
 }

@@ -2,15 +2,15 @@
 ghost use Rattle.std.specs.Prelude.{◌≡◌, ◌↔◌, false, IsTrue, IsErr};
 ghost use Rattle.std.specs.Io.{ReadsAtMost, WritesAtMost};
 ghost use Rattle.std.specs.Io.KnownBytes.{ReadConsumes, WriteAppends};
-ghost use Rattle.semver_pairs.specs.GaugeValue.{GaugeValue, HasFailed, IsFailedWrite};
+ghost use Rattle.semver_pairs.specs.GaugeValue.{GaugeValue, HasFailed, HasToldEnd, IsEnd, IsFailedWrite};
 
 use std::io;
 use std::io::{Read, Write};
 use std::marker::Model;
 
-/// A reader or a writer, and whether a call through it has failed.
+/// A reader or a writer, whether a call through it has failed, and whether the last read through it answered the end.
 ///
-/// Only `read` and `write` set the mark, each exactly where it has failed, and neither is called again after that.
+/// Only `read` and `write` mark a failure, each exactly where it has failed, and neither is called again after that.
 ///
 /// # Memory
 ///
@@ -19,12 +19,13 @@ use std::marker::Model;
 pub struct Gauge<T> {
     inner: T,
     failed: bool,
+    ended: bool,
 }
 
 impl<T> Model for Gauge<T> {
     ghost Value = { GaugeValue T };
 
-    ghost view = { λ gauge. record { inner = gauge.inner; failed = gauge.failed } };
+    ghost view = { λ gauge. record { inner = gauge.inner; failed = gauge.failed; ended = gauge.ended } };
 }
 
 impl<T> Gauge<T> {
@@ -36,10 +37,12 @@ impl<T> Gauge<T> {
     pub fn new(inner: T) -> Gauge<T>
         ensures held { result.inner ≡ inner }
         ensures unfailed { ¬ HasFailed result }
+        ensures unread { ¬ HasToldEnd result }
     {
         Gauge {
             inner,
             failed: false,
+            ended: false,
         }
     }
 
@@ -53,7 +56,11 @@ impl<T> Gauge<T> {
     pub fn into_inner(self) -> T
         ensures { result ≡ self.inner }
     {
-        let Gauge { inner, failed: _ } = self;
+        let Gauge {
+            inner,
+            failed: _,
+            ended: _,
+        } = self;
         inner
     }
 
@@ -72,7 +79,7 @@ impl<T> Gauge<T> {
 impl<R: Read> Gauge<R> {
     /// One `read` of the reader.
     ///
-    /// A gauge that has failed is not read again.
+    /// A gauge that has failed is not read again. A piece with room for which no byte is given tells the end.
     ///
     /// # Errors
     ///
@@ -87,9 +94,11 @@ impl<R: Read> Gauge<R> {
         ensures bytes { ReadConsumes (R.remaining self.old.inner) (R.remaining self.new.inner)
             result piece.new }
         ensures mark { HasFailed self.new ↔ IsErr result }
+        ensures end { HasToldEnd self.new ↔ IsEnd piece.new result }
     {
         let result = self.inner.read(piece);
         self.failed = result.is_err();
+        self.ended = is_end(&result, piece);
         result
     }
 }
@@ -117,6 +126,13 @@ impl<W: Write> Gauge<W> {
         self.failed = is_failure(&result, piece);
         result
     }
+}
+
+/// Whether the read into a piece told the end.
+fn is_end(answer: &io::Result<usize>, piece: &[u8]) -> bool
+    ensures { IsTrue result ↔ IsEnd piece.now answer.now }
+{
+    matches!(answer, Ok(0)) && !piece.is_empty()
 }
 
 /// Whether the write of a piece has failed.

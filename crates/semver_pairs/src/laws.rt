@@ -1,7 +1,10 @@
-//! The laws of the output. Each function here does nothing: its contract is the law.
-ghost use Rattle.std.specs.Prelude.{ℕ, List, Bool, false, ◌++◌};
+//! Laws of what the contracts speak of. A function here does nothing, or one call: its contract is the law.
+ghost use Rattle.std.specs.Prelude.{◌≡◌, ◌↔◌, ℕ, List, Bool, false, ◌++◌, IsTrue};
+ghost use Rattle.semver_pairs.specs.Lines.{divided, joined};
 ghost use Rattle.semver_pairs.specs.Output.{AreAnswers, BeginsAnswers, HasAnswers, HasOneAnswer};
 ghost use Rattle.semver_pairs.specs.Pairs.{pairs_read};
+
+use crate::run_error::RunError;
 
 /// The pairs of each input have answers, and no others: with the end read, the output of the input.
 pub fn each_input_has_one_output()
@@ -15,3 +18,15 @@ pub fn answers_stay_as_the_input_goes_on()
     ensures { (is_end : Bool) (read more written : List ℕ) → AreAnswers (pairs_read false read) written
         → BeginsAnswers (pairs_read is_end (read ++ more)) written }
 {}
+
+/// The ended lines, joined by newlines, and the rest give the bytes.
+pub fn joined_lines_are_the_bytes()
+    ensures { (bytes : List ℕ) → joined (divided bytes).ended (divided bytes).rest ≡ bytes }
+{}
+
+/// Errors are equal exactly where their variant is the same.
+pub fn errors_are_equal_as_variants(one: &RunError, other: &RunError) -> bool
+    ensures { IsTrue result ↔ (one.now ≡ other.now) }
+{
+    one == other
+}

@@ -1,30 +1,47 @@
-//! The lines of some bytes with their end behind them, the first ones first.
-ghost use Rattle.std.specs.Prelude.{◌≡◌, ◌<◌, [], ◌∷◌, true, length, IfSome, IfNone};
+//! Lines, and the newline bytes that end them.
+ghost use Rattle.std.specs.Prelude.{◌≡◌, ◌∷◌, ◌++◌, ◌<◌, length, IfSome, IfNone};
+ghost use Rattle.std.specs.Str.{IsAscii};
 ghost use Rattle.std.specs.Str.Lines.{strip_carriage_return};
-ghost use Rattle.semver_pairs.specs.Pairs.{lines_read};
+ghost use Rattle.memchr.specs.Find.{IsFirstByte, is_byte};
+ghost use Rattle.node_semver.specs.ErrorLocation.{newline};
+ghost use Rattle.semver_pairs.specs.Private.Splitting.{BeginsWithLine, HasNoNewline};
 
-use memchr::memchr;
-
-/// The first line and the rest, which holds the other lines.
+/// What stands before the first newline byte, and what stands past it.
 #[tactic(auto, using(crate::proofs::LineLemmas::first_line))]
-pub(crate) fn first_line(bytes: &[u8]) -> Option<(&[u8], &[u8])>
-    ensures line { IfSome result (λ pair. lines_read true bytes.now ≡ pair.0.now ∷ lines_read true pair.1.now) }
+pub(crate) fn split_line(bytes: &[u8]) -> Option<(&[u8], &[u8])>
+    ensures split { IfSome result (λ pair. BeginsWithLine bytes.now pair.0.now pair.1.now) }
     ensures fewer { IfSome result (λ pair. length pair.1.now < length bytes.now) }
-    ensures none { IfNone result (lines_read true bytes.now ≡ []) }
+    ensures ascii { IfSome result (λ pair. IsAscii bytes.now → IsAscii pair.0.now × IsAscii pair.1.now) }
+    ensures none { IfNone result (HasNoNewline bytes.now) }
 {
-    if bytes.is_empty() {
-        return None;
+    let at = newline_place(bytes)?;
+    Some((&bytes[..at], &bytes[at + 1..]))
+}
+
+/// Where the first newline byte stands. Most lines are too short for a search by vectors.
+fn newline_place(bytes: &[u8]) -> Option<usize>
+    ensures { IsFirstByte (is_byte newline) bytes.now result }
+{
+    for (at, byte) in bytes.iter().enumerate() {
+        if *byte == b'\n' {
+            return Some(at);
+        }
     }
-    match memchr(b'\n', bytes) {
-        Some(at) => Some((without_return(&bytes[..at]), &bytes[at + 1..])),
-        None => Some((bytes, &[])),
-    }
+    None
+}
+
+/// What stands past a line and its newline byte, where the bytes begin with them.
+pub(crate) fn past_line<'b>(bytes: &'b [u8], line: &[u8]) -> Option<&'b [u8]>
+    ensures { IfSome result (λ rest. bytes.now ≡ line.now ++ (newline ∷ rest.now)) }
+{
+    bytes.strip_prefix(line)?.strip_prefix(b"\n")
 }
 
 /// A line without the one carriage return at its end, if it has one.
 #[inline]
-fn without_return(line: &[u8]) -> &[u8]
-    ensures { result.now ≡ strip_carriage_return line.now }
+pub(crate) fn without_return(line: &[u8]) -> &[u8]
+    ensures line { result.now ≡ strip_carriage_return line.now }
+    ensures ascii { IsAscii line.now → IsAscii result.now }
 {
     match line {
         [text @ .., b'\r'] => text,

@@ -3,15 +3,18 @@
 #![tactic(auto)]
 
 mod answering;
+mod answers;
 mod exit;
 mod gauge;
 mod laws;
 mod lines;
+mod open_pair;
+mod piece;
 mod program;
-mod reading;
 mod run_error;
 #[cfg(test)]
 mod tests;
+mod text;
 mod writing;
 
 use exit::ending;

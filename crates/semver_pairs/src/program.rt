@@ -1,18 +1,18 @@
 //! What the program does with a reader and a writer.
-ghost use Rattle.std.specs.Prelude.{◌≡◌, ◌⊎◌, ◌↔◌, ◌^◌, ◌-◌, ◌≤◌, ℕ, List, length, IfOk, OnOk, OnErr, IfSome, IsErrOf};
-ghost use Rattle.std.specs.Io.KnownBytes.{Consumes};
+ghost use Rattle.std.specs.Prelude.{◌≡◌, ◌⊎◌, ◌↔◌, ◌^◌, ◌-◌, ◌≤◌, length, OnOk, OnErr, IfSome, IsErrOf};
 ghost use Rattle.semver_pairs.specs.GaugeValue.{HasFailed};
-ghost use Rattle.semver_pairs.specs.Output.{Exchanges, HasEnded, IsOutput, IsOutputPrefix};
+ghost use Rattle.semver_pairs.specs.Output.{Exchanges, HasEnded, IsOutput, IsOutputBeforeEnd, IsOutputPrefix};
 
-use crate::answering::output_for;
+use crate::answers::Answers;
 use crate::gauge::Gauge;
-use crate::reading::read_all;
+use crate::open_pair::OpenPair;
+use crate::piece::{answer_last, answer_piece};
 use crate::run_error::RunError;
-use crate::writing::write_all;
 use std::alloc::Global;
 use std::io::{Read, Write};
 
-/// Reads to the end, and writes one line for each pair of lines: a range line and then a version line.
+/// Reads to the end, and writes one line for each pair of lines: a range line and then a version line. Each is written
+/// before the next read, once its pair was wholly read.
 ///
 /// The answer is `bad range` where the range is refused, else `bad version` where the version is, else `yes` or `no`. A
 /// last range line without a version line gives `missing version`, whatever it holds.
@@ -30,10 +30,12 @@ use std::io::{Read, Write};
 ///
 /// What was written is then a beginning of the answers to the pairs that were wholly read: a pair is so once the
 /// newline byte of its version line was read, or the end was; a last line without a second one is so once the end was.
+/// After `Read` the answers to all of them were written.
 ///
 /// # Memory
 ///
-/// All that is read and all answers are held until they are written.
+/// Takes some for one range and one version at a time, and for the pair that is not wholly read: as much as the longest
+/// pair so far that more than one read gave.
 ///
 /// # Examples
 ///
@@ -41,6 +43,7 @@ use std::io::{Read, Write};
 ///   `bad version`, `missing version`, a line each.
 /// - `>=1.2.3 <2.0.0` and `2.0.0` give `no`.
 /// - No bytes give no bytes.
+#[tactic(auto, using(crate::proofs::RunLemmas::run_steps))]
 pub fn run<R: Read, W: Write>(
     alloc: Global,
     reader: &mut Gauge<R>,
@@ -53,6 +56,10 @@ pub fn run<R: Read, W: Write>(
     ensures begun { OnErr result (Exchanges (IsOutputPrefix (HasEnded R.remaining reader.new))
         (R.remaining reader.old.inner) (R.remaining reader.new.inner)
         (W.contents writer.old.inner) (W.contents writer.new.inner)) }
+    // A failed read keeps no answer back.
+    ensures all_begun { IsErrOf result RunError.Read → Exchanges IsOutputBeforeEnd
+        (R.remaining reader.old.inner) (R.remaining reader.new.inner)
+        (W.contents writer.old.inner) (W.contents writer.new.inner) }
 
     // When each error comes.
     ensures read { IsErrOf result RunError.Read ↔ HasFailed reader.new }
@@ -70,23 +77,15 @@ pub fn run<R: Read, W: Write>(
     if writer.failed() {
         return Err(RunError::Write);
     }
-    let output = read_output(alloc, reader)?;
-    write_all(writer, &output)
-}
-
-/// What is to be written for all that is left to read.
-fn read_output<R: Read>(alloc: Global, reader: &mut Gauge<R>) -> Result<Vec<u8>, RunError>
-    requires { ¬ HasFailed reader.old }
-    ensures output { IfOk result (λ output. (read : List ℕ) × Consumes (R.remaining reader.old.inner)
-        (R.remaining reader.new.inner) read × IsOutput read output.items) }
-    ensures ended { OnOk result (HasEnded R.remaining reader.new) }
-    ensures some { OnErr result ((read : List ℕ) × Consumes (R.remaining reader.old.inner)
-        (R.remaining reader.new.inner) read) }
-    ensures read { IsErrOf result RunError.Read ↔ HasFailed reader.new }
-    ensures endless { IsErrOf result RunError.Endless
-        → IfSome (R.remaining reader.old.inner) (λ bytes. 2 ^ 64 - 1 ≤ length bytes) }
-    ensures never { ¬ IsErrOf result RunError.Write }
-{
-    let read = read_all(alloc, reader)?;
-    output_for(alloc, &read)
+    let mut kept = OpenPair::new(alloc);
+    let mut answers = Answers::new();
+    let mut piece = [0u8; 4096];
+    'reads: for _ in 0..u64::MAX {
+        match reader.read(&mut piece) {
+            Ok(0) => return answer_last(alloc, &kept, &mut answers, writer),
+            Ok(count) => answer_piece(alloc, &piece[..count], &mut kept, &mut answers, writer)?,
+            Err(_) => return Err(RunError::Read),
+        }
+    }
+    Err(RunError::Endless)
 }

@@ -1,3 +1,4 @@
+mod long;
 mod outcome;
 mod stepwise;
 
@@ -20,6 +21,8 @@ const ROWS: &[(&[u8], &[u8])] = &[
     (b"foo >= v 1.0.0\n1.2\n", b"bad version\n"),
     (b"=1.2.3+a\n1.2.3+b\n", b"yes\n"),
     (b"1 || 3\n2.0.0\n", b"no\n"),
+    (b">=1.2.3-a >=1.2.3-b\n1.2.3-c\n", b"yes\n"),
+    (b"1.2.3\n1.2.3\n", b"yes\n"),
     // A bad range comes before a bad version.
     (b"foo\nbar\n", b"bad range\n"),
     // The end ends a line, and an empty line is one.
@@ -50,6 +53,24 @@ const ROWS: &[(&[u8], &[u8])] = &[
         b"1\n1.0.0\n1\n2.0.0\n\n\n1\n1.0.0",
         b"yes\nno\nbad range\nyes\n",
     ),
+    // The same range line again, and others that are nearly it.
+    (b"1\n1.0.0\n1\nbad\n1\n2.0.0\n", b"yes\nbad version\nno\n"),
+    (b"foo\n1.0.0\nfoo\n1.0.0\n", b"bad range\nbad range\n"),
+    (b"1\n1.0.0\n2\n1.0.0\n1\n1.0.0\n", b"yes\nno\nyes\n"),
+    (b"1\n1.0.0\n11\n1.0.0\n1\n1.0.0\n", b"yes\nno\nyes\n"),
+    (b"1\n1.0.0\n1\r\n1.0.0\r\n1\n1.0.0", b"yes\nyes\nyes\n"),
+    (b"1\n1.0.0\n1\n", b"yes\nmissing version\n"),
+    (b"1\n1.0.0\n1", b"yes\nmissing version\n"),
+];
+
+/// How many bytes readers give and writers take a call.
+const STEPS: &[(usize, usize)] = &[
+    (usize::MAX, usize::MAX),
+    (1, 1),
+    (7, 5),
+    (4095, usize::MAX),
+    (4096, usize::MAX),
+    (4097, 1),
 ];
 
 const PAIRS: &[u8] = b"^1.2.3-rc.4\n1.2.3-rc.5\nfoo\n1.0.0\n1\nbad\n1\n";
@@ -57,8 +78,8 @@ const PAIRS: &[u8] = b"^1.2.3-rc.4\n1.2.3-rc.5\nfoo\n1.0.0\n1\nbad\n1\n";
 #[test]
 fn answers_each_pair_with_ample_memory(rt: HostRuntime) {
     for (input, output) in ROWS {
-        for (read, write) in [(usize::MAX, usize::MAX), (1, 1), (7, usize::MAX)] {
-            let outcome = outcome_of(rt.alloc(), input, (read, usize::MAX), (write, usize::MAX));
+        for (read, write) in STEPS {
+            let outcome = outcome_of(rt.alloc(), input, (*read, usize::MAX), (*write, usize::MAX));
             assert!(rt; gives(&outcome, output), "{}", input.escape_ascii());
         }
     }
@@ -91,34 +112,34 @@ fn answers_up_to(count: usize) -> &'static [u8] {
     }
 }
 
+/// How many bytes a read gives in the tests of each end and each fault.
+const READS: &[usize] = &[1, 7, 4096];
+
 #[test]
 fn answers_what_was_read_up_to_any_end(rt: HostRuntime) {
-    for count in 0..=PAIRS.len() {
-        let outcome = outcome_of(
-            rt.alloc(),
-            &PAIRS[..count],
-            (7, usize::MAX),
-            (1, usize::MAX),
-        );
-        assert!(rt; gives(&outcome, output_up_to(count)), "{count} bytes");
+    for most in READS {
+        for count in 0..=PAIRS.len() {
+            let outcome = outcome_of(rt.alloc(), &PAIRS[..count], (*most, usize::MAX), WHOLE);
+            assert!(rt; gives(&outcome, output_up_to(count)), "{count} bytes");
+        }
     }
 }
 
 #[test]
 fn stops_at_a_read_that_fails(rt: HostRuntime) {
-    for count in 0..=PAIRS.len() {
-        let outcome = outcome_of(rt.alloc(), PAIRS, (7, count), WHOLE);
-        assert!(rt; outcome.result == Err(RunError::Read), "after {count}");
-        assert!(rt;
-            outcome.has_read_failed && !outcome.has_write_failed,
-            "after {count}"
-        );
-        assert!(rt;
-            answers_up_to(count).starts_with(outcome.text()),
-            "after {count}"
-        );
-        // The failed read is the last one.
-        assert!(rt; outcome.reads == count.div_ceil(7) + 1, "after {count}");
+    for most in READS {
+        for count in 0..=PAIRS.len() {
+            let outcome = outcome_of(rt.alloc(), PAIRS, (*most, count), WHOLE);
+            assert!(rt; outcome.result == Err(RunError::Read), "after {count}");
+            assert!(rt;
+                outcome.has_read_failed && !outcome.has_write_failed,
+                "after {count}"
+            );
+            // No answer is kept back.
+            assert!(rt; outcome.text() == answers_up_to(count), "after {count}");
+            // The failed read is the last one.
+            assert!(rt; outcome.reads == count.div_ceil(*most) + 1, "after {count}");
+        }
     }
 }
 
@@ -145,38 +166,18 @@ fn stops_at_a_write_that_fails(rt: HostRuntime) {
 }
 
 #[test]
-fn writes_all_answers_at_once(rt: HostRuntime) {
+fn writes_what_one_read_gave_at_once(rt: HostRuntime) {
+    // The last line is answered once the end was read.
     let outcome = outcome_of(rt.alloc(), PAIRS, WHOLE, WHOLE);
-    assert!(rt; outcome.writes == 1);
+    assert!(rt; outcome.writes == 2);
     let outcome = outcome_of(rt.alloc(), b"", WHOLE, WHOLE);
     assert!(rt; outcome.writes == 0);
-}
-
-/// Inputs of more than 65,536 bytes: a text, a piece so many times, and the rest.
-#[test]
-fn answers_long_input_with_ample_memory(rt: HostRuntime) -> Result<(), Fail> {
-    let rows: &[(&[u8], &[u8], usize, &[u8], &[u8])] = &[
-        (b"", b">=1.0.0 ", 10_000, b"\n1.0.0\n", b"yes\n"),
-        (b"", b">=1.0.0 ", 10_000, b"<1.0.0\n1.0.0\n", b"bad range\n"),
-        (
-            b">=1.0.0\n1.0.0+",
-            b"a",
-            70_000,
-            b"\n1",
-            b"bad version\nmissing version\n",
-        ),
-        (b"1\n", b"\xff", 70_000, b"", b"bad version\n"),
-    ];
-    for (prefix, piece, times, rest, output) in rows {
-        let mut input = prefix.to_vec(rt.alloc())?;
-        for _ in 0..*times {
-            input.extend_from_slice(piece)?;
-        }
-        input.extend_from_slice(rest)?;
-        let outcome = outcome_of(rt.alloc(), &input, WHOLE, WHOLE);
-        assert!(rt; gives(&outcome, output), "{}", piece.escape_ascii());
-    }
-    Ok(())
+    let outcome = outcome_of(rt.alloc(), PAIRS, (1, usize::MAX), WHOLE);
+    assert!(rt; outcome.writes == 4);
+    // The first pair has 23 bytes, so four reads of seven, and no further one.
+    let outcome = outcome_of(rt.alloc(), PAIRS, (7, usize::MAX), (usize::MAX, 0));
+    assert!(rt; outcome.result == Err(RunError::Write) && outcome.reads == 4);
+    assert!(rt; outcome.text().is_empty());
 }
 
 #[test]

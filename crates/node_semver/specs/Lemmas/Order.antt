@@ -1,5 +1,6 @@
 -- The comparisons of `Order` are total orders, and say what its relations do.
-use Rattle.std.proofs.Common.{◌≡◌, ◌≢◌, ◌<◌, ◌↔◌, ℕ, List, [], ◌∷◌, ◌++◌, refl, sym, ap, subst, ◌∙◌, inl, inr, arith, Bool, IsTrue}
+use Rattle.std.proofs.Common.{◌≡◌, ◌≢◌, ◌<◌, ◌↔◌, ℕ, List, [], ◌∷◌, ◌++◌, refl}
+use Rattle.std.proofs.Common.{sym, ap, subst, ◌∙◌, inl, inr, arith, Bool, IsTrue}
 use Rattle.std.specs.Ordering.{eq_by_cmp, nat_cmp, on, then_cmp, ordering_then, ordering_reverse}
 use Rattle.std.specs.Cmp.{Equal-is, IsTotalOrder, nat_cmp_total, on_total, then_total, tied_itself}
 use Rattle.std.specs.Cmp.Lexicographic.{slice_cmp, lists_total, nat_list_cmp_total}
@@ -10,7 +11,8 @@ use Rattle.std.specs.declared.cmp.Ordering.TheVariants.{Less, Equal, Greater}
 use Rattle.semver_cuts.specs.Lemmas.CutOrder.{then_equal}
 use Rattle.node_semver.specs.IdentifierValue.{IdentifierValue, numeric, alphanumeric}
 use Rattle.node_semver.specs.Version.{VersionValue, HasSameTriple}
-use Rattle.node_semver.specs.Order.{IsListBelow, IsIdentifierBelow, IsBelow, by_major, by_minor, by_patch, before_release, by_identifiers, IsSame, OrderMeans, IdentifierOrderMeans}
+use Rattle.node_semver.specs.Order.{IsListBelow, IsIdentifierBelow, IsBelow, by_major, by_minor, by_patch}
+use Rattle.node_semver.specs.Order.{before_release, by_identifiers, IsSame, OrderMeans, IdentifierOrderMeans}
 use Rattle.node_semver.specs.Comparison.{identifier_cmp, prerelease_cmp, version_cmp}
 
 -- ---- the orders are total

@@ -1,6 +1,7 @@
 -- What the private functions that make the sets of a range do.
-use Rattle.std.specs.Prelude.{◌≡◌, ◌≢◌, ◌⊎◌, ◌≤◌, ℕ, List, [], ◌∷◌, ◌++◌, Option, Some, None, Result, Ok, Err}
-use Rattle.semver_cuts.specs.Ends.{Ends, IsCutBelow}
+use Rattle.std.specs.Prelude.{◌≡◌, ◌≢◌, ◌⊎◌, ◌≤◌, ◌↔◌, ℕ, Bool, List, [], ◌∷◌, ◌++◌, if◌then◌else◌, Option, Some, None, IfSome, IsSome, Result, Ok, Err}
+use Rattle.semver_cuts.specs.declared.cut.Cut.{Cut}
+use Rattle.semver_cuts.specs.Ends.{Ends, HoldsCut, IsCutBelow, span_between}
 use Rattle.node_semver.specs.Comparator.{Comparator}
 use Rattle.node_semver.specs.Comparison.{version_cmp}
 use Rattle.node_semver.specs.Division.{HasBars, IsAlternative}
@@ -8,20 +9,31 @@ use Rattle.node_semver.specs.Error.{IsOutOfMemory, IsRefusalAt, no_valid_ranges}
 use Rattle.node_semver.specs.Meaning.{GiveSet, IsRefused}
 use Rattle.node_semver.specs.Merging.{AreSetsOfText, IsSetOf}
 use Rattle.node_semver.specs.PartialText.{plain_partial}
-use Rattle.node_semver.specs.Version.{VersionValue}
+use Rattle.node_semver.specs.Version.{VersionValue, release}
+use Rattle.node_semver.specs.Private.Reading.{read_version}
 use Rattle.node_semver.specs.Characters.{BeginsWith, is_digit}
 use Rattle.node_semver.specs.Private.WordReading.{Lead, caret_lead, lead_comparator, no_lead, read_partial, tilde_lead}
 use Rattle.node_semver.specs.declared.TheConstants.{MAX_SAFE_INTEGER}
 use Rattle.node_semver.specs.declared.error.SemverError.{SemverError}
-use Rattle.node_semver.specs.declared.range.full.Sign.{Sign}
-use Rattle.node_semver.specs.declared.range.full.Sign.TheVariants.{Caret, Nothing, Tilde}
-use Rattle.node_semver.specs.declared.range.sets.Sets.{Sets}
-use Rattle.node_semver.specs.declared.range.sets.Sets.TheVariants.{One, Many}
+use Rattle.node_semver.specs.declared.range.read.full.Sign.{Sign}
+use Rattle.node_semver.specs.declared.range.read.full.Sign.TheVariants.{Caret, Nothing, Tilde}
+use Rattle.node_semver.specs.declared.range.algebra.gathered.Found.{Found}
+use Rattle.node_semver.specs.declared.range.algebra.gathered.Found.TheVariants.{Many, One}
 
 -- the comparators merged into one, or none where there are none
 abbrev pub IsMerged : List Comparator → Option Comparator → Type 0
 IsMerged comparators None = comparators ≡ []
 IsMerged comparators (Some merged) = IsSetOf comparators merged
+
+-- what is seen of comparators that are merged as they come: none before the first came
+abbrev pub merged_seen : Bool → Cut VersionValue → Cut VersionValue → Option Comparator
+merged_seen found lower upper = if found then Some (span_between lower upper) else None
+
+-- the span of merged comparators, or none where there are none or no cut lies between their ends
+abbrev pub IsSpanOf : Option Comparator → Option (Ends VersionValue) → Type 0
+IsSpanOf None span = span ≡ None
+IsSpanOf (Some merged) span =
+    (IsSome span ↔ HoldsCut version_cmp merged) × IfSome span (λ ends. ends ≡ merged)
 
 -- those of an alternative
 abbrev pub IsMergedAlternative : List ℕ → Option Comparator → Type 0
@@ -46,10 +58,11 @@ sign_seen Caret = caret_lead
 sign_seen Tilde = tilde_lead
 sign_seen Nothing = no_lead
 
--- three numbers, which are the whole text and the partial that it begins with
+-- three numbers, which are the whole text, the partial that it begins with and the version
 pub record IsFullText (text : List ℕ) (major minor patch : ℕ) : Type 0 where
   pub digit : BeginsWith is_digit text
   pub read : Some (plain_partial (Some major) (Some minor) (Some patch), []) ≡ read_partial text
+  pub version : read_version text ≡ Ok (release major minor patch, [])
   pub major_limit : major ≤ MAX_SAFE_INTEGER
   pub minor_limit : minor ≤ MAX_SAFE_INTEGER
   pub patch_limit : patch ≤ MAX_SAFE_INTEGER
@@ -76,15 +89,14 @@ listed_set (Some set) = set ∷ []
 abbrev pub IsOneMore : List ℕ → List (Ends VersionValue) → List (Ends VersionValue) → Type 0
 IsOneMore text before after = (set : Option (Ends VersionValue)) × IsSetOfAlternative text set × (after ≡ before ++ listed_set set)
 
--- the list of the sets of a range
-abbrev pub sets_seen : Sets → List (Ends VersionValue)
-sets_seen (One set) = set ∷ []
-sets_seen (Many sets) = sets.items
+-- the list of the sets that came, where any came
+abbrev pub found_seen : Found → List (Ends VersionValue)
+found_seen (One set) = set ∷ []
+found_seen (Many sets) = sets.items
 
--- and of an answer, where it has any
-abbrev pub some_sets_seen : Option Sets → List (Ends VersionValue)
-some_sets_seen None = []
-some_sets_seen (Some sets) = sets_seen sets
+abbrev pub some_found_seen : Option Found → List (Ends VersionValue)
+some_found_seen None = []
+some_found_seen (Some sets) = found_seen sets
 
 -- what is answered for a text: its sets, at least one, or its refusal, unless memory ran out
 abbrev pub IsReadRange : List ℕ → Result (List (Ends VersionValue)) SemverError → Type 0

@@ -1,10 +1,12 @@
 -- What the private readers compute, on lists of bytes: a value and the rest, or a fault. The lemmas of
 -- `proofs/` tie it to what the texts mean; no public contract speaks of it.
-use Rattle.std.specs.Prelude.{ℕ, ◌==◌, nat_le, if◌then◌else◌, Bool, true, false, List, [], ◌∷◌, length, map, Result, Ok, Err}
+use Rattle.std.specs.Prelude.{ℕ, ◌==◌, nat_le, if◌then◌else◌, Bool, true, false}
+use Rattle.std.specs.Prelude.{List, [], ◌∷◌, length, map, Result, Ok, Err}
 use Rattle.node_semver.specs.declared.TheConstants.{MAX_SAFE_INTEGER}
 use Rattle.node_semver.specs.declared.parse.fault.Fault.{Fault}
 use Rattle.node_semver.specs.declared.parse.fault.Fault.TheVariants.{Missing, TooLarge}
-use Rattle.node_semver.specs.Characters.{dot, hyphen, is_blank, is_digit, is_identifier_character, is_version_mark, plus}
+use Rattle.node_semver.specs.Characters.{dot, hyphen, is_blank, is_digit}
+use Rattle.node_semver.specs.Characters.{is_identifier_character, is_version_mark, plus}
 use Rattle.node_semver.specs.IdentifierText.{identifier_of, parts_of}
 use Rattle.node_semver.specs.IdentifierValue.{IdentifierValue}
 use Rattle.node_semver.specs.NumberText.{number_of}

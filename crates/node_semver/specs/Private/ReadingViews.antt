@@ -1,5 +1,6 @@
 -- What is seen of what the private readers answer.
-use Rattle.std.specs.Prelude.{◌≡◌, ◌-◌, ◌<◌, ◌⊎◌, ℕ, Bool, true, List, [], ◌∷◌, drop, length, Result, Ok, Err, IsOk, codes}
+use Rattle.std.specs.Prelude.{◌≡◌, ◌-◌, ◌<◌, ◌⊎◌, ℕ, Bool, true, List, [], ◌∷◌}
+use Rattle.std.specs.Prelude.{drop, length, Result, Ok, Err, IsOk, codes}
 use Rattle.node_semver.specs.Version.{VersionValue}
 use Rattle.std.specs.Borrow.{Bor}
 use Rattle.node_semver.specs.Characters.{is_digit, is_identifier_character, dot}

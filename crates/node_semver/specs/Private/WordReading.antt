@@ -6,7 +6,8 @@ use Rattle.node_semver.specs.Characters.{caret, dot, greater_sign, hyphen, is_bl
 use Rattle.node_semver.specs.Comparator.{Comparator}
 use Rattle.node_semver.specs.HyphenRanges.{hyphen_comparator}
 use Rattle.node_semver.specs.IdentifierValue.{IdentifierValue}
-use Rattle.node_semver.specs.Operators.{Operator, equal, greater, greater_or_equal, less, less_or_equal, operator_comparator, plain_comparator}
+use Rattle.node_semver.specs.Operators.{Operator, equal, greater, greater_or_equal, less}
+use Rattle.node_semver.specs.Operators.{less_or_equal, operator_comparator, plain_comparator}
 use Rattle.node_semver.specs.PartialText.{Partial, plain_partial, zeroed}
 use Rattle.node_semver.specs.TildeRanges.{tilde_greater_row, tilde_row}
 use Rattle.node_semver.specs.Private.Reading.{Read, begins, read_extras, read_number, rest_of, skip_one}

@@ -9,13 +9,13 @@ use Rattle.node_semver.specs.PartialText.{Partial}
 use Rattle.node_semver.specs.Version.{VersionValue, least_of, without_build}
 use Rattle.node_semver.specs.Private.Reading.{read_extras}
 use Rattle.node_semver.specs.Private.WordReading as Reading
-use Rattle.node_semver.specs.Private.WordReading.{ReadPartial, Word, is_clean, with_extras}
+use Rattle.node_semver.specs.Private.WordReading.{ReadPartial, Word, with_extras}
 use Rattle.node_semver.specs.declared.TheConstants.{MAX_SAFE_INTEGER}
 use Rattle.node_semver.specs.declared.parse.partial.Component.{Component}
 use Rattle.node_semver.specs.declared.parse.partial.Partial.{Partial as CodePartial}
 use Rattle.node_semver.specs.declared.parse.partial.Shape.{Shape}
 use Rattle.node_semver.specs.declared.parse.partial.Shape.TheVariants.{Full, Major, MajorMinor, MajorPatch, Minor, MinorPatch, Nothing, Patch}
-use Rattle.node_semver.specs.declared.word.ends.Ends.{Ends as CodeEnds}
+use Rattle.node_semver.specs.declared.word.ends.WordEnds.{WordEnds}
 use Rattle.node_semver.specs.declared.word.ends.Form.{Form}
 use Rattle.node_semver.specs.declared.word.ends.Form.TheVariants.{Above as AboveForm, AtLeast as AtLeastForm, AtMost as AtMostForm, AtMostLeast as AtMostLeastForm, BareUpTo as BareUpToForm, Below as BelowForm, BelowLeast as BelowLeastForm, Equal as EqualForm, Exactly as ExactlyForm, Nothing as NothingForm, Through as ThroughForm, UpTo as UpToForm}
 use Rattle.node_semver.specs.declared.word.ends.WrittenVersion.{WrittenVersion}
@@ -23,7 +23,7 @@ use Rattle.node_semver.specs.declared.word.hyphen.RightEnd.{RightEnd}
 use Rattle.node_semver.specs.declared.word.lead.Lead.{Lead}
 use Rattle.node_semver.specs.declared.word.lead.Lead.TheVariants.{Caret, Operator as OperatorLead, Plain, Tilde, TildeGreater}
 use Rattle.node_semver.specs.declared.word.operator.Operator.{Operator as CodeOperator}
-use Rattle.node_semver.specs.declared.word.operator.Operator.TheVariants.{Above, AtLeast, AtMost, Below, Exactly}
+use Rattle.node_semver.specs.declared.word.operator.Operator.TheVariants.{Above, AtLeast, AtMost, Below, Equal}
 
 -- ---- partials
 
@@ -101,7 +101,7 @@ pub record IsSound (p : CodePartial) : Type 0 where
 abbrev pub operator_seen : CodeOperator → Operator
 operator_seen AtLeast = greater_or_equal
 operator_seen Above = greater
-operator_seen Exactly = equal
+operator_seen Equal = equal
 operator_seen AtMost = less_or_equal
 operator_seen Below = less
 
@@ -154,14 +154,8 @@ form_comparator BareUpToForm v w = Some (from_up_to (without_build v) (least w))
 form_comparator ThroughForm v w = Some (from_through v w)
 
 -- the comparator, if there is one
-abbrev pub ends_seen : CodeEnds → Option Comparator
+abbrev pub ends_seen : WordEnds → Option Comparator
 ends_seen e = form_comparator e.form (written_seen e.lower) (written_seen e.upper)
-
--- there is a comparator, and its one version, or the lower one before an upper triple, has no extras
-pub record IsPlain (e : CodeEnds) : Type 0 where
-  pub some : e.form ≢ NothingForm
-  pub one : e.form ≢ ThroughForm
-  pub no_extras : is_clean e.lower.extras.now ≡ true
 
 -- where a hyphen range ends
 abbrev pub right_end_seen : RightEnd → Cut VersionValue
@@ -170,11 +164,11 @@ right_end_seen e = if e.is_held then After (written_seen e.version) else Before 
 -- ---- words
 
 -- the word
-abbrev pub word_seen : CodeEnds × Bor (List ℕ) → Word
+abbrev pub word_seen : WordEnds × Bor (List ℕ) → Word
 word_seen w = (ends_seen w.0, w.1.now)
 
 -- or none
-abbrev pub some_word_seen : Option (CodeEnds × Bor (List ℕ)) → Option Word
+abbrev pub some_word_seen : Option (WordEnds × Bor (List ℕ)) → Option Word
 some_word_seen None = None
 some_word_seen (Some w) = Some (word_seen w)
 

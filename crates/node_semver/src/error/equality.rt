@@ -18,3 +18,11 @@ pub fn errors_are_equal_where_their_parts_are()
     ensures error { (e f : SemverError) →
         IsTrue (⟦<SemverError as PartialEq>⟧.eq e f) ↔ (error_value e ≡ error_value f) }
 {}
+
+/// A kind is always copied, as that kind: `clone` of it never fails.
+///
+/// This does nothing: its contract is the law.
+pub fn a_kind_is_always_copied()
+    ensures copied { (k : SemverErrorKind) → ⟦<SemverErrorKind as Clone>⟧.is_infallible k }
+    ensures same { (k l : SemverErrorKind) → ⟦<SemverErrorKind as Clone>⟧.is_clone k l → kind_value k ≡ kind_value l }
+{}

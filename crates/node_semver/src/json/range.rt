@@ -4,7 +4,8 @@ ghost use Rattle.serde_json.specs.Data.{string};
 ghost use Rattle.serde_json.specs.Find.{as_str};
 ghost use Rattle.serde_json.specs.View.{view};
 ghost use Rattle.node_semver.specs.declared.json.JsonError.TheVariants.{NotAString};
-ghost use Rattle.node_semver.specs.Json.{IsRangeAnswer, PassesOn};
+ghost use Rattle.node_semver.specs.Json.{PassesOn};
+ghost use Rattle.node_semver.specs.RangeAnswer.{IsRangeAnswer};
 ghost use Rattle.node_semver.specs.RangePrint.{range_text};
 
 use crate::{JsonError, Range};

@@ -1,9 +1,11 @@
 //! What two ranges have in common, and questions over two ranges.
 
-ghost use Rattle.std.specs.Prelude.{◌≡◌, ◌≢◌, ◌↔◌, [], IfOk, IfSome, IsNone, IsTrue};
+ghost use Rattle.std.specs.Prelude.{◌≡◌, ◌≢◌, ◌⊎◌, ◌↔◌, List, [], IfOk, IfSome, IsNone, IsSome, IsTrue};
 ghost use Rattle.semver_cuts.specs.declared.cut.Cut.{Cut};
 ghost use Rattle.semver_cuts.specs.Common.{IsInSome};
 ghost use Rattle.semver_cuts.specs.CommonSpans.{common_spans};
+ghost use Rattle.semver_cuts.specs.Ends.{Ends};
+ghost use Rattle.semver_cuts.specs.Rest.{AreRestSpans};
 ghost use Rattle.semver_cuts.specs.Sharing.{CoversOne, ShareCut};
 ghost use Rattle.node_semver.specs.Comparison.{version_cmp};
 ghost use Rattle.node_semver.specs.Meaning.{RangeAdmits};
@@ -11,8 +13,13 @@ ghost use Rattle.node_semver.specs.RangeAlgebra.{PairAdmits, sets_of_answer};
 ghost use Rattle.node_semver.specs.RangeSets.{IsRangeValue};
 ghost use Rattle.node_semver.specs.Version.{IsPrerelease, VersionValue};
 
+pub(crate) mod copy;
+mod difference;
+mod gathered;
+
 use crate::Range;
-use crate::range::gathered::Gathered;
+pub(crate) use copy::copies_of;
+use gathered::Gathered;
 use semver_cuts::algebra::{common_spans, covers_one, share_cut};
 use std::alloc::{AllocError, Global};
 
@@ -26,6 +33,8 @@ impl Range {
     /// A release satisfies the answer exactly where it satisfies both ranges. A prerelease does exactly where a set of
     /// one and a set of the other both have it inside and an end of one of the two is a prerelease of its triple: so
     /// `1.0.0-b` satisfies what `>=1.0.0-a` and `<2.0.0` have in common, though it does not satisfy `<2.0.0`.
+    ///
+    /// The cuts of `a.intersect(b)` and of `a.difference(b)` are disjoint, and together those of `a`.
     ///
     /// # Errors
     ///
@@ -45,15 +54,23 @@ impl Range {
         ensures cuts { IfOk result (λ answer. (cut : Cut VersionValue) → IsInSome version_cmp (sets_of_answer answer) cut
             ↔ (IsInSome version_cmp self.now cut × IsInSome version_cmp other.now cut)) }
         ensures none { IfOk result (λ answer. IsNone answer ↔ ¬ ShareCut version_cmp self.now other.now) }
+        ensures some { IfOk result (λ answer. IsSome answer ↔ ShareCut version_cmp self.now other.now) }
         ensures releases { IfOk result (λ answer. (v : VersionValue) → ¬ IsPrerelease v →
             RangeAdmits (sets_of_answer answer) v ↔ (RangeAdmits self.now v × RangeAdmits other.now v)) }
         ensures prereleases { IfOk result (λ answer. (v : VersionValue) → IsPrerelease v →
             RangeAdmits (sets_of_answer answer) v ↔ PairAdmits self.now other.now v) }
+        ensures disjoint { IfOk result (λ answer. (rest : List (Ends VersionValue)) →
+            AreRestSpans version_cmp self.now other.now rest → (cut : Cut VersionValue) →
+            ¬ (IsInSome version_cmp (sets_of_answer answer) cut × IsInSome version_cmp rest cut)) }
+        ensures together { IfOk result (λ answer. (rest : List (Ends VersionValue)) →
+            AreRestSpans version_cmp self.now other.now rest → (cut : Cut VersionValue) →
+            IsInSome version_cmp self.now cut
+            ↔ (IsInSome version_cmp (sets_of_answer answer) cut ⊎ IsInSome version_cmp rest cut)) }
         ensures holds { IfOk result (λ answer. IfSome answer IsRangeValue) }
     {
         let mut sets = Gathered::new(alloc);
         common_spans(self.sets.as_slice(), other.sets.as_slice(), &mut sets)?;
-        Ok(sets.into_range())
+        Ok(sets.into_range()?)
     }
 
     /// Whether the two ranges have a cut in common.
@@ -72,6 +89,7 @@ impl Range {
     /// `2 - 8` and `<=4.0.0` have some. `<1.2.3` and `>1.2.3` have none, nor have `1.2.3` and `<1.2.3`.
     pub fn allows_any(&self, other: &Range) -> bool
         ensures shared { IsTrue result ↔ ShareCut version_cmp self.now other.now }
+        ensures symmetric { IsTrue result ↔ ShareCut version_cmp other.now self.now }
         ensures intersection { IsTrue result ↔ (common_spans version_cmp self.now other.now ≢ []) }
     {
         share_cut(self.sets.as_slice(), other.sets.as_slice())

@@ -7,11 +7,16 @@ ghost use Rattle.node_semver.specs.Private.LeastViews.{IsLeastOfSet, IsLeastOfSe
 ghost use Rattle.node_semver.specs.RangeSets.{IsRangeSet};
 ghost use Rattle.node_semver.specs.Version.{release};
 
-use crate::range::unbuilt::Unbuilt;
+mod beyond;
+mod candidates;
+mod unbuilt;
+
+use crate::end::{End, Extras, Lent};
 use crate::set::opens;
 use crate::{Identifier, Range, Version};
 use semver_cuts::{Cut, Span};
 use std::alloc::{AllocError, Global};
+use unbuilt::Unbuilt;
 
 impl Range {
     /// The least version that the range admits, or `None` where it admits none.
@@ -42,8 +47,8 @@ impl Range {
     {
         let sets = self.sets.as_slice();
         match plain_beginning(sets) {
-            Some(version) => {
-                let (major, minor, patch) = (version.major, version.minor, version.patch);
+            Some(end) => {
+                let (major, minor, patch) = (end.major, end.minor, end.patch);
                 Ok(Some(Version::new(alloc, major, minor, patch)))
             }
             None => least_built(alloc, sets),
@@ -51,16 +56,16 @@ impl Range {
     }
 }
 
-// The version that the only set begins before, if it has no identifiers: it is the least. Most ranges have one.
+// The release that the only set begins before, if it has no build: it is the least. Most ranges have one.
 #[inline(always)]
-fn plain_beginning(sets: &[Span<Version>]) -> Option<&Version>
+fn plain_beginning(sets: &[Span<End>]) -> Option<&End>
     requires { AllByRecursion IsRangeSet sets.now }
     ensures least { IfSome result (λ v. IsLeastOfSets sets.now (Some v.now)) }
     ensures plain { IfSome result (λ v. v.now ≡ release v.now.major v.now.minor v.now.patch) }
 {
     match sets {
         [set] => match set.lower() {
-            Cut::Before(version) if is_plain(version) => Some(version),
+            Cut::Before(end) if has_no_extras(end) => Some(end),
             _ => None,
         },
         _ => None,
@@ -68,19 +73,22 @@ fn plain_beginning(sets: &[Span<Version>]) -> Option<&Version>
 }
 
 #[inline(always)]
-fn is_plain(version: &Version) -> bool
-    ensures { IsTrue result → version.now ≡ release version.now.major version.now.minor version.now.patch }
+fn has_no_extras(end: &End) -> bool
+    ensures { IsTrue result → end.now ≡ release end.now.major end.now.minor end.now.patch }
 {
-    version.pre_release.is_empty() && version.build.is_empty()
+    match &end.extras {
+        Extras::Nothing => true,
+        Extras::Zero | Extras::Lists(_) => false,
+    }
 }
 
 // The least version that one of the sets admits, built.
 #[inline(never)]
-fn least_built(alloc: Global, sets: &[Span<Version>]) -> Result<Option<Version>, AllocError>
+fn least_built(alloc: Global, sets: &[Span<End>]) -> Result<Option<Version>, AllocError>
     requires { AllByRecursion IsRangeSet sets.now }
     ensures { IfOk result (IsLeastOfSets sets.now) }
 {
-    match least_of_sets(alloc, sets) {
+    match least_of_sets(sets) {
         Some(least) => Ok(Some(least.built(alloc)?)),
         None => Ok(None),
     }
@@ -88,13 +96,13 @@ fn least_built(alloc: Global, sets: &[Span<Version>]) -> Result<Option<Version>,
 
 // The same, not built yet.
 #[inline]
-fn least_of_sets(alloc: Global, sets: &[Span<Version>]) -> Option<Unbuilt<'_>>
+fn least_of_sets(sets: &[Span<End>]) -> Option<Unbuilt<'_>>
     requires { AllByRecursion IsRangeSet sets.now }
     ensures { IsLeastOfSets sets.now result }
 {
     let mut least = None;
     'sets: for set in sets {
-        least = lesser(least, least_of_set(alloc, set));
+        least = lesser(least, least_of_set(set));
     }
     least
 }
@@ -117,20 +125,18 @@ fn lesser<'a>(earlier: Option<Unbuilt<'a>>, later: Option<Unbuilt<'a>>) -> Optio
 
 // The least version that the set admits. Where the set begins before a version this is that one.
 #[inline]
-fn least_of_set(alloc: Global, set: &Span<Version>) -> Option<Unbuilt<'_>>
+fn least_of_set(set: &Span<End>) -> Option<Unbuilt<'_>>
     requires { IsRangeSet set.now }
     ensures { IsLeastOfSet set.now result }
 {
     let upper = set.upper();
     match set.lower() {
-        Cut::Start => least_of_triple(alloc, upper, 0, 0, 0, &[]).if_inside(upper),
-        Cut::Before(version) => Some(Unbuilt::itself(version)),
-        Cut::After(version) if version.is_prerelease() => {
-            Unbuilt::with_zero(version).if_inside(upper)
-        }
-        Cut::After(version) => {
-            let (major, minor, patch) = (version.major, version.minor, version.patch + 1);
-            least_of_triple(alloc, upper, major, minor, patch, &version.build).if_inside(upper)
+        Cut::Start => least_of_triple(upper, (0, 0, 0), &[]).if_inside(upper),
+        Cut::Before(end) => Some(Unbuilt::at_end(end)),
+        Cut::After(end) if end.is_prerelease() => { Unbuilt::after_end(end).if_inside(upper) }
+        Cut::After(end) => {
+            let next = (end.major, end.minor, end.patch + 1);
+            least_of_triple(upper, next, end.build()).if_inside(upper)
         }
         Cut::End => None,
     }
@@ -139,22 +145,19 @@ fn least_of_set(alloc: Global, set: &Span<Version>) -> Option<Unbuilt<'_>>
 // The least version of a triple that no lower end opens: a prerelease where the upper end opens it.
 #[inline]
 fn least_of_triple<'a>(
-    alloc: Global,
-    upper: &Cut<Version>,
-    major: u64,
-    minor: u64,
-    patch: u64,
+    upper: &Cut<End>,
+    triple: (u64, u64, u64),
     build: &'a [Identifier],
 ) -> Unbuilt<'a>
-    ensures { IsLeastOfTriple upper.now major minor patch (values_of build.now) result }
+    ensures { IsLeastOfTriple upper.now triple.0 triple.1 triple.2 (values_of build.now) result }
 {
-    let zero = opens(upper, &Version::new(alloc, major, minor, patch));
+    let (major, minor, patch) = triple;
     Unbuilt {
         major,
         minor,
         patch,
-        identifiers: &[],
-        zero,
+        identifiers: Lent::List(&[]),
+        zero: opens(upper, triple),
         build,
     }
 }

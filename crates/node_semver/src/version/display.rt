@@ -1,10 +1,12 @@
 //! The text of versions.
 
-ghost use Rattle.std.specs.Prelude.{Some, flat_map};
+ghost use Rattle.std.specs.Prelude.{◌∷◌, ◌++◌, Some, decimal, flat_map};
 ghost use Rattle.std.specs.Fmt.{WritesOnOk};
+ghost use Rattle.node_semver.specs.Identifier.{values_of};
 ghost use Rattle.node_semver.specs.Print.{version_text};
 ghost use Rattle.node_semver.specs.Lemmas.Print.{dotted_text, led_text};
 
+use crate::line::{ROOM, triple_text};
 use crate::{Identifier, Version};
 use std::fmt;
 
@@ -23,10 +25,44 @@ impl fmt::Display for Version {
     ghost output = { λ v. Some (version_text v) };
 
     fn fmt<W: fmt::Write>(&self, f: &mut fmt::Formatter<W>) -> fmt::Result {
-        let (major, minor, patch) = (self.major, self.minor, self.patch);
-        write!(f, "{major}.{minor}.{patch}")?;
-        write_marked(f, "-", &self.pre_release)?;
-        write_marked(f, "+", &self.build)
+        let triple = (self.major, self.minor, self.patch);
+        write_version(f, triple, &self.pre_release, &self.build)
+    }
+}
+
+// The version with this triple, this prerelease and this build.
+pub(crate) fn write_version<W: fmt::Write>(
+    f: &mut fmt::Formatter<W>,
+    triple: (u64, u64, u64),
+    pre_release: &[Identifier],
+    build: &[Identifier],
+) -> fmt::Result
+    ensures { WritesOnOk W.write_str_gives f.old result (version_text record {
+      major = triple.0;
+      minor = triple.1;
+      patch = triple.2;
+      pre_release = values_of pre_release.now;
+      build = values_of build.now;
+    }) f.new }
+{
+    write_triple(f, triple)?;
+    write_marked(f, "-", pre_release)?;
+    write_marked(f, "+", build)
+}
+
+// `1.2.3`, by one write.
+#[inline]
+fn write_triple<W: fmt::Write>(f: &mut fmt::Formatter<W>, triple: (u64, u64, u64)) -> fmt::Result
+    ensures { WritesOnOk W.write_str_gives f.old result
+        (decimal triple.0 ++ (46 ∷ (decimal triple.1 ++ (46 ∷ decimal triple.2)))) f.new }
+{
+    let mut line = [0; ROOM];
+    match triple_text(&mut line, triple) {
+        Some(text) => f.write_str(text),
+        None => {
+            let (major, minor, patch) = triple;
+            write!(f, "{major}.{minor}.{patch}")
+        }
     }
 }
 

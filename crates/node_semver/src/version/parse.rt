@@ -77,6 +77,21 @@ fn whole(alloc: Global, text: &[u8]) -> Result<Version, Fault>
         // Told at the last byte.
         return Err(Fault::TooLong(1));
     }
+    match parse::read_full_triple(text) {
+        Some((major, minor, patch)) => Ok(Version::new(alloc, major, minor, patch)),
+        None => whole_in_parts(alloc, text),
+    }
+}
+
+// The same of any text that is no longer.
+#[inline(never)]
+fn whole_in_parts(alloc: Global, text: &[u8]) -> Result<Version, Fault>
+    requires { length text.now ≤ MAX_LENGTH }
+    ensures found { IfOk result (λ v. IsVersionText text.now v) }
+    ensures fault { IfErr result (IsMemoryOr text.now) }
+    ensures plain { (v : VersionValue) → IsVersionText text.now v → v.pre_release ≡ []
+        → v.build ≡ [] → IsOk result }
+{
     match parse::read_version(alloc, text) {
         Ok((version, [])) => Ok(version),
         Ok((_, rest)) => Err(Fault::LeftOver(rest.len())),

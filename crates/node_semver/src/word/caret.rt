@@ -9,12 +9,12 @@ ghost use Rattle.node_semver.specs.Private.WordViews.{IsSound, ends_seen, partia
 use crate::MAX_SAFE_INTEGER;
 use crate::parse::{Partial, Shape};
 use crate::word::ends::{
-    Ends, WrittenVersion, bare_up_to, below_least, next, nothing, release, with_major, zeroed,
+    WordEnds, WrittenVersion, bare_up_to, below_least, next, nothing, release, with_major, zeroed,
 };
 
 // `^1.2.3` is `>=1.2.3 <2.0.0-0`, `^1.2` is `>=1.2.0 <2.0.0-0`.
 #[inline(always)]
-pub(crate) fn caret_ends(partial: Partial) -> Ends
+pub(crate) fn caret_ends(partial: Partial) -> WordEnds
     requires { IsSound partial }
     ensures { let p = partial_seen partial.entry in
         ends_seen result ≡ CaretRanges.caret_row p.major p.minor p.patch (PartialText.zeroed p) }
@@ -36,7 +36,7 @@ pub(crate) fn caret_ends(partial: Partial) -> Ends
 
 // `^0` is `<1.0.0-0`, `^1` is `>=1.0.0 <2.0.0-0`.
 #[inline(always)]
-fn one_number(major: u64) -> Ends<'static>
+fn one_number(major: u64) -> WordEnds<'static>
     requires { major ≤ MAX_SAFE_INTEGER }
     ensures { ends_seen result ≡ Some (if nat_eq major 0 then Comparators.below (Versions.least_of 1 0 0)
         else Comparators.with_major major) }
@@ -50,7 +50,7 @@ fn one_number(major: u64) -> Ends<'static>
 
 // Up to where the first of two numbers that is not 0 rises, or the second: from `1.2` to `2.0.0-0`, from `0.2` to `0.3.0-0`
 #[inline(always)]
-fn from_two<'a>(lower: WrittenVersion<'a>, major: u64, minor: u64) -> Ends<'a>
+fn from_two<'a>(lower: WrittenVersion<'a>, major: u64, minor: u64) -> WordEnds<'a>
     requires major { major ≤ MAX_SAFE_INTEGER }
     requires minor { minor ≤ MAX_SAFE_INTEGER }
     ensures { ends_seen result ≡ Some (Comparators.from_up_to (Versions.without_build (written_seen lower.entry))
@@ -65,7 +65,7 @@ fn from_two<'a>(lower: WrittenVersion<'a>, major: u64, minor: u64) -> Ends<'a>
 
 // The same of three numbers: from `0.0.3` to `0.0.4-0`
 #[inline(always)]
-fn from_three<'a>(lower: WrittenVersion<'a>, major: u64, minor: u64, patch: u64) -> Ends<'a>
+fn from_three<'a>(lower: WrittenVersion<'a>, major: u64, minor: u64, patch: u64) -> WordEnds<'a>
     requires major { major ≤ MAX_SAFE_INTEGER }
     requires minor { minor ≤ MAX_SAFE_INTEGER }
     requires patch { patch ≤ MAX_SAFE_INTEGER }

@@ -2,17 +2,16 @@
 //!
 //! All is flat: one form, two triples and what stands after them. What is `#[inline(always)]` hands numbers on, and is
 //! gone once a word is read.
-ghost use Rattle.std.specs.Prelude.{◌≡◌, ◌↔◌, ◌≤◌, ◌+◌, IfOk, IsTrue, None, Some, true};
+ghost use Rattle.std.specs.Prelude.{◌≡◌, ◌↔◌, ◌≤◌, ◌+◌, IfOk, IfSome, IsTrue, None, Some};
 ghost use Rattle.node_semver.specs.Comparator as Comparators;
 ghost use Rattle.node_semver.specs.PartialText as PartialText;
 ghost use Rattle.node_semver.specs.Version as Versions;
-ghost use Rattle.node_semver.specs.Private.WordReading.{is_clean};
-ghost use Rattle.node_semver.specs.Private.WordViews.{IsPlain, IsSound, ends_seen, from_through, partial_seen, written_seen};
+ghost use Rattle.node_semver.specs.Private.WordViews.{IsSound, ends_seen, from_through, partial_seen, written_seen};
 
-use crate::bound::{Bound, Bounds, between};
+use crate::MAX_SAFE_INTEGER;
 use crate::comparator::Comparator;
+use crate::end::End;
 use crate::parse::{Partial, begins_clean, read_extras, read_prerelease};
-use crate::{MAX_SAFE_INTEGER, Version};
 use semver_cuts::Cut;
 use std::alloc::{AllocError, Global};
 
@@ -56,7 +55,7 @@ enum Form {
 
 // The ends of a comparator, or none.
 #[derive(Clone, Copy)]
-pub(crate) struct Ends<'a> {
+pub(crate) struct WordEnds<'a> {
     form: Form,
     lower: WrittenVersion<'a>,
     upper: WrittenVersion<'a>,
@@ -64,7 +63,7 @@ pub(crate) struct Ends<'a> {
 
 // `1.2.3`
 #[inline(always)]
-#[tactic(auto, using(crate::proofs::ExtrasReading::no_extras))]
+#[tactic(auto, using(crate::proofs::Texts::ExtrasReading::no_extras))]
 pub(crate) fn release(major: u64, minor: u64, patch: u64) -> WrittenVersion<'static>
     ensures { written_seen result ≡ Versions.release major minor patch }
 {
@@ -100,11 +99,11 @@ pub(crate) fn next(number: u64) -> u64
 }
 
 #[inline(always)]
-fn of_one<'a>(form: Form, version: WrittenVersion<'a>) -> Ends<'a>
+fn of_one<'a>(form: Form, version: WrittenVersion<'a>) -> WordEnds<'a>
     ensures form { result.form ≡ form }
     ensures lower { written_seen result.lower ≡ written_seen version.entry }
 {
-    Ends {
+    WordEnds {
         form,
         lower: version,
         upper: version,
@@ -113,7 +112,7 @@ fn of_one<'a>(form: Form, version: WrittenVersion<'a>) -> Ends<'a>
 
 // no comparator
 #[inline(always)]
-pub(crate) fn nothing() -> Ends<'static>
+pub(crate) fn nothing() -> WordEnds<'static>
     ensures { ends_seen result ≡ None }
 {
     of_one(Form::Nothing, release(0, 0, 0))
@@ -121,7 +120,7 @@ pub(crate) fn nothing() -> Ends<'static>
 
 // `>=1.2.3`
 #[inline(always)]
-pub(crate) fn at_least<'a>(version: WrittenVersion<'a>) -> Ends<'a>
+pub(crate) fn at_least<'a>(version: WrittenVersion<'a>) -> WordEnds<'a>
     ensures { ends_seen result ≡ Some (Comparators.at_least (written_seen version.entry)) }
 {
     of_one(Form::AtLeast, version)
@@ -129,7 +128,7 @@ pub(crate) fn at_least<'a>(version: WrittenVersion<'a>) -> Ends<'a>
 
 // `>1.2.3`
 #[inline(always)]
-pub(crate) fn above<'a>(version: WrittenVersion<'a>) -> Ends<'a>
+pub(crate) fn above<'a>(version: WrittenVersion<'a>) -> WordEnds<'a>
     ensures { ends_seen result ≡ Some (Comparators.above (written_seen version.entry)) }
 {
     of_one(Form::Above, version)
@@ -137,7 +136,7 @@ pub(crate) fn above<'a>(version: WrittenVersion<'a>) -> Ends<'a>
 
 // `<1.2.3`
 #[inline(always)]
-pub(crate) fn below<'a>(version: WrittenVersion<'a>) -> Ends<'a>
+pub(crate) fn below<'a>(version: WrittenVersion<'a>) -> WordEnds<'a>
     ensures { ends_seen result ≡ Some (Comparators.below (written_seen version.entry)) }
 {
     of_one(Form::Below, version)
@@ -145,7 +144,7 @@ pub(crate) fn below<'a>(version: WrittenVersion<'a>) -> Ends<'a>
 
 // `<1.2.3-0`
 #[inline(always)]
-pub(crate) fn below_least(major: u64, minor: u64, patch: u64) -> Ends<'static>
+pub(crate) fn below_least(major: u64, minor: u64, patch: u64) -> WordEnds<'static>
     ensures { ends_seen result ≡ Some (Comparators.below (Versions.least_of major minor patch)) }
 {
     of_one(Form::BelowLeast, release(major, minor, patch))
@@ -153,7 +152,7 @@ pub(crate) fn below_least(major: u64, minor: u64, patch: u64) -> Ends<'static>
 
 // `<=1.2.3`
 #[inline(always)]
-pub(crate) fn at_most<'a>(version: WrittenVersion<'a>) -> Ends<'a>
+pub(crate) fn at_most<'a>(version: WrittenVersion<'a>) -> WordEnds<'a>
     ensures { ends_seen result ≡ Some (Comparators.at_most (written_seen version.entry)) }
 {
     of_one(Form::AtMost, version)
@@ -161,7 +160,7 @@ pub(crate) fn at_most<'a>(version: WrittenVersion<'a>) -> Ends<'a>
 
 // `<=1.2.3-0`
 #[inline(always)]
-pub(crate) fn at_most_least(major: u64, minor: u64, patch: u64) -> Ends<'static>
+pub(crate) fn at_most_least(major: u64, minor: u64, patch: u64) -> WordEnds<'static>
     ensures { ends_seen result ≡ Some (Comparators.at_most (Versions.least_of major minor patch)) }
 {
     of_one(Form::AtMostLeast, release(major, minor, patch))
@@ -169,7 +168,7 @@ pub(crate) fn at_most_least(major: u64, minor: u64, patch: u64) -> Ends<'static>
 
 // `>=1.2.3+5 <=1.2.3+5`
 #[inline(always)]
-pub(crate) fn exactly<'a>(version: WrittenVersion<'a>) -> Ends<'a>
+pub(crate) fn exactly<'a>(version: WrittenVersion<'a>) -> WordEnds<'a>
     ensures { ends_seen result ≡ Some (Comparators.exactly (written_seen version.entry)) }
 {
     of_one(Form::Exactly, version)
@@ -177,7 +176,7 @@ pub(crate) fn exactly<'a>(version: WrittenVersion<'a>) -> Ends<'a>
 
 // `>=1.2.3 <=1.2.3` of `1.2.3+5`
 #[inline(always)]
-pub(crate) fn equal<'a>(version: WrittenVersion<'a>) -> Ends<'a>
+pub(crate) fn equal<'a>(version: WrittenVersion<'a>) -> WordEnds<'a>
     ensures { ends_seen result ≡ Some (Comparators.exactly (Versions.without_build (written_seen version.entry))) }
 {
     of_one(Form::Equal, version)
@@ -185,11 +184,16 @@ pub(crate) fn equal<'a>(version: WrittenVersion<'a>) -> Ends<'a>
 
 // `>=1.2.3+5 <2.0.0-0`
 #[inline(always)]
-pub(crate) fn up_to<'a>(lower: WrittenVersion<'a>, major: u64, minor: u64, patch: u64) -> Ends<'a>
+pub(crate) fn up_to<'a>(
+    lower: WrittenVersion<'a>,
+    major: u64,
+    minor: u64,
+    patch: u64,
+) -> WordEnds<'a>
     ensures { ends_seen result
         ≡ Some (Comparators.from_up_to (written_seen lower.entry) (Versions.least_of major minor patch)) }
 {
-    Ends {
+    WordEnds {
         form: Form::UpTo,
         lower,
         upper: release(major, minor, patch),
@@ -203,11 +207,11 @@ pub(crate) fn bare_up_to<'a>(
     major: u64,
     minor: u64,
     patch: u64,
-) -> Ends<'a>
+) -> WordEnds<'a>
     ensures { ends_seen result ≡ Some (Comparators.from_up_to (Versions.without_build (written_seen lower.entry))
         (Versions.least_of major minor patch)) }
 {
-    Ends {
+    WordEnds {
         form: Form::BareUpTo,
         lower,
         upper: release(major, minor, patch),
@@ -216,10 +220,10 @@ pub(crate) fn bare_up_to<'a>(
 
 // `>=1.2.3 <=2.0.0`
 #[inline(always)]
-pub(crate) fn through<'a>(lower: WrittenVersion<'a>, upper: WrittenVersion<'a>) -> Ends<'a>
+pub(crate) fn through<'a>(lower: WrittenVersion<'a>, upper: WrittenVersion<'a>) -> WordEnds<'a>
     ensures { ends_seen result ≡ Some (from_through (written_seen lower.entry) (written_seen upper.entry)) }
 {
-    Ends {
+    WordEnds {
         form: Form::Through,
         lower,
         upper,
@@ -228,7 +232,7 @@ pub(crate) fn through<'a>(lower: WrittenVersion<'a>, upper: WrittenVersion<'a>) 
 
 // All with this major: `>=1.0.0 <2.0.0-0`
 #[inline(always)]
-pub(crate) fn with_major(major: u64) -> Ends<'static>
+pub(crate) fn with_major(major: u64) -> WordEnds<'static>
     requires { major ≤ MAX_SAFE_INTEGER }
     ensures { ends_seen result ≡ Some (Comparators.with_major major) }
 {
@@ -237,14 +241,14 @@ pub(crate) fn with_major(major: u64) -> Ends<'static>
 
 // All with this major and this minor: `>=1.2.0 <1.3.0-0`
 #[inline(always)]
-pub(crate) fn with_minor(major: u64, minor: u64) -> Ends<'static>
+pub(crate) fn with_minor(major: u64, minor: u64) -> WordEnds<'static>
     requires { minor ≤ MAX_SAFE_INTEGER }
     ensures { ends_seen result ≡ Some (Comparators.with_minor major minor) }
 {
     up_to(release(major, minor, 0), major, next(minor), 0)
 }
 
-impl<'a> Ends<'a> {
+impl<'a> WordEnds<'a> {
     #[inline(always)]
     pub(crate) fn is_nothing(&self) -> bool
         ensures { IsTrue result ↔ (ends_seen self.now ≡ None) }
@@ -255,137 +259,111 @@ impl<'a> Ends<'a> {
         }
     }
 
-    // Whether there is a comparator, and no version of it has extras. Of two that are written the answer is no.
+    // The comparator, of ends that are built. Takes memory for extras alone.
     #[inline(always)]
-    pub(crate) fn is_plain(&self) -> bool
-        ensures { IsTrue result → IsPlain self.now }
+    pub(crate) fn comparator(self, alloc: Global) -> Result<Comparator, AllocError>
+        requires { ¬ (ends_seen self ≡ None) }
+        ensures { IfOk result (λ c. ends_seen self.entry ≡ Some c) }
     {
-        match self.form {
-            Form::Nothing | Form::Through => false,
-            _ => begins_clean(self.lower.extras),
-        }
+        let lower = self.lower_cut(alloc)?;
+        let upper = self.upper_cut(alloc)?;
+        Ok(Comparator { lower, upper })
     }
 
-    // Plain ends as bounds.
     #[inline(always)]
-    pub(crate) fn bounds(self) -> Bounds
-        requires { IsPlain self }
-        ensures { ends_seen self.entry ≡ Some result }
+    fn lower_cut(&self, alloc: Global) -> Result<Cut<End>, AllocError>
+        ensures { IfOk result (λ cut. IfSome (ends_seen self.now) (λ c. c.lower ≡ cut)) }
     {
-        let lower = self.lower;
         match self.form {
-            Form::UpTo | Form::BareUpTo => {
-                between(
-                    Cut::Before(bound_of(lower)),
-                    Cut::Before(least_bound(self.upper)),
-                )
+            Form::AtLeast | Form::Exactly | Form::UpTo | Form::Through => {
+                Ok(Cut::Before(self.lower.end(alloc)?))
             }
-            Form::Exactly | Form::Equal => {
-                between(Cut::Before(bound_of(lower)), Cut::After(bound_of(lower)))
-            }
-            Form::Above => between(Cut::After(bound_of(lower)), Cut::End),
-            Form::Below => between(Cut::Start, Cut::Before(bound_of(lower))),
-            Form::BelowLeast => between(Cut::Start, Cut::Before(least_bound(lower))),
-            Form::AtMost => between(Cut::Start, Cut::After(bound_of(lower))),
-            Form::AtMostLeast => between(Cut::Start, Cut::After(least_bound(lower))),
-            Form::AtLeast | Form::Nothing | Form::Through => {
-                between(Cut::Before(bound_of(lower)), Cut::End)
+            Form::Equal | Form::BareUpTo => Ok(Cut::Before(self.lower.bare_end(alloc)?)),
+            Form::Above => Ok(Cut::After(self.lower.end(alloc)?)),
+            Form::Nothing | Form::Below | Form::BelowLeast | Form::AtMost | Form::AtMostLeast => {
+                Ok(Cut::Start)
             }
         }
     }
 
-    // Takes memory for the identifiers of the ends alone.
-    pub(crate) fn comparator(self, alloc: Global) -> Result<Option<Comparator>, AllocError>
-        ensures { IfOk result (λ c. c ≡ ends_seen self.entry) }
+    #[inline(always)]
+    fn upper_cut(&self, alloc: Global) -> Result<Cut<End>, AllocError>
+        ensures { IfOk result (λ cut. IfSome (ends_seen self.now) (λ c. c.upper ≡ cut)) }
     {
-        let first = match self.form {
-            Form::Nothing => return Ok(None),
-            Form::BelowLeast | Form::AtMostLeast => least(alloc, self.lower)?,
-            Form::Equal | Form::BareUpTo => bare(alloc, self.lower)?,
-            _ => version(alloc, self.lower)?,
-        };
-        let (lower, upper) = match self.form {
-            Form::Nothing | Form::AtLeast => (Cut::Before(first), Cut::End),
-            Form::Above => (Cut::After(first), Cut::End),
-            Form::Below | Form::BelowLeast => (Cut::Start, Cut::Before(first)),
-            Form::AtMost | Form::AtMostLeast => (Cut::Start, Cut::After(first)),
-            Form::Exactly => (Cut::Before(first), Cut::After(version(alloc, self.lower)?)),
-            Form::Equal => (Cut::Before(first), Cut::After(bare(alloc, self.lower)?)),
-            Form::UpTo | Form::BareUpTo => (
-                Cut::Before(first),
-                Cut::Before(least(alloc, self.upper)?),
-            ),
-            Form::Through => (Cut::Before(first), Cut::After(version(alloc, self.upper)?)),
-        };
-        Ok(Some(Comparator { lower, upper }))
+        match self.form {
+            Form::UpTo | Form::BareUpTo => Ok(Cut::Before(self.upper.least_end())),
+            Form::Exactly => Ok(Cut::After(self.lower.end(alloc)?)),
+            Form::Equal => Ok(Cut::After(self.lower.bare_end(alloc)?)),
+            Form::Through => Ok(Cut::After(self.upper.end(alloc)?)),
+            Form::Below => Ok(Cut::Before(self.lower.end(alloc)?)),
+            Form::BelowLeast => Ok(Cut::Before(self.lower.least_end())),
+            Form::AtMost => Ok(Cut::After(self.lower.end(alloc)?)),
+            Form::AtMostLeast => Ok(Cut::After(self.lower.least_end())),
+            Form::Nothing | Form::AtLeast | Form::Above => Ok(Cut::End),
+        }
     }
 }
 
-// A version without extras.
-#[inline(always)]
-#[tactic(auto, using(crate::proofs::PartialViews::clean_extras))]
-fn bound_of(written: WrittenVersion) -> Bound
-    requires { is_clean written.extras.now ≡ true }
-    ensures plain { result ≡ written_seen written.entry }
-    ensures bare { result ≡ Versions.without_build (written_seen written.entry) }
-{
-    Bound {
-        major: written.major,
-        minor: written.minor,
-        patch: written.patch,
-        rank: 1,
+impl<'a> WrittenVersion<'a> {
+    // The version that is written. Most have no extras.
+    #[inline(always)]
+    #[tactic(auto, using(crate::proofs::Words::PartialViews::clean_extras))]
+    fn end(&self, alloc: Global) -> Result<End, AllocError>
+        ensures { IfOk result (λ e. e ≡ written_seen self.now) }
+    {
+        if begins_clean(self.extras) {
+            Ok(End::release(self.major, self.minor, self.patch))
+        } else {
+            self.end_with_extras(alloc)
+        }
     }
-}
 
-#[inline(always)]
-fn least_bound(written: WrittenVersion) -> Bound
-    ensures { result ≡ Versions.least_of written.entry.major written.entry.minor written.entry.patch }
-{
-    Bound {
-        major: written.major,
-        minor: written.minor,
-        patch: written.patch,
-        rank: 0,
+    // The same without its build.
+    #[inline(always)]
+    #[tactic(auto, using(crate::proofs::Words::PartialViews::clean_extras))]
+    fn bare_end(&self, alloc: Global) -> Result<End, AllocError>
+        ensures { IfOk result (λ e. e ≡ Versions.without_build (written_seen self.now)) }
+    {
+        if begins_clean(self.extras) {
+            Ok(End::release(self.major, self.minor, self.patch))
+        } else {
+            self.end_with_prerelease(alloc)
+        }
     }
-}
 
-// The least version with this triple: `1.2.3-0`
-#[inline(always)]
-fn least(alloc: Global, written: WrittenVersion) -> Result<Version, AllocError>
-    ensures { IfOk result (λ v. v ≡ Versions.least_of written.entry.major written.entry.minor written.entry.patch) }
-{
-    Version::with_pre_release(alloc, written.major, written.minor, written.patch, 0)
-}
+    // The least version with this triple: `1.2.3-0`
+    #[inline(always)]
+    fn least_end(&self) -> End
+        ensures { result ≡ Versions.least_of self.now.major self.now.minor self.now.patch }
+    {
+        End::least(self.major, self.minor, self.patch)
+    }
 
-#[inline(always)]
-#[tactic(auto, unfolding(crate::specs::Private::Reading::read_extras))]
-fn bare(alloc: Global, written: WrittenVersion) -> Result<Version, AllocError>
-    ensures { IfOk result (λ v. v ≡ Versions.without_build (written_seen written.entry)) }
-{
-    let (major, minor, patch) = (written.major, written.minor, written.patch);
-    let (pre_release, _) = read_prerelease(alloc, written.extras)?;
-    let build = Vec::new(alloc);
-    Ok(Version {
-        major,
-        minor,
-        patch,
-        build,
-        pre_release,
-    })
-}
+    #[inline(never)]
+    #[tactic(auto, unfolding(crate::specs::Private::Reading::read_extras))]
+    fn end_with_extras(&self, alloc: Global) -> Result<End, AllocError>
+        ensures { IfOk result (λ e. e ≡ written_seen self.now) }
+    {
+        let ((pre_release, build), _) = read_extras(alloc, self.extras)?;
+        End::with_extras(
+            alloc,
+            (self.major, self.minor, self.patch),
+            pre_release,
+            build,
+        )
+    }
 
-#[inline(always)]
-#[tactic(auto, unfolding(crate::specs::Private::Reading::read_extras))]
-fn version(alloc: Global, written: WrittenVersion) -> Result<Version, AllocError>
-    ensures { IfOk result (λ v. v ≡ written_seen written.entry) }
-{
-    let (major, minor, patch) = (written.major, written.minor, written.patch);
-    let ((pre_release, build), _) = read_extras(alloc, written.extras)?;
-    Ok(Version {
-        major,
-        minor,
-        patch,
-        build,
-        pre_release,
-    })
+    #[inline(never)]
+    #[tactic(auto, unfolding(crate::specs::Private::Reading::read_extras))]
+    fn end_with_prerelease(&self, alloc: Global) -> Result<End, AllocError>
+        ensures { IfOk result (λ e. e ≡ Versions.without_build (written_seen self.now)) }
+    {
+        let (pre_release, _) = read_prerelease(alloc, self.extras)?;
+        End::with_extras(
+            alloc,
+            (self.major, self.minor, self.patch),
+            pre_release,
+            Vec::new(alloc),
+        )
+    }
 }

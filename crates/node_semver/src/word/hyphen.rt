@@ -10,7 +10,7 @@ ghost use Rattle.node_semver.specs.Private.WordViews.{IsSound, ends_seen, partia
 
 use crate::parse::{Partial, Shape, begins_clean, read_partial, skip_some_blanks};
 use crate::word::ends::{
-    Ends, WrittenVersion, at_most, below_least, next, release, through, up_to, zeroed,
+    WordEnds, WrittenVersion, at_most, below_least, next, release, through, up_to, zeroed,
 };
 
 // `3` and ` <5` of ` - 3 <5`: the right side of a hyphen with its blanks, up to a clean end
@@ -52,7 +52,7 @@ fn read_right_operand(text: &[u8]) -> Option<(Partial, &[u8])>
 // ` - 3` at the start of a range text: a hyphen without a left side. Few texts begin with a blank.
 #[inline(always)]
 #[tactic(auto, unfolding(crate::specs::Private::WordReading::read_right))]
-pub(crate) fn read_leading_hyphen(text: &[u8]) -> Option<(Ends, &[u8])>
+pub(crate) fn read_leading_hyphen(text: &[u8]) -> Option<(WordEnds, &[u8])>
     ensures { some_word_seen result ≡ Reading.said_hyphen None (Reading.read_right text.now) }
 {
     skip_some_blanks(text)?;
@@ -61,14 +61,14 @@ pub(crate) fn read_leading_hyphen(text: &[u8]) -> Option<(Ends, &[u8])>
 
 // The same as `read_right_alone`, whose place is then cleared where a text begins with a blank, and nowhere else.
 #[inline(always)]
-fn right_alone(text: &[u8]) -> Option<(Ends, &[u8])>
+fn right_alone(text: &[u8]) -> Option<(WordEnds, &[u8])>
     ensures { some_word_seen result ≡ Reading.said_hyphen None (Reading.read_right text.now) }
 {
     read_right_alone(text)
 }
 
 #[inline(never)]
-fn read_right_alone(text: &[u8]) -> Option<(Ends, &[u8])>
+fn read_right_alone(text: &[u8]) -> Option<(WordEnds, &[u8])>
     ensures { some_word_seen result ≡ Reading.said_hyphen None (Reading.read_right text.now) }
 {
     let (right, rest) = read_right(text)?;
@@ -77,7 +77,7 @@ fn read_right_alone(text: &[u8]) -> Option<(Ends, &[u8])>
 
 // `1.2 - 3` is `>=1.2.0 <4.0.0-0`.
 #[inline(always)]
-pub(crate) fn hyphen_ends<'a>(left: Partial<'a>, right: Partial<'a>) -> Ends<'a>
+pub(crate) fn hyphen_ends<'a>(left: Partial<'a>, right: Partial<'a>) -> WordEnds<'a>
     requires left { IsSound left }
     requires right { IsSound right }
     ensures { ends_seen result
@@ -98,7 +98,7 @@ pub(crate) fn hyphen_ends<'a>(left: Partial<'a>, right: Partial<'a>) -> Ends<'a>
 
 // ` - 3` is `<4.0.0-0`.
 #[inline(always)]
-fn below_right(right: Partial) -> Ends
+fn below_right(right: Partial) -> WordEnds
     requires { IsSound right }
     ensures { ends_seen result ≡ Some (HyphenRanges.hyphen_comparator None (partial_seen right.entry)) }
 {

@@ -5,7 +5,7 @@ ghost use Rattle.node_semver.specs.Private.WordViews.{IsSound, lead_seen, partia
 
 use crate::parse::{Partial, skip_blanks};
 use crate::word::caret::caret_ends;
-use crate::word::ends::Ends;
+use crate::word::ends::WordEnds;
 use crate::word::operator::{Operator, operator_ends, read_operator};
 use crate::word::plain::plain_ends;
 use crate::word::tilde::{read_tilde, tilde_ends, tilde_greater_ends};
@@ -42,7 +42,7 @@ pub(crate) fn read_lead(text: &[u8]) -> (Lead, &[u8])
 
 // The ends of the comparator that a lead and a partial write, where they write one.
 #[inline(always)]
-pub(crate) fn lead_ends(lead: Lead, partial: Partial) -> Ends
+pub(crate) fn lead_ends(lead: Lead, partial: Partial) -> WordEnds
     requires { IsSound partial }
     ensures { ends_seen result ≡ Reading.lead_comparator (lead_seen lead) (partial_seen partial.entry) }
 {

@@ -7,7 +7,7 @@ ghost use Rattle.node_semver.specs.Private.WordViews.{IsSound, ends_seen, operat
 
 use crate::parse::{Partial, Shape};
 use crate::word::ends::{
-    Ends, above, at_least, at_most, at_most_least, below, below_least, equal, next, nothing,
+    WordEnds, above, at_least, at_most, at_most_least, below, below_least, equal, next, nothing,
     release, with_major, with_minor, zeroed,
 };
 
@@ -15,7 +15,7 @@ use crate::word::ends::{
 pub(crate) enum Operator {
     AtLeast,
     Above,
-    Exactly,
+    Equal,
     AtMost,
     Below,
 }
@@ -29,7 +29,7 @@ pub(crate) fn read_operator(text: &[u8]) -> Option<(Operator, &[u8])>
     match text {
         [b'>', b'=', rest @ ..] => Some((Operator::AtLeast, rest)),
         [b'>', rest @ ..] => Some((Operator::Above, rest)),
-        [b'=', rest @ ..] => Some((Operator::Exactly, rest)),
+        [b'=', rest @ ..] => Some((Operator::Equal, rest)),
         [b'<', b'=', rest @ ..] => Some((Operator::AtMost, rest)),
         [b'<', rest @ ..] => Some((Operator::Below, rest)),
         _ => None,
@@ -37,7 +37,7 @@ pub(crate) fn read_operator(text: &[u8]) -> Option<(Operator, &[u8])>
 }
 
 #[inline(always)]
-pub(crate) fn operator_ends<'a>(operator: Operator, partial: Partial<'a>) -> Ends<'a>
+pub(crate) fn operator_ends<'a>(operator: Operator, partial: Partial<'a>) -> WordEnds<'a>
     requires { IsSound partial }
     ensures { ends_seen result
         ≡ Operators.operator_comparator (operator_seen operator) (partial_seen partial.entry) }
@@ -45,7 +45,7 @@ pub(crate) fn operator_ends<'a>(operator: Operator, partial: Partial<'a>) -> End
     match operator {
         Operator::AtLeast => at_least(zeroed(partial)),
         Operator::Above => above_ends(partial),
-        Operator::Exactly => equal_ends(partial),
+        Operator::Equal => equal_ends(partial),
         Operator::AtMost => at_most_ends(partial),
         Operator::Below => below_ends(partial),
     }
@@ -53,7 +53,7 @@ pub(crate) fn operator_ends<'a>(operator: Operator, partial: Partial<'a>) -> End
 
 // `>1.2` is `>=1.3.0`, `>1` is `>=2.0.0`.
 #[inline(always)]
-fn above_ends(partial: Partial) -> Ends
+fn above_ends(partial: Partial) -> WordEnds
     requires { IsSound partial }
     ensures { let p = partial_seen partial.entry in
         ends_seen result ≡ Some (Operators.greater_row p.major p.minor p.patch (PartialText.zeroed p)) }
@@ -68,7 +68,7 @@ fn above_ends(partial: Partial) -> Ends
 
 // `<1.2` is `<1.2.0-0`.
 #[inline(always)]
-fn below_ends(partial: Partial) -> Ends
+fn below_ends(partial: Partial) -> WordEnds
     requires { IsSound partial }
     ensures { let p = partial_seen partial.entry in
         ends_seen result ≡ Some (Operators.less_row p.major p.minor p.patch (PartialText.zeroed p)) }
@@ -81,7 +81,7 @@ fn below_ends(partial: Partial) -> Ends
 
 // `<=1.2` is `<=1.2.0-0`.
 #[inline(always)]
-fn at_most_ends(partial: Partial) -> Ends
+fn at_most_ends(partial: Partial) -> WordEnds
     requires { IsSound partial }
     ensures { let p = partial_seen partial.entry in
         ends_seen result ≡ Some (Operators.less_or_equal_row p.major p.minor p.patch (PartialText.zeroed p)) }
@@ -96,7 +96,7 @@ fn at_most_ends(partial: Partial) -> Ends
 
 // `=1.2.3+5` is `>=1.2.3 <=1.2.3`, `=1.2` is `>=1.2.0 <1.3.0-0`, `=*` is nothing.
 #[inline(always)]
-fn equal_ends(partial: Partial) -> Ends
+fn equal_ends(partial: Partial) -> WordEnds
     requires { IsSound partial }
     ensures { let p = partial_seen partial.entry in
         ends_seen result ≡ Operators.equal_row p.major p.minor p.patch (PartialText.zeroed p) }

@@ -4,11 +4,11 @@ ghost use Rattle.node_semver.specs.Operators as Operators;
 ghost use Rattle.node_semver.specs.Private.WordViews.{IsSound, ends_seen, partial_seen};
 
 use crate::parse::{Partial, Shape};
-use crate::word::ends::{Ends, at_least, exactly, release, with_major, with_minor, zeroed};
+use crate::word::ends::{WordEnds, at_least, exactly, release, with_major, with_minor, zeroed};
 
 // `1.2` is `>=1.2.0 <1.3.0-0`, `1` is `>=1.0.0 <2.0.0-0`, `*` is `>=0.0.0`.
 #[inline(always)]
-pub(crate) fn plain_ends(partial: Partial) -> Ends
+pub(crate) fn plain_ends(partial: Partial) -> WordEnds
     requires { IsSound partial }
     ensures { ends_seen result ≡ Operators.plain_comparator (partial_seen partial.entry) }
 {

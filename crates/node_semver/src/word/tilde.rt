@@ -10,7 +10,7 @@ ghost use Rattle.node_semver.specs.Private.WordReading as Reading;
 ghost use Rattle.node_semver.specs.Private.WordViews.{IsSound, ends_seen, lead_seen, partial_seen};
 
 use crate::parse::{Partial, Shape, skip_blanks};
-use crate::word::ends::{Ends, bare_up_to, next, nothing, with_major, with_minor, zeroed};
+use crate::word::ends::{WordEnds, bare_up_to, next, nothing, with_major, with_minor, zeroed};
 use crate::word::lead::Lead;
 
 // `> 1.2` of `~ > 1.2`: which tilde it is, and the rest without its blanks
@@ -26,7 +26,7 @@ pub(crate) fn read_tilde(text: &[u8]) -> (Lead, &[u8])
 
 // `~1.2.3` is `>=1.2.3 <1.3.0-0`, `~1.2` is `>=1.2.0 <1.3.0-0`, `~1` is `>=1.0.0 <2.0.0-0`.
 #[inline(always)]
-pub(crate) fn tilde_ends(partial: Partial) -> Ends
+pub(crate) fn tilde_ends(partial: Partial) -> WordEnds
     requires { IsSound partial }
     ensures { let p = partial_seen partial.entry in
         ends_seen result ≡ TildeRanges.tilde_row p.major p.minor p.patch (PartialText.zeroed p) }
@@ -42,7 +42,7 @@ pub(crate) fn tilde_ends(partial: Partial) -> Ends
 
 // `~>1.2.x-b` is `>=1.2.0-b <1.3.0-0`; every other shape reads as after `~`.
 #[inline(always)]
-pub(crate) fn tilde_greater_ends(partial: Partial) -> Ends
+pub(crate) fn tilde_greater_ends(partial: Partial) -> WordEnds
     requires { IsSound partial }
     ensures { let p = partial_seen partial.entry in
         ends_seen result ≡ TildeRanges.tilde_greater_row p.major p.minor p.patch (PartialText.zeroed p) }
@@ -55,7 +55,7 @@ pub(crate) fn tilde_greater_ends(partial: Partial) -> Ends
 
 // From the partial's version up to the next minor: `>=1.2.3-b <1.3.0-0`
 #[inline(always)]
-fn up_to_next_minor(partial: Partial) -> Ends
+fn up_to_next_minor(partial: Partial) -> WordEnds
     requires { IsSound partial }
     ensures { ends_seen result ≡ Some (Comparators.from_up_to
         (Versions.without_build (PartialText.zeroed (partial_seen partial.entry)))

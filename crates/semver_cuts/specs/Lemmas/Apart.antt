@@ -10,7 +10,7 @@ use Rattle.std.proofs.lemmas.List.{drop_more, take_more, take-append-drop}
 use Rattle.semver_cuts.specs.declared.cut.Cut.{Cut}
 use Rattle.semver_cuts.specs.Common.{AreApart}
 use Rattle.semver_cuts.specs.Ends.{Ends, IsCutAtMost, IsCutBelow}
-use Rattle.semver_cuts.specs.Private.Apart.{AreRising}
+use Rattle.semver_cuts.specs.Joined.{AreRising}
 use Rattle.semver_cuts.specs.Private.Rest.{ending_above}
 use Rattle.semver_cuts.specs.Lemmas.Ends.{below-at_most, below_trans, greater-from_below, le-from_at_most}
 use Rattle.semver_cuts.specs.Lemmas.Merging.{all_both, all_map, all_middle, all_push}
@@ -68,13 +68,15 @@ module _ {T : Type 0} {cmp : T → T → Ordering} (o : IsTotalOrder cmp) where
       → AllByRecursion (λ (s : Ends T). IsCutBelow cmp cut s.upper) back → ending_above cmp cut (front ++ back) ≡ back
   ending_above-at cut [] [] below above = refl
   ending_above-at cut [] (span ∷ back) below above =
-      ap (λ b. if b then ending_above cmp cut back else span ∷ back) (ap is_le (greater-from_below o span.upper cut above.0))
+      ap (λ b. if b then ending_above cmp cut back else span ∷ back)
+      (ap is_le (greater-from_below o span.upper cut above.0))
   ending_above-at cut (span ∷ front) back below above =
       ap (λ b. if b then ending_above cmp cut (front ++ back) else span ∷ (front ++ back))
       (le-from_at_most cmp span.upper cut below.0) ∙ ending_above-at cut front back below.1 above
 
   module _ (spans : List (Ends T)) (rising : AreRising cmp spans) (apart : AreApart cmp spans) (cut : Cut T)
-      (place : ℕ) (span : Ends T) (within : place < length spans) (here : drop place spans ≡ span ∷ drop (place + 1) spans) where
+      (place : ℕ) (span : Ends T) (within : place < length spans)
+      (here : drop place spans ≡ span ∷ drop (place + 1) spans) where
     parts : spans ≡ take place spans ++ span ∷ drop (place + 1) spans
     parts = sym (take-append-drop place spans) ∙ ap (λ l. take place spans ++ l) here
 
@@ -110,7 +112,8 @@ module _ {T : Type 0} {cmp : T → T → Ordering} (o : IsTotalOrder cmp) where
         apart-behind cmp (take place spans) (span ∷ rest) (subst (AreApart cmp) parts apart) in
         subst (AllByRecursion Above) (sym here) (
           h,
-          all_both (λ (s : Ends T). IsCutBelow cmp span.upper s.lower) (λ (s : Ends T). IsCutBelow cmp s.lower s.upper) Above
+          all_both (λ (s : Ends T). IsCutBelow cmp span.upper s.lower)
+              (λ (s : Ends T). IsCutBelow cmp s.lower s.upper) Above
               (λ s p q. below_trans o cut span.upper s.upper h (below_trans o span.upper s.lower s.upper p q))
               rest (apart-above span rest apart_rest whole.1) whole.1,
         )

@@ -67,7 +67,8 @@ module _ {T : Type 0} {cmp : T → T → Ordering} (o : IsTotalOrder cmp) where
       → IsInSome cmp (common_spans cmp ones others) cut
   both-spans [] others cut is some = absurd is
   both-spans (one ∷ ones) others cut (inl here) some =
-      in_some-left cmp cut (common_with cmp one others) (common_spans cmp ones others) (both-with one others cut here some)
+      in_some-left cmp cut (common_with cmp one others) (common_spans cmp ones others)
+      (both-with one others cut here some)
   both-spans (one ∷ ones) others cut (inr there) some =
       in_some-right cmp cut (common_with cmp one others) (common_spans cmp ones others)
       (both-spans ones others cut there some)
@@ -81,7 +82,8 @@ module _ {T : Type 0} {cmp : T → T → Ordering} (o : IsTotalOrder cmp) where
   -- ---- each of the common spans
 
   module _ (P P' Q : Ends T → Type 0)
-      (from : (one other : Ends T) → P one → P' other → HaveCommonCut cmp one other → Q (common_ends cmp one other)) where
+      (from : (one other : Ends T) → P one → P' other → HaveCommonCut cmp one other
+      → Q (common_ends cmp one other)) where
     of-all : (one other : Ends T) → P one → P' other → AllByRecursion Q (common_of cmp one other)
     of-all one other p p' = common_of-cases o one other (AllByRecursion Q)
         (λ shared. (from one other p p' shared, tt)) (λ apart. tt)
@@ -106,7 +108,8 @@ module _ {T : Type 0} {cmp : T → T → Ordering} (o : IsTotalOrder cmp) where
   common_spans-hold ones others =
       common_spans-each (λ one. Unit {0}) (λ other. Unit {0}) (HoldsCut cmp)
       (λ one other p p' shared. (holds-below o (common_ends cmp one other)).1 ((common_ends-hold o one other).0 shared))
-      ones others (all-always (λ (one : Ends T). Unit {0}) (λ one. tt) ones) (all-always (λ (other : Ends T). Unit {0}) (λ other. tt) others)
+      ones others (all-always (λ (one : Ends T). Unit {0}) (λ one. tt) ones)
+      (all-always (λ (other : Ends T). Unit {0}) (λ other. tt) others)
 
   -- what holds of all lower ends and of all upper ends holds of those of the common spans
   pub common_spans-ends : (Lower Upper : Cut T → Type 0) (ones others : List (Ends T))

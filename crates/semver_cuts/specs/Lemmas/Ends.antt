@@ -6,7 +6,8 @@ use mathlib.Core.Bool.{true≢false}
 use Rattle.std.specs.declared.cmp.Ordering.{Ordering}
 use Rattle.std.specs.declared.cmp.Ordering.TheVariants.{Less, Equal, Greater}
 use Rattle.std.specs.Ordering.{is_eq, is_lt, is_le, ordering_reverse}
-use Rattle.std.specs.Cmp.{Equal-is, IsEquivalence, IsTotalOrder, alike_right, and_equiv, eq_by_cmp_equiv, first_so, on_equiv, second_so, tied_back, tied_itself}
+use Rattle.std.specs.Cmp.{Equal-is, IsEquivalence, IsTotalOrder, alike_right, and_equiv}
+use Rattle.std.specs.Cmp.{eq_by_cmp_equiv, first_so, on_equiv, second_so, tied_back, tied_itself}
 use Rattle.semver_cuts.specs.declared.cut.Cut.{Cut}
 use Rattle.semver_cuts.specs.Cut.{cut_cmp}
 use Rattle.semver_cuts.specs.Lemmas.CutOrder.{cut_total}
@@ -124,7 +125,8 @@ module _ {T : Type 0} {cmp : T → T → Ordering} (o : IsTotalOrder cmp) where
       → IsInSpan cmp other cut
   same_ends-in_span one other cut same inside = record {
     lower =
-        at_most_trans other.lower one.lower cut (inr (cut_cmp-equal_back one.lower other.lower same.lower)) inside.lower;
+        at_most_trans other.lower one.lower cut
+        (inr (cut_cmp-equal_back one.lower other.lower same.lower)) inside.lower;
     upper = below-at_most cut one.upper other.upper inside.upper (inr same.upper);
   }
 

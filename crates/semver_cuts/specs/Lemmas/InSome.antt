@@ -11,12 +11,14 @@ use Rattle.semver_cuts.specs.Sharing.{AnyByRecursion}
 use Rattle.semver_cuts.specs.Lemmas.Ends.{at_most-or-below, below-not-at_most}
 
 module _ {T : Type 0} (cmp : T → T → Ordering) (cut : Cut T) where
-  some_of : (spans : List (Ends T)) → IsInSome cmp spans cut → AnyByRecursion (λ (span : Ends T). IsInSpan cmp span cut) spans
+  some_of : (spans : List (Ends T)) → IsInSome cmp spans cut
+      → AnyByRecursion (λ (span : Ends T). IsInSpan cmp span cut) spans
   some_of [] is = is
   some_of (span ∷ spans) (inl here) = inl here
   some_of (span ∷ spans) (inr there) = inr (some_of spans there)
 
-  of_some : (spans : List (Ends T)) → AnyByRecursion (λ (span : Ends T). IsInSpan cmp span cut) spans → IsInSome cmp spans cut
+  of_some : (spans : List (Ends T)) → AnyByRecursion (λ (span : Ends T). IsInSpan cmp span cut) spans
+      → IsInSome cmp spans cut
   of_some [] is = is
   of_some (span ∷ spans) (inl here) = inl here
   of_some (span ∷ spans) (inr there) = inr (of_some spans there)

@@ -6,4 +6,5 @@ use Rattle.semver_cuts.specs.Private.Placed.{PlacedSpan, placed_cmp}
 
 pub placed_total : {T : Type 0} {cmp : T → T → Ordering} → IsTotalOrder cmp → IsTotalOrder (placed_cmp cmp)
 placed_total {T} o =
-    then_total (on_total (λ (p : PlacedSpan T). p.span.lower) (cut_total o)) (on_total (λ (p : PlacedSpan T). p.place) nat_cmp_total)
+    then_total (on_total (λ (p : PlacedSpan T). p.span.lower) (cut_total o))
+    (on_total (λ (p : PlacedSpan T). p.place) nat_cmp_total)

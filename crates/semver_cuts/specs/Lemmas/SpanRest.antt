@@ -12,7 +12,8 @@ use Rattle.semver_cuts.specs.Ends.{Ends, IsCutBelow, IsInSpan, span_between}
 use Rattle.semver_cuts.specs.Common.{IsInSome}
 use Rattle.semver_cuts.specs.CommonSpans.{common_ends, common_of}
 use Rattle.semver_cuts.specs.SpanRest.{piece_above, piece_below, span_if_any, spans_share}
-use Rattle.semver_cuts.specs.Lemmas.Ends.{at_most-below, at_most-or-below, below-at_most, below-from_lt, below-not-at_most, below_trans, lt-from_below}
+use Rattle.semver_cuts.specs.Lemmas.Ends.{at_most-below, at_most-or-below, below-at_most, below-from_lt}
+use Rattle.semver_cuts.specs.Lemmas.Ends.{below-not-at_most, below_trans, lt-from_below}
 use Rattle.semver_cuts.specs.Lemmas.InSome.{in_some-either, in_some-left, in_some-right}
 use Rattle.semver_cuts.specs.Lemmas.TwoSpans.{common_ends-hold, shares-ends}
 
@@ -26,11 +27,13 @@ module _ {T : Type 0} (cmp : T → T → Ordering) (one other : Ends T) where
   share-from_some span e = some_by span (spans_share cmp one other) e
 
   -- the piece below, where they share a cut
-  pub below-shared : spans_share cmp one other ≡ true → piece_below cmp one other ≡ span_if_any cmp one.lower other.lower
+  pub below-shared : spans_share cmp one other ≡ true
+      → piece_below cmp one other ≡ span_if_any cmp one.lower other.lower
   below-shared share = ap (λ r. if r then span_if_any cmp one.lower other.lower else one ∷ []) share
 
   -- and the piece above
-  pub above-shared : spans_share cmp one other ≡ true → piece_above cmp one other ≡ span_if_any cmp other.upper one.upper
+  pub above-shared : spans_share cmp one other ≡ true
+      → piece_above cmp one other ≡ span_if_any cmp other.upper one.upper
   above-shared share = ap (λ r. if r then span_if_any cmp other.upper one.upper else []) share
 
 module _ {T : Type 0} {cmp : T → T → Ordering} (o : IsTotalOrder cmp) where
@@ -54,7 +57,8 @@ module _ {T : Type 0} {cmp : T → T → Ordering} (o : IsTotalOrder cmp) where
       → IsInSome cmp (span_if_any cmp lower upper) cut ↔ IsInSpan cmp (span_between lower upper) cut
   if_any-cuts lower upper cut = if_any_by lower upper cut (is_lt (cut_cmp cmp lower upper)) refl
 
-  module _ (one other : Ends T) (held : IsCutBelow cmp one.lower one.upper) (held' : IsCutBelow cmp other.lower other.upper)
+  module _ (one other : Ends T) (held : IsCutBelow cmp one.lower one.upper)
+      (held' : IsCutBelow cmp other.lower other.upper)
       (share : spans_share cmp one other ≡ true) (cut : Cut T) where
     shared : IsCutBelow cmp one.lower other.upper × IsCutBelow cmp other.lower one.upper
     shared = (shares-ends o one other held held').0 ((common_ends-hold o one other).1 (below-from_lt cmp _ _ share))

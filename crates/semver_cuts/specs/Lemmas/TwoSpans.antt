@@ -12,7 +12,9 @@ use Rattle.semver_cuts.specs.Ends.{Ends, HoldsCut, IsCutAtMost, IsCutBelow, IsIn
 use Rattle.semver_cuts.specs.Common.{IsInSome, IsWithin}
 use Rattle.semver_cuts.specs.CommonSpans.{common_ends, common_of, greater_cut, lesser_cut}
 use Rattle.semver_cuts.specs.Sharing.{HaveCommonCut}
-use Rattle.semver_cuts.specs.Lemmas.Ends.{at_most-from_le, at_most-from_not_lt, at_most-or-below, at_most_refl, at_most_trans, at_most-below, below-at_most, below-from_lt, below-not-at_most, below_irrefl, below_trans, le-from_at_most, lt-from_below}
+use Rattle.semver_cuts.specs.Lemmas.Ends.{at_most-from_le, at_most-from_not_lt, at_most-or-below, at_most_refl}
+use Rattle.semver_cuts.specs.Lemmas.Ends.{at_most_trans, at_most-below, below-at_most, below-from_lt, below-not-at_most}
+use Rattle.semver_cuts.specs.Lemmas.Ends.{below_irrefl, below_trans, le-from_at_most, lt-from_below}
 
 -- a test that answers both ways is absurd
 both_ways : {P : Type 0} (r : Bool) → r ≡ true → r ≡ false → P
@@ -150,7 +152,8 @@ module _ {T : Type 0} {cmp : T → T → Ordering} (o : IsTotalOrder cmp) where
 
   -- and where the second does
   pub shares-from_second : (one other : Ends T) → IsCutBelow cmp other.lower other.upper
-      → is_lt (cut_cmp cmp other.lower (lesser_cut cmp one.upper other.upper)) ≡ is_lt (cut_cmp cmp other.lower one.upper)
+      → is_lt (cut_cmp cmp other.lower (lesser_cut cmp one.upper other.upper))
+      ≡ is_lt (cut_cmp cmp other.lower one.upper)
   shares-from_second one other held =
       alike (is_lt (cut_cmp cmp other.lower (lesser_cut cmp one.upper other.upper)))
       (is_lt (cut_cmp cmp other.lower one.upper))

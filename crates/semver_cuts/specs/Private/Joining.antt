@@ -25,3 +25,17 @@ joined_from cmp lower upper place (next ∷ later) =
 abbrev pub joined_in_order : {T : Type 0} → (T → T → Ordering) → List (PlacedSpan T) → List (Ends T)
 joined_in_order cmp [] = []
 joined_in_order cmp (first ∷ later) = joined_from cmp first.span.lower first.span.upper first.place later
+
+-- the same by places: of the span that began last, and of the one that ends it
+abbrev pub places_from : {T : Type 0} → (T → T → Ordering) → ℕ → Cut T → ℕ → List (PlacedSpan T) → List (ℕ × ℕ)
+places_from cmp first upper place [] = (first, place) ∷ []
+places_from cmp first upper place (next ∷ later) =
+    if is_lt (cut_cmp cmp upper next.span.lower)
+    then (first, place) ∷ places_from cmp next.place next.span.upper next.place later
+    else (if is_lt (ends_later cmp upper place next)
+    then places_from cmp first next.span.upper next.place later
+    else places_from cmp first upper place later)
+
+abbrev pub places_in_order : {T : Type 0} → (T → T → Ordering) → List (PlacedSpan T) → List (ℕ × ℕ)
+places_in_order cmp [] = []
+places_in_order cmp (first ∷ later) = places_from cmp first.place first.span.upper first.place later

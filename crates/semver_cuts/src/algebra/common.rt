@@ -1,13 +1,14 @@
 //! What two lists of spans have in common.
 ghost use Rattle.std.specs.Prelude.{◌≡◌, ◌++◌, OnOk};
 ghost use Rattle.semver_cuts.specs.Common.{AreApart};
-ghost use Rattle.semver_cuts.specs.Private.Apart.{AreRising};
+ghost use Rattle.semver_cuts.specs.Joined.{AreRising};
 ghost use Rattle.semver_cuts.specs.CommonSpans.{common_of, common_spans, common_with};
 
 use crate::Span;
 use crate::algebra::Gather;
-use crate::algebra::joined::are_apart;
+use crate::algebra::merged::Merged;
 use crate::algebra::near::first_near;
+use crate::algebra::places::are_apart;
 use std::alloc::AllocError;
 
 // Lists shorter than this are gone through whole for each span, without a look whether they are apart.
@@ -21,7 +22,7 @@ const FEW: usize = 3;
 ///
 /// # Errors
 ///
-/// What `into` answers where it takes a span. The spans before that were handed over.
+/// What `into` answers where it takes a span.
 ///
 /// # Memory
 ///
@@ -42,14 +43,69 @@ pub fn common_spans<'a, T: Ord, S: Gather<'a, T>>(
         return common_of(this, that, into);
     }
     if others.len() < FEW || !are_apart(others) {
-        for one in ones {
-            common_with(one, others, into)?;
-        }
+        common_of_all(ones, others, into)
     } else {
-        let mut place = 0;
-        for one in ones {
-            place = common_along(one, others, place, into)?;
+        common_ascending(ones, others, into)
+    }
+}
+
+impl<'a, 'p, T: Ord> Merged<'a, 'p, T> {
+    /// Hands over what the spans of a list have in common with those of this one, as [`common_spans`] does: this is its
+    /// second list. Whether it ascends apart is known, and not looked for.
+    ///
+    /// # Errors
+    ///
+    /// What `into` answers where it takes a span.
+    ///
+    /// # Memory
+    ///
+    /// Takes none beside what `into` takes.
+    pub fn common_with<S: Gather<'a, T>>(
+        &self,
+        ones: &'a [Span<T>],
+        into: &mut S,
+    ) -> Result<(), AllocError>
+        ensures spans { OnOk result
+            (S.gathered into.new ≡ S.gathered into.old ++ common_spans T.cmp ones.now self.now.list) }
+    {
+        let others = self.spans();
+        if let ([this], [that]) = (ones, others) {
+            return common_of(this, that, into);
         }
+        if others.len() >= FEW && self.is_itself() {
+            return common_ascending(ones, others, into);
+        }
+        common_of_all(ones, others, into)
+    }
+}
+
+// What all pairs have in common.
+fn common_of_all<'a, T: Ord, S: Gather<'a, T>>(
+    ones: &'a [Span<T>],
+    others: &'a [Span<T>],
+    into: &mut S,
+) -> Result<(), AllocError>
+    ensures { OnOk result (S.gathered into.new ≡ S.gathered into.old ++ common_spans T.cmp ones.now others.now) }
+{
+    for one in ones {
+        common_with(one, others, into)?;
+    }
+    Ok(())
+}
+
+// The same along others that are apart.
+fn common_ascending<'a, T: Ord, S: Gather<'a, T>>(
+    ones: &'a [Span<T>],
+    others: &'a [Span<T>],
+    into: &mut S,
+) -> Result<(), AllocError>
+    requires apart { AreApart T.cmp others.now }
+    requires rising { AreRising T.cmp others.now }
+    ensures { OnOk result (S.gathered into.new ≡ S.gathered into.old ++ common_spans T.cmp ones.now others.now) }
+{
+    let mut place = 0;
+    for one in ones {
+        place = common_along(one, others, place, into)?;
     }
     Ok(())
 }

@@ -1,103 +1,70 @@
-//! The cuts of a list of spans, as spans that are apart from one another, in ascending order.
-ghost use Rattle.std.specs.Prelude.{◌≡◌, ◌↔◌, ◌<◌, ◌≤◌, ◌+◌, ◌∷◌, IsTrue, length, take, drop, IfOk};
-ghost use Rattle.semver_cuts.specs.Common.{AreApart};
-ghost use Rattle.semver_cuts.specs.Ends.{span_between};
-ghost use Rattle.semver_cuts.specs.Private.Apart.{AreRising};
-ghost use Rattle.semver_cuts.specs.Private.Joined.{AreJoined, joined_spans};
-ghost use Rattle.semver_cuts.specs.Private.Rest.{ending_above};
+//! Spans joined: those that touch or overlap become one.
+ghost use Rattle.std.specs.Prelude.{◌≡◌, ◌≢◌, ◌<◌, ℕ, [], IfOk, length};
+ghost use Rattle.semver_cuts.specs.Ends.{IsCutBelow};
+ghost use Rattle.semver_cuts.specs.Joined.{AreJoined};
+ghost use Rattle.semver_cuts.specs.Places.{IsPlacesOf, merged_spans, span_at, span_of_places};
 
-use crate::algebra::join::join_in_order;
-use crate::algebra::placed::in_order;
-use crate::{Cut, Span};
+use crate::Span;
+use crate::algebra::places::Places;
 use std::alloc::{AllocError, Global};
 
-// Whether each span ends below where the next one begins.
-pub(crate) fn are_apart<T: Ord>(spans: &[Span<T>]) -> bool
-    ensures apart { IsTrue result ↔ AreApart T.cmp spans.now }
-    ensures rising { IsTrue result → AreRising T.cmp spans.now }
+/// The spans joined to spans that ascend with a cut between each and the next: those that touch or overlap become one.
+///
+/// The answer has just the cuts of the list. Each of its ends is that of the first span of the list that has it at this
+/// cut. No other list of such spans has these cuts, so two lists with the same cuts are joined to the same spans.
+///
+/// # Errors
+///
+/// Fails where a request for memory is refused. The spans are dropped.
+///
+/// # Memory
+///
+/// Takes none where the spans are merged as they stand, as one span always is. Else it takes room for them in their
+/// order, for the places of the joined spans, and for the answer.
+///
+/// # Examples
+///
+/// 2 to 5, 0 to 1 and 4 to 7 are joined to 0 to 1 and 2 to 7. 1 to 2 and 2 to 3 are joined to 1 to 3.
+pub fn join<T: Ord + Drop>(
+    alloc: Global,
+    mut spans: Vec<Span<T>>,
+) -> Result<Vec<Span<T>>, AllocError>
+    ensures { IfOk result (λ joined. AreJoined T.cmp spans.items joined.items) }
 {
-    let Some((first, others)) = spans.split_first() else {
-        return true;
-    };
-    let mut last = first.ends();
-    for span in others {
-        let ends = span.ends();
-        if last.1 >= ends.0 {
-            return false;
-        }
-        last = ends;
+    let places = Places::of(alloc, &spans)?;
+    if places.as_slice().is_empty() {
+        return Ok(spans);
     }
-    true
+    taken_at(alloc, &mut spans, places.as_slice())
 }
 
-// The ends of the span at a place of a list.
-#[inline]
-fn ends_at<'a, T: Ord>(spans: &'a [Span<T>], place: usize) -> (&'a Cut<T>, &'a Cut<T>)
-    requires { place < length spans.now }
-    ensures { drop place spans.now ≡ span_between result.0.now result.1.now ∷ drop (place + 1) spans.now }
+// The merged spans at the places, each end taken out of the list.
+fn taken_at<T: Ord + Drop>(
+    alloc: Global,
+    spans: &mut [Span<T>],
+    places: &[(usize, usize)],
+) -> Result<Vec<Span<T>>, AllocError>
+    requires places { IsPlacesOf T.cmp spans.old places.now }
+    requires some { places.now ≢ [] }
+    ensures { IfOk result (λ joined. joined.items ≡ merged_spans spans.old places.now) }
 {
-    spans[place].ends()
+    let mut joined = Vec::with_capacity(alloc, places.len())?;
+    for (begins, ends) in places {
+        joined.push(take_between(spans, *begins, *ends))?;
+    }
+    Ok(joined)
 }
 
-// Spans that are apart: those of a list, or what lies between ends that were chosen from one.
-#[derive(Drop)]
-pub(crate) enum Joined<'a, T: Ord> {
-    Itself(&'a [Span<T>]),
-    Between(Vec<(&'a Cut<T>, &'a Cut<T>)>),
-}
-
-impl<'a, T: Ord> Joined<'a, T> {
-    // The spans of a list joined: as they stand where they are apart, which takes no memory.
-    pub(crate) fn of(alloc: Global, spans: &'a [Span<T>]) -> Result<Joined<'a, T>, AllocError>
-        ensures { IfOk result (λ joined. AreJoined T.cmp spans.now (joined_spans joined)) }
-    {
-        if are_apart(spans) {
-            return Ok(Joined::Itself(spans));
-        }
-        let order = in_order(alloc, spans)?;
-        Ok(Joined::Between(join_in_order(alloc, &order)?))
-    }
-
-    // How many spans there are.
-    pub(crate) fn len(&self) -> usize
-        ensures { result ≡ length (joined_spans self.now) }
-    {
-        match self {
-            Joined::Itself(spans) => spans.len(),
-            Joined::Between(ends) => ends.len(),
-        }
-    }
-
-    // The ends of the span at a place.
-    pub(crate) fn ends(&self, place: usize) -> (&'a Cut<T>, &'a Cut<T>)
-        requires { place < length (joined_spans self.now) }
-        ensures { drop place (joined_spans self.now)
-            ≡ span_between result.0.now result.1.now ∷ drop (place + 1) (joined_spans self.now) }
-    {
-        match self {
-            Joined::Itself(spans) => ends_at(spans, place),
-            Joined::Between(ends) => ends[place],
-        }
-    }
-
-    // The place of the first span that ends above the cut, found by halving.
-    pub(crate) fn first_above(&self, cut: &Cut<T>) -> usize
-        requires rising { AreRising T.cmp (joined_spans self.now) }
-        requires apart { AreApart T.cmp (joined_spans self.now) }
-        ensures place { result ≤ length (joined_spans self.now) }
-        ensures above { drop result (joined_spans self.now) ≡ ending_above T.cmp cut.now (joined_spans self.now) }
-    {
-        let mut low = 0;
-        let mut high = self.len();
-        while low < high {
-            let middle = low + (high - low) / 2;
-            let (_, upper) = self.ends(middle);
-            if upper <= cut {
-                low = middle + 1;
-            } else {
-                high = middle;
-            }
-        }
-        low
-    }
+// The span from where one of the list begins up to where one ends: these two ends are taken, and no others.
+fn take_between<T: Ord + Drop>(spans: &mut [Span<T>], begins: usize, ends: usize) -> Span<T>
+    requires begins { begins < length spans.old }
+    requires ends { ends < length spans.old }
+    requires rising { IsCutBelow T.cmp (span_at spans.old begins).lower (span_at spans.old ends).upper }
+    ensures span { result ≡ span_of_places spans.old (begins, ends) }
+    ensures lowers { (k : ℕ) → k ≢ begins → (span_at spans.new k).lower ≡ (span_at spans.old k).lower }
+    ensures uppers { (k : ℕ) → k ≢ ends → (span_at spans.new k).upper ≡ (span_at spans.old k).upper }
+{
+    let lower = spans[begins].take_lower();
+    let upper = spans[ends].take_upper();
+    Span::between(lower, upper)
 }

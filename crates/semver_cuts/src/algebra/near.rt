@@ -1,10 +1,10 @@
 //! The first of spans that are apart to end above a cut, looked for near a place.
 ghost use Rattle.std.specs.Prelude.{◌≡◌, ◌≤◌, IsTrue, length, drop};
 ghost use Rattle.semver_cuts.specs.Common.{AreApart};
-ghost use Rattle.semver_cuts.specs.Private.Apart.{AreRising};
+ghost use Rattle.semver_cuts.specs.Joined.{AreRising};
 ghost use Rattle.semver_cuts.specs.Private.Rest.{ending_above};
 
-use crate::algebra::joined::Joined;
+use crate::algebra::merged::Merged;
 use crate::{Cut, Span};
 
 // The place of the first span that ends above the cut: this place or the next, or else found by halving.
@@ -22,7 +22,7 @@ pub(crate) fn first_near<T: Ord>(spans: &[Span<T>], place: usize, cut: &Cut<T>) 
     if is_first_above(spans, next, cut) {
         return next;
     }
-    Joined::Itself(spans).first_above(cut)
+    Merged::itself(spans).first_above(cut)
 }
 
 // Whether the span at the place is the first that ends above the cut.

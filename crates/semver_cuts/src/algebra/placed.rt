@@ -6,7 +6,7 @@ ghost use Rattle.std.specs.List.Sorted.{IsPermutation, IsSorted};
 ghost use Rattle.std.specs.Ordering.{as_partial_cmp, eq_by_cmp};
 ghost use Rattle.semver_cuts.specs.Ends.{IsCutBelow, span_between};
 ghost use Rattle.semver_cuts.specs.Lemmas.Placed.{placed_total};
-ghost use Rattle.semver_cuts.specs.Private.Apart.{AreRising};
+ghost use Rattle.semver_cuts.specs.Joined.{AreRising};
 ghost use Rattle.semver_cuts.specs.Private.Placed.{PlacedSpan, placed_cmp, placed_from};
 
 use crate::{Cut, Span};

@@ -2,14 +2,12 @@
 ghost use Rattle.std.specs.Prelude.{◌≡◌, ◌++◌, List, OnOk};
 ghost use Rattle.semver_cuts.specs.Ends.{Ends, IsCutBelow};
 ghost use Rattle.semver_cuts.specs.Rest.{AreRestSpans};
-ghost use Rattle.semver_cuts.specs.Common.{AreApart};
-ghost use Rattle.semver_cuts.specs.Private.Apart.{AreRising};
-ghost use Rattle.semver_cuts.specs.Private.Joined.{joined_spans};
 ghost use Rattle.semver_cuts.specs.Private.Rest.{pieces_of};
 
 use crate::Span;
 use crate::algebra::Gather;
-use crate::algebra::joined::Joined;
+use crate::algebra::merged::Merged;
+use crate::algebra::places::Places;
 use std::alloc::{AllocError, Global};
 
 /// Hands over what each span of one list has and no span of the other has: its greatest pieces, in ascending order.
@@ -28,7 +26,8 @@ use std::alloc::{AllocError, Global};
 /// # Memory
 ///
 /// Takes none beside what `into` takes where the spans of `others` stand in ascending order apart from one another, as
-/// one span always does. Else it takes the places of `others` and the ends of the spans that they join to: two requests.
+/// one span always does. Else it takes the places of what `others` are joined to. [`Merged::rest_of`] is for places that
+/// are kept.
 ///
 /// # Examples
 ///
@@ -42,28 +41,49 @@ pub fn rest_spans<'a, T: Ord, S: Gather<'a, T>>(
     ensures rest { OnOk result ((rest : List (Ends T)) × AreRestSpans T.cmp ones.now others.now rest
         × (S.gathered into.new ≡ S.gathered into.old ++ rest)) }
 {
-    let joined = Joined::of(alloc, others)?;
-    for one in ones {
-        add_pieces(one, &joined, into)?;
+    let places = Places::of(alloc, others)?;
+    Merged::with(others, &places).rest_of(ones, into)
+}
+
+impl<'a, 'p, T: Ord> Merged<'a, 'p, T> {
+    /// Hands over what each span of a list has and no span of this one has, as [`rest_spans`] does.
+    ///
+    /// # Errors
+    ///
+    /// Fails where `into` fails.
+    ///
+    /// # Memory
+    ///
+    /// Takes none beside what `into` takes.
+    pub fn rest_of<S: Gather<'a, T>>(
+        &self,
+        ones: &'a [Span<T>],
+        into: &mut S,
+    ) -> Result<(), AllocError>
+        ensures rest { OnOk result ((rest : List (Ends T)) × AreRestSpans T.cmp ones.now self.now.list rest
+            × (S.gathered into.new ≡ S.gathered into.old ++ rest)) }
+    {
+        let _others = self.spans();
+        for one in ones {
+            add_pieces(one, self, into)?;
+        }
+        Ok(())
     }
-    Ok(())
 }
 
 // Hands over the pieces of one span, lowest first.
 fn add_pieces<'a, T: Ord, S: Gather<'a, T>>(
     one: &'a Span<T>,
-    joined: &Joined<'a, T>,
+    others: &Merged<'a, '_, T>,
     into: &mut S,
 ) -> Result<(), AllocError>
-    requires rising { AreRising T.cmp (joined_spans joined.now) }
-    requires apart { AreApart T.cmp (joined_spans joined.now) }
     ensures holds { IsCutBelow T.cmp one.now.lower one.now.upper }
     ensures pieces { OnOk result
-        (S.gathered into.new ≡ S.gathered into.old ++ pieces_of T.cmp one.now (joined_spans joined.now)) }
+        (S.gathered into.new ≡ S.gathered into.old ++ pieces_of T.cmp one.now others.now.merged) }
 {
     let (mut low, high) = one.ends();
-    for place in joined.first_above(low)..joined.len() {
-        let (lower, upper) = joined.ends(place);
+    for number in others.first_above(low)..others.len() {
+        let (lower, upper) = others.ends(number);
         if lower >= high {
             break;
         }

@@ -111,3 +111,70 @@ fn asks_whether_lists_share_and_cover(rt: HostRuntime) {
         assert!(rt; covers_one(&ones, &others) == *covers);
     }
 }
+
+// Lists, and what they are joined to: spans that touch, overlap, fall, repeat and nest, one list merged as it stands,
+// and none.
+const JOIN_ROWS: &[(&[(u64, u64)], &[(u64, u64)])] = &[
+    (&[(1, 2), (2, 3)], &[(1, 3)]),
+    (&[(2, 5), (0, 1), (4, 7)], &[(0, 1), (2, 7)]),
+    (&[(5, 6), (3, 4), (1, 2)], &[(1, 2), (3, 4), (5, 6)]),
+    (&[(1, 2), (4, 5), (1, 2)], &[(1, 2), (4, 5)]),
+    (&[(2, 3), (0, 9), (4, 5)], &[(0, 9)]),
+    (&[(0, 1), (2, 3)], &[(0, 1), (2, 3)]),
+    (&[], &[]),
+];
+
+#[test]
+fn joins_spans_and_keeps_their_places(rt: HostRuntime) {
+    for (pairs, joined) in JOIN_ROWS {
+        let spans = spans_of(rt.alloc(), pairs).expect(&rt, "memory");
+        let list: &[Span<u64>] = &spans;
+        let places = Places::of(rt.alloc(), list).expect(&rt, "memory");
+        let copy = places.clone().expect(&rt, "memory");
+        assert!(rt; copy.as_slice() == places.as_slice());
+        let merged = Merged::with(list, &places);
+        assert!(rt; merged.len() == joined.len());
+        for number in 0..merged.len() {
+            let (lower, upper) = merged.ends(number);
+            let ends = joined
+                .get(number)
+                .map(|(low, high)| (Cut::Before(*low), Cut::Before(*high)));
+            assert!(rt; ends.is_some_and(|(low, high)| *lower == low && *upper == high));
+        }
+        let spans = join(rt.alloc(), spans).expect(&rt, "memory");
+        let expected = spans_of(rt.alloc(), joined).expect(&rt, "memory");
+        assert!(rt; spans == expected);
+        assert!(rt; are_merged(&spans));
+    }
+}
+
+// Two lists, and whether the first has all cuts of the second: not where a gap lies between, however far its ends
+// reach.
+const COVER_ROWS: &[(&[(u64, u64)], &[(u64, u64)], bool)] = &[
+    (&[(1, 5), (7, 9)], &[(2, 5), (8, 9)], true),
+    (&[(1, 5), (7, 9)], &[(2, 6)], false),
+    (&[(1, 5), (7, 9)], &[(4, 8)], false),
+    (&[(1, 5), (7, 9)], &[(0, 2)], false),
+    (&[(5, 9), (1, 5)], &[(6, 7), (2, 8)], true),
+    (&[(1, 2)], &[], true),
+    (&[], &[(1, 2)], false),
+];
+
+#[test]
+fn asks_of_merged_lists_whether_they_cover_and_share(rt: HostRuntime) {
+    for (ones, others, covered) in COVER_ROWS {
+        let ones = spans_of(rt.alloc(), ones).expect(&rt, "memory");
+        let others = spans_of(rt.alloc(), others).expect(&rt, "memory");
+        let ones: &[Span<u64>] = &ones;
+        let others: &[Span<u64>] = &others;
+        let places = Places::of(rt.alloc(), ones).expect(&rt, "memory");
+        let other_places = Places::of(rt.alloc(), others).expect(&rt, "memory");
+        let one = Merged::with(ones, &places);
+        let other = Merged::with(others, &other_places);
+        assert!(rt; one.covers(&other) == *covered);
+        assert!(rt; one.share_cut(&other) == share_cut(ones, others));
+        if are_merged(ones) && are_merged(others) {
+            assert!(rt; covers(ones, others) == *covered);
+        }
+    }
+}

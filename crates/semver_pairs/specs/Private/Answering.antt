@@ -1,18 +1,76 @@
--- What answering one pair after the other goes by.
-use Rattle.std.specs.Prelude.{◌≡◌, ℕ, List, [], ◌∷◌, ◌++◌, true}
+-- What answering some pairs after others goes by.
+use Rattle.std.specs.Prelude.{◌≡◌, ◌↔◌, ℕ, List, [], ◌∷◌, ◌++◌, Bool, true, Option}
+use Rattle.std.specs.Io.KnownBytes.{Appends}
+use Rattle.std.specs.Str.Lines.{strip_carriage_return}
 use Rattle.node_semver.specs.ErrorLocation.{newline}
-use Rattle.semver_pairs.specs.Answer.{IsAnswer}
-use Rattle.semver_pairs.specs.Output.{IsPairAnswer}
-use Rattle.semver_pairs.specs.Pairs.{Pair, pairs_read}
+use Rattle.node_semver.specs.Meaning.{TextAdmits}
+use Rattle.node_semver.specs.Version.{VersionValue}
+use Rattle.semver_pairs.specs.Answer.{IsAnswer, IsGoodRange}
+use Rattle.semver_pairs.specs.Output.{AreAnswers}
+use Rattle.semver_pairs.specs.Pairs.{pairs_read}
+
+-- the range line is a good one, and just the versions that its text admits are admitted
+abbrev pub IsReadAs : (line : List ℕ) → (Admits : VersionValue → Type 0) → Type 0
+IsReadAs line Admits = IsGoodRange line × ((v : VersionValue) → Admits v ↔ TextAdmits line v)
 
 -- the line is an answer to a range line and a version line, and a newline byte
 abbrev pub IsAnswerLine : (range version line : List ℕ) → Type 0
 IsAnswerLine range version line = (answer : List ℕ) × IsAnswer range version answer × (line ≡ answer ++ (newline ∷ []))
 
--- The line answers the first pair of these bytes, which have their end behind them, and the rest holds the others.
-pub record AnswersFirst (bytes line rest : List ℕ) : Type 0 where
-  pub pair : Pair
-  pub answer : List ℕ
-  pub pairs : pairs_read true bytes ≡ pair ∷ pairs_read true rest
-  pub answers : IsPairAnswer pair answer
-  pub line_is : line ≡ answer ++ (newline ∷ [])
+-- The answers to the pairs that stand before the rest: whatever follows, the answers to the pairs of the rest and what
+-- follows, put behind these, are the answers to the pairs of all bytes and what follows.
+pub record AnswersUpTo (bytes rest added : List ℕ) : Type 0 where
+  pub go_on : (is_end : Bool) (later more : List ℕ) → AreAnswers (pairs_read is_end (rest ++ later)) more
+      → AreAnswers (pairs_read is_end (bytes ++ later)) (added ++ more)
+
+-- The answer to a range line that a newline byte ends and to a version line, and then those to the pairs of the bytes
+-- that stand before the rest.
+pub record AnswersFrom (range version bytes rest added : List ℕ) : Type 0 where
+  pub first : List ℕ
+  pub others : List ℕ
+  pub answer : IsAnswerLine (strip_carriage_return range) version first
+  pub later : AnswersUpTo bytes rest others
+  pub both : added ≡ first ++ others
+
+-- Answers were added behind those that waited to be written; of all these some were written and the others are left.
+pub record Moves (contents contents_new : Option (List ℕ)) (waiting added left : List ℕ) : Type 0 where
+  pub written : List ℕ
+  pub put : Appends contents contents_new written
+  pub all : waiting ++ added ≡ written ++ left
+
+-- The answers to the pairs that stand before the rest were added.
+pub record AnswersPast (bytes rest : List ℕ) (contents contents_new : Option (List ℕ)) (waiting left : List ℕ) : Type 0 where
+  pub added : List ℕ
+  pub answers : AnswersUpTo bytes rest added
+  pub moves : Moves contents contents_new waiting added left
+
+-- The same, where it is left open up to where, and what waits.
+pub record AnswersSome (bytes : List ℕ) (contents contents_new : Option (List ℕ)) (waiting : List ℕ) : Type 0 where
+  pub rest : List ℕ
+  pub left : List ℕ
+  pub past : AnswersPast bytes rest contents contents_new waiting left
+
+-- The answers from a range line on were added.
+pub record AnswersRange (range version bytes rest : List ℕ) (contents contents_new : Option (List ℕ))
+    (waiting left : List ℕ) : Type 0 where
+  pub added : List ℕ
+  pub answers : AnswersFrom range version bytes rest added
+  pub moves : Moves contents contents_new waiting added left
+
+-- The same, where it is left open up to where, and what waits.
+pub record AnswersRangeSome (range version bytes : List ℕ) (contents contents_new : Option (List ℕ))
+    (waiting : List ℕ) : Type 0 where
+  pub rest : List ℕ
+  pub left : List ℕ
+  pub past : AnswersRange range version bytes rest contents contents_new waiting left
+
+-- The answers to all pairs, and the end, were added.
+pub record AnswersAll (bytes : List ℕ) (contents contents_new : Option (List ℕ)) (waiting left : List ℕ) : Type 0 where
+  pub added : List ℕ
+  pub answers : AreAnswers (pairs_read true bytes) added
+  pub moves : Moves contents contents_new waiting added left
+
+-- The same, where it is left open up to where, and what waits.
+pub record AnswersAllSome (bytes : List ℕ) (contents contents_new : Option (List ℕ)) (waiting : List ℕ) : Type 0 where
+  pub left : List ℕ
+  pub all : AnswersAll bytes contents contents_new waiting left

@@ -17,7 +17,7 @@ pub(crate) struct Outcome {
     pub(crate) has_write_failed: bool,
     pub(crate) reads: usize,
     pub(crate) writes: usize,
-    written: Cursor<[u8; 64]>,
+    written: Cursor<[u8; 12_000]>,
 }
 
 impl Outcome {
@@ -36,7 +36,7 @@ pub(crate) fn outcome_of(
     write: (usize, usize),
 ) -> Outcome {
     let mut reader = Gauge::new(Stepwise::new(input, read));
-    let mut writer = Gauge::new(Stepwise::new(Cursor::new([0; 64]), write));
+    let mut writer = Gauge::new(Stepwise::new(Cursor::new([0; 12_000]), write));
     let result = run(alloc, &mut reader, &mut writer);
     let (has_read_failed, has_write_failed) = (reader.failed(), writer.failed());
     let (reader, writer) = (reader.into_inner(), writer.into_inner());

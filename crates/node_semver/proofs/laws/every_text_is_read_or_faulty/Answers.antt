@@ -1,4 +1,4 @@
-use Rattle.node_semver.proofs.FaultLemmas.{read_or_faulty, version-no_fault}
+use Rattle.node_semver.proofs.Versions.FaultLemmas.{read_or_faulty, version-no_fault}
 use Rattle.node_semver.proofs.laws.every_text_is_read_or_faulty.Goals as goal
 
 pub returns : goal.returns

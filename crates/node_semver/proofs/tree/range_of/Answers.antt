@@ -2,11 +2,11 @@ use Rattle.std.proofs.Common.{◌≡◌, ap, refl, inl, inr}
 use Rattle.node_semver.specs.declared.error.kind.SemverErrorKind.{SemverErrorKind}
 use Rattle.node_semver.specs.declared.error.kind.SemverErrorKind.TheVariants.{OutOfMemory}
 use Rattle.node_semver.specs.Error.{Refusal, kind_of, out_of_memory}
-use Rattle.node_semver.proofs.TextCuts.{refused-cut, text-cut}
+use Rattle.node_semver.proofs.Sets.TreeSets.{refused-sets}
 use Rattle.node_semver.proofs.tree.range_of.Goals as goal
 
-pub returns-in-Ok-clause-cuts : goal.returns-in-Ok-clause-cuts
-returns-in-Ok-clause-cuts c = text-cut c.args.text.now c.in-Ok.range c.in-Ok.ensures.sets
+pub returns-in-Ok-clause-sets : goal.returns-in-Ok-clause-sets
+returns-in-Ok-clause-sets c = c.in-Ok.ensures.sets
 
 -- one kind of error says that memory was refused
 memory-kind : (k : SemverErrorKind) → kind_of k ≡ out_of_memory → k ≡ OutOfMemory
@@ -19,8 +19,5 @@ returns c =
     elim c.in-Err.ensures.refused [
       | inl memory ↦ absurd (c.in_default.not-OutOfMemory
           (memory-kind c.kind.result.now (cc (c.kind.ensures.kind, ap (λ (r : Refusal). r.kind) memory))))
-      | inr refused ↦ record {
-        cuts = λ cut. (λ nowhere. absurd nowhere, refused-cut c.args.text.now refused.1 cut);
-        holds = tt;
-      }
+      | inr refused ↦ record { sets = refused-sets c.args.text.now refused.1; holds = tt }
     ]

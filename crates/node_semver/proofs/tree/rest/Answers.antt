@@ -1,14 +1,19 @@
-use Rattle.std.proofs.Common.{◌↔◌, IfOk, sym, subst}
-use Rattle.semver_cuts.specs.declared.cut.Cut.{Cut}
-use Rattle.semver_cuts.specs.Common.{IsInSome}
+use Rattle.std.proofs.Common.{rules, IfOk, sym, subst}
+use Rattle.semver_cuts.specs.Rest.{AreRestSpans}
 use Rattle.node_semver.specs.Comparison.{version_cmp}
 use Rattle.node_semver.specs.RangeAlgebra.{sets_of_answer}
-use Rattle.node_semver.specs.Version.{VersionValue}
+use Rattle.node_semver.specs.RangeSets.{IsRangeValue}
+use Rattle.node_semver.proofs.Sets.TreeSets.{rest-without_none}
 use Rattle.node_semver.proofs.tree.rest.Goals as goal
 
-pub returns-in-Some-clause-cuts : goal.returns-in-Some-clause-cuts
-returns-in-Some-clause-cuts c =
-    subst (λ other. IfOk c.difference.result (λ answer. (cut : Cut VersionValue)
-    → IsInSome version_cmp (sets_of_answer answer) cut
-    ↔ (IsInSome version_cmp c.args.one cut × ¬ IsInSome version_cmp (sets_of_answer other) cut))) (sym c.in-Some.is)
-    c.difference.ensures.cuts
+pub returns-in-Some-clause-sets : goal.returns-in-Some-clause-sets
+returns-in-Some-clause-sets c =
+    subst (λ other. IfOk c.difference.result (λ answer.
+    AreRestSpans version_cmp c.args.one (sets_of_answer other) (sets_of_answer answer))) (sym c.in-Some.is)
+    c.difference.ensures.sets
+
+pub returns-in-None-clause-sets : goal.returns-in-None-clause-sets
+returns-in-None-clause-sets c =
+    let is : IsRangeValue c.args.one = search rules in
+    subst (λ other. AreRestSpans version_cmp c.args.one (sets_of_answer other) c.args.one) (sym c.in-None.is)
+    (rest-without_none c.args.one is.each)

@@ -1,6 +1,6 @@
 use Rattle.std.proofs.Common.{◌<◌, arith, get_or, inl, inr, length, rules}
 use borrow.Author.Tests.{ltb-false, ltb-true}
-use Rattle.node_semver.proofs.WordViews.{BeginsNone, none-begins}
+use Rattle.node_semver.proofs.Words.WordViews.{BeginsNone, none-begins}
 use Rattle.node_semver.proofs.word.begins_comparator.Goals as goal
 
 pub returns-in_default : goal.returns-in_default

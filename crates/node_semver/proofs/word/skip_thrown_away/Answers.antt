@@ -5,8 +5,8 @@ use Rattle.node_semver.specs.Comparator.{Comparator}
 use Rattle.node_semver.specs.Division.{IsAlternative}
 use Rattle.node_semver.specs.Private.Reading.{rest_of}
 use Rattle.node_semver.specs.Private.WordReading.{is_solid, or_else, or_thrown_away, read_hyphen, read_simple, read_word}
-use Rattle.node_semver.proofs.DivisionLemmas.{completes-more, completes-nothing, next-shorter}
-use Rattle.node_semver.proofs.Prefixes.{rest_of-no}
+use Rattle.node_semver.proofs.Ranges.DivisionLemmas.{completes-more, completes-nothing, next-shorter}
+use Rattle.node_semver.proofs.Texts.Prefixes.{rest_of-no}
 use Rattle.node_semver.proofs.word.skip_thrown_away.Goals as goal
 
 -- a word that begins no comparator

@@ -1,6 +1,6 @@
 use Rattle.std.proofs.Common.{ap, sym, ◌∙◌, List, ℕ}
 use Rattle.node_semver.specs.IdentifierValue.{IdentifierValue}
-use Rattle.node_semver.proofs.PartialViews.{clean_extras}
+use Rattle.node_semver.proofs.Words.PartialViews.{clean_extras}
 use Rattle.node_semver.proofs.parse.extras.skip_extras.Goals as goal
 
 -- a prerelease, a build and the rest

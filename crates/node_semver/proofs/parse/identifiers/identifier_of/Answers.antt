@@ -1,5 +1,5 @@
 use Rattle.std.proofs.lemmas.Str.{IsUtf8-from_ascii}
-use Rattle.node_semver.proofs.Characters.{ascii-characters}
+use Rattle.node_semver.proofs.Texts.Characters.{ascii-characters}
 use Rattle.node_semver.proofs.parse.identifiers.identifier_of.Goals as goal
 
 pub from_utf8_unchecked-text-requires : goal.from_utf8_unchecked-text-requires

@@ -1,7 +1,7 @@
 use Rattle.std.proofs.Common.{arith, get_or, nat_eq, not, refl}
 use Rattle.node_semver.specs.declared.parse.identifiers.TheConstants.{IDENTIFIER_CHARACTERS}
 use Rattle.node_semver.specs.Characters.{is_identifier_character}
-use Rattle.node_semver.proofs.ByteTable.{agree, agree-at}
+use Rattle.node_semver.proofs.Texts.ByteTable.{agree, agree-at}
 use Rattle.node_semver.proofs.parse.identifiers.is_identifier_character.Goals as goal
 
 pub returns : goal.returns

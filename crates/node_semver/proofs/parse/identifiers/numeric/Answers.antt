@@ -1,5 +1,5 @@
 use Rattle.std.proofs.Common.{◌≡◌, ◌∷◌}
-use Rattle.node_semver.proofs.Digits.{none-numeric}
+use Rattle.node_semver.proofs.Texts.Digits.{none-numeric}
 use Rattle.node_semver.proofs.parse.identifiers.numeric.Goals as goal
 
 pub returns-in-None : goal.returns-in-None

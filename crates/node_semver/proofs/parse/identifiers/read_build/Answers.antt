@@ -1,5 +1,5 @@
 use Rattle.node_semver.specs.Private.Reading.{read_build}
-use Rattle.node_semver.proofs.ExtrasReading.{read_list_or-plain}
+use Rattle.node_semver.proofs.Texts.ExtrasReading.{read_list_or-plain}
 use Rattle.node_semver.proofs.parse.identifiers.read_build.Goals as goal
 
 pub returns-clause-plain : goal.returns-clause-plain

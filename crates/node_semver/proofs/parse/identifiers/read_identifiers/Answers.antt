@@ -2,8 +2,8 @@ use Rattle.std.proofs.Common.{◌≡◌, ◌∷◌, [], ℕ, List, arith, ap, sy
 use Rattle.node_semver.specs.Characters.{BeginsWithNo, is_identifier_character, dot}
 use Rattle.node_semver.specs.IdentifierText.{identifier_of}
 use Rattle.node_semver.specs.Private.Reading.{rest_of, prefix_of, list_values}
-use Rattle.node_semver.proofs.Prefixes.{rest_of-no, prefix_of-rest_of, prefix_of-all}
-use Rattle.node_semver.proofs.ListReading.{list-last, list-more, values-more}
+use Rattle.node_semver.proofs.Texts.Prefixes.{rest_of-no, prefix_of-rest_of, prefix_of-all}
+use Rattle.node_semver.proofs.Texts.ListReading.{list-last, list-more, values-more}
 use Rattle.node_semver.proofs.parse.identifiers.read_identifiers.Goals as goal
 
 pub identifier_of-requires : goal.identifier_of-requires

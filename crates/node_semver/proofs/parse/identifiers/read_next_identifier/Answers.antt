@@ -1,5 +1,5 @@
 use Rattle.std.proofs.Common.{◌∷◌, ◌∙◌, ap, sym, ℕ}
-use Rattle.node_semver.proofs.ListReading.{next-none, next-some}
+use Rattle.node_semver.proofs.Texts.ListReading.{next-none, next-some}
 use Rattle.node_semver.proofs.parse.identifiers.read_next_identifier.Goals as goal
 
 pub returns-then-is_empty-clause-none : goal.returns-then-is_empty-clause-none

@@ -1,5 +1,5 @@
 use Rattle.node_semver.specs.Private.Reading.{read_prerelease}
-use Rattle.node_semver.proofs.ExtrasReading.{read_list_or-plain}
+use Rattle.node_semver.proofs.Texts.ExtrasReading.{read_list_or-plain}
 use Rattle.node_semver.proofs.parse.identifiers.read_prerelease.Goals as goal
 
 pub returns-clause-plain : goal.returns-clause-plain

@@ -2,9 +2,9 @@ use Rattle.std.proofs.Common.{◌≡◌, ◌∙◌}
 use Rattle.std.proofs.lemmas.Str.{IsUtf8-from_ascii}
 use Rattle.node_semver.specs.Characters.{is_digit}
 use Rattle.node_semver.specs.Private.Reading.{prefix_of}
-use Rattle.node_semver.proofs.Characters.{ascii-digits}
-use Rattle.node_semver.proofs.Digits.{large-err, large-ok}
-use Rattle.node_semver.proofs.Prefixes.{prefix_of-all, prefix_of-begins}
+use Rattle.node_semver.proofs.Texts.Characters.{ascii-digits}
+use Rattle.node_semver.proofs.Texts.Digits.{large-err, large-ok}
+use Rattle.node_semver.proofs.Texts.Prefixes.{prefix_of-all, prefix_of-begins}
 use Rattle.node_semver.proofs.parse.number.large_kind.Goals as goal
 
 pub from_utf8_unchecked-digits-requires : goal.from_utf8_unchecked-digits-requires

@@ -1,6 +1,6 @@
 use Rattle.std.proofs.Common.{◌≡◌, ◌∷◌, ap, arith, sym, ◌∙◌}
-use Rattle.node_semver.proofs.Digits.{read_number-large}
-use Rattle.node_semver.proofs.NumberReading.{refusal}
+use Rattle.node_semver.proofs.Texts.Digits.{read_number-large}
+use Rattle.node_semver.proofs.Texts.NumberReading.{refusal}
 use Rattle.node_semver.proofs.parse.number.read_number.Goals as goal
 
 pub returns-then-value-gt-MAX_SAFE_INTEGER : goal.returns-then-value-gt-MAX_SAFE_INTEGER

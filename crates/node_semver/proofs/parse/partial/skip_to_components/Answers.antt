@@ -1,5 +1,5 @@
 use Rattle.std.proofs.Common.{sym}
-use Rattle.node_semver.proofs.PartialViews.{digit-first_byte}
+use Rattle.node_semver.proofs.Words.PartialViews.{digit-first_byte}
 use Rattle.node_semver.proofs.parse.partial.skip_to_components.Goals as goal
 
 pub returns-in-len1-up : goal.returns-in-len1-up

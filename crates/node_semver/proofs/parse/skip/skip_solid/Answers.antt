@@ -4,7 +4,7 @@ use Rattle.std.proofs.lemmas.Bool.{cases_Bool}
 use Rattle.memchr.specs.Find.{Nowhere, Passes, is_byte2}
 use Rattle.node_semver.specs.Characters.{is_blank}
 use Rattle.node_semver.specs.Private.WordReading.{is_solid}
-use Rattle.node_semver.proofs.Places.{rest_of-all, rest_of-first, to-end}
+use Rattle.node_semver.proofs.Texts.Places.{rest_of-each, rest_of-first, to-end}
 use Rattle.node_semver.proofs.parse.skip.skip_solid.Goals as goal
 
 -- no blank stands before place n
@@ -26,4 +26,4 @@ returns-in-Some c =
 pub returns-in-None : goal.returns-in-None
 returns-in-None c =
     let text = c.args.text.now in
-    to-end text (length text) ∙ sym (rest_of-all is_solid text (solid-before text (length text) c.in-None.ensures))
+    to-end text (length text) ∙ sym (rest_of-each is_solid text (solid-before text (length text) c.in-None.ensures))

@@ -1,6 +1,6 @@
 use Rattle.std.proofs.Common.{◌≡◌, ◌∙◌, ap, arith, drop, length, sym, ℕ}
 use Rattle.std.proofs.lemmas.List.{take_all}
-use Rattle.node_semver.proofs.Places.{over-end, over-step, over-stop, to-end}
+use Rattle.node_semver.proofs.Texts.Places.{over-end, over-step, over-stop, to-end}
 use Rattle.node_semver.proofs.parse.skip.split.Goals as goal
 
 pub returns-then-not-passes-clause-prefix : goal.returns-then-not-passes-clause-prefix

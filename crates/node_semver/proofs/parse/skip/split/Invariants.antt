@@ -1,6 +1,6 @@
 use Rattle.std.proofs.Common.{ℕ, Bool}
 use Rattle.node_semver.specs.Private.ReadingViews.{IsTest}
-use Rattle.node_semver.proofs.Places.{Over}
+use Rattle.node_semver.proofs.Texts.Places.{Over}
 use Rattle.node_semver.proofs.parse.skip.split.Given as goal
 
 -- the bytes so far pass

@@ -1,6 +1,6 @@
 use Rattle.std.proofs.Common.{ap, sym, ◌∙◌}
 use Rattle.node_semver.specs.Private.Reading.{read_number}
-use Rattle.node_semver.proofs.VersionReading.{digit-first}
+use Rattle.node_semver.proofs.Versions.VersionReading.{digit-first}
 use Rattle.node_semver.proofs.parse.triple.read_major.Goals as goal
 
 pub returns-in-len1-up : goal.returns-in-len1-up

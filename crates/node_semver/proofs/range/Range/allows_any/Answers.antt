@@ -1,9 +1,17 @@
 use Rattle.std.proofs.Common.{rules, ◌↔◌, IsTrue}
 use Rattle.semver_cuts.specs.Sharing.{ShareCut}
 use Rattle.semver_cuts.specs.Lemmas.CommonSpans.{common_spans-any}
+use Rattle.semver_cuts.specs.Lemmas.Sharing.{share_cut-back}
 use Rattle.node_semver.specs.Comparison.{version_cmp}
 use Rattle.node_semver.specs.Lemmas.Order.{version_total}
 use Rattle.node_semver.proofs.range.Range.allows_any.Goals as goal
+
+pub returns-clause-symmetric : goal.returns-clause-symmetric
+returns-clause-symmetric c =
+    let shared : IsTrue c.share_cut.result ↔ ShareCut version_cmp c.args.self.now c.args.other.now = search rules in (
+      λ is. share_cut-back version_cmp c.args.self.now c.args.other.now (shared.0 is),
+      λ back. shared.1 (share_cut-back version_cmp c.args.other.now c.args.self.now back),
+    )
 
 pub returns-clause-intersection : goal.returns-clause-intersection
 returns-clause-intersection c =

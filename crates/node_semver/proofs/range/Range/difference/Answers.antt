@@ -6,14 +6,9 @@ use Rattle.node_semver.specs.Comparison.{version_cmp}
 use Rattle.node_semver.specs.Lemmas.Order.{version_total}
 use Rattle.node_semver.specs.RangeAlgebra.{sets_of_answer}
 use Rattle.node_semver.specs.RangeSets.{IsRangeValue}
-use Rattle.node_semver.proofs.AlgebraBounds.{none-exactly, rest-bounded}
-use Rattle.node_semver.proofs.RangeAlgebra.{rest-releases}
+use Rattle.node_semver.proofs.Sets.AlgebraBounds.{none-exactly, rest-bounded}
+use Rattle.node_semver.proofs.Sets.RangeAlgebra.{rest-releases}
 use Rattle.node_semver.proofs.range.Range.difference.Goals as goal
-
--- the sets of the answer are what one range has and the other has not
-answered : (c : goal.After-into_range)
-    → AreRestSpans version_cmp c.args.self.now c.args.other.now (sets_of_answer c.into_range.result)
-answered c = search rules
 
 pub into_range-requires : goal.into_range-requires
 into_range-requires c =
@@ -23,20 +18,32 @@ into_range-requires c =
     rest-bounded c.args.self.now c.args.other.now c.rest_spans.new.into rest ones.each others.each
 
 pub returns-clause-cuts : goal.returns-clause-cuts
-returns-clause-cuts c = rest_spans-cuts version_cmp _ _ _ (answered c)
+returns-clause-cuts c =
+    let answered : AreRestSpans version_cmp c.args.self.now c.args.other.now (sets_of_answer c.in_ok-into_range.field-0) =
+    search rules in
+    rest_spans-cuts version_cmp _ _ _ answered
 
 pub returns-clause-none : goal.returns-clause-none
 returns-clause-none c =
-    none-exactly c.into_range.result
+    none-exactly c.in_ok-into_range.field-0
     (λ cut. IsInSome version_cmp c.args.self.now cut × (¬ IsInSome version_cmp c.args.other.now cut))
-    c.into_range.ensures.holds (returns-clause-cuts c)
+    c.in_ok-into_range.ensures.holds (returns-clause-cuts c)
 
 pub returns-clause-releases : goal.returns-clause-releases
-returns-clause-releases c = rest-releases _ _ _ (answered c)
+returns-clause-releases c =
+    let answered : AreRestSpans version_cmp c.args.self.now c.args.other.now (sets_of_answer c.in_ok-into_range.field-0) =
+    search rules in
+    rest-releases _ _ _ answered
 
 pub returns-clause-disjoint : goal.returns-clause-disjoint
-returns-clause-disjoint c = λ cut both. common_rest-disjoint version_total _ _ _ (answered c) cut both.0 both.1
+returns-clause-disjoint c =
+    let answered : AreRestSpans version_cmp c.args.self.now c.args.other.now (sets_of_answer c.in_ok-into_range.field-0) =
+    search rules in
+    λ cut both. common_rest-disjoint version_total _ _ _ answered cut both.0 both.1
 
 pub returns-clause-together : goal.returns-clause-together
-returns-clause-together c = λ cut.
-    let either = common_rest-together version_total _ _ _ (answered c) cut in (either.1, either.0)
+returns-clause-together c =
+    let answered : AreRestSpans version_cmp c.args.self.now c.args.other.now (sets_of_answer c.in_ok-into_range.field-0) =
+    search rules in
+    λ cut.
+    let either = common_rest-together version_total _ _ _ answered cut in (either.1, either.0)

@@ -3,18 +3,14 @@ use Rattle.std.specs.List.{AllByRecursion}
 use Rattle.semver_cuts.specs.Common.{IsInSome}
 use Rattle.semver_cuts.specs.CommonSpans.{common_spans}
 use Rattle.semver_cuts.specs.Lemmas.CommonSpans.{common_spans-cuts}
+use Rattle.semver_cuts.specs.Lemmas.Rest.{common_rest-disjoint, common_rest-together}
 use Rattle.node_semver.specs.Lemmas.Order.{version_total}
 use Rattle.node_semver.specs.Comparison.{version_cmp}
 use Rattle.node_semver.specs.RangeAlgebra.{sets_of_answer}
 use Rattle.node_semver.specs.RangeSets.{IsRangeSet, IsRangeValue}
-use Rattle.node_semver.proofs.AlgebraBounds.{common-bounded, none-exactly}
-use Rattle.node_semver.proofs.RangeAlgebra.{common-admits, common-releases}
+use Rattle.node_semver.proofs.Sets.AlgebraBounds.{common-bounded, none-exactly, some-exactly}
+use Rattle.node_semver.proofs.Sets.RangeAlgebra.{common-admits, common-releases}
 use Rattle.node_semver.proofs.range.Range.intersect.Goals as goal
-
--- the sets of the answer are those that both ranges have in common
-answered : (c : goal.After-into_range)
-    → sets_of_answer c.into_range.result ≡ common_spans version_cmp c.args.self.now c.args.other.now
-answered c = search rules
 
 pub into_range-requires : goal.into_range-requires
 into_range-requires c =
@@ -25,20 +21,54 @@ into_range-requires c =
     (common-bounded c.args.self.now c.args.other.now ones.each others.each)
 
 pub returns-clause-cuts : goal.returns-clause-cuts
-returns-clause-cuts c = λ cut. rw (answered c) (common_spans-cuts version_total c.args.self.now c.args.other.now cut)
+returns-clause-cuts c =
+    let answered : sets_of_answer c.in_ok-into_range.field-0 ≡ common_spans version_cmp c.args.self.now c.args.other.now =
+    search rules in
+    λ cut. rw answered (common_spans-cuts version_total c.args.self.now c.args.other.now cut)
 
 pub returns-clause-none : goal.returns-clause-none
 returns-clause-none c =
-    let none = none-exactly c.into_range.result
+    let none = none-exactly c.in_ok-into_range.field-0
     (λ cut. IsInSome version_cmp c.args.self.now cut × IsInSome version_cmp c.args.other.now cut)
-    c.into_range.ensures.holds (returns-clause-cuts c) in (
+    c.in_ok-into_range.ensures.holds (returns-clause-cuts c) in (
       λ is shared. none.0 is shared.0 (shared.1, shared.2),
       λ apart. none.1 (λ cut both. apart (cut, both.0, both.1)),
     )
 
+pub returns-clause-some : goal.returns-clause-some
+returns-clause-some c =
+    let some = some-exactly c.in_ok-into_range.field-0
+    (λ cut. IsInSome version_cmp c.args.self.now cut × IsInSome version_cmp c.args.other.now cut)
+    c.in_ok-into_range.ensures.holds (returns-clause-cuts c) in (
+      λ is. let found = some.0 is in (found.0, found.1.0, found.1.1),
+      λ shared. some.1 (shared.0, (shared.1, shared.2)),
+    )
+
 pub returns-clause-releases : goal.returns-clause-releases
-returns-clause-releases c = λ v release.
-    rw (answered c) (common-releases c.args.self.now c.args.other.now v release)
+returns-clause-releases c =
+    let answered : sets_of_answer c.in_ok-into_range.field-0 ≡ common_spans version_cmp c.args.self.now c.args.other.now =
+    search rules in
+    λ v release.
+    rw answered (common-releases c.args.self.now c.args.other.now v release)
 
 pub returns-clause-prereleases : goal.returns-clause-prereleases
-returns-clause-prereleases c = λ v pre. rw (answered c) (common-admits v c.args.self.now c.args.other.now)
+returns-clause-prereleases c =
+    let answered : sets_of_answer c.in_ok-into_range.field-0 ≡ common_spans version_cmp c.args.self.now c.args.other.now =
+    search rules in
+    λ v pre. rw answered (common-admits v c.args.self.now c.args.other.now)
+
+pub returns-clause-disjoint : goal.returns-clause-disjoint
+returns-clause-disjoint c =
+    let answered : sets_of_answer c.in_ok-into_range.field-0 ≡ common_spans version_cmp c.args.self.now c.args.other.now =
+    search rules in
+    λ rest are cut.
+    rw answered
+    (λ both. common_rest-disjoint version_total c.args.self.now c.args.other.now rest are cut both.0 both.1)
+
+pub returns-clause-together : goal.returns-clause-together
+returns-clause-together c =
+    let answered : sets_of_answer c.in_ok-into_range.field-0 ≡ common_spans version_cmp c.args.self.now c.args.other.now =
+    search rules in
+    λ rest are cut.
+    let either = common_rest-together version_total c.args.self.now c.args.other.now rest are cut in
+    rw answered (either.1, either.0)

@@ -1,7 +1,8 @@
 use Rattle.std.proofs.Common.{◌≡◌, sym, ap, ◌∙◌, subst}
 use Rattle.node_semver.specs.RangeAlgebra.{sets_of_answer}
-use Rattle.node_semver.specs.SetTree.{both, formula_of, of_text, without}
-use Rattle.node_semver.proofs.TreeAnswers.{HaveCutsOf, IsAnswerOf, answer-both, answer-without, answered}
+use Rattle.node_semver.specs.SetTree.{AreSetsOfTree, both, formula_of, of_text, without}
+use Rattle.node_semver.proofs.Sets.TreeAnswers.{answered}
+use Rattle.node_semver.proofs.Sets.TreeSets.{HasSetsOf, both-sets, without-sets}
 use Rattle.node_semver.proofs.tree.SetTree.+evaluate.Goals as goal
 
 pub returns-in-Text : goal.returns-in-Text
@@ -10,7 +11,7 @@ returns-in-Text t c =
     let found = c.range_of.result in
     let same : of_text c.as_str.result.now ≡ tree =
     ap of_text c.as_str.ensures.value ∙ ap formula_of (sym c.in-Text.is) in
-    answered tree found (subst (λ f. IsAnswerOf f found) same c.range_of.ensures.cuts) c.range_of.ensures.holds
+    answered tree found (subst (λ f. HasSetsOf f found) same c.range_of.ensures.sets) c.range_of.ensures.holds
 
 pub returns-in_ok-evaluate-in-Some : goal.returns-in_ok-evaluate-in-Some
 returns-in_ok-evaluate-in-Some t c =
@@ -20,9 +21,10 @@ returns-in_ok-evaluate-in-Some t c =
     let found = c.common-in-Some.result in
     let others = sets_of_answer c.in_ok-evaluate-in-Some.field-0 in
     let same : tree ≡ both one other = cc (c.in-Both.is, c.deref.ensures, c.deref-in-Some.ensures) in
-    let has = subst (λ answer. HaveCutsOf one (sets_of_answer answer)) c.in-Some.is c.in_ok-one-in-Both.ensures.cuts in
-    answered tree found (answer-both tree one other c.in-Some.one others found same has
-    c.in_ok-evaluate-in-Some.ensures.cuts c.common-in-Some.ensures.cuts) c.common-in-Some.ensures.holds
+    let has = subst (λ answer. AreSetsOfTree one (sets_of_answer answer)) c.in-Some.is
+    c.in_ok-one-in-Both.ensures.sets in
+    answered tree found (both-sets tree one other c.in-Some.one others found same has
+    c.in_ok-evaluate-in-Some.ensures.sets c.common-in-Some.ensures.sets) c.common-in-Some.ensures.holds
 
 pub returns-in_ok-evaluate-in-Some-2 : goal.returns-in_ok-evaluate-in-Some-2
 returns-in_ok-evaluate-in-Some-2 t c =
@@ -33,7 +35,7 @@ returns-in_ok-evaluate-in-Some-2 t c =
     let others = sets_of_answer c.in_ok-evaluate-in-Some-2.field-0 in
     let same : tree ≡ without one other =
     cc (c.in-Without.is, c.deref-in-Without.ensures, c.deref-in-Some-2.ensures) in
-    let has = subst (λ answer. HaveCutsOf one (sets_of_answer answer)) c.in-Some-2.is
-    c.in_ok-one-in-Without.ensures.cuts in
-    answered tree found (answer-without tree one other c.in-Some-2.one others found same has
-    c.in_ok-evaluate-in-Some-2.ensures.cuts c.rest-in-Some-2.ensures.cuts) c.rest-in-Some-2.ensures.holds
+    let has = subst (λ answer. AreSetsOfTree one (sets_of_answer answer)) c.in-Some-2.is
+    c.in_ok-one-in-Without.ensures.sets in
+    answered tree found (without-sets tree one other c.in-Some-2.one others found same has
+    c.in_ok-evaluate-in-Some-2.ensures.sets c.rest-in-Some-2.ensures.sets) c.rest-in-Some-2.ensures.holds

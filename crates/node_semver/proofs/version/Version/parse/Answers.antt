@@ -1,7 +1,7 @@
 use Rattle.std.proofs.Common.{inl, inr}
-use Rattle.node_semver.proofs.FaultLemmas.{version-no_fault}
-use Rattle.node_semver.proofs.OneReading.{one_reading}
-use Rattle.node_semver.proofs.PrintReading.{version-print_read, version-reads_back}
+use Rattle.node_semver.proofs.Versions.FaultLemmas.{version-no_fault}
+use Rattle.node_semver.proofs.Versions.OneReading.{one_reading}
+use Rattle.node_semver.proofs.Prints.PrintReading.{version-print_read, version-reads_back}
 use Rattle.node_semver.proofs.version.Version.parse.Goals as goal
 
 pub returns-in-Ok-clause-only : goal.returns-in-Ok-clause-only

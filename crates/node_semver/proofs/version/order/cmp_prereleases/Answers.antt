@@ -1,5 +1,5 @@
 use Rattle.std.proofs.Common.{rules}
-use Rattle.node_semver.proofs.Prereleases.{slice_cmp-values}
+use Rattle.node_semver.proofs.Versions.Prereleases.{slice_cmp-values}
 use Rattle.node_semver.proofs.version.order.cmp_prereleases.Goals as goal
 
 pub returns-in-false-false : goal.returns-in-false-false

@@ -1,5 +1,5 @@
 use Rattle.std.proofs.Common.{◌∙◌}
-use Rattle.node_semver.proofs.VersionParse.{large-refused, number-there}
+use Rattle.node_semver.proofs.Versions.VersionParse.{large-refused, number-there}
 use Rattle.node_semver.proofs.version.parse.large_kind_at.Goals as goal
 
 pub large_kind-requires : goal.large_kind-requires

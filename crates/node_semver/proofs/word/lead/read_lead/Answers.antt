@@ -1,7 +1,7 @@
 use Rattle.std.proofs.Common.{ap, ◌∙◌, List, ℕ}
 use Rattle.node_semver.specs.Private.WordReading.{Lead, operator}
 use Rattle.node_semver.specs.Private.WordViews.{operator_seen}
-use Rattle.node_semver.proofs.WordViews.{lead-operator}
+use Rattle.node_semver.proofs.Words.WordViews.{lead-operator}
 use Rattle.node_semver.proofs.word.lead.read_lead.Goals as goal
 
 pub returns-in-Some : goal.returns-in-Some

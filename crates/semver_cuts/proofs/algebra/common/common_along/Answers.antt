@@ -2,7 +2,7 @@ use Rattle.std.proofs.Common.{◌≡◌, ◌-◌, ap, drop, length, refl, subst,
 use Rattle.std.proofs.lemmas.List.{take-append-drop, take_rest}
 use Rattle.semver_cuts.specs.Common.{AreApart}
 use Rattle.semver_cuts.specs.CommonSpans.{common_with}
-use Rattle.semver_cuts.specs.Private.Apart.{AreRising}
+use Rattle.semver_cuts.specs.Joined.{AreRising}
 use Rattle.semver_cuts.specs.Private.Rest.{ending_above}
 use Rattle.semver_cuts.specs.Lemmas.Apart.{apart-behind, rising-behind}
 use Rattle.semver_cuts.proofs.CommonAlong.{common_with-from}

@@ -1,5 +1,5 @@
 use Rattle.std.proofs.Common.{◌≡◌, ◌++◌, drop}
-use Rattle.semver_cuts.specs.Private.Apart.{AreRising}
+use Rattle.semver_cuts.specs.Joined.{AreRising}
 use Rattle.semver_cuts.specs.Private.Placed.{placed_from}
 use Rattle.semver_cuts.proofs.algebra.placed.in_order.Given as goal
 

@@ -1,13 +1,12 @@
 use Rattle.std.proofs.Common.{◌≡◌, ◌++◌, drop}
 use Rattle.semver_cuts.specs.Ends.{IsCutBelow}
-use Rattle.semver_cuts.specs.Private.Joined.{joined_spans}
 use Rattle.semver_cuts.specs.Private.Rest.{parts_between, pieces_of}
 use Rattle.semver_cuts.proofs.algebra.rest.add_pieces.Given as goal
 
-abbrev pub invariant-loop-place : goal.invariant-loop-place
-invariant-loop-place g l = record {
+abbrev pub invariant-loop-number : goal.invariant-loop-number
+invariant-loop-number g l = record {
   below : IsCutBelow g.T.Ord.cmp l.low l.high;
   parts : g.S.Gather.gathered l.into
-      ++ parts_between g.T.Ord.cmp l.low l.high (drop l.place (joined_spans l.joined))
-      ≡ g.S.Gather.gathered l.initial.into ++ pieces_of g.T.Ord.cmp l.one (joined_spans l.joined);
+      ++ parts_between g.T.Ord.cmp l.low l.high (drop l.number l.others.merged)
+      ≡ g.S.Gather.gathered l.initial.into ++ pieces_of g.T.Ord.cmp l.one l.others.merged;
 }

@@ -4,7 +4,7 @@ use Rattle.semver_cuts.specs.Steps.{IsLeast}
 use Rattle.node_semver.specs.Comparison.{version_cmp}
 use Rattle.node_semver.specs.Version.{VersionValue, least_of}
 use Rattle.node_semver.specs.VersionSteps.{IsVersion}
-use Rattle.node_semver.proofs.VersionSteps.{first-least}
+use Rattle.node_semver.proofs.Versions.VersionSteps.{first-least}
 use Rattle.node_semver.proofs.version.stepped.VersionStepped.least.Goals as goal
 
 made : {E : Type 0} (r : Result VersionValue E) → IfOk r (λ v. v ≡ least_of 0 0 0)

@@ -1,5 +1,5 @@
 use Rattle.std.proofs.Common.{rules}
-use Rattle.node_semver.proofs.VersionSteps.{patch-next, zero-next}
+use Rattle.node_semver.proofs.Versions.VersionSteps.{patch-next, zero-next}
 use Rattle.node_semver.proofs.version.stepped.VersionStepped.next.Goals as goal
 
 pub returns-then-is_prerelease-clause-next : goal.returns-then-is_prerelease-clause-next

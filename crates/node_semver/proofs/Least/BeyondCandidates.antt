@@ -1,0 +1,181 @@
+-- The candidates at a cut: the least release that can stand after it, and the least version where that is a prerelease.
+use Rattle.std.proofs.Common.{◌≡◌, ◌≢◌, ◌⊎◌, ◌+◌, List, [], ◌∷◌, ◌++◌, refl, inl, inr, Ordering, Less, Equal, Greater}
+use Rattle.std.specs.List.{AllByRecursion}
+use Rattle.std.specs.Ordering.{ordering_then}
+use Rattle.semver_cuts.specs.declared.cut.Cut.{Cut}
+use Rattle.semver_cuts.specs.declared.cut.Cut.TheVariants.{Start, Before, After, End}
+use Rattle.semver_cuts.specs.Ends.{IsCutAtMost, IsCutBelow}
+use Rattle.semver_cuts.specs.Lemmas.Ends.{at_most_trans}
+use Rattle.node_semver.specs.Comparison.{version_cmp}
+use Rattle.node_semver.specs.IdentifierValue.{IdentifierValue, numeric}
+use Rattle.node_semver.specs.Meaning.{Opens}
+use Rattle.node_semver.specs.Version.{HasSameTriple, IsPrerelease, VersionValue, least_of, release, without_build}
+use Rattle.node_semver.specs.VersionSteps.{with_zero}
+use Rattle.node_semver.specs.Lemmas.Order.{Less-version, version-Equal, version_total}
+use Rattle.node_semver.specs.Private.BeyondViews.{after_by, before_by, candidates_at}
+use Rattle.node_semver.proofs.Least.LeastLemmas.{IsFloor, after-floor, at-least, before-floor, same-floor, start-floor}
+use Rattle.node_semver.proofs.Sets.Convex.{by-value, from-cmp, prerelease-below, triple-back, triple-between}
+use Rattle.node_semver.proofs.Versions.VersionSteps.{none-below_least, none-between_patches, none-between_zeros, patch-above, prerelease-from_below, with_zero-above}
+
+-- ---- the least version after a cut, and the release of its triple
+
+-- a release after the cut, and none after the cut is below it
+pub record IsReleaseFrom (c : Cut VersionValue) (x : VersionValue) : Type 0 where
+  pub final : ¬ IsPrerelease x
+  pub at : IsCutAtMost version_cmp c (Before x)
+  pub none_below : (w : VersionValue) → ¬ IsPrerelease w → IsCutAtMost version_cmp c (Before w)
+      → ¬ (version_cmp w x ≡ Less)
+
+release-from : (c : Cut VersionValue) (f x : VersionValue) → IsFloor c f → HasSameTriple f x → ¬ IsPrerelease x
+    → IsReleaseFrom c x
+release-from c f x floor triple final = record {
+  final = final;
+  at = at_most_trans version_total c (Before f) (Before x) floor.at
+      (at-least f x (λ less. final (prerelease-from_below x f (triple-back f x triple) (Less-version x f less))));
+  none_below = λ w plain after less.
+      let below = Less-version w x less in
+      let t = triple-between f w x (from-cmp f w (at-least f w (floor.none_below w after))) (inl below) triple in
+      plain (prerelease-from_below w x t below);
+}
+
+pub plain-floor : (v : VersionValue) → IsFloor (Before v) (without_build v)
+plain-floor v = same-floor (Before v) v (without_build v)
+    (version-Equal v (without_build v)
+    (record { triple = record { major = refl; minor = refl; patch = refl }; pre_release = refl }))
+    (before-floor v)
+
+pub zero-floor : (v : VersionValue) → IsPrerelease v → IsFloor (After v) (with_zero v)
+zero-floor v pre = after-floor v (with_zero v) (with_zero-above v pre) (λ w. none-between_zeros v w pre)
+
+pub patch-floor : (v : VersionValue) → ¬ IsPrerelease v → IsFloor (After v) (least_of v.major v.minor (v.patch + 1))
+patch-floor v final = after-floor v (least_of v.major v.minor (v.patch + 1)) (patch-above v)
+    (λ w above. none-between_patches v w final above)
+
+-- ---- one candidate is such a release
+
+-- of which P holds, as of all candidates
+pub record ReleaseOf (P : VersionValue → Type 0) (c : Cut VersionValue) : Type 0 where
+  pub version : VersionValue
+  pub is : P version
+  pub first : IsReleaseFrom c version
+
+module _ (P : VersionValue → Type 0) where
+  before-release : (v : VersionValue) (xs : List IdentifierValue) → AllByRecursion P (before_by v xs)
+      → P (release v.major v.minor v.patch)
+  before-release v [] all = all.0
+  before-release v (x ∷ xs) all = all.1.0
+
+  after-release : (v : VersionValue) (xs : List IdentifierValue) → v.pre_release ≡ xs → AllByRecursion P (after_by v xs)
+      → ReleaseOf P (After v)
+  after-release v [] e all = record {
+    version = release v.major v.minor (v.patch + 1);
+    is = all.0;
+    first = release-from (After v) (least_of v.major v.minor (v.patch + 1)) (release v.major v.minor (v.patch + 1))
+        (patch-floor v (λ pre. pre e)) (record { major = refl; minor = refl; patch = refl }) (λ pre. pre refl);
+  }
+  after-release v (x ∷ xs) e all = record {
+    version = release v.major v.minor v.patch;
+    is = all.1.0;
+    first = release-from (After v) (with_zero v) (release v.major v.minor v.patch) (zero-floor v (λ none. cc (e, none)))
+        (record { major = refl; minor = refl; patch = refl }) (λ pre. pre refl);
+  }
+
+  past-end : (w : VersionValue) → ¬ IsCutAtMost version_cmp End (Before w)
+  past-end w (inl e) = cc e
+  past-end w (inr e) = cc e
+
+  pub release-candidate : (c : Cut VersionValue) (w : VersionValue) → IsCutAtMost version_cmp c (Before w)
+      → AllByRecursion P (candidates_at c) → ReleaseOf P c
+  release-candidate Start w below all = record {
+    version = release 0 0 0;
+    is = all.0;
+    first = release-from Start (least_of 0 0 0) (release 0 0 0) start-floor
+        (record { major = refl; minor = refl; patch = refl }) (λ pre. pre refl);
+  }
+  release-candidate (Before v) w below all = record {
+    version = release v.major v.minor v.patch;
+    is = before-release v v.pre_release all;
+    first = release-from (Before v) v (release v.major v.minor v.patch) (before-floor v)
+        (record { major = refl; minor = refl; patch = refl }) (λ pre. pre refl);
+  }
+  release-candidate (After v) w below all = after-release v v.pre_release refl all
+  release-candidate End w below all = absurd (past-end w below)
+
+-- ---- among the prereleases of a triple one candidate is the least version after the cut
+
+abbrev pub least_of_triple : VersionValue → VersionValue
+least_of_triple w = least_of w.major w.minor w.patch
+
+-- a cut between the least version of a triple and a prerelease of it stands at a prerelease of it
+stands-at : (w v : VersionValue) → IsPrerelease w
+    → (version_cmp (least_of_triple w) v ≡ Less) ⊎ (version_cmp (least_of_triple w) v ≡ Equal)
+    → (version_cmp v w ≡ Less) ⊎ (version_cmp v w ≡ Equal) → IsPrerelease v × HasSameTriple v w
+stands-at w v pre from to =
+    let t = triple-between (least_of_triple w) v w (from-cmp (least_of_triple w) v from) (from-cmp v w to)
+    (record { major = refl; minor = refl; patch = refl }) in
+    (prerelease-below v w (from-cmp v w to) t pre, t)
+
+pub record PrereleaseOf (P : VersionValue → Type 0) (c : Cut VersionValue) (w : VersionValue) : Type 0 where
+  pub version : VersionValue
+  pub is : P version
+  pub pre : IsPrerelease version
+  pub triple : HasSameTriple version w
+  pub first : IsFloor c version
+
+module _ (P : VersionValue → Type 0) where
+  before-prerelease : (v : VersionValue) (xs : List IdentifierValue) → xs ≢ [] → AllByRecursion P (before_by v xs)
+      → P (without_build v)
+  before-prerelease v [] some all = absurd (some refl)
+  before-prerelease v (x ∷ xs) some all = all.0
+
+  after-prerelease : (v : VersionValue) (xs : List IdentifierValue) → xs ≢ [] → AllByRecursion P (after_by v xs)
+      → P (with_zero v)
+  after-prerelease v [] some all = absurd (some refl)
+  after-prerelease v (x ∷ xs) some all = all.0
+
+  longer : (xs : List IdentifierValue) → xs ++ numeric 0 ∷ [] ≢ []
+  longer [] e = cc e
+  longer (x ∷ xs) e = cc e
+
+  pub prerelease-candidate : (c : Cut VersionValue) (w : VersionValue) → IsPrerelease w
+      → IsCutAtMost version_cmp (Before (least_of_triple w)) c → IsCutAtMost version_cmp c (Before w)
+      → AllByRecursion P (candidates_at c) → PrereleaseOf P c w
+  prerelease-candidate Start w pre from to all = elim from [ inl e ↦ cc e | inr e ↦ cc e ]
+  prerelease-candidate (Before v) w pre from to all =
+      let at = stands-at w v pre from to in
+      record {
+        version = without_build v;
+        is = before-prerelease v v.pre_release at.0 all;
+        pre = at.0;
+        triple = record { major = at.1.major; minor = at.1.minor; patch = at.1.patch };
+        first = plain-floor v;
+      }
+  prerelease-candidate (After v) w pre from to all =
+      let at = stands-at w v pre (by-value (version_cmp (least_of_triple w) v) Less from)
+      (by-value (version_cmp v w) Greater to) in
+      record {
+        version = with_zero v;
+        is = after-prerelease v v.pre_release at.0 all;
+        pre = longer v.pre_release;
+        triple = record { major = at.1.major; minor = at.1.minor; patch = at.1.patch };
+        first = zero-floor v at.0;
+      }
+  prerelease-candidate End w pre from to all = elim to [ inl e ↦ cc e | inr e ↦ cc e ]
+
+-- ---- a cut below all versions of a triple does not open it
+
+below-after : (r : Ordering) → ordering_then r Greater ≡ Less → r ≡ Less
+below-after Less e = refl
+below-after Equal e = cc e
+below-after Greater e = cc e
+
+pub shut-below : (c : Cut VersionValue) (w : VersionValue) → IsCutBelow version_cmp c (Before (least_of_triple w))
+    → ¬ Opens c w
+shut-below Start w below opens = opens
+shut-below (Before v) w below opens = none-below_least v w.major w.minor w.patch
+    (record { major = opens.1.major; minor = opens.1.minor; patch = opens.1.patch })
+    (Less-version v (least_of_triple w) below)
+shut-below (After v) w below opens = none-below_least v w.major w.minor w.patch
+    (record { major = opens.1.major; minor = opens.1.minor; patch = opens.1.patch })
+    (Less-version v (least_of_triple w) (below-after (version_cmp v (least_of_triple w)) below))
+shut-below End w below opens = opens

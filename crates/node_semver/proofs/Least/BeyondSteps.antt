@@ -1,0 +1,195 @@
+-- Candidates that are tried one after another, so that the best stays the least of them.
+use Rattle.std.proofs.Common.{◌≡◌, ◌≢◌, ◌+◌, ◌<◌, ◌∙◌, ℕ, List, [], ◌∷◌, ◌++◌, Option, Some, None, length, get_or, take, refl, sym, ap, subst, Less}
+use Rattle.std.proofs.lemmas.List.{take_more}
+use Rattle.std.specs.Cmp.{tied_itself}
+use Rattle.std.specs.List.{AllByRecursion}
+use Rattle.semver_cuts.specs.declared.cut.Cut.TheVariants.{Start, Before, After, End}
+use Rattle.semver_cuts.specs.Ends.{Ends}
+use Rattle.semver_cuts.specs.Lemmas.Lists.{all-append}
+use Rattle.node_semver.specs.Comparison.{version_cmp}
+use Rattle.node_semver.specs.IdentifierValue.{IdentifierValue}
+use Rattle.node_semver.specs.Least.{AdmitsBeyond}
+use Rattle.node_semver.specs.Meaning.{SetAdmits}
+use Rattle.node_semver.specs.Version.{IsPrerelease, VersionValue, least_of, release, without_build}
+use Rattle.node_semver.specs.VersionSteps.{with_zero}
+use Rattle.node_semver.specs.Lemmas.Order.{version_total}
+use Rattle.node_semver.specs.Private.BeyondViews.{AreSetsTried, AreUppersTried, IsBelowBest, IsCutTrial, IsCutTried, IsLeastOpened, IsOpenTrial, IsSetTrial, IsSetTried, IsStep, IsTrial, IsTried, after_by, before_by, candidates_at}
+use Rattle.node_semver.proofs.Least.HighestCut.{all-map}
+
+never-below_itself : (v : VersionValue) → ¬ (version_cmp v v ≡ Less)
+never-below_itself v less = cc (less, tied_itself version_total v)
+
+module _ (sets others : List (Ends VersionValue)) where
+  -- ---- one version more
+
+  pub same-step : (best : Option VersionValue) → IsStep sets others best best
+  same-step best = record { best = λ is. is; kept = λ v not. not }
+
+  pub step-step : (a b c : Option VersionValue) → IsStep sets others a b → IsStep sets others b c → IsStep sets others a c
+  step-step a b c first second = record {
+    best = λ is. second.best (first.best is);
+    kept = λ v not. second.kept v (first.kept v not);
+  }
+
+  -- what was tried is tried
+  tried-kept : (a b : Option VersionValue) → IsStep sets others a b → (v : VersionValue) → IsTried sets others a v
+      → IsTried sets others b v
+  tried-kept a b step v tried = λ beyond. step.kept v (tried beyond)
+
+  -- a version that is below the best so far
+  lower-step : (best : Option VersionValue) (v : VersionValue) → v.build ≡ [] → IsBelowBest best v → AdmitsBeyond sets others v
+      → IsStep sets others best (Some v)
+  lower-step None v plain below beyond = record { best = λ is. (beyond, plain); kept = λ w not. absurd not }
+  lower-step (Some b) v plain below beyond = record {
+    best = λ is. (beyond, plain);
+    kept = λ w not less. not (version_total.trans w v b less below);
+  }
+
+  pub trial-found : (best : Option VersionValue) (v : VersionValue) → v.build ≡ [] → IsBelowBest best v
+      → AdmitsBeyond sets others v → IsTrial sets others best v (Some v)
+  trial-found best v plain below beyond =
+      record { step = lower-step best v plain below beyond; tried = λ _. never-below_itself v }
+
+  -- one that is none, or is not below it
+  pub trial-kept : (best : Option VersionValue) (v : VersionValue) → (AdmitsBeyond sets others v → ¬ IsBelowBest best v)
+      → IsTrial sets others best v best
+  trial-kept None v not = record { step = same-step None; tried = λ beyond. not beyond tt }
+  trial-kept (Some b) v not = record { step = same-step (Some b); tried = not }
+
+  -- ---- a cut more
+
+  all-kept : (a b : Option VersionValue) → IsStep sets others a b → (vs : List VersionValue)
+      → AllByRecursion (IsTried sets others a) vs → AllByRecursion (IsTried sets others b) vs
+  all-kept a b step vs all = all-map (IsTried sets others a) (IsTried sets others b) vs (tried-kept a b step) all
+
+  pub start-trial : (best later : Option VersionValue) → IsTrial sets others best (release 0 0 0) later
+      → IsCutTrial sets others best Start later
+  start-trial best later trial = record { step = trial.step; tried = (trial.tried, tt) }
+
+  pub end-trial : (best : Option VersionValue) → IsCutTrial sets others best End best
+  end-trial best = record { step = same-step best; tried = tt }
+
+  before-two : (P : VersionValue → Type 0) (v : VersionValue) (xs : List IdentifierValue) → xs ≢ [] → P (without_build v)
+      → P (release v.major v.minor v.patch) → AllByRecursion P (before_by v xs)
+  before-two P v [] some first second = absurd (some refl)
+  before-two P v (x ∷ xs) some first second = (first, (second, tt))
+
+  before-one : (P : VersionValue → Type 0) (v : VersionValue) (xs : List IdentifierValue) → ¬ (xs ≢ [])
+      → P (release v.major v.minor v.patch) → AllByRecursion P (before_by v xs)
+  before-one P v [] none only = (only, tt)
+  before-one P v (x ∷ xs) none only = absurd (none (λ e. cc e))
+
+  after-two : (P : VersionValue → Type 0) (v : VersionValue) (xs : List IdentifierValue) → xs ≢ [] → P (with_zero v)
+      → P (release v.major v.minor v.patch) → AllByRecursion P (after_by v xs)
+  after-two P v [] some first second = absurd (some refl)
+  after-two P v (x ∷ xs) some first second = (first, (second, tt))
+
+  after-one : (P : VersionValue → Type 0) (v : VersionValue) (xs : List IdentifierValue) → ¬ (xs ≢ [])
+      → P (release v.major v.minor (v.patch + 1)) → AllByRecursion P (after_by v xs)
+  after-one P v [] none only = (only, tt)
+  after-one P v (x ∷ xs) none only = absurd (none (λ e. cc e))
+
+  pub before-prerelease-trial : (best first later : Option VersionValue) (v : VersionValue) → IsPrerelease v
+      → IsTrial sets others best (without_build v) first → IsTrial sets others first (release v.major v.minor v.patch) later
+      → IsCutTrial sets others best (Before v) later
+  before-prerelease-trial best first later v pre one two = record {
+    step = step-step best first later one.step two.step;
+    tried = before-two (IsTried sets others later) v v.pre_release pre
+        (tried-kept first later two.step (without_build v) one.tried) two.tried;
+  }
+
+  pub before-release-trial : (best later : Option VersionValue) (v : VersionValue) → ¬ IsPrerelease v
+      → IsTrial sets others best (release v.major v.minor v.patch) later → IsCutTrial sets others best (Before v) later
+  before-release-trial best later v final only = record {
+    step = only.step;
+    tried = before-one (IsTried sets others later) v v.pre_release final only.tried;
+  }
+
+  pub after-prerelease-trial : (best first later : Option VersionValue) (v : VersionValue) → IsPrerelease v
+      → IsTrial sets others best (with_zero v) first → IsTrial sets others first (release v.major v.minor v.patch) later
+      → IsCutTrial sets others best (After v) later
+  after-prerelease-trial best first later v pre one two = record {
+    step = step-step best first later one.step two.step;
+    tried = after-two (IsTried sets others later) v v.pre_release pre
+        (tried-kept first later two.step (with_zero v) one.tried) two.tried;
+  }
+
+  pub after-release-trial : (best later : Option VersionValue) (v : VersionValue) → ¬ IsPrerelease v
+      → IsTrial sets others best (release v.major v.minor (v.patch + 1)) later → IsCutTrial sets others best (After v) later
+  after-release-trial best later v final only = record {
+    step = only.step;
+    tried = after-one (IsTried sets others later) v v.pre_release final only.tried;
+  }
+
+  -- ---- the triple that an upper end opens
+
+  pub open-trial : (best later : Option VersionValue) (set : Ends VersionValue) (least : VersionValue)
+      → IsLeastOpened set.upper (Some least) → IsTrial sets others best least later → IsOpenTrial sets others best set later
+  open-trial best later set least opened trial = record {
+    step = trial.step;
+    tried = λ v opens admits. subst (IsTried sets others later) (sym (opened.1 v opens)) trial.tried;
+  }
+
+  pub open-outside : (best : Option VersionValue) (set : Ends VersionValue) (least : VersionValue)
+      → IsLeastOpened set.upper (Some least) → ¬ SetAdmits set least → IsOpenTrial sets others best set best
+  open-outside best set least opened outside = record {
+    step = same-step best;
+    tried = λ v opens admits. absurd (outside (subst (SetAdmits set) (opened.1 v opens) admits));
+  }
+
+  pub open-none : (best : Option VersionValue) (set : Ends VersionValue) → IsLeastOpened set.upper None
+      → IsOpenTrial sets others best set best
+  open-none best set none = record { step = same-step best; tried = λ v opens admits. absurd (none v opens) }
+
+  -- ---- a set more
+
+  pub set-trial : (best first later : Option VersionValue) (set : Ends VersionValue)
+      → IsCutTrial sets others best set.lower first → IsOpenTrial sets others first set later
+      → IsSetTrial sets others best set later
+  set-trial best first later set one two = record {
+    step = step-step best first later one.step two.step;
+    tried = record {
+      lower = all-kept first later two.step (candidates_at set.lower) one.tried;
+      opened = two.tried;
+    };
+  }
+
+  set-kept : (a b : Option VersionValue) → IsStep sets others a b → (set : Ends VersionValue) → IsSetTried sets others a set
+      → IsSetTried sets others b set
+  set-kept a b step set tried = record {
+    lower = all-kept a b step (candidates_at set.lower) tried.lower;
+    opened = λ v opens admits. tried-kept a b step (least_of v.major v.minor v.patch) (tried.opened v opens admits);
+  }
+
+  more-taken : (P : Ends VersionValue → Type 0) (all : List (Ends VersionValue)) (k : ℕ) (set : Ends VersionValue)
+      → k < length all → set ≡ get_or all k set → AllByRecursion P (take k all) → P set → AllByRecursion P (take (k + 1) all)
+  more-taken P all k set lt is each this = subst (AllByRecursion P)
+      (sym (take_more all k set lt ∙ ap (λ (s : Ends VersionValue). take k all ++ s ∷ []) (sym is)))
+      (all-append P (take k all) (set ∷ []) each (this, tt))
+
+  pub sets-more : (all : List (Ends VersionValue)) (k : ℕ) (set : Ends VersionValue) (earlier later : Option VersionValue)
+      → k < length all → set ≡ get_or all k set → AreSetsTried sets others (take k all) earlier
+      → IsSetTrial sets others earlier set later → AreSetsTried sets others (take (k + 1) all) later
+  sets-more all k set earlier later lt is tried trial = record {
+    best = trial.step.best tried.best;
+    each = more-taken (IsSetTried sets others later) all k set lt is
+        (all-map (IsSetTried sets others earlier) (IsSetTried sets others later) (take k all)
+        (set-kept earlier later trial.step) tried.each) trial.tried;
+  }
+
+  pub uppers-more : (all : List (Ends VersionValue)) (k : ℕ) (set : Ends VersionValue) (earlier later : Option VersionValue)
+      → k < length all → set ≡ get_or all k set → AreUppersTried sets others (take k all) earlier
+      → IsCutTrial sets others earlier set.upper later → AreUppersTried sets others (take (k + 1) all) later
+  uppers-more all k set earlier later lt is tried trial =
+      let Earlier : Ends VersionValue → Type 0 = λ s. IsCutTried sets others earlier s.upper in
+      let Now : Ends VersionValue → Type 0 = λ s. IsCutTried sets others later s.upper in
+      record {
+        lowers = record {
+          best = trial.step.best tried.lowers.best;
+          each = all-map (IsSetTried sets others earlier) (IsSetTried sets others later) sets
+              (set-kept earlier later trial.step) tried.lowers.each;
+        };
+        each = more-taken Now all k set lt is
+            (all-map Earlier Now (take k all) (λ s cut. all-kept earlier later trial.step (candidates_at s.upper) cut) tried.each)
+            trial.tried;
+      }

@@ -1,0 +1,281 @@
+-- The least version that a set admits: where the set begins, and what its ends open.
+use Rattle.std.proofs.Common.{◌≡◌, ◌↔◌, ◌⊎◌, ◌+◌, ◌∙◌, ℕ, List, [], ◌∷◌, ◌++◌, Bool, true, false, not, Option, IsTrue, refl, sym, ap, subst, inl, inr, Ordering, Less, Equal, Greater}
+use Rattle.std.specs.Ordering.{ordering_then}
+use Rattle.std.specs.Cmp.{alike_right, tied_back, tied_itself}
+use Rattle.semver_cuts.specs.declared.cut.Cut.{Cut}
+use Rattle.semver_cuts.specs.declared.cut.Cut.TheVariants.{Start, Before, After, End}
+use Rattle.semver_cuts.specs.Ends.{Ends, HoldsCut, IsCutAtMost, IsCutBelow}
+use Rattle.semver_cuts.specs.Lemmas.Ends.{at_most-below, at_most_trans}
+use Rattle.node_semver.specs.Comparison.{version_cmp}
+use Rattle.node_semver.specs.IdentifierValue.{IdentifierValue, numeric}
+use Rattle.node_semver.specs.Least.{build_at}
+use Rattle.node_semver.specs.Meaning.{HasOpenEnd, Opens, SetAdmits}
+use Rattle.node_semver.specs.Order.{IsBelow}
+use Rattle.node_semver.specs.Version.{HasSameTriple, IsPrerelease, VersionValue, least_of, release}
+use Rattle.node_semver.specs.VersionSteps.{with_zero}
+use Rattle.node_semver.specs.Lemmas.Order.{Greater-turned, Less-version, version-Equal, version-Less, version_total}
+use Rattle.node_semver.specs.Private.LeastViews.{IsInsideOrNone, IsLeastInSet, IsLeastOfSet, IsLeastOfTriple}
+use Rattle.node_semver.proofs.Sets.Convex.{from-cmp, triple-between}
+use Rattle.node_semver.proofs.Versions.VersionSteps.{none-below_first, none-between_patches, none-between_zeros, patch-above, prerelease-from_below, with_zero-above}
+
+-- ---- versions and ends
+
+not-so : (below : Bool) → ¬ IsTrue below → IsTrue (not below)
+not-so true n = absurd (n refl)
+not-so false n = refl
+
+so-not : (below : Bool) → IsTrue (not below) → ¬ IsTrue below
+so-not true h k = cc h
+so-not false h k = cc k
+
+-- what is not below is at least
+pub at-least : (v w : VersionValue) → ¬ (version_cmp w v ≡ Less) → IsCutAtMost version_cmp (Before v) (Before w)
+at-least v w n = by_order (version_cmp v w) refl
+  where
+    by_order : (r : Ordering) → version_cmp v w ≡ r → (version_cmp v w ≡ Less) ⊎ (version_cmp v w ≡ Equal)
+    by_order Less e = inl e
+    by_order Equal e = inr e
+    by_order Greater e = absurd (n ((Greater-turned version_total v w).0 e))
+
+-- a version is inside an end after another where the other is not below it
+pub inside-after : (v w : VersionValue) (upper : Cut VersionValue) (below : Bool) → upper ≡ After w
+    → IsTrue below ↔ (version_cmp w v ≡ Less) → IsTrue (not below) ↔ IsCutBelow version_cmp (Before v) upper
+inside-after v w upper below is test = (
+  λ h. subst (λ (c : Cut VersionValue). IsCutBelow version_cmp (Before v) c) (sym is)
+      (forward (at-least v w (λ less. so-not below h (test.1 less)))),
+  λ inside. not-so below (λ yes. backward (test.0 yes) (subst (λ (c : Cut VersionValue). IsCutBelow version_cmp (Before v) c) is inside)),
+)
+  where
+    forward : (version_cmp v w ≡ Less) ⊎ (version_cmp v w ≡ Equal) → ordering_then (version_cmp v w) Less ≡ Less
+    forward (inl e) = ap (λ r. ordering_then r Less) e
+    forward (inr e) = ap (λ r. ordering_then r Less) e
+
+    backward : version_cmp w v ≡ Less → ¬ (ordering_then (version_cmp v w) Less ≡ Less)
+    backward less e =
+        let greater : ordering_then (version_cmp v w) Less ≡ Greater =
+        ap (λ r. ordering_then r Less) ((Greater-turned version_total v w).1 less) in
+        cc (e, greater)
+
+-- and at least an end before another where it is not below it
+pub from-before : (v w : VersionValue) (lower : Cut VersionValue) (below : Bool) → lower ≡ Before w
+    → IsTrue below ↔ (version_cmp v w ≡ Less) → IsTrue (not below) ↔ IsCutAtMost version_cmp lower (Before v)
+from-before v w lower below is test = (
+  λ h. subst (λ (c : Cut VersionValue). IsCutAtMost version_cmp c (Before v)) (sym is)
+      (at-least w v (λ less. so-not below h (test.1 less))),
+  λ from. not-so below (λ yes. backward (test.0 yes) (subst (λ (c : Cut VersionValue). IsCutAtMost version_cmp c (Before v)) is from)),
+)
+  where
+    backward : version_cmp v w ≡ Less → ¬ ((version_cmp w v ≡ Less) ⊎ (version_cmp w v ≡ Equal))
+    backward less (inl above) = cc ((Greater-turned version_total v w).1 above, less)
+    backward less (inr same) = cc (tied_back version_total w v same, less)
+
+-- ---- where a cut begins
+
+-- the cut is at most the one before the version, and of no version below it
+pub record IsFloor (cut : Cut VersionValue) (floor : VersionValue) : Type 0 where
+  pub at : IsCutAtMost version_cmp cut (Before floor)
+  pub none_below : (v : VersionValue) → IsCutAtMost version_cmp cut (Before v) → ¬ (version_cmp v floor ≡ Less)
+
+-- whatever its build is
+pub same-floor : (cut : Cut VersionValue) (v w : VersionValue) → version_cmp v w ≡ Equal → IsFloor cut v → IsFloor cut w
+same-floor cut v w e floor = record {
+  at = at_most_trans version_total cut (Before v) (Before w) floor.at (inr e);
+  none_below = λ u h less. floor.none_below u h (alike_right version_total v w u e ∙ less);
+}
+
+pub start-floor : IsFloor Start (least_of 0 0 0)
+start-floor = record {
+  at = inl refl;
+  none_below = λ v _ less. none-below_first v (Less-version v (least_of 0 0 0) less);
+}
+
+pub before-floor : (v : VersionValue) → IsFloor (Before v) v
+before-floor v = record {
+  at = inr (tied_itself version_total v);
+  none_below = λ w h less. elim h [
+    | inl above ↦ cc ((Greater-turned version_total w v).1 above, less)
+    | inr same ↦ cc (tied_back version_total v w same, less)
+  ];
+}
+
+-- of the next version after this one
+pub after-floor : (v next : VersionValue) → IsBelow v next → ((w : VersionValue) → IsBelow v w → ¬ IsBelow w next)
+    → IsFloor (After v) next
+after-floor v next above between = record {
+  at = inl (ap (λ r. ordering_then r Greater) (version-Less v next above));
+  none_below = λ w h less. between w (Less-version v w (later (version_cmp v w) h)) (Less-version w next less);
+}
+  where
+    later : (r : Ordering) → (ordering_then r Greater ≡ Less) ⊎ (ordering_then r Greater ≡ Equal) → r ≡ Less
+    later Less h = refl
+    later Equal (inl h) = cc h
+    later Equal (inr h) = cc h
+    later Greater (inl h) = cc h
+    later Greater (inr h) = cc h
+
+-- ---- where a set begins
+
+-- The version is not below the set's lower end, and none below it is admitted.
+pub record IsBeginning (set : Ends VersionValue) (first : VersionValue) : Type 0 where
+  pub at : IsCutAtMost version_cmp set.lower (Before first)
+  pub none_below : (v : VersionValue) → SetAdmits set v → ¬ (version_cmp v first ≡ Less)
+
+from-floor : (set : Ends VersionValue) (v : VersionValue) → IsFloor set.lower v → IsBeginning set v
+from-floor set v floor = record {
+  at = floor.at;
+  none_below = λ w admits. floor.none_below w admits.inside.lower;
+}
+
+-- the least version of a triple that no end opens is not admitted, nor are the prereleases above it
+from-closed : (set : Ends VersionValue) (m n p : ℕ) (v : VersionValue) → IsFloor set.lower (least_of m n p)
+    → HasSameTriple v (least_of m n p) → ¬ IsPrerelease v → ¬ HasOpenEnd v set → IsBeginning set v
+from-closed set m n p v floor triple final closed =
+    let least = least_of m n p in
+    let back : HasSameTriple least v = record { major = sym triple.major; minor = sym triple.minor; patch = sym triple.patch } in
+    record {
+      at = at_most_trans version_total set.lower (Before least) (Before v) floor.at
+          (at-least least v (λ less. final (prerelease-from_below v least triple (Less-version v least less))));
+      none_below = λ w admits less.
+          let t = triple-between least w v (from-cmp least w (at-least least w (floor.none_below w admits.inside.lower)))
+          (inl (Less-version w v less)) back in
+          let pre = prerelease-from_below w v t (Less-version w v less) in
+          closed (open-same set w v t (admits.opened pre));
+    }
+  where
+    same-triple : (c : Cut VersionValue) (w v : VersionValue) → HasSameTriple w v → Opens c w → Opens c v
+    same-triple Start w v t opens = opens
+    same-triple (Before q) w v t opens = (
+      opens.0,
+      record {
+        major = opens.1.major ∙ t.major;
+        minor = opens.1.minor ∙ t.minor;
+        patch = opens.1.patch ∙ t.patch;
+      },
+    )
+    same-triple (After q) w v t opens = (
+      opens.0,
+      record {
+        major = opens.1.major ∙ t.major;
+        minor = opens.1.minor ∙ t.minor;
+        patch = opens.1.patch ∙ t.patch;
+      },
+    )
+    same-triple End w v t opens = opens
+
+    open-same : (set : Ends VersionValue) (w v : VersionValue) → HasSameTriple w v → HasOpenEnd w set → HasOpenEnd v set
+    open-same set w v t (inl opens) = inl (same-triple set.lower w v t opens)
+    open-same set w v t (inr opens) = inr (same-triple set.upper w v t opens)
+
+-- ---- the least version of a set
+
+-- a version at which the set begins, and which it admits if it is inside
+pub record IsCandidate (set : Ends VersionValue) (v : VersionValue) : Type 0 where
+  pub begins : IsBeginning set v
+  pub opened : IsPrerelease v → HasOpenEnd v set
+  pub build : v.build ≡ build_at set.lower
+
+pub least-inside : (set : Ends VersionValue) (v : VersionValue) → IsCandidate set v
+    → IsCutBelow version_cmp (Before v) set.upper → IsLeastInSet set v
+least-inside set v candidate upper = record {
+  admits = record {
+    inside = record { lower = candidate.begins.at; upper = upper };
+    opened = candidate.opened;
+  };
+  none_below = candidate.begins.none_below;
+  build = candidate.build;
+}
+
+-- it is the least one if it is inside, and otherwise there is none
+pub candidate-least : (set : Ends VersionValue) (v : VersionValue) (found : Option VersionValue) → IsCandidate set v
+    → IsInsideOrNone set.upper v found → IsLeastOfSet set found
+candidate-least set v found candidate (inl (inside, is)) =
+    subst (IsLeastOfSet set) (sym is) (least-inside set v candidate inside)
+candidate-least set v found candidate (inr (outside, is)) = subst (IsLeastOfSet set) (sym is) (λ w admits.
+    outside (at_most-below version_total (Before v) (Before w) set.upper
+    (at-least v w (candidate.begins.none_below w admits)) admits.inside.upper))
+
+-- before a version
+pub before-least : (set : Ends VersionValue) (v : VersionValue) → HoldsCut version_cmp set → set.lower ≡ Before v
+    → IsLeastInSet set v
+before-least set v holds is =
+    let floor : IsFloor set.lower v = subst (λ (c : Cut VersionValue). IsFloor c v) (sym is) (before-floor v) in
+    least-inside set v (record {
+      begins = from-floor set v floor;
+      opened = λ pre. inl (subst (λ (c : Cut VersionValue). Opens c v) (sym is)
+          (pre, record { major = refl; minor = refl; patch = refl }));
+      build = ap build_at (sym is);
+    }) (subst (λ (c : Cut VersionValue). IsCutBelow version_cmp c set.upper) is
+    (at_most-below version_total set.lower holds.0 set.upper holds.1.lower holds.1.upper))
+
+-- after a prerelease: itself with a 0 more, which the end opens
+pub zero-candidate : (set : Ends VersionValue) (v w : VersionValue) → set.lower ≡ After v → IsPrerelease v
+    → w ≡ record v { pre_release = v.pre_release ++ numeric 0 ∷ [] } → IsCandidate set w
+zero-candidate set v w is pre same =
+    let zero : VersionValue = record v { pre_release = v.pre_release ++ numeric 0 ∷ [] } in
+    let floor : IsFloor (After v) zero = same-floor (After v) (with_zero v) zero
+    (version-Equal (with_zero v) zero (record { triple = record { major = refl; minor = refl; patch = refl }; pre_release = refl }))
+    (after-floor v (with_zero v) (with_zero-above v pre) (λ w. none-between_zeros v w pre)) in
+    subst (IsCandidate set) (sym same) (record {
+      begins = from-floor set zero (subst (λ (c : Cut VersionValue). IsFloor c zero) (sym is) floor);
+      opened = λ _. inl (subst (λ (c : Cut VersionValue). Opens c zero) (sym is)
+          (pre, record { major = refl; minor = refl; patch = refl }));
+      build = ap build_at (sym is);
+    })
+
+-- a triple whose least version is the floor of a lower end that does not open it
+triple-candidate : (set : Ends VersionValue) (m n p : ℕ) (build : List IdentifierValue) (w : VersionValue)
+    → IsFloor set.lower (least_of m n p) → ¬ Opens set.lower (release m n p) → build ≡ build_at set.lower
+    → IsLeastOfTriple set.upper m n p build w → IsCandidate set w
+triple-candidate set m n p build w floor closed same (inl (opens, is)) =
+    let least : VersionValue = record (least_of m n p) { build = build } in
+    subst (IsCandidate set) (sym is) (record {
+      begins = from-floor set least (same-floor set.lower (least_of m n p) least
+          (version-Equal (least_of m n p) least (record { triple = record { major = refl; minor = refl; patch = refl }; pre_release = refl })) floor);
+      opened = λ _. inr (as_release set.upper opens);
+      build = same;
+    })
+  where
+    as_release : (c : Cut VersionValue) → Opens c (release m n p) → Opens c (record (least_of m n p) { build = build })
+    as_release Start opens = opens
+    as_release (Before q) opens =
+        (opens.0, record { major = opens.1.major; minor = opens.1.minor; patch = opens.1.patch })
+    as_release (After q) opens =
+        (opens.0, record { major = opens.1.major; minor = opens.1.minor; patch = opens.1.patch })
+    as_release End opens = opens
+triple-candidate set m n p build w floor closed same (inr (shut, is)) =
+    let final : VersionValue = record (release m n p) { build = build } in
+    subst (IsCandidate set) (sym is) (record {
+      begins = from-closed set m n p final floor (record { major = refl; minor = refl; patch = refl })
+          (λ pre. pre refl) (λ opened. elim opened [
+            | inl opens ↦ closed (as_plain set.lower opens)
+            | inr opens ↦ shut (as_plain set.upper opens)
+          ]);
+      opened = λ pre. absurd (pre refl);
+      build = same;
+    })
+  where
+    as_plain : (c : Cut VersionValue) → Opens c (record (release m n p) { build = build }) → Opens c (release m n p)
+    as_plain Start opens = opens
+    as_plain (Before q) opens =
+        (opens.0, record { major = opens.1.major; minor = opens.1.minor; patch = opens.1.patch })
+    as_plain (After q) opens =
+        (opens.0, record { major = opens.1.major; minor = opens.1.minor; patch = opens.1.patch })
+    as_plain End opens = opens
+
+-- from the start
+pub start-candidate : (set : Ends VersionValue) (w : VersionValue) → set.lower ≡ Start
+    → IsLeastOfTriple set.upper 0 0 0 [] w → IsCandidate set w
+start-candidate set w is least = triple-candidate set 0 0 0 [] w
+    (subst (λ (c : Cut VersionValue). IsFloor c (least_of 0 0 0)) (sym is) start-floor)
+    (λ opens. subst (λ (c : Cut VersionValue). Opens c (release 0 0 0)) is opens) (ap build_at (sym is)) least
+
+-- after a release: the triple with the next patch
+pub patch-candidate : (set : Ends VersionValue) (v w : VersionValue) → set.lower ≡ After v → ¬ IsPrerelease v
+    → IsLeastOfTriple set.upper v.major v.minor (v.patch + 1) v.build w → IsCandidate set w
+patch-candidate set v w is final least =
+    let next = least_of v.major v.minor (v.patch + 1) in
+    triple-candidate set v.major v.minor (v.patch + 1) v.build w
+    (subst (λ (c : Cut VersionValue). IsFloor c next) (sym is)
+    (after-floor v next (patch-above v) (λ u above. none-between_patches v u final above)))
+    (λ opens. final (subst (λ (c : Cut VersionValue). Opens c (release v.major v.minor (v.patch + 1))) is opens).0)
+    (ap build_at (sym is)) least

@@ -1,0 +1,5 @@
+pub mod LineText
+pub mod PrintReading
+pub mod WordPrintReading
+pub mod SetPrintReading
+pub mod RangePrintReading

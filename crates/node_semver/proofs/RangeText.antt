@@ -1,1 +1,0 @@
--- The text of a range in the pieces in which it is written.

@@ -1,0 +1,16 @@
+pub mod SomeElement
+pub mod Searching
+pub mod OpeningOrder
+pub mod Openings
+pub mod Merging
+pub mod Convex
+pub mod AlternativeSets
+pub mod SetLemmas
+pub mod TextCuts
+pub mod RangeEquality
+pub mod RangeAlgebra
+pub mod AlgebraBounds
+pub mod TreeSets
+pub mod TreeAnswers
+pub mod RestUnique
+pub mod TreeUnique

@@ -1,0 +1,80 @@
+-- What the sets of an answer hold: those that two ranges have in common, and those that one has and the other has not.
+use Rattle.std.proofs.Common.{◌↔◌, List, [], ◌∷◌, Option, Some, None, refl, inl}
+use Rattle.std.specs.Prelude.{IfSome, IsNone, IsSome}
+use Rattle.std.specs.List.{AllByRecursion}
+use Rattle.semver_cuts.specs.declared.cut.Cut.{Cut}
+use Rattle.semver_cuts.specs.Ends.{Ends, HoldsCut}
+use Rattle.semver_cuts.specs.Common.{IsInSome}
+use Rattle.semver_cuts.specs.CommonSpans.{common_spans}
+use Rattle.semver_cuts.specs.Rest.{AreRestSpans}
+use Rattle.semver_cuts.specs.Lemmas.CommonSpans.{common_spans-ends, common_spans-hold}
+use Rattle.semver_cuts.specs.Lemmas.Rest.{rest_spans-ends, rest_spans-hold}
+use Rattle.node_semver.specs.Comparison.{version_cmp}
+use Rattle.node_semver.specs.Lemmas.Order.{version_total}
+use Rattle.node_semver.specs.RangeAlgebra.{sets_of_answer}
+use Rattle.node_semver.specs.RangeSets.{IsRangeSet, IsRangeValue, IsReadCut}
+use Rattle.node_semver.specs.Version.{VersionValue}
+
+-- ---- the sets
+
+-- both ends of a set are ends that a range can have
+HasReadEnds : Ends VersionValue → Type 0
+HasReadEnds set = IsReadCut set.lower × IsReadCut set.upper
+
+ends-read : (sets : List (Ends VersionValue)) → AllByRecursion IsRangeSet sets → AllByRecursion HasReadEnds sets
+unfolding HasReadEnds
+ends-read [] all = tt
+ends-read (set ∷ sets) all = ((all.0.lower, all.0.upper), ends-read sets all.1)
+
+sets-held : (sets : List (Ends VersionValue)) → AllByRecursion (HoldsCut version_cmp) sets
+    → AllByRecursion HasReadEnds sets → AllByRecursion IsRangeSet sets
+unfolding HasReadEnds
+sets-held [] held read = tt
+sets-held (set ∷ sets) held read =
+    (record { holds = held.0; lower = read.0.0; upper = read.0.1 }, sets-held sets held.1 read.1)
+
+-- the sets that two ranges have in common are such as a range can have
+pub common-bounded : (ones others : List (Ends VersionValue)) → AllByRecursion IsRangeSet ones
+    → AllByRecursion IsRangeSet others → AllByRecursion IsRangeSet (common_spans version_cmp ones others)
+unfolding HasReadEnds
+common-bounded ones others all all' =
+    sets-held (common_spans version_cmp ones others) (common_spans-hold version_total ones others)
+    (common_spans-ends version_total IsReadCut IsReadCut ones others (ends-read ones all) (ends-read others all'))
+
+-- and so are those that one has and the other has not
+pub rest-bounded : (ones others rest : List (Ends VersionValue)) → AreRestSpans version_cmp ones others rest
+    → AllByRecursion IsRangeSet ones → AllByRecursion IsRangeSet others → AllByRecursion IsRangeSet rest
+unfolding HasReadEnds
+rest-bounded ones others rest are all all' =
+    sets-held rest (rest_spans-hold version_cmp ones others rest are)
+    (rest_spans-ends version_cmp IsReadCut IsReadCut ones others rest (ends-read ones all) (ends-read others all') are)
+
+-- ---- where there is no range
+
+-- a range has a cut
+some-cut : (sets : List (Ends VersionValue)) → IsRangeValue sets
+    → (cut : Cut VersionValue) × IsInSome version_cmp sets cut
+some-cut [] is = absurd (is.some refl)
+some-cut (set ∷ sets) is = let held = is.each.0.holds in (held.0, inl held.1)
+
+-- so an answer is none exactly where it would have no cut
+pub none-exactly : (answer : Option (List (Ends VersionValue))) (P : Cut VersionValue → Type 0)
+    → IfSome answer IsRangeValue
+    → ((cut : Cut VersionValue) → IsInSome version_cmp (sets_of_answer answer) cut ↔ P cut)
+    → IsNone answer ↔ ((cut : Cut VersionValue) → ¬ P cut)
+none-exactly None P holds same = (λ none cut p. (same cut).1 p, λ never. refl)
+none-exactly (Some sets) P holds same = (
+  λ none. cc none,
+  λ never. let some = some-cut sets holds in absurd (never some.0 ((same some.0).0 some.1)),
+)
+
+-- and some where it has one
+pub some-exactly : (answer : Option (List (Ends VersionValue))) (P : Cut VersionValue → Type 0)
+    → IfSome answer IsRangeValue
+    → ((cut : Cut VersionValue) → IsInSome version_cmp (sets_of_answer answer) cut ↔ P cut)
+    → IsSome answer ↔ ((cut : Cut VersionValue) × P cut)
+some-exactly None P holds same = (λ some. absurd (cc some), λ found. absurd ((same found.0).1 found.1))
+some-exactly (Some sets) P holds same = (
+  λ some. let in_some = some-cut sets holds in (in_some.0, (same in_some.0).0 in_some.1),
+  λ found. refl,
+)

@@ -1,0 +1,108 @@
+-- What two ranges have in common, and what one has and the other has not: what their sets hold and admit.
+use Rattle.std.proofs.Common.{◌≡◌, ◌↔◌, Bool, true, false, if◌then◌else◌, List, [], ◌∷◌, refl, inl, inr}
+use Rattle.std.specs.Ordering.{is_lt}
+use Rattle.semver_cuts.specs.declared.cut.Cut.{Cut}
+use Rattle.semver_cuts.specs.declared.cut.Cut.TheVariants.{Before}
+use Rattle.semver_cuts.specs.Cut.{cut_cmp}
+use Rattle.semver_cuts.specs.Ends.{Ends}
+use Rattle.semver_cuts.specs.Common.{IsInSome}
+use Rattle.semver_cuts.specs.CommonSpans.{common_ends, common_spans}
+use Rattle.semver_cuts.specs.Private.Merging.{IsEarlierLeast, IsLaterGreatest}
+use Rattle.semver_cuts.specs.Lemmas.Ends.{at_most-from_not_lt, below-from_lt}
+use Rattle.semver_cuts.specs.Sharing.{HaveCommonCut}
+use Rattle.semver_cuts.specs.Lemmas.CommonSpans.{common_spans-cuts, common_spans-some}
+use Rattle.semver_cuts.specs.Rest.{AreRestSpans}
+use Rattle.semver_cuts.specs.Lemmas.Rest.{rest_spans-cuts}
+use Rattle.semver_cuts.specs.Lemmas.Lists.{any-map}
+use Rattle.node_semver.specs.Comparison.{version_cmp}
+use Rattle.node_semver.specs.Lemmas.Order.{version_total}
+use Rattle.node_semver.specs.Meaning.{Admit, AnyByRecursion, RangeAdmits, SetAdmits}
+use Rattle.node_semver.specs.Merging.{IsSetOf}
+use Rattle.node_semver.specs.RangeAlgebra.{PairAdmits}
+use Rattle.node_semver.specs.Version.{IsPrerelease, VersionValue}
+use Rattle.node_semver.proofs.Sets.Merging.{merged-admits, set-one, set-push}
+
+-- ---- releases
+
+-- a range admits a release where the cut before it lies in one of the sets
+pub release-admitted : (sets : List (Ends VersionValue)) (v : VersionValue) → ¬ IsPrerelease v
+    → RangeAdmits sets v ↔ IsInSome version_cmp sets (Before v)
+release-admitted [] v release = (λ admits. admits, λ some. some)
+release-admitted (set ∷ sets) v release =
+    let later = release-admitted sets v release in (
+      λ admits. elim admits [
+        | inl here ↦ inl here.inside
+        | inr there ↦ inr (later.0 there)
+      ],
+      λ some. elim some [
+        | inl here ↦ inl (record { inside = here; opened = λ pre. absurd (release pre) })
+        | inr there ↦ inr (later.1 there)
+      ],
+    )
+
+-- ---- what two sets have in common is their merging
+
+greater-by : (one other : Cut VersionValue) (r : Bool) → is_lt (cut_cmp version_cmp other one) ≡ r
+    → IsLaterGreatest version_cmp one other (if r then one else other)
+greater-by one other true h = inl (below-from_lt version_cmp other one h, refl)
+greater-by one other false h = inr (at_most-from_not_lt version_total other one h, refl)
+
+lesser-by : (one other : Cut VersionValue) (r : Bool) → is_lt (cut_cmp version_cmp other one) ≡ r
+    → IsEarlierLeast version_cmp one other (if r then other else one)
+lesser-by one other true h = inl (below-from_lt version_cmp other one h, refl)
+lesser-by one other false h = inr (at_most-from_not_lt version_total other one h, refl)
+
+pair-merged : (one other : Ends VersionValue) → IsSetOf (one ∷ other ∷ []) (common_ends version_cmp one other)
+pair-merged one other =
+    set-push (one ∷ []) one other (common_ends version_cmp one other) (set-one one)
+    (greater-by one.lower other.lower (is_lt (cut_cmp version_cmp other.lower one.lower)) refl)
+    (lesser-by one.upper other.upper (is_lt (cut_cmp version_cmp other.upper one.upper)) refl)
+
+-- so it admits what both together do
+module _ (v : VersionValue) where
+  pair-admits : (one other : Ends VersionValue)
+      → Admit (one ∷ other ∷ []) v ↔ SetAdmits (common_ends version_cmp one other) v
+  pair-admits one other = merged-admits (one ∷ other ∷ []) (common_ends version_cmp one other) (pair-merged one other) v
+
+  -- the common sets of two ranges admit what a set of one and a set of the other do together
+  pub common-admits : (ones others : List (Ends VersionValue))
+      → RangeAdmits (common_spans version_cmp ones others) v ↔ PairAdmits ones others v
+  common-admits ones others =
+      let Admits : Ends VersionValue → Type 0 = λ set. SetAdmits set v in
+      let Together : Ends VersionValue → Ends VersionValue → Type 0 = λ one other. Admit (one ∷ other ∷ []) v in
+      let Shares : Ends VersionValue → Ends VersionValue → Type 0 =
+      λ one other. HaveCommonCut version_cmp one other × Admits (common_ends version_cmp one other) in
+      let some = common_spans-some version_total Admits ones others in (
+        λ admits. any-map (λ one. AnyByRecursion (Shares one) others) (λ one. AnyByRecursion (Together one) others)
+            (λ one. any-map (Shares one) (Together one) (λ other shares. (pair-admits one other).1 shares.1) others)
+            ones (some.0 admits),
+        λ together. some.1
+            (any-map (λ one. AnyByRecursion (Together one) others) (λ one. AnyByRecursion (Shares one) others)
+            (λ one. any-map (Together one) (Shares one)
+            (λ other admit. ((Before v, admit.inside.0, admit.inside.1.0), (pair-admits one other).0 admit)) others)
+            ones together),
+      )
+
+-- and a release exactly where both do
+pub common-releases : (ones others : List (Ends VersionValue)) (v : VersionValue) → ¬ IsPrerelease v
+    → RangeAdmits (common_spans version_cmp ones others) v ↔ (RangeAdmits ones v × RangeAdmits others v)
+common-releases ones others v release =
+    let both = release-admitted (common_spans version_cmp ones others) v release in
+    let one = release-admitted ones v release in
+    let other = release-admitted others v release in
+    let cuts = common_spans-cuts version_total ones others (Before v) in (
+      λ admits. let inside = cuts.0 (both.0 admits) in (one.1 inside.0, other.1 inside.1),
+      λ admits. both.1 (cuts.1 (one.0 admits.0, other.0 admits.1)),
+    )
+
+-- what is left of one range less another admits a release exactly where the first does and the second does not
+pub rest-releases : (ones others rest : List (Ends VersionValue)) → AreRestSpans version_cmp ones others rest
+    → (v : VersionValue) → ¬ IsPrerelease v → RangeAdmits rest v ↔ (RangeAdmits ones v × (¬ RangeAdmits others v))
+rest-releases ones others rest are v release =
+    let left = release-admitted rest v release in
+    let one = release-admitted ones v release in
+    let other = release-admitted others v release in
+    let cuts = rest_spans-cuts version_cmp ones others rest are (Before v) in (
+      λ admits. let inside = cuts.0 (left.0 admits) in (one.1 inside.0, λ admits'. inside.1 (other.0 admits')),
+      λ admits. left.1 (cuts.1 (one.0 admits.0, λ inside. admits.1 (other.1 inside))),
+    )

@@ -1,0 +1,61 @@
+-- The cuts of a text: those of the sets that it writes, and none where it is refused.
+use Rattle.std.proofs.Common.{◌≢◌, ◌↔◌, ℕ, List, [], ◌∷◌, subst, inl, inr}
+use Rattle.semver_cuts.specs.declared.cut.Cut.{Cut}
+use Rattle.semver_cuts.specs.Common.{IsInEvery, IsInSome}
+use Rattle.semver_cuts.specs.Ends.{Ends}
+use Rattle.semver_cuts.specs.Lemmas.Merging.{in_every-between}
+use Rattle.node_semver.specs.Comparator.{Comparator}
+use Rattle.node_semver.specs.Comparison.{version_cmp}
+use Rattle.node_semver.specs.Meaning.{AnyByRecursion, IsRefused}
+use Rattle.node_semver.specs.Merging.{AreSetsOf, AreSetsOfText, no_more, none, one_more}
+use Rattle.node_semver.specs.SetTree.{TextHasCut}
+use Rattle.node_semver.specs.Version.{VersionValue}
+use Rattle.node_semver.specs.Lemmas.Order.{version_total}
+use Rattle.node_semver.proofs.Ranges.AlternativeLemmas.{written-unique}
+use Rattle.node_semver.proofs.Ranges.MeaningLemmas.{NoneGive, none-from_refused}
+
+-- the alternative is not empty, and the cut lies in all of its comparators
+abbrev pub HasCutSome : Cut VersionValue → List Comparator → Type 0
+HasCutSome cut comparators = (comparators ≢ []) × IsInEvery version_cmp comparators cut
+
+-- where no alternative gives a set, none has the cut
+none-has : (alternatives : List (List Comparator)) (cut : Cut VersionValue) → NoneGive alternatives
+    → ¬ AnyByRecursion (HasCutSome cut) alternatives
+none-has [] cut nothing some = some
+none-has (c ∷ alternatives) cut nothing (inl here) = nothing.0 (record { some = here.0; common = (cut, here.1) })
+none-has (c ∷ alternatives) cut nothing (inr there) = none-has alternatives cut nothing.1 there
+
+-- a refused text has no cut
+pub refused-cut : (text : List ℕ) → IsRefused text → (cut : Cut VersionValue) → ¬ TextHasCut text cut
+refused-cut text refused cut has =
+    none-has has.alternatives cut (none-from_refused text has.alternatives has.written refused) has.common
+
+-- the cuts of sets are those of the alternatives from which they are merged
+sets-cut : (alternatives : List (List Comparator)) (sets : List (Ends VersionValue)) (cut : Cut VersionValue)
+    → AreSetsOf alternatives sets → IsInSome version_cmp sets cut ↔ AnyByRecursion (HasCutSome cut) alternatives
+sets-cut [] [] cut none = (λ nowhere. nowhere, λ nowhere. nowhere)
+sets-cut [] (s ∷ sets) cut m = elim m [ ]
+sets-cut (c ∷ alternatives) (s ∷ sets) cut (one_more _ _ _ _ g i more) =
+    let others = sets-cut alternatives sets cut more in
+    let same = in_every-between version_total c s.lower s.upper i.lower i.upper cut in (
+      λ some. elim some [ inl here ↦ inl (g.some, same.1 here) | inr there ↦ inr (others.0 there) ],
+      λ some. elim some [ inl here ↦ inl (same.0 here.1) | inr there ↦ inr (others.1 there) ],
+    )
+sets-cut (c ∷ alternatives) sets cut (no_more _ _ _ n more) =
+    let others = sets-cut alternatives sets cut more in (
+      λ some. inr (others.0 some),
+      λ some. elim some [
+        | inl here ↦ absurd (n (record { some = here.0; common = (cut, here.1) }))
+        | inr there ↦ others.1 there
+      ],
+    )
+
+-- the cuts of the sets that a text writes are those of the text
+pub text-cut : (text : List ℕ) (sets : List (Ends VersionValue)) → AreSetsOfText text sets → (cut : Cut VersionValue)
+    → IsInSome version_cmp sets cut ↔ TextHasCut text cut
+text-cut text sets m cut =
+    let same = sets-cut m.alternatives sets cut m.merged in (
+      λ some. record { alternatives = m.alternatives; written = m.written; common = same.0 some },
+      λ has. same.1 (subst (AnyByRecursion (HasCutSome cut))
+          (written-unique text has.alternatives m.alternatives has.written m.written) has.common),
+    )

@@ -1,0 +1,131 @@
+-- The sets of a tree: how they are made of those of its sides, and that they have just the cuts of the tree.
+use Rattle.std.proofs.Common.{◌≡◌, ◌↔◌, ℕ, List, [], ◌∷◌, Option, Result, Ok, Err, refl, sym, subst, inl, inr}
+use Rattle.std.specs.Prelude.{IfOk}
+use Rattle.std.specs.List.{AllByRecursion}
+use Rattle.semver_cuts.specs.declared.cut.Cut.{Cut}
+use Rattle.semver_cuts.specs.Common.{IsInSome}
+use Rattle.semver_cuts.specs.CommonSpans.{common_spans}
+use Rattle.semver_cuts.specs.Ends.{Ends}
+use Rattle.semver_cuts.specs.Rest.{ArePieces, AreRestSpans}
+use Rattle.semver_cuts.specs.Lemmas.CommonSpans.{common_spans-cuts}
+use Rattle.semver_cuts.specs.Lemmas.Rest.{rest_spans-cuts}
+use Rattle.node_semver.specs.Comparator.{Comparator}
+use Rattle.node_semver.specs.Comparison.{version_cmp}
+use Rattle.node_semver.specs.Meaning.{GiveSet, IsRefused}
+use Rattle.node_semver.specs.Merging.{AreSetsOf, AreSetsOfText, no_more, none}
+use Rattle.node_semver.specs.RangeAlgebra.{sets_of_answer}
+use Rattle.node_semver.specs.RangeSets.{IsRangeSet}
+use Rattle.node_semver.specs.SetTree.{AreSetsOfTree, Formula, InFormula, both, of_text, without}
+use Rattle.node_semver.specs.Version.{VersionValue}
+use Rattle.node_semver.specs.Lemmas.Order.{version_total}
+use Rattle.node_semver.proofs.Sets.TextCuts.{text-cut}
+
+-- the sets of a range, or none
+abbrev pub Sets : Type 0
+Sets = List (Ends VersionValue)
+
+-- ---- a refused text
+
+none-merged : (alternatives : List (List Comparator))
+    → AllByRecursion (λ comparators. ¬ GiveSet comparators) alternatives → AreSetsOf alternatives []
+none-merged [] all = none
+none-merged (comparators ∷ alternatives) all =
+    no_more comparators alternatives [] all.0 (none-merged alternatives all.1)
+
+-- a refused text writes no sets
+pub refused-sets : (text : List ℕ) → IsRefused text → AreSetsOfText text []
+refused-sets text refused = record {
+  alternatives = refused.alternatives;
+  written = refused.written;
+  merged = none-merged refused.alternatives refused.none;
+}
+
+-- ---- no sets on the right side
+
+-- they have nothing in common with any
+pub common-with_none : (sets : Sets) → common_spans version_cmp sets [] ≡ []
+common-with_none [] = refl
+common-with_none (set ∷ sets) = common-with_none sets
+
+own-piece : (set : Ends VersionValue) → IsRangeSet set → ArePieces version_cmp [] set (set ∷ [])
+own-piece set is = record {
+  each = (
+    record {
+      holds = is.holds;
+      left = λ cut inside. (inside, λ some. some);
+      greatest = λ wider left within cut inside. (left cut inside).0;
+      lower = inl refl;
+      upper = inl refl;
+    },
+    tt,
+  );
+  ascending = tt;
+  all = λ cut left. inl left.0;
+}
+
+-- and leave each set as it is
+pub rest-without_none : (sets : Sets) → AllByRecursion IsRangeSet sets → AreRestSpans version_cmp sets [] sets
+rest-without_none [] all = refl
+rest-without_none (set ∷ sets) all = (set ∷ [], sets, refl, own-piece set all.0, rest-without_none sets all.1)
+
+-- ---- what a tree is evaluated to
+
+-- the sets of the answer are those of the tree
+abbrev pub HasSetsOf : {E : Type 0} → Formula → Result (Option Sets) E → Type 0
+HasSetsOf tree result = IfOk result (λ answer. AreSetsOfTree tree (sets_of_answer answer))
+
+-- what the sets of both sides have in common
+pub both-sets : {E : Type 0} (tree one other : Formula) (ones others : Sets) (result : Result (Option Sets) E)
+    → tree ≡ both one other → AreSetsOfTree one ones → AreSetsOfTree other others
+    → IfOk result (λ answer. sets_of_answer answer ≡ common_spans version_cmp ones others) → HasSetsOf tree result
+both-sets tree one other ones others (Err e) same has has' is = tt
+both-sets tree one other ones others (Ok answer) same has has' is =
+    subst (λ t. AreSetsOfTree t (sets_of_answer answer)) (sym same) (inr (ones, others, has, has', is))
+
+-- what the sets of the left side have and those of the right one have not
+pub without-sets : {E : Type 0} (tree one other : Formula) (ones others : Sets) (result : Result (Option Sets) E)
+    → tree ≡ without one other → AreSetsOfTree one ones → AreSetsOfTree other others
+    → IfOk result (λ answer. AreRestSpans version_cmp ones others (sets_of_answer answer)) → HasSetsOf tree result
+without-sets tree one other ones others (Err e) same has has' is = tt
+without-sets tree one other ones others (Ok answer) same has has' is =
+    subst (λ t. AreSetsOfTree t (sets_of_answer answer)) (sym same) (inr (ones, others, has, has', is))
+
+-- ---- cuts
+
+-- the sets have just the cuts of the tree
+abbrev pub HaveCutsOf : Formula → Sets → Type 0
+HaveCutsOf tree sets = (cut : Cut VersionValue) → IsInSome version_cmp sets cut ↔ InFormula tree cut
+
+-- the cuts that the sets of two trees share are those of both
+shared-cuts : (one other : Formula) (ones others : Sets) → HaveCutsOf one ones → HaveCutsOf other others
+    → HaveCutsOf (both one other) (common_spans version_cmp ones others)
+shared-cuts one other ones others has has' cut =
+    let is = common_spans-cuts version_total ones others cut in (
+      λ h. let shared = is.0 h in ((has cut).0 shared.0, (has' cut).0 shared.1),
+      λ h. is.1 ((has cut).1 h.0, (has' cut).1 h.1),
+    )
+
+-- the cuts that the sets of one tree have and those of another have not are those of the one without the other
+left-cuts : (one other : Formula) (ones others sets : Sets) → HaveCutsOf one ones → HaveCutsOf other others
+    → AreRestSpans version_cmp ones others sets → HaveCutsOf (without one other) sets
+left-cuts one other ones others sets has has' rest cut =
+    let is = rest_spans-cuts version_cmp ones others sets rest cut in (
+      λ h. let left = is.0 h in ((has cut).0 left.0, λ o. left.1 ((has' cut).1 o)),
+      λ h. is.1 ((has cut).1 h.0, λ o. h.1 ((has' cut).0 o)),
+    )
+
+pub tree-cuts : (tree : Formula) (sets : Sets) → AreSetsOfTree tree sets → HaveCutsOf tree sets
+tree-cuts (of_text t) sets are = text-cut t sets are
+tree-cuts (both one other) sets (inl empty) = λ cut. (
+  λ some. absurd (subst (λ (l : Sets). IsInSome version_cmp l cut) empty.1 some),
+  λ h. absurd ((tree-cuts one [] empty.0 cut).1 h.0),
+)
+tree-cuts (both one other) sets (inr made) =
+    subst (HaveCutsOf (both one other)) (sym made.4)
+    (shared-cuts one other made.0 made.1 (tree-cuts one made.0 made.2) (tree-cuts other made.1 made.3))
+tree-cuts (without one other) sets (inl empty) = λ cut. (
+  λ some. absurd (subst (λ (l : Sets). IsInSome version_cmp l cut) empty.1 some),
+  λ h. absurd ((tree-cuts one [] empty.0 cut).1 h.0),
+)
+tree-cuts (without one other) sets (inr made) =
+    left-cuts one other made.0 made.1 sets (tree-cuts one made.0 made.2) (tree-cuts other made.1 made.3) made.4

@@ -1,0 +1,5 @@
+use Rattle.node_semver.proofs.Sets.TreeUnique.{both-admit}
+use Rattle.node_semver.proofs.laws.both_sides_admit_in_pairs.Goals as goal
+
+pub returns : goal.returns
+returns c = both-admit

@@ -1,0 +1,89 @@
+use Rattle.std.proofs.Common.{◌≡◌, ◌<◌, ℕ, Bool, true, false, List, [], ◌∷◌, ◌++◌, Option, Some, None, length, arith, refl, sym, subst, ◌∙◌}
+use Rattle.std.specs.Prelude.{◌==◌}
+use Rattle.std.proofs.lemmas.Bool.{eqb-true}
+use Rattle.node_semver.specs.Characters.{BeginsWithNo, is_blank}
+use Rattle.node_semver.specs.Comparator.{Comparator}
+use Rattle.node_semver.specs.Private.RangeViews.{IsMerged}
+use Rattle.node_semver.specs.Private.Reading.{rest_of}
+use Rattle.node_semver.specs.Private.WordReading.{read_right}
+use Rattle.node_semver.specs.Private.WordViews.{listed, ends_seen}
+use Rattle.node_semver.proofs.Ranges.DivisionLemmas.{Completes, completes-end, completes-leading, completes-more, next-shorter}
+use Rattle.node_semver.proofs.Texts.Prefixes.{rest_of-no}
+use Rattle.node_semver.proofs.range.read.alternative.merge_words.Goals as goal
+
+-- what is left after blanks were skipped
+left-is : (text rest left : List ℕ) (done : List Comparator) → Completes text done rest → left ≡ rest
+    → Completes text done left
+left-is text rest left done completes skipped =
+    subst (λ (l : List ℕ). Completes text done l) (sym skipped) completes
+
+-- begins with no blank
+no-blank : (rest left : List ℕ) → left ≡ rest_of is_blank rest → BeginsWithNo is_blank left
+no-blank rest left skipped = subst (λ (l : List ℕ). BeginsWithNo is_blank l) (sym skipped) (rest_of-no is_blank rest)
+
+-- none of no comparators
+none-merged : (merged : Option Comparator) → merged ≡ None → IsMerged [] merged
+none-merged None none = refl
+none-merged (Some merged) none = absurd (cc none)
+
+pub loop-rest-init : goal.loop-rest-init
+loop-rest-init c =
+    let leading = ends_seen c.skip_leading_hyphen.result.0 in
+    let rest = c.skip_leading_hyphen.result.1.now in
+    let start = completes-leading c.args.text.now (read_right c.args.text.now) leading rest refl
+    c.skip_leading_hyphen.ensures in
+    record {
+      done = listed leading;
+      read = left-is c.args.text.now (rest_of is_blank rest) c.skip_blanks-rest.result.now (listed leading) start
+          c.skip_blanks-rest.ensures;
+      are_merged = c.in_ok-keep.ensures [] (none-merged c.args.merged.now c.requires);
+      solid = no-blank rest c.skip_blanks-rest.result.now c.skip_blanks-rest.ensures;
+    }
+
+some-from_not_empty : (xs : List ℕ) (r : Bool) → r ≡ (length xs == 0) → r ≡ false → 0 < length xs
+some-from_not_empty [] r e f = cc (e, f)
+some-from_not_empty (x ∷ xs) r e f = omega arith
+
+none-from_empty : (xs : List ℕ) (r : Bool) → r ≡ (length xs == 0) → r ≡ true → xs ≡ []
+none-from_empty [] r e f = refl
+none-from_empty (x ∷ xs) r e f =
+    let none : length (x ∷ xs) ≡ 0 = eqb-true (length (x ∷ xs)) 0 (sym e ∙ f) in
+    absurd (omega arith)
+
+pub read_word-requires : goal.read_word-requires
+read_word-requires c = c.loop-rest.invariant.solid
+
+pub loop-rest-smaller : goal.loop-rest-smaller
+loop-rest-smaller c =
+    let rest = c.loop-rest.rest.now in
+    let some : 0 < length rest = some-from_not_empty rest c.is_empty.result c.is_empty.ensures c.loop-rest-test.true in
+    let shorter = next-shorter rest (ends_seen c.read_word.result.0) c.read_word.result.1.now
+    (sym c.read_word.ensures) some in
+    subst (λ (l : List ℕ). length l < length rest) (sym c.skip_blanks-rest-in-loop-rest.ensures) shorter
+
+pub loop-rest-preserved : goal.loop-rest-preserved
+loop-rest-preserved c =
+    let rest = c.loop-rest.rest.now in
+    let word = ends_seen c.read_word.result.0 in
+    let others = c.read_word.result.1.now in
+    let done = c.loop-rest.invariant.done in
+    let more = completes-more c.args.text.now done rest word others c.loop-rest.invariant.read
+    (sym c.read_word.ensures) in
+    record {
+      done = done ++ listed word;
+      read = left-is c.args.text.now (rest_of is_blank others) c.skip_blanks-rest-in-loop-rest.result.now
+          (done ++ listed word) more c.skip_blanks-rest-in-loop-rest.ensures;
+      are_merged = c.in_ok-keep-2.ensures done c.loop-rest.invariant.are_merged;
+      solid = no-blank others c.skip_blanks-rest-in-loop-rest.result.now c.skip_blanks-rest-in-loop-rest.ensures;
+    }
+
+pub returns : goal.returns
+returns c =
+    let none : c.loop-rest.rest.now ≡ [] =
+    none-from_empty c.loop-rest.rest.now c.is_empty.result c.is_empty.ensures c.loop-rest-test.false in
+    let done = c.loop-rest.invariant.done in (
+      done,
+      completes-end c.args.text.now done
+          (subst (λ (l : List ℕ). Completes c.args.text.now done l) none c.loop-rest.invariant.read),
+      c.loop-rest.invariant.are_merged,
+    )

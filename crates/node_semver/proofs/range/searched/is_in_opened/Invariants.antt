@@ -1,0 +1,10 @@
+use Rattle.std.proofs.Common.{◌+◌, ◌*◌, ◌≤◌, take}
+use Rattle.semver_cuts.specs.Places.{span_at}
+use Rattle.node_semver.specs.Meaning.{AnyByRecursion, IsInside}
+use Rattle.node_semver.proofs.range.searched.is_in_opened.Given as goal
+
+abbrev pub invariant-openings : goal.invariant-openings
+invariant-openings l = record {
+  none : ¬ AnyByRecursion (λ o. IsInside l.version (span_at l.sets o.place)) (take l.opening-index l.openings);
+  short : l.comparisons ≤ l.fn.comparisons + 2 * l.opening-index;
+}

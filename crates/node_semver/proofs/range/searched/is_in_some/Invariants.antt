@@ -1,0 +1,20 @@
+use Rattle.std.proofs.Common.{ℕ, ◌-◌, ◌<◌, ◌≤◌, ◌^◌, drop, length, take}
+use Rattle.std.specs.List.{AllByRecursion}
+use Rattle.semver_cuts.specs.declared.cut.Cut.TheVariants.{Before}
+use Rattle.semver_cuts.specs.Ends.{IsCutAtMost, IsCutBelow}
+use Rattle.node_semver.specs.Comparison.{version_cmp}
+use Rattle.node_semver.proofs.Sets.Searching.{IsLeft}
+use Rattle.node_semver.proofs.range.searched.is_in_some.Given as goal
+
+abbrev pub invariant-loop-low : goal.invariant-loop-low
+invariant-loop-low l = record {
+  ordered : l.low ≤ l.high;
+  within : l.high ≤ length l.spans.merged;
+  below : AllByRecursion (λ s. IsCutAtMost version_cmp s.lower (Before l.version)) (take l.low l.spans.merged);
+  above : AllByRecursion (λ s. IsCutBelow version_cmp (Before l.version) s.lower) (drop l.high l.spans.merged);
+  steps : (digits : ℕ) → length l.spans.merged < 2 ^ digits
+      → IsLeft l.fn.comparisons l.comparisons digits (l.high - l.low);
+}
+
+abbrev pub decreases-loop-low : goal.decreases-loop-low
+decreases-loop-low l = l.high - l.low

@@ -1,0 +1,25 @@
+-- What is seen of what stands after the triple of an end, and of identifiers that it lends.
+use Rattle.std.specs.Prelude.{List, [], ◌∷◌}
+use Rattle.node_semver.specs.Identifier.{values_of}
+use Rattle.node_semver.specs.IdentifierValue.{IdentifierValue, numeric}
+use Rattle.node_semver.specs.declared.end.lent.Lent.{Lent}
+use Rattle.node_semver.specs.declared.end.lent.Lent.TheVariants.{List as ListLent, Zero as ZeroLent}
+use Rattle.node_semver.specs.declared.end.Extras.{Extras}
+use Rattle.node_semver.specs.declared.end.Extras.TheVariants.{Lists, Nothing, Zero}
+
+-- the prerelease
+abbrev pub prerelease_seen : Extras → List IdentifierValue
+prerelease_seen Nothing = []
+prerelease_seen Zero = numeric 0 ∷ []
+prerelease_seen (Lists lists) = values_of lists.value.pre_release.items
+
+-- the build
+abbrev pub build_seen : Extras → List IdentifierValue
+build_seen Nothing = []
+build_seen Zero = []
+build_seen (Lists lists) = values_of lists.value.build.items
+
+-- the identifiers that are lent
+abbrev pub lent_seen : Lent → List IdentifierValue
+lent_seen (ListLent identifiers) = values_of identifiers.now
+lent_seen ZeroLent = numeric 0 ∷ []

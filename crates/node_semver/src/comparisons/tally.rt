@@ -1,0 +1,31 @@
+//! A number that only proofs read.
+ghost use Rattle.std.specs.Prelude.{◌≡◌, ℕ, ◌+◌};
+ghost use Rattle.std.specs.Borrow.{ftrue};
+
+use std::marker::Model;
+
+// It takes no memory, and its methods do nothing at run time.
+#[derive(Drop)]
+pub(crate) struct Tally {
+    pub(crate) ghost count: { ℕ },
+}
+
+impl Model for Tally {
+    ghost also_owns = { λ _. ftrue };
+}
+
+impl Tally {
+    #[inline(always)]
+    pub(crate) fn zero() -> Tally
+        ensures { result.count ≡ 0 }
+    {
+        Tally {}
+    }
+
+    #[inline(always)]
+    pub(crate) fn next(&self) -> Tally
+        ensures { result.count ≡ self.now.count + 1 }
+    {
+        Tally {}
+    }
+}

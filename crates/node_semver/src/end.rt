@@ -1,0 +1,155 @@
+//! Ends: the versions at the ends of a range's sets. One without extras, or with the prerelease `0` alone, takes no
+//! memory.
+ghost use Rattle.std.specs.Prelude.{◌≡◌, ◌↔◌, IfOk, IsTrue};
+ghost use Rattle.node_semver.specs.Identifier.{values_of};
+ghost use Rattle.node_semver.specs.Private.EndViews.{lent_seen};
+ghost use Rattle.node_semver.specs.Version as Versions;
+ghost use Rattle.node_semver.specs.Version.{HasSameTriple, IsPrerelease};
+
+mod copy;
+mod hash;
+mod lent;
+mod order;
+
+use crate::Identifier;
+pub(crate) use lent::{Lent, Zero};
+use std::alloc::{AllocError, Global};
+use std::marker::Model;
+
+// A version at an end of a set.
+#[derive(Debug, Drop)]
+pub(crate) struct End {
+    pub(crate) major: u64,
+    pub(crate) minor: u64,
+    pub(crate) patch: u64,
+    pub(crate) extras: Extras,
+}
+
+// What stands after the triple.
+#[derive(Debug, Drop)]
+pub(crate) enum Extras {
+    // no prerelease and no build: `1.2.3`
+    Nothing,
+    // the prerelease 0, and no build: `2.0.0-0`, the least version of its triple
+    Zero,
+    // any two lists: `1.2.3-rc.4+5`
+    Lists(Box<Lists>),
+}
+
+// A prerelease and a build, either of which may be empty.
+#[derive(Debug, Drop)]
+pub(crate) struct Lists {
+    pub(crate) pre_release: Vec<Identifier>,
+    pub(crate) build: Vec<Identifier>,
+}
+
+impl Model for End {
+    ghost use Rattle.node_semver.specs.Version.{VersionValue};
+    ghost use Rattle.node_semver.specs.Private.EndViews.{build_seen, prerelease_seen};
+
+    ghost Value = { VersionValue };
+
+    ghost view = { λ e. record {
+      major = e.major;
+      minor = e.minor;
+      patch = e.patch;
+      pre_release = prerelease_seen e.extras;
+      build = build_seen e.extras;
+    } };
+}
+
+impl End {
+    // `1.2.3`
+    #[inline(always)]
+    pub(crate) fn release(major: u64, minor: u64, patch: u64) -> End
+        ensures { result ≡ Versions.release major minor patch }
+    {
+        End {
+            major,
+            minor,
+            patch,
+            extras: Extras::Nothing,
+        }
+    }
+
+    // `1.2.3-0`
+    #[inline(always)]
+    pub(crate) fn least(major: u64, minor: u64, patch: u64) -> End
+        ensures { result ≡ Versions.least_of major minor patch }
+    {
+        End {
+            major,
+            minor,
+            patch,
+            extras: Extras::Zero,
+        }
+    }
+
+    // With these lists, which take no box where both are empty.
+    pub(crate) fn with_extras(
+        alloc: Global,
+        triple: (u64, u64, u64),
+        pre_release: Vec<Identifier>,
+        build: Vec<Identifier>,
+    ) -> Result<End, AllocError>
+        ensures { IfOk result (λ e. e ≡ record {
+          major = triple.0;
+          minor = triple.1;
+          patch = triple.2;
+          pre_release = values_of pre_release.items;
+          build = values_of build.items;
+        }) }
+    {
+        let (major, minor, patch) = triple;
+        if pre_release.is_empty() && build.is_empty() {
+            return Ok(End::release(major, minor, patch));
+        }
+        let lists = Lists { pre_release, build };
+        Ok(End {
+            major,
+            minor,
+            patch,
+            extras: Extras::Lists(Box::new(alloc, lists)?),
+        })
+    }
+
+    #[inline]
+    pub(crate) fn is_prerelease(&self) -> bool
+        ensures { IsTrue result ↔ IsPrerelease self.now }
+    {
+        match &self.extras {
+            Extras::Nothing => false,
+            Extras::Zero => true,
+            Extras::Lists(lists) => !lists.pre_release.is_empty(),
+        }
+    }
+
+    // The identifiers of the prerelease.
+    #[inline]
+    pub(crate) fn pre_release(&self) -> Lent<'_>
+        ensures { lent_seen result ≡ self.now.pre_release }
+    {
+        match &self.extras {
+            Extras::Nothing => Lent::List(&[]),
+            Extras::Zero => Lent::Zero,
+            Extras::Lists(lists) => Lent::List(&lists.pre_release),
+        }
+    }
+
+    #[inline]
+    pub(crate) fn build(&self) -> &[Identifier]
+        ensures { values_of result.now ≡ self.now.build }
+    {
+        match &self.extras {
+            Extras::Nothing | Extras::Zero => &[],
+            Extras::Lists(lists) => &lists.build,
+        }
+    }
+
+    #[inline(always)]
+    pub(crate) fn has_triple(&self, triple: (u64, u64, u64)) -> bool
+        ensures { IsTrue result ↔ HasSameTriple self.now (Versions.release triple.0 triple.1 triple.2) }
+    {
+        self.major == triple.0 && self.minor == triple.1 && self.patch == triple.2
+    }
+}

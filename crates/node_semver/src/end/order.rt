@@ -1,0 +1,113 @@
+//! The order of ends is that of the versions that they stand for.
+ghost use Rattle.std.specs.Prelude.{◌≡◌, Some, refl};
+ghost use Rattle.std.specs.Cmp.{eq_by_cmp_equiv, partial_equiv_from_equiv, po};
+ghost use Rattle.std.specs.Ordering.{eq_by_cmp};
+ghost use Rattle.node_semver.specs.Comparison.{prerelease_cmp, version_cmp};
+ghost use Rattle.node_semver.specs.Identifier.{values_of};
+ghost use Rattle.node_semver.specs.Lemmas.Order.{version_total};
+
+use crate::end::{End, Extras, Zero};
+use crate::version::order::cmp_prereleases;
+use crate::{Identifier, Version};
+use std::cmp::Ordering;
+
+impl PartialEq for End {
+    ghost eq = { eq_by_cmp version_cmp };
+
+    ghost laws = { partial_equiv_from_equiv (eq_by_cmp_equiv version_total) };
+
+    #[inline]
+    fn eq(&self, other: &End) -> bool {
+        self.cmp(other).is_eq()
+    }
+}
+
+impl Eq for End {
+    ghost laws = { eq_by_cmp_equiv version_total };
+}
+
+impl PartialOrd for End {
+    ghost partial_cmp = { λ v w. Some (version_cmp v w) };
+
+    ghost laws = { po version_total (λ v w. refl) };
+
+    #[inline]
+    fn partial_cmp(&self, other: &End) -> Option<Ordering> {
+        Some(self.cmp(other))
+    }
+}
+
+impl Ord for End {
+    ghost cmp = { version_cmp };
+
+    ghost total = { version_total };
+
+    ghost matches_partial_cmp = { λ v w. refl };
+
+    ghost matches_eq = { λ v w. refl };
+
+    #[inline]
+    fn cmp(&self, other: &End) -> Ordering {
+        if self.major != other.major {
+            return self.major.cmp(&other.major);
+        }
+        if self.minor != other.minor {
+            return self.minor.cmp(&other.minor);
+        }
+        if self.patch != other.patch {
+            return self.patch.cmp(&other.patch);
+        }
+        self.cmp_extras(other)
+    }
+}
+
+impl End {
+    // The order of two ends with one triple. Most have no lists.
+    #[inline(always)]
+    fn cmp_extras(&self, other: &End) -> Ordering
+        ensures { result ≡ prerelease_cmp self.now.pre_release other.now.pre_release }
+    {
+        match (&self.extras, &other.extras) {
+            (Extras::Nothing, Extras::Nothing) | (Extras::Zero, Extras::Zero) => Ordering::Equal,
+            (Extras::Nothing, Extras::Zero) => Ordering::Greater,
+            (Extras::Zero, Extras::Nothing) => Ordering::Less,
+            _ => self.cmp_lists(other),
+        }
+    }
+
+    #[inline(never)]
+    fn cmp_lists(&self, other: &End) -> Ordering
+        ensures { result ≡ prerelease_cmp self.now.pre_release other.now.pre_release }
+    {
+        let zero = Zero::new();
+        cmp_prereleases(
+            self.pre_release().as_slice(&zero),
+            other.pre_release().as_slice(&zero),
+        )
+    }
+
+    // The order of the end and a version. That of a release is told by the triples, but where they are equal.
+    #[inline(always)]
+    pub(crate) fn cmp_version(&self, version: &Version) -> Ordering
+        ensures { result ≡ version_cmp self.now version.now }
+    {
+        if self.major != version.major {
+            return self.major.cmp(&version.major);
+        }
+        if self.minor != version.minor {
+            return self.minor.cmp(&version.minor);
+        }
+        if self.patch != version.patch {
+            return self.patch.cmp(&version.patch);
+        }
+        self.cmp_pre_release(&version.pre_release)
+    }
+
+    #[inline(never)]
+    fn cmp_pre_release(&self, identifiers: &[Identifier]) -> Ordering
+        ensures { result ≡ prerelease_cmp self.now.pre_release (values_of identifiers.now) }
+    {
+        let zero = Zero::new();
+        cmp_prereleases(self.pre_release().as_slice(&zero), identifiers)
+    }
+}

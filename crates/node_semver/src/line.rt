@@ -1,0 +1,64 @@
+//! Texts that are written into one array, from its end.
+ghost use Rattle.std.specs.Prelude.{◌≡◌, ◌+◌, ◌≤◌, ◌∷◌, ◌++◌, IfSome, decimal, drop};
+
+use itoa::write_digits;
+use std::str;
+
+// Room for two versions of four numbers of at most 20 digits, their dots and hyphens, their marks and a space.
+pub(crate) const ROOM: usize = 176;
+
+// `1.2.3` as a text
+#[inline]
+pub(crate) fn triple_text<'a>(line: &'a mut [u8; ROOM], triple: (u64, u64, u64)) -> Option<&'a str>
+    ensures { IfSome result (λ text.
+        text.now ≡ decimal triple.0 ++ (46 ∷ (decimal triple.1 ++ (46 ∷ decimal triple.2)))) }
+{
+    let start = put_triple_last(line, triple);
+    str::from_utf8(&line[start..]).ok()
+}
+
+// `1.2.3`, at the end of the line
+#[inline]
+fn put_triple_last(line: &mut [u8; ROOM], triple: (u64, u64, u64)) -> usize
+    ensures place { result ≤ 176 }
+    ensures text { drop result line.new ≡ decimal triple.0 ++ (46 ∷ (decimal triple.1 ++ (46 ∷ decimal triple.2))) }
+{
+    put_triple(line, ROOM, triple)
+}
+
+// `1.2.3`
+#[inline]
+pub(crate) fn put_triple(line: &mut [u8; ROOM], end: usize, triple: (u64, u64, u64)) -> usize
+    requires { (62 ≤ end) × (end ≤ 176) }
+    ensures place { (result ≤ end) × (end ≤ result + 62) }
+    ensures text { drop result line.new
+        ≡ decimal triple.0 ++ (46 ∷ (decimal triple.1 ++ (46 ∷ (decimal triple.2 ++ drop end line.old)))) }
+{
+    let (major, minor, patch) = triple;
+    let at = put_number(line, end, patch);
+    let at = put_byte(line, at, b'.');
+    let at = put_number(line, at, minor);
+    let at = put_byte(line, at, b'.');
+    put_number(line, at, major)
+}
+
+// A number's digits before the end.
+#[inline(always)]
+pub(crate) fn put_number(line: &mut [u8; ROOM], end: usize, n: u64) -> usize
+    requires { (20 ≤ end) × (end ≤ 176) }
+    ensures place { (result ≤ end) × (end ≤ result + 20) }
+    ensures text { drop result line.new ≡ decimal n ++ drop end line.old }
+{
+    write_digits(n, line, end)
+}
+
+// One byte before the end.
+#[inline(always)]
+pub(crate) fn put_byte(line: &mut [u8; ROOM], end: usize, byte: u8) -> usize
+    requires { (1 ≤ end) × (end ≤ 176) }
+    ensures place { result + 1 ≡ end }
+    ensures text { drop result line.new ≡ byte ∷ drop end line.old }
+{
+    line[end - 1] = byte;
+    end - 1
+}

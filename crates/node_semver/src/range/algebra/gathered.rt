@@ -1,0 +1,83 @@
+//! The sets of an answer, as they come one after another.
+
+ghost use Rattle.std.specs.Prelude.{◌≡◌, ◌≢◌, ◌++◌, ◌∷◌, [], IfOk, IfSome, List, OnOk};
+ghost use Rattle.std.specs.List.{AllByRecursion};
+ghost use Rattle.semver_cuts.specs.Ends.{Ends, IsCutBelow, span_between};
+ghost use Rattle.node_semver.specs.Comparison.{version_cmp};
+ghost use Rattle.node_semver.specs.RangeAlgebra.{sets_of_answer};
+ghost use Rattle.node_semver.specs.RangeSets.{IsRangeSet, IsRangeValue};
+ghost use Rattle.node_semver.specs.Private.RangeViews.{found_seen, some_found_seen};
+ghost use Rattle.node_semver.specs.Version.{VersionValue};
+
+use crate::Range;
+use crate::end::End;
+use crate::range::algebra::copy::copy_of;
+use semver_cuts::algebra::Gather;
+use semver_cuts::{Cut, Span};
+use std::alloc::{AllocError, Global};
+use std::marker::Model;
+
+// The sets that came: most often one.
+#[derive(Drop)]
+enum Found {
+    One(Span<End>),
+    Many(Vec<Span<End>>),
+}
+
+// Copies of the sets that came: each end is copied once, and one set takes no list.
+#[derive(Drop)]
+pub(crate) struct Gathered {
+    alloc: Global,
+    sets: Option<Found>,
+}
+
+impl Model for Gathered {
+    ghost Value = { List (Ends VersionValue) };
+
+    ghost view = { λ g. some_found_seen g.sets };
+
+    ghost invariant = { λ g. IfSome g.sets (λ s. found_seen s ≢ []) };
+}
+
+impl Gathered {
+    #[inline(always)]
+    pub(crate) fn new(alloc: Global) -> Gathered
+        ensures { result ≡ [] }
+    {
+        Gathered { alloc, sets: None }
+    }
+
+    // The range of them, or `None` where no set came.
+    #[inline(always)]
+    pub(crate) fn into_range(self) -> Result<Option<Range>, AllocError>
+        requires { AllByRecursion IsRangeSet self }
+        ensures sets { IfOk result (λ answer. sets_of_answer answer ≡ self) }
+        ensures holds { IfOk result (λ answer. IfSome answer IsRangeValue) }
+    {
+        let Gathered { alloc, sets } = self;
+        match sets {
+            Some(Found::One(set)) => Ok(Some(Range::of_set(set))),
+            Some(Found::Many(sets)) => Ok(Some(Range::of_sets(alloc, sets)?)),
+            None => Ok(None),
+        }
+    }
+}
+
+impl<'a> Gather<'a, End> for Gathered {
+    ghost gathered = { λ sets. sets };
+
+    #[inline(always)]
+    fn gather(&mut self, lower: &'a Cut<End>, upper: &'a Cut<End>) -> Result<(), AllocError> {
+        let set = copy_of(lower, upper)?;
+        if let Some(Found::Many(sets)) = &mut self.sets {
+            sets.push(set)?;
+            return Ok(());
+        }
+        self.sets = Some(match self.sets.take() {
+            None => Found::One(set),
+            Some(Found::One(first)) => Found::Many(vec![in self.alloc; first, set]?),
+            Some(Found::Many(sets)) => Found::Many(sets),
+        });
+        Ok(())
+    }
+}

@@ -1,0 +1,189 @@
+//! Versions that are compared before they are built.
+ghost use Rattle.std.specs.Prelude.{◌≡◌, ◌↔◌, ◌++◌, [], ◌∷◌, IfOk, IsTrue};
+ghost use Rattle.std.specs.declared.cmp.Ordering.TheVariants.{Less};
+ghost use Rattle.semver_cuts.specs.Ends.{IsCutBelow};
+ghost use Rattle.semver_cuts.specs.declared.cut.Cut.TheVariants.{Before};
+ghost use Rattle.node_semver.specs.Comparison.{prerelease_cmp, version_cmp};
+ghost use Rattle.node_semver.specs.Identifier.{value_of, values_of};
+ghost use Rattle.node_semver.specs.IdentifierValue.{numeric};
+ghost use Rattle.node_semver.specs.Private.LeastViews.{IsInsideOrNone, with_zeros};
+
+use crate::end::{End, Lent, Zero};
+use crate::identifier::copy::{copies_of, copies_with_zero};
+use crate::version::order::cmp_prereleases;
+use crate::{Identifier, Version};
+use semver_cuts::Cut;
+use std::alloc::{AllocError, Global};
+use std::marker::Model;
+
+// A version of which the lists are lent: its prerelease are the identifiers and, where `zero` is set, a 0 after them.
+#[derive(Drop)]
+pub(crate) struct Unbuilt<'a> {
+    pub(crate) major: u64,
+    pub(crate) minor: u64,
+    pub(crate) patch: u64,
+    pub(crate) identifiers: Lent<'a>,
+    pub(crate) zero: bool,
+    pub(crate) build: &'a [Identifier],
+}
+
+impl<'a> Model for Unbuilt<'a> {
+    ghost use Rattle.node_semver.specs.Identifier.{values_of};
+    ghost use Rattle.node_semver.specs.Private.EndViews.{lent_seen};
+    ghost use Rattle.node_semver.specs.Private.LeastViews.{with_zeros};
+    ghost use Rattle.node_semver.specs.Version.{VersionValue};
+
+    ghost Value = { VersionValue };
+
+    ghost view = { λ v. record {
+      major = v.major;
+      minor = v.minor;
+      patch = v.patch;
+      pre_release = with_zeros (lent_seen v.identifiers) v.zero;
+      build = values_of v.build.now;
+    } };
+}
+
+impl<'a> Unbuilt<'a> {
+    // The version at an end.
+    #[inline(always)]
+    pub(crate) fn at_end(end: &'a End) -> Unbuilt<'a>
+        ensures { result ≡ end.now }
+    {
+        Unbuilt {
+            major: end.major,
+            minor: end.minor,
+            patch: end.patch,
+            identifiers: end.pre_release(),
+            zero: false,
+            build: end.build(),
+        }
+    }
+
+    // The same with a 0 after its identifiers: what is next after a prerelease.
+    #[inline(always)]
+    pub(crate) fn after_end(end: &'a End) -> Unbuilt<'a>
+        ensures { result ≡ record end.now { pre_release = end.now.pre_release ++ numeric 0 ∷ [] } }
+    {
+        Unbuilt {
+            major: end.major,
+            minor: end.minor,
+            patch: end.patch,
+            identifiers: end.pre_release(),
+            zero: true,
+            build: end.build(),
+        }
+    }
+
+    // Whether the version lies in a span that ends at the cut.
+    #[inline]
+    pub(crate) fn is_inside(&self, upper: &Cut<End>) -> bool
+        ensures { IsTrue result ↔ IsCutBelow version_cmp (Before self.now) upper.now }
+    {
+        match upper {
+            Cut::Start => false,
+            Cut::Before(end) => self.is_below(&Unbuilt::at_end(end)),
+            Cut::After(end) => !Unbuilt::at_end(end).is_below(self),
+            Cut::End => true,
+        }
+    }
+
+    // The version if it lies in a span that ends at the cut, or `None`.
+    #[inline]
+    pub(crate) fn if_inside(self, upper: &Cut<End>) -> Option<Unbuilt<'a>>
+        ensures { IsInsideOrNone upper.now self.entry result }
+    {
+        if self.is_inside(upper) {
+            Some(self)
+        } else {
+            None
+        }
+    }
+
+    #[inline]
+    pub(crate) fn is_below(&self, other: &Unbuilt<'_>) -> bool
+        ensures { IsTrue result ↔ (version_cmp self.now other.now ≡ Less) }
+    {
+        if self.major != other.major {
+            return self.major < other.major;
+        }
+        if self.minor != other.minor {
+            return self.minor < other.minor;
+        }
+        if self.patch != other.patch {
+            return self.patch < other.patch;
+        }
+        self.is_prerelease_below(other)
+    }
+
+    // The same of two versions with one triple.
+    #[inline(never)]
+    fn is_prerelease_below(&self, other: &Unbuilt<'_>) -> bool
+        ensures { IsTrue result ↔ (prerelease_cmp self.now.pre_release other.now.pre_release ≡ Less) }
+    {
+        let zero = Zero::new();
+        are_identifiers_below(
+            self.identifiers.as_slice(&zero),
+            self.zero,
+            other.identifiers.as_slice(&zero),
+            other.zero,
+        )
+    }
+
+    // The version, with lists of its own.
+    pub(crate) fn built(&self, alloc: Global) -> Result<Version, AllocError>
+        ensures { IfOk result (λ v. v ≡ self.now) }
+    {
+        let zero = Zero::new();
+        let identifiers = self.identifiers.as_slice(&zero);
+        Ok(Version {
+            major: self.major,
+            minor: self.minor,
+            patch: self.patch,
+            build: copies_of(alloc, self.build)?,
+            pre_release: if self.zero {
+                copies_with_zero(alloc, identifiers)?
+            } else {
+                copies_of(alloc, identifiers)?
+            },
+        })
+    }
+}
+
+// The order of prereleases and releases, by their identifiers and whether a 0 stands after them. No list lies between one
+// and that with a 0 more, so the identifiers decide, but where one list is the other with a 0 more.
+fn are_identifiers_below(
+    one: &[Identifier],
+    zero: bool,
+    other: &[Identifier],
+    other_zero: bool,
+) -> bool
+    ensures { IsTrue result ↔
+        (prerelease_cmp (with_zeros (values_of one.now) zero) (with_zeros (values_of other.now) other_zero) ≡ Less) }
+{
+    match (zero, other_zero) {
+        (false, false) => cmp_prereleases(one, other).is_lt(),
+        (false, true) => !one.is_empty() && one.cmp(other).is_le(),
+        (true, false) => other.is_empty() || (one.cmp(other).is_lt() && !is_with_zero(other, one)),
+        (true, true) => one.cmp(other).is_lt(),
+    }
+}
+
+// Whether the first list is the second with a 0 more.
+fn is_with_zero(longer: &[Identifier], shorter: &[Identifier]) -> bool
+    ensures { IsTrue result ↔ (values_of longer.now ≡ values_of shorter.now ++ numeric 0 ∷ []) }
+{
+    let Some((last, front)) = longer.split_last() else {
+        return false;
+    };
+    is_zero(last) && front.cmp(shorter).is_eq()
+}
+
+fn is_zero(identifier: &Identifier) -> bool
+    ensures { IsTrue result ↔ (value_of identifier.now ≡ numeric 0) }
+{
+    match identifier {
+        Identifier::Numeric(n) => *n == 0,
+        Identifier::AlphaNumeric(_) => false,
+    }
+}

@@ -1,0 +1,91 @@
+//! A text that is a full version, with a `^`, a `~` or nothing before it: nine of ten ranges are one. It is read as three
+//! numbers, and its range is built at once, each kind in a function of its own, which writes into the place of the answer.
+ghost use Rattle.std.specs.Prelude.{◌≡◌, ◌∷◌, [], ℕ, IfSome, List};
+ghost use Rattle.semver_cuts.specs.Ends.{IsCutBelow};
+ghost use Rattle.semver_cuts.specs.declared.cut.Cut.TheVariants.{Before};
+ghost use Rattle.node_semver.specs.Comparator as Comparators;
+ghost use Rattle.node_semver.specs.Comparison.{version_cmp};
+ghost use Rattle.node_semver.specs.RangeSets.{IsRangeValue};
+ghost use Rattle.node_semver.specs.Version as Versions;
+ghost use Rattle.node_semver.specs.Private.RangeViews.{IsFull, full_comparator, listed_set, sign_seen};
+ghost use Rattle.node_semver.specs.Private.WordReading as Reading;
+
+use crate::end::End;
+use crate::parse::read_full_triple;
+use crate::range::Range;
+use semver_cuts::{Cut, Span};
+
+// What stands before the version.
+#[derive(Clone, Copy)]
+pub(crate) enum Sign {
+    // `^`
+    Caret,
+    // `~`
+    Tilde,
+    // nothing
+    Nothing,
+}
+
+// `^` and the three numbers of `^1.2.3`
+#[inline(always)]
+pub(crate) fn read_full(text: &[u8]) -> Option<(Sign, u64, u64, u64)>
+    ensures { IfSome result (λ f. IsFull text.now (sign_seen f.0) f.1 f.2 f.3) }
+{
+    let (sign, version) = match text {
+        [b'^', rest @ ..] => (Sign::Caret, rest),
+        [b'~', rest @ ..] => (Sign::Tilde, rest),
+        _ => (Sign::Nothing, text),
+    };
+    let (major, minor, patch) = read_full_triple(version)?;
+    Some((sign, major, minor, patch))
+}
+
+// `^1.2.3` is `>=1.2.3 <2.0.0-0`, `^0.2.3` is `>=0.2.3 <0.3.0-0`, `^0.0.3` is `>=0.0.3 <0.0.4-0`.
+#[inline(never)]
+pub(crate) fn caret_range(major: u64, minor: u64, patch: u64) -> Range
+    requires { (text : List ℕ) × IsFull text Reading.caret_lead major minor patch }
+    ensures { result ≡ listed_set (full_comparator Reading.caret_lead major minor patch) }
+{
+    if major != 0 {
+        range_up_to((major, minor, patch), (major + 1, 0, 0))
+    } else if minor != 0 {
+        range_up_to((major, minor, patch), (0, minor + 1, 0))
+    } else {
+        range_up_to((major, minor, patch), (0, 0, patch + 1))
+    }
+}
+
+// `~1.2.3` is `>=1.2.3 <1.3.0-0`.
+#[inline(never)]
+pub(crate) fn tilde_range(major: u64, minor: u64, patch: u64) -> Range
+    requires { (text : List ℕ) × IsFull text Reading.tilde_lead major minor patch }
+    ensures { result ≡ listed_set (full_comparator Reading.tilde_lead major minor patch) }
+{
+    range_up_to((major, minor, patch), (major, minor + 1, 0))
+}
+
+// `1.2.3` is `>=1.2.3 <=1.2.3`.
+#[inline(never)]
+pub(crate) fn exact_range(major: u64, minor: u64, patch: u64) -> Range
+    requires { (text : List ℕ) × IsFull text Reading.no_lead major minor patch }
+    ensures { result ≡ listed_set (full_comparator Reading.no_lead major minor patch) }
+{
+    let lower = End::release(major, minor, patch);
+    let upper = End::release(major, minor, patch);
+    Range::of_set(Span::between(Cut::Before(lower), Cut::After(upper)))
+}
+
+// From a release up to the least version with another triple.
+#[inline(always)]
+fn range_up_to(lower: (u64, u64, u64), upper: (u64, u64, u64)) -> Range
+    requires below { IsCutBelow version_cmp (Before (Versions.release lower.0 lower.1 lower.2))
+        (Before (Versions.least_of upper.0 upper.1 upper.2)) }
+    requires holds { IsRangeValue (Comparators.from_up_to (Versions.release lower.0 lower.1 lower.2)
+        (Versions.least_of upper.0 upper.1 upper.2) ∷ []) }
+    ensures { result ≡ Comparators.from_up_to (Versions.release lower.0 lower.1 lower.2)
+        (Versions.least_of upper.0 upper.1 upper.2) ∷ [] }
+{
+    let lower = End::release(lower.0, lower.1, lower.2);
+    let upper = End::least(upper.0, upper.1, upper.2);
+    Range::of_set(Span::between(Cut::Before(lower), Cut::Before(upper)))
+}

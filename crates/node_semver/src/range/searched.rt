@@ -1,0 +1,150 @@
+//! Sets with what finds a version among them.
+ghost use Rattle.std.specs.Prelude.{◌≡◌, ◌↔◌, ℕ, ◌+◌, ◌*◌, ◌≤◌, ◌<◌, IfOk, IsTrue, length};
+ghost use Rattle.std.specs.List.{AllByRecursion};
+ghost use Rattle.semver_cuts.specs.declared.cut.Cut.TheVariants.{Before};
+ghost use Rattle.semver_cuts.specs.Common.{IsInSome};
+ghost use Rattle.semver_cuts.specs.Places.{IsPlacesOf, span_at};
+ghost use Rattle.semver_cuts.specs.Starts.{count_of_starts};
+ghost use Rattle.node_semver.specs.Comparison.{version_cmp};
+ghost use Rattle.node_semver.specs.Meaning.{AnyByRecursion, IsInside, RangeAdmits};
+ghost use Rattle.node_semver.specs.RangeSets.{IsRangeSet};
+ghost use Rattle.node_semver.specs.Searching.{HasDigits, IsShortSearch};
+ghost use Rattle.node_semver.specs.Private.SearchViews.{AreOpeningsOf};
+
+use crate::end::End;
+use crate::range::algebra::copies_of;
+use crate::range::opened::{Opening, Triple, openings, openings_at};
+use crate::set::{has_inside, is_begun};
+use crate::{Comparisons, Version};
+use semver_cuts::Span;
+use semver_cuts::algebra::{Merged, Places};
+use std::alloc::{AllocError, Global};
+use std::marker::Model;
+
+// The list of the sets, the places in it of what they are joined to, and which of them open which triples. Sets that
+// stand apart have no places.
+#[derive(Debug, Drop)]
+pub(crate) struct Searched {
+    sets: Vec<Span<End>>,
+    places: Places,
+    openings: Vec<Opening>,
+}
+
+impl Model for Searched {
+    ghost use Rattle.std.specs.Prelude.{List};
+    ghost use Rattle.semver_cuts.specs.Ends.{Ends};
+    ghost use Rattle.semver_cuts.specs.Places.{IsPlacesOf};
+    ghost use Rattle.node_semver.specs.Comparison.{version_cmp};
+    ghost use Rattle.node_semver.specs.Private.SearchViews.{AreOpeningsOf};
+    ghost use Rattle.node_semver.specs.Version.{VersionValue};
+
+    ghost Value = { List (Ends VersionValue) };
+
+    ghost view = { λ s. s.sets.items };
+
+    ghost invariant = { λ s. IsPlacesOf version_cmp s.sets.items s.places × AreOpeningsOf s.sets.items s.openings.items };
+}
+
+impl Searched {
+    // The list with what finds a version in it.
+    pub(crate) fn of(alloc: Global, sets: Vec<Span<End>>) -> Result<Searched, AllocError>
+        ensures { IfOk result (λ searched. searched ≡ sets.items) }
+    {
+        let places = Places::of(alloc, &sets)?;
+        let openings = openings(alloc, &sets)?;
+        Ok(Searched {
+            sets,
+            places,
+            openings,
+        })
+    }
+
+    #[inline(always)]
+    pub(crate) fn as_slice(&self) -> &[Span<End>]
+        ensures { result.now ≡ self.now }
+    {
+        &self.sets
+    }
+
+    // A copy of the list, and of what finds a version in it.
+    pub(crate) fn copy(&self) -> Result<Searched, AllocError>
+        requires { AllByRecursion IsRangeSet self.now }
+        ensures { IfOk result (λ copy. copy ≡ self.now) }
+    {
+        let sets = copies_of(&self.sets)?;
+        let places = self.places.clone()?;
+        let openings = Vec::from_slice(*self.openings.allocator(), &self.openings)?;
+        Ok(Searched {
+            sets,
+            places,
+            openings,
+        })
+    }
+
+    // Whether one of the sets admits a version: a release is looked for among the merged spans, and a prerelease in the
+    // sets with an end that opens its triple.
+    #[inline(never)]
+    pub(crate) fn admits(&self, version: &Version, comparisons: &mut Comparisons) -> bool
+        ensures answer { IsTrue result ↔ RangeAdmits self.now version.now }
+        ensures short { IsShortSearch self.now version.now comparisons.old comparisons.new }
+    {
+        if !version.is_prerelease() {
+            return is_in_some(
+                &Merged::with(&self.sets, &self.places),
+                version,
+                comparisons,
+            );
+        }
+        let triple = Triple {
+            major: version.major,
+            minor: version.minor,
+            patch: version.patch,
+        };
+        let openings = openings_at(&self.openings, triple);
+        is_in_opened(&self.sets, openings, version, comparisons)
+    }
+}
+
+// Whether a version lies in one of the spans, found by halving: among the merged spans it lies in the last that begins
+// before it, or in none.
+fn is_in_some(spans: &Merged<'_, '_, End>, version: &Version, comparisons: &mut Comparisons) -> bool
+    ensures inside { IsTrue result ↔ IsInSome version_cmp spans.now.list (Before version.now) }
+    ensures short { (digits : ℕ) → HasDigits (count_of_starts version_cmp spans.now.list) digits →
+        comparisons.new ≤ comparisons.old + digits + 1 }
+{
+    let mut low = 0;
+    let mut high = spans.len();
+    while low < high {
+        let middle = low + (high - low) / 2;
+        let (lower, _) = spans.ends(middle);
+        if is_begun(lower, version, comparisons) {
+            low = middle + 1;
+        } else {
+            high = middle;
+        }
+    }
+    if low == 0 {
+        return false;
+    }
+    let (_, upper) = spans.ends(low - 1);
+    !is_begun(upper, version, comparisons)
+}
+
+// Whether a version lies in a set at one of the places.
+fn is_in_opened(
+    sets: &[Span<End>],
+    openings: &[Opening],
+    version: &Version,
+    comparisons: &mut Comparisons,
+) -> bool
+    requires { AllByRecursion (λ o. o.place < length sets.now) openings.now }
+    ensures inside { IsTrue result ↔ AnyByRecursion (λ o. IsInside version.now (span_at sets.now o.place)) openings.now }
+    ensures short { comparisons.new ≤ comparisons.old + 2 * length openings.now }
+{
+    'openings: for opening in openings {
+        if has_inside(&sets[opening.place], version, comparisons) {
+            return true;
+        }
+    }
+    false
+}

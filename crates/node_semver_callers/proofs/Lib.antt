@@ -1,0 +1,6 @@
+-- the versions that a range or a text admits, by the cuts before them
+mod AdmittedCuts
+-- the least version of a text
+mod LeastOfText
+-- one version more of a list of which a range text hits some
+mod MoreHits

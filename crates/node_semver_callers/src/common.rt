@@ -1,0 +1,39 @@
+//! What two dependents have in common: one range for both, if there is one.
+
+ghost use Rattle.std.specs.Prelude.{◌⊎◌, ◌↔◌, IfErr, IfOk, IsNone};
+ghost use Rattle.node_semver.specs.Meaning.{RangeAdmits, TextAdmits};
+ghost use Rattle.node_semver.specs.RangeAlgebra.{sets_of_answer};
+ghost use Rattle.node_semver.specs.Version.{IsPrerelease, VersionValue};
+ghost use Rattle.node_semver_callers.specs.Failure.{IsFailureOf};
+
+use crate::Failure;
+use node_semver::Range;
+use std::alloc::Global;
+
+/// The range of what both texts ask for, or `None` where they have nothing in common.
+pub fn shared_range(alloc: Global, one: &str, other: &str) -> Result<Option<Range>, Failure>
+    ensures releases { IfOk result (λ shared. (v : VersionValue) → ¬ IsPrerelease v →
+        RangeAdmits (sets_of_answer shared) v ↔ (TextAdmits one.now v × TextAdmits other.now v)) }
+    ensures none { IfOk result (λ shared. IsNone shared →
+        (v : VersionValue) → ¬ (TextAdmits one.now v × TextAdmits other.now v)) }
+    ensures refused { IfErr result (λ failure. IsFailureOf one.now failure ⊎ IsFailureOf other.now failure) }
+{
+    let range = Range::parse(alloc, one)?;
+    let with = Range::parse(alloc, other)?;
+    Ok(range.intersect(alloc, &with)?)
+}
+
+#[cfg(test)]
+mod tests {
+    use super::shared_range;
+    use std::test::Fail;
+
+    #[test]
+    fn finds_what_is_shared(rt: HostRuntime) -> Result<(), Fail> {
+        let shared = shared_range(rt.alloc(), "^16.8 || ^17", ">=16.14")?.ok_or("none")?;
+        let print = format!(in rt.alloc(); "{shared}")?;
+        assert_eq!(rt; print.as_str(), ">=16.14.0 <17.0.0-0||>=17.0.0 <18.0.0-0");
+        assert!(rt; shared_range(rt.alloc(), "^16.8", "^17")?.is_none());
+        Ok(())
+    }
+}

@@ -1,0 +1,38 @@
+//! The least version that a manifest allows: what to install to see whether it still works with it.
+
+ghost use Rattle.std.specs.Prelude.{◌↔◌, IfErr, IfOk, IfSome, IsNone};
+ghost use Rattle.node_semver.specs.Meaning.{TextAdmits};
+ghost use Rattle.node_semver.specs.Order.{IsBelow};
+ghost use Rattle.node_semver.specs.Version.{VersionValue};
+ghost use Rattle.node_semver_callers.specs.Failure.{IsFailureOf};
+
+use crate::Failure;
+use node_semver::{Range, Version};
+use std::alloc::Global;
+
+/// The least version that fits the range text, or `None` where none does.
+pub fn least_allowed(alloc: Global, asked: &str) -> Result<Option<Version>, Failure>
+    ensures admitted { IfOk result (λ found. IfSome found (λ least. TextAdmits asked.now least)) }
+    ensures least { IfOk result (λ found. IfSome found (λ least.
+        (v : VersionValue) → TextAdmits asked.now v → ¬ IsBelow v least)) }
+    ensures none { IfOk result (λ found. IsNone found ↔ ((v : VersionValue) → ¬ TextAdmits asked.now v)) }
+    ensures refused { IfErr result (IsFailureOf asked.now) }
+{
+    let range = Range::parse(alloc, asked)?;
+    Ok(range.min_version(alloc)?)
+}
+
+#[cfg(test)]
+mod tests {
+    use super::least_allowed;
+    use std::test::Fail;
+
+    #[test]
+    fn finds_the_least_version(rt: HostRuntime) -> Result<(), Fail> {
+        let least = least_allowed(rt.alloc(), ">1.0.0 <1.0.1-beta")?.ok_or("none")?;
+        let print = format!(in rt.alloc(); "{least}")?;
+        assert_eq!(rt; print.as_str(), "1.0.1-0");
+        assert!(rt; least_allowed(rt.alloc(), "<0.0.0")?.is_none());
+        Ok(())
+    }
+}

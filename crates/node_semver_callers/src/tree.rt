@@ -1,0 +1,48 @@
+//! A tree of ranges: what two dependents ask for, without what an advisory hits.
+
+ghost use Rattle.std.specs.Prelude.{◌≡◌, ◌↔◌, IfOk};
+ghost use Rattle.node_semver.specs.Meaning.{RangeAdmits, TextAdmits};
+ghost use Rattle.node_semver.specs.RangeAlgebra.{sets_of_answer};
+ghost use Rattle.node_semver.specs.SetTree.{formula_of, of_text};
+ghost use Rattle.node_semver.specs.Version.{IsPrerelease, VersionValue};
+
+use node_semver::{Range, SetTree};
+use std::alloc::{AllocError, Global};
+
+/// The range of the releases that both texts ask for and the advisory's text does not hit, or `None` where it has no
+/// cut. A text that is refused asks for nothing and hits nothing.
+pub fn unhit_range(
+    alloc: Global,
+    one: &str,
+    other: &str,
+    advisory: &str,
+) -> Result<Option<Range>, AllocError>
+    ensures { IfOk result (λ unhit. (v : VersionValue) → ¬ IsPrerelease v → RangeAdmits (sets_of_answer unhit) v
+        ↔ ((TextAdmits one.now v × TextAdmits other.now v) × ¬ TextAdmits advisory.now v)) }
+{
+    let asked = SetTree::Both(leaf(alloc, one)?, leaf(alloc, other)?);
+    let tree = SetTree::Without(Box::new(alloc, asked)?, leaf(alloc, advisory)?);
+    tree.evaluate(alloc)
+}
+
+// A range text as a side of a tree.
+fn leaf(alloc: Global, text: &str) -> Result<Box<SetTree>, AllocError>
+    ensures { IfOk result (λ leaf. formula_of leaf.value ≡ of_text text.now) }
+{
+    Ok(Box::new(alloc, SetTree::Text(String::from_str(alloc, text)?))?)
+}
+
+#[cfg(test)]
+mod tests {
+    use super::unhit_range;
+    use std::test::Fail;
+
+    #[test]
+    fn leaves_out_what_is_hit(rt: HostRuntime) -> Result<(), Fail> {
+        let unhit = unhit_range(rt.alloc(), ">=4", "^4.17 || ^5", "<4.17.21")?.ok_or("none")?;
+        let print = format!(in rt.alloc(); "{unhit}")?;
+        assert_eq!(rt; print.as_str(), ">=4.17.21 <5.0.0-0||>=5.0.0 <6.0.0-0");
+        assert!(rt; unhit_range(rt.alloc(), "^4", "^5", "foo")?.is_none());
+        Ok(())
+    }
+}

@@ -1,0 +1,19 @@
+//! Tests of sets, least versions, JSON strings and trees of `node_semver`, through its public calls alone.
+#![tactic(auto)]
+
+#[cfg(test)]
+mod algebra;
+#[cfg(test)]
+mod beyond;
+#[cfg(test)]
+mod checks;
+#[cfg(test)]
+mod json;
+#[cfg(test)]
+mod large;
+#[cfg(test)]
+mod least;
+#[cfg(test)]
+mod range_equality;
+#[cfg(test)]
+mod trees;

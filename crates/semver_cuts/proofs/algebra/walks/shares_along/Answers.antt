@@ -1,0 +1,47 @@
+use Rattle.std.proofs.Common.{arith, refl, sym, ◌∙◌}
+use Rattle.semver_cuts.specs.Ends.{span_between}
+use Rattle.semver_cuts.specs.Lemmas.Ends.{at_most-from_le, below-from_not_le}
+use Rattle.semver_cuts.proofs.Walks.{share-found, share-joined, share-past_one, share-past_other}
+use Rattle.semver_cuts.proofs.algebra.walks.shares_along.Goals as goal
+
+pub loop-place-preserved-then-le : goal.loop-place-preserved-then-le
+loop-place-preserved-then-le g c =
+    let one = span_between c.ends.result.0.now c.ends.result.1.now in
+    let other = span_between c.ends-in-loop-place.result.0.now c.ends-in-loop-place.result.1.now in
+    record {
+      place = c.loop-place.invariant.place;
+      other_place = omega arith;
+      left = share-past_other g.met.T.Ord.total c.args.ones.now.merged c.args.others.now.merged
+          c.len-count.ensures.joined.merged c.len-other_count.ensures.joined.merged c.loop-place.place c.loop-place.other_place
+          one other c.ends.ensures c.ends-in-loop-place.ensures
+          (at_most-from_le g.T.Ord.cmp other.upper one.lower (sym c.le.ensures ∙ c.if-le.true)) c.loop-place.invariant.left;
+    }
+
+pub loop-place-preserved : goal.loop-place-preserved
+loop-place-preserved g c =
+    let one = span_between c.ends.result.0.now c.ends.result.1.now in
+    let other = span_between c.ends-in-loop-place.result.0.now c.ends-in-loop-place.result.1.now in
+    record {
+      place = omega arith;
+      other_place = c.loop-place.invariant.other_place;
+      left = share-past_one g.met.T.Ord.total c.args.ones.now.merged c.args.others.now.merged
+          c.len-count.ensures.joined.merged c.len-other_count.ensures.joined.merged c.loop-place.place c.loop-place.other_place
+          one other c.ends.ensures c.ends-in-loop-place.ensures
+          (at_most-from_le g.T.Ord.cmp one.upper other.lower (sym c.le-else-le.ensures ∙ c.if-le-2.true))
+          c.loop-place.invariant.left;
+    }
+
+pub returns-else-le-2 : goal.returns-else-le-2
+returns-else-le-2 g c =
+    let one = span_between c.ends.result.0.now c.ends.result.1.now in
+    let other = span_between c.ends-in-loop-place.result.0.now c.ends-in-loop-place.result.1.now in
+    let shared = share-found g.met.T.Ord.total c.args.ones.now.merged c.args.others.now.merged
+    c.len-count.ensures.joined.merged c.len-other_count.ensures.joined.merged c.loop-place.place c.loop-place.other_place
+    one other c.ends.ensures c.ends-in-loop-place.ensures
+    (below-from_not_le g.met.T.Ord.total other.upper one.lower (sym c.le.ensures ∙ c.if-le.false))
+    (below-from_not_le g.met.T.Ord.total one.upper other.lower (sym c.le-else-le.ensures ∙ c.if-le-2.false))
+    c.loop-place.invariant.left in (
+      λ true. (share-joined g.T.Ord.cmp c.args.ones.now.list c.args.others.now.list c.args.ones.now.merged
+          c.args.others.now.merged c.len-count.ensures.joined c.len-other_count.ensures.joined).0 shared,
+      λ some. refl,
+    )

@@ -1,0 +1,176 @@
+//! The spans of a list merged: what they are joined to, by places in the list.
+ghost use Rattle.std.specs.Prelude.{◌≡◌, ◌<◌, ◌≤◌, ◌+◌, ◌∷◌, IsTrue, length, drop};
+ghost use Rattle.semver_cuts.specs.Ends.{span_between};
+ghost use Rattle.semver_cuts.specs.Joined.{AreJoined, AreMerged};
+ghost use Rattle.semver_cuts.specs.Places.{AreWithin, IsPlacesOf, merged_spans, span_of_places};
+ghost use Rattle.semver_cuts.specs.Starts.{count_of_starts};
+ghost use Rattle.semver_cuts.specs.Private.Rest.{ending_above};
+
+use crate::algebra::places::Places;
+use crate::{Cut, Span};
+use std::marker::Model;
+
+/// A list of spans together with what they are joined to: the merged spans, which ascend with a cut between each and
+/// the next, and have just the cuts of the list.
+///
+/// It lends the list and the places, and copies no end. An end of a merged span is that of the first span of the list
+/// that has it at this cut.
+///
+/// # Memory
+///
+/// Takes none.
+///
+/// # Examples
+///
+/// Of the list 2 to 5, 0 to 1 and 4 to 7 the merged spans are 0 to 1 and 2 to 7.
+#[derive(Debug, Drop)]
+pub struct Merged<'a, 'p, T: Ord> {
+    spans: &'a [Span<T>],
+    places: &'p [(usize, usize)],
+}
+
+impl<'a, 'p, T: Ord> Model for Merged<'a, 'p, T> {
+    ghost use Rattle.semver_cuts.specs.Places.{IsPlacesOf, MergedValue, merged_spans};
+
+    ghost Value = { MergedValue T };
+
+    ghost view = { λ m. record { list = m.spans.now; merged = merged_spans m.spans.now m.places.now } };
+
+    ghost invariant = { λ m. IsPlacesOf T.cmp m.spans.now m.places.now };
+}
+
+impl<'a, 'p, T: Ord> Merged<'a, 'p, T> {
+    /// The list with its places.
+    ///
+    /// # Memory
+    ///
+    /// Takes none.
+    #[inline]
+    pub fn with(spans: &'a [Span<T>], places: &'p Places) -> Merged<'a, 'p, T>
+        requires { IsPlacesOf T.cmp spans.now places.now }
+        ensures list { result.list ≡ spans.now }
+        ensures merged { result.merged ≡ merged_spans spans.now places.now }
+    {
+        Merged {
+            spans,
+            places: places.as_slice(),
+        }
+    }
+
+    /// A list that is merged as it stands.
+    ///
+    /// # Memory
+    ///
+    /// Takes none.
+    #[inline]
+    pub fn itself(spans: &'a [Span<T>]) -> Merged<'a, 'p, T>
+        requires { AreMerged T.cmp spans.now }
+        ensures list { result.list ≡ spans.now }
+        ensures merged { result.merged ≡ spans.now }
+    {
+        Merged { spans, places: &[] }
+    }
+
+    /// How many merged spans there are: as many as the list has spans whose lower cut no earlier span has, and which no
+    /// span of the list reaches from below.
+    ///
+    /// # Memory
+    ///
+    /// Takes none.
+    ///
+    /// # Examples
+    ///
+    /// Two of 2 to 5, 0 to 1 and 4 to 7, and one of 0 to 1 and 1 to 2.
+    #[inline]
+    pub fn len(&self) -> usize
+        ensures length { result ≡ length self.now.merged }
+        ensures starts { result ≡ count_of_starts T.cmp self.now.list }
+        ensures joined { AreJoined T.cmp self.now.list self.now.merged }
+    {
+        if self.places.is_empty() {
+            self.spans.len()
+        } else {
+            self.places.len()
+        }
+    }
+
+    /// The ends of a merged span, by its number from 0 on: where it begins, and the cut at which it ends.
+    ///
+    /// # Memory
+    ///
+    /// Takes none.
+    ///
+    /// # Examples
+    ///
+    /// Of 2 to 5, 0 to 1 and 4 to 7 number 1 is 2 to 7.
+    #[inline]
+    pub fn ends(&self, number: usize) -> (&'a Cut<T>, &'a Cut<T>)
+        requires { number < length self.now.merged }
+        ensures { drop number self.now.merged
+            ≡ span_between result.0.now result.1.now ∷ drop (number + 1) self.now.merged }
+    {
+        if self.places.is_empty() {
+            ends_at(self.spans, number)
+        } else {
+            ends_between(self.spans, self.places[number])
+        }
+    }
+
+    // The number of the first merged span that ends above the cut, found by halving.
+    pub(crate) fn first_above(&self, cut: &Cut<T>) -> usize
+        ensures place { result ≤ length self.now.merged }
+        ensures above { drop result self.now.merged ≡ ending_above T.cmp cut.now self.now.merged }
+    {
+        let mut low = 0;
+        let mut high = self.len();
+        while low < high {
+            let middle = low + (high - low) / 2;
+            let (_, upper) = self.ends(middle);
+            if upper <= cut {
+                low = middle + 1;
+            } else {
+                high = middle;
+            }
+        }
+        low
+    }
+
+    // The list.
+    #[inline]
+    pub(crate) fn spans(&self) -> &'a [Span<T>]
+        ensures list { result.now ≡ self.now.list }
+        ensures joined { AreJoined T.cmp self.now.list self.now.merged }
+    {
+        self.spans
+    }
+
+    // Whether the list is merged as it stands.
+    #[inline]
+    pub(crate) fn is_itself(&self) -> bool
+        ensures { IsTrue result → AreMerged T.cmp self.now.list }
+    {
+        self.places.is_empty()
+    }
+}
+
+// The ends of the span at a place of a list.
+#[inline]
+fn ends_at<'a, T: Ord>(spans: &'a [Span<T>], place: usize) -> (&'a Cut<T>, &'a Cut<T>)
+    requires { place < length spans.now }
+    ensures { drop place spans.now ≡ span_between result.0.now result.1.now ∷ drop (place + 1) spans.now }
+{
+    spans[place].ends()
+}
+
+// The lower end of the span at one place, and the upper end of that at the other.
+#[inline]
+fn ends_between<'a, T: Ord>(
+    spans: &'a [Span<T>],
+    places: (usize, usize),
+) -> (&'a Cut<T>, &'a Cut<T>)
+    requires { AreWithin spans.now places }
+    ensures { span_between result.0.now result.1.now ≡ span_of_places spans.now places }
+{
+    let (begins, ends) = places;
+    (spans[begins].lower(), spans[ends].upper())
+}

@@ -1,0 +1,113 @@
+//! Questions over two lists of merged spans, each answered by one walk along both.
+ghost use Rattle.std.specs.Prelude.{◌↔◌, IsTrue};
+ghost use Rattle.semver_cuts.specs.Joined.{AreMerged};
+ghost use Rattle.semver_cuts.specs.Sharing.{CoversAll, ShareCut};
+
+use crate::Span;
+use crate::algebra::merged::Merged;
+
+/// Whether every cut in some span of the second list lies in some span of the first. Both lists are merged.
+///
+/// Merged spans do not touch, so it is so exactly where each span of the second list lies in one span of the first.
+///
+/// # Memory
+///
+/// Takes none.
+///
+/// # Examples
+///
+/// 1 to 5 and 7 to 9 cover 2 to 5 and 8 to 9, and cover neither 2 to 6 nor 4 to 8.
+pub fn covers<T: Ord>(ones: &[Span<T>], others: &[Span<T>]) -> bool
+    requires ones { AreMerged T.cmp ones.now }
+    requires others { AreMerged T.cmp others.now }
+    ensures { IsTrue result ↔ CoversAll T.cmp ones.now others.now }
+{
+    Merged::itself(ones).covers(&Merged::itself(others))
+}
+
+impl<'a, 'p, T: Ord> Merged<'a, 'p, T> {
+    /// Whether every cut in some span of the other list lies in some span of this one.
+    ///
+    /// # Memory
+    ///
+    /// Takes none.
+    ///
+    /// # Examples
+    ///
+    /// 5 to 9 and 1 to 5 cover 2 to 8.
+    pub fn covers(&self, other: &Merged<'_, '_, T>) -> bool
+        ensures { IsTrue result ↔ CoversAll T.cmp self.now.list other.now.list }
+    {
+        if let ([this], [that]) = (self.spans(), other.spans()) {
+            return this.covers(that);
+        }
+        covers_along(self, other)
+    }
+
+    /// Whether some cut lies both in a span of this list and in a span of the other.
+    ///
+    /// Spans that touch share no cut. The answer is the same the other way round.
+    ///
+    /// # Memory
+    ///
+    /// Takes none.
+    ///
+    /// # Examples
+    ///
+    /// 5 to 9 and 1 to 3 share one with 2 to 4, and none with 3 to 5.
+    pub fn share_cut(&self, other: &Merged<'_, '_, T>) -> bool
+        ensures { IsTrue result ↔ ShareCut T.cmp self.now.list other.now.list }
+    {
+        if let ([this], [that]) = (self.spans(), other.spans()) {
+            return this.shares_cut(that);
+        }
+        shares_along(self, other)
+    }
+}
+
+// The same along the merged spans of both: each turn leaves one of them behind.
+fn covers_along<T: Ord>(ones: &Merged<'_, '_, T>, others: &Merged<'_, '_, T>) -> bool
+    ensures { IsTrue result ↔ CoversAll T.cmp ones.now.list others.now.list }
+{
+    let count = ones.len();
+    let other_count = others.len();
+    let mut place = 0;
+    let mut other_place = 0;
+    while other_place < other_count {
+        if place >= count {
+            return false;
+        }
+        let (lower, upper) = ones.ends(place);
+        let (low, high) = others.ends(other_place);
+        if upper <= low {
+            place += 1;
+        } else if low < lower || upper < high {
+            return false;
+        } else {
+            other_place += 1;
+        }
+    }
+    true
+}
+
+// The same along the merged spans of both: each turn leaves one of them behind.
+fn shares_along<T: Ord>(ones: &Merged<'_, '_, T>, others: &Merged<'_, '_, T>) -> bool
+    ensures { IsTrue result ↔ ShareCut T.cmp ones.now.list others.now.list }
+{
+    let count = ones.len();
+    let other_count = others.len();
+    let mut place = 0;
+    let mut other_place = 0;
+    while place < count && other_place < other_count {
+        let (lower, upper) = ones.ends(place);
+        let (low, high) = others.ends(other_place);
+        if high <= lower {
+            other_place += 1;
+        } else if upper <= low {
+            place += 1;
+        } else {
+            return true;
+        }
+    }
+    false
+}

@@ -1,0 +1,131 @@
+//! What a call answered.
+use node_semver::{Identifier, JsonError, Range, SemverError, SemverErrorKind, Version};
+use serde_json::Value;
+use std::alloc::{AllocError, Global};
+
+/// What a call answered.
+#[derive(Drop)]
+pub(crate) enum Answer {
+    OutOfMemory,
+    Nothing,
+    Truth(bool),
+    Identifier(Identifier),
+    Version(Version),
+    Range(Range),
+    Refusal(SemverError),
+    Json(Value),
+    NotAString,
+}
+
+impl Answer {
+    /// Of want of memory this is `out of memory`.
+    pub(crate) fn print(&self, alloc: Global) -> Result<String, AllocError> {
+        match self {
+            Answer::OutOfMemory => String::from_str(alloc, "out of memory"),
+            Answer::Nothing => String::from_str(alloc, "nothing"),
+            Answer::Truth(truth) => truth.to_string(alloc),
+            Answer::Identifier(identifier) => identifier.to_string(alloc),
+            Answer::Version(version) => version.to_string(alloc),
+            Answer::Range(range) => range.to_string(alloc),
+            Answer::Refusal(error) => print_of_error(alloc, error),
+            Answer::Json(value) => value.to_string(alloc),
+            Answer::NotAString => String::from_str(alloc, "no string"),
+        }
+    }
+}
+
+/// The text of an error, its place, and the text that was read.
+pub(crate) fn print_of_error(alloc: Global, error: &SemverError) -> Result<String, AllocError> {
+    let (offset, input) = (error.offset(), error.input());
+    format!(in alloc; "{error} {offset} {input}")
+}
+
+/// Want of memory has an empty text and offset 0.
+fn refusal(error: SemverError) -> Answer {
+    let is_out = matches!(error.kind(), SemverErrorKind::OutOfMemory);
+    if is_out && error.input().is_empty() && error.offset() == 0 {
+        return Answer::OutOfMemory;
+    }
+    Answer::Refusal(error)
+}
+
+pub(crate) fn version_read(found: Result<Version, SemverError>) -> Answer {
+    match found {
+        Ok(version) => Answer::Version(version),
+        Err(error) => refusal(error),
+    }
+}
+
+pub(crate) fn range_read(found: Result<Range, SemverError>) -> Answer {
+    match found {
+        Ok(range) => Answer::Range(range),
+        Err(error) => refusal(error),
+    }
+}
+
+pub(crate) fn version_of_json(found: Result<Version, JsonError>) -> Answer {
+    match found {
+        Ok(version) => Answer::Version(version),
+        Err(JsonError::Semver(error)) => refusal(error),
+        Err(JsonError::NotAString) => Answer::NotAString,
+    }
+}
+
+pub(crate) fn range_of_json(found: Result<Range, JsonError>) -> Answer {
+    match found {
+        Ok(range) => Answer::Range(range),
+        Err(JsonError::Semver(error)) => refusal(error),
+        Err(JsonError::NotAString) => Answer::NotAString,
+    }
+}
+
+pub(crate) fn version(found: Result<Version, AllocError>) -> Answer {
+    match found {
+        Ok(version) => Answer::Version(version),
+        Err(_) => Answer::OutOfMemory,
+    }
+}
+
+pub(crate) fn range(found: Result<Range, AllocError>) -> Answer {
+    match found {
+        Ok(range) => Answer::Range(range),
+        Err(_) => Answer::OutOfMemory,
+    }
+}
+
+pub(crate) fn json(found: Result<Value, AllocError>) -> Answer {
+    match found {
+        Ok(value) => Answer::Json(value),
+        Err(_) => Answer::OutOfMemory,
+    }
+}
+
+pub(crate) fn identifier(found: Result<Identifier, AllocError>) -> Answer {
+    match found {
+        Ok(identifier) => Answer::Identifier(identifier),
+        Err(_) => Answer::OutOfMemory,
+    }
+}
+
+pub(crate) fn error(found: Result<SemverError, AllocError>) -> Answer {
+    match found {
+        Ok(error) => Answer::Refusal(error),
+        Err(_) => Answer::OutOfMemory,
+    }
+}
+
+pub(crate) fn range_if_any(found: Result<Option<Range>, AllocError>) -> Answer {
+    match found {
+        Ok(Some(range)) => Answer::Range(range),
+        Ok(None) => Answer::Nothing,
+        Err(_) => Answer::OutOfMemory,
+    }
+}
+
+pub(crate) fn version_if_any(found: Result<Option<Version>, AllocError>) -> Answer {
+    match found {
+        Ok(Some(version)) => Answer::Version(version),
+        Ok(None) => Answer::Nothing,
+        Err(_) => Answer::OutOfMemory,
+    }
+}

@@ -1,0 +1,174 @@
+//! Calls and their arguments.
+use crate::answer;
+use crate::answer::{Answer, print_of_error};
+use crate::fault::Fault;
+use crate::question::{Question, error_of, question_of};
+use crate::trees::{push_words, tree_of};
+use node_semver::{Identifier, Range, SemverError, SetTree, Version};
+use semver_cuts::{Cut, Span, join};
+use serde_json::Value;
+use std::alloc::{AllocError, Global};
+
+/// A call and its arguments.
+#[derive(Drop)]
+pub(crate) enum Call {
+    ReadVersion(String),
+    ReadRange(String),
+    ReadAndAsk(String, Version),
+    Any,
+    WithPreRelease,
+    CopyIdentifier(Identifier),
+    CopyVersion(Version),
+    CopyRange(Range),
+    CopyError(SemverError),
+    Intersect(Range, Range),
+    Difference(Range, Range),
+    MinVersion(Range),
+    LeastBeyond(Range, Range),
+    Join,
+    VersionToJson(Version),
+    RangeToJson(Range),
+    VersionFromJson(Value),
+    RangeFromJson(Value),
+    Evaluate(SetTree),
+    Ask(Question),
+}
+
+impl Call {
+    /// Makes the call.
+    pub(crate) fn answer(&self, alloc: Global) -> Answer {
+        match self {
+            Call::ReadVersion(text) => answer::version_read(Version::parse(alloc, text)),
+            Call::ReadRange(text) => answer::range_read(Range::parse(alloc, text)),
+            Call::ReadAndAsk(text, version) => asked(alloc, text, version),
+            Call::Any => answer::range(Range::any(alloc)),
+            Call::WithPreRelease => answer::version(Version::with_pre_release(alloc, 1, 2, 3, 4)),
+            Call::CopyIdentifier(identifier) => answer::identifier(identifier.clone()),
+            Call::CopyVersion(version) => answer::version(version.clone()),
+            Call::CopyRange(range) => answer::range(range.clone()),
+            Call::CopyError(error) => answer::error(error.clone()),
+            Call::Intersect(one, other) => answer::range_if_any(one.intersect(alloc, other)),
+            Call::Difference(one, other) => answer::range_if_any(one.difference(alloc, other)),
+            Call::MinVersion(range) => answer::version_if_any(range.min_version(alloc)),
+            Call::LeastBeyond(one, other) => answer::version_if_any(one.least_beyond(alloc, other)),
+            Call::Join => joined(alloc),
+            Call::VersionToJson(version) => answer::json(version.to_json(alloc)),
+            Call::RangeToJson(range) => answer::json(range.to_json(alloc)),
+            Call::VersionFromJson(value) => {
+                answer::version_of_json(Version::from_json(alloc, value))
+            }
+            Call::RangeFromJson(value) => answer::range_of_json(Range::from_json(alloc, value)),
+            Call::Evaluate(tree) => answer::range_if_any(tree.evaluate(alloc)),
+            Call::Ask(question) => question.answer(alloc),
+        }
+    }
+
+    /// The arguments as they stand.
+    pub(crate) fn print(&self, alloc: Global) -> Result<String, AllocError> {
+        match self {
+            Call::ReadVersion(text) | Call::ReadRange(text) => text.clone(),
+            Call::ReadAndAsk(text, version) => format!(in alloc; "{text}, {version}"),
+            Call::Any | Call::WithPreRelease | Call::Join => Ok(String::new(alloc)),
+            Call::CopyIdentifier(identifier) => identifier.to_string(alloc),
+            Call::CopyVersion(version) | Call::VersionToJson(version) => version.to_string(alloc),
+            Call::CopyRange(range) | Call::MinVersion(range) | Call::RangeToJson(range) => {
+                range.to_string(alloc)
+            }
+            Call::CopyError(error) => print_of_error(alloc, error),
+            Call::Intersect(one, other)
+            | Call::Difference(one, other)
+            | Call::LeastBeyond(one, other) => format!(in alloc; "{one}, {other}"),
+            Call::VersionFromJson(value) | Call::RangeFromJson(value) => value.to_string(alloc),
+            Call::Evaluate(tree) => print_of_tree(alloc, tree),
+            Call::Ask(question) => question.print(alloc),
+        }
+    }
+}
+
+/// Whether a version satisfies the range that is read of a text.
+fn asked(alloc: Global, text: &str, version: &Version) -> Answer {
+    match Range::parse(alloc, text) {
+        Ok(range) => Answer::Truth(range.satisfies(version)),
+        Err(error) => answer::range_read(Err(error)),
+    }
+}
+
+/// Whether three spans in descending order, of which two touch, are joined to two.
+fn joined(alloc: Global) -> Answer {
+    match join_three(alloc) {
+        Ok(spans) => Answer::Truth(spans.len() == 2),
+        Err(_) => Answer::OutOfMemory,
+    }
+}
+
+fn join_three(alloc: Global) -> Result<Vec<Span<u64>>, AllocError> {
+    let mut spans = Vec::with_capacity(alloc, 3)?;
+    for (first, last) in [(7u64, 8u64), (3, 5), (1, 2)] {
+        if let Some(span) = Span::new(Cut::Before(first), Cut::Before(last + 1)) {
+            spans.push(span)?;
+        }
+    }
+    join(alloc, spans)
+}
+
+fn print_of_tree(alloc: Global, tree: &SetTree) -> Result<String, AllocError> {
+    let mut words = String::new(alloc);
+    push_words(tree, &mut words)?;
+    Ok(words)
+}
+
+/// The call of this name, which begins with the type, and of these words.
+pub(crate) fn call_of(alloc: Global, name: &str, words: &[String]) -> Result<Call, Fault> {
+    let one = words.first().map_or("", |word| word.as_str());
+    let other = words.get(1).map_or("", |word| word.as_str());
+    match name {
+        "Version::parse" => Ok(Call::ReadVersion(String::from_str(alloc, one)?)),
+        "Range::parse" => Ok(Call::ReadRange(String::from_str(alloc, one)?)),
+        "Range::satisfies, read anew" => read_and_ask(alloc, one, other),
+        "Range::any" => Ok(Call::Any),
+        "join" => Ok(Call::Join),
+        "Version::with_pre_release" => Ok(Call::WithPreRelease),
+        "SetTree::evaluate" => Ok(Call::Evaluate(tree_of(alloc, words)?)),
+        _ => call_of_value(alloc, name, one, other),
+    }
+}
+
+fn read_and_ask(alloc: Global, text: &str, version: &str) -> Result<Call, Fault> {
+    let version = Version::parse(alloc, version)?;
+    Ok(Call::ReadAndAsk(String::from_str(alloc, text)?, version))
+}
+
+/// The same for calls whose arguments are read of texts.
+fn call_of_value(alloc: Global, name: &str, one: &str, other: &str) -> Result<Call, Fault> {
+    match name {
+        "Identifier::clone" => {
+            let text = String::from_str(alloc, one)?;
+            Ok(Call::CopyIdentifier(Identifier::AlphaNumeric(text)))
+        }
+        "Version::clone" => Ok(Call::CopyVersion(Version::parse(alloc, one)?)),
+        "Range::clone" => Ok(Call::CopyRange(Range::parse(alloc, one)?)),
+        "SemverError::clone" => Ok(Call::CopyError(error_of(alloc, one)?)),
+        "Range::intersect" => Ok(Call::Intersect(
+            Range::parse(alloc, one)?,
+            Range::parse(alloc, other)?,
+        )),
+        "Range::difference" => Ok(Call::Difference(
+            Range::parse(alloc, one)?,
+            Range::parse(alloc, other)?,
+        )),
+        "Range::min_version" => Ok(Call::MinVersion(Range::parse(alloc, one)?)),
+        "Range::least_beyond" => Ok(Call::LeastBeyond(
+            Range::parse(alloc, one)?,
+            Range::parse(alloc, other)?,
+        )),
+        "Version::to_json" => Ok(Call::VersionToJson(Version::parse(alloc, one)?)),
+        "Range::to_json" => Ok(Call::RangeToJson(Range::parse(alloc, one)?)),
+        "Version::from_json" => Ok(Call::VersionFromJson(string(alloc, one)?)),
+        "Range::from_json" => Ok(Call::RangeFromJson(string(alloc, one)?)),
+        _ => Ok(Call::Ask(question_of(alloc, name, one, other)?)),
+    }
+}
+
+fn string(alloc: Global, text: &str) -> Result<Value, AllocError> {
+    Ok(Value::String(String::from_str(alloc, text)?))
+}

@@ -1,0 +1,41 @@
+//! Why no call was made.
+use node_semver::SemverError;
+use std::alloc::{AllocError, AllocFailed};
+use std::io;
+
+/// Why no call was made, or nothing was written.
+#[derive(Drop)]
+pub(crate) enum Fault {
+    /// The words are not a number, the name of a call and its arguments.
+    Words,
+    /// Memory was refused before the call, or after it.
+    Memory,
+    /// An argument is no version or no range.
+    Text,
+    /// A line could not be written.
+    Output,
+}
+
+impl From<AllocError> for Fault {
+    fn from(_: AllocError) -> Fault {
+        Fault::Memory
+    }
+}
+
+impl<T: Drop> From<AllocFailed<T>> for Fault {
+    fn from(_: AllocFailed<T>) -> Fault {
+        Fault::Memory
+    }
+}
+
+impl From<SemverError> for Fault {
+    fn from(_: SemverError) -> Fault {
+        Fault::Text
+    }
+}
+
+impl From<io::Error> for Fault {
+    fn from(_: io::Error) -> Fault {
+        Fault::Output
+    }
+}

@@ -1,0 +1,136 @@
+//! Calls that take no memory.
+use crate::answer::{Answer, print_of_error};
+use crate::fault::Fault;
+use node_semver::{Comparisons, Identifier, Range, SemverError, Version, max_satisfying};
+use semver_cuts::{Cut, Span, Stepped};
+use std::alloc::{AllocError, Global};
+use std::hash::{DefaultHasher, Hash, Hasher};
+
+/// A call and its arguments.
+#[derive(Drop)]
+pub(crate) enum Question {
+    New,
+    OfIdentifiers(Identifier, Identifier),
+    OfVersions(Version, Version),
+    OfRanges(Range, Range),
+    Satisfies(Range, Version),
+    OfError(SemverError),
+    OfSpans,
+}
+
+impl Question {
+    /// Makes the calls.
+    pub(crate) fn answer(&self, alloc: Global) -> Answer {
+        match self {
+            Question::New => Answer::Version(Version::new(alloc, 1, 2, 3)),
+            Question::OfIdentifiers(one, other) => {
+                let same = one == other && one.cmp(other).is_eq();
+                Answer::Truth(same && hash_of(one) == hash_of(other))
+            }
+            Question::OfVersions(one, other) => Answer::Truth(are_same(one, other)),
+            Question::OfRanges(one, other) => Answer::Truth(are_equal(one, other)),
+            Question::Satisfies(range, version) => { Answer::Truth(is_admitted(range, version)) }
+            Question::OfError(error) => Answer::Truth(is_located(error)),
+            Question::OfSpans => Answer::Truth(share_a_cut()),
+        }
+    }
+
+    /// The arguments as they stand.
+    pub(crate) fn print(&self, alloc: Global) -> Result<String, AllocError> {
+        match self {
+            Question::New | Question::OfSpans => Ok(String::new(alloc)),
+            Question::OfIdentifiers(one, other) => format!(in alloc; "{one}, {other}"),
+            Question::OfVersions(one, other) => format!(in alloc; "{one}, {other}"),
+            Question::OfRanges(one, other) => format!(in alloc; "{one}, {other}"),
+            Question::Satisfies(range, version) => format!(in alloc; "{range}, {version}"),
+            Question::OfError(error) => print_of_error(alloc, error),
+        }
+    }
+}
+
+fn hash_of<T: Hash>(value: &T) -> u64 {
+    let mut state = DefaultHasher::new();
+    value.hash(&mut state);
+    state.finish()
+}
+
+/// Whether each call says that the range admits the version.
+fn is_admitted(range: &Range, version: &Version) -> bool {
+    version.known();
+    let counted = range.satisfies_counted(version, &mut Comparisons::new());
+    let greatest = max_satisfying(std::slice::from_ref(version), range);
+    counted && greatest.is_some() && range.satisfies(version) && version.satisfies(range)
+}
+
+/// Whether two versions are prereleases at one place of the order.
+fn are_same(one: &Version, other: &Version) -> bool {
+    let same = one == other && one.cmp(other).is_eq() && hash_of(one) == hash_of(other);
+    same && one.is_prerelease() && other.is_prerelease()
+}
+
+/// Whether two ranges are equal and have a cut.
+fn are_equal(one: &Range, other: &Range) -> bool {
+    let same = one == other && hash_of(one) == hash_of(other);
+    same && one.allows_any(other) && one.allows_all(other)
+}
+
+/// Whether the error lies in a line of its own, and a copy of its kind is equal to it.
+fn is_located(error: &SemverError) -> bool {
+    let span = error.span();
+    let located = span.offset() == error.offset() && span.len() == 0;
+    let told = error.input().len() >= error.offset() && error.location() == (0, error.offset());
+    let copied = error.kind().clone().is_ok_and(|kind| kind == *error.kind());
+    located && told && copied && error == error
+}
+
+/// Whether two spans have a common part, and the first has one that the second has not.
+fn share_a_cut() -> bool {
+    let (Some(one), Some(other)) = (
+        Span::new(Cut::Before(1u64), Cut::After(3)),
+        Span::new(Cut::Before(2u64), Cut::End),
+    ) else {
+        return false;
+    };
+    let common = one.common(&other) == Some((&Cut::Before(2), &Cut::After(3)));
+    let rest = one.rest(&other) == (Some((&Cut::Before(1), &Cut::Before(2))), None);
+    common && rest && one.contains(&1) && !other.contains(&1)
+}
+
+/// The calls of this name, and of arguments read of these texts.
+pub(crate) fn question_of(
+    alloc: Global,
+    name: &str,
+    one: &str,
+    other: &str,
+) -> Result<Question, Fault> {
+    match name {
+        "Version::new" => Ok(Question::New),
+        "Identifier: order and hash" => Ok(Question::OfIdentifiers(
+            Identifier::AlphaNumeric(String::from_str(alloc, one)?),
+            Identifier::AlphaNumeric(String::from_str(alloc, other)?),
+        )),
+        "Version: order and hash" => Ok(Question::OfVersions(
+            Version::parse(alloc, one)?,
+            Version::parse(alloc, other)?,
+        )),
+        "Range: equality, hash and allows" => Ok(Question::OfRanges(
+            Range::parse(alloc, one)?,
+            Range::parse(alloc, other)?,
+        )),
+        "Range::satisfies" => Ok(Question::Satisfies(
+            Range::parse(alloc, one)?,
+            Version::parse(alloc, other)?,
+        )),
+        "SemverError: its parts" => Ok(Question::OfError(error_of(alloc, one)?)),
+        "Span: all calls" => Ok(Question::OfSpans),
+        _ => Err(Fault::Words),
+    }
+}
+
+/// The error of a text that is no version.
+pub(crate) fn error_of(alloc: Global, text: &str) -> Result<SemverError, Fault> {
+    match Version::parse(alloc, text) {
+        Ok(_) => Err(Fault::Text),
+        Err(error) => Ok(error),
+    }
+}

@@ -1,0 +1,233 @@
+-- Answers are added, wait and are written, step by step.
+use Rattle.std.proofs.Common.{◌≡◌, ◌≢◌, ℕ, List, [], ◌∷◌, ◌++◌, take, drop, true, Option, refl, subst, sym}
+use Rattle.std.proofs.Common.{append-nil}
+use Rattle.std.specs.Io.KnownBytes.{Appends}
+use Rattle.std.specs.Str.Lines.{strip_carriage_return}
+use Rattle.node_semver.specs.ErrorLocation.{newline}
+use Rattle.semver_pairs.specs.declared.open_pair.OpenPair.{OpenPair}
+use Rattle.semver_pairs.specs.Output.{AreAnswers}
+use Rattle.semver_pairs.specs.Pairs.{Pair, both, pairs_read}
+use Rattle.semver_pairs.specs.Private.Answering.{AnswersAll, AnswersPast, AnswersRange}
+use Rattle.semver_pairs.specs.Private.Answering.{AnswersRangeSome, AnswersSome, AnswersUpTo, IsAnswerLine, Moves}
+use Rattle.semver_pairs.specs.Private.OpenPair.{IsOpen, open_bytes}
+use Rattle.semver_pairs.specs.Private.Splitting.{BeginsWithPair}
+use Rattle.semver_pairs.proofs.OutputLemmas.{moves-all, moves-hold, moves-none, moves-part, moves-trans}
+use Rattle.semver_pairs.proofs.PairLemmas.{GoesOn, answer_line-exists, answers-none, answers-pair, answers-trans}
+use Rattle.semver_pairs.proofs.PairLemmas.{from-nothing, from-one, goes-end, goes-more, goes-none}
+use Rattle.semver_pairs.proofs.PairLemmas.{last-both}
+
+-- ---- pairs with one range line
+
+-- The answers so far, with those from here on, are the answers from the first pair on.
+pub record VersionsSoFar (range version_first bytes_first version bytes : List ℕ)
+    (contents contents_new : Option (List ℕ)) (waiting left : List ℕ) : Type 0 where
+  pub done : List ℕ
+  pub goes : GoesOn range version_first bytes_first version bytes done
+  pub moves : Moves contents contents_new waiting done left
+
+pub so_far_none : (range version bytes : List ℕ) (contents : Option (List ℕ)) (waiting : List ℕ)
+    → VersionsSoFar range version bytes version bytes contents contents waiting waiting
+so_far_none range version bytes contents waiting =
+    record { done = []; goes = goes-none range version bytes; moves = moves-none contents waiting }
+
+pub so_far_more : (range version_first bytes_first version bytes line next mid : List ℕ) (old now new : Option (List ℕ))
+    (waiting held left : List ℕ) → VersionsSoFar range version_first bytes_first version bytes old now waiting held
+    → IsAnswerLine (strip_carriage_return range) version line → Moves now new held line left
+    → BeginsWithPair bytes range next mid → VersionsSoFar range version_first bytes_first next mid old new waiting left
+so_far_more range version_first bytes_first version bytes line next mid old now new waiting held left so_far answer moves begins =
+    record {
+      done = so_far.done ++ line;
+      goes = goes-more range version_first bytes_first version bytes so_far.done line next mid so_far.goes answer begins;
+      moves = moves-trans old now new waiting so_far.done held line left so_far.moves moves;
+    }
+
+pub so_far_end : (range version_first bytes_first version bytes line : List ℕ) (old now new : Option (List ℕ))
+    (waiting held left : List ℕ) → VersionsSoFar range version_first bytes_first version bytes old now waiting held
+    → IsAnswerLine (strip_carriage_return range) version line → Moves now new held line left
+    → AnswersRange range version_first bytes_first bytes old new waiting left
+so_far_end range version_first bytes_first version bytes line old now new waiting held left so_far answer moves = record {
+  added = so_far.done ++ line;
+  answers = goes-end range version_first bytes_first version bytes so_far.done line so_far.goes answer;
+  moves = moves-trans old now new waiting so_far.done held line left so_far.moves moves;
+}
+
+-- the writer failed
+pub so_far_part : (range version_first bytes_first version bytes line : List ℕ) (old now new : Option (List ℕ))
+    (waiting held : List ℕ) → VersionsSoFar range version_first bytes_first version bytes old now waiting held
+    → IsAnswerLine (strip_carriage_return range) version line → (left : List ℕ) × Moves now new held line left
+    → AnswersRangeSome range version_first bytes_first old new waiting
+so_far_part range version_first bytes_first version bytes line old now new waiting held so_far answer part = record {
+  rest = bytes;
+  left = part.0;
+  past = so_far_end range version_first bytes_first version bytes line old now new waiting held part.0 so_far answer part.1;
+}
+
+-- memory was refused
+pub so_far_stop : (range version_first bytes_first version bytes : List ℕ) (old now : Option (List ℕ))
+    (waiting held : List ℕ) → VersionsSoFar range version_first bytes_first version bytes old now waiting held
+    → AnswersRangeSome range version_first bytes_first old now waiting
+so_far_stop range version_first bytes_first version bytes old now waiting held so_far =
+    let some = answer_line-exists (strip_carriage_return range) version in record {
+      rest = bytes;
+      left = held ++ some.0;
+      past = so_far_end range version_first bytes_first version bytes some.0 old now now waiting held (held ++ some.0)
+          so_far some.1 (moves-hold now held some.0);
+    }
+
+pub ruleset version_steps = (so_far_none, so_far_more, so_far_end, so_far_part, so_far_stop)
+
+-- memory was refused for the range itself
+pub range_stop : (range version bytes : List ℕ) (contents : Option (List ℕ)) (waiting : List ℕ)
+    → AnswersRangeSome range version bytes contents contents waiting
+range_stop range version bytes contents waiting =
+    so_far_stop range version bytes version bytes contents contents waiting waiting
+    (so_far_none range version bytes contents waiting)
+
+pub ruleset range_steps = (range_stop, so_far_none)
+
+-- ---- pairs one after the other
+
+pub past_none : (bytes : List ℕ) (contents : Option (List ℕ)) (waiting : List ℕ)
+    → AnswersPast bytes bytes contents contents waiting waiting
+past_none bytes contents waiting =
+    record { added = []; answers = answers-none bytes; moves = moves-none contents waiting }
+
+pub past_trans : (bytes mid rest : List ℕ) (old now new : Option (List ℕ)) (waiting held left : List ℕ)
+    → AnswersPast bytes mid old now waiting held → AnswersPast mid rest now new held left
+    → AnswersPast bytes rest old new waiting left
+past_trans bytes mid rest old now new waiting held left first second = record {
+  added = first.added ++ second.added;
+  answers = answers-trans bytes mid rest first.added second.added first.answers second.answers;
+  moves = moves-trans old now new waiting first.added held second.added left first.moves second.moves;
+}
+
+pub past_pair : (bytes range version mid rest : List ℕ) (old new : Option (List ℕ)) (waiting left : List ℕ)
+    → BeginsWithPair bytes range version mid → AnswersRange range version mid rest old new waiting left
+    → AnswersPast bytes rest old new waiting left
+past_pair bytes range version mid rest old new waiting left begins answers = record {
+  added = answers.added;
+  answers = answers-pair bytes range version mid rest answers.added begins answers.answers;
+  moves = answers.moves;
+}
+
+pub past_more : (bytes here range version mid rest : List ℕ) (old now new : Option (List ℕ)) (waiting held left : List ℕ)
+    → AnswersPast bytes here old now waiting held → BeginsWithPair here range version mid
+    → AnswersRange range version mid rest now new held left → AnswersPast bytes rest old new waiting left
+past_more bytes here range version mid rest old now new waiting held left past begins answers =
+    past_trans bytes here rest old now new waiting held left past
+    (past_pair here range version mid rest now new held left begins answers)
+
+pub past_part : (bytes here range version mid : List ℕ) (old now new : Option (List ℕ)) (waiting held : List ℕ)
+    → AnswersPast bytes here old now waiting held → BeginsWithPair here range version mid
+    → AnswersRangeSome range version mid now new held → AnswersSome bytes old new waiting
+past_part bytes here range version mid old now new waiting held past begins some = record {
+  rest = some.rest;
+  left = some.left;
+  past = past_more bytes here range version mid some.rest old now new waiting held some.left past begins some.past;
+}
+
+pub ruleset pairs_steps = (past_none, past_more, past_part)
+
+-- ---- the open pair
+
+-- where nothing follows a pair, its answer is the only one
+pub open_whole : (bytes range version mid rest : List ℕ) (old new : Option (List ℕ)) (waiting left : List ℕ)
+    → BeginsWithPair bytes range version rest → AnswersRange range version [] mid old new waiting left
+    → AnswersPast bytes rest old new waiting left
+open_whole bytes range version mid rest old new waiting left begins answers = record {
+  added = answers.added;
+  answers = answers-pair bytes range version rest rest answers.added begins
+      (from-one range version rest answers.added (from-nothing range version mid answers.added answers.answers));
+  moves = answers.moves;
+}
+
+pub open_part : (bytes range version rest : List ℕ) (old new : Option (List ℕ)) (waiting : List ℕ)
+    → BeginsWithPair bytes range version rest → AnswersRangeSome range version [] old new waiting
+    → AnswersSome bytes old new waiting
+open_part bytes range version rest old new waiting begins some = record {
+  rest = rest;
+  left = some.left;
+  past = open_whole bytes range version some.rest rest old new waiting some.left begins some.past;
+}
+
+-- memory was refused
+pub past_stop : (bytes : List ℕ) (contents : Option (List ℕ)) (waiting : List ℕ)
+    → AnswersSome bytes contents contents waiting
+past_stop bytes contents waiting =
+    record { rest = bytes; left = waiting; past = past_none bytes contents waiting }
+
+pub ruleset open_steps = (past_none, past_stop, open_whole, open_part)
+
+-- ---- one read
+
+-- what waits was written
+past_written : (bytes rest : List ℕ) (old now new : Option (List ℕ)) (waiting : List ℕ)
+    → AnswersPast bytes rest old now [] waiting → Appends now new waiting → AnswersPast bytes rest old new [] []
+past_written bytes rest old now new waiting past put = record {
+  added = past.added ++ [];
+  answers = subst (AnswersUpTo bytes rest) (sym (append-nil past.added)) past.answers;
+  moves = moves-trans old now new [] past.added waiting [] [] past.moves (moves-all now new waiting [] put);
+}
+
+pub piece_all : (bytes mid rest : List ℕ) (old first second new : Option (List ℕ)) (held waiting : List ℕ)
+    → AnswersPast bytes mid old first [] held → AnswersPast mid rest first second held waiting
+    → Appends second new waiting → AnswersPast bytes rest old new [] []
+piece_all bytes mid rest old first second new held waiting before pairs put =
+    past_written bytes rest old second new waiting
+    (past_trans bytes mid rest old first second [] held waiting before pairs) put
+
+-- memory was refused once all was written
+pub piece_stop : (bytes mid rest : List ℕ) (old first second new : Option (List ℕ)) (held waiting : List ℕ)
+    → AnswersPast bytes mid old first [] held → AnswersPast mid rest first second held waiting
+    → Appends second new waiting → AnswersSome bytes old new []
+piece_stop bytes mid rest old first second new held waiting before pairs put = record {
+  rest = rest;
+  left = [];
+  past = piece_all bytes mid rest old first second new held waiting before pairs put;
+}
+
+-- the pairs stopped
+pub piece_pairs : (bytes mid : List ℕ) (old first new : Option (List ℕ)) (held : List ℕ)
+    → AnswersPast bytes mid old first [] held → AnswersSome mid first new held → AnswersSome bytes old new []
+piece_pairs bytes mid old first new held before some = record {
+  rest = some.rest;
+  left = some.left;
+  past = past_trans bytes mid some.rest old first new [] held some.left before some.past;
+}
+
+-- the last write stopped
+pub piece_part : (bytes mid rest : List ℕ) (old first second new : Option (List ℕ)) (held waiting : List ℕ)
+    → AnswersPast bytes mid old first [] held → AnswersPast mid rest first second held waiting
+    → (count : ℕ) × Appends second new (take count waiting) → AnswersSome bytes old new []
+piece_part bytes mid rest old first second new held waiting before pairs part = record {
+  rest = rest;
+  left = drop part.0 waiting ++ [];
+  past = past_trans bytes rest rest old second new [] waiting (drop part.0 waiting ++ [])
+      (past_trans bytes mid rest old first second [] held waiting before pairs)
+      (record { added = []; answers = answers-none rest; moves = moves-part second new waiting [] part.0 part.1 });
+}
+
+pub ruleset piece_steps = (past_none, piece_all, piece_stop, piece_pairs, piece_part)
+
+-- ---- the end
+
+-- the one answer of the last pair was added
+last_one : (pair : Pair) (bytes answer : List ℕ) → pairs_read true bytes ≡ pair ∷ []
+    → AreAnswers (pair ∷ []) answer → AreAnswers (pairs_read true bytes) answer
+last_one pair bytes answer is answers = subst (λ (pairs : List Pair). AreAnswers pairs answer) (sym is) answers
+
+-- a range line and a version line
+pub last_pair : (pair : OpenPair) (rest : List ℕ) (old new : Option (List ℕ)) (waiting left : List ℕ) → IsOpen pair
+    → pair.is_range_ended ≡ true → pair.version.items ≢ []
+    → AnswersRange pair.range.items pair.version.items [] rest old new waiting left
+    → AnswersAll (open_bytes pair) old new waiting left
+last_pair pair rest old new waiting left lines ended some answers =
+    let line = from-nothing pair.range.items pair.version.items rest answers.added answers.answers in
+    let one : AreAnswers (both (strip_carriage_return pair.range.items) pair.version.items ∷ []) answers.added =
+    (line.0, [], line.1, refl, line.2) in
+    rw ended (record {
+      added = answers.added;
+      answers = last_one (both (strip_carriage_return pair.range.items) pair.version.items)
+          (pair.range.items ++ (newline ∷ pair.version.items)) answers.added (last-both pair.range.items pair.version.items lines.range lines.version some) one;
+      moves = answers.moves;
+    })

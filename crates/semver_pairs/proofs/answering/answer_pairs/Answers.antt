@@ -1,0 +1,8 @@
+use Rattle.semver_pairs.proofs.MoveLemmas.{past_part}
+use Rattle.semver_pairs.proofs.OutputLemmas.{on_err-of}
+use Rattle.semver_pairs.proofs.answering.answer_pairs.Goals as goal
+
+pub returns-in_err-rest-clause-part : goal.returns-in_err-rest-clause-part
+returns-in_err-rest-clause-part g c =
+    let some = past_part _ _ _ _ _ _ _ _ _ _ c.pairs.invariant.0 c.in-Some.ensures.found c.in_err-rest.ensures.part in
+    on_err-of _ some

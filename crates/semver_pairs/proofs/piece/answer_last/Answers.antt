@@ -1,0 +1,32 @@
+use Rattle.std.proofs.Common.{◌≡◌, true}
+use Rattle.semver_pairs.proofs.OutputLemmas.{on_err-of}
+use Rattle.semver_pairs.proofs.RunLemmas.{last_lone, last_lone_part, last_written, last_written_part}
+use Rattle.semver_pairs.proofs.piece.answer_last.Goals as goal
+
+pub returns-in_err-put-clause-part : goal.returns-in_err-put-clause-part
+returns-in_err-put-clause-part g c =
+    let part = rw c.requires.written at c.in_err-put.ensures.part in
+    let some = last_lone_part c.args.kept.now _ _ c.requires.lines
+    (λ none. let told : c.is_empty.result ≡ true = c.is_empty.ensures.1 none in cc (told, c.if-is_empty.false))
+    (λ whole. let told : c.has_version.result ≡ true = c.has_version.ensures.1 whole in
+    cc (told, c.if-not-has_version.true)) part in
+    on_err-of _ some
+
+pub returns-in_err-flush-clause-part : goal.returns-in_err-flush-clause-part
+returns-in_err-flush-clause-part g c =
+    let moves = rw c.requires.written at c.in_ok-put.ensures.put in
+    let all = last_lone c.args.kept.now _ _ _ c.requires.lines
+    (λ none. let told : c.is_empty.result ≡ true = c.is_empty.ensures.1 none in cc (told, c.if-is_empty.false))
+    (λ whole. let told : c.has_version.result ≡ true = c.has_version.ensures.1 whole in
+    cc (told, c.if-not-has_version.true)) moves in
+    let some = last_written_part _ _ _ _ _ all c.in_err-flush.ensures.part in
+    on_err-of _ some
+
+pub returns-then-not-has_version-clause-answers : goal.returns-then-not-has_version-clause-answers
+returns-then-not-has_version-clause-answers g c =
+    let moves = rw c.requires.written at c.in_ok-put.ensures.put in
+    let all = last_lone c.args.kept.now _ _ _ c.requires.lines
+    (λ none. let told : c.is_empty.result ≡ true = c.is_empty.ensures.1 none in cc (told, c.if-is_empty.false))
+    (λ whole. let told : c.has_version.result ≡ true = c.has_version.ensures.1 whole in
+    cc (told, c.if-not-has_version.true)) moves in
+    last_written _ _ _ _ _ all c.in_ok-flush.ensures.all

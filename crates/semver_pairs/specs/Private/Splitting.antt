@@ -1,0 +1,22 @@
+-- Bytes and their first newline bytes.
+use Rattle.std.specs.Prelude.{◌≡◌, ◌==◌, ℕ, List, [], ◌∷◌, ◌++◌, false, ⊤}
+use Rattle.std.specs.Str.Lines.{strip_carriage_return}
+use Rattle.node_semver.specs.ErrorLocation.{newline}
+
+-- no newline byte is among them
+abbrev pub HasNoNewline : List ℕ → Type 0
+HasNoNewline [] = ⊤
+HasNoNewline (b ∷ bytes) = ((b == newline) ≡ false) × HasNoNewline bytes
+
+-- The line stands before the first newline byte, and the rest past it.
+pub record BeginsWithLine (bytes line rest : List ℕ) : Type 0 where
+  pub one_line : HasNoNewline line
+  pub split : bytes ≡ line ++ (newline ∷ rest)
+
+-- A range line stands first and then a version line, which is given without its carriage return. The rest stands past them.
+pub record BeginsWithPair (bytes range version rest : List ℕ) : Type 0 where
+  pub others : List ℕ
+  pub line : List ℕ
+  pub first : BeginsWithLine bytes range others
+  pub second : BeginsWithLine others line rest
+  pub stripped : version ≡ strip_carriage_return line

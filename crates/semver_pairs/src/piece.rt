@@ -1,0 +1,120 @@
+//! The answers to what one read gave, and to what is left at the end.
+ghost use Rattle.std.specs.Prelude.{◌≡◌, ◌↔◌, [], ◌++◌, IfOk, IfSome, IfNone, OnOk, OnErr, IsErrOf};
+ghost use Rattle.semver_pairs.specs.GaugeValue.{HasFailed};
+ghost use Rattle.semver_pairs.specs.Private.Answering.{AnswersAll, AnswersAllSome, AnswersPast, AnswersSome};
+ghost use Rattle.semver_pairs.specs.Private.OpenPair.{IsOpen, open_bytes};
+
+use crate::answering::{Pair, answer_pairs, answer_range};
+use crate::answers::Answers;
+use crate::gauge::Gauge;
+use crate::lines::without_return;
+use crate::open_pair::OpenPair;
+use crate::run_error::RunError;
+use std::alloc::Global;
+use std::io::Write;
+
+/// Answers the pairs that are whole once a piece was read.
+#[tactic(auto, using(crate::proofs::MoveLemmas::piece_steps))]
+pub(crate) fn answer_piece<W: Write>(
+    alloc: Global,
+    piece: &[u8],
+    kept: &mut OpenPair,
+    answers: &mut Answers,
+    writer: &mut Gauge<W>,
+) -> Result<(), RunError>
+    requires lines { IsOpen kept.old }
+    requires written { answers.old ≡ [] }
+    requires unfailed { ¬ HasFailed writer.old }
+    ensures answers { OnOk result (AnswersPast (open_bytes kept.old ++ piece.now) (open_bytes kept.new)
+        (W.contents writer.old.inner) (W.contents writer.new.inner) [] []) }
+    ensures lines { OnOk result (IsOpen kept.new) }
+    ensures written { OnOk result (answers.new ≡ []) }
+    ensures part { OnErr result (AnswersSome (open_bytes kept.old ++ piece.now)
+        (W.contents writer.old.inner) (W.contents writer.new.inner) []) }
+    ensures write { IsErrOf result RunError.Write ↔ HasFailed writer.new }
+    ensures never { (¬ IsErrOf result RunError.Read) × (¬ IsErrOf result RunError.Endless) }
+{
+    let Some(rest) = answer_open(alloc, piece, kept, answers, writer)? else {
+        return Ok(());
+    };
+    let rest = answer_pairs(alloc, rest, answers, writer)?;
+    answers.flush(writer)?;
+    kept.begin(rest)
+}
+
+/// Answers the open pair where the piece ends it, and gives the rest of the piece. Where it stays open, nothing is
+/// answered.
+#[tactic(auto, using(crate::proofs::MoveLemmas::open_steps))]
+fn answer_open<'b, W: Write>(
+    alloc: Global,
+    piece: &'b [u8],
+    kept: &mut OpenPair,
+    answers: &mut Answers,
+    writer: &mut Gauge<W>,
+) -> Result<Option<&'b [u8]>, RunError>
+    requires lines { IsOpen kept.old }
+    requires unfailed { ¬ HasFailed writer.old }
+    ensures answers { IfOk result (λ found. IfSome found (λ rest.
+        AnswersPast (open_bytes kept.old ++ piece.now) rest.now
+        (W.contents writer.old.inner) (W.contents writer.new.inner) answers.old answers.new)) }
+    ensures lines { IfOk result (λ found. IfNone found (IsOpen kept.new)) }
+    ensures more { IfOk result (λ found. IfNone found (open_bytes kept.new ≡ open_bytes kept.old ++ piece.now)) }
+    ensures untouched { IfOk result (λ found. IfNone found
+        ((answers.new ≡ answers.old) × (writer.new ≡ writer.old))) }
+    ensures part { OnErr result (AnswersSome (open_bytes kept.old ++ piece.now)
+        (W.contents writer.old.inner) (W.contents writer.new.inner) answers.old) }
+    ensures write { IsErrOf result RunError.Write ↔ HasFailed writer.new }
+    ensures never { (¬ IsErrOf result RunError.Read) × (¬ IsErrOf result RunError.Endless) }
+{
+    if kept.is_empty() {
+        return Ok(Some(piece));
+    }
+    let Some(rest) = kept.read_on(piece)? else {
+        return Ok(None);
+    };
+    let pair = Pair {
+        range: kept.range(),
+        version: without_return(kept.version()),
+        rest: &[],
+        is_ascii: false,
+    };
+    answer_range(alloc, pair, answers, writer)?;
+    Ok(Some(rest))
+}
+
+/// Answers the last pair, once the end was read.
+#[tactic(auto, using(crate::proofs::RunLemmas::last_steps))]
+pub(crate) fn answer_last<W: Write>(
+    alloc: Global,
+    kept: &OpenPair,
+    answers: &mut Answers,
+    writer: &mut Gauge<W>,
+) -> Result<(), RunError>
+    requires lines { IsOpen kept.now }
+    requires written { answers.old ≡ [] }
+    requires unfailed { ¬ HasFailed writer.old }
+    ensures answers { OnOk result (AnswersAll (open_bytes kept.now)
+        (W.contents writer.old.inner) (W.contents writer.new.inner) [] []) }
+    ensures part { OnErr result (AnswersAllSome (open_bytes kept.now)
+        (W.contents writer.old.inner) (W.contents writer.new.inner) []) }
+    ensures write { IsErrOf result RunError.Write ↔ HasFailed writer.new }
+    ensures never { (¬ IsErrOf result RunError.Read) × (¬ IsErrOf result RunError.Endless) }
+{
+    if kept.is_empty() {
+        return Ok(());
+    }
+    if !kept.has_version() {
+        answers.put(writer, b"missing version\n")?;
+        answers.flush(writer)?;
+        return Ok(());
+    }
+    let pair = Pair {
+        range: kept.range(),
+        version: kept.version(),
+        rest: &[],
+        is_ascii: false,
+    };
+    answer_range(alloc, pair, answers, writer)?;
+    answers.flush(writer)?;
+    Ok(())
+}

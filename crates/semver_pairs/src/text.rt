@@ -1,0 +1,27 @@
+//! The text of a line.
+ghost use Rattle.std.specs.Prelude.{◌≡◌, IfSome, IfNone, IsTrue, IsUtf8};
+ghost use Rattle.std.specs.Str.{IsAscii};
+
+use std::str;
+
+/// The text of a line, or none where it is not UTF-8. What is known to be ASCII is not looked at again.
+#[inline]
+pub(crate) fn text_of(line: &[u8], is_ascii: bool) -> Option<&str>
+    requires { IsTrue is_ascii → IsAscii line.now }
+    ensures text { IfSome result (λ text. (text.now ≡ line.now) × IsUtf8 line.now) }
+    ensures none { IfNone result (¬ IsUtf8 line.now) }
+{
+    if is_ascii_line(line, is_ascii) {
+        return Some(unsafe { str::from_utf8_unchecked(line) });
+    }
+    str::from_utf8(line).ok()
+}
+
+/// Whether a line is ASCII, which may be known.
+#[inline]
+fn is_ascii_line(line: &[u8], is_known: bool) -> bool
+    requires { IsTrue is_known → IsAscii line.now }
+    ensures { IsTrue result → IsAscii line.now }
+{
+    is_known || line.is_ascii()
+}

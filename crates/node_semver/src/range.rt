@@ -104,7 +104,11 @@ impl Range {
             Some((Sign::Caret, major, minor, patch)) => Ok(caret_range(major, minor, patch)),
             Some((Sign::Tilde, major, minor, patch)) => Ok(tilde_range(major, minor, patch)),
             Some((Sign::Nothing, major, minor, patch)) => Ok(exact_range(major, minor, patch)),
-            None => read_range(alloc, text),
+            None => {
+                // Held before it is answered: so no place is cleared for it where the text is a full version.
+                let answer = read_range(alloc, text);
+                answer
+            }
         }
     }
 

@@ -23,12 +23,19 @@ pub(crate) fn read_range(alloc: Global, text: &str) -> Result<Range, SemverError
 {
     let (piece, left) = next_piece(text.as_bytes());
     if left.is_some() {
-        return barred_range(alloc, text);
+        let answer = barred_range(alloc, text);
+        return answer;
     }
     match read_set(alloc, skip_thrown_away(piece)) {
         Ok(Some(set)) => Ok(Range::of_set(set)),
-        Ok(None) => refused(alloc, text),
-        Err(_) => Err(SemverError::out_of_memory(alloc)),
+        Ok(None) => {
+            let answer = refused(alloc, text);
+            answer
+        }
+        Err(_) => {
+            let error = SemverError::out_of_memory(alloc);
+            Err(error)
+        }
     }
 }
 

@@ -41,7 +41,7 @@ pub(crate) fn read_full(text: &[u8]) -> Option<(Sign, u64, u64, u64)>
 }
 
 // `^1.2.3` is `>=1.2.3 <2.0.0-0`, `^0.2.3` is `>=0.2.3 <0.3.0-0`, `^0.0.3` is `>=0.0.3 <0.0.4-0`.
-#[inline(never)]
+#[inline(always)]
 pub(crate) fn caret_range(major: u64, minor: u64, patch: u64) -> Range
     requires { (text : List ℕ) × IsFull text Reading.caret_lead major minor patch }
     ensures { result ≡ listed_set (full_comparator Reading.caret_lead major minor patch) }
@@ -56,7 +56,7 @@ pub(crate) fn caret_range(major: u64, minor: u64, patch: u64) -> Range
 }
 
 // `~1.2.3` is `>=1.2.3 <1.3.0-0`.
-#[inline(never)]
+#[inline(always)]
 pub(crate) fn tilde_range(major: u64, minor: u64, patch: u64) -> Range
     requires { (text : List ℕ) × IsFull text Reading.tilde_lead major minor patch }
     ensures { result ≡ listed_set (full_comparator Reading.tilde_lead major minor patch) }
@@ -65,7 +65,7 @@ pub(crate) fn tilde_range(major: u64, minor: u64, patch: u64) -> Range
 }
 
 // `1.2.3` is `>=1.2.3 <=1.2.3`.
-#[inline(never)]
+#[inline(always)]
 pub(crate) fn exact_range(major: u64, minor: u64, patch: u64) -> Range
     requires { (text : List ℕ) × IsFull text Reading.no_lead major minor patch }
     ensures { result ≡ listed_set (full_comparator Reading.no_lead major minor patch) }

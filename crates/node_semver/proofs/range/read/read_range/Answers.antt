@@ -32,8 +32,8 @@ returns-in-Ok-Some c =
       λ none. cc (none, c.of_set.ensures),
     )
 
-pub refused-requires : goal.refused-requires
-refused-requires c =
+pub refused-answer-requires : goal.refused-answer-requires
+refused-answer-requires c =
     let piece = c.next_piece.result.0.now in
     let left : is_some c.next_piece.result.1 ≡ false = cc (c.is_some.ensures, c.if-is_some.false) in
     let divided : (piece, None) ≡ piece_at c.args.text.now =

@@ -84,9 +84,24 @@ impl Merged {
     }
 }
 
-// The greater of two lower ends, and of equal ones the later.
+// The greater of two lower ends, and of equal ones the later. Most often one of them is the start.
 #[inline(always)]
 fn keep_greatest(kept: &mut Cut<End>, later: Cut<End>)
+    ensures { IsLaterGreatest version_cmp kept.old later kept.new }
+{
+    if let Cut::Start = later {
+        return;
+    }
+    if let Cut::Start = kept {
+        *kept = later;
+    } else {
+        keep_greater(kept, later);
+    }
+}
+
+// The same of any two.
+#[inline(never)]
+fn keep_greater(kept: &mut Cut<End>, later: Cut<End>)
     ensures { IsLaterGreatest version_cmp kept.old later kept.new }
 {
     if later < *kept {
@@ -95,9 +110,24 @@ fn keep_greatest(kept: &mut Cut<End>, later: Cut<End>)
     *kept = later;
 }
 
-// The lesser of two upper ends, and of equal ones the earlier.
+// The lesser of two upper ends, and of equal ones the earlier. Most often one of them is the end.
 #[inline(always)]
 fn keep_least(kept: &mut Cut<End>, later: Cut<End>)
+    ensures { IsEarlierLeast version_cmp kept.old later kept.new }
+{
+    if let Cut::End = later {
+        return;
+    }
+    if let Cut::End = kept {
+        *kept = later;
+    } else {
+        keep_lesser(kept, later);
+    }
+}
+
+// The same of any two.
+#[inline(never)]
+fn keep_lesser(kept: &mut Cut<End>, later: Cut<End>)
     ensures { IsEarlierLeast version_cmp kept.old later kept.new }
 {
     if later < *kept {

@@ -88,7 +88,7 @@ fn some_comparator(text: &[u8]) -> Option<(WordEnds, &[u8])>
 }
 
 // A word that is not thrown away: its ends, or nothing where it writes no comparator.
-#[inline(never)]
+#[inline(always)]
 fn read_comparator(text: &[u8]) -> Option<(WordEnds, &[u8])>
     requires { BeginsWithNo is_blank text.now }
     ensures { some_word_seen result ≡ Reading.or_else (Reading.read_hyphen text.now) (Reading.read_simple text.now) }

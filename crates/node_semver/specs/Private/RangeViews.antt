@@ -12,6 +12,7 @@ use Rattle.node_semver.specs.PartialText.{plain_partial}
 use Rattle.node_semver.specs.Version.{VersionValue, release}
 use Rattle.node_semver.specs.Private.Reading.{read_version}
 use Rattle.node_semver.specs.Characters.{BeginsWith, is_digit}
+use Rattle.node_semver.specs.Private.WordViews.{listed}
 use Rattle.node_semver.specs.Private.WordReading.{Lead, caret_lead, lead_comparator, no_lead, read_partial, tilde_lead}
 use Rattle.node_semver.specs.declared.TheConstants.{MAX_SAFE_INTEGER}
 use Rattle.node_semver.specs.declared.error.SemverError.{SemverError}
@@ -24,6 +25,11 @@ use Rattle.node_semver.specs.declared.range.algebra.gathered.Found.TheVariants.{
 abbrev pub IsMerged : List Comparator → Option Comparator → Type 0
 IsMerged comparators None = comparators ≡ []
 IsMerged comparators (Some merged) = IsSetOf comparators merged
+
+-- a word more, and its comparator, if it writes one
+abbrev pub IsOneMerged : Option Comparator → Option Comparator → Option Comparator → Type 0
+IsOneMerged before word after = (comparators : List Comparator) → IsMerged comparators before
+    → IsMerged (comparators ++ listed word) after
 
 -- what is seen of comparators that are merged as they come: none before the first came
 abbrev pub merged_seen : Bool → Cut VersionValue → Cut VersionValue → Option Comparator

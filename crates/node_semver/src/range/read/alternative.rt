@@ -1,13 +1,15 @@
 //! One alternative of a range text: its words, merged as they are read.
-ghost use Rattle.std.specs.Prelude.{◌≡◌, ◌++◌, IfOk, List, None, OnOk};
-ghost use Rattle.node_semver.specs.Comparator.{Comparator};
-ghost use Rattle.node_semver.specs.Private.RangeViews.{IsMerged, IsMergedAlternative, IsSetOfAlternative};
+ghost use Rattle.std.specs.Prelude.{◌≡◌, IfOk, None, OnOk};
+ghost use Rattle.node_semver.specs.Characters.{BeginsWithNo, is_blank};
+ghost use Rattle.node_semver.specs.Private.RangeViews.{IsMergedAlternative, IsOneMerged, IsSetOfAlternative};
+ghost use Rattle.node_semver.specs.Private.Reading.{rest_of};
+ghost use Rattle.node_semver.specs.Private.WordReading as Reading;
 ghost use Rattle.node_semver.specs.Private.WordReading.{leading_or_none, read_right};
-ghost use Rattle.node_semver.specs.Private.WordViews.{ends_seen, listed, word_seen};
+ghost use Rattle.node_semver.specs.Private.WordViews.{ends_seen, word_seen};
 
 use crate::comparator::Merged;
 use crate::end::End;
-use crate::parse::skip_blanks;
+use crate::parse::{skip_blanks, skip_some_blanks};
 use crate::word::{WordEnds, nothing, read_leading_hyphen, read_word};
 use semver_cuts::Span;
 use std::alloc::{AllocError, Global};
@@ -26,22 +28,66 @@ fn merge_words(alloc: Global, text: &[u8], merged: &mut Merged) -> Result<(), Al
     requires { merged.old ≡ None }
     ensures { OnOk result (IsMergedAlternative text.now merged.new) }
 {
-    let (leading, rest) = skip_leading_hyphen(text);
-    keep(alloc, merged, leading)?;
-    let mut rest = skip_blanks(rest);
+    let mut rest = merge_leading(alloc, text, merged)?;
     while !rest.is_empty() {
-        let (ends, others) = read_word(rest);
-        keep(alloc, merged, ends)?;
-        rest = skip_blanks(others);
+        rest = merge_word(alloc, rest, merged)?;
     }
     Ok(())
+}
+
+// The text without a hyphen that it begins with, whose comparator is merged. Few texts begin with a blank.
+#[inline(always)]
+fn merge_leading<'a>(
+    alloc: Global,
+    text: &'a [u8],
+    merged: &mut Merged,
+) -> Result<&'a [u8], AllocError>
+    ensures rest { IfOk result (λ rest. rest.now
+        ≡ rest_of is_blank (leading_or_none (read_right text.now) text.now).1) }
+    ensures merged { OnOk result (IsOneMerged merged.old (leading_or_none (read_right text.now) text.now).0 merged.new) }
+{
+    match skip_some_blanks(text) {
+        Some(_) => merge_leading_hyphen(alloc, text, merged),
+        None => Ok(text),
+    }
+}
+
+// The same of any text.
+#[inline(never)]
+fn merge_leading_hyphen<'a>(
+    alloc: Global,
+    text: &'a [u8],
+    merged: &mut Merged,
+) -> Result<&'a [u8], AllocError>
+    ensures rest { IfOk result (λ rest. rest.now
+        ≡ rest_of is_blank (leading_or_none (read_right text.now) text.now).1) }
+    ensures merged { OnOk result (IsOneMerged merged.old (leading_or_none (read_right text.now) text.now).0 merged.new) }
+{
+    let (ends, rest) = skip_leading_hyphen(text);
+    keep(alloc, merged, ends)?;
+    Ok(skip_blanks(rest))
+}
+
+// The text without its first word, whose comparator is merged, and without the blanks behind that.
+#[inline(never)]
+fn merge_word<'a>(
+    alloc: Global,
+    text: &'a [u8],
+    merged: &mut Merged,
+) -> Result<&'a [u8], AllocError>
+    requires { BeginsWithNo is_blank text.now }
+    ensures rest { IfOk result (λ rest. rest.now ≡ rest_of is_blank (Reading.read_word text.now).1) }
+    ensures merged { OnOk result (IsOneMerged merged.old (Reading.read_word text.now).0 merged.new) }
+{
+    let (ends, rest) = read_word(text);
+    keep(alloc, merged, ends)?;
+    Ok(skip_blanks(rest))
 }
 
 // One comparator more, where a word writes one.
 #[inline(always)]
 fn keep(alloc: Global, merged: &mut Merged, ends: WordEnds) -> Result<(), AllocError>
-    ensures { OnOk result ((comparators : List Comparator) → IsMerged comparators merged.old
-        → IsMerged (comparators ++ listed (ends_seen ends.entry)) merged.new) }
+    ensures { OnOk result (IsOneMerged merged.old (ends_seen ends.entry) merged.new) }
 {
     if !ends.is_nothing() {
         merged.merge(ends.comparator(alloc)?);

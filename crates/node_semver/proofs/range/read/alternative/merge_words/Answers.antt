@@ -5,8 +5,8 @@ use Rattle.node_semver.specs.Characters.{BeginsWithNo, is_blank}
 use Rattle.node_semver.specs.Comparator.{Comparator}
 use Rattle.node_semver.specs.Private.RangeViews.{IsMerged}
 use Rattle.node_semver.specs.Private.Reading.{rest_of}
-use Rattle.node_semver.specs.Private.WordReading.{read_right}
-use Rattle.node_semver.specs.Private.WordViews.{listed, ends_seen}
+use Rattle.node_semver.specs.Private.WordReading.{leading_or_none, read_right, read_word}
+use Rattle.node_semver.specs.Private.WordViews.{listed}
 use Rattle.node_semver.proofs.Ranges.DivisionLemmas.{Completes, completes-end, completes-leading, completes-more, next-shorter}
 use Rattle.node_semver.proofs.Texts.Prefixes.{rest_of-no}
 use Rattle.node_semver.proofs.range.read.alternative.merge_words.Goals as goal
@@ -28,16 +28,14 @@ none-merged (Some merged) none = absurd (cc none)
 
 pub loop-rest-init : goal.loop-rest-init
 loop-rest-init c =
-    let leading = ends_seen c.skip_leading_hyphen.result.0 in
-    let rest = c.skip_leading_hyphen.result.1.now in
-    let start = completes-leading c.args.text.now (read_right c.args.text.now) leading rest refl
-    c.skip_leading_hyphen.ensures in
+    let word = leading_or_none (read_right c.args.text.now) c.args.text.now in
+    let start = completes-leading c.args.text.now (read_right c.args.text.now) word.0 word.1 refl refl in
     record {
-      done = listed leading;
-      read = left-is c.args.text.now (rest_of is_blank rest) c.skip_blanks-rest.result.now (listed leading) start
-          c.skip_blanks-rest.ensures;
-      are_merged = c.in_ok-keep.ensures [] (none-merged c.args.merged.now c.requires);
-      solid = no-blank rest c.skip_blanks-rest.result.now c.skip_blanks-rest.ensures;
+      done = listed word.0;
+      read = left-is c.args.text.now (rest_of is_blank word.1) c.in_ok-rest.rest.now (listed word.0) start
+          c.in_ok-rest.ensures.rest;
+      are_merged = c.in_ok-rest.ensures.merged [] (none-merged c.args.merged.now c.requires);
+      solid = no-blank word.1 c.in_ok-rest.rest.now c.in_ok-rest.ensures.rest;
     }
 
 some-from_not_empty : (xs : List ℕ) (r : Bool) → r ≡ (length xs == 0) → r ≡ false → 0 < length xs
@@ -50,31 +48,28 @@ none-from_empty (x ∷ xs) r e f =
     let none : length (x ∷ xs) ≡ 0 = eqb-true (length (x ∷ xs)) 0 (sym e ∙ f) in
     absurd (omega arith)
 
-pub read_word-requires : goal.read_word-requires
-read_word-requires c = c.loop-rest.invariant.solid
+pub merge_word-requires : goal.merge_word-requires
+merge_word-requires c = c.loop-rest.invariant.solid
 
 pub loop-rest-smaller : goal.loop-rest-smaller
 loop-rest-smaller c =
     let rest = c.loop-rest.rest.now in
+    let word = read_word rest in
     let some : 0 < length rest = some-from_not_empty rest c.is_empty.result c.is_empty.ensures c.loop-rest-test.true in
-    let shorter = next-shorter rest (ends_seen c.read_word.result.0) c.read_word.result.1.now
-    (sym c.read_word.ensures) some in
-    subst (λ (l : List ℕ). length l < length rest) (sym c.skip_blanks-rest-in-loop-rest.ensures) shorter
+    subst (λ (l : List ℕ). length l < length rest) (sym c.in_ok-rest-2.ensures.rest) (next-shorter rest word.0 word.1 refl some)
 
 pub loop-rest-preserved : goal.loop-rest-preserved
 loop-rest-preserved c =
     let rest = c.loop-rest.rest.now in
-    let word = ends_seen c.read_word.result.0 in
-    let others = c.read_word.result.1.now in
+    let word = read_word rest in
     let done = c.loop-rest.invariant.done in
-    let more = completes-more c.args.text.now done rest word others c.loop-rest.invariant.read
-    (sym c.read_word.ensures) in
+    let more = completes-more c.args.text.now done rest word.0 word.1 c.loop-rest.invariant.read refl in
     record {
-      done = done ++ listed word;
-      read = left-is c.args.text.now (rest_of is_blank others) c.skip_blanks-rest-in-loop-rest.result.now
-          (done ++ listed word) more c.skip_blanks-rest-in-loop-rest.ensures;
-      are_merged = c.in_ok-keep-2.ensures done c.loop-rest.invariant.are_merged;
-      solid = no-blank others c.skip_blanks-rest-in-loop-rest.result.now c.skip_blanks-rest-in-loop-rest.ensures;
+      done = done ++ listed word.0;
+      read = left-is c.args.text.now (rest_of is_blank word.1) c.in_ok-rest-2.rest.now (done ++ listed word.0) more
+          c.in_ok-rest-2.ensures.rest;
+      are_merged = c.in_ok-rest-2.ensures.merged done c.loop-rest.invariant.are_merged;
+      solid = no-blank word.1 c.in_ok-rest-2.rest.now c.in_ok-rest-2.ensures.rest;
     }
 
 pub returns : goal.returns

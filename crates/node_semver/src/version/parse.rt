@@ -1,11 +1,11 @@
-ghost use Rattle.std.specs.Prelude.{◌≡◌, ◌⊎◌, ◌≤◌, [], IfOk, IfErr, IsOk, length};
+ghost use Rattle.std.specs.Prelude.{◌≡◌, ◌⊎◌, ◌≤◌, [], IfOk, IfErr, IfSome, IsOk, length};
 ghost use Rattle.node_semver.specs.Error.{IsOutOfMemory, kind_of};
 ghost use Rattle.node_semver.specs.Fault.{IsFaultOf};
 ghost use Rattle.node_semver.specs.Private.ReadingViews.{IsErrorOf, IsMemoryOr, kind_in};
 ghost use Rattle.node_semver.specs.Print.{version_text};
 ghost use Rattle.node_semver.specs.ReadingBack.{HasText, VersionReadsBack};
 ghost use Rattle.node_semver.specs.declared.TheConstants.{MAX_LENGTH};
-ghost use Rattle.node_semver.specs.Version.{VersionValue};
+ghost use Rattle.node_semver.specs.Version.{VersionValue, release};
 ghost use Rattle.node_semver.specs.declared.parse.fault.Fault.TheVariants.{TooLarge};
 ghost use Rattle.node_semver.specs.VersionText.{IsReadAs, IsVersionText};
 
@@ -58,14 +58,46 @@ impl Version {
         ensures printed { (v : VersionValue) → HasText v → version_text v ≡ text.now
             → length text.now ≤ MAX_LENGTH → IsReadAs v result }
     {
-        match whole(alloc, text.as_bytes()) {
-            Ok(version) => Ok(version),
-            Err(fault) => Err(refused(alloc, text, fault)),
+        match whole_triple(text.as_bytes()) {
+            Some((major, minor, patch)) => Ok(Version::new(alloc, major, minor, patch)),
+            None => {
+                // Held before it is answered: so no place is cleared for it where the text is three numbers alone.
+                let answer = version_in_parts(alloc, text);
+                answer
+            }
         }
     }
 }
 
-// The version that a whole text is.
+// The numbers of `1.2.3`, which is the whole text and no longer than a version's.
+#[inline(always)]
+fn whole_triple(text: &[u8]) -> Option<(u64, u64, u64)>
+    ensures { IfSome result (λ t. IsVersionText text.now (release t.0 t.1 t.2)) }
+{
+    if text.len() > MAX_LENGTH {
+        return None;
+    }
+    parse::read_full_triple(text)
+}
+
+// The version that any text is.
+#[inline(never)]
+fn version_in_parts(alloc: Global, text: &str) -> Result<Version, SemverError>
+    ensures found { IfOk result (λ v. IsVersionText text.now v) }
+    ensures fault { IfErr result (λ e. IsOutOfMemory e ⊎ IsFaultOf text.now e) }
+    ensures plain { (v : VersionValue) → IsVersionText text.now v → v.pre_release ≡ []
+        → v.build ≡ [] → IsOk result }
+{
+    match whole(alloc, text.as_bytes()) {
+        Ok(version) => Ok(version),
+        Err(fault) => {
+            let error = refusal(alloc, text, fault);
+            Err(error)
+        }
+    }
+}
+
+// The same, or the fault of the text.
 #[inline(always)]
 fn whole(alloc: Global, text: &[u8]) -> Result<Version, Fault>
     ensures found { IfOk result (λ v. IsVersionText text.now v) }
@@ -77,35 +109,11 @@ fn whole(alloc: Global, text: &[u8]) -> Result<Version, Fault>
         // Told at the last byte.
         return Err(Fault::TooLong(1));
     }
-    match parse::read_full_triple(text) {
-        Some((major, minor, patch)) => Ok(Version::new(alloc, major, minor, patch)),
-        None => whole_in_parts(alloc, text),
-    }
-}
-
-// The same of any text that is no longer.
-#[inline(never)]
-fn whole_in_parts(alloc: Global, text: &[u8]) -> Result<Version, Fault>
-    requires { length text.now ≤ MAX_LENGTH }
-    ensures found { IfOk result (λ v. IsVersionText text.now v) }
-    ensures fault { IfErr result (IsMemoryOr text.now) }
-    ensures plain { (v : VersionValue) → IsVersionText text.now v → v.pre_release ≡ []
-        → v.build ≡ [] → IsOk result }
-{
     match parse::read_version(alloc, text) {
         Ok((version, [])) => Ok(version),
         Ok((_, rest)) => Err(Fault::LeftOver(rest.len())),
         Err(fault) => Err(fault),
     }
-}
-
-// The same as `refusal`. Where nothing is wrong, `parse` then pays nothing for the places of the fault and the error.
-#[inline(always)]
-fn refused(alloc: Global, text: &str, fault: Fault) -> SemverError
-    requires { IsMemoryOr text.now fault }
-    ensures { IsErrorOf text.now fault result }
-{
-    refusal(alloc, text, fault)
 }
 
 // The error that tells a fault of this text.

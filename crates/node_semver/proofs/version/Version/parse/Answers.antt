@@ -1,31 +1,34 @@
-use Rattle.std.proofs.Common.{inl, inr}
-use Rattle.node_semver.proofs.Versions.FaultLemmas.{version-no_fault}
-use Rattle.node_semver.proofs.Versions.OneReading.{one_reading}
-use Rattle.node_semver.proofs.Prints.PrintReading.{version-print_read, version-reads_back}
+use Rattle.std.proofs.Common.{Ok}
+use Rattle.node_semver.proofs.Versions.VersionAnswers.{answer-printed, answer-reads_back, only-answer}
 use Rattle.node_semver.proofs.version.Version.parse.Goals as goal
 
-pub returns-in-Ok-clause-only : goal.returns-in-Ok-clause-only
-returns-in-Ok-clause-only c =
-    λ v h. one_reading c.args.text.now c.in-Ok.version v (rw (← c.as_bytes.ensures.value) c.in-Ok.ensures.found) h
+pub returns-in-Some-clause-found : goal.returns-in-Some-clause-found
+returns-in-Some-clause-found c = rw (c.new.ensures, ← c.as_bytes.ensures.value) c.in-Some.ensures
 
-pub returns-in-Ok-clause-print : goal.returns-in-Ok-clause-print
-returns-in-Ok-clause-print c = version-reads_back _ c.in-Ok.version c.in-Ok.ensures.found
+pub returns-in-Some-clause-only : goal.returns-in-Some-clause-only
+returns-in-Some-clause-only c =
+    only-answer c.args.text.now (Ok c.new.result) (returns-in-Some-clause-found c) tt
 
-pub returns-in-Err-clause-only : goal.returns-in-Err-clause-only
-returns-in-Err-clause-only c = λ v h. elim c.in-Err.ensures.fault [
-  | inl memory ↦ c.refused.ensures.memory memory
-  | inr fault ↦ absurd (version-no_fault _ v _ _ (rw c.as_bytes.ensures.value h) fault)
-]
+pub returns-in-Some-clause-print : goal.returns-in-Some-clause-print
+returns-in-Some-clause-print c =
+    answer-reads_back c.args.text.now (Ok c.new.result) (returns-in-Some-clause-found c)
 
-pub returns-in-Err-clause-plain : goal.returns-in-Err-clause-plain
-returns-in-Err-clause-plain c = λ v h. c.in-Err.ensures.plain v (rw c.as_bytes.ensures.value h)
+pub returns-in-Some-clause-printed : goal.returns-in-Some-clause-printed
+returns-in-Some-clause-printed c =
+    answer-printed c.args.text.now (Ok c.new.result) (returns-in-Some-clause-found c) tt
 
--- ---- a text that is a print
+-- ---- a text that is read in parts
 
-pub returns-in-Ok-clause-printed : goal.returns-in-Ok-clause-printed
-returns-in-Ok-clause-printed c = λ v has print short.
-    returns-in-Ok-clause-only c v (version-print_read _ v has print short)
+pub returns-in-None-clause-only : goal.returns-in-None-clause-only
+returns-in-None-clause-only c =
+    only-answer c.args.text.now c.version_in_parts-answer.result c.version_in_parts-answer.ensures.found
+    c.version_in_parts-answer.ensures.fault
 
-pub returns-in-Err-clause-printed : goal.returns-in-Err-clause-printed
-returns-in-Err-clause-printed c = λ v has print short.
-    returns-in-Err-clause-only c v (version-print_read _ v has print short)
+pub returns-in-None-clause-print : goal.returns-in-None-clause-print
+returns-in-None-clause-print c =
+    answer-reads_back c.args.text.now c.version_in_parts-answer.result c.version_in_parts-answer.ensures.found
+
+pub returns-in-None-clause-printed : goal.returns-in-None-clause-printed
+returns-in-None-clause-printed c =
+    answer-printed c.args.text.now c.version_in_parts-answer.result c.version_in_parts-answer.ensures.found
+    c.version_in_parts-answer.ensures.fault

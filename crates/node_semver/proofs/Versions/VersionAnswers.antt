@@ -1,0 +1,35 @@
+-- What is answered for a version text, by whether it is a version of the text or tells its fault.
+use Rattle.std.proofs.Common.{◌≡◌, ◌≤◌, ◌⊎◌, ℕ, List, length, Ok, Err, inl, inr}
+use Rattle.std.specs.Prelude.{IfErr, IfOk, Result}
+use Rattle.node_semver.specs.Error.{IsOutOfMemory}
+use Rattle.node_semver.specs.Fault.{IsFaultOf}
+use Rattle.node_semver.specs.Print.{version_text}
+use Rattle.node_semver.specs.ReadingBack.{HasText, VersionReadsBack}
+use Rattle.node_semver.specs.Version.{VersionValue}
+use Rattle.node_semver.specs.VersionText.{IsReadAs, IsVersionText}
+use Rattle.node_semver.specs.declared.TheConstants.{MAX_LENGTH}
+use Rattle.node_semver.specs.declared.error.SemverError.{SemverError}
+use Rattle.node_semver.proofs.Prints.PrintReading.{version-print_read, version-reads_back}
+use Rattle.node_semver.proofs.Versions.FaultLemmas.{version-no_fault}
+use Rattle.node_semver.proofs.Versions.OneReading.{one_reading}
+
+-- no other version is the text
+pub only-answer : (text : List ℕ) (answer : Result VersionValue SemverError) → IfOk answer (λ v. IsVersionText text v)
+    → IfErr answer (λ e. IsOutOfMemory e ⊎ IsFaultOf text e) → (v : VersionValue) → IsVersionText text v
+    → IsReadAs v answer
+only-answer text (Ok w) found fault v h = one_reading text w v found h
+only-answer text (Err e) found (inl memory) v h = memory
+only-answer text (Err e) found (inr (kind, offset, fault, refusal)) v h = absurd (version-no_fault text v kind offset h fault)
+
+-- its print is read as it
+pub answer-reads_back : (text : List ℕ) (answer : Result VersionValue SemverError)
+    → IfOk answer (λ v. IsVersionText text v) → IfOk answer VersionReadsBack
+answer-reads_back text (Ok w) found = version-reads_back text w found
+answer-reads_back text (Err e) found = found
+
+-- and a text that is a print is read as the version
+pub answer-printed : (text : List ℕ) (answer : Result VersionValue SemverError) → IfOk answer (λ v. IsVersionText text v)
+    → IfErr answer (λ e. IsOutOfMemory e ⊎ IsFaultOf text e) → (v : VersionValue) → HasText v → version_text v ≡ text
+    → length text ≤ MAX_LENGTH → IsReadAs v answer
+answer-printed text answer found fault v has print short =
+    only-answer text answer found fault v (version-print_read text v has print short)

@@ -66,6 +66,14 @@ impl Searched {
         &self.sets
     }
 
+    // The list with what its sets are joined to.
+    #[inline(always)]
+    pub(crate) fn merged(&self) -> Merged<'_, '_, End>
+        ensures { result.list ≡ self.now }
+    {
+        Merged::with(&self.sets, &self.places)
+    }
+
     // A copy of the list, and of what finds a version in it.
     pub(crate) fn copy(&self) -> Result<Searched, AllocError>
         requires { AllByRecursion IsRangeSet self.now }

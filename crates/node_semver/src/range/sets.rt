@@ -5,6 +5,7 @@ ghost use Rattle.node_semver.specs.RangeSets.{sets_seen};
 use crate::end::End;
 use crate::range::searched::Searched;
 use semver_cuts::Span;
+use semver_cuts::algebra::Merged;
 
 // The sets of a range, at least one. Most ranges have one, which takes no list.
 #[derive(Debug, Drop)]
@@ -21,6 +22,20 @@ impl Sets {
         match self {
             Sets::One(set) => std::slice::from_ref(set),
             Sets::Many(sets) => sets.as_slice(),
+        }
+    }
+
+    // The sets with what they are joined to.
+    #[inline(always)]
+    pub(crate) fn merged(&self) -> Merged<'_, '_, End>
+        ensures { result.list ≡ sets_seen self.now }
+    {
+        match self {
+            Sets::One(set) => {
+                let _ends = set.ends();
+                Merged::itself(std::slice::from_ref(set))
+            }
+            Sets::Many(sets) => sets.merged(),
         }
     }
 }

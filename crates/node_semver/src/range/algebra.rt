@@ -20,7 +20,7 @@ mod gathered;
 use crate::Range;
 pub(crate) use copy::copies_of;
 use gathered::Gathered;
-use semver_cuts::algebra::{common_spans, covers_one, share_cut};
+use semver_cuts::algebra::covers_one;
 use std::alloc::{AllocError, Global};
 
 impl Range {
@@ -69,7 +69,10 @@ impl Range {
         ensures holds { IfOk result (λ answer. IfSome answer IsRangeValue) }
     {
         let mut sets = Gathered::new(alloc);
-        common_spans(self.sets.as_slice(), other.sets.as_slice(), &mut sets)?;
+        other
+            .sets
+            .merged()
+            .common_with(self.sets.as_slice(), &mut sets)?;
         Ok(sets.into_range()?)
     }
 
@@ -92,7 +95,7 @@ impl Range {
         ensures symmetric { IsTrue result ↔ ShareCut version_cmp other.now self.now }
         ensures intersection { IsTrue result ↔ (common_spans version_cmp self.now other.now ≢ []) }
     {
-        share_cut(self.sets.as_slice(), other.sets.as_slice())
+        self.sets.share_cut(&other.sets)
     }
 
     /// Whether one set of `self` has all cuts of one set of `other`.

@@ -1,5 +1,7 @@
 //! The list of the sets of a range.
-ghost use Rattle.std.specs.Prelude.{◌≡◌};
+ghost use Rattle.std.specs.Prelude.{◌≡◌, ◌↔◌, IsTrue};
+ghost use Rattle.semver_cuts.specs.Sharing.{ShareCut};
+ghost use Rattle.node_semver.specs.Comparison.{version_cmp};
 ghost use Rattle.node_semver.specs.RangeSets.{sets_seen};
 
 use crate::end::End;
@@ -36,6 +38,17 @@ impl Sets {
                 Merged::itself(std::slice::from_ref(set))
             }
             Sets::Many(sets) => sets.merged(),
+        }
+    }
+
+    // Whether some cut lies in a set of both. Most often each has one.
+    #[inline(always)]
+    pub(crate) fn share_cut(&self, other: &Sets) -> bool
+        ensures { IsTrue result ↔ ShareCut version_cmp (sets_seen self.now) (sets_seen other.now) }
+    {
+        match (self, other) {
+            (Sets::One(set), Sets::One(other)) => set.shares_cut(other),
+            _ => self.merged().share_cut(&other.merged()),
         }
     }
 }

@@ -2,10 +2,14 @@
 ghost use Rattle.std.specs.Prelude.{◌≡◌, ◌↔◌, IsTrue};
 ghost use Rattle.semver_cuts.specs.Sharing.{ShareCut};
 ghost use Rattle.node_semver.specs.Comparison.{version_cmp};
+ghost use Rattle.node_semver.specs.Meaning.{RangeAdmits};
 ghost use Rattle.node_semver.specs.RangeSets.{sets_seen};
+ghost use Rattle.node_semver.specs.Searching.{IsShortSearch};
 
+use crate::Comparisons;
 use crate::end::End;
 use crate::range::searched::Searched;
+use crate::set::{Asked, admits};
 use semver_cuts::Span;
 use semver_cuts::algebra::Merged;
 
@@ -49,6 +53,18 @@ impl Sets {
         match (self, other) {
             (Sets::One(set), Sets::One(other)) => set.shares_cut(other),
             _ => self.merged().share_cut(&other.merged()),
+        }
+    }
+
+    // Whether one of the sets admits a version.
+    #[inline(always)]
+    pub(crate) fn admits<V: Asked>(&self, version: &V, comparisons: &mut Comparisons) -> bool
+        ensures answer { IsTrue result ↔ RangeAdmits (sets_seen self.now) (V.asked version.now) }
+        ensures short { IsShortSearch (sets_seen self.now) (V.asked version.now) comparisons.old comparisons.new }
+    {
+        match self {
+            Sets::One(set) => admits(set, version, comparisons),
+            Sets::Many(sets) => sets.admits(version, comparisons),
         }
     }
 }

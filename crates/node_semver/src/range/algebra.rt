@@ -42,7 +42,8 @@ impl Range {
     ///
     /// # Memory
     ///
-    /// Takes the identifiers of the answer's ends, and a list where the answer has several sets.
+    /// Takes the identifiers of the answer's ends, and a list where the answer has several sets. Where there are many sets
+    /// and those of `other` do not ascend apart from one another, both lists are put in order too.
     ///
     /// # Examples
     ///
@@ -72,7 +73,7 @@ impl Range {
         other
             .sets
             .merged()
-            .common_with(self.sets.as_slice(), &mut sets)?;
+            .common_with(alloc, self.sets.as_slice(), &mut sets)?;
         Ok(sets.into_range()?)
     }
 

@@ -59,7 +59,9 @@ fn hands_over_what_two_lists_have_in_common(rt: HostRuntime) {
         let mut taken = Taken {
             ends: Vec::new(rt.alloc()),
         };
-        assert!(rt; common_spans(&ones, &others, &mut taken).is_ok());
+        let places = Places::of(rt.alloc(), &others).expect(&rt, "memory");
+        let merged = Merged::with(&others, &places);
+        assert!(rt; merged.common_with(rt.alloc(), &ones, &mut taken).is_ok());
         assert!(rt; taken.ends.len() == common.len());
         for ((lower, upper), (low, high)) in taken.ends.iter().zip(common.iter()) {
             assert!(rt; **lower == Cut::Before(*low) && **upper == Cut::Before(*high));
@@ -93,7 +95,9 @@ fn hands_over_what_one_list_has_and_another_has_not(rt: HostRuntime) {
         let mut taken = Taken {
             ends: Vec::new(rt.alloc()),
         };
-        assert!(rt; rest_spans(rt.alloc(), &ones, &others, &mut taken).is_ok());
+        let places = Places::of(rt.alloc(), &others).expect(&rt, "memory");
+        let merged = Merged::with(&others, &places);
+        assert!(rt; merged.rest_of(&ones, &mut taken).is_ok());
         assert!(rt; taken.ends.len() == rest.len());
         for ((lower, upper), (low, high)) in taken.ends.iter().zip(rest.iter()) {
             assert!(rt; **lower == Cut::Before(*low) && **upper == Cut::Before(*high));
@@ -106,8 +110,12 @@ fn asks_whether_lists_share_and_cover(rt: HostRuntime) {
     for (ones, others, common, covers) in ROWS {
         let ones = spans_of(rt.alloc(), ones).expect(&rt, "memory");
         let others = spans_of(rt.alloc(), others).expect(&rt, "memory");
-        assert!(rt; share_cut(&ones, &others) == !common.is_empty());
-        assert!(rt; share_cut(&others, &ones) == !common.is_empty());
+        let places = Places::of(rt.alloc(), &ones).expect(&rt, "memory");
+        let other_places = Places::of(rt.alloc(), &others).expect(&rt, "memory");
+        let one = Merged::with(&ones, &places);
+        let other = Merged::with(&others, &other_places);
+        assert!(rt; one.share_cut(&other) == !common.is_empty());
+        assert!(rt; other.share_cut(&one) == !common.is_empty());
         assert!(rt; covers_one(&ones, &others) == *covers);
     }
 }
@@ -161,7 +169,7 @@ const COVER_ROWS: &[(&[(u64, u64)], &[(u64, u64)], bool)] = &[
 ];
 
 #[test]
-fn asks_of_merged_lists_whether_they_cover_and_share(rt: HostRuntime) {
+fn asks_of_merged_lists_whether_they_cover(rt: HostRuntime) {
     for (ones, others, covered) in COVER_ROWS {
         let ones = spans_of(rt.alloc(), ones).expect(&rt, "memory");
         let others = spans_of(rt.alloc(), others).expect(&rt, "memory");
@@ -172,7 +180,6 @@ fn asks_of_merged_lists_whether_they_cover_and_share(rt: HostRuntime) {
         let one = Merged::with(ones, &places);
         let other = Merged::with(others, &other_places);
         assert!(rt; one.covers(&other) == *covered);
-        assert!(rt; one.share_cut(&other) == share_cut(ones, others));
         if are_merged(ones) && are_merged(others) {
             assert!(rt; covers(ones, others) == *covered);
         }

@@ -69,6 +69,52 @@ fn hands_over_what_two_lists_have_in_common(rt: HostRuntime) {
     }
 }
 
+// Thirteen spans that begin in any order, and may overlap, repeat and lie in one another: `step` tells the order, and
+// `width` how far each reaches.
+fn long_list(alloc: Global, step: u64, width: u64) -> Result<Vec<Span<u64>>, AllocError> {
+    let mut spans = Vec::new(alloc);
+    for k in 0..13u64 {
+        let low = k.saturating_mul(step) % 13 * 2;
+        let high = low + 1 + k.saturating_mul(width) % 11;
+        if let Some(span) = Span::new(Cut::Before(low), Cut::Before(high)) {
+            spans.push(span)?;
+        }
+    }
+    Ok(spans)
+}
+
+// Descending, ascending and neither; apart, touching, overlapping and nested.
+const LONG_ROWS: &[(u64, u64)] = &[(12, 0), (12, 1), (1, 3), (5, 0), (5, 7), (0, 2), (3, 10)];
+
+#[test]
+fn hands_over_what_long_lists_have_in_common(rt: HostRuntime) {
+    for (step, width) in LONG_ROWS {
+        for (other_step, other_width) in LONG_ROWS {
+            let ones = long_list(rt.alloc(), *step, *width).expect(&rt, "memory");
+            let others = long_list(rt.alloc(), *other_step, *other_width).expect(&rt, "memory");
+            let mut taken = Taken {
+                ends: Vec::new(rt.alloc()),
+            };
+            let places = Places::of(rt.alloc(), &others).expect(&rt, "memory");
+            let merged = Merged::with(&others, &places);
+            assert!(rt; merged.common_with(rt.alloc(), &ones, &mut taken).is_ok());
+            let mut count = 0usize;
+            for one in &ones {
+                for other in &others {
+                    if let Some((lower, upper)) = one.common(other) {
+                        let found = taken.ends.get(count);
+                        assert!(rt;
+                            found.is_some_and(|ends| *ends.0 == *lower && *ends.1 == *upper)
+                        );
+                        count = count.saturating_add(1);
+                    }
+                }
+            }
+            assert!(rt; taken.ends.len() == count);
+        }
+    }
+}
+
 // Two lists, and what the first has and the second has not: others that fall, overlap, touch, ascend apart, and none.
 const REST_ROWS: &[(&[(u64, u64)], &[(u64, u64)], &[(u64, u64)])] = &[
     (&[(1, 9)], &[(5, 6), (2, 3)], &[(1, 2), (3, 5), (6, 9)]),

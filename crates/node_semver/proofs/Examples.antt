@@ -13,4 +13,5 @@ pub mod AlgebraExamples
 pub mod RestExamples
 pub mod LeastExamples
 mod BeyondExamples
+mod SearchExamples
 pub mod TreeExamples

@@ -17,7 +17,6 @@ mod searched;
 mod sets;
 
 use crate::end::End;
-use crate::set::admits;
 use crate::{Comparisons, SemverError, Version};
 pub use equality::ranges_are_equal_where_their_cuts_are;
 pub use greatest::max_satisfying;
@@ -183,10 +182,7 @@ impl Range {
         ensures answer { IsTrue result ↔ RangeAdmits self.now version.now }
         ensures short { IsShortSearch self.now version.now comparisons.old comparisons.new }
     {
-        match &self.sets {
-            Sets::One(set) => admits(set, version, comparisons),
-            Sets::Many(sets) => sets.admits(version, comparisons),
-        }
+        self.sets.admits(version, comparisons)
     }
 
     // The range of one set, which takes no list.

@@ -4,18 +4,60 @@ ghost use Rattle.semver_cuts.specs.declared.cut.Cut.TheVariants.{Before};
 ghost use Rattle.semver_cuts.specs.Ends.{IsCutAtMost};
 ghost use Rattle.node_semver.specs.Comparison.{version_cmp};
 ghost use Rattle.node_semver.specs.Meaning.{HasOpenEnd, IsInside, Opens, SetAdmits};
-ghost use Rattle.node_semver.specs.Version.{IsPrerelease, release};
+ghost use Rattle.node_semver.specs.Version.{IsPrerelease, VersionValue, release};
 
 use crate::end::End;
 use crate::{Comparisons, Version};
 use semver_cuts::{Cut, Span};
 
+// A version that sets are asked for: one that is built, or one that is compared before it is.
+pub(crate) trait Asked {
+    ghost asked: { Self → VersionValue };
+
+    fn is_prerelease(&self) -> bool
+        ensures { IsTrue result ↔ IsPrerelease (asked self.now) };
+
+    fn triple(&self) -> (u64, u64, u64)
+        ensures major { result.0 ≡ (asked self.now).major }
+        ensures minor { result.1 ≡ (asked self.now).minor }
+        ensures patch { result.2 ≡ (asked self.now).patch };
+
+    // Whether the cut is at most the one before the version.
+    fn is_from(&self, cut: &Cut<End>) -> bool
+        ensures { IsTrue result ↔ IsCutAtMost version_cmp cut.now (Before (asked self.now)) };
+}
+
+impl Asked for Version {
+    ghost asked = { λ version. version };
+
+    #[inline(always)]
+    fn is_prerelease(&self) -> bool {
+        !self.pre_release.is_empty()
+    }
+
+    #[inline(always)]
+    fn triple(&self) -> (u64, u64, u64) {
+        (self.major, self.minor, self.patch)
+    }
+
+    #[inline(always)]
+    fn is_from(&self, cut: &Cut<End>) -> bool {
+        match cut {
+            Cut::Start => true,
+            Cut::Before(end) => end.cmp_version(self).is_le(),
+            Cut::After(end) => end.cmp_version(self).is_lt(),
+            Cut::End => false,
+        }
+    }
+}
+
 // Whether the set admits a version.
 #[inline(always)]
-pub(crate) fn admits(set: &Span<End>, version: &Version, comparisons: &mut Comparisons) -> bool
-    ensures answer { IsTrue result ↔ SetAdmits set.now version.now }
+pub(crate) fn admits<V: Asked>(set: &Span<End>, version: &V, comparisons: &mut Comparisons) -> bool
+    ensures answer { IsTrue result ↔ SetAdmits set.now (V.asked version.now) }
     ensures short { comparisons.new ≤ comparisons.old + 2 }
-    ensures unopened { IsPrerelease version.now → ¬ HasOpenEnd version.now set.now → comparisons.new ≡ comparisons.old }
+    ensures unopened { IsPrerelease (V.asked version.now) → ¬ HasOpenEnd (V.asked version.now) set.now
+        → comparisons.new ≡ comparisons.old }
 {
     (!version.is_prerelease() || has_open_end(set, version))
         && has_inside(set, version, comparisons)
@@ -23,8 +65,12 @@ pub(crate) fn admits(set: &Span<End>, version: &Version, comparisons: &mut Compa
 
 // Whether the version lies in the set.
 #[inline(always)]
-pub(crate) fn has_inside(set: &Span<End>, version: &Version, comparisons: &mut Comparisons) -> bool
-    ensures inside { IsTrue result ↔ IsInside version.now set.now }
+pub(crate) fn has_inside<V: Asked>(
+    set: &Span<End>,
+    version: &V,
+    comparisons: &mut Comparisons,
+) -> bool
+    ensures inside { IsTrue result ↔ IsInside (V.asked version.now) set.now }
     ensures short { comparisons.new ≤ comparisons.old + 2 }
 {
     is_begun(set.lower(), version, comparisons) && !is_begun(set.upper(), version, comparisons)
@@ -33,32 +79,20 @@ pub(crate) fn has_inside(set: &Span<End>, version: &Version, comparisons: &mut C
 // Whether the cut is at most the one before the version. Each comparison of a version with a cut is this one, and is
 // counted.
 #[inline(always)]
-pub(crate) fn is_begun(cut: &Cut<End>, version: &Version, comparisons: &mut Comparisons) -> bool
-    ensures begun { IsTrue result ↔ IsCutAtMost version_cmp cut.now (Before version.now) }
+pub(crate) fn is_begun<V: Asked>(cut: &Cut<End>, version: &V, comparisons: &mut Comparisons) -> bool
+    ensures begun { IsTrue result ↔ IsCutAtMost version_cmp cut.now (Before (V.asked version.now)) }
     ensures counted { comparisons.new ≡ comparisons.old + 1 }
 {
     comparisons.add_one();
-    is_at_most(cut, version)
-}
-
-#[inline(always)]
-fn is_at_most(cut: &Cut<End>, version: &Version) -> bool
-    ensures { IsTrue result ↔ IsCutAtMost version_cmp cut.now (Before version.now) }
-{
-    match cut {
-        Cut::Start => true,
-        Cut::Before(end) => end.cmp_version(version).is_le(),
-        Cut::After(end) => end.cmp_version(version).is_lt(),
-        Cut::End => false,
-    }
+    version.is_from(cut)
 }
 
 // Whether a prerelease of the version's triple stands at one of the set's ends.
 #[inline(never)]
-fn has_open_end(set: &Span<End>, version: &Version) -> bool
-    ensures { IsTrue result ↔ HasOpenEnd version.now set.now }
+fn has_open_end<V: Asked>(set: &Span<End>, version: &V) -> bool
+    ensures { IsTrue result ↔ HasOpenEnd (V.asked version.now) set.now }
 {
-    let triple = (version.major, version.minor, version.patch);
+    let triple = version.triple();
     opens(set.lower(), triple) || opens(set.upper(), triple)
 }
 

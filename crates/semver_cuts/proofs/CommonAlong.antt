@@ -19,14 +19,14 @@ use Rattle.semver_cuts.specs.Lemmas.TwoSpans.{common_of-cases}
 use Rattle.semver_cuts.proofs.CommonSpans.{common_with-append}
 
 module _ {T : Type 0} {cmp : T → T → Ordering} (o : IsTotalOrder cmp) (one : Ends T) where
-  nothing : (other : Ends T) → ¬ HaveCommonCut cmp one other → common_of cmp one other ≡ []
+  pub nothing : (other : Ends T) → ¬ HaveCommonCut cmp one other → common_of cmp one other ≡ []
   nothing other apart = common_of-cases o one other (λ spans. spans ≡ []) (λ shared. absurd (apart shared)) (λ none. refl)
 
-  before : (other : Ends T) → IsCutAtMost cmp other.upper one.lower → ¬ HaveCommonCut cmp one other
+  pub before : (other : Ends T) → IsCutAtMost cmp other.upper one.lower → ¬ HaveCommonCut cmp one other
   before other ended shared =
       below-not-at_most o shared.0 other.upper shared.2.upper (at_most_trans o other.upper one.lower shared.0 ended shared.1.lower)
 
-  behind : (other : Ends T) → IsCutAtMost cmp one.upper other.lower → ¬ HaveCommonCut cmp one other
+  pub behind : (other : Ends T) → IsCutAtMost cmp one.upper other.lower → ¬ HaveCommonCut cmp one other
   behind other begins shared =
       below-not-at_most o shared.0 one.upper shared.1.upper (at_most_trans o one.upper other.lower shared.0 begins shared.2.lower)
 

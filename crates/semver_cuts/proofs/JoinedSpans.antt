@@ -1,23 +1,21 @@
 -- What the spans of a list are joined to: apart, with their cuts, and of equal ends the first of the list.
-use Rattle.std.proofs.Common.{◌≡◌, ◌↔◌, ℕ, ◌+◌, ◌≤◌, suc, List, [], ◌∷◌, ◌++◌, map, Ordering, Equal, Bool, false, refl, sym, ap, subst, ◌∙◌, inl, inr, arith, add-one}
+use Rattle.std.proofs.Common.{◌≡◌, ◌↔◌, ℕ, ◌+◌, ◌≤◌, suc, List, [], ◌∷◌, map, Ordering, Equal, Bool, false, refl, sym, ap, subst, ◌∙◌, inl, inr, arith, add-one}
 use Rattle.std.specs.List.{AllByRecursion}
 use Rattle.std.specs.List.Sorted.{IsPermutation, IsSorted, IsSortedBy}
 use Rattle.std.specs.Ordering.{is_lt}
 use Rattle.std.specs.Cmp.{IsStrictWeakOrder, IsTotalOrder}
-use Rattle.std.proofs.lemmas.List.{append_assoc}
 use Rattle.std.proofs.lemmas.List.Elements.{All-from_recursion, recursion_from_All}
 use Rattle.std.proofs.lemmas.List.Sorted.{All-permutation, IsPermutation-sym, ranks_by, sorted_far}
 use Rattle.semver_cuts.specs.declared.cut.Cut.{Cut}
 use Rattle.semver_cuts.specs.Cut.{cut_cmp}
-use Rattle.semver_cuts.specs.Common.{AreApart, IsInSome}
+use Rattle.semver_cuts.specs.Common.{IsInSome}
 use Rattle.semver_cuts.specs.Ends.{Ends, IsCutBelow, IsInSpan}
 use Rattle.semver_cuts.specs.Rest.{IsFirstAt}
 use Rattle.semver_cuts.specs.Joined.{AreJoined, AreRising}
 use Rattle.semver_cuts.specs.Private.Joining.{joined_in_order}
 use Rattle.semver_cuts.specs.Private.Placed.{PlacedSpan, placed_cmp, placed_from}
 use Rattle.semver_cuts.specs.Lemmas.Joined.{all_unit}
-use Rattle.semver_cuts.specs.Lemmas.Ends.{below-not-at_most, below_trans, cut_cmp-equal_back}
-use Rattle.semver_cuts.specs.Lemmas.Merging.{all_both, all_map, all_middle}
+use Rattle.semver_cuts.specs.Lemmas.Merging.{all_map}
 use Rattle.semver_cuts.specs.Lemmas.Placed.{placed_total}
 use Rattle.semver_cuts.proofs.PlacedOrder.{AreInOrder, IsAmong, all-among}
 use Rattle.semver_cuts.proofs.Joining.{IsFirstPlaced, entries-from, new-run}
@@ -59,7 +57,7 @@ module _ {T : Type 0} {cmp : T → T → Ordering} (o : IsTotalOrder cmp) where
   some-moved ps qs moves cut is =
       let h = some-among qs cut is in among-some ps cut h.0 (among-moved ps qs moves h.0 h.1) h.2
 
-  map-placed : (n : ℕ) (spans : List (Ends T)) → map (λ (p : PlacedSpan T). p.span) (placed_from n spans) ≡ spans
+  pub map-placed : (n : ℕ) (spans : List (Ends T)) → map (λ (p : PlacedSpan T). p.span) (placed_from n spans) ≡ spans
   map-placed n [] = refl
   map-placed n (span ∷ spans) = ap (λ l. span ∷ l) (map-placed (n + 1) spans)
 
@@ -121,6 +119,10 @@ module _ {T : Type 0} {cmp : T → T → Ordering} (o : IsTotalOrder cmp) where
         (λ k d h. sorted_far before weak (p ∷ ps) up 0 (suc k) d (omega arith) (omega arith)),
     in-order ps (sorted-tail p ps up),
   )
+
+  pub sorted-order : (ps : List (PlacedSpan T)) → IsSorted (placed_cmp cmp) ps → AreInOrder cmp ps
+  unfolding before
+  sorted-order ps up = in-order ps up
 
   -- ---- the spans of a list, sorted and joined
 

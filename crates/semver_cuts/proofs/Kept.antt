@@ -8,7 +8,7 @@ use Rattle.std.proofs.lemmas.List.{append_assoc, drop-map, drop_more, get_or_at,
 use Rattle.semver_cuts.specs.declared.cut.Cut.{Cut}
 use Rattle.semver_cuts.specs.declared.cut.Cut.TheVariants.{Start, End}
 use Rattle.semver_cuts.specs.Cut.{cut_cmp}
-use Rattle.semver_cuts.specs.Common.{AreApart, IsInSome}
+use Rattle.semver_cuts.specs.Common.{AreApart}
 use Rattle.semver_cuts.specs.Ends.{Ends, IsCutBelow, span_between}
 use Rattle.semver_cuts.specs.Joined.{AreJoined, AreMerged, AreRising}
 use Rattle.semver_cuts.specs.Places.{AreWithin, IsPlacesOf, merged_spans, span_at, span_of_places}
@@ -25,7 +25,7 @@ use Rattle.semver_cuts.proofs.Walks.{first-cut, merged-behind}
 abbrev pub IsPlaced : {T : Type 0} → List (Ends T) → PlacedSpan T → Type 0
 IsPlaced spans p = (p.place < length spans) × (span_at spans p.place ≡ p.span)
 
-placed-in : {T : Type 0} (front spans : List (Ends T)) (n : ℕ) → length front ≡ n
+pub placed-in : {T : Type 0} (front spans : List (Ends T)) (n : ℕ) → length front ≡ n
     → AllByRecursion (IsPlaced (front ++ spans)) (placed_from n spans)
 placed-in front [] n e = tt
 placed-in front (span ∷ spans) n e =

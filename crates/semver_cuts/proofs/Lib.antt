@@ -6,10 +6,13 @@ pub mod Near
 pub mod Parts
 pub mod Pieces
 pub mod PlacedOrder
+pub mod AscendingLists
 pub mod Joining
 pub mod JoinedSpans
 pub mod Walks
 pub mod Kept
+pub mod MeetingPairs
+pub mod Meeting
 pub mod Starts
 pub mod StartsCounted
 pub mod MergedLists

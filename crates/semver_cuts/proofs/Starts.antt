@@ -1,19 +1,17 @@
 -- At each cut of a list a joined span begins, or a span of the list reaches it from below.
-use Rattle.std.proofs.Common.{◌≡◌, ◌⊎◌, ℕ, ◌+◌, List, [], ◌∷◌, ◌++◌, Bool, true, false, not, ◌&&◌, ◌||◌, if◌then◌else◌, Ordering, Less, Equal, Greater, length, refl, sym, ap, subst, ◌∙◌, inl, inr, ⊎_elim, arith}
+use Rattle.std.proofs.Common.{◌≡◌, ◌⊎◌, List, [], ◌∷◌, Bool, true, false, not, ◌&&◌, ◌||◌, Ordering, Less, Equal, Greater, refl, sym, ap, ◌∙◌, inl, inr, ⊎_elim}
 use mathlib.Core.Bool.{true≢false}
 use Rattle.std.specs.List.{AllByRecursion}
 use Rattle.std.specs.Ordering.{is_eq, is_le, is_lt}
 use Rattle.std.specs.Cmp.{Equal-is, IsTotalOrder}
-use Rattle.std.proofs.lemmas.List.{append-nil, append_assoc}
 use Rattle.semver_cuts.specs.declared.cut.Cut.{Cut}
 use Rattle.semver_cuts.specs.Cut.{cut_cmp}
 use Rattle.semver_cuts.specs.Common.{IsInSome}
-use Rattle.semver_cuts.specs.Ends.{Ends, IsCutAtMost, IsCutBelow, IsInSpan}
+use Rattle.semver_cuts.specs.Ends.{Ends, IsCutAtMost, IsCutBelow}
 use Rattle.semver_cuts.specs.Joined.{AreJoined, AreMerged, AreRising}
-use Rattle.semver_cuts.specs.Rest.{IsFirstAt}
-use Rattle.semver_cuts.specs.Starts.{begins_at, count_of_starts, count_of_starts_from, reaches}
+use Rattle.semver_cuts.specs.Starts.{begins_at, reaches}
 use Rattle.semver_cuts.specs.Lemmas.Apart.{apart-above, apart-tail}
-use Rattle.semver_cuts.specs.Lemmas.Ends.{at_most-below, at_most-from_le, at_most-or-below, at_most_refl, at_most_trans, below-at_most, below-from_lt, below-not-at_most, below_irrefl, below_trans, cut_cmp-equal_back, cut_cmp-equal_right, cut_cmp-refl, le-from_at_most, lt-from_below}
+use Rattle.semver_cuts.specs.Lemmas.Ends.{at_most-below, at_most-from_le, at_most-or-below, at_most_refl, at_most_trans, below-at_most, below-from_lt, below-not-at_most, below_irrefl, below_trans, cut_cmp-equal_back, le-from_at_most, lt-from_below}
 use Rattle.semver_cuts.specs.Lemmas.InSome.{in_span-or_not}
 use Rattle.semver_cuts.proofs.Walks.{all-from_first, first-cut, later-above}
 

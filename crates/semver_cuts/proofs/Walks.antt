@@ -1,18 +1,17 @@
 -- Along two lists of merged spans: which of two stands past the other, and what is left to ask.
-use Rattle.std.proofs.Common.{◌≡◌, ◌⊎◌, ◌↔◌, ℕ, ◌+◌, ◌<◌, ◌≤◌, List, [], ◌∷◌, ◌++◌, Ordering, Equal, Bool, IsTrue, get_or, take, drop, length, refl, sym, ap, subst, ◌∙◌, inl, inr, ⊎_elim, arith}
+use Rattle.std.proofs.Common.{◌≡◌, ◌⊎◌, ◌↔◌, ℕ, ◌+◌, ◌<◌, ◌≤◌, List, [], ◌∷◌, ◌++◌, Ordering, Bool, IsTrue, get_or, take, drop, length, sym, ap, subst, ◌∙◌, inl, inr, ⊎_elim, arith}
 use Rattle.std.specs.List.{AllByRecursion}
 use Rattle.std.specs.Cmp.{IsTotalOrder}
 use Rattle.std.proofs.lemmas.List.{drop_all, drop_more, take-append-drop}
 use Rattle.semver_cuts.specs.declared.cut.Cut.{Cut}
 use Rattle.semver_cuts.specs.declared.cut.Cut.TheVariants.{Start, End}
-use Rattle.semver_cuts.specs.Cut.{cut_cmp}
 use Rattle.semver_cuts.specs.Common.{AreApart, IsInSome, IsWithin}
 use Rattle.semver_cuts.specs.Ends.{Ends, IsCutAtMost, IsCutBelow, IsInSpan, span_between}
-use Rattle.semver_cuts.specs.Joined.{AreJoined, AreMerged, AreRising, AreSameSpans}
+use Rattle.semver_cuts.specs.Joined.{AreJoined, AreMerged, AreRising}
 use Rattle.semver_cuts.specs.Places.{span_at}
 use Rattle.semver_cuts.specs.Sharing.{CoversAll, ShareCut}
-use Rattle.semver_cuts.specs.Lemmas.Apart.{apart-above, apart-behind, apart-tail, rising-behind}
-use Rattle.semver_cuts.specs.Lemmas.Ends.{at_most-below, at_most-or-below, at_most_refl, at_most_trans, below-at_most, below-not-at_most, below_irrefl, below_trans}
+use Rattle.semver_cuts.specs.Lemmas.Apart.{apart-above, apart-behind, rising-behind}
+use Rattle.semver_cuts.specs.Lemmas.Ends.{at_most-or-below, at_most_refl, at_most_trans, below-at_most, below-not-at_most, below_trans}
 
 module _ {T : Type 0} (cmp : T → T → Ordering) where
   -- what stands at a place and behind it is merged

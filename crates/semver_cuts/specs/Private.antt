@@ -6,5 +6,7 @@ pub mod Merging
 pub mod Placed
 -- how these are joined
 pub mod Joining
--- the pieces of a span, found along such spans
+-- which spans of two lists meet, found along both in this order
+pub mod Meeting
+-- the pieces of a span, found along spans that are apart
 pub mod Rest

@@ -5,6 +5,7 @@ ghost use Rattle.semver_cuts.specs.Ends.{Ends, IsCutBelow, span_between};
 mod ask;
 mod common;
 mod joined;
+mod meeting;
 mod merged;
 mod near;
 mod placed;
@@ -15,12 +16,10 @@ mod tests;
 mod walks;
 
 use crate::Cut;
-pub use ask::{covers_one, share_cut};
-pub use common::common_spans;
+pub use ask::covers_one;
 pub use joined::join;
 pub use merged::Merged;
 pub use places::{Places, are_merged};
-pub use rest::rest_spans;
 use std::alloc::AllocError;
 pub use walks::covers;
 

@@ -105,9 +105,13 @@ impl<T: Ord> Span<T> {
         &self.upper
     }
 
-    // Both ends, of which the lower is less.
+    /// Both ends, of which the lower is less than the upper.
+    ///
+    /// # Memory
+    ///
+    /// Takes none.
     #[inline]
-    pub(crate) fn ends(&self) -> (&Cut<T>, &Cut<T>)
+    pub fn ends(&self) -> (&Cut<T>, &Cut<T>)
         ensures ends { self.now ≡ span_between result.0.now result.1.now }
         ensures rising { IsCutBelow T.cmp result.0.now result.1.now }
     {

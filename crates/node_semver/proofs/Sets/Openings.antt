@@ -21,11 +21,11 @@ use Rattle.semver_cuts.specs.Starts.{count_of_starts}
 use Rattle.semver_cuts.specs.Lemmas.Ends.{cut_cmp-refl}
 use Rattle.node_semver.specs.Comparison.{version_cmp}
 use Rattle.node_semver.specs.IdentifierValue.{IdentifierValue}
-use Rattle.node_semver.specs.Meaning.{HasOpenEnd, IsInside, Opens, RangeAdmits, SetAdmits}
+use Rattle.node_semver.specs.Meaning.{HasOpenEnd, IsInside, Opens, RangeAdmits}
 use Rattle.node_semver.specs.Lemmas.Order.{version_total}
 use Rattle.node_semver.specs.Searching.{IsShortSearch, count_of_opening, has_identifiers, has_open_end, has_same_triple, opens}
 use Rattle.node_semver.specs.Version.{HasSameTriple, IsPrerelease, VersionValue}
-use Rattle.node_semver.specs.Private.SearchViews.{is_opening_of, opened_triple, opening_at, openings_from, openings_of, other_than, places_opening, same_triples, triple_at, triple_of}
+use Rattle.node_semver.specs.Private.SearchViews.{is_opening_of, opening_at, openings_from, openings_of, other_than, places_opening, same_triples, triple_at, triple_of}
 use Rattle.node_semver.specs.declared.range.opened.Opening.{Opening}
 use Rattle.node_semver.specs.declared.range.opened.Triple.{Triple}
 use Rattle.node_semver.proofs.Sets.SomeElement.{all-at}

@@ -20,7 +20,7 @@ mod gathered;
 use crate::Range;
 pub(crate) use copy::copies_of;
 use gathered::Gathered;
-use semver_cuts::algebra::{common_spans, covers_one, share_cut};
+use semver_cuts::algebra::covers_one;
 use std::alloc::{AllocError, Global};
 
 impl Range {
@@ -42,7 +42,8 @@ impl Range {
     ///
     /// # Memory
     ///
-    /// Takes the identifiers of the answer's ends, and a list where the answer has several sets.
+    /// Takes the identifiers of the answer's ends, and a list where the answer has several sets. Where there are many sets
+    /// and those of `other` do not ascend apart from one another, both lists are put in order too.
     ///
     /// # Examples
     ///
@@ -69,7 +70,10 @@ impl Range {
         ensures holds { IfOk result (λ answer. IfSome answer IsRangeValue) }
     {
         let mut sets = Gathered::new(alloc);
-        common_spans(self.sets.as_slice(), other.sets.as_slice(), &mut sets)?;
+        other
+            .sets
+            .merged()
+            .common_with(alloc, self.sets.as_slice(), &mut sets)?;
         Ok(sets.into_range()?)
     }
 
@@ -92,7 +96,7 @@ impl Range {
         ensures symmetric { IsTrue result ↔ ShareCut version_cmp other.now self.now }
         ensures intersection { IsTrue result ↔ (common_spans version_cmp self.now other.now ≢ []) }
     {
-        share_cut(self.sets.as_slice(), other.sets.as_slice())
+        self.sets.share_cut(&other.sets)
     }
 
     /// Whether one set of `self` has all cuts of one set of `other`.

@@ -11,11 +11,11 @@ ghost use Rattle.node_semver.specs.RangeSets.{IsRangeSet};
 ghost use Rattle.node_semver.specs.Searching.{HasDigits, IsShortSearch};
 ghost use Rattle.node_semver.specs.Private.SearchViews.{AreOpeningsOf};
 
+use crate::Comparisons;
 use crate::end::End;
 use crate::range::algebra::copies_of;
 use crate::range::opened::{Opening, Triple, openings, openings_at};
-use crate::set::{has_inside, is_begun};
-use crate::{Comparisons, Version};
+use crate::set::{Asked, has_inside, is_begun};
 use semver_cuts::Span;
 use semver_cuts::algebra::{Merged, Places};
 use std::alloc::{AllocError, Global};
@@ -66,6 +66,14 @@ impl Searched {
         &self.sets
     }
 
+    // The list with what its sets are joined to.
+    #[inline(always)]
+    pub(crate) fn merged(&self) -> Merged<'_, '_, End>
+        ensures { result.list ≡ self.now }
+    {
+        Merged::with(&self.sets, &self.places)
+    }
+
     // A copy of the list, and of what finds a version in it.
     pub(crate) fn copy(&self) -> Result<Searched, AllocError>
         requires { AllByRecursion IsRangeSet self.now }
@@ -84,21 +92,18 @@ impl Searched {
     // Whether one of the sets admits a version: a release is looked for among the merged spans, and a prerelease in the
     // sets with an end that opens its triple.
     #[inline(never)]
-    pub(crate) fn admits(&self, version: &Version, comparisons: &mut Comparisons) -> bool
-        ensures answer { IsTrue result ↔ RangeAdmits self.now version.now }
-        ensures short { IsShortSearch self.now version.now comparisons.old comparisons.new }
+    pub(crate) fn admits<V: Asked>(&self, version: &V, comparisons: &mut Comparisons) -> bool
+        ensures answer { IsTrue result ↔ RangeAdmits self.now (V.asked version.now) }
+        ensures short { IsShortSearch self.now (V.asked version.now) comparisons.old comparisons.new }
     {
         if !version.is_prerelease() {
-            return is_in_some(
-                &Merged::with(&self.sets, &self.places),
-                version,
-                comparisons,
-            );
+            return is_in_some(&self.merged(), version, comparisons);
         }
+        let (major, minor, patch) = version.triple();
         let triple = Triple {
-            major: version.major,
-            minor: version.minor,
-            patch: version.patch,
+            major,
+            minor,
+            patch,
         };
         let openings = openings_at(&self.openings, triple);
         is_in_opened(&self.sets, openings, version, comparisons)
@@ -107,8 +112,12 @@ impl Searched {
 
 // Whether a version lies in one of the spans, found by halving: among the merged spans it lies in the last that begins
 // before it, or in none.
-fn is_in_some(spans: &Merged<'_, '_, End>, version: &Version, comparisons: &mut Comparisons) -> bool
-    ensures inside { IsTrue result ↔ IsInSome version_cmp spans.now.list (Before version.now) }
+fn is_in_some<V: Asked>(
+    spans: &Merged<'_, '_, End>,
+    version: &V,
+    comparisons: &mut Comparisons,
+) -> bool
+    ensures inside { IsTrue result ↔ IsInSome version_cmp spans.now.list (Before (V.asked version.now)) }
     ensures short { (digits : ℕ) → HasDigits (count_of_starts version_cmp spans.now.list) digits →
         comparisons.new ≤ comparisons.old + digits + 1 }
 {
@@ -131,14 +140,15 @@ fn is_in_some(spans: &Merged<'_, '_, End>, version: &Version, comparisons: &mut 
 }
 
 // Whether a version lies in a set at one of the places.
-fn is_in_opened(
+fn is_in_opened<V: Asked>(
     sets: &[Span<End>],
     openings: &[Opening],
-    version: &Version,
+    version: &V,
     comparisons: &mut Comparisons,
 ) -> bool
     requires { AllByRecursion (λ o. o.place < length sets.now) openings.now }
-    ensures inside { IsTrue result ↔ AnyByRecursion (λ o. IsInside version.now (span_at sets.now o.place)) openings.now }
+    ensures inside { IsTrue result
+        ↔ AnyByRecursion (λ o. IsInside (V.asked version.now) (span_at sets.now o.place)) openings.now }
     ensures short { comparisons.new ≤ comparisons.old + 2 * length openings.now }
 {
     'openings: for opening in openings {

@@ -118,7 +118,7 @@ pub fn are_merged<T: Ord>(spans: &[Span<T>]) -> bool
 }
 
 // Whether each span ends below where the next one begins.
-pub(crate) fn are_apart<T: Ord>(spans: &[Span<T>]) -> bool
+fn are_apart<T: Ord>(spans: &[Span<T>]) -> bool
     ensures apart { IsTrue result ↔ AreApart T.cmp spans.now }
     ensures rising { IsTrue result → AreRising T.cmp spans.now }
 {

@@ -7,46 +7,17 @@ ghost use Rattle.semver_cuts.specs.Private.Rest.{pieces_of};
 use crate::Span;
 use crate::algebra::Gather;
 use crate::algebra::merged::Merged;
-use crate::algebra::places::Places;
-use std::alloc::{AllocError, Global};
-
-/// Hands over what each span of one list has and no span of the other has: its greatest pieces, in ascending order.
-///
-/// A cut lies in one of the pieces of a span exactly where it lies in the span and in none of `others`, and no two
-/// pieces of a span touch. The pieces of an earlier span come first, those of one span lowest first. A span that has no
-/// cut in common with `others` is its own piece, and one whose cuts all lie in `others` has none.
-///
-/// A piece begins and ends where its span does, or at an end of one of `others`. Where several of `others` end or begin
-/// at that cut, the end is that of the first of them.
-///
-/// # Errors
-///
-/// Fails where a request for memory is refused, or where `into` fails.
-///
-/// # Memory
-///
-/// Takes none beside what `into` takes where the spans of `others` stand in ascending order apart from one another, as
-/// one span always does. Else it takes the places of what `others` are joined to. [`Merged::rest_of`] is for places that
-/// are kept.
-///
-/// # Examples
-///
-/// Of 1 to 9 less 5 to 6 and 2 to 3 stay 1 to 2, 3 to 5 and 6 to 9. Of 1 to 9 less 0 to 5 and 5 to 9 nothing stays.
-pub fn rest_spans<'a, T: Ord, S: Gather<'a, T>>(
-    alloc: Global,
-    ones: &'a [Span<T>],
-    others: &'a [Span<T>],
-    into: &mut S,
-) -> Result<(), AllocError>
-    ensures rest { OnOk result ((rest : List (Ends T)) × AreRestSpans T.cmp ones.now others.now rest
-        × (S.gathered into.new ≡ S.gathered into.old ++ rest)) }
-{
-    let places = Places::of(alloc, others)?;
-    Merged::with(others, &places).rest_of(ones, into)
-}
+use std::alloc::AllocError;
 
 impl<'a, 'p, T: Ord> Merged<'a, 'p, T> {
-    /// Hands over what each span of a list has and no span of this one has, as [`rest_spans`] does.
+    /// Hands over what each span of a list has and no span of this one has: its greatest pieces, in ascending order.
+    ///
+    /// A cut lies in one of the pieces of a span exactly where it lies in the span and in none of this list, and no two
+    /// pieces of a span touch. The pieces of an earlier span come first, those of one span lowest first. A span that has
+    /// no cut in common with this list is its own piece, and one whose cuts all lie in this list has none.
+    ///
+    /// A piece begins and ends where its span does, or at an end of a span of this list. Where several of these end or
+    /// begin at that cut, the end is that of the first of them.
     ///
     /// # Errors
     ///
@@ -55,6 +26,10 @@ impl<'a, 'p, T: Ord> Merged<'a, 'p, T> {
     /// # Memory
     ///
     /// Takes none beside what `into` takes.
+    ///
+    /// # Examples
+    ///
+    /// Of 1 to 9 less 5 to 6 and 2 to 3 stay 1 to 2, 3 to 5 and 6 to 9. Of 1 to 9 less 0 to 5 and 5 to 9 nothing stays.
     pub fn rest_of<S: Gather<'a, T>>(
         &self,
         ones: &'a [Span<T>],

@@ -59,10 +59,58 @@ fn hands_over_what_two_lists_have_in_common(rt: HostRuntime) {
         let mut taken = Taken {
             ends: Vec::new(rt.alloc()),
         };
-        assert!(rt; common_spans(&ones, &others, &mut taken).is_ok());
+        let places = Places::of(rt.alloc(), &others).expect(&rt, "memory");
+        let merged = Merged::with(&others, &places);
+        assert!(rt; merged.common_with(rt.alloc(), &ones, &mut taken).is_ok());
         assert!(rt; taken.ends.len() == common.len());
         for ((lower, upper), (low, high)) in taken.ends.iter().zip(common.iter()) {
             assert!(rt; **lower == Cut::Before(*low) && **upper == Cut::Before(*high));
+        }
+    }
+}
+
+// Thirteen spans that begin in any order, and may overlap, repeat and lie in one another: `step` tells the order, and
+// `width` how far each reaches.
+fn long_list(alloc: Global, step: u64, width: u64) -> Result<Vec<Span<u64>>, AllocError> {
+    let mut spans = Vec::new(alloc);
+    for k in 0..13u64 {
+        let low = k.saturating_mul(step) % 13 * 2;
+        let high = low + 1 + k.saturating_mul(width) % 11;
+        if let Some(span) = Span::new(Cut::Before(low), Cut::Before(high)) {
+            spans.push(span)?;
+        }
+    }
+    Ok(spans)
+}
+
+// Descending, ascending and neither; apart, touching, overlapping and nested.
+const LONG_ROWS: &[(u64, u64)] = &[(12, 0), (12, 1), (1, 3), (5, 0), (5, 7), (0, 2), (3, 10)];
+
+#[test]
+fn hands_over_what_long_lists_have_in_common(rt: HostRuntime) {
+    for (step, width) in LONG_ROWS {
+        for (other_step, other_width) in LONG_ROWS {
+            let ones = long_list(rt.alloc(), *step, *width).expect(&rt, "memory");
+            let others = long_list(rt.alloc(), *other_step, *other_width).expect(&rt, "memory");
+            let mut taken = Taken {
+                ends: Vec::new(rt.alloc()),
+            };
+            let places = Places::of(rt.alloc(), &others).expect(&rt, "memory");
+            let merged = Merged::with(&others, &places);
+            assert!(rt; merged.common_with(rt.alloc(), &ones, &mut taken).is_ok());
+            let mut count = 0usize;
+            for one in &ones {
+                for other in &others {
+                    if let Some((lower, upper)) = one.common(other) {
+                        let found = taken.ends.get(count);
+                        assert!(rt;
+                            found.is_some_and(|ends| *ends.0 == *lower && *ends.1 == *upper)
+                        );
+                        count = count.saturating_add(1);
+                    }
+                }
+            }
+            assert!(rt; taken.ends.len() == count);
         }
     }
 }
@@ -93,7 +141,9 @@ fn hands_over_what_one_list_has_and_another_has_not(rt: HostRuntime) {
         let mut taken = Taken {
             ends: Vec::new(rt.alloc()),
         };
-        assert!(rt; rest_spans(rt.alloc(), &ones, &others, &mut taken).is_ok());
+        let places = Places::of(rt.alloc(), &others).expect(&rt, "memory");
+        let merged = Merged::with(&others, &places);
+        assert!(rt; merged.rest_of(&ones, &mut taken).is_ok());
         assert!(rt; taken.ends.len() == rest.len());
         for ((lower, upper), (low, high)) in taken.ends.iter().zip(rest.iter()) {
             assert!(rt; **lower == Cut::Before(*low) && **upper == Cut::Before(*high));
@@ -106,8 +156,12 @@ fn asks_whether_lists_share_and_cover(rt: HostRuntime) {
     for (ones, others, common, covers) in ROWS {
         let ones = spans_of(rt.alloc(), ones).expect(&rt, "memory");
         let others = spans_of(rt.alloc(), others).expect(&rt, "memory");
-        assert!(rt; share_cut(&ones, &others) == !common.is_empty());
-        assert!(rt; share_cut(&others, &ones) == !common.is_empty());
+        let places = Places::of(rt.alloc(), &ones).expect(&rt, "memory");
+        let other_places = Places::of(rt.alloc(), &others).expect(&rt, "memory");
+        let one = Merged::with(&ones, &places);
+        let other = Merged::with(&others, &other_places);
+        assert!(rt; one.share_cut(&other) == !common.is_empty());
+        assert!(rt; other.share_cut(&one) == !common.is_empty());
         assert!(rt; covers_one(&ones, &others) == *covers);
     }
 }
@@ -161,7 +215,7 @@ const COVER_ROWS: &[(&[(u64, u64)], &[(u64, u64)], bool)] = &[
 ];
 
 #[test]
-fn asks_of_merged_lists_whether_they_cover_and_share(rt: HostRuntime) {
+fn asks_of_merged_lists_whether_they_cover(rt: HostRuntime) {
     for (ones, others, covered) in COVER_ROWS {
         let ones = spans_of(rt.alloc(), ones).expect(&rt, "memory");
         let others = spans_of(rt.alloc(), others).expect(&rt, "memory");
@@ -172,7 +226,6 @@ fn asks_of_merged_lists_whether_they_cover_and_share(rt: HostRuntime) {
         let one = Merged::with(ones, &places);
         let other = Merged::with(others, &other_places);
         assert!(rt; one.covers(&other) == *covered);
-        assert!(rt; one.share_cut(&other) == share_cut(ones, others));
         if are_merged(ones) && are_merged(others) {
             assert!(rt; covers(ones, others) == *covered);
         }

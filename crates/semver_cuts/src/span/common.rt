@@ -97,9 +97,20 @@ impl<T: Ord> Span<T> {
         }
     }
 
-    // Whether some cut lies in both spans.
+    /// Whether some cut lies in both spans.
+    ///
+    /// `a.shares_cut(&b)` is `b.shares_cut(&a)`, and true exactly where [`Span::common`] is not `None`.
+    ///
+    /// # Memory
+    ///
+    /// Takes none.
+    ///
+    /// # Examples
+    ///
+    /// `Before(1)` up to `Before(3)` shares one with `After(1)` up to `Before(5)`, and none with `Before(3)` up to
+    /// `Before(5)`.
     #[inline(always)]
-    pub(crate) fn shares_cut(&self, other: &Span<T>) -> bool
+    pub fn shares_cut(&self, other: &Span<T>) -> bool
         ensures { IsTrue result ↔ HaveCommonCut T.cmp self.now other.now }
     {
         self.lower < other.upper && other.lower < self.upper

@@ -13,7 +13,6 @@ ghost use Rattle.node_semver.specs.Version.{IsPrerelease, VersionValue};
 
 use crate::Range;
 use crate::range::algebra::gathered::Gathered;
-use semver_cuts::algebra::rest_spans;
 use std::alloc::{AllocError, Global};
 
 impl Range {
@@ -35,8 +34,7 @@ impl Range {
     ///
     /// # Memory
     ///
-    /// Takes the identifiers of the answer's ends, and a list where the answer has several sets. Where the sets of
-    /// `other` do not ascend apart from one another, their order is put down too.
+    /// Takes the identifiers of the answer's ends, and a list where the answer has several sets.
     ///
     /// # Examples
     ///
@@ -60,12 +58,10 @@ impl Range {
         ensures holds { IfOk result (λ answer. IfSome answer IsRangeValue) }
     {
         let mut sets = Gathered::new(alloc);
-        rest_spans(
-            alloc,
-            self.sets.as_slice(),
-            other.sets.as_slice(),
-            &mut sets,
-        )?;
+        other
+            .sets
+            .merged()
+            .rest_of(self.sets.as_slice(), &mut sets)?;
         Ok(sets.into_range()?)
     }
 }

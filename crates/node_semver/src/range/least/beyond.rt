@@ -8,7 +8,8 @@ ghost use Rattle.node_semver.specs.RangeSets.{IsRangeSet, IsReadCut, IsReadVersi
 
 use crate::end::End;
 use crate::range::least::unbuilt::Unbuilt;
-use crate::{Range, Version};
+use crate::set::admits;
+use crate::{Comparisons, Range, Version};
 use semver_cuts::{Cut, Span};
 use std::alloc::{AllocError, Global};
 
@@ -177,7 +178,7 @@ fn lesser_opened<'a>(
 {
     match least_opened(set.upper()) {
         Some(least) => {
-            if least.is_admitted(set) {
+            if admits(set, &least, &mut Comparisons::new()) {
                 lesser(best, least, range, other)
             } else {
                 best

@@ -12,10 +12,10 @@ use Rattle.node_semver.proofs.range.Range.difference.Goals as goal
 
 pub into_range-requires : goal.into_range-requires
 into_range-requires c =
-    let rest : AreRestSpans version_cmp c.args.self.now c.args.other.now c.rest_spans.new.into = search rules in
+    let rest : AreRestSpans version_cmp c.args.self.now c.args.other.now c.rest_of.new.into = search rules in
     let ones : IsRangeValue c.args.self.now = subst IsRangeValue c.self.view_is c.self.invariant in
     let others : IsRangeValue c.args.other.now = subst IsRangeValue c.other.view_is c.other.invariant in
-    rest-bounded c.args.self.now c.args.other.now c.rest_spans.new.into rest ones.each others.each
+    rest-bounded c.args.self.now c.args.other.now c.rest_of.new.into rest ones.each others.each
 
 pub returns-clause-cuts : goal.returns-clause-cuts
 returns-clause-cuts c =

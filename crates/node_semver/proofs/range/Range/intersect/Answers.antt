@@ -14,7 +14,7 @@ use Rattle.node_semver.proofs.range.Range.intersect.Goals as goal
 
 pub into_range-requires : goal.into_range-requires
 into_range-requires c =
-    let common : c.common_spans.new.into ≡ common_spans version_cmp c.args.self.now c.args.other.now = search rules in
+    let common : c.common_with.new.into ≡ common_spans version_cmp c.args.self.now c.args.other.now = search rules in
     let ones : IsRangeValue c.args.self.now = subst IsRangeValue c.self.view_is c.self.invariant in
     let others : IsRangeValue c.args.other.now = subst IsRangeValue c.other.view_is c.other.invariant in
     subst (AllByRecursion IsRangeSet) (sym common)

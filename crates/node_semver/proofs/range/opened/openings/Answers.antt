@@ -1,4 +1,4 @@
-use Rattle.std.proofs.Common.{rules, of_calls, List, ◌≡◌, ◌++◌, ◌∙◌, arith, ap, drop, map, sym}
+use Rattle.std.proofs.Common.{rules, of_calls, List, ◌≡◌, ◌++◌, ◌∙◌, arith, ap, map, sym}
 use Rattle.std.specs.Prelude.{filter}
 use Rattle.std.specs.List.Sorted.{ties}
 use Rattle.std.specs.Ordering.{is_lt}

@@ -1,4 +1,4 @@
-use Rattle.std.proofs.Common.{◌≡◌, List, arith, refl, subst, take}
+use Rattle.std.proofs.Common.{List, arith, refl, subst}
 use Rattle.std.proofs.lemmas.List.{take_all}
 use Rattle.semver_cuts.specs.Places.{span_at}
 use Rattle.node_semver.specs.Meaning.{AnyByRecursion, IsInside}
@@ -7,23 +7,23 @@ use Rattle.node_semver.proofs.Sets.Openings.{opening-inside, opening-outside}
 use Rattle.node_semver.proofs.range.searched.is_in_opened.Goals as goal
 
 pub returns-then-has_inside-clause-inside : goal.returns-then-has_inside-clause-inside
-returns-then-has_inside-clause-inside c = (
-  λ h. opening-inside c.args.version.now c.args.sets.now c.args.openings.now c.openings.opening-index _ _ _
+returns-then-has_inside-clause-inside g c = (
+  λ h. opening-inside (g.V.Asked.asked c.args.version.now) c.args.sets.now c.args.openings.now c.openings.opening-index _ _ _
       c.openings-test.true c.requires c.index-sets-opening.is (c.has_inside.ensures.inside.0 c.if-has_inside.true),
   λ some. refl,
 )
 
 pub openings-preserved : goal.openings-preserved
-openings-preserved c = record {
-  none = opening-outside c.args.version.now c.args.sets.now c.args.openings.now c.openings.opening-index _ _ _
+openings-preserved g c = record {
+  none = opening-outside (g.V.Asked.asked c.args.version.now) c.args.sets.now c.args.openings.now c.openings.opening-index _ _ _
       c.openings-test.true c.requires c.index-sets-opening.is c.openings.invariant.none
       (λ inside. cc (c.if-has_inside.false, c.has_inside.ensures.inside.1 inside));
   short = omega arith;
 }
 
 pub returns-clause-inside : goal.returns-clause-inside
-returns-clause-inside c =
+returns-clause-inside g c =
     let whole = take_all c.openings.opening-index c.args.openings.now c.openings-test.false in
-    let none = subst (λ (l : List Opening). ¬ AnyByRecursion (λ o. IsInside c.args.version.now (span_at c.args.sets.now o.place)) l) whole
+    let none = subst (λ (l : List Opening). ¬ AnyByRecursion (λ o. IsInside (g.V.Asked.asked c.args.version.now) (span_at c.args.sets.now o.place)) l) whole
     c.openings.invariant.none in
     (λ h. absurd (cc h), λ some. absurd (none some))

@@ -1,4 +1,4 @@
-use Rattle.std.proofs.Common.{◌≡◌, ℕ, ◌+◌, ◌-◌, ◌/◌, ◌<◌, ◌↔◌, IsTrue, List, drop, take, length, sym, ap, subst, arith}
+use Rattle.std.proofs.Common.{◌≡◌, ℕ, ◌+◌, ◌-◌, ◌/◌, ◌<◌, List, drop, take, length, sym, ap, subst, arith}
 use Rattle.std.specs.Prelude.{not}
 use Rattle.std.specs.List.{AllByRecursion}
 use Rattle.std.proofs.lemmas.List.{drop_all}
@@ -11,10 +11,10 @@ use Rattle.node_semver.proofs.Sets.Searching.{IsLeft, begun_above, begun_below, 
 use Rattle.node_semver.proofs.range.searched.is_in_some.Goals as goal
 
 pub loop-low-init : goal.loop-low-init
-loop-low-init c =
+loop-low-init g c =
     let spans = c.args.spans.now.merged in
     let Above : List (Ends VersionValue) → Type 0 =
-    AllByRecursion (λ s. IsCutBelow version_cmp (Before c.args.version.now) s.lower) in
+    AllByRecursion (λ s. IsCutBelow version_cmp (Before (g.V.Asked.asked c.args.version.now)) s.lower) in
     record {
       ordered = omega arith;
       within = omega arith;
@@ -24,7 +24,7 @@ loop-low-init c =
     }
 
 pub loop-low-preserved-then-is_begun : goal.loop-low-preserved-then-is_begun
-loop-low-preserved-then-is_begun c =
+loop-low-preserved-then-is_begun g c =
     let spans = c.args.spans.now.merged in
     let low = c.loop-low.low in
     let high = c.loop-low.high in
@@ -34,7 +34,7 @@ loop-low-preserved-then-is_begun c =
     record {
       ordered = omega arith;
       within = omega arith;
-      below = begun_below version_total (Before c.args.version.now) spans c.len-high.ensures.joined.merged middle span within
+      below = begun_below version_total (Before (g.V.Asked.asked c.args.version.now)) spans c.len-high.ensures.joined.merged middle span within
           c.ends.ensures (c.is_begun.ensures.begun.0 c.if-is_begun.true);
       above = c.loop-low.invariant.above;
       steps = λ digits fits.
@@ -44,7 +44,7 @@ loop-low-preserved-then-is_begun c =
     }
 
 pub loop-low-preserved : goal.loop-low-preserved
-loop-low-preserved c =
+loop-low-preserved g c =
     let spans = c.args.spans.now.merged in
     let low = c.loop-low.low in
     let high = c.loop-low.high in
@@ -55,9 +55,9 @@ loop-low-preserved c =
       ordered = omega arith;
       within = omega arith;
       below = c.loop-low.invariant.below;
-      above = begun_above version_total (Before c.args.version.now) spans c.len-high.ensures.joined.merged middle span within
+      above = begun_above version_total (Before (g.V.Asked.asked c.args.version.now)) spans c.len-high.ensures.joined.merged middle span within
           c.ends.ensures
-          ((not-begun version_total (Before c.args.version.now) c.is_begun.result span.lower c.is_begun.ensures.begun).0
+          ((not-begun version_total (Before (g.V.Asked.asked c.args.version.now)) c.is_begun.result span.lower c.is_begun.ensures.begun).0
           (ap not c.if-is_begun.false));
       steps = λ digits fits.
           subst (λ n. IsLeft c.args.comparisons.now n digits (middle - low)) (sym c.is_begun.ensures.counted)
@@ -66,20 +66,20 @@ loop-low-preserved c =
     }
 
 pub returns-then-low-eq0-clause-inside : goal.returns-then-low-eq0-clause-inside
-returns-then-low-eq0-clause-inside c =
+returns-then-low-eq0-clause-inside g c =
     let spans = c.args.spans.now.merged in
-    let cut = Before c.args.version.now in
+    let cut = Before (g.V.Asked.asked c.args.version.now) in
     let all : c.loop-low.high ≡ 0 = omega arith in
-    let above = subst (λ k. AllByRecursion (λ s. IsCutBelow version_cmp (Before c.args.version.now) s.lower) (drop k spans)) all
+    let above = subst (λ k. AllByRecursion (λ s. IsCutBelow version_cmp (Before (g.V.Asked.asked c.args.version.now)) s.lower) (drop k spans)) all
     c.loop-low.invariant.above in (
       λ h. absurd (cc h),
       λ is. absurd (none-begun version_total cut spans above ((c.len-high.ensures.joined.cuts cut).1 is)),
     )
 
 pub returns-clause-inside : goal.returns-clause-inside
-returns-clause-inside c =
+returns-clause-inside g c =
     let spans = c.args.spans.now.merged in
-    let cut = Before c.args.version.now in
+    let cut = Before (g.V.Asked.asked c.args.version.now) in
     let place : ℕ = c.loop-low.low - 1 in
     let span = span_between c.ends-2.result.0.now c.ends-2.result.1.now in
     let some : 0 < c.loop-low.low = grind (arith, c.if-low-eq0.false) in
@@ -87,9 +87,9 @@ returns-clause-inside c =
     let next : c.loop-low.low ≡ place + 1 = omega arith in
     let end : c.loop-low.high ≡ place + 1 = omega arith in
     let begun = begun_last version_total cut spans c.len-high.ensures.joined.merged place span within c.ends-2.ensures
-    (subst (λ k. AllByRecursion (λ s. IsCutAtMost version_cmp s.lower (Before c.args.version.now)) (take k spans)) next
+    (subst (λ k. AllByRecursion (λ s. IsCutAtMost version_cmp s.lower (Before (g.V.Asked.asked c.args.version.now))) (take k spans)) next
     c.loop-low.invariant.below) in
-    let above = subst (λ k. AllByRecursion (λ s. IsCutBelow version_cmp (Before c.args.version.now) s.lower) (drop k spans)) end
+    let above = subst (λ k. AllByRecursion (λ s. IsCutBelow version_cmp (Before (g.V.Asked.asked c.args.version.now)) s.lower) (drop k spans)) end
     c.loop-low.invariant.above in
     let inside = last_begun version_total cut spans c.len-high.ensures.joined.merged place span within c.ends-2.ensures begun above in
     let not_begun = not-begun version_total cut c.is_begun-2.result span.upper c.is_begun-2.ensures.begun in

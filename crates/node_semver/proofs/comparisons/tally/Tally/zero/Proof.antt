@@ -1,9 +1,7 @@
 -- `zero` makes the empty struct, with the number that its clause names. Assumes `Logic`.
 use Rattle.std.proofs.Common.{[], ◌∷◌, refl}
 use seplogic.Ra.Ura.{Ura}
-use mir.Syntax.{Fn, Args, a_type}
 use mir.Val.{Val}
-use mir.MapTy.{inst_fn}
 use base.Logic.{SProp, ent}
 use prog.Memory.{Memory}
 use prog.Routine.{Routine}
@@ -14,13 +12,12 @@ use sound.WpLaws.{WpFn-mono}
 use types.Logic.{Logic}
 use types.Kit.{‵, raw, ◌⊛◌, ◌$◌, ◌∵◌, !, qed, move, keep, split, fjoin, suffices, done}
 use types.Part.{agg}
-use types.Run.{enter, returns, and_then, no_more}
-use types.ByLocal.{alloc_all, pass_all, free_all, look_at, get, sets}
-use denote.RattleType.{RattleType, owns}
-use denote.Laws.{Is}
+use types.Run.{enter, returns, no_more}
+use types.ByLocal.{alloc_all, pass_all, free_all, look_at, sets}
+use denote.RattleType.{owns}
 use denote.Signature.{types_at}
-use denote.Steps.{nothing, owned}
-use denote.Triple.Clauses.{Clauses, Ended, closing}
+use denote.Steps.{nothing}
+use denote.Triple.Clauses.{Clauses, closing}
 use denote.Triple.Entry.{alive}
 use denote.Triple.Spec.{Meets, triple_of}
 use denote.Triple.Table.{entered}

@@ -13,50 +13,46 @@ use Rattle.node_semver.proofs.Sets.Openings.{found-admits, found-count, found-wi
 use Rattle.node_semver.proofs.range.searched.Searched.admits.Goals as goal
 
 pub returns-then-not-is_prerelease-clause-answer : goal.returns-then-not-is_prerelease-clause-answer
-returns-then-not-is_prerelease-clause-answer c =
-    let v = c.args.version.now in
+returns-then-not-is_prerelease-clause-answer g c =
+    let v = g.V.Asked.asked c.args.version.now in
     let sets : List (Ends VersionValue) = c.args.self.now in
-    let same : c.with.result.list ≡ sets = c.with.ensures.list ∙ c.deref.ensures.value ∙ c.self.view_is in
     let release : ¬ IsPrerelease v = λ pre. cc (c.if-not-is_prerelease.true, c.is_prerelease.ensures.1 pre) in
     let admits = release-admits v release sets in
-    let inside = subst (λ (l : List (Ends VersionValue)). IsTrue c.is_in_some.result ↔ IsInSome version_cmp l (Before v)) same
-    c.is_in_some.ensures.inside in
+    let inside = subst (λ (l : List (Ends VersionValue)). IsTrue c.is_in_some.result ↔ IsInSome version_cmp l (Before v))
+    c.merged.ensures c.is_in_some.ensures.inside in
     (λ h. admits.0 (inside.0 h), λ is. inside.1 (admits.1 is))
 
 pub is_in_opened-requires : goal.is_in_opened-requires
-is_in_opened-requires c =
-    let v = c.args.version.now in
+is_in_opened-requires g c =
+    let v = g.V.Asked.asked c.args.version.now in
     let found : c.openings_at-openings.result.now ≡ filter (is_opening_of v) c.self.inside.openings.items = search rules in
     let places : map (λ (o : Opening). o.place) c.openings_at-openings.result.now ≡ places_opening v 0 c.args.self.now =
     ap (map (λ (o : Opening). o.place)) found ∙ c.self.invariant.1.places v ∙ ap (places_opening v 0) c.self.view_is in
-    let same = c.deref-3.ensures.value ∙ c.self.view_is in
+    let same = c.deref-2.ensures.value ∙ c.self.view_is in
     subst (λ (l : List (Ends VersionValue)). AllByRecursion (λ o. o.place < length l) c.openings_at-openings.result.now) (sym same)
     (found-within v (c.is_prerelease.ensures.0 c.if-not-is_prerelease.false) c.args.self.now
     c.openings_at-openings.result.now places)
 
--- those that are found have the places of the sets that open the version's triple
-places : (c : goal.After-is_in_opened)
-    → map (λ (o : Opening). o.place) c.openings_at-openings.result.now ≡ places_opening c.args.version.now 0 c.args.self.now
-places c =
-    let v = c.args.version.now in
-    let found : c.openings_at-openings.result.now ≡ filter (is_opening_of v) c.self.inside.openings.items = search rules in
-    ap (map (λ (o : Opening). o.place)) found ∙ c.self.invariant.1.places v ∙ ap (places_opening v 0) c.self.view_is
-
-prerelease : (c : goal.After-is_in_opened) → IsPrerelease c.args.version.now
-prerelease c = c.is_prerelease.ensures.0 c.if-not-is_prerelease.false
-
 pub returns-clause-answer : goal.returns-clause-answer
-returns-clause-answer c =
-    let v = c.args.version.now in
+returns-clause-answer g c =
+    let v = g.V.Asked.asked c.args.version.now in
     let found = c.openings_at-openings.result.now in
-    let same = c.deref-3.ensures.value ∙ c.self.view_is in
-    let admits = found-admits v (prerelease c) c.args.self.now found (places c) in
+    let filtered : found ≡ filter (is_opening_of v) c.self.inside.openings.items = search rules in
+    let places : map (λ (o : Opening). o.place) found ≡ places_opening v 0 c.args.self.now =
+    ap (map (λ (o : Opening). o.place)) filtered ∙ c.self.invariant.1.places v ∙ ap (places_opening v 0) c.self.view_is in
+    let same = c.deref-2.ensures.value ∙ c.self.view_is in
+    let admits = found-admits v (c.is_prerelease.ensures.0 c.if-not-is_prerelease.false) c.args.self.now found places in
     let inside = subst (λ (l : List (Ends VersionValue)). IsTrue c.is_in_opened.result
     ↔ AnyByRecursion (λ o. IsInside v (span_at l o.place)) found) same c.is_in_opened.ensures.inside in
     (λ h. admits.0 (inside.0 h), λ is. inside.1 (admits.1 is))
 
 pub returns-clause-short : goal.returns-clause-short
-returns-clause-short c =
-    let pre = prerelease c in
-    let count = found-count c.args.version.now pre c.args.self.now c.openings_at-openings.result.now (places c) in
+returns-clause-short g c =
+    let v = g.V.Asked.asked c.args.version.now in
+    let found = c.openings_at-openings.result.now in
+    let filtered : found ≡ filter (is_opening_of v) c.self.inside.openings.items = search rules in
+    let places : map (λ (o : Opening). o.place) found ≡ places_opening v 0 c.args.self.now =
+    ap (map (λ (o : Opening). o.place)) filtered ∙ c.self.invariant.1.places v ∙ ap (places_opening v 0) c.self.view_is in
+    let pre : IsPrerelease v = c.is_prerelease.ensures.0 c.if-not-is_prerelease.false in
+    let count = found-count v pre c.args.self.now found places in
     record { release = λ no. absurd (no pre); prerelease = λ _. omega (arith, count) }

@@ -1,0 +1,111 @@
+-- Strictly ascending lists: one that leaves out only what gives nothing gives the same.
+use Rattle.std.proofs.Common.{◌≡◌, ◌⊎◌, ℕ, zero, suc, ◌<◌, List, [], ◌∷◌, ◌++◌, Ordering, Less, get_or, length, ap, sym, subst, refl, ◌∙◌, inl, inr, arith}
+use Rattle.std.specs.List.{AllByRecursion, Contains, flat_map}
+use Rattle.std.specs.List.Sorted.{IsStrictlySortedBy}
+use Rattle.std.specs.Cmp.{IsTotalOrder}
+use Rattle.std.proofs.lemmas.Cmp.{tied_itself}
+use Rattle.semver_cuts.specs.Lemmas.Lists.{all-append}
+use Rattle.semver_cuts.specs.Lemmas.Merging.{all_map}
+use Rattle.semver_cuts.proofs.PlacedOrder.{IsAmong, all-among}
+
+-- ---- elements of a list
+
+module _ {X : Type 0} where
+  pub among-left : (xs ys : List X) (x : X) → IsAmong xs x → IsAmong (xs ++ ys) x
+  among-left [] ys x is = elim is [ ]
+  among-left (y ∷ xs) ys x (inl same) = inl same
+  among-left (y ∷ xs) ys x (inr there) = inr (among-left xs ys x there)
+
+  pub among-right : (xs ys : List X) (x : X) → IsAmong ys x → IsAmong (xs ++ ys) x
+  among-right [] ys x is = is
+  among-right (y ∷ xs) ys x is = inr (among-right xs ys x is)
+
+  pub contains-from_among : (xs : List X) (x : X) → IsAmong xs x → Contains xs x
+  contains-from_among [] x is = elim is [ ]
+  contains-from_among (y ∷ xs) x (inl same) = (0, omega arith, sym same)
+  contains-from_among (y ∷ xs) x (inr there) =
+      let h = contains-from_among xs x there in
+      let low : suc h.0 < suc (length xs) = omega (arith, h.1) in
+      (suc h.0, low, h.2)
+
+  among-at : (xs : List X) (x : X) (k : ℕ) → k < length xs → get_or xs k x ≡ x → IsAmong xs x
+  among-at [] x k low at = absurd (omega arith)
+  among-at (y ∷ xs) x zero low at = inl (sym at)
+  among-at (y ∷ xs) x (suc k) low at = inr (among-at xs x k (omega arith) at)
+
+  pub among-from_contains : (xs : List X) (x : X) → Contains xs x → IsAmong xs x
+  among-from_contains xs x h = among-at xs x h.0 h.1 h.2
+
+-- ---- two strictly ascending lists
+
+module _ {X Y : Type 0} {R : X → X → Ordering} (o : IsTotalOrder R) (f : X → List Y) where
+  not-itself : (x : X) → ¬ (R x x ≡ Less)
+  not-itself x below = let same = tied_itself o x in absurd (cc)
+
+  not-both : (x y : X) → R x y ≡ Less → ¬ (R y x ≡ Less)
+  not-both x y below above = not-itself x (o.trans x y x below above)
+
+  -- what lies above the first is among the others
+  among-others : (x : X) (all ps : List X) → AllByRecursion (λ p. R x p ≡ Less) ps → AllByRecursion (IsAmong (x ∷ all)) ps
+      → AllByRecursion (IsAmong all) ps
+  among-others x all [] above among = tt
+  among-others x all (p ∷ ps) above among = (
+    elim among.0 [
+      | inl same ↦ absurd (not-itself x (subst (λ y. R x y ≡ Less) same above.0))
+      | inr there ↦ there
+    ],
+    among-others x all ps above.1 among.1,
+  )
+
+  -- what gives something and lies above the first is one of the others
+  among-later : (x p : X) (ps all : List X) → p ≡ x → AllByRecursion (λ y. R x y ≡ Less) all
+      → AllByRecursion (λ y. (f y ≡ []) ⊎ IsAmong (p ∷ ps) y) all → AllByRecursion (λ y. (f y ≡ []) ⊎ IsAmong ps y) all
+  among-later x p ps [] same above covered = tt
+  among-later x p ps (y ∷ all) same above covered = (
+    elim covered.0 [
+      | inl none ↦ inl none
+      | inr is ↦ elim is [
+        | inl at ↦ absurd (not-itself x (subst (λ z. R x z ≡ Less) (at ∙ same) above.0))
+        | inr there ↦ inr there
+      ]
+    ],
+    among-later x p ps all same above.1 covered.1,
+  )
+
+  -- of two such lists, of which one has all of the other but what gives nothing
+  pub given-alike : (all ps : List X) → IsStrictlySortedBy R all → IsStrictlySortedBy R ps → AllByRecursion (IsAmong all) ps
+      → AllByRecursion (λ x. (f x ≡ []) ⊎ IsAmong ps x) all → flat_map f ps ≡ flat_map f all
+  unfolding IsStrictlySortedBy
+  given-alike [] [] every some among covered = refl
+  given-alike [] (p ∷ ps) every some among covered = elim among.0 [ ]
+  given-alike (x ∷ all) [] every some among covered =
+      let nothing : f x ≡ [] = elim covered.0 [ inl none ↦ none | inr is ↦ elim is [ ] ] in
+      given-alike all [] every.1 some tt covered.1 ∙ ap (λ l. l ++ flat_map f all) (sym nothing)
+  given-alike (x ∷ all) (p ∷ ps) every some among covered = elim among.0 [
+    | inl same ↦
+        let above : AllByRecursion (λ q. R x q ≡ Less) ps = subst (λ y. AllByRecursion (λ q. R y q ≡ Less) ps) same some.0 in
+        let rest = given-alike all ps every.1 some.1 (among-others x all ps above among.1)
+        (among-later x p ps all same every.0 covered.1) in
+        λ i. f (same i) ++ rest i
+    | inr there ↦
+        let below : R x p ≡ Less = all-among (λ y. R x y ≡ Less) all p every.0 there in
+        let above : AllByRecursion (λ q. R x q ≡ Less) ps =
+        all_map (λ q. R p q ≡ Less) (λ q. R x q ≡ Less) (λ q h. o.trans x p q below h) ps some.0 in
+        let nothing : f x ≡ [] = elim covered.0 [
+          | inl none ↦ none
+          | inr is ↦ absurd (elim is [
+            | inl at ↦ not-itself x (subst (λ y. R x y ≡ Less) (sym at) below)
+            | inr later ↦ not-both x p below (all-among (λ y. R p y ≡ Less) ps x some.0 later)
+          ])
+        ] in
+        given-alike all (p ∷ ps) every.1 some (there, among-others x all ps above among.1) covered.1
+        ∙ ap (λ l. l ++ flat_map f all) (sym nothing)
+  ]
+
+  -- a strictly ascending list with another above it
+  pub ascending-append : (xs ys : List X) → IsStrictlySortedBy R xs → IsStrictlySortedBy R ys
+      → AllByRecursion (λ x. AllByRecursion (λ y. R x y ≡ Less) ys) xs → IsStrictlySortedBy R (xs ++ ys)
+  unfolding IsStrictlySortedBy
+  ascending-append [] ys first second above = second
+  ascending-append (x ∷ xs) ys first second above =
+      (all-append (λ y. R x y ≡ Less) xs ys first.0 above.0, ascending-append xs ys first.1 second above.1)

@@ -1,0 +1,18 @@
+use Rattle.std.proofs.Common.{◌≡◌, ◌++◌, true, false, subst, rules}
+use Rattle.std.specs.List.Sorted.{IsPermutation}
+use Rattle.std.proofs.lemmas.List.Filters.{dedup_is}
+use Rattle.semver_cuts.specs.Private.Meeting.{pairs_along}
+use Rattle.semver_cuts.proofs.Meeting.{are-meeting, same_pair}
+use Rattle.semver_cuts.proofs.algebra.meeting.meeting.Goals as goal
+
+pub returns : goal.returns
+returns g c =
+    let order = c.in_ok-order.order.items in
+    let other_order = c.in_ok-other_order.other_order.items in
+    let found : c.add_pairs-2.new.pairs.items
+    ≡ pairs_along g.T.Ord.cmp false order other_order ++ pairs_along g.T.Ord.cmp true other_order order = search rules in
+    are-meeting g.met.T.Ord.total c.args.ones.now c.args.others.now order other_order
+    c.in_ok-order.ensures.same c.in_ok-other_order.ensures.same c.in_ok-order.ensures.sorted c.in_ok-other_order.ensures.sorted
+    c.sort_unstable.new.self.items c.dedup.new.self.items
+    (subst (λ l. IsPermutation l c.sort_unstable.new.self.items) found c.sort_unstable.ensures.permutation)
+    c.sort_unstable.ensures.sorted (dedup_is same_pair _ _ c.dedup.ensures.filtered)

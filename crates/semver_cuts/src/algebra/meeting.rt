@@ -1,0 +1,90 @@
+//! Which spans of two lists meet, found along both in the order of their lower ends.
+ghost use Rattle.std.specs.Prelude.{◌≡◌, ◌++◌, IfOk, OnOk};
+ghost use Rattle.semver_cuts.specs.Private.Meeting.{AreMeeting, beginning_from, pairs_along, pairs_until, places_by};
+
+use crate::algebra::placed::{Placed, in_order};
+use crate::{Cut, Span};
+use std::alloc::{AllocError, Global};
+
+// The places of each span of one list and each of the other that meet: those of the first span come first, in the order
+// of the other list. One of two spans that meet begins in the other.
+pub(crate) fn meeting<T: Ord>(
+    alloc: Global,
+    ones: &[Span<T>],
+    others: &[Span<T>],
+) -> Result<Vec<(usize, usize)>, AllocError>
+    ensures { IfOk result (λ pairs. AreMeeting T.cmp ones.now others.now pairs.items) }
+{
+    let order = in_order(alloc, ones)?;
+    let other_order = in_order(alloc, others)?;
+    let mut pairs = Vec::new(alloc);
+    add_pairs(&mut pairs, &order, &other_order, false)?;
+    add_pairs(&mut pairs, &other_order, &order, true)?;
+    pairs.sort_unstable();
+    pairs.dedup();
+    Ok(pairs)
+}
+
+// Adds the place of each span with those of the others that begin in it.
+fn add_pairs<T: Ord>(
+    pairs: &mut Vec<(usize, usize)>,
+    ones: &[Placed<T>],
+    others: &[Placed<T>],
+    swapped: bool,
+) -> Result<(), AllocError>
+    ensures { OnOk result (pairs.new.items ≡ pairs.old.items ++ pairs_along T.cmp swapped ones.now others.now) }
+{
+    let mut rest = others;
+    for one in ones {
+        let (lower, upper) = one.ends();
+        rest = beginning_from(rest, lower);
+        add_pairs_until(pairs, one.place(), upper, rest, swapped)?;
+    }
+    Ok(())
+}
+
+// The spans from the first one on that begins at the cut or above.
+fn beginning_from<'s, 'a, T: Ord>(spans: &'s [Placed<'a, T>], cut: &Cut<T>) -> &'s [Placed<'a, T>]
+    ensures { result.now ≡ beginning_from T.cmp cut.now spans.now }
+{
+    for (place, span) in spans.iter().enumerate() {
+        let (lower, _) = span.ends();
+        if !(lower < cut) {
+            return &spans[place..];
+        }
+    }
+    &[]
+}
+
+// Adds a place with that of each span before the first one that begins at the cut or above.
+fn add_pairs_until<T: Ord>(
+    pairs: &mut Vec<(usize, usize)>,
+    place: usize,
+    cut: &Cut<T>,
+    others: &[Placed<T>],
+    swapped: bool,
+) -> Result<(), AllocError>
+    ensures { OnOk result
+        (pairs.new.items ≡ pairs.old.items ++ pairs_until T.cmp swapped place cut.now others.now) }
+{
+    for other in others {
+        let (lower, _) = other.ends();
+        if !(lower < cut) {
+            return Ok(());
+        }
+        pairs.push(places_by(swapped, place, other.place()))?;
+    }
+    Ok(())
+}
+
+// A place of one list and one of the other, in this order or swapped.
+#[inline(always)]
+fn places_by(swapped: bool, place: usize, other: usize) -> (usize, usize)
+    ensures { result ≡ places_by swapped place other }
+{
+    if swapped {
+        (other, place)
+    } else {
+        (place, other)
+    }
+}

@@ -15,7 +15,7 @@ mod tests;
 mod walks;
 
 use crate::Cut;
-pub use ask::{covers_one, share_cut};
+pub use ask::share_cut;
 pub use common::common_spans;
 pub use joined::join;
 pub use merged::Merged;

@@ -28,7 +28,7 @@ HasText v = (text : List ℕ) × IsVersionText text v
 
 -- ---- ranges
 
--- a text can write its triple: not that of `900719925474100.0.0`, at which `>900719925474099` begins
+-- a text can write its triple: not that of `9007199254740992.0.0`, at which `>9007199254740991` begins
 pub record HasTextNumbers (v : VersionValue) : Type 0 where
   pub major : v.major ≤ MAX_SAFE_INTEGER
   pub minor : v.minor ≤ MAX_SAFE_INTEGER

@@ -100,7 +100,7 @@ impl SemverError {
     ///
     /// # Examples
     ///
-    /// The refusal of the version `900719925474100.a` has the offset 0, and that of `v` the offset 1, its end.
+    /// The refusal of the version `9007199254740992.a` has the offset 0, and that of `v` the offset 1, its end.
     pub fn offset(&self) -> usize
         ensures { result ≡ (refusal_of self.now).offset }
     {

@@ -15,7 +15,7 @@ pub use crate::range::ranges_are_equal_where_their_cuts_are;
 
 /// The limits, as numbers.
 pub fn limits()
-    ensures greatest_number { MAX_SAFE_INTEGER ≡ 900719925474099 }
+    ensures greatest_number { MAX_SAFE_INTEGER ≡ 9007199254740991 }
     ensures greatest_length { MAX_LENGTH ≡ 256 }
 {}
 

@@ -58,14 +58,14 @@ pub use range::{Range, max_satisfying};
 pub use tree::SetTree;
 pub use version::Version;
 
-/// The greatest major, minor or patch of a text.
+/// The greatest major, minor or patch of a text: 2 to the 53rd power, less one.
 ///
-/// It lacks the last digit of JavaScript's `Number.MAX_SAFE_INTEGER`, 9007199254740991.
+/// In the Rust crate `node-semver` 2.2.0 it lacks its last digit.
 ///
 /// # Source
 ///
-/// The Rust crate `node-semver` 2.2.0.
-pub const MAX_SAFE_INTEGER: u64 = 900719925474099;
+/// JavaScript's `Number.MAX_SAFE_INTEGER`.
+pub const MAX_SAFE_INTEGER: u64 = 9007199254740991;
 
 /// The greatest length of a version text, in bytes. A range text has no limit.
 ///

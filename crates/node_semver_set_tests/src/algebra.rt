@@ -1,6 +1,6 @@
 use crate::checks::{is_text, parts, print_of};
 use node_semver::{Range, Version};
-use std::alloc::{AllocGlobal, Global};
+use std::alloc::{AllocError, AllocGlobal, Global};
 use std::process::Abort;
 use std::test::Fail;
 
@@ -30,10 +30,22 @@ fn any(alloc: Global, one: &str, other: &str) -> Result<Option<bool>, Fail> {
     })
 }
 
-fn all(alloc: Global, one: &str, other: &str) -> Result<bool, Fail> {
+// Whether one range has all cuts of another, and nothing where it leaves some of them and says so, or leaves none and
+// denies it.
+fn covers(alloc: Global, one: &Range, other: &Range) -> Result<Option<bool>, AllocError> {
+    let answer = one.allows_all(other);
+    let left = other.difference(alloc, one)?;
+    Ok(if left.is_none() == answer {
+        Some(answer)
+    } else {
+        None
+    })
+}
+
+fn all(alloc: Global, one: &str, other: &str) -> Result<Option<bool>, Fail> {
     let one = Range::parse(alloc, one)?;
     let other = Range::parse(alloc, other)?;
-    Ok(one.allows_all(&other))
+    Ok(covers(alloc, &one, &other)?)
 }
 
 fn allows_any(
@@ -138,7 +150,8 @@ fn each_all(
     wanted: bool,
 ) -> Result<(), Fail> {
     for other in others.split(", ") {
-        assert!(rt; all(rt.alloc(), one, other)? == wanted, "{one} and {other}");
+        let answer = all(rt.alloc(), one, other)?;
+        assert!(rt; answer == Some(wanted), "{one} and {other}");
     }
     Ok(())
 }
@@ -150,21 +163,36 @@ fn row_all(rt: &(impl Abort + AllocGlobal), row: &str) -> Result<(), Fail> {
     each_all(rt, one, denied, false)
 }
 
-// Of which ranges one allows all, and of which not.
-const ALL: [&str; 6] = [
-    ">=1.2.3; >=2.0.0, >2, 2.0.0, 0.1 || 1.4, 1.2.3, 2 - 7; 1.0.0, <1.2, >=1.2.2, 1 - 3, 0.1 || <1.2.0, >1.0.0",
-    ">1.2.3; >=2.0.0, 2.0.0, 0.1 || 1.4; >=1.2.3, 1 - 3, <=3",
-    "<1.2.3; <=1.2.0, <1, 1.0.0, 0.1 || 1.4; 1 - 3, >1, 2.0 || >9, >1.0.0, <=1.2.3",
-    "<=1.2.3; <=1.2.0, 0.1 || 1.4, 1.2.3; 1 - 3, >=1.0.0",
-    "1.2.3 || >4; 1.2.3, >4, 5.x, >=8.2.1, 2.0 || 5.6.7; <2, 1 - 7, 1.9.4 || 2 - 3",
+// Of which ranges one allows all, and of which not: sets that lie below or between its own are not allowed, and sets that
+// its own have together are. `^1.2.3-rc.4` admits a prerelease that `>=1.0.0-0` does not, and `1 || 2` admits all that
+// `1 - 2` does.
+const ALL: [&str; 10] = [
+    ">=1.2.3; >=2.0.0, >2, 2.0.0, 1.2.3, 2 - 7; 0.1 || 1.4, 1.0.0, <1.2, >=1.2.2, 1 - 3, 0.1 || <1.2.0, >1.0.0",
+    ">1.2.3; >=2.0.0, 2.0.0; 0.1 || 1.4, >=1.2.3, 1 - 3, <=3",
+    "<1.2.3; <=1.2.0, <1, 1.0.0; 0.1 || 1.4, 1 - 3, >1, 2.0 || >9, >1.0.0, <=1.2.3",
+    "<=1.2.3; <=1.2.0, 1.2.3; 0.1 || 1.4, 1 - 3, >=1.0.0",
+    "1.2.3 || >4; 1.2.3, >4, 5.x, >=8.2.1; 2.0 || 5.6.7, <2, 1 - 7, 1.9.4 || 2 - 3",
     "2 - 8; 2.2.3, 4 - 5; 1 - 4, 5 - 9, >3, <=5",
+    "1 || >=2.0.0-0; >=1.5.0, >=2 || 1.5.0 - 2.5.0; >=0.5.0, <2",
+    "1 || 2; 1.5 || 2.5 || 1.2.3, 1.2.3+a || 2.0.0; 1.5.0 - 2.5.0, 1 - 2, 1 || 2 || 3",
+    ">=2.0.0-0 || 1 || >0.5.0 <=1.0.0; >=1.5.0 <2.5.0, 1 || 0.6, >0.5.0; *, >=0.5.0",
+    ">=1.0.0-0; ^1.2.3-rc.4; 0.9.9, <1.0.0-0",
 ];
 
+// Every cut is a cut of `any`, and those below `0.0.0` are none of `>=0.0.0`.
+fn any_allows_all(alloc: Global) -> Result<bool, Fail> {
+    let any = Range::any(alloc)?;
+    let versions = Range::parse(alloc, ">=0.0.0")?;
+    let allowed = covers(alloc, &any, &versions)? == Some(true);
+    Ok(allowed && covers(alloc, &versions, &any)? == Some(false))
+}
+
 #[test]
-fn allows_all_where_one_set_has_all_cuts_of_another(rt: HostRuntime) -> Result<(), Fail> {
+fn allows_all_where_each_cut_is_covered(rt: HostRuntime) -> Result<(), Fail> {
     for row in &ALL {
         row_all(&rt, row)?;
     }
+    assert!(rt; any_allows_all(rt.alloc())?);
     Ok(())
 }
 

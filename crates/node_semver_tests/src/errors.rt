@@ -33,8 +33,8 @@ const KINDS: [&str; 9] = [
         Failed to parse an integer component of a semver string: number too large to fit in target type",
     "ParseIntError 1x; \
         Failed to parse an integer component of a semver string: invalid digit found in string",
-    "MaxIntError 900719925474100; \
-        Integer component of semver string is larger than JavaScript's Number.MAX_SAFE_INTEGER: 900719925474100",
+    "MaxIntError 9007199254740992; \
+        Integer component of semver string is larger than JavaScript's Number.MAX_SAFE_INTEGER: 9007199254740992",
     "Context version; Failed to parse version.",
     "NoValidRanges; No valid ranges could be parsed",
     "Other; An unspecified error occurred.",
@@ -125,12 +125,14 @@ fn error_print(alloc: Global, call: &str, text: &str) -> Result<String, Fail> {
 }
 
 // A call, a text that it refuses, and what the error prints. `$` is one more than the greatest number of a text.
-const REFUSALS: [&str; 6] = [
+const REFUSALS: [&str; 7] = [
     "version; {257*1}; Semver string can't be longer than 256 characters.",
     "version; 18446744073709551616.0.0; \
         Failed to parse an integer component of a semver string: number too large to fit in target type",
     "version; 1.2.$; \
         Integer component of semver string is larger than JavaScript's Number.MAX_SAFE_INTEGER: $",
+    "version; 1.2.9007199254740992; \
+        Integer component of semver string is larger than JavaScript's Number.MAX_SAFE_INTEGER: 9007199254740992",
     "version; 1.2; Failed to parse version.",
     "version; 1.2.3 ; An unspecified error occurred.",
     "range; foo; No valid ranges could be parsed",
@@ -168,8 +170,8 @@ const REFUSED: [&str; 10] = [
     "version; foo",
     "range; foo",
     "range; bar",
-    "version; 1.2.900719925474100",
-    "version; 1.2.900719925474101",
+    "version; 1.2.9007199254740992",
+    "version; 1.2.9007199254740993",
 ];
 
 // Whether two errors are equal, and nothing where both ways do not agree, or the spans are not equal as the offsets

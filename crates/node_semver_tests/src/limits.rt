@@ -7,10 +7,10 @@ use std::test::Fail;
 
 // In these rows `#` stands for the greatest number of a text, `@` for one less and `$` for one more.
 
-// The Rust crate `node-semver` 2.2.0.
+// JavaScript's `Number.MAX_SAFE_INTEGER`; the Rust crate `node-semver` 2.2.0.
 #[test]
 fn the_limits(rt: HostRuntime) {
-    assert!(rt; MAX_SAFE_INTEGER == 900719925474099, "{MAX_SAFE_INTEGER}");
+    assert!(rt; MAX_SAFE_INTEGER == 9007199254740991, "{MAX_SAFE_INTEGER}");
     assert!(rt; MAX_LENGTH == 256, "{MAX_LENGTH}");
 }
 
@@ -30,7 +30,7 @@ const GREATEST: [&str; 11] = [
 ];
 
 // One more at each place, and beyond 64 bits: no word, and nothing else is left.
-const TOO_LARGE: [&str; 12] = [
+const TOO_LARGE: [&str; 13] = [
     "$",
     "$.0.0",
     "0.$.0",
@@ -40,10 +40,14 @@ const TOO_LARGE: [&str; 12] = [
     "<=0.0.$",
     "^$",
     "~0.$",
+    "9007199254740992",
     "1.2.9007199254740999",
     "18446744073709551616.0.0",
     "0.0.18446744073709551617",
 ];
+
+// Both words are read, and no version fits both.
+const BOTH_READ: [&str; 2] = ["900719925474100 1.2.3", "# 1.2.3"];
 
 // A word with a larger number is thrown away.
 const THROWN_AWAY: [&str; 4] = [
@@ -67,19 +71,28 @@ const BEYOND: [&str; 10] = [
     "<1; 18446744073709551615 18446744073709551615 18446744073709551615; no",
 ];
 
-// Prints of ends of one more.
-const PRINTS: [&str; 5] = [
+// Prints of ends of one more, and of numbers with a digit less.
+const PRINTS: [&str; 11] = [
     "^#; >=#.0.0 <$.0.0-0",
     ">=#.0.0 <$.0.0-0; >=#.0.0",
     ">#; >=$.0.0",
     "~#.#; >=#.#.0 <#.$.0-0",
     "^0.0.#; >=0.0.# <0.0.$-0",
+    "^9007199254740991; >=9007199254740991.0.0 <9007199254740992.0.0-0",
+    ">=9007199254740991.0.0 <9007199254740992.0.0-0; >=9007199254740991.0.0",
+    ">9007199254740991; >=9007199254740992.0.0",
+    "^900719925474099; >=900719925474099.0.0 <900719925474100.0.0-0",
+    ">=900719925474099.0.0 <900719925474100.0.0-0; >=900719925474099.0.0 <900719925474100.0.0-0",
+    "900719925474100; >=900719925474100.0.0 <900719925474101.0.0-0",
 ];
 
 // A number of a version text that is too large is told by where it begins, before what follows it.
-const FAULTS: [&str; 2] = [
+const FAULTS: [&str; 5] = [
     "1.2.$; MaxIntError($) at 4 (0, 4)",
     "$.a; MaxIntError($) at 0 (0, 0)",
+    "1.2.9007199254740992; MaxIntError(9007199254740992) at 4 (0, 4)",
+    "9007199254740992.a; MaxIntError(9007199254740992) at 0 (0, 0)",
+    "900719925474100.a; Context(\"version\") at 16 (0, 16)",
 ];
 
 fn limit_admits(rt: &(impl Abort + AllocGlobal), row: &str) -> Result<(), Fail> {
@@ -112,6 +125,9 @@ fn limit_is_fault(rt: &(impl Abort + AllocGlobal), row: &str) -> Result<(), Fail
 #[test]
 fn numbers_that_are_too_large(rt: HostRuntime) -> Result<(), Fail> {
     for row in &TOO_LARGE {
+        limit_is_refused(&rt, row)?;
+    }
+    for row in &BOTH_READ {
         limit_is_refused(&rt, row)?;
     }
     for row in &FAULTS {

@@ -52,7 +52,7 @@ fn long_reads(rt: &(impl Abort + AllocGlobal), row: &str) -> Result<(), Fail> {
 }
 
 // SemVer 2.0.0, sections 2, 9 and 10, and npm's loose form: a mark, blanks, leading zeros, no hyphen.
-const READ: [&str; 19] = [
+const READ: [&str; 20] = [
     "1.2.3; 1.2.3",
     "1.2.34; 1.2.34",
     "v1.2.3; 1.2.3",
@@ -61,6 +61,7 @@ const READ: [&str; 19] = [
     "v\t 01.02.03; 1.2.3",
     " 1.2.3; 1.2.3",
     "000000000000000000000000000000007.0.0; 7.0.0",
+    "1.2.900719925474100; 1.2.900719925474100",
     "1.2.34-abc.123+1; 1.2.34-abc,#123+#1",
     "1.2.34+123.456; 1.2.34+#123,#456",
     "1.2.3beta; 1.2.3-beta",

@@ -21,7 +21,7 @@ pub mod SpanRest
 pub mod CommonSpans
 -- what one has and the other has not
 pub mod Rest
--- whether they share a cut, and whether one has all cuts of the other, or of a span of it
+-- whether they share a cut, and whether one has all cuts of the other
 pub mod Sharing
 -- what one list is joined to
 pub mod Joined

@@ -1,10 +1,9 @@
--- What two lists of spans share: a cut, or a span of one with all cuts of a span of the other; and whether one has all
--- cuts of the other.
+-- What two lists of spans share: whether they have a cut in common, and whether one has all cuts of the other.
 use Rattle.std.specs.Prelude.{◌⊎◌, List, [], ◌∷◌}
 use Rattle.std.specs.declared.cmp.Ordering.{Ordering}
 use Rattle.semver_cuts.specs.declared.cut.Cut.{Cut}
 use Rattle.semver_cuts.specs.Ends.{Ends, IsInSpan}
-use Rattle.semver_cuts.specs.Common.{IsInSome, IsWithin}
+use Rattle.semver_cuts.specs.Common.{IsInSome}
 
 -- P holds of some element
 abbrev pub AnyByRecursion : {X : Type 0} → (X → Type 0) → List X → Type 0
@@ -18,11 +17,6 @@ HaveCommonCut {T} cmp one other = (cut : Cut T) × IsInSpan cmp one cut × IsInS
 -- some cut lies in a span of each of the two lists
 abbrev pub ShareCut : {T : Type 0} → (T → T → Ordering) → List (Ends T) → List (Ends T) → Type 0
 ShareCut {T} cmp ones others = (cut : Cut T) × IsInSome cmp ones cut × IsInSome cmp others cut
-
--- one span of the first list has all cuts of one span of the second
-abbrev pub CoversOne : {T : Type 0} → (T → T → Ordering) → List (Ends T) → List (Ends T) → Type 0
-CoversOne {T} cmp ones others =
-    AnyByRecursion (λ (one : Ends T). AnyByRecursion (λ (other : Ends T). IsWithin cmp other one) others) ones
 
 -- every cut in some span of the second list lies in some span of the first
 abbrev pub CoversAll : {T : Type 0} → (T → T → Ordering) → List (Ends T) → List (Ends T) → Type 0

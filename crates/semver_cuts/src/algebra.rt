@@ -2,7 +2,6 @@
 ghost use Rattle.std.specs.Prelude.{◌≡◌, ◌++◌, ◌∷◌, [], List, OnOk};
 ghost use Rattle.semver_cuts.specs.Ends.{Ends, IsCutBelow, span_between};
 
-mod ask;
 mod common;
 mod joined;
 mod meeting;
@@ -16,7 +15,6 @@ mod tests;
 mod walks;
 
 use crate::Cut;
-pub use ask::covers_one;
 pub use joined::join;
 pub use merged::Merged;
 pub use places::{Places, are_merged};

@@ -32,8 +32,10 @@ missing-there : IsFault (codes "") missing 0
     × IsFault (codes "1 .2.3") missing 1
     × IsFault (codes "vv1.2.3") missing 1
     × IsFault (codes "\n1.2.3") missing 0
+    × IsFault (codes "900719925474100.a") missing 16
 unfolding computed
 missing-there = (
+  is-computed _ _ _ refl,
   is-computed _ _ _ refl,
   is-computed _ _ _ refl,
   is-computed _ _ _ refl,
@@ -44,8 +46,8 @@ missing-there = (
 )
 
 -- a number is too large, whatever follows it
-large-there : IsFault (codes "1.2.900719925474100") (max_int 900719925474100) 4
-    × IsFault (codes "900719925474100.a") (max_int 900719925474100) 0
+large-there : IsFault (codes "1.2.9007199254740992") (max_int 9007199254740992) 4
+    × IsFault (codes "9007199254740992.a") (max_int 9007199254740992) 0
     × IsFault (codes "0.18446744073709551615.0") (max_int 18446744073709551615) 2
     × IsFault (codes "18446744073709551616.0.0") parse_int 0
 unfolding computed
@@ -97,10 +99,12 @@ version-there : IsVersionText (codes "v 01.02.03") (version 1 2 3 [] [])
     × IsVersionText (codes "1.2.3--") (version 1 2 3 (word (codes "-") ∷ []) [])
     × IsVersionText (codes "1.0.0-rc.2-migration")
     (version 1 0 0 (word (codes "rc") ∷ word (codes "2-migration") ∷ []) [])
-    × IsVersionText (codes "0.0.900719925474099+a.007")
-    (version 0 0 900719925474099 [] (word (codes "a") ∷ numeric 7 ∷ []))
+    × IsVersionText (codes "0.0.9007199254740991+a.007")
+    (version 0 0 9007199254740991 [] (word (codes "a") ∷ numeric 7 ∷ []))
+    × IsVersionText (codes "1.2.900719925474100") (version 1 2 900719925474100 [] [])
 unfolding computed
 version-there = (
+  read-version _ _ (omega arith) refl,
   read-version _ _ (omega arith) refl,
   read-version _ _ (omega arith) refl,
   read-version _ _ (omega arith) refl,

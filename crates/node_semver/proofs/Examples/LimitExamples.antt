@@ -26,7 +26,7 @@ pub record EndsAt (text : List ℕ) (number : VersionValue → ℕ) (n : ℕ) : 
 abbrev pub IsReachedBy : List ℕ → (VersionValue → ℕ) → Type 0
 IsReachedBy text number = (v : VersionValue) → IsReadVersion v → (n : ℕ) × EndsAt text number n × (number v ≤ n)
 
--- `^900719925474099`
+-- `^9007199254740991`
 pub major-reached : IsReachedBy (codes "^" ++ greatest) (λ v. v.major)
 unfolding sets_in digits
 major-reached v is = (
@@ -41,7 +41,7 @@ major-reached v is = (
   is.major,
 )
 
--- `~0.900719925474099`
+-- `~0.9007199254740991`
 pub minor-reached : IsReachedBy (codes "~0." ++ greatest) (λ v. v.minor)
 unfolding sets_in digits
 minor-reached v is = (
@@ -56,7 +56,7 @@ minor-reached v is = (
   is.minor,
 )
 
--- `^0.0.900719925474099`
+-- `^0.0.9007199254740991`
 pub patch-reached : IsReachedBy (codes "^0.0." ++ greatest) (λ v. v.patch)
 unfolding sets_in digits
 patch-reached v is = (

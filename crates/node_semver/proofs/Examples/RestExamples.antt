@@ -1,23 +1,23 @@
 -- Worked examples: which end stands where several sets of the other text touch one cut, in what one text has and another
--- has not; and what it is to have all cuts of a set.
+-- has not; and what it is to have all cuts of another text.
 use Rattle.std.proofs.Common.{◌≡◌, ◌≢◌, ◌↔◌, ◌∙◌, ℕ, List, [], ◌∷◌, ◌++◌, ap, arith, codes, inl, inr, refl, subst}
 use Rattle.std.specs.Fmt.{digits}
 use Rattle.std.specs.List.{AllByRecursion}
 use Rattle.std.specs.declared.cmp.Ordering.TheVariants.{Equal}
 use Rattle.semver_cuts.specs.declared.cut.Cut.{Cut}
-use Rattle.semver_cuts.specs.declared.cut.Cut.TheVariants.{Start, Before, After, End}
+use Rattle.semver_cuts.specs.declared.cut.Cut.TheVariants.{Start, Before, After}
 use Rattle.semver_cuts.specs.Cut.{cut_cmp}
 use Rattle.semver_cuts.specs.Ends.{Ends, HoldsCut, IsInSpan}
 use Rattle.semver_cuts.specs.Rest.{AreRestSpans, IsLeft, IsPiece, IsPieceLower, IsPieceUpper}
-use Rattle.semver_cuts.specs.Sharing.{CoversOne}
+use Rattle.semver_cuts.specs.Sharing.{CoversAll}
 use Rattle.semver_cuts.specs.Lemmas.Ends.{at_most_trans, at_most-or-below, below_trans, below-not-at_most}
-use Rattle.node_semver.specs.Comparator.{above, at_least, at_most, below, from_up_to, with_major, with_minor}
+use Rattle.node_semver.specs.Comparator.{above, at_least, at_most, below, with_major, with_minor}
 use Rattle.node_semver.specs.Comparison.{version_cmp}
 use Rattle.node_semver.specs.IdentifierValue.{alphanumeric}
 use Rattle.node_semver.specs.Least.{build_at}
 use Rattle.node_semver.specs.Lemmas.Order.{version_total}
 use Rattle.node_semver.specs.SetTree.{of_text, without}
-use Rattle.node_semver.specs.Version.{VersionValue, release}
+use Rattle.node_semver.specs.Version.{VersionValue, least_of, release}
 use Rattle.node_semver.proofs.Examples.AlgebraExamples.{GivesPrint}
 use Rattle.node_semver.proofs.Examples.SetComputing.{Sets, merged-by, sets_in}
 use Rattle.node_semver.proofs.Examples.SetExamples.{from_to}
@@ -235,32 +235,36 @@ below-second are =
           not_first-beginning inner.1.before inner.1.after inner.1.span inner.1.parts inner.1.end_of inner.1.earlier
     ]
 
--- ---- all cuts of a set
+-- ---- all cuts of another text
 
 -- `>=1.2.3` has all cuts of a set of `0.1 || 1.4`, and not of each
-pub covers-one : CoversOne version_cmp (at_least (release 1 2 3) ∷ []) (with_minor 0 1 ∷ with_minor 1 4 ∷ [])
-covers-one = inl (inr (inl (λ cut inside. record {
-  lower = at_most_trans version_total (Before (release 1 2 3)) (Before (release 1 4 0)) cut (inl refl) inside.lower;
-  upper = below_trans version_total cut (with_minor 1 4).upper End inside.upper refl;
-})))
+pub covers-not_some : ¬ CoversAll version_cmp (at_least (release 1 2 3) ∷ []) (with_minor 0 1 ∷ with_minor 1 4 ∷ [])
+covers-not_some covers = elim (covers (Before (release 0 1 0)) (inl (record { lower = inr refl; upper = refl }))) [
+  | inl inside ↦ elim inside.lower [ inl less ↦ cc less | inr same ↦ cc same ]
+  | inr none ↦ none
+]
 
--- no set of `1 || 2` has all cuts of `>=1.5.0 <2.5.0`
-pub covers-together : ¬ CoversOne version_cmp (with_major 1 ∷ with_major 2 ∷ [])
-    (from_up_to (release 1 5 0) (release 2 5 0) ∷ [])
-covers-together covers = elim covers [
-  | inl first ↦ elim first [
-    | inl within ↦
-        let inside = within (Before (release 2 4 0)) (record { lower = inl refl; upper = refl }) in
-        cc inside.upper
-    | inr none ↦ none
+-- no set of `1 || >=2.0.0-0` has all cuts of `>=1.5.0`, and both together have
+pub covers-together : CoversAll version_cmp (with_major 1 ∷ at_least (least_of 2 0 0) ∷ [])
+    (at_least (release 1 5 0) ∷ [])
+covers-together cut is = elim is [
+  | inl inside ↦ elim (at_most-or-below version_total (Before (least_of 2 0 0)) cut) [
+    | inl past ↦ inr (inl (record { lower = past; upper = inside.upper }))
+    | inr early ↦ inl (record {
+      lower = at_most_trans version_total (Before (release 1 0 0)) (Before (release 1 5 0)) cut (inl refl) inside.lower;
+      upper = early;
+    })
   ]
+  | inr none ↦ absurd none
+]
+
+-- `1 || 2` has not the cut of `1.5.0 - 2.5.0` between its sets
+pub covers-not_between : ¬ CoversAll version_cmp (with_major 1 ∷ with_major 2 ∷ [])
+    (from_to (release 1 5 0) (release 2 5 0) ∷ [])
+covers-not_between covers = elim (covers (Before (least_of 2 0 0)) (inl (record { lower = inl refl; upper = refl }))) [
+  | inl first ↦ cc first.upper
   | inr more ↦ elim more [
-    | inl second ↦ elim second [
-      | inl within ↦
-          let inside = within (Before (release 1 6 0)) (record { lower = inl refl; upper = refl }) in
-          elim inside.lower [ inl less ↦ cc less | inr same ↦ cc same ]
-      | inr none ↦ none
-    ]
+    | inl second ↦ elim second.lower [ inl less ↦ cc less | inr same ↦ cc same ]
     | inr none ↦ none
   ]
 ]

@@ -175,8 +175,8 @@ thrown_away =
     ∷ (codes "V1.2.3", [])
     ∷ (codes "~1.y 1.2.3", exactly (release 1 2 3) ∷ [])
     ∷ (codes "1.2.3-a_b 1", with_major 1 ∷ [])
-    ∷ (codes "1 - 900719925474100", with_major 1 ∷ [])
-    ∷ (codes "900719925474100 - 1", with_major 1 ∷ [])
+    ∷ (codes "1 - 9007199254740992", with_major 1 ∷ [])
+    ∷ (codes "9007199254740992 - 1", with_major 1 ∷ [])
     ∷ []
 
 thrown_away-computed : AreComputed thrown_away

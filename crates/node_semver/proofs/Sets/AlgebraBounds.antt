@@ -1,5 +1,5 @@
 -- What the sets of an answer hold: those that two ranges have in common, and those that one has and the other has not.
-use Rattle.std.proofs.Common.{◌↔◌, List, [], ◌∷◌, Option, Some, None, refl, inl}
+use Rattle.std.proofs.Common.{◌≡◌, ◌↔◌, List, [], ◌∷◌, Option, Some, None, refl, inl}
 use Rattle.std.specs.Prelude.{IfSome, IsNone, IsSome}
 use Rattle.std.specs.List.{AllByRecursion}
 use Rattle.semver_cuts.specs.declared.cut.Cut.{Cut}
@@ -56,6 +56,12 @@ some-cut : (sets : List (Ends VersionValue)) → IsRangeValue sets
     → (cut : Cut VersionValue) × IsInSome version_cmp sets cut
 some-cut [] is = absurd (is.some refl)
 some-cut (set ∷ sets) is = let held = is.each.0.holds in (held.0, inl held.1)
+
+-- an answer is none exactly where it has no set
+pub none-listed : (answer : Option (List (Ends VersionValue))) → IfSome answer IsRangeValue
+    → IsNone answer ↔ (sets_of_answer answer ≡ [])
+none-listed None holds = (λ none. refl, λ empty. refl)
+none-listed (Some sets) holds = (λ none. cc none, λ empty. absurd (holds.some empty))
 
 -- so an answer is none exactly where it would have no cut
 pub none-exactly : (answer : Option (List (Ends VersionValue))) (P : Cut VersionValue → Type 0)

@@ -63,7 +63,7 @@ fn too_large(text: &[u8]) -> Fault
     Fault::TooLarge(text.len())
 }
 
-// Why such a number is refused: `900719925474100`, `18446744073709551616`
+// Why such a number is refused: `9007199254740992`, `18446744073709551616`
 pub(crate) fn large_kind(text: &[u8]) -> SemverErrorKind
     requires { BeginsWith Characters.is_digit text.now }
     ensures { kind_of result ≡ Told.too_large (number_of (Reading.prefix_of Characters.is_digit text.now)) }

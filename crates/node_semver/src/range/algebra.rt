@@ -6,7 +6,7 @@ ghost use Rattle.semver_cuts.specs.Common.{IsInSome};
 ghost use Rattle.semver_cuts.specs.CommonSpans.{common_spans};
 ghost use Rattle.semver_cuts.specs.Ends.{Ends};
 ghost use Rattle.semver_cuts.specs.Rest.{AreRestSpans};
-ghost use Rattle.semver_cuts.specs.Sharing.{CoversOne, ShareCut};
+ghost use Rattle.semver_cuts.specs.Sharing.{CoversAll, ShareCut};
 ghost use Rattle.node_semver.specs.Comparison.{version_cmp};
 ghost use Rattle.node_semver.specs.Meaning.{RangeAdmits};
 ghost use Rattle.node_semver.specs.RangeAlgebra.{PairAdmits, sets_of_answer};
@@ -20,7 +20,6 @@ mod gathered;
 use crate::Range;
 pub(crate) use copy::copies_of;
 use gathered::Gathered;
-use semver_cuts::algebra::covers_one;
 use std::alloc::{AllocError, Global};
 
 impl Range {
@@ -99,10 +98,14 @@ impl Range {
         self.sets.share_cut(&other.sets)
     }
 
-    /// Whether one set of `self` has all cuts of one set of `other`.
+    /// Whether every cut of `other` is a cut of `self`.
     ///
-    /// One such pair is enough: the other sets of `other` may lie anywhere, and several sets of `self` that have all cuts
-    /// of a set together do not count.
+    /// `a.allows_all(b)` is true exactly where `b.difference(a)` is `None`. A set of `other` may have some of its cuts in
+    /// one set of `self` and some in another, where these touch or overlap.
+    ///
+    /// It speaks of cuts. A prerelease that `other` admits may still not satisfy `self`: `>=1.0.0-0` has all cuts of
+    /// `^1.2.3-rc.4`, and does not admit `1.2.3-rc.4`, since no end of it is a prerelease of that triple. And `1 || 2`
+    /// lacks cuts of `1 - 2`, and admits all its versions. [`Range::least_beyond`] speaks of the versions admitted.
     ///
     /// # Memory
     ///
@@ -111,15 +114,14 @@ impl Range {
     /// # Examples
     ///
     /// - `2 - 8` allows `4 - 5`, and not `5 - 9`.
-    /// - `>=1.2.3` allows `0.1 || 1.4`, since it has the cuts of `1.4`.
+    /// - `1 || >=2.0.0-0` allows `>=1.5.0`, whose cuts its two sets have together.
+    /// - `>=1.2.3` does not allow `0.1 || 1.4`, since it lacks the cuts of `0.1`.
     /// - `<1.2.3` does not allow `<=1.2.3`.
-    ///
-    /// # Source
-    ///
-    /// The Rust crate `node-semver` 2.2.0.
     pub fn allows_all(&self, other: &Range) -> bool
-        ensures { IsTrue result ↔ CoversOne version_cmp self.now other.now }
+        ensures covered { IsTrue result ↔ CoversAll version_cmp self.now other.now }
+        ensures difference { (rest : List (Ends VersionValue)) → AreRestSpans version_cmp other.now self.now rest →
+            IsTrue result ↔ (rest ≡ []) }
     {
-        covers_one(self.sets.as_slice(), other.sets.as_slice())
+        self.sets.merged().covers(&other.sets.merged())
     }
 }

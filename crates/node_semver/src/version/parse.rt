@@ -30,7 +30,7 @@ impl Version {
     /// - `1.`: `Context("version")` at 2, a number is missing.
     /// - `1.2`: `Context("version")` at 3, a dot is missing.
     /// - `18446744073709551616.0.0`: `ParseIntError` at 0, the number is above the greatest `u64`.
-    /// - `1.2.900719925474100`: `MaxIntError(900719925474100)` at 4, the number is above `MAX_SAFE_INTEGER`.
+    /// - `1.2.9007199254740992`: `MaxIntError(9007199254740992)` at 4, the number is above `MAX_SAFE_INTEGER`.
     /// - `1.2.3 `: `Other` at 5, bytes are left.
     /// - no memory for the version or for the error's copy of the text: `OutOfMemory` at 0, with no text.
     ///

@@ -5,9 +5,9 @@ use Rattle.std.specs.Ordering.{nat_cmp}
 use Rattle.semver_cuts.specs.declared.cut.Cut.TheVariants.{Before}
 use Rattle.semver_cuts.specs.Ends.{Ends, span_between}
 use Rattle.semver_cuts.specs.Places.{merged_spans}
-use Rattle.semver_cuts.specs.Sharing.{CoversAll, CoversOne}
+use Rattle.semver_cuts.specs.Sharing.{CoversAll}
 use Rattle.semver_cuts.specs.Starts.{count_of_starts}
-use Rattle.semver_cuts.specs.Lemmas.Ends.{at_most_trans, below-at_most}
+use Rattle.semver_cuts.specs.Lemmas.Ends.{at_most_trans}
 
 -- from before one number up to before another
 abbrev from_to : ℕ → ℕ → Ends ℕ
@@ -40,13 +40,6 @@ itself = refl
 
 -- ---- coverage
 
--- one span of the first has all cuts of some span of the second, not of each
-covers-some : CoversOne nat_cmp (from_to 0 9 ∷ []) (from_to 20 30 ∷ from_to 1 2 ∷ [])
-covers-some = inl (inr (inl (λ cut is. record {
-  lower = at_most_trans nat_cmp_total (Before 0) (Before 1) cut (inl refl) is.lower;
-  upper = below-at_most nat_cmp_total cut (Before 2) (Before 9) is.upper (inl refl);
-})))
-
 equal-not_less : Equal ≡ Less → ⊥
 equal-not_less e = cc
 
@@ -56,11 +49,17 @@ greater-not_less e = cc
 greater-not_equal : Greater ≡ Equal → ⊥
 greater-not_equal e = cc
 
-not-covers_apart : ¬ CoversOne nat_cmp (from_to 0 1 ∷ []) (from_to 1 2 ∷ [])
-not-covers_apart covers =
-    ⊎_elim (λ here. ⊎_elim
-    (λ within. equal-not_less (within (Before 1) (record { lower = inr refl; upper = refl })).upper)
-    (λ there. absurd there) here) (λ there. absurd there) covers
+-- one span of the second within the first is not enough
+not-some : ¬ CoversAll nat_cmp (from_to 0 9 ∷ []) (from_to 20 30 ∷ from_to 1 2 ∷ [])
+not-some covers =
+    ⊎_elim (λ here. greater-not_less here.upper) (λ there. absurd there)
+    (covers (Before 20) (inl (record { lower = inr refl; upper = refl })))
+
+-- spans that touch do not cover each other
+not-touching : ¬ CoversAll nat_cmp (from_to 0 1 ∷ []) (from_to 1 2 ∷ [])
+not-touching covers =
+    ⊎_elim (λ here. equal-not_less here.upper) (λ there. absurd there)
+    (covers (Before 1) (inl (record { lower = inr refl; upper = refl })))
 
 -- a gap between two spans of the first is not covered, whatever lies around
 not-hull : ¬ CoversAll nat_cmp (from_to 1 3 ∷ from_to 5 9 ∷ []) (from_to 2 8 ∷ [])

@@ -5,6 +5,7 @@ ghost use Rattle.semver_cuts.specs.declared.cut.Cut.{Cut};
 ghost use Rattle.semver_cuts.specs.Common.{IsInSome};
 ghost use Rattle.semver_cuts.specs.CommonSpans.{common_spans};
 ghost use Rattle.semver_cuts.specs.Rest.{AreRestSpans};
+ghost use Rattle.semver_cuts.specs.Sharing.{CoversAll};
 ghost use Rattle.node_semver.specs.Comparison.{version_cmp};
 ghost use Rattle.node_semver.specs.Meaning.{RangeAdmits};
 ghost use Rattle.node_semver.specs.RangeAlgebra.{sets_of_answer};
@@ -56,6 +57,7 @@ impl Range {
             ↔ (IsInSome version_cmp (common_spans version_cmp self.now other.now) cut
             ⊎ IsInSome version_cmp (sets_of_answer answer) cut)) }
         ensures holds { IfOk result (λ answer. IfSome answer IsRangeValue) }
+        ensures covered { IfOk result (λ answer. IsNone answer ↔ CoversAll version_cmp other.now self.now) }
     {
         let mut sets = Gathered::new(alloc);
         other

@@ -1,12 +1,12 @@
 use Rattle.std.proofs.Common.{rules, subst}
 use Rattle.semver_cuts.specs.Common.{IsInSome}
 use Rattle.semver_cuts.specs.Rest.{AreRestSpans}
-use Rattle.semver_cuts.specs.Lemmas.Rest.{common_rest-disjoint, common_rest-together, rest_spans-cuts}
+use Rattle.semver_cuts.specs.Lemmas.Rest.{common_rest-disjoint, common_rest-together, rest_spans-covered, rest_spans-cuts}
 use Rattle.node_semver.specs.Comparison.{version_cmp}
 use Rattle.node_semver.specs.Lemmas.Order.{version_total}
 use Rattle.node_semver.specs.RangeAlgebra.{sets_of_answer}
 use Rattle.node_semver.specs.RangeSets.{IsRangeValue}
-use Rattle.node_semver.proofs.Sets.AlgebraBounds.{none-exactly, rest-bounded}
+use Rattle.node_semver.proofs.Sets.AlgebraBounds.{none-exactly, none-listed, rest-bounded}
 use Rattle.node_semver.proofs.Sets.RangeAlgebra.{rest-releases}
 use Rattle.node_semver.proofs.range.Range.difference.Goals as goal
 
@@ -47,3 +47,11 @@ returns-clause-together c =
     search rules in
     λ cut.
     let either = common_rest-together version_total _ _ _ answered cut in (either.1, either.0)
+
+pub returns-clause-covered : goal.returns-clause-covered
+returns-clause-covered c =
+    let answered : AreRestSpans version_cmp c.args.self.now c.args.other.now (sets_of_answer c.in_ok-into_range.field-0) =
+    search rules in
+    let law = rest_spans-covered version_total _ _ _ answered in
+    let none = none-listed c.in_ok-into_range.field-0 c.in_ok-into_range.ensures.holds in
+    (λ is. law.0 (none.0 is), λ covers. none.1 (law.1 covers))

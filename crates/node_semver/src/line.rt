@@ -1,5 +1,5 @@
 //! Texts that are written into one array, from its end.
-ghost use Rattle.std.specs.Prelude.{◌≡◌, ◌+◌, ◌≤◌, ◌∷◌, ◌++◌, IfSome, decimal, drop};
+ghost use Rattle.std.specs.Prelude.{◌≡◌, ◌+◌, ◌≤◌, ◌∷◌, ◌++◌, decimal, drop};
 
 use itoa::write_digits;
 use std::str;
@@ -9,12 +9,13 @@ pub(crate) const ROOM: usize = 176;
 
 // `1.2.3` as a text
 #[inline]
-pub(crate) fn triple_text<'a>(line: &'a mut [u8; ROOM], triple: (u64, u64, u64)) -> Option<&'a str>
-    ensures { IfSome result (λ text.
-        text.now ≡ decimal triple.0 ++ (46 ∷ (decimal triple.1 ++ (46 ∷ decimal triple.2)))) }
+pub(crate) fn triple_text(line: &mut [u8; ROOM], major: u64, minor: u64, patch: u64) -> &str
+    ensures { result.now ≡ decimal major ++ (46 ∷ (decimal minor ++ (46 ∷ decimal patch))) }
 {
-    let start = put_triple_last(line, triple);
-    str::from_utf8(&line[start..]).ok()
+    let start = put_triple_last(line, (major, minor, patch));
+    let text = &line[start..];
+    // Digits and dots are ASCII.
+    unsafe { str::from_utf8_unchecked(text) }
 }
 
 // `1.2.3`, at the end of the line

@@ -51,7 +51,7 @@ impl Asked for Version {
     }
 }
 
-// Whether the set admits a version.
+// Whether the set admits a version. Most are releases, of which only triples are compared.
 #[inline(always)]
 pub(crate) fn admits<V: Asked>(set: &Span<End>, version: &V, comparisons: &mut Comparisons) -> bool
     ensures answer { IsTrue result ↔ SetAdmits set.now (V.asked version.now) }
@@ -59,8 +59,26 @@ pub(crate) fn admits<V: Asked>(set: &Span<End>, version: &V, comparisons: &mut C
     ensures unopened { IsPrerelease (V.asked version.now) → ¬ HasOpenEnd (V.asked version.now) set.now
         → comparisons.new ≡ comparisons.old }
 {
-    (!version.is_prerelease() || has_open_end(set, version))
-        && has_inside(set, version, comparisons)
+    if version.is_prerelease() {
+        admits_prerelease(set, version, comparisons)
+    } else {
+        has_inside(set, version, comparisons)
+    }
+}
+
+// The same of a prerelease.
+#[inline(never)]
+fn admits_prerelease<V: Asked>(
+    set: &Span<End>,
+    version: &V,
+    comparisons: &mut Comparisons,
+) -> bool
+    requires { IsPrerelease (V.asked version.now) }
+    ensures answer { IsTrue result ↔ SetAdmits set.now (V.asked version.now) }
+    ensures short { comparisons.new ≤ comparisons.old + 2 }
+    ensures unopened { ¬ HasOpenEnd (V.asked version.now) set.now → comparisons.new ≡ comparisons.old }
+{
+    has_open_end(set, version) && has_inside(set, version, comparisons)
 }
 
 // Whether the version lies in the set.
@@ -88,7 +106,7 @@ pub(crate) fn is_begun<V: Asked>(cut: &Cut<End>, version: &V, comparisons: &mut 
 }
 
 // Whether a prerelease of the version's triple stands at one of the set's ends.
-#[inline(never)]
+#[inline(always)]
 fn has_open_end<V: Asked>(set: &Span<End>, version: &V) -> bool
     ensures { IsTrue result ↔ HasOpenEnd (V.asked version.now) set.now }
 {

@@ -1,5 +1,5 @@
 //! The order of ends is that of the versions that they stand for.
-ghost use Rattle.std.specs.Prelude.{◌≡◌, Some, refl};
+ghost use Rattle.std.specs.Prelude.{◌≡◌, [], Some, refl};
 ghost use Rattle.std.specs.Cmp.{eq_by_cmp_equiv, partial_equiv_from_equiv, po};
 ghost use Rattle.std.specs.Ordering.{eq_by_cmp};
 ghost use Rattle.node_semver.specs.Comparison.{prerelease_cmp, version_cmp};
@@ -100,7 +100,22 @@ impl End {
         if self.patch != version.patch {
             return self.patch.cmp(&version.patch);
         }
+        if version.pre_release.is_empty() {
+            return self.cmp_release();
+        }
         self.cmp_pre_release(&version.pre_release)
+    }
+
+    // The order of the end and the release of its triple.
+    #[inline(always)]
+    fn cmp_release(&self) -> Ordering
+        ensures { result ≡ prerelease_cmp self.now.pre_release [] }
+    {
+        if self.is_prerelease() {
+            Ordering::Less
+        } else {
+            Ordering::Equal
+        }
     }
 
     #[inline(never)]

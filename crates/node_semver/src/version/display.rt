@@ -57,16 +57,12 @@ fn write_triple<W: fmt::Write>(f: &mut fmt::Formatter<W>, triple: (u64, u64, u64
         (decimal triple.0 ++ (46 ∷ (decimal triple.1 ++ (46 ∷ decimal triple.2)))) f.new }
 {
     let mut line = [0; ROOM];
-    match triple_text(&mut line, triple) {
-        Some(text) => f.write_str(text),
-        None => {
-            let (major, minor, patch) = triple;
-            write!(f, "{major}.{minor}.{patch}")
-        }
-    }
+    let (major, minor, patch) = triple;
+    f.write_str(triple_text(&mut line, major, minor, patch))
 }
 
-// The mark and the first identifier, then a dot and the next, and so on.
+// The mark and the first identifier, then a dot and the next, and so on. Most versions have none.
+#[inline(always)]
 fn write_marked<W: fmt::Write>(
     f: &mut fmt::Formatter<W>,
     mark: &str,
@@ -76,12 +72,23 @@ fn write_marked<W: fmt::Write>(
 {
     match identifiers {
         [] => Ok(()),
-        [first, rest @ ..] => {
-            f.write_str(mark)?;
-            fmt::Display::fmt(first, f)?;
-            write_dotted(f, rest)
-        }
+        [first, rest @ ..] => write_some(f, mark, first, rest),
     }
+}
+
+// The mark, the first identifier and the others.
+#[inline(never)]
+fn write_some<W: fmt::Write>(
+    f: &mut fmt::Formatter<W>,
+    mark: &str,
+    first: &Identifier,
+    others: &[Identifier],
+) -> fmt::Result
+    ensures { WritesOnOk W.write_str_gives f.old result (led_text mark.now (first.now ∷ others.now)) f.new }
+{
+    f.write_str(mark)?;
+    fmt::Display::fmt(first, f)?;
+    write_dotted(f, others)
 }
 
 // A dot and an identifier, for each of them.

@@ -1,11 +1,12 @@
 ghost use Rattle.std.specs.Prelude.{◌≡◌, ◌⊎◌, ◌≤◌, [], IfOk, IfErr, IfSome, IsOk, length};
 ghost use Rattle.node_semver.specs.Error.{IsOutOfMemory, kind_of};
 ghost use Rattle.node_semver.specs.Fault.{IsFaultOf};
+ghost use Rattle.node_semver.specs.Private.RangeViews.{BeginsWithTriple};
 ghost use Rattle.node_semver.specs.Private.ReadingViews.{IsErrorOf, IsMemoryOr, kind_in};
 ghost use Rattle.node_semver.specs.Print.{version_text};
 ghost use Rattle.node_semver.specs.ReadingBack.{HasText, VersionReadsBack};
 ghost use Rattle.node_semver.specs.declared.TheConstants.{MAX_LENGTH};
-ghost use Rattle.node_semver.specs.Version.{VersionValue, release};
+ghost use Rattle.node_semver.specs.Version.{VersionValue};
 ghost use Rattle.node_semver.specs.declared.parse.fault.Fault.TheVariants.{TooLarge};
 ghost use Rattle.node_semver.specs.VersionText.{IsReadAs, IsVersionText};
 
@@ -58,10 +59,14 @@ impl Version {
         ensures printed { (v : VersionValue) → HasText v → version_text v ≡ text.now
             → length text.now ≤ MAX_LENGTH → IsReadAs v result }
     {
-        match whole_triple(text.as_bytes()) {
-            Some((major, minor, patch)) => Ok(Version::new(alloc, major, minor, patch)),
+        match short_triple(text.as_bytes()) {
+            Some(((major, minor, patch), [])) => Ok(Version::new(alloc, major, minor, patch)),
+            Some((triple, rest)) => {
+                // Held before it is answered, as below: so no place is cleared for it where the text is three numbers.
+                let answer = extended_version(alloc, text, triple, rest);
+                answer
+            }
             None => {
-                // Held before it is answered: so no place is cleared for it where the text is three numbers alone.
                 let answer = version_in_parts(alloc, text);
                 answer
             }
@@ -69,15 +74,62 @@ impl Version {
     }
 }
 
-// The numbers of `1.2.3`, which is the whole text and no longer than a version's.
+// The numbers and `-alpha` of `1.2.3-alpha`, where the text is no longer than a version's.
 #[inline(always)]
-fn whole_triple(text: &[u8]) -> Option<(u64, u64, u64)>
-    ensures { IfSome result (λ t. IsVersionText text.now (release t.0 t.1 t.2)) }
+fn short_triple(text: &[u8]) -> Option<((u64, u64, u64), &[u8])>
+    ensures short { IfSome result (λ t. length text.now ≤ MAX_LENGTH) }
+    ensures triple { IfSome result (λ t. BeginsWithTriple text.now t.0.0 t.0.1 t.0.2 t.1.now) }
 {
     if text.len() > MAX_LENGTH {
         return None;
     }
-    parse::read_full_triple(text)
+    parse::read_leading_triple(text)
+}
+
+// The version of a text that begins with a triple, by what is left behind it.
+#[inline(never)]
+fn extended_version(
+    alloc: Global,
+    text: &str,
+    triple: (u64, u64, u64),
+    rest: &[u8],
+) -> Result<Version, SemverError>
+    requires short { length text.now ≤ MAX_LENGTH }
+    requires triple { BeginsWithTriple text.now triple.0 triple.1 triple.2 rest.now }
+    ensures found { IfOk result (λ v. IsVersionText text.now v) }
+    ensures fault { IfErr result (λ e. IsOutOfMemory e ⊎ IsFaultOf text.now e) }
+    ensures plain { (v : VersionValue) → IsVersionText text.now v → v.pre_release ≡ []
+        → v.build ≡ [] → IsOk result }
+{
+    match whole_extended(alloc, text.as_bytes(), triple, rest) {
+        Ok(version) => Ok(version),
+        Err(fault) => {
+            let error = refusal(alloc, text, fault);
+            Err(error)
+        }
+    }
+}
+
+// The same, or the fault of the text.
+#[inline(always)]
+fn whole_extended(
+    alloc: Global,
+    text: &[u8],
+    triple: (u64, u64, u64),
+    rest: &[u8],
+) -> Result<Version, Fault>
+    requires short { length text.now ≤ MAX_LENGTH }
+    requires triple { BeginsWithTriple text.now triple.0 triple.1 triple.2 rest.now }
+    ensures found { IfOk result (λ v. IsVersionText text.now v) }
+    ensures fault { IfErr result (IsMemoryOr text.now) }
+    ensures plain { (v : VersionValue) → IsVersionText text.now v → v.pre_release ≡ []
+        → v.build ≡ [] → IsOk result }
+{
+    match parse::read_extended(alloc, triple, rest) {
+        Ok((version, [])) => Ok(version),
+        Ok((_, rest)) => Err(Fault::LeftOver(rest.len())),
+        Err(fault) => Err(fault),
+    }
 }
 
 // The version that any text is.

@@ -1,0 +1,34 @@
+use Rattle.std.proofs.Common.{◌≡◌, ◌⊎◌, ◌∙◌, Err, arith, inr, subst, sym}
+use Rattle.node_semver.specs.Private.Reading.{Read}
+use Rattle.node_semver.specs.Private.ReadingViews.{IsPlainOk, IsWantOfMemory}
+use Rattle.node_semver.specs.Version.{VersionValue}
+use Rattle.node_semver.proofs.Words.PartialViews.{triple-version}
+use Rattle.node_semver.proofs.Versions.VersionParse.{left-no_version, plain-read, whole-fault, whole-found, whole-left}
+use Rattle.node_semver.proofs.version.parse.whole_extended.Goals as goal
+
+pub returns-in-Ok-default-empty-clause-found : goal.returns-in-Ok-default-empty-clause-found
+returns-in-Ok-default-empty-clause-found c =
+    whole-found c.args.text.now c.in-Ok-default-empty.version c.in-Ok-default-empty.field-0-1.now
+    c.requires.short (triple-version c.args.text.now c.args.rest.now _ _ _ c.requires.triple ∙ c.in-Ok-default-empty.ensures.read) (omega arith)
+
+pub returns-in-Ok-clause-fault : goal.returns-in-Ok-clause-fault
+returns-in-Ok-clause-fault c =
+    inr (whole-left c.args.text.now c.in-Ok.field-0-0 c.in-Ok.rest.now c.requires.short
+    (triple-version c.args.text.now c.args.rest.now _ _ _ c.requires.triple ∙ c.in-Ok.ensures.read) (omega arith))
+
+pub returns-in-Ok-clause-plain : goal.returns-in-Ok-clause-plain
+returns-in-Ok-clause-plain c =
+    λ v h pre build. absurd
+    (left-no_version c.args.text.now c.in-Ok.field-0-0 v c.in-Ok.rest.now
+    (triple-version c.args.text.now c.args.rest.now _ _ _ c.requires.triple ∙ c.in-Ok.ensures.read) (omega arith) h)
+
+pub returns-in-Err-clause-fault : goal.returns-in-Err-clause-fault
+returns-in-Err-clause-fault c =
+    whole-fault c.args.text.now c.in-Err.fault c.requires.short
+    (subst (λ (read : Read VersionValue). IsWantOfMemory c.in-Err.fault ⊎ (read ≡ Err c.in-Err.fault))
+    (sym (triple-version c.args.text.now c.args.rest.now _ _ _ c.requires.triple)) c.in-Err.ensures.read)
+
+pub returns-in-Err-clause-plain : goal.returns-in-Err-clause-plain
+returns-in-Err-clause-plain c =
+    λ v h p b. rw c.in-Err.is at (plain-read c.read_extended.result c.args.text.now v
+    (subst (IsPlainOk c.read_extended.result) (sym (triple-version c.args.text.now c.args.rest.now _ _ _ c.requires.triple)) c.read_extended.ensures.plain) h p b)

@@ -1,6 +1,5 @@
 -- Worked examples: how many spans the sets of a text are joined to, and how many comparisons a search takes at most.
 use Rattle.std.proofs.Common.{◌≡◌, ◌≤◌, ◌+◌, ◌*◌, ℕ, List, [], ◌∷◌, Some, arith, codes, refl}
-use Rattle.semver_cuts.specs.Ends.{Ends}
 use Rattle.semver_cuts.specs.Starts.{count_of_starts}
 use Rattle.node_semver.specs.Comparator.{at_least, below, from_up_to, with_major}
 use Rattle.node_semver.specs.Comparison.{version_cmp}

@@ -9,6 +9,7 @@ ghost use Rattle.node_semver.specs.Version.{IsPrerelease, VersionValue, release}
 use crate::end::End;
 use crate::{Comparisons, Version};
 use semver_cuts::{Cut, Span};
+use std::cmp::Ordering;
 
 // A version that sets are asked for: one that is built, or one that is compared before it is.
 pub(crate) trait Asked {
@@ -22,9 +23,9 @@ pub(crate) trait Asked {
         ensures minor { result.1 ≡ (asked self.now).minor }
         ensures patch { result.2 ≡ (asked self.now).patch };
 
-    // Whether the cut is at most the one before the version.
-    fn is_from(&self, cut: &Cut<End>) -> bool
-        ensures { IsTrue result ↔ IsCutAtMost version_cmp cut.now (Before (asked self.now)) };
+    // The order of an end and the version.
+    fn cmp_end(&self, end: &End) -> Ordering
+        ensures { result ≡ version_cmp end.now (asked self.now) };
 }
 
 impl Asked for Version {
@@ -41,13 +42,8 @@ impl Asked for Version {
     }
 
     #[inline(always)]
-    fn is_from(&self, cut: &Cut<End>) -> bool {
-        match cut {
-            Cut::Start => true,
-            Cut::Before(end) => end.cmp_version(self).is_le(),
-            Cut::After(end) => end.cmp_version(self).is_lt(),
-            Cut::End => false,
-        }
+    fn cmp_end(&self, end: &End) -> Ordering {
+        end.cmp_version(self)
     }
 }
 
@@ -102,7 +98,19 @@ pub(crate) fn is_begun<V: Asked>(cut: &Cut<End>, version: &V, comparisons: &mut 
     ensures counted { comparisons.new ≡ comparisons.old + 1 }
 {
     comparisons.add_one();
-    version.is_from(cut)
+    is_at_most(cut, version)
+}
+
+#[inline(always)]
+fn is_at_most<V: Asked>(cut: &Cut<End>, version: &V) -> bool
+    ensures { IsTrue result ↔ IsCutAtMost version_cmp cut.now (Before (V.asked version.now)) }
+{
+    match cut {
+        Cut::Start => true,
+        Cut::Before(end) => version.cmp_end(end).is_le(),
+        Cut::After(end) => version.cmp_end(end).is_lt(),
+        Cut::End => false,
+    }
 }
 
 // Whether a prerelease of the version's triple stands at one of the set's ends.

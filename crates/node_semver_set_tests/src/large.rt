@@ -65,6 +65,34 @@ fn intersects_a_thousand_sets(rt: HostRuntime) -> Result<(), Fail> {
     Ok(())
 }
 
+// A hundred sets, `99.0.0 - 99.9.0`, `98.0.0 - 98.9.0` and so on down to 0, with these texts around
+// the two ends.
+fn descending(
+    alloc: Global,
+    before: &str,
+    between: &str,
+    behind: &str,
+) -> Result<String, AllocError> {
+    let mut whole = String::new(alloc);
+    for step in 0..99u64 {
+        let major = 99u64.wrapping_sub(step);
+        write!(whole, "{before}{major}.0.0{between}{major}.9.0{behind}||")?;
+    }
+    write!(whole, "{before}0.0.0{between}0.9.0{behind}")?;
+    Ok(whole)
+}
+
+// Of equal lower ends the second range's stays, and of equal upper ends the first one's, in the order of the first.
+#[test]
+fn intersects_descending_sets(rt: HostRuntime) -> Result<(), Fail> {
+    let one = descending(rt.alloc(), "", " - ", "+a")?;
+    let other = descending(rt.alloc(), "", "+b - ", "")?;
+    let both = descending(rt.alloc(), ">=", "+b <=", "+a")?;
+    is_text(&rt, &common(rt.alloc(), &one, &other)?, &both);
+    is_text(&rt, &rest(rt.alloc(), &one, &other)?, "None");
+    Ok(())
+}
+
 #[test]
 fn takes_a_thousand_sets_away(rt: HostRuntime) -> Result<(), Fail> {
     let sets = many_sets(rt.alloc(), "0.0.9")?;

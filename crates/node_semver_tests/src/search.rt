@@ -34,7 +34,20 @@ fn finds_releases_among_joined_sets(rt: HostRuntime) -> Result<(), Fail> {
     )?;
     admits(&rt, "1 || 1.5 - 3 || 2", "1.0.0 2.9.9 3.9.9", "0.9.9 4.0.0")?;
     admits(&rt, "1 || >=2.0.0-0", "1.0.0 2.0.0 9.0.0", "0.9.9")?;
-    admits(&rt, "1 || 2", "1.0.0 2.0.0 2.9.9", "0.9.9 3.0.0")
+    admits(&rt, "1 || 2", "1.0.0 2.0.0 2.9.9", "0.9.9 3.0.0")?;
+    admits(&rt, "1 || 3 || 1", "1.0.0 3.9.9", "0.9.9 2.0.0 4.0.0")?;
+    admits(
+        &rt,
+        "5 || 1 - 4 || 2 - 3",
+        "1.0.0 3.5.0 4.9.9 5.0.0",
+        "0.9.9 6.0.0",
+    )?;
+    admits(
+        &rt,
+        ">=3.0.0+d || >=1.0.0+a <2.0.0 || >=1.0.0+b <3.0.0+c",
+        "1.0.0 2.0.0 3.0.0 9.0.0",
+        "0.9.9",
+    )
 }
 
 // Where no end opens a triple, and where two sets do.
@@ -60,6 +73,9 @@ fn finds_prereleases_in_the_sets_that_open_their_triple(rt: HostRuntime) -> Resu
 fn answers_alike_with_a_counter(rt: HostRuntime) -> Result<(), Fail> {
     counts(&rt, "^1.2.3", "1.9.0")?;
     counts(&rt, "1 || 3 || 5", "3.9.0")?;
+    counts(&rt, "1 || 1.5 - 3 || 2", "4.0.0")?;
+    counts(&rt, "1 || >=2.0.0-0", "2.0.0")?;
+    counts(&rt, "1 || 2", "2.0.0-0")?;
     counts(&rt, ">=1.2.3-rc.4 <1.2.3-rc.6 || <2.0.0", "1.2.3-rc.5")?;
     counts(&rt, ">=1.2.3-rc.4 <1.2.3-rc.6 || <2.0.0", "1.2.3-rc.7")
 }

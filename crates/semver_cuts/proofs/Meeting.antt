@@ -1,4 +1,5 @@
--- What is found along two lists in the order of their lower ends: each pair of spans that meet, and no places but theirs.
+-- What is found along two lists in the order of their lower ends: each pair of spans that meet, and pairs of places
+-- of the two lists alone.
 use Rattle.std.proofs.Common.{◌≡◌, ◌⊎◌, ℕ, ◌+◌, ◌<◌, Bool, true, false, List, [], ◌∷◌, ◌++◌, ◌==◌, ◌&&◌, Ordering, drop, get_or, length, ap, sym, subst, refl, ◌∙◌, inl, inr, if◌then◌else◌}
 use mathlib.Core.Bool.{true≢false}
 use Rattle.std.specs.List.{AllByRecursion, dedup, flat_map}

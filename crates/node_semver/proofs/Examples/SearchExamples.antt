@@ -1,6 +1,5 @@
 -- Worked examples: how many spans the sets of a text are joined to, and how many comparisons a search takes at most.
 use Rattle.std.proofs.Common.{◌≡◌, ◌≤◌, ◌+◌, ◌*◌, ℕ, List, [], ◌∷◌, Some, arith, codes, refl}
-use Rattle.semver_cuts.specs.Ends.{Ends}
 use Rattle.semver_cuts.specs.Starts.{count_of_starts}
 use Rattle.node_semver.specs.Comparator.{at_least, below, from_up_to, with_major}
 use Rattle.node_semver.specs.Comparison.{version_cmp}
@@ -40,7 +39,8 @@ apart = release-bound _ (with_major 1 ∷ with_major 3 ∷ with_major 5 ∷ []) 
 overlapping : IsReleaseBound (codes "1 || 1.5 - 3 || 2") 1 2
 unfolding sets_in
 overlapping =
-    release-bound _ (with_major 1 ∷ from_up_to (release 1 5 0) (least_of 4 0 0) ∷ with_major 2 ∷ []) 1 1 refl refl (omega arith)
+    release-bound _ (with_major 1 ∷ from_up_to (release 1 5 0) (least_of 4 0 0) ∷ with_major 2 ∷ []) 1 1 refl refl
+    (omega arith)
 
 -- sets that touch are one
 touching : IsReleaseBound (codes "1 || >=2.0.0-0") 1 2

@@ -56,19 +56,6 @@ inside-after v w upper below is test = (
         ap (λ r. ordering_then r Less) ((Greater-turned version_total v w).1 less) in
         cc (e, greater)
 
--- and at least an end before another where it is not below it
-pub from-before : (v w : VersionValue) (lower : Cut VersionValue) (below : Bool) → lower ≡ Before w
-    → IsTrue below ↔ (version_cmp v w ≡ Less) → IsTrue (not below) ↔ IsCutAtMost version_cmp lower (Before v)
-from-before v w lower below is test = (
-  λ h. subst (λ (c : Cut VersionValue). IsCutAtMost version_cmp c (Before v)) (sym is)
-      (at-least w v (λ less. so-not below h (test.1 less))),
-  λ from. not-so below (λ yes. backward (test.0 yes) (subst (λ (c : Cut VersionValue). IsCutAtMost version_cmp c (Before v)) is from)),
-)
-  where
-    backward : version_cmp v w ≡ Less → ¬ ((version_cmp w v ≡ Less) ⊎ (version_cmp w v ≡ Equal))
-    backward less (inl above) = cc ((Greater-turned version_total v w).1 above, less)
-    backward less (inr same) = cc (tied_back version_total w v same, less)
-
 -- ---- where a cut begins
 
 -- the cut is at most the one before the version, and of no version below it

@@ -41,8 +41,8 @@ impl Range {
     ///
     /// # Memory
     ///
-    /// Takes the identifiers of the answer's ends, and a list where the answer has several sets. Where there are many sets
-    /// and those of `other` do not ascend apart from one another, both lists are put in order too.
+    /// Takes the identifiers of the answer's ends, and a list where the answer has several sets. Where there are many
+    /// sets, and those of `other` do not ascend apart from one another, both lists are put in order too.
     ///
     /// # Examples
     ///

@@ -1,5 +1,5 @@
--- Which spans of two lists meet, found along both in the order of their lower ends: one of two spans that meet begins in
--- the other.
+-- Which spans of two lists meet, found along both in the order of their lower ends: one of two spans that meet begins
+-- in the other.
 use Rattle.std.specs.Prelude.{◌≡◌, ℕ, ◌<◌, Bool, List, [], ◌∷◌, ◌++◌, if◌then◌else◌, length}
 use Rattle.std.specs.List.{AllByRecursion, flat_map}
 use Rattle.std.specs.Ordering.{is_lt}

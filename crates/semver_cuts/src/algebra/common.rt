@@ -33,13 +33,14 @@ impl<'a, 'p, T: Ord> Merged<'a, 'p, T> {
     ///
     /// # Memory
     ///
-    /// Takes none beside what `into` takes where this list is merged as it stands, as one span always is, or where there
-    /// are few pairs. Else it takes room for both lists in their order, and for the pairs that meet.
+    /// Takes none beside what `into` takes where this list is merged as it stands, as one span always is, or where
+    /// there are few pairs. Else it takes room for both lists in their order, and for the pairs that meet.
     ///
     /// # Examples
     ///
-    /// `Before(0)` up to `Before(1)` and `Before(3)` up to `Before(5)`, with `After(0)` up to `Before(4)`, give `After(0)`
-    /// up to `Before(1)` and `Before(3)` up to `Before(4)`. With `Before(1)` up to `Before(3)` they give nothing.
+    /// `Before(0)` up to `Before(1)` and `Before(3)` up to `Before(5)`, with `After(0)` up to `Before(4)`, give
+    /// `After(0)` up to `Before(1)` and `Before(3)` up to `Before(4)`. With `Before(1)` up to `Before(3)` they give
+    /// nothing.
     pub fn common_with<S: Gather<'a, T>>(
         &self,
         alloc: Global,

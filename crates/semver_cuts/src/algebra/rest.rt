@@ -13,8 +13,8 @@ impl<'a, 'p, T: Ord> Merged<'a, 'p, T> {
     /// Hands over what each span of a list has and no span of this one has: its greatest pieces, in ascending order.
     ///
     /// A cut lies in one of the pieces of a span exactly where it lies in the span and in none of this list, and no two
-    /// pieces of a span touch. The pieces of an earlier span come first, those of one span lowest first. A span that has
-    /// no cut in common with this list is its own piece, and one whose cuts all lie in this list has none.
+    /// pieces of a span touch. The pieces of an earlier span come first, those of one span lowest first. A span that
+    /// has no cut in common with this list is its own piece, and one whose cuts all lie in this list has none.
     ///
     /// A piece begins and ends where its span does, or at an end of a span of this list. Where several of these end or
     /// begin at that cut, the end is that of the first of them.

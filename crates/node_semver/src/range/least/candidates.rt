@@ -1,5 +1,6 @@
 //! Versions at which the least one beyond another range may be, asked of sets before they are built.
 ghost use Rattle.std.specs.Prelude.{◌≡◌, ◌↔◌, IsTrue};
+ghost use Rattle.node_semver.specs.Comparison.{prerelease_cmp};
 ghost use Rattle.node_semver.specs.Meaning.{RangeAdmits};
 ghost use Rattle.node_semver.specs.Version.{least_of, release, without_build};
 
@@ -7,7 +8,7 @@ use crate::end::{End, Lent};
 use crate::range::least::unbuilt::Unbuilt;
 use crate::set::Asked;
 use crate::{Comparisons, Range};
-use semver_cuts::Cut;
+use std::cmp::Ordering;
 
 impl<'a> Unbuilt<'a> {
     // The release with this triple.
@@ -66,13 +67,32 @@ impl<'a> Asked for Unbuilt<'a> {
         (self.major, self.minor, self.patch)
     }
 
-    #[inline]
-    fn is_from(&self, cut: &Cut<End>) -> bool {
-        match cut {
-            Cut::Start => true,
-            Cut::Before(end) => !self.is_below(&Unbuilt::at_end(end)),
-            Cut::After(end) => Unbuilt::at_end(end).is_below(self),
-            Cut::End => false,
+    #[inline(always)]
+    fn cmp_end(&self, end: &End) -> Ordering {
+        if end.major != self.major {
+            return end.major.cmp(&self.major);
         }
+        if end.minor != self.minor {
+            return end.minor.cmp(&self.minor);
+        }
+        if end.patch != self.patch {
+            return end.patch.cmp(&self.patch);
+        }
+        cmp_prereleases(end, self)
+    }
+}
+
+// The order of an end and a version with one triple.
+#[inline(never)]
+fn cmp_prereleases(end: &End, version: &Unbuilt<'_>) -> Ordering
+    ensures { result ≡ prerelease_cmp end.now.pre_release version.now.pre_release }
+{
+    let end = Unbuilt::at_end(end);
+    if end.is_prerelease_below(version) {
+        Ordering::Less
+    } else if version.is_prerelease_below(&end) {
+        Ordering::Greater
+    } else {
+        Ordering::Equal
     }
 }

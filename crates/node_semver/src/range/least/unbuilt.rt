@@ -118,7 +118,7 @@ impl<'a> Unbuilt<'a> {
 
     // The same of two versions with one triple.
     #[inline(never)]
-    fn is_prerelease_below(&self, other: &Unbuilt<'_>) -> bool
+    pub(crate) fn is_prerelease_below(&self, other: &Unbuilt<'_>) -> bool
         ensures { IsTrue result ↔ (prerelease_cmp self.now.pre_release other.now.pre_release ≡ Less) }
     {
         let zero = Zero::new();

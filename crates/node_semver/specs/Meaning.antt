@@ -11,7 +11,7 @@ use Rattle.std.specs.Prelude.{◌≢◌, ◌⊎◌, ℕ, List, []}
 use Rattle.std.specs.List.{AllByRecursion}
 use Rattle.semver_cuts.specs.declared.cut.Cut.{Cut}
 use Rattle.semver_cuts.specs.declared.cut.Cut.TheVariants.{Start, Before, After, End}
-use Rattle.semver_cuts.specs.Common.{HasCommonCut}
+use Rattle.semver_cuts.specs.Common.{HasCutInEvery}
 use Rattle.semver_cuts.specs.Ends.{Ends, IsInSpan}
 pub use Rattle.semver_cuts.specs.Sharing.{AnyByRecursion}
 use Rattle.node_semver.specs.Comparator.{Comparator}
@@ -42,7 +42,7 @@ pub record Admit (comparators : List Comparator) (v : VersionValue) : Type 0 whe
 -- there is a comparator, and a cut is common to all of them
 pub record GiveSet (comparators : List Comparator) : Type 0 where
   pub some : comparators ≢ []
-  pub common : HasCommonCut version_cmp comparators
+  pub common : HasCutInEvery version_cmp comparators
 
 -- no alternative has a comparator and a cut common to all its comparators
 pub record IsRefused (text : List ℕ) : Type 0 where

@@ -10,8 +10,8 @@ abbrev pub IsInEvery : {T : Type 0} → (T → T → Ordering) → List (Ends T)
 IsInEvery {T} cmp spans cut = AllByRecursion (λ (span : Ends T). IsInSpan cmp span cut) spans
 
 -- some cut lies in each of the spans: not in 1 to 2 and 3 to 5
-abbrev pub HasCommonCut : {T : Type 0} → (T → T → Ordering) → List (Ends T) → Type 0
-HasCommonCut {T} cmp spans = (cut : Cut T) × IsInEvery cmp spans cut
+abbrev pub HasCutInEvery : {T : Type 0} → (T → T → Ordering) → List (Ends T) → Type 0
+HasCutInEvery {T} cmp spans = (cut : Cut T) × IsInEvery cmp spans cut
 
 -- the cut lies in one of the spans: `Before 2` and `Before 5` in 1 to 3 and 4 to 6
 abbrev pub IsInSome : {T : Type 0} → (T → T → Ordering) → List (Ends T) → Cut T → Type 0

@@ -90,7 +90,7 @@ impl<R: Read> Gauge<R> {
     /// Into a piece of four bytes, of a reader that holds `yes`: `Ok(3)`, then `Ok(0)`, and the gauge has not failed.
     pub fn read(&mut self, piece: &mut [u8]) -> io::Result<usize>
         requires { ¬ HasFailed self.old }
-        ensures bound { ReadsAtMost result piece.new }
+        ensures at_most { ReadsAtMost result piece.new }
         ensures bytes { ReadConsumes (R.remaining self.old.inner) (R.remaining self.new.inner)
             result piece.new }
         ensures mark { HasFailed self.new ↔ IsErr result }
@@ -117,7 +117,7 @@ impl<W: Write> Gauge<W> {
     /// To a writer with room for two bytes: `yes` gives `Ok(2)`, `s` gives `Ok(0)`, and the gauge has then failed.
     pub fn write(&mut self, piece: &[u8]) -> io::Result<usize>
         requires { ¬ HasFailed self.old }
-        ensures bound { WritesAtMost result piece.now }
+        ensures at_most { WritesAtMost result piece.now }
         ensures bytes { WriteAppends (W.contents self.old.inner) (W.contents self.new.inner)
             result piece.now }
         ensures mark { HasFailed self.new ↔ IsFailedWrite piece.now result }

@@ -7,7 +7,7 @@ use Rattle.std.specs.Cmp.{IsTotalOrder}
 use Rattle.std.specs.List.{AllByRecursion}
 use Rattle.std.proofs.lemmas.List.{append_assoc}
 use Rattle.semver_cuts.specs.declared.cut.Cut.{Cut}
-use Rattle.semver_cuts.specs.Common.{HasCommonCut, IsInEvery}
+use Rattle.semver_cuts.specs.Common.{HasCutInEvery, IsInEvery}
 use Rattle.semver_cuts.specs.Ends.{Ends, HoldsCut, IsCutAtMost, IsCutBelow, IsInSpan, span_between}
 use Rattle.semver_cuts.specs.Merging.{IsChosenEnd, IsFirstLeastUpper, IsLastGreatestLower}
 use Rattle.semver_cuts.specs.Private.Merging.{IsEarlierLeast, IsLaterGreatest}
@@ -246,5 +246,5 @@ module _ {T : Type 0} {cmp : T → T → Ordering} (o : IsTotalOrder cmp) where
     in_every-between cut = (every-between cut, between-every cut)
 
     -- the spans have a cut in common exactly where one lies between the chosen ends
-    pub common-holds : HasCommonCut cmp spans ↔ HoldsCut cmp (span_between lower upper)
+    pub common-holds : HasCutInEvery cmp spans ↔ HoldsCut cmp (span_between lower upper)
     common-holds = (λ h. (h.0, every-between h.0 h.1), λ h. (h.0, between-every h.0 h.1))

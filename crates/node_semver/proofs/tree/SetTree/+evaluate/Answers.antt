@@ -18,24 +18,24 @@ returns-in_ok-evaluate-in-Some t c =
     let tree = formula_of c.args.self.now in
     let one = formula_of c.deref.result.now in
     let other = formula_of c.deref-in-Some.result.now in
-    let found = c.common-in-Some.result in
+    let found = c.common.result in
     let others = sets_of_answer c.in_ok-evaluate-in-Some.field-0 in
     let same : tree ≡ both one other = cc (c.in-Both.is, c.deref.ensures, c.deref-in-Some.ensures) in
     let has = subst (λ answer. AreSetsOfTree one (sets_of_answer answer)) c.in-Some.is
     c.in_ok-one-in-Both.ensures.sets in
     answered tree found (both-sets tree one other c.in-Some.one others found same has
-    c.in_ok-evaluate-in-Some.ensures.sets c.common-in-Some.ensures.sets) c.common-in-Some.ensures.holds
+    c.in_ok-evaluate-in-Some.ensures.sets c.common.ensures.sets) c.common.ensures.holds
 
 pub returns-in_ok-evaluate-in-Some-2 : goal.returns-in_ok-evaluate-in-Some-2
 returns-in_ok-evaluate-in-Some-2 t c =
     let tree = formula_of c.args.self.now in
     let one = formula_of c.deref-in-Without.result.now in
     let other = formula_of c.deref-in-Some-2.result.now in
-    let found = c.rest-in-Some-2.result in
+    let found = c.rest.result in
     let others = sets_of_answer c.in_ok-evaluate-in-Some-2.field-0 in
     let same : tree ≡ without one other =
     cc (c.in-Without.is, c.deref-in-Without.ensures, c.deref-in-Some-2.ensures) in
     let has = subst (λ answer. AreSetsOfTree one (sets_of_answer answer)) c.in-Some-2.is
     c.in_ok-one-in-Without.ensures.sets in
     answered tree found (without-sets tree one other c.in-Some-2.one others found same has
-    c.in_ok-evaluate-in-Some-2.ensures.sets c.rest-in-Some-2.ensures.sets) c.rest-in-Some-2.ensures.holds
+    c.in_ok-evaluate-in-Some-2.ensures.sets c.rest.ensures.sets) c.rest.ensures.holds

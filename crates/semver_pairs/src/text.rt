@@ -5,7 +5,7 @@ ghost use Rattle.std.specs.Str.{IsAscii};
 use std::str;
 
 /// The text of a line, or none where it is not UTF-8. What is known to be ASCII is not looked at again.
-#[inline]
+#[inline(always)]
 pub(crate) fn text_of(line: &[u8], is_ascii: bool) -> Option<&str>
     requires { IsTrue is_ascii → IsAscii line.now }
     ensures text { IfSome result (λ text. (text.now ≡ line.now) × IsUtf8 line.now) }
@@ -18,7 +18,7 @@ pub(crate) fn text_of(line: &[u8], is_ascii: bool) -> Option<&str>
 }
 
 /// Whether a line is ASCII, which may be known.
-#[inline]
+#[inline(always)]
 fn is_ascii_line(line: &[u8], is_known: bool) -> bool
     requires { IsTrue is_known → IsAscii line.now }
     ensures { IsTrue result → IsAscii line.now }

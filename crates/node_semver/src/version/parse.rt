@@ -61,13 +61,9 @@ impl Version {
     {
         match short_triple(text.as_bytes()) {
             Some(((major, minor, patch), [])) => Ok(Version::new(alloc, major, minor, patch)),
-            Some((triple, rest)) => {
-                // Held before it is answered, as below: so no place is cleared for it where the text is three numbers.
-                let answer = extended_version(alloc, text, triple, rest);
-                answer
-            }
-            None => {
-                let answer = version_in_parts(alloc, text);
+            found => {
+                // Held before it is answered: so no place is cleared for it where the text is three numbers alone.
+                let answer = version_in_parts(alloc, text, found);
                 answer
             }
         }
@@ -86,22 +82,21 @@ fn short_triple(text: &[u8]) -> Option<((u64, u64, u64), &[u8])>
     parse::read_leading_triple(text)
 }
 
-// The version of a text that begins with a triple, by what is left behind it.
+// The version that any text is, by the triple that it was found to begin with, or from its first byte.
 #[inline(never)]
-fn extended_version(
+fn version_in_parts(
     alloc: Global,
     text: &str,
-    triple: (u64, u64, u64),
-    rest: &[u8],
+    found: Option<((u64, u64, u64), &[u8])>,
 ) -> Result<Version, SemverError>
-    requires short { length text.now ≤ MAX_LENGTH }
-    requires triple { BeginsWithTriple text.now triple.0 triple.1 triple.2 rest.now }
+    requires short { IfSome found (λ t. length text.now ≤ MAX_LENGTH) }
+    requires triple { IfSome found (λ t. BeginsWithTriple text.now t.0.0 t.0.1 t.0.2 t.1.now) }
     ensures found { IfOk result (λ v. IsVersionText text.now v) }
     ensures fault { IfErr result (λ e. IsOutOfMemory e ⊎ IsFaultOf text.now e) }
     ensures plain { (v : VersionValue) → IsVersionText text.now v → v.pre_release ≡ []
         → v.build ≡ [] → IsOk result }
 {
-    match whole_extended(alloc, text.as_bytes(), triple, rest) {
+    match whole_found(alloc, text.as_bytes(), found) {
         Ok(version) => Ok(version),
         Err(fault) => {
             let error = refusal(alloc, text, fault);
@@ -111,6 +106,26 @@ fn extended_version(
 }
 
 // The same, or the fault of the text.
+#[inline(always)]
+fn whole_found(
+    alloc: Global,
+    text: &[u8],
+    found: Option<((u64, u64, u64), &[u8])>,
+) -> Result<Version, Fault>
+    requires short { IfSome found (λ t. length text.now ≤ MAX_LENGTH) }
+    requires triple { IfSome found (λ t. BeginsWithTriple text.now t.0.0 t.0.1 t.0.2 t.1.now) }
+    ensures found { IfOk result (λ v. IsVersionText text.now v) }
+    ensures fault { IfErr result (IsMemoryOr text.now) }
+    ensures plain { (v : VersionValue) → IsVersionText text.now v → v.pre_release ≡ []
+        → v.build ≡ [] → IsOk result }
+{
+    match found {
+        Some((triple, rest)) => whole_extended(alloc, text, triple, rest),
+        None => whole(alloc, text),
+    }
+}
+
+// The version of a text that begins with a triple, by what is left behind it, or the fault of the text.
 #[inline(always)]
 fn whole_extended(
     alloc: Global,
@@ -132,24 +147,7 @@ fn whole_extended(
     }
 }
 
-// The version that any text is.
-#[inline(never)]
-fn version_in_parts(alloc: Global, text: &str) -> Result<Version, SemverError>
-    ensures found { IfOk result (λ v. IsVersionText text.now v) }
-    ensures fault { IfErr result (λ e. IsOutOfMemory e ⊎ IsFaultOf text.now e) }
-    ensures plain { (v : VersionValue) → IsVersionText text.now v → v.pre_release ≡ []
-        → v.build ≡ [] → IsOk result }
-{
-    match whole(alloc, text.as_bytes()) {
-        Ok(version) => Ok(version),
-        Err(fault) => {
-            let error = refusal(alloc, text, fault);
-            Err(error)
-        }
-    }
-}
-
-// The same, or the fault of the text.
+// The same of any text.
 #[inline(always)]
 fn whole(alloc: Global, text: &[u8]) -> Result<Version, Fault>
     ensures found { IfOk result (λ v. IsVersionText text.now v) }

@@ -19,34 +19,18 @@ pub returns-in-Some-default-empty-clause-printed : goal.returns-in-Some-default-
 returns-in-Some-default-empty-clause-printed c =
     answer-printed c.args.text.now (Ok c.new.result) (returns-in-Some-default-empty-clause-found c) tt
 
--- ---- a text that goes on behind a triple
-
-pub returns-in-Some-clause-only : goal.returns-in-Some-clause-only
-returns-in-Some-clause-only c =
-    only-answer c.args.text.now c.extended_version-answer.result c.extended_version-answer.ensures.found
-    c.extended_version-answer.ensures.fault
-
-pub returns-in-Some-clause-print : goal.returns-in-Some-clause-print
-returns-in-Some-clause-print c =
-    answer-reads_back c.args.text.now c.extended_version-answer.result c.extended_version-answer.ensures.found
-
-pub returns-in-Some-clause-printed : goal.returns-in-Some-clause-printed
-returns-in-Some-clause-printed c =
-    answer-printed c.args.text.now c.extended_version-answer.result c.extended_version-answer.ensures.found
-    c.extended_version-answer.ensures.fault
-
 -- ---- a text that is read in parts
 
-pub returns-in-None-clause-only : goal.returns-in-None-clause-only
-returns-in-None-clause-only c =
+pub returns-in_default-clause-only : goal.returns-in_default-clause-only
+returns-in_default-clause-only c =
     only-answer c.args.text.now c.version_in_parts-answer.result c.version_in_parts-answer.ensures.found
     c.version_in_parts-answer.ensures.fault
 
-pub returns-in-None-clause-print : goal.returns-in-None-clause-print
-returns-in-None-clause-print c =
+pub returns-in_default-clause-print : goal.returns-in_default-clause-print
+returns-in_default-clause-print c =
     answer-reads_back c.args.text.now c.version_in_parts-answer.result c.version_in_parts-answer.ensures.found
 
-pub returns-in-None-clause-printed : goal.returns-in-None-clause-printed
-returns-in-None-clause-printed c =
+pub returns-in_default-clause-printed : goal.returns-in_default-clause-printed
+returns-in_default-clause-printed c =
     answer-printed c.args.text.now c.version_in_parts-answer.result c.version_in_parts-answer.ensures.found
     c.version_in_parts-answer.ensures.fault

@@ -1,0 +1,10 @@
+-- What the exports say, beside the definitions of `node_semver` that they name.
+
+-- ---- what C passes
+pub mod Handles
+
+-- ---- what a call tells
+pub mod Status
+pub mod Told
+pub mod Answers
+pub mod Printed

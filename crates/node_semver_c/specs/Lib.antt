@@ -5,6 +5,6 @@ pub mod Handles
 
 -- ---- what a call tells
 pub mod Status
-pub mod Told
 pub mod Answers
+pub mod Compared
 pub mod Printed

@@ -3,7 +3,11 @@
 
 mod handle;
 mod loose;
+mod status;
+mod text;
+mod version;
 
 pub use handle::Opaque;
 pub use handle::range::{RangeHandle, RangeRef};
 pub use handle::version::{VersionHandle, VersionRef};
+pub use status::{Fault, NONE, NOT_UTF8, OK, OUT_OF_MEMORY, REFUSED};

@@ -50,11 +50,15 @@ pub record IsSomeTold {X : Type 0} (Answers : Result X SemverError → Type 0) (
 
 -- ---- what may be none
 
--- memory aside, the handle has the answer of the call, and the status says whether there is one
-pub data IsFound {X : Type 0} (Answers : Option X → Type 0) : ℕ → Option X → Type 0 where
-  found : (x : X) → Answers (Some x) → IsFound Answers OK (Some x)
-  none : Answers None → IsFound Answers NONE None
-  no_memory : IsFound Answers OUT_OF_MEMORY None
+-- the status of a call that made an answer, or found that there is none
+abbrev pub status_found : {X : Type 0} → Option X → ℕ
+status_found None = NONE
+status_found (Some x) = OK
+
+-- the handle has the answer of the call, or there was no memory and it is empty
+abbrev pub IsFound : {X : Type 0} → (Option X → Type 0) → ℕ → Option X → Type 0
+IsFound Answers status held =
+    (Answers held × (status ≡ status_found held)) ⊎ ((status ≡ OUT_OF_MEMORY) × (held ≡ None))
 
 -- what `Range::intersect` answers
 pub record IsIntersection (one other : List (Ends VersionValue)) (answer : Option (List (Ends VersionValue))) : Type 0 where

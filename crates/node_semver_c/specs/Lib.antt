@@ -6,5 +6,7 @@ pub mod Handles
 -- ---- what a call tells
 pub mod Status
 pub mod Answers
+pub mod Greatest
 pub mod Compared
+pub mod Pair
 pub mod Printed

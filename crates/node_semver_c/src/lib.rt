@@ -1,8 +1,12 @@
 //! Exports of `node_semver` for C. `include/node_semver.h` declares them.
 #![tactic(auto)]
 
+mod algebra;
+mod greatest;
 mod handle;
 mod loose;
+mod pair;
+mod range;
 mod status;
 mod text;
 mod version;

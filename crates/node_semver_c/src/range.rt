@@ -8,6 +8,7 @@ ghost use Rattle.node_semver.specs.RangeAnswer.{IsRangeAnswer};
 ghost use Rattle.node_semver.specs.RangeEquality.{AreSameCuts};
 ghost use Rattle.node_semver.specs.RangePrint.{range_text};
 ghost use Rattle.node_semver_c.specs.Answers.{IsSomeTold};
+ghost use Rattle.node_semver_c.specs.Compared.{range_hash};
 ghost use Rattle.node_semver_c.specs.Printed.{IsPrinted};
 ghost use Rattle.node_semver_c.specs.declared.status.TheConstants.{NOT_UTF8};
 
@@ -17,6 +18,7 @@ use crate::status::{Fault, NOT_UTF8, keep_range, tell};
 use crate::text::put;
 use node_semver::Range;
 use std::alloc::Global;
+use std::hash::{FoldHasher, Hash, Hasher};
 
 /// `Range::parse`: the range is in the handle, or its fault is told.
 #[unsafe(no_mangle)]
@@ -98,4 +100,14 @@ pub extern "C" fn node_semver_range_allows_all(one: &RangeRef, other: &RangeRef)
     ensures { IsTrue result ↔ CoversOne version_cmp one.now.value other.now.value }
 {
     one.get().allows_all(other.get())
+}
+
+/// A hash: equal ranges have one.
+#[unsafe(no_mangle)]
+pub extern "C" fn node_semver_range_hash(range: &RangeRef) -> u64
+    ensures { result ≡ range_hash range.now.value }
+{
+    let mut hasher = FoldHasher::default();
+    range.get().hash(&mut hasher);
+    hasher.finish()
 }

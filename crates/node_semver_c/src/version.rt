@@ -5,7 +5,7 @@ ghost use Rattle.node_semver.specs.Order.{OrderMeans};
 ghost use Rattle.node_semver.specs.Print.{version_text};
 ghost use Rattle.node_semver.specs.Version.{IsPrerelease};
 ghost use Rattle.node_semver_c.specs.Answers.{IsSomeTold, IsVersionAnswer};
-ghost use Rattle.node_semver_c.specs.Compared.{sign_of};
+ghost use Rattle.node_semver_c.specs.Compared.{sign_of, version_hash};
 ghost use Rattle.node_semver_c.specs.Printed.{IsPrinted};
 ghost use Rattle.node_semver_c.specs.declared.status.TheConstants.{NOT_UTF8};
 
@@ -15,6 +15,7 @@ use crate::text::put;
 use node_semver::Version;
 use std::alloc::Global;
 use std::cmp::Ordering;
+use std::hash::{FoldHasher, Hash, Hasher};
 
 /// `Version::parse`: the version is in the handle, or its fault is told.
 #[unsafe(no_mangle)]
@@ -111,4 +112,14 @@ pub extern "C" fn node_semver_version_patch(version: &VersionRef) -> u64
 {
     let version = version.get();
     version.patch
+}
+
+/// A hash: equal versions have one.
+#[unsafe(no_mangle)]
+pub extern "C" fn node_semver_version_hash(version: &VersionRef) -> u64
+    ensures { result ≡ version_hash version.now.value }
+{
+    let mut hasher = FoldHasher::default();
+    version.get().hash(&mut hasher);
+    hasher.finish()
 }

@@ -243,15 +243,18 @@ static void run(const struct row *row, struct answer *answer) {
     free_read(&read);
 }
 
-static bool is_right(const struct row *row, const char *wanted) {
+/* Whether the row answers what it should. Where a request was refused that may be want of memory, or the row all the same:
+ * memory that is only to be given back may be kept. */
+static bool is_right(const struct row *row) {
     struct answer answer;
     requests = 0;
     run(row, &answer);
-    if (strcmp(answer.text, wanted) == 0) {
+    bool is_met = refused != 0 && refused <= requests;
+    if (strcmp(answer.text, row->answer) == 0 || (is_met && strcmp(answer.text, "out of memory") == 0)) {
         return true;
     }
     printf("WRONG: %s %s %s: %s, and not %s (request %lu refused)\n", row->call, row->texts[0],
-           row->texts[1] == NULL ? "" : row->texts[1], answer.text, wanted, refused);
+           row->texts[1] == NULL ? "" : row->texts[1], answer.text, row->answer, refused);
     return false;
 }
 
@@ -261,10 +264,10 @@ int main(int count, char **words) {
     size_t rows_count = sizeof rows / sizeof rows[0];
     for (size_t i = 0; i < rows_count; i++) {
         refused = 0;
-        wrong += !is_right(&rows[i], rows[i].answer);
+        wrong += !is_right(&rows[i]);
         unsigned long made = requests;
         for (refused = 1; refuses && refused <= made; refused++) {
-            wrong += !is_right(&rows[i], "out of memory");
+            wrong += !is_right(&rows[i]);
             runs++;
         }
     }

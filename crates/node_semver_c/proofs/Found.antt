@@ -1,5 +1,5 @@
 -- An answer that was kept is one that was found.
-use Rattle.std.proofs.Common.{◌≡◌, ℕ, sym, ap, ◌∙◌, subst, inl, inr}
+use Rattle.std.proofs.Common.{ℕ, sym, ap, ◌∙◌, subst, inl, inr}
 use Rattle.std.specs.Prelude.{Option, Some, None}
 use Rattle.node_semver_c.specs.Answers.{IsFound, status_found}
 use Rattle.node_semver_c.specs.Status.{IsKeptAnswer}

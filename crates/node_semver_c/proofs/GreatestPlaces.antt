@@ -1,5 +1,5 @@
 -- The greatest version of an array that a range admits, with its place, as one version more is looked at.
-use Rattle.std.proofs.Common.{◌≡◌, ◌↔◌, suc, ◌+◌, ◌<◌, ◌≤◌, ◌∙◌, ℕ, List, [], ◌∷◌, ◌++◌, Option, Some, None, length, get_or, take, refl, sym, ap, subst, inl, inr, Less, append_assoc, arith}
+use Rattle.std.proofs.Common.{◌≡◌, suc, ◌+◌, ◌<◌, ◌∙◌, ℕ, List, [], ◌∷◌, ◌++◌, Option, Some, None, length, get_or, take, refl, sym, ap, subst, inl, inr, Less, append_assoc, arith}
 use Rattle.std.proofs.lemmas.List.{take_more, length-take-le}
 use Rattle.std.specs.Cmp.{alike_right}
 use Rattle.semver_cuts.specs.Ends.{Ends}

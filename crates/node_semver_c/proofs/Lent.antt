@@ -1,13 +1,13 @@
 -- What a `&` to a handle that borrows gives: the value behind its pointer, for as long as the `&`. Assumes `Logic`.
 use Prim.Native.Nat.{ℕ}
-use mathlib.Core.List.{List, [], ◌∷◌}
+use mathlib.Core.List.{[], ◌∷◌}
 use seplogic.Ra.Ura.{Ura}
 use base.Logic.{ent, sep, upd_i, id⊢}
 use base.Share as half
 use base.Fml.{Lft, Share, Fml, ftrue, fsep, fex, fseps, fwand, fupd, fdead, fbor, fobor, flft}
 use contract.BorrowLft.{meet_⊑_left}
 use types.Logic.{Logic, sem}
-use types.Kit.{‵, raw, ◌⊛◌, ◌$◌, ◌∵◌, !, qed, by, move, keep, use1, use2, split, fsplit, fsplit3, fjoin, fpick, fpack, assume, suffices, updating, now, done}
+use types.Kit.{‵, ◌⊛◌, ◌$◌, ◌∵◌, !, qed, by, move, keep, use1, use2, split, fsplit, fsplit3, fjoin, fpick, fpack, assume, suffices, updating, now, done}
 use types.Tokens.{obor_alter, bor_fracture}
 use denote.Sharing.{ShrLaws}
 use denote.SharingLaws.{contraction}

@@ -1,7 +1,6 @@
 -- What the exports answer, by the clauses of the calls of `node_semver` that they make.
-use Rattle.std.specs.Prelude.{◌≡◌, ◌≢◌, ◌⊎◌, ◌↔◌, ℕ, ◌≤◌, List, [], length, Bool, IsTrue}
+use Rattle.std.specs.Prelude.{◌≡◌, ◌⊎◌, ◌↔◌, ℕ, ◌≤◌, List, [], length}
 use Rattle.std.specs.Prelude.{Option, Some, None, IfSome, IsNone, IsSome, Result, IfOk, IfErr, MatchResult}
-use Rattle.std.specs.Prelude.{IsUtf8}
 use Rattle.semver_cuts.specs.declared.cut.Cut.{Cut}
 use Rattle.semver_cuts.specs.Common.{IsInSome}
 use Rattle.semver_cuts.specs.CommonSpans.{common_spans}
@@ -17,7 +16,6 @@ use Rattle.node_semver.specs.Least.{AdmitsNone, AdmitsNoneBeyond, HasBuildOfFirs
 use Rattle.node_semver.specs.Meaning.{RangeAdmits}
 use Rattle.node_semver.specs.Print.{version_text}
 use Rattle.node_semver.specs.RangeAlgebra.{PairAdmits, sets_of_answer}
-use Rattle.node_semver.specs.RangeAnswer.{IsRangeAnswer}
 use Rattle.node_semver.specs.RangeSets.{IsRangeValue}
 use Rattle.node_semver.specs.ReadingBack.{HasText, VersionReadsBack}
 use Rattle.node_semver.specs.Version.{IsPrerelease, VersionValue}

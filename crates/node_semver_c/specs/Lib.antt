@@ -2,7 +2,6 @@
 
 -- ---- what C passes
 pub mod Handles
-
 -- ---- what a call tells
 pub mod Status
 pub mod Answers

@@ -31,13 +31,7 @@ pub extern "C" fn node_semver_satisfies_text(
     }
 }
 
-fn satisfies(
-    alloc: Global,
-    range: &str,
-    version: &str,
-    answer: &mut bool,
-    fault: &mut Fault,
-) -> u32
+fn satisfies(alloc: Global, range: &str, version: &str, answer: &mut bool, fault: &mut Fault) -> u32
     ensures { IsPairTold range.now version.now result answer.new fault.new }
 {
     match Range::parse(alloc, range) {

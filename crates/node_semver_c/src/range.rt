@@ -58,11 +58,7 @@ pub extern "C" fn node_semver_range_free(alloc: Global, range: RangeHandle)
 
 /// The print of a range.
 #[unsafe(no_mangle)]
-pub extern "C" fn node_semver_range_print(
-    alloc: Global,
-    range: &RangeRef,
-    room: &mut [u8],
-) -> usize
+pub extern "C" fn node_semver_range_print(alloc: Global, range: &RangeRef, room: &mut [u8]) -> usize
     ensures { IsPrinted (range_text range.now.value) room.old room.new result }
 {
     put(range.get().to_string(alloc), room)

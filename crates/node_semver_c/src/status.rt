@@ -96,7 +96,11 @@ pub(crate) fn keep_range(alloc: Global, range: Range, held: &mut RangeHandle) ->
 }
 
 // The same of a version that may be none.
-pub(crate) fn keep_version_found(alloc: Global, found: Option<Version>, held: &mut VersionHandle) -> u32
+pub(crate) fn keep_version_found(
+    alloc: Global,
+    found: Option<Version>,
+    held: &mut VersionHandle,
+) -> u32
     requires { held.old.value ≡ None }
     ensures { IsKeptAnswer found result held.new.value }
 {

@@ -36,7 +36,9 @@ impl RangeHandle {
         ensures { result.value ≡ Some range.value }
     {
         let Loose { at, alloc: _ } = range;
-        RangeHandle { at: at as *mut Opaque }
+        RangeHandle {
+            at: at as *mut Opaque,
+        }
     }
 
     pub(crate) fn free(self, alloc: Global)

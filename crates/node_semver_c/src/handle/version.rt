@@ -35,7 +35,9 @@ impl VersionHandle {
         ensures { result.value ≡ Some version.value }
     {
         let Loose { at, alloc: _ } = version;
-        VersionHandle { at: at as *mut Opaque }
+        VersionHandle {
+            at: at as *mut Opaque,
+        }
     }
 
     pub(crate) fn free(self, alloc: Global)

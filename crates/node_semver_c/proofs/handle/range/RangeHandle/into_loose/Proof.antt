@@ -29,7 +29,7 @@ use Rattle.std.specs.contracts.alloc.Global as heap
 use Rattle.std.proofs.alloc.Global.TheLaws as heap_laws
 use Rattle.std.proofs.raw_atomic.Walks.{proved_at, leaves}
 use Rattle.node_semver.specs.contracts.range.Range as V
-use Rattle.node_semver_c.proofs.Values.{held, both, Loose, al, loose_good, loose_in}
+use Rattle.node_semver_c.proofs.Values.{held, both, al, loose_good, loose_in}
 use Rattle.node_semver_c.specs.contracts.handle.range.RangeHandle as H
 use Rattle.node_semver_c.proofs.handle.range.RangeHandle.TheLaws.{lowers}
 use Rattle.node_semver_c.specs.contracts.handle.range.RangeHandle.into_loose as f

@@ -1,24 +1,24 @@
 -- `get` reads the pointer, and takes the shared borrow of what lies there. Assumes `Logic`.
 use mathlib.Core.Path.{◌≡◌, refl, sym, subst}
-use Prim.Native.Nat.{ℕ, ◌+◌}
+use Prim.Native.Nat.{ℕ}
 use mathlib.Core.List.{List, [], ◌∷◌, ◌++◌}
 use seplogic.Ra.Ura.{Ura}
-use mir.Syntax.{Fn, named, ty_ptr}
+use mir.Syntax.{named}
 use mir.Val.{Val, vptr, vstruct, vcons, vnil}
 use base.Logic.{SProp, ent, sep, emp, via, never, fst∗}
-use base.Fml.{Lft, Share, Fml, ftrue, fat, fsep, flft, fobor, fshr_bor}
+use base.Fml.{Lft, Share, Fml, ftrue, fsep, flft}
 use prog.Wp.{Env, Calls, Loops, WpFn, Tables}
 use types.Logic.{Logic, sem}
 use contract.Monad.{fact}
 use contract.Running.{tables, tables_of}
 use sound.WpLaws.{WpFn-mono}
-use types.Kit.{Item, ⋆, ‵, raw, ◌⊛◌, later, at_ret, ◌$◌, ◌∵◌, !, qed, by, move, keep, drop, use1, use2, use3, split, join, rewrite, fsplit, fjoin, fpick, feq_i, feq_l, suffices, frame, await, done}
-use types.Run.{look, load, stop, hop, fld, of_opd, addr, first, blocks, exec, returns, enter}
+use types.Kit.{⋆, ‵, ◌⊛◌, later, at_ret, ◌$◌, ◌∵◌, !, qed, by, move, keep, drop, use1, use2, split, join, rewrite, fsplit, fjoin, fpick, feq_i, feq_l, suffices, frame, await, done}
+use types.Run.{load, stop, fld, of_opd, addr, first, blocks, exec, returns, enter}
 use types.ByLocal.{alloc_all, pass_all, free_all, look_at, get, through, sets, sets_last, env}
 use types.Part.{whole, sub, look_in}
 use types.Tokens.{shr_bor-open}
 use denote.Exit.{yes}
-use denote.Laws.{Copy, Is}
+use denote.Laws.{Copy}
 use denote.RattleType.{owns}
 use denote.Copied.{told_Cuts, told_out, told_in}
 use denote.Memory.{shared_of, hidden_shr, cell_at, part_at}
@@ -33,7 +33,7 @@ use denote.Struct.Lending.{lent_at, lent_at_shr_laws}
 use denote.Struct.Struct.{Struct, struct_copy}
 use denote.Struct.Owning.{shape, to}
 use denote.Struct.Laws.{RawPtr-copy}
-use denote.Triple.Clauses.{Clauses, Ended, closing}
+use denote.Triple.Clauses.{Clauses}
 use denote.Triple.Entry.{on_entry}
 use denote.Triple.Spec.{Meets, triple_of}
 use denote.Triple.Table.{entered}
@@ -85,7 +85,7 @@ module _ {M : Type 1} {𝓤 : Ura M} (𝓛 : Logic 𝓤) (mem : prog.Memory.Memo
     twice = λ x vs. qed 𝓛 (‵ (H.the_row.own_val x vs) ∷ []) ∵ fsplit ! $
         use1 𝓛 (‵ (Data x vs) ⊛ ‵ (Data x vs)) ((struct_copy 𝓛 (shape H.the_type) (RawPtr-copy.copies _ 𝓤 𝓛, tt)).twice (to H.the_type x) vs) $ split ! $ move ! (2 ∷ []) $
         use1 𝓛 (‵ (H.the_heap x) ⊛ ‵ (H.the_heap x)) (lent.heap_twice 𝓛 (lent_at V.the_row x.at x.value) (lent_at_shr_laws V.the_row V-laws.the_row_laws.shr_laws x.at x.value) x.life) $ split ! $
-        move ! (2 ∷ 0 ∷ []) $ fjoin ! $ move ! (2 ∷ 1 ∷ []) $ fjoin ! $ done !
+        move ! (2 ∷ 0 ∷ []) $ fjoin ! $ move ! (2 ∷ 1 ∷ []) $ fjoin ! $ done !;
   }
 
   abbrev Rest : Share → Fml

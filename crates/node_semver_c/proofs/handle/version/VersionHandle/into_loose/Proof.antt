@@ -29,7 +29,7 @@ use Rattle.std.specs.contracts.alloc.Global as heap
 use Rattle.std.proofs.alloc.Global.TheLaws as heap_laws
 use Rattle.std.proofs.raw_atomic.Walks.{proved_at, leaves}
 use Rattle.node_semver.specs.contracts.version.Version as V
-use Rattle.node_semver_c.proofs.Values.{held, both, Loose, al, loose_good, loose_in}
+use Rattle.node_semver_c.proofs.Values.{held, both, al, loose_good, loose_in}
 use Rattle.node_semver_c.specs.contracts.handle.version.VersionHandle as H
 use Rattle.node_semver_c.proofs.handle.version.VersionHandle.TheLaws.{lowers}
 use Rattle.node_semver_c.specs.contracts.handle.version.VersionHandle.into_loose as f

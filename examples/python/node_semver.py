@@ -20,7 +20,7 @@ import ctypes
 import functools
 import os
 from ctypes import POINTER, byref, c_bool, c_char_p, c_int32, c_size_t, c_uint32, c_uint64, c_void_p
-from typing import Iterable, Optional, Union
+from typing import Iterable, Optional, Tuple, Union
 
 __all__ = ["Range", "SemverError", "Version", "satisfies"]
 
@@ -105,13 +105,14 @@ class _Value:
     """A handle, freed once with its object."""
 
     __slots__ = ("_handle", "__weakref__")
-    _prefix = ""
+    _parse = _free = _print = _hash = None
 
     def __init__(self, text: str) -> None:
         self._handle = _Handle()
         fault, written = _Fault(), _bytes(text)
-        parse = getattr(_library, f"node_semver_{self._prefix}_parse")
-        _checked(parse(written, len(written), byref(self._handle), byref(fault)), text, fault)
+        status = self._parse(written, len(written), byref(self._handle), byref(fault))
+        if status != _OK:
+            _checked(status, text, fault)
 
     @classmethod
     def _found(cls, call, *arguments):
@@ -126,17 +127,15 @@ class _Value:
     def __del__(self) -> None:
         handle = getattr(self, "_handle", None)
         if handle is not None and handle.at is not None:
-            free = getattr(_library, f"node_semver_{self._prefix}_free")
             self._handle = None
-            free(handle)
+            self._free(handle)
 
     def __str__(self) -> str:
-        put = getattr(_library, f"node_semver_{self._prefix}_print")
         room = ctypes.create_string_buffer(64)
-        length = put(byref(self._handle), room, len(room))
+        length = self._print(byref(self._handle), room, len(room))
         if length > len(room):
             room = ctypes.create_string_buffer(length)
-            length = put(byref(self._handle), room, len(room))
+            length = self._print(byref(self._handle), room, len(room))
         if length == 0:
             raise MemoryError
         return room.raw[:length].decode()
@@ -145,7 +144,11 @@ class _Value:
         return f"{type(self).__name__}({str(self)!r})"
 
     def __hash__(self) -> int:
-        return getattr(_library, f"node_semver_{self._prefix}_hash")(byref(self._handle))
+        return self._hash(byref(self._handle))
+
+
+def _identifiers(text: str) -> Tuple[str, ...]:
+    return tuple(text.split(".")) if text else ()
 
 
 def _bytes(text: str) -> bytes:
@@ -157,7 +160,10 @@ class Version(_Value):
     """A version, by its text: `Version("1.2.3-alpha.1+5")`. Builds are neither compared nor hashed."""
 
     __slots__ = ()
-    _prefix = "version"
+    _parse = _library.node_semver_version_parse
+    _free = _library.node_semver_version_free
+    _print = _library.node_semver_version_print
+    _hash = _library.node_semver_version_hash
 
     @property
     def major(self) -> int:
@@ -173,6 +179,16 @@ class Version(_Value):
     def patch(self) -> int:
         """The third number."""
         return _library.node_semver_version_patch(byref(self._handle))
+
+    @property
+    def pre_release(self) -> Tuple[str, ...]:
+        """The identifiers of the prerelease, as they print."""
+        return _identifiers(str(self).partition("+")[0].partition("-")[2])
+
+    @property
+    def build(self) -> Tuple[str, ...]:
+        """The identifiers of the build, as they print."""
+        return _identifiers(str(self).partition("+")[2])
 
     @property
     def is_prerelease(self) -> bool:
@@ -199,7 +215,10 @@ class Range(_Value):
     """The versions that a text asks for: `Range("^1.2 || 3.x")`. Ranges are equal set by set."""
 
     __slots__ = ()
-    _prefix = "range"
+    _parse = _library.node_semver_range_parse
+    _free = _library.node_semver_range_free
+    _print = _library.node_semver_range_print
+    _hash = _library.node_semver_range_hash
 
     def __contains__(self, version: Union[str, Version]) -> bool:
         """Whether the range admits the version."""

@@ -40,6 +40,8 @@ ROWS = [
     ("repr", repr(Version("v 01.2.3alpha.1+5")), "Version('1.2.3-alpha.1+5')"),
     ("a long print", str(Range("||".join(map(str, range(40))))).count("||"), 39),
     ("fields", [Version("1.2.3-a").major, Version("1.2.3-a").minor, Version("1.2.3-a").patch], [1, 2, 3]),
+    ("identifiers", [Version("1.2.3-a-b.1+c").pre_release, Version("1.2.3+c-d").build], [("a-b", "1"), ("c-d",)]),
+    ("no identifiers", [Version("1.2.3").pre_release, Version("1.2.3-a").build], [(), ()]),
     ("is_prerelease", [Version("1.2.3-a").is_prerelease, Version("1.2.3+a").is_prerelease], [True, False]),
     (
         "order",

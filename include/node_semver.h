@@ -93,10 +93,19 @@ uint64_t node_semver_version_hash(const node_semver_version *version);
 /* Whether the version has a prerelease. */
 bool node_semver_version_is_prerelease(const node_semver_version *version);
 
-/* The three numbers. Prerelease and build are told by the print, after its `-` and its `+`. */
+/* The three numbers. */
 uint64_t node_semver_version_major(const node_semver_version *version);
 uint64_t node_semver_version_minor(const node_semver_version *version);
 uint64_t node_semver_version_patch(const node_semver_version *version);
+
+/* How many identifiers the prerelease has, and the build. */
+size_t node_semver_version_pre_release_count(const node_semver_version *version);
+size_t node_semver_version_build_count(const node_semver_version *version);
+
+/* The identifier at a place, from 0 and below the count: `rc` and `4` of `1.2.3-rc.4`. Answers as
+ * node_semver_version_print. */
+size_t node_semver_version_pre_release_print(const node_semver_version *version, size_t place, char *room, size_t size);
+size_t node_semver_version_build_print(const node_semver_version *version, size_t place, char *room, size_t size);
 
 /* ---- ranges ---- */
 

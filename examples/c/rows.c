@@ -181,11 +181,31 @@ static void run_texts(const char *const *texts, struct answer *answer) {
     }
 }
 
+/* The numbers, and the identifiers of the prerelease and of the build in brackets. */
 static void tell_fields(struct answer *answer, const node_semver_version *version) {
-    snprintf(answer->text, sizeof answer->text, "%" PRIu64 " %" PRIu64 " %" PRIu64 " %s",
-             node_semver_version_major(version), node_semver_version_minor(version),
-             node_semver_version_patch(version),
-             node_semver_version_is_prerelease(version) ? "prerelease" : "release");
+    size_t size = sizeof answer->text, length;
+    length = (size_t)snprintf(answer->text, size, "%" PRIu64 " %" PRIu64 " %" PRIu64, node_semver_version_major(version),
+                              node_semver_version_minor(version), node_semver_version_patch(version));
+    for (size_t i = 0; i < node_semver_version_pre_release_count(version); i++) {
+        answer->text[length++] = ' ';
+        size_t more = node_semver_version_pre_release_print(version, i, answer->text + length, size - length - 16);
+        if (more == 0) {
+            tell(answer, "out of memory");
+            return;
+        }
+        length += more;
+    }
+    for (size_t i = 0; i < node_semver_version_build_count(version); i++) {
+        length += (size_t)snprintf(answer->text + length, size - length, " +");
+        size_t more = node_semver_version_build_print(version, i, answer->text + length, size - length - 16);
+        if (more == 0) {
+            tell(answer, "out of memory");
+            return;
+        }
+        length += more;
+    }
+    snprintf(answer->text + length, size - length, "%s",
+             node_semver_version_is_prerelease(version) ? " prerelease" : " release");
 }
 
 struct row {

@@ -18,8 +18,8 @@ static const struct row rows[] = {
     {"print", "r", {"foo"}, "refused 6 0 0"},
     {"print", "r", {">4 <3"}, "refused 6 0 0"},
     {"print", "r", {"\xc3("}, "not UTF-8"},
-    {"fields", "v", {"1.2.3-a"}, "1 2 3 prerelease"},
-    {"fields", "v", {"4.5.6+b"}, "4 5 6 release"},
+    {"fields", "v", {"1.2.3-rc.04+b.c"}, "1 2 3 rc 4 +b +c prerelease"},
+    {"fields", "v", {"4.5.6"}, "4 5 6 release"},
     /* SemVer 2.0.0, section 11. */
     {"compare", "vv", {"1.0.0-alpha", "1.0.0-alpha.1"}, "-1"},
     {"compare", "vv", {"1.0.0-alpha.1", "1.0.0-alpha.beta"}, "-1"},

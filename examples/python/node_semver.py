@@ -60,6 +60,10 @@ def _load() -> ctypes.CDLL:
         ("version_major", c_uint64, [handle]),
         ("version_minor", c_uint64, [handle]),
         ("version_patch", c_uint64, [handle]),
+        ("version_pre_release_count", c_size_t, [handle]),
+        ("version_pre_release_print", c_size_t, [handle, c_size_t, c_char_p, c_size_t]),
+        ("version_build_count", c_size_t, [handle]),
+        ("version_build_print", c_size_t, [handle, c_size_t, c_char_p, c_size_t]),
         ("range_parse", c_uint32, [c_char_p, c_size_t, handle, fault]),
         ("range_free", None, [_Handle]),
         ("range_print", c_size_t, [handle, c_char_p, c_size_t]),
@@ -131,14 +135,7 @@ class _Value:
             self._free(handle)
 
     def __str__(self) -> str:
-        room = ctypes.create_string_buffer(64)
-        length = self._print(byref(self._handle), room, len(room))
-        if length > len(room):
-            room = ctypes.create_string_buffer(length)
-            length = self._print(byref(self._handle), room, len(room))
-        if length == 0:
-            raise MemoryError
-        return room.raw[:length].decode()
+        return _printed(functools.partial(self._print, byref(self._handle)))
 
     def __repr__(self) -> str:
         return f"{type(self).__name__}({str(self)!r})"
@@ -147,8 +144,16 @@ class _Value:
         return self._hash(byref(self._handle))
 
 
-def _identifiers(text: str) -> Tuple[str, ...]:
-    return tuple(text.split(".")) if text else ()
+def _printed(put) -> str:
+    """What a print puts into an array, which is asked for again where the first is too short."""
+    room = ctypes.create_string_buffer(64)
+    length = put(room, len(room))
+    if length > len(room):
+        room = ctypes.create_string_buffer(length)
+        length = put(room, len(room))
+    if length == 0:
+        raise MemoryError
+    return room.raw[:length].decode()
 
 
 def _bytes(text: str) -> bytes:
@@ -183,12 +188,16 @@ class Version(_Value):
     @property
     def pre_release(self) -> Tuple[str, ...]:
         """The identifiers of the prerelease, as they print."""
-        return _identifiers(str(self).partition("+")[0].partition("-")[2])
+        return self._identifiers(_library.node_semver_version_pre_release_count, _library.node_semver_version_pre_release_print)
 
     @property
     def build(self) -> Tuple[str, ...]:
         """The identifiers of the build, as they print."""
-        return _identifiers(str(self).partition("+")[2])
+        return self._identifiers(_library.node_semver_version_build_count, _library.node_semver_version_build_print)
+
+    def _identifiers(self, count, put) -> Tuple[str, ...]:
+        handle = byref(self._handle)
+        return tuple(_printed(functools.partial(put, handle, place)) for place in range(count(handle)))
 
     @property
     def is_prerelease(self) -> bool:

@@ -1,38 +1,25 @@
 -- What the exports answer, by the clauses of the calls of `node_semver` that they make.
-use Rattle.std.specs.Prelude.{◌≡◌, ◌⊎◌, ◌↔◌, ℕ, ◌≤◌, List, [], length}
-use Rattle.std.specs.Prelude.{Option, Some, None, IfSome, IsNone, IsSome, Result, IfOk, IfErr, MatchResult}
+use Rattle.std.specs.Prelude.{◌≡◌, ◌⊎◌, ◌↔◌, ℕ, List, []}
+use Rattle.std.specs.Prelude.{Option, Some, None, IfSome, IsNone, IsSome, Result, MatchResult}
 use Rattle.semver_cuts.specs.declared.cut.Cut.{Cut}
 use Rattle.semver_cuts.specs.Common.{IsInSome}
 use Rattle.semver_cuts.specs.CommonSpans.{common_spans}
 use Rattle.semver_cuts.specs.Ends.{Ends}
 use Rattle.semver_cuts.specs.Rest.{AreRestSpans}
 use Rattle.semver_cuts.specs.Sharing.{ShareCut}
-use Rattle.node_semver.specs.declared.TheConstants.{MAX_LENGTH}
 use Rattle.node_semver.specs.declared.error.SemverError.{SemverError}
 use Rattle.node_semver.specs.Comparison.{version_cmp}
-use Rattle.node_semver.specs.Error.{IsOutOfMemory, refusal_of}
-use Rattle.node_semver.specs.Fault.{IsFaultOf}
+use Rattle.node_semver.specs.Error.{refusal_of}
 use Rattle.node_semver.specs.Least.{AdmitsNone, AdmitsNoneBeyond, HasBuildOfFirst, IsAdmittedBy, IsLeastAdmitted, IsLeastBeyond}
 use Rattle.node_semver.specs.Meaning.{RangeAdmits}
-use Rattle.node_semver.specs.Print.{version_text}
 use Rattle.node_semver.specs.RangeAlgebra.{PairAdmits, sets_of_answer}
 use Rattle.node_semver.specs.RangeSets.{IsRangeValue}
-use Rattle.node_semver.specs.ReadingBack.{HasText, VersionReadsBack}
 use Rattle.node_semver.specs.Version.{IsPrerelease, VersionValue}
-use Rattle.node_semver.specs.VersionText.{IsReadAs, IsVersionText}
 use Rattle.node_semver_c.specs.declared.status.Fault.{Fault}
 use Rattle.node_semver_c.specs.declared.status.TheConstants.{OK, NONE, OUT_OF_MEMORY}
 use Rattle.node_semver_c.specs.Status.{IsKept, IsRefusalTold}
 
 -- ---- texts
-
--- what `Version::parse` answers to a text, by the clauses of those names
-pub record IsVersionAnswer (text : List ℕ) (answer : Result VersionValue SemverError) : Type 0 where
-  pub found : IfOk answer (λ v. IsVersionText text v)
-  pub only : (v : VersionValue) → IsVersionText text v → IsReadAs v answer
-  pub fault : IfErr answer (λ e. IsOutOfMemory e ⊎ IsFaultOf text e)
-  pub print : IfOk answer VersionReadsBack
-  pub printed : (v : VersionValue) → HasText v → version_text v ≡ text → length text ≤ MAX_LENGTH → IsReadAs v answer
 
 -- an answer to a text is told: its value is in the handle, or its refusal in status and fault and the handle is empty
 abbrev pub IsTold : {X : Type 0} → Result X SemverError → ℕ → Option X → Fault → Type 0

@@ -4,6 +4,7 @@
 mod algebra;
 mod greatest;
 mod handle;
+mod identifiers;
 mod loose;
 mod pair;
 mod range;

@@ -1,10 +1,11 @@
 //! Exports on versions.
 ghost use Rattle.std.specs.Prelude.{◌≡◌, ◌≢◌, ◌↔◌, IsTrue, IsUtf8, None};
 ghost use Rattle.node_semver.specs.Comparison.{version_cmp};
+ghost use Rattle.node_semver.specs.Json.{IsVersionAnswer};
 ghost use Rattle.node_semver.specs.Order.{OrderMeans};
 ghost use Rattle.node_semver.specs.Print.{version_text};
 ghost use Rattle.node_semver.specs.Version.{IsPrerelease};
-ghost use Rattle.node_semver_c.specs.Answers.{IsSomeTold, IsVersionAnswer};
+ghost use Rattle.node_semver_c.specs.Answers.{IsSomeTold};
 ghost use Rattle.node_semver_c.specs.Compared.{sign_of, version_hash};
 ghost use Rattle.node_semver_c.specs.Printed.{IsPrinted};
 ghost use Rattle.node_semver_c.specs.declared.status.TheConstants.{NOT_UTF8};

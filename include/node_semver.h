@@ -1,22 +1,22 @@
 /*
  * npm's versions and version ranges, in loose mode: a static library over the proved crate `node_semver`.
  *
- * Each function makes one call of that crate, and its contract in crates/node_semver_c/src states the clauses of the call
- * again. They hold for every caller that upholds what stands here, which nothing checks.
+ * Each function makes one call of that crate, and its contract in crates/node_semver_c/src states the clauses of the
+ * call again. They hold for every caller that upholds what stands here, which nothing checks.
  *
  * - Handles. A `node_semver_version` or a `node_semver_range` is a struct of one pointer that is not looked into. It
- *   begins as NODE_SEMVER_EMPTY. A call that makes a version or a range fills an empty handle, and `.._free` takes a full
- *   one: exactly once, after which the handle and each copy of it are used no more. A copy of a handle is the same version.
- *   Every other call reads: the handles that it is passed are full, and no other thread frees them meanwhile. Nothing
- *   changes a version or a range once it is made, so any number of threads may read one at once.
+ *   begins as NODE_SEMVER_EMPTY. A call that makes a version or a range fills an empty handle, and `.._free` takes a
+ *   full one: exactly once, after which the handle and each copy of it are used no more. A copy of a handle is the same
+ *   version. Every other call reads: the handles that it is passed are full, and no other thread frees them meanwhile.
+ *   Nothing changes a version or a range once it is made, so any number of threads may read one at once.
  * - No pointer is null, not even to 0 bytes. A length is that of what the pointer points to, at most SIZE_MAX / 2. What
  *   a call writes to is no part of what it reads.
  * - Texts are UTF-8, without a zero at the end. Bytes that are no UTF-8 are told by NODE_SEMVER_NOT_UTF8.
  * - Memory comes from the program's malloc, realloc and free, which align a block to each power of two up to 16 that
- *   divides its size. Where it is refused, the answer is NODE_SEMVER_OUT_OF_MEMORY, nothing is kept, and the call may be
- *   made again.
- * - Nothing is called from a signal handler, or in the forked child of a program with threads. The library has no state of
- *   its own.
+ *   divides its size. Where it is refused, the answer is NODE_SEMVER_OUT_OF_MEMORY, nothing is kept, and the call may
+ *   be made again.
+ * - Nothing is called from a signal handler, or in the forked child of a program with threads. The library has no state
+ *   of its own.
  * - It is linked with node_semver_c's static library and the toolchain's C part, liblibc_c.a.
  */
 #ifndef NODE_SEMVER_H
@@ -60,9 +60,9 @@ typedef uint32_t node_semver_status;
 #define NODE_SEMVER_CONTEXT 5u         /* a number or a dot that is missing from a version text, at that place */
 #define NODE_SEMVER_NO_VALID_RANGES 6u /* a range text of which no alternative gives a set, at 0 */
 #define NODE_SEMVER_OTHER 7u           /* a version text that goes on after the version, at the first byte left */
-#define NODE_SEMVER_NO_MEMORY 8u       /* told with NODE_SEMVER_OUT_OF_MEMORY, where it is told at all */
+#define NODE_SEMVER_NO_MEMORY 8u       /* with NODE_SEMVER_OUT_OF_MEMORY alone */
 
-/* Why a text is refused, and where. A call writes it only where it answers NODE_SEMVER_REFUSED or want of memory. */
+/* Why a text is refused, and where. It counts where a call answers NODE_SEMVER_REFUSED. */
 typedef struct node_semver_fault {
     uint32_t kind;   /* one of the kinds */
     size_t offset;   /* the byte offset of the fault in the text, from 0 */
@@ -79,8 +79,8 @@ node_semver_status node_semver_version_parse(const char *text, size_t length, no
 void node_semver_version_free(node_semver_version version);
 
 /* Prints a version: major, minor and patch with dots between, `-` and the prerelease, `+` and the build. Answers the
- * length of the text, which is put at the begin of the array if it fits; else, and behind it, the array stays as it was.
- * No zero is put behind it. Answers 0, and puts nothing, where memory is refused. */
+ * length of the text, which is put at the begin of the array if it fits; else, and behind it, the array stays as it
+ * was. No zero is put behind it. Answers 0, and puts nothing, where memory is refused. */
 size_t node_semver_version_print(const node_semver_version *version, char *room, size_t size);
 
 /* Compares two versions by SemVer 2.0.0, section 11: -1 where the first is below the second, 0 where they are the same,
@@ -109,7 +109,8 @@ size_t node_semver_version_build_print(const node_semver_version *version, size_
 
 /* ---- ranges ---- */
 
-/* Reads a range text of any length: `^1.2.3`, `1.2 - 3`, `>=1 <3 || 5.x`. Words that stand for nothing are thrown away. */
+/* Reads a range text of any length: `^1.2.3`, `1.2 - 3`, `>=1 <3 || 5.x`. A word that stands for nothing is thrown
+ * away. */
 node_semver_status node_semver_range_parse(const char *text, size_t length, node_semver_range *range,
                                            node_semver_fault *fault);
 
@@ -125,8 +126,8 @@ bool node_semver_range_equals(const node_semver_range *one, const node_semver_ra
 /* A hash: ranges that are equal have one. */
 uint64_t node_semver_range_hash(const node_semver_range *range);
 
-/* Whether the range admits the version: one of the sets has it inside and, if it is a prerelease, an end of that set is a
- * prerelease of its triple. `^1.2.3-rc.4` admits `1.2.3-rc.5`, and not `1.2.4-rc.6`. */
+/* Whether the range admits the version: one of the sets has it inside and, if it is a prerelease, an end of that set is
+ * a prerelease of its triple. `^1.2.3-rc.4` admits `1.2.3-rc.5`, and not `1.2.4-rc.6`. */
 bool node_semver_satisfies(const node_semver_range *range, const node_semver_version *version);
 
 /* Whether the two have a cut in common: where node_semver_range_intersect answers a range. */
@@ -150,13 +151,13 @@ node_semver_status node_semver_min_version(const node_semver_range *range, node_
 node_semver_status node_semver_least_beyond(const node_semver_range *one, const node_semver_range *other,
                                             node_semver_version *answer);
 
-/* Whether the range admits one of the versions of an array, and the place of the greatest that it admits: of equal ones,
- * which differ in the build alone, the first. Where it admits none, the place stays as it was. */
+/* Whether the range admits one of the versions of an array, and the place of the greatest that it admits: of equal
+ * ones, which differ in the build alone, the first. Where it admits none, the place says nothing. */
 bool node_semver_max_satisfying(const node_semver_version *versions, size_t count, const node_semver_range *range,
                                 size_t *place);
 
-/* Whether the version of one text satisfies the range of another, in one call. The range is read first, and the fault of
- * the first text that is refused is told. The answer is written where the status is NODE_SEMVER_OK. */
+/* Whether the version of one text satisfies the range of another, in one call. The range is read first, and the fault
+ * of the first text that is refused is told. The answer counts where the status is NODE_SEMVER_OK. */
 node_semver_status node_semver_satisfies_text(const char *range, size_t range_length, const char *version,
                                               size_t version_length, bool *answer, node_semver_fault *fault);
 

@@ -78,7 +78,7 @@ static void tell_range(struct answer *answer, const node_semver_range *range) {
     tell_print(answer, length, node_semver_range_print(range, answer->text, sizeof answer->text - 1));
 }
 
-/* Two texts at most, read as versions or as ranges: false where one was not read, which is told, and nothing is kept. */
+/* Two texts at most, read as versions or as ranges. */
 struct read {
     node_semver_version versions[2];
     node_semver_range ranges[2];
@@ -95,6 +95,7 @@ static void free_read(struct read *read) {
     }
 }
 
+/* False where a text was not read, which is told; nothing is kept then. */
 static bool read_texts(struct read *read, const char *kinds, const char *const *texts, struct answer *answer) {
     *read = (struct read){{NODE_SEMVER_EMPTY, NODE_SEMVER_EMPTY}, {NODE_SEMVER_EMPTY, NODE_SEMVER_EMPTY}};
     for (int i = 0; kinds[i] != '\0'; i++) {
@@ -184,8 +185,9 @@ static void run_texts(const char *const *texts, struct answer *answer) {
 /* The numbers, and the identifiers of the prerelease and of the build in brackets. */
 static void tell_fields(struct answer *answer, const node_semver_version *version) {
     size_t size = sizeof answer->text, length;
-    length = (size_t)snprintf(answer->text, size, "%" PRIu64 " %" PRIu64 " %" PRIu64, node_semver_version_major(version),
-                              node_semver_version_minor(version), node_semver_version_patch(version));
+    length = (size_t)snprintf(answer->text, size, "%" PRIu64 " %" PRIu64 " %" PRIu64,
+                              node_semver_version_major(version), node_semver_version_minor(version),
+                              node_semver_version_patch(version));
     for (size_t i = 0; i < node_semver_version_pre_release_count(version); i++) {
         answer->text[length++] = ' ';
         size_t more = node_semver_version_pre_release_print(version, i, answer->text + length, size - length - 16);
@@ -263,8 +265,8 @@ static void run(const struct row *row, struct answer *answer) {
     free_read(&read);
 }
 
-/* Whether the row answers what it should. Where a request was refused that may be want of memory, or the row all the same:
- * memory that is only to be given back may be kept. */
+/* Whether the row answers what it should. Where a request was refused that may be want of memory, or the row all the
+ * same: memory that is only to be given back may be kept. */
 static bool is_right(const struct row *row) {
     struct answer answer;
     requests = 0;

@@ -9,8 +9,8 @@
     Range("^1") & Range(">=1.5")            # what both have; None where that is nothing
     Range("^1") - Range("1.5.0")            # what the first has alone; None where that is nothing
 
-A text that is refused raises `SemverError`, a `ValueError` with `kind` and `offset`. Values never change, are ordered and
-hashed as npm's, and may be read from many threads.
+A text that is refused raises `SemverError`, a `ValueError` with `kind` and `offset`. Values never change, are ordered
+as npm's, and may be read from many threads.
 
 The shared object is that of the variable NODE_SEMVER_LIBRARY, or `libnode_semver.so` beside this file.
 """
@@ -188,7 +188,8 @@ class Version(_Value):
     @property
     def pre_release(self) -> Tuple[str, ...]:
         """The identifiers of the prerelease, as they print."""
-        return self._identifiers(_library.node_semver_version_pre_release_count, _library.node_semver_version_pre_release_print)
+        count, put = _library.node_semver_version_pre_release_count, _library.node_semver_version_pre_release_print
+        return self._identifiers(count, put)
 
     @property
     def build(self) -> Tuple[str, ...]:

@@ -34,8 +34,10 @@ def read_by_many():
 
 
 WANTED = Range("^1.2.3-rc.4 || >=3")
+ASKED = ["1.9.0", "1.2.3-rc.5", "3.0.0", "2.0.0", "1.2.4-rc.6"]
+CHAIN = ["1.0.0", "1.0.0-rc.1", "1.0.0-alpha.beta", "1.0.0-alpha.1", "1.0.0-alpha"]
 ROWS = [
-    ("in", [v in WANTED for v in ["1.9.0", "1.2.3-rc.5", "3.0.0", "2.0.0", "1.2.4-rc.6"]], [True, True, True, False, False]),
+    ("in", [version in WANTED for version in ASKED], [True, True, True, False, False]),
     ("str", str(WANTED), ">=1.2.3-rc.4 <2.0.0-0||>=3.0.0"),
     ("repr", repr(Version("v 01.2.3alpha.1+5")), "Version('1.2.3-alpha.1+5')"),
     ("a long print", str(Range("||".join(map(str, range(40))))).count("||"), 39),
@@ -43,11 +45,7 @@ ROWS = [
     ("identifiers", [Version("1.2.3-a-b.1+c").pre_release, Version("1.2.3+c-d").build], [("a-b", "1"), ("c-d",)]),
     ("no identifiers", [Version("1.2.3").pre_release, Version("1.2.3-a").build], [(), ()]),
     ("is_prerelease", [Version("1.2.3-a").is_prerelease, Version("1.2.3+a").is_prerelease], [True, False]),
-    (
-        "order",
-        [str(v) for v in sorted(map(Version, ["1.0.0", "1.0.0-rc.1", "1.0.0-alpha.beta", "1.0.0-alpha.1", "1.0.0-alpha"]))],
-        ["1.0.0-alpha", "1.0.0-alpha.1", "1.0.0-alpha.beta", "1.0.0-rc.1", "1.0.0"],
-    ),
+    ("order", [str(version) for version in sorted(map(Version, CHAIN))], CHAIN[::-1]),
     ("equal", Version("1.2.3+a") == Version("1.2.3+b"), True),
     ("hash", len({Version("1.2.3+a"), Version("1.2.3+b"), Version("1.2.4")}), 2),
     ("hash of ranges", len({Range("=1.2.3+a"), Range("=1.2.3+b"), Range("1||2"), Range("2||1")}), 3),

@@ -1,0 +1,5 @@
+mod Asked
+mod Found
+mod GreatestPlaces
+mod Lent
+mod Values

@@ -1,0 +1,8 @@
+use Rattle.std.proofs.Common.{take}
+use Rattle.std.specs.Option.{option_map}
+use Rattle.node_semver_c.specs.Greatest.{IsGreatestOrNone, values}
+use Rattle.node_semver_c.proofs.greatest.greatest.Given as goal
+
+abbrev pub invariant-versions : goal.invariant-versions
+invariant-versions l =
+    IsGreatestOrNone l.range (values (take l.place l.versions)) (option_map (λ b. (b.0, b.1.now)) l.best)

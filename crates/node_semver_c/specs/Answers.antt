@@ -1,0 +1,81 @@
+-- What the exports answer, by the clauses of the calls of `node_semver` that they make.
+use Rattle.std.specs.Prelude.{◌≡◌, ◌⊎◌, ◌↔◌, ℕ, List, []}
+use Rattle.std.specs.Prelude.{Option, Some, None, IfSome, IsNone, IsSome, Result, MatchResult}
+use Rattle.semver_cuts.specs.declared.cut.Cut.{Cut}
+use Rattle.semver_cuts.specs.Common.{IsInSome}
+use Rattle.semver_cuts.specs.CommonSpans.{common_spans}
+use Rattle.semver_cuts.specs.Ends.{Ends}
+use Rattle.semver_cuts.specs.Rest.{AreRestSpans}
+use Rattle.semver_cuts.specs.Sharing.{ShareCut}
+use Rattle.node_semver.specs.declared.error.SemverError.{SemverError}
+use Rattle.node_semver.specs.Comparison.{version_cmp}
+use Rattle.node_semver.specs.Error.{refusal_of}
+use Rattle.node_semver.specs.Least.{AdmitsNone, AdmitsNoneBeyond, HasBuildOfFirst, IsAdmittedBy, IsLeastAdmitted, IsLeastBeyond}
+use Rattle.node_semver.specs.Meaning.{RangeAdmits}
+use Rattle.node_semver.specs.RangeAlgebra.{PairAdmits, sets_of_answer}
+use Rattle.node_semver.specs.RangeSets.{IsRangeValue}
+use Rattle.node_semver.specs.Version.{IsPrerelease, VersionValue}
+use Rattle.node_semver_c.specs.declared.status.Fault.{Fault}
+use Rattle.node_semver_c.specs.declared.status.TheConstants.{OK, NONE, OUT_OF_MEMORY}
+use Rattle.node_semver_c.specs.Status.{IsKept, IsRefusalTold}
+
+-- ---- texts
+
+-- an answer to a text is told: its value is in the handle, or its refusal in status and fault and the handle is empty
+abbrev pub IsTold : {X : Type 0} → Result X SemverError → ℕ → Option X → Fault → Type 0
+IsTold answer status held fault =
+    MatchResult answer (λ x. IsKept x status held) (λ e. IsRefusalTold (refusal_of e) status fault × (held ≡ None))
+
+-- some answer that the call may give is told
+pub record IsSomeTold {X : Type 0} (Answers : Result X SemverError → Type 0) (status : ℕ) (held : Option X) (fault : Fault)
+    : Type 0 where
+  pub answer : Result X SemverError
+  pub promised : Answers answer
+  pub told : IsTold answer status held fault
+
+-- ---- what may be none
+
+-- the status of a call that made an answer, or found that there is none
+abbrev pub status_found : {X : Type 0} → Option X → ℕ
+status_found None = NONE
+status_found (Some x) = OK
+
+-- the handle has the answer of the call, or there was no memory and it is empty
+abbrev pub IsFound : {X : Type 0} → (Option X → Type 0) → ℕ → Option X → Type 0
+IsFound Answers status held =
+    (Answers held × (status ≡ status_found held)) ⊎ ((status ≡ OUT_OF_MEMORY) × (held ≡ None))
+
+-- what `Range::intersect` answers
+pub record IsIntersection (one other : List (Ends VersionValue)) (answer : Option (List (Ends VersionValue))) : Type 0 where
+  pub sets : sets_of_answer answer ≡ common_spans version_cmp one other
+  pub cuts : (cut : Cut VersionValue) → IsInSome version_cmp (sets_of_answer answer) cut
+      ↔ (IsInSome version_cmp one cut × IsInSome version_cmp other cut)
+  pub none : IsNone answer ↔ ¬ ShareCut version_cmp one other
+  pub some : IsSome answer ↔ ShareCut version_cmp one other
+  pub releases : (v : VersionValue) → ¬ IsPrerelease v
+      → RangeAdmits (sets_of_answer answer) v ↔ (RangeAdmits one v × RangeAdmits other v)
+  pub prereleases : (v : VersionValue) → IsPrerelease v → RangeAdmits (sets_of_answer answer) v ↔ PairAdmits one other v
+  pub holds : IfSome answer IsRangeValue
+
+-- what `Range::difference` answers
+pub record IsDifference (one other : List (Ends VersionValue)) (answer : Option (List (Ends VersionValue))) : Type 0 where
+  pub sets : AreRestSpans version_cmp one other (sets_of_answer answer)
+  pub cuts : (cut : Cut VersionValue) → IsInSome version_cmp (sets_of_answer answer) cut
+      ↔ (IsInSome version_cmp one cut × ¬ IsInSome version_cmp other cut)
+  pub none : IsNone answer ↔ ((cut : Cut VersionValue) → ¬ (IsInSome version_cmp one cut × ¬ IsInSome version_cmp other cut))
+  pub releases : (v : VersionValue) → ¬ IsPrerelease v
+      → RangeAdmits (sets_of_answer answer) v ↔ (RangeAdmits one v × ¬ RangeAdmits other v)
+  pub holds : IfSome answer IsRangeValue
+
+-- what `Range::min_version` answers
+pub record IsMinimum (sets : List (Ends VersionValue)) (answer : Option VersionValue) : Type 0 where
+  pub least : IfSome answer (IsLeastAdmitted sets)
+  pub none : IsNone answer ↔ AdmitsNone sets
+  pub build : IfSome answer (HasBuildOfFirst sets)
+
+-- what `Range::least_beyond` answers
+pub record IsBeyond (one other : List (Ends VersionValue)) (answer : Option VersionValue) : Type 0 where
+  pub least : IfSome answer (IsLeastBeyond one other)
+  pub none : IsNone answer ↔ AdmitsNoneBeyond one other
+  pub admitted : IsNone answer ↔ IsAdmittedBy one other
+  pub build : IfSome answer (λ v. v.build ≡ [])

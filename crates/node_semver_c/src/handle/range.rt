@@ -1,0 +1,85 @@
+//! Handles of ranges.
+ghost use Rattle.std.specs.Prelude.{◌≡◌, ◌≢◌, ℕ, List, IfOk, Option, Some, None};
+ghost use Rattle.semver_cuts.specs.Ends.{Ends};
+ghost use Rattle.node_semver.specs.Version.{VersionValue};
+
+use super::Opaque;
+use crate::loose::Loose;
+use node_semver::Range;
+use std::alloc::{AllocError, Global};
+use std::marker::Model;
+
+/// A range on the heap, which whoever has this struct frees; or no range.
+#[repr(C)]
+#[derive(Drop)]
+pub struct RangeHandle {
+    at: *mut Opaque,
+    pub ghost value: { Option (List (Ends VersionValue)) },
+}
+
+impl Model for RangeHandle {
+    ghost use Rattle.node_semver.specs.contracts.range.Range.{the_row};
+    ghost use Rattle.node_semver_c.specs.Handles.{owns_held};
+
+    ghost also_owns = { λ h. owns_held the_row h.at h.value };
+}
+
+impl RangeHandle {
+    pub(crate) fn on_heap(alloc: Global, range: Range) -> Result<RangeHandle, AllocError>
+        ensures { IfOk result (λ h. h.value ≡ Some range) }
+    {
+        let range = Box::new(alloc, range)?;
+        Ok(RangeHandle::of(Loose::of(range)))
+    }
+
+    fn of(range: Loose<Range, Global>) -> RangeHandle
+        ensures { result.value ≡ Some range.value }
+    {
+        let Loose { at, alloc: _ } = range;
+        RangeHandle {
+            at: at as *mut Opaque,
+        }
+    }
+
+    pub(crate) fn free(self, alloc: Global)
+        requires { self.value ≢ None }
+    {
+        drop(self.into_loose(alloc).into_box());
+    }
+
+    fn into_loose(self, alloc: Global) -> Loose<Range, Global>
+        requires { self.value ≢ None }
+        ensures { self.value ≡ Some result.value }
+    {
+        let RangeHandle { at } = self;
+        Loose {
+            at: at as *mut Range,
+            alloc,
+        }
+    }
+}
+
+/// A range that is lent: it lies there, and nobody changes or frees it while this is read.
+#[repr(C)]
+#[derive(Drop)]
+pub struct RangeRef {
+    at: *const Opaque,
+    pub ghost value: { List (Ends VersionValue) },
+    ghost life: { ℕ },
+}
+
+impl Model for RangeRef {
+    ghost use Rattle.node_semver.specs.contracts.range.Range.{the_row};
+    ghost use Rattle.node_semver_c.specs.Handles.{borrows};
+
+    ghost also_owns = { λ h. borrows the_row h.at h.life h.value };
+}
+
+impl RangeRef {
+    #[inline(always)]
+    pub(crate) fn get(&self) -> &Range
+        ensures { result.now ≡ self.now.value }
+    {
+        unsafe { &*(self.at as *const Range) }
+    }
+}

@@ -1,0 +1,84 @@
+//! Handles of versions.
+ghost use Rattle.std.specs.Prelude.{◌≡◌, ◌≢◌, ℕ, IfOk, Option, Some, None};
+ghost use Rattle.node_semver.specs.Version.{VersionValue};
+
+use super::Opaque;
+use crate::loose::Loose;
+use node_semver::Version;
+use std::alloc::{AllocError, Global};
+use std::marker::Model;
+
+/// A version on the heap, which whoever has this struct frees; or no version.
+#[repr(C)]
+#[derive(Drop)]
+pub struct VersionHandle {
+    at: *mut Opaque,
+    pub ghost value: { Option VersionValue },
+}
+
+impl Model for VersionHandle {
+    ghost use Rattle.node_semver.specs.contracts.version.Version.{the_row};
+    ghost use Rattle.node_semver_c.specs.Handles.{owns_held};
+
+    ghost also_owns = { λ h. owns_held the_row h.at h.value };
+}
+
+impl VersionHandle {
+    pub(crate) fn on_heap(alloc: Global, version: Version) -> Result<VersionHandle, AllocError>
+        ensures { IfOk result (λ h. h.value ≡ Some version) }
+    {
+        let version = Box::new(alloc, version)?;
+        Ok(VersionHandle::of(Loose::of(version)))
+    }
+
+    fn of(version: Loose<Version, Global>) -> VersionHandle
+        ensures { result.value ≡ Some version.value }
+    {
+        let Loose { at, alloc: _ } = version;
+        VersionHandle {
+            at: at as *mut Opaque,
+        }
+    }
+
+    pub(crate) fn free(self, alloc: Global)
+        requires { self.value ≢ None }
+    {
+        drop(self.into_loose(alloc).into_box());
+    }
+
+    fn into_loose(self, alloc: Global) -> Loose<Version, Global>
+        requires { self.value ≢ None }
+        ensures { self.value ≡ Some result.value }
+    {
+        let VersionHandle { at } = self;
+        Loose {
+            at: at as *mut Version,
+            alloc,
+        }
+    }
+}
+
+/// A version that is lent: it lies there, and nobody changes or frees it while this is read.
+#[repr(C)]
+#[derive(Drop)]
+pub struct VersionRef {
+    at: *const Opaque,
+    pub ghost value: { VersionValue },
+    ghost life: { ℕ },
+}
+
+impl Model for VersionRef {
+    ghost use Rattle.node_semver.specs.contracts.version.Version.{the_row};
+    ghost use Rattle.node_semver_c.specs.Handles.{borrows};
+
+    ghost also_owns = { λ h. borrows the_row h.at h.life h.value };
+}
+
+impl VersionRef {
+    #[inline(always)]
+    pub(crate) fn get(&self) -> &Version
+        ensures { result.now ≡ self.now.value }
+    {
+        unsafe { &*(self.at as *const Version) }
+    }
+}

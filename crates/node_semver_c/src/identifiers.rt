@@ -1,0 +1,75 @@
+//! Exports on the identifiers of versions.
+ghost use Rattle.std.specs.Prelude.{◌≡◌, ◌<◌, length, slice_index_or};
+ghost use Rattle.node_semver.specs.Identifier.{values_of};
+ghost use Rattle.node_semver.specs.IdentifierValue.{numeric};
+ghost use Rattle.node_semver.specs.Print.{identifier_text};
+ghost use Rattle.node_semver_c.specs.Printed.{IsPrinted};
+
+use crate::handle::version::VersionRef;
+use crate::text::put;
+use node_semver::Identifier;
+use std::alloc::Global;
+
+/// How many identifiers the prerelease has.
+#[unsafe(no_mangle)]
+pub extern "C" fn node_semver_version_pre_release_count(version: &VersionRef) -> usize
+    ensures { result ≡ length version.now.value.pre_release }
+{
+    let version = version.get();
+    count(&version.pre_release)
+}
+
+/// How many identifiers the build has.
+#[unsafe(no_mangle)]
+pub extern "C" fn node_semver_version_build_count(version: &VersionRef) -> usize
+    ensures { result ≡ length version.now.value.build }
+{
+    let version = version.get();
+    count(&version.build)
+}
+
+/// The print of the identifier of the prerelease at a place.
+#[unsafe(no_mangle)]
+pub extern "C" fn node_semver_version_pre_release_print(
+    alloc: Global,
+    version: &VersionRef,
+    place: usize,
+    room: &mut [u8],
+) -> usize
+    requires { place < length version.now.value.pre_release }
+    ensures { IsPrinted (identifier_text (slice_index_or version.now.value.pre_release place (numeric 0)))
+        room.old room.new result }
+{
+    let version = version.get();
+    print(alloc, &version.pre_release, place, room)
+}
+
+/// The print of the identifier of the build at a place.
+#[unsafe(no_mangle)]
+pub extern "C" fn node_semver_version_build_print(
+    alloc: Global,
+    version: &VersionRef,
+    place: usize,
+    room: &mut [u8],
+) -> usize
+    requires { place < length version.now.value.build }
+    ensures { IsPrinted (identifier_text (slice_index_or version.now.value.build place (numeric 0)))
+        room.old room.new result }
+{
+    let version = version.get();
+    print(alloc, &version.build, place, room)
+}
+
+fn count(identifiers: &[Identifier]) -> usize
+    ensures { result ≡ length (values_of identifiers.now) }
+{
+    identifiers.len()
+}
+
+fn print(alloc: Global, identifiers: &[Identifier], place: usize, room: &mut [u8]) -> usize
+    requires { place < length (values_of identifiers.now) }
+    ensures { IsPrinted (identifier_text (slice_index_or (values_of identifiers.now) place (numeric 0)))
+        room.old room.new result }
+{
+    put(identifiers[place].to_string(alloc), room)
+}

@@ -1,0 +1,18 @@
+//! Exports of `node_semver` for C. `include/node_semver.h` declares them.
+#![tactic(auto)]
+
+mod algebra;
+mod greatest;
+mod handle;
+mod identifiers;
+mod loose;
+mod pair;
+mod range;
+mod status;
+mod text;
+mod version;
+
+pub use handle::Opaque;
+pub use handle::range::{RangeHandle, RangeRef};
+pub use handle::version::{VersionHandle, VersionRef};
+pub use status::{Fault, NONE, NOT_UTF8, OK, OUT_OF_MEMORY, REFUSED};

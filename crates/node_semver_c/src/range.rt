@@ -1,0 +1,109 @@
+//! Exports on ranges.
+ghost use Rattle.std.specs.Prelude.{◌≡◌, ◌≢◌, ◌↔◌, [], IsTrue, IsUtf8, None};
+ghost use Rattle.semver_cuts.specs.CommonSpans.{common_spans};
+ghost use Rattle.semver_cuts.specs.Sharing.{CoversOne, ShareCut};
+ghost use Rattle.node_semver.specs.Comparison.{version_cmp};
+ghost use Rattle.node_semver.specs.Meaning.{RangeAdmits};
+ghost use Rattle.node_semver.specs.RangeAnswer.{IsRangeAnswer};
+ghost use Rattle.node_semver.specs.RangeEquality.{AreSameCuts};
+ghost use Rattle.node_semver.specs.RangePrint.{range_text};
+ghost use Rattle.node_semver_c.specs.Answers.{IsSomeTold};
+ghost use Rattle.node_semver_c.specs.Compared.{range_hash};
+ghost use Rattle.node_semver_c.specs.Printed.{IsPrinted};
+ghost use Rattle.node_semver_c.specs.declared.status.TheConstants.{NOT_UTF8};
+
+use crate::handle::range::{RangeHandle, RangeRef};
+use crate::handle::version::VersionRef;
+use crate::status::{Fault, NOT_UTF8, keep_range, tell};
+use crate::text::put;
+use node_semver::Range;
+use std::alloc::Global;
+use std::hash::{FoldHasher, Hash, Hasher};
+
+/// `Range::parse`: the range is in the handle, or its fault is told.
+#[unsafe(no_mangle)]
+pub extern "C" fn node_semver_range_parse(
+    alloc: Global,
+    text: &[u8],
+    range: &mut RangeHandle,
+    fault: &mut Fault,
+) -> u32
+    requires empty { range.old.value ≡ None }
+    ensures parsed { IsUtf8 text.now → IsSomeTold (IsRangeAnswer text.now) result range.new.value fault.new }
+    ensures not_utf8 { ¬ IsUtf8 text.now → (result ≡ NOT_UTF8) × (range.new.value ≡ None) }
+{
+    match std::str::from_utf8(text) {
+        Ok(text) => read(alloc, text, range, fault),
+        Err(_) => NOT_UTF8,
+    }
+}
+
+fn read(alloc: Global, text: &str, range: &mut RangeHandle, fault: &mut Fault) -> u32
+    requires { range.old.value ≡ None }
+    ensures { IsSomeTold (IsRangeAnswer text.now) result range.new.value fault.new }
+{
+    match Range::parse(alloc, text) {
+        Ok(read) => keep_range(alloc, read, range),
+        Err(error) => tell(&error, fault),
+    }
+}
+
+/// Frees a range.
+#[unsafe(no_mangle)]
+pub extern "C" fn node_semver_range_free(alloc: Global, range: RangeHandle)
+    requires full { range.value ≢ None }
+{
+    range.free(alloc);
+}
+
+/// The print of a range.
+#[unsafe(no_mangle)]
+pub extern "C" fn node_semver_range_print(alloc: Global, range: &RangeRef, room: &mut [u8]) -> usize
+    ensures { IsPrinted (range_text range.now.value) room.old room.new result }
+{
+    put(range.get().to_string(alloc), room)
+}
+
+/// `==` of ranges: set by set, by their cuts.
+#[unsafe(no_mangle)]
+pub extern "C" fn node_semver_range_equals(one: &RangeRef, other: &RangeRef) -> bool
+    ensures { IsTrue result ↔ AreSameCuts one.now.value other.now.value }
+{
+    one.get().eq(other.get())
+}
+
+/// `Range::satisfies`.
+#[unsafe(no_mangle)]
+pub extern "C" fn node_semver_satisfies(range: &RangeRef, version: &VersionRef) -> bool
+    ensures { IsTrue result ↔ RangeAdmits range.now.value version.now.value }
+{
+    range.get().satisfies(version.get())
+}
+
+/// `Range::allows_any`.
+#[unsafe(no_mangle)]
+pub extern "C" fn node_semver_range_allows_any(one: &RangeRef, other: &RangeRef) -> bool
+    ensures shared { IsTrue result ↔ ShareCut version_cmp one.now.value other.now.value }
+    ensures symmetric { IsTrue result ↔ ShareCut version_cmp other.now.value one.now.value }
+    ensures intersection { IsTrue result ↔ (common_spans version_cmp one.now.value other.now.value ≢ []) }
+{
+    one.get().allows_any(other.get())
+}
+
+/// `Range::allows_all`.
+#[unsafe(no_mangle)]
+pub extern "C" fn node_semver_range_allows_all(one: &RangeRef, other: &RangeRef) -> bool
+    ensures { IsTrue result ↔ CoversOne version_cmp one.now.value other.now.value }
+{
+    one.get().allows_all(other.get())
+}
+
+/// A hash: equal ranges have one.
+#[unsafe(no_mangle)]
+pub extern "C" fn node_semver_range_hash(range: &RangeRef) -> u64
+    ensures { result ≡ range_hash range.now.value }
+{
+    let mut hasher = FoldHasher::default();
+    range.get().hash(&mut hasher);
+    hasher.finish()
+}

@@ -1,0 +1,122 @@
+//! What a call tells: its status, and the fault of a text that it refuses.
+ghost use Rattle.std.specs.Prelude.{◌≡◌, Some, None};
+ghost use Rattle.node_semver.specs.Error.{kind_of, refusal_of};
+ghost use Rattle.node_semver_c.specs.Status.{IsKept, IsKeptAnswer, IsRefusalTold};
+ghost use Rattle.node_semver_c.specs.Status.{code_of, number_in, status_of};
+
+use crate::handle::range::RangeHandle;
+use crate::handle::version::VersionHandle;
+use node_semver::{Range, SemverError, SemverErrorKind, Version};
+use std::alloc::Global;
+
+/// The call did what it was asked for.
+pub const OK: u32 = 0;
+
+/// There is no such version, or no such range.
+pub const NONE: u32 = 1;
+
+/// The text is refused; its fault is told.
+pub const REFUSED: u32 = 2;
+
+/// The bytes are no UTF-8.
+pub const NOT_UTF8: u32 = 3;
+
+/// Memory was refused.
+pub const OUT_OF_MEMORY: u32 = 4;
+
+/// Why a text was refused, and where.
+#[repr(C)]
+#[derive(Drop)]
+pub struct Fault {
+    /// The kind of the fault, from 1 in the order of `SemverErrorKind`.
+    pub kind: u32,
+    /// Its byte offset in the text.
+    pub offset: usize,
+    /// The number of `MaxIntError`, and 0 for any other kind.
+    pub number: u64,
+}
+
+// What is told of an error, and its status.
+pub(crate) fn tell(error: &SemverError, fault: &mut Fault) -> u32
+    ensures { IsRefusalTold (refusal_of error.now) result fault.new }
+{
+    let (status, kind, number) = told_kind(error.kind());
+    *fault = Fault {
+        kind,
+        offset: error.offset(),
+        number,
+    };
+    status
+}
+
+// The status, the code and the number of a kind.
+fn told_kind(kind: &SemverErrorKind) -> (u32, u32, u64)
+    ensures status { result.0 ≡ status_of (kind_of kind.now) }
+    ensures code { result.1 ≡ code_of (kind_of kind.now) }
+    ensures number { result.2 ≡ number_in (kind_of kind.now) }
+{
+    match kind {
+        SemverErrorKind::MaxLengthError => (REFUSED, 1, 0),
+        SemverErrorKind::IncompleteInput => (REFUSED, 2, 0),
+        SemverErrorKind::ParseIntError(_) => (REFUSED, 3, 0),
+        SemverErrorKind::MaxIntError(number) => (REFUSED, 4, *number),
+        SemverErrorKind::Context(_) => (REFUSED, 5, 0),
+        SemverErrorKind::NoValidRanges => (REFUSED, 6, 0),
+        SemverErrorKind::Other => (REFUSED, 7, 0),
+        SemverErrorKind::OutOfMemory => (OUT_OF_MEMORY, 8, 0),
+    }
+}
+
+// A version for C to keep.
+pub(crate) fn keep_version(alloc: Global, version: Version, held: &mut VersionHandle) -> u32
+    requires { held.old.value ≡ None }
+    ensures { IsKept version result held.new.value }
+{
+    match VersionHandle::on_heap(alloc, version) {
+        Ok(version) => {
+            *held = version;
+            OK
+        }
+        Err(_) => OUT_OF_MEMORY,
+    }
+}
+
+// A range for C to keep.
+pub(crate) fn keep_range(alloc: Global, range: Range, held: &mut RangeHandle) -> u32
+    requires { held.old.value ≡ None }
+    ensures { IsKept range result held.new.value }
+{
+    match RangeHandle::on_heap(alloc, range) {
+        Ok(range) => {
+            *held = range;
+            OK
+        }
+        Err(_) => OUT_OF_MEMORY,
+    }
+}
+
+// The same of a version that may be none.
+pub(crate) fn keep_version_found(
+    alloc: Global,
+    found: Option<Version>,
+    held: &mut VersionHandle,
+) -> u32
+    requires { held.old.value ≡ None }
+    ensures { IsKeptAnswer found result held.new.value }
+{
+    match found {
+        Some(version) => keep_version(alloc, version, held),
+        None => NONE,
+    }
+}
+
+// The same of a range that may be none.
+pub(crate) fn keep_range_found(alloc: Global, found: Option<Range>, held: &mut RangeHandle) -> u32
+    requires { held.old.value ≡ None }
+    ensures { IsKeptAnswer found result held.new.value }
+{
+    match found {
+        Some(range) => keep_range(alloc, range, held),
+        None => NONE,
+    }
+}

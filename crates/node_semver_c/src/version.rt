@@ -1,0 +1,126 @@
+//! Exports on versions.
+ghost use Rattle.std.specs.Prelude.{◌≡◌, ◌≢◌, ◌↔◌, IsTrue, IsUtf8, None};
+ghost use Rattle.node_semver.specs.Comparison.{version_cmp};
+ghost use Rattle.node_semver.specs.Json.{IsVersionAnswer};
+ghost use Rattle.node_semver.specs.Order.{OrderMeans};
+ghost use Rattle.node_semver.specs.Print.{version_text};
+ghost use Rattle.node_semver.specs.Version.{IsPrerelease};
+ghost use Rattle.node_semver_c.specs.Answers.{IsSomeTold};
+ghost use Rattle.node_semver_c.specs.Compared.{sign_of, version_hash};
+ghost use Rattle.node_semver_c.specs.Printed.{IsPrinted};
+ghost use Rattle.node_semver_c.specs.declared.status.TheConstants.{NOT_UTF8};
+
+use crate::handle::version::{VersionHandle, VersionRef};
+use crate::status::{Fault, NOT_UTF8, keep_version, tell};
+use crate::text::put;
+use node_semver::Version;
+use std::alloc::Global;
+use std::cmp::Ordering;
+use std::hash::{FoldHasher, Hash, Hasher};
+
+/// `Version::parse`: the version is in the handle, or its fault is told.
+#[unsafe(no_mangle)]
+pub extern "C" fn node_semver_version_parse(
+    alloc: Global,
+    text: &[u8],
+    version: &mut VersionHandle,
+    fault: &mut Fault,
+) -> u32
+    requires empty { version.old.value ≡ None }
+    ensures parsed { IsUtf8 text.now
+        → IsSomeTold (IsVersionAnswer text.now) result version.new.value fault.new }
+    ensures not_utf8 { ¬ IsUtf8 text.now → (result ≡ NOT_UTF8) × (version.new.value ≡ None) }
+{
+    match std::str::from_utf8(text) {
+        Ok(text) => read(alloc, text, version, fault),
+        Err(_) => NOT_UTF8,
+    }
+}
+
+fn read(alloc: Global, text: &str, version: &mut VersionHandle, fault: &mut Fault) -> u32
+    requires { version.old.value ≡ None }
+    ensures { IsSomeTold (IsVersionAnswer text.now) result version.new.value fault.new }
+{
+    match Version::parse(alloc, text) {
+        Ok(read) => keep_version(alloc, read, version),
+        Err(error) => tell(&error, fault),
+    }
+}
+
+/// Frees a version.
+#[unsafe(no_mangle)]
+pub extern "C" fn node_semver_version_free(alloc: Global, version: VersionHandle)
+    requires full { version.value ≢ None }
+{
+    version.free(alloc);
+}
+
+/// The print of a version.
+#[unsafe(no_mangle)]
+pub extern "C" fn node_semver_version_print(
+    alloc: Global,
+    version: &VersionRef,
+    room: &mut [u8],
+) -> usize
+    ensures { IsPrinted (version_text version.now.value) room.old room.new result }
+{
+    put(version.get().to_string(alloc), room)
+}
+
+/// `Version::cmp`: -1, 0 or 1.
+#[unsafe(no_mangle)]
+pub extern "C" fn node_semver_version_compare(one: &VersionRef, other: &VersionRef) -> i32
+    ensures answer { result ≡ sign_of (version_cmp one.now.value other.now.value) }
+    ensures order { OrderMeans one.now.value other.now.value (version_cmp one.now.value other.now.value) }
+{
+    match one.get().cmp(other.get()) {
+        Ordering::Less => -1,
+        Ordering::Equal => 0,
+        Ordering::Greater => 1,
+    }
+}
+
+/// `Version::is_prerelease`.
+#[unsafe(no_mangle)]
+pub extern "C" fn node_semver_version_is_prerelease(version: &VersionRef) -> bool
+    ensures { IsTrue result ↔ IsPrerelease version.now.value }
+{
+    version.get().is_prerelease()
+}
+
+/// The first number.
+#[unsafe(no_mangle)]
+pub extern "C" fn node_semver_version_major(version: &VersionRef) -> u64
+    ensures { result ≡ version.now.value.major }
+{
+    let version = version.get();
+    version.major
+}
+
+/// The second number.
+#[unsafe(no_mangle)]
+pub extern "C" fn node_semver_version_minor(version: &VersionRef) -> u64
+    ensures { result ≡ version.now.value.minor }
+{
+    let version = version.get();
+    version.minor
+}
+
+/// The third number.
+#[unsafe(no_mangle)]
+pub extern "C" fn node_semver_version_patch(version: &VersionRef) -> u64
+    ensures { result ≡ version.now.value.patch }
+{
+    let version = version.get();
+    version.patch
+}
+
+/// A hash: equal versions have one.
+#[unsafe(no_mangle)]
+pub extern "C" fn node_semver_version_hash(version: &VersionRef) -> u64
+    ensures { result ≡ version_hash version.now.value }
+{
+    let mut hasher = FoldHasher::default();
+    version.get().hash(&mut hasher);
+    hasher.finish()
+}

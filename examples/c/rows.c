@@ -1,0 +1,298 @@
+/*
+ * A user of node_semver in C: worked rows of the documents, each a call and what it answers.
+ *
+ *     rows           runs each row
+ *     rows refuse    runs each row with each request for memory refused in turn, too; to be linked with
+ *                    -Wl,--wrap=malloc -Wl,--wrap=realloc
+ *
+ * Ends with status 0 where each row is as it should be.
+ */
+#include "node_semver.h"
+
+#include <inttypes.h>
+#include <stdio.h>
+#include <stdlib.h>
+#include <string.h>
+
+/* Which request for memory is refused, from 1, and how many were made; 0 refuses none. */
+static unsigned long refused, requests;
+
+void *__real_malloc(size_t size);
+void *__real_realloc(void *block, size_t size);
+void *__wrap_malloc(size_t size);
+void *__wrap_realloc(void *block, size_t size);
+
+void *__wrap_malloc(size_t size) {
+    return ++requests == refused ? NULL : __real_malloc(size);
+}
+
+void *__wrap_realloc(void *block, size_t size) {
+    return ++requests == refused ? NULL : __real_realloc(block, size);
+}
+
+/* What a row answers. */
+struct answer {
+    char text[512];
+};
+
+static void tell(struct answer *answer, const char *text) {
+    snprintf(answer->text, sizeof answer->text, "%s", text);
+}
+
+static void tell_truth(struct answer *answer, bool truth) {
+    tell(answer, truth ? "true" : "false");
+}
+
+/* A status other than NODE_SEMVER_OK, with the fault of a text that is refused. */
+static void tell_status(struct answer *answer, node_semver_status status, const node_semver_fault *fault) {
+    if (status == NODE_SEMVER_OUT_OF_MEMORY) {
+        tell(answer, "out of memory");
+    } else if (status == NODE_SEMVER_NOT_UTF8) {
+        tell(answer, "not UTF-8");
+    } else if (status == NODE_SEMVER_NONE) {
+        tell(answer, "none");
+    } else {
+        snprintf(answer->text, sizeof answer->text, "refused %" PRIu32 " %zu %" PRIu64, fault->kind, fault->offset,
+                 fault->number);
+    }
+}
+
+/* The print of a version or of a range, which is asked for twice: how long it is, and then for its text. */
+static void tell_print(struct answer *answer, size_t length, size_t again) {
+    if (length == 0 || again == 0) {
+        tell(answer, "out of memory");
+    } else if (length != again || length >= sizeof answer->text) {
+        tell(answer, "another length");
+    } else {
+        answer->text[length] = '\0';
+    }
+}
+
+static void tell_version(struct answer *answer, const node_semver_version *version) {
+    size_t length = node_semver_version_print(version, answer->text, 0);
+    tell_print(answer, length, node_semver_version_print(version, answer->text, sizeof answer->text - 1));
+}
+
+static void tell_range(struct answer *answer, const node_semver_range *range) {
+    size_t length = node_semver_range_print(range, answer->text, 0);
+    tell_print(answer, length, node_semver_range_print(range, answer->text, sizeof answer->text - 1));
+}
+
+/* Two texts at most, read as versions or as ranges. */
+struct read {
+    node_semver_version versions[2];
+    node_semver_range ranges[2];
+};
+
+static void free_read(struct read *read) {
+    for (int i = 0; i < 2; i++) {
+        if (read->versions[i].at != NULL) {
+            node_semver_version_free(read->versions[i]);
+        }
+        if (read->ranges[i].at != NULL) {
+            node_semver_range_free(read->ranges[i]);
+        }
+    }
+}
+
+/* False where a text was not read, which is told; nothing is kept then. */
+static bool read_texts(struct read *read, const char *kinds, const char *const *texts, struct answer *answer) {
+    *read = (struct read){{NODE_SEMVER_EMPTY, NODE_SEMVER_EMPTY}, {NODE_SEMVER_EMPTY, NODE_SEMVER_EMPTY}};
+    for (int i = 0; kinds[i] != '\0'; i++) {
+        node_semver_fault fault = {0, 0, 0};
+        size_t length = strlen(texts[i]);
+        node_semver_status status = kinds[i] == 'v'
+            ? node_semver_version_parse(texts[i], length, &read->versions[i], &fault)
+            : node_semver_range_parse(texts[i], length, &read->ranges[i], &fault);
+        if (status != NODE_SEMVER_OK) {
+            tell_status(answer, status, &fault);
+            free_read(read);
+            return false;
+        }
+    }
+    return true;
+}
+
+/* A call of two ranges, or of one, that answers a range or a version. */
+typedef node_semver_status algebra(const node_semver_range *, const node_semver_range *, node_semver_range *);
+typedef node_semver_status search(const node_semver_range *, const node_semver_range *, node_semver_version *);
+
+static void run_algebra(algebra *call, const struct read *read, struct answer *answer) {
+    node_semver_range found = NODE_SEMVER_EMPTY;
+    node_semver_status status = call(&read->ranges[0], &read->ranges[1], &found);
+    if (status != NODE_SEMVER_OK) {
+        tell_status(answer, status, NULL);
+        return;
+    }
+    tell_range(answer, &found);
+    node_semver_range_free(found);
+}
+
+static void run_search(search *call, const struct read *read, struct answer *answer) {
+    node_semver_version found = NODE_SEMVER_EMPTY;
+    node_semver_status status = call == NULL ? node_semver_min_version(&read->ranges[0], &found)
+                                             : call(&read->ranges[0], &read->ranges[1], &found);
+    if (status != NODE_SEMVER_OK) {
+        tell_status(answer, status, NULL);
+        return;
+    }
+    tell_version(answer, &found);
+    node_semver_version_free(found);
+}
+
+/* Versions of a text with blanks between, of which the range admits this one as the greatest. */
+static void run_greatest(const char *const *texts, struct answer *answer) {
+    node_semver_version versions[8];
+    node_semver_range range = NODE_SEMVER_EMPTY;
+    node_semver_fault fault = {0, 0, 0};
+    size_t count = 0, place = 0;
+    node_semver_status status = node_semver_range_parse(texts[0], strlen(texts[0]), &range, &fault);
+    const char *rest = texts[1];
+    while (status == NODE_SEMVER_OK && *rest != '\0') {
+        size_t length = strcspn(rest, " ");
+        versions[count] = (node_semver_version)NODE_SEMVER_EMPTY;
+        status = node_semver_version_parse(rest, length, &versions[count], &fault);
+        count += status == NODE_SEMVER_OK;
+        rest += length + strspn(rest + length, " ");
+    }
+    if (status != NODE_SEMVER_OK) {
+        tell_status(answer, status, &fault);
+    } else if (node_semver_max_satisfying(versions, count, &range, &place)) {
+        snprintf(answer->text, sizeof answer->text, "%zu", place);
+    } else {
+        tell(answer, "none");
+    }
+    while (count > 0) {
+        node_semver_version_free(versions[--count]);
+    }
+    if (range.at != NULL) {
+        node_semver_range_free(range);
+    }
+}
+
+static void run_texts(const char *const *texts, struct answer *answer) {
+    node_semver_fault fault = {0, 0, 0};
+    bool satisfies = false;
+    node_semver_status status = node_semver_satisfies_text(texts[0], strlen(texts[0]), texts[1], strlen(texts[1]),
+                                                           &satisfies, &fault);
+    if (status == NODE_SEMVER_OK) {
+        tell_truth(answer, satisfies);
+    } else {
+        tell_status(answer, status, &fault);
+    }
+}
+
+/* The numbers, and the identifiers of the prerelease and of the build in brackets. */
+static void tell_fields(struct answer *answer, const node_semver_version *version) {
+    size_t size = sizeof answer->text, length;
+    length = (size_t)snprintf(answer->text, size, "%" PRIu64 " %" PRIu64 " %" PRIu64,
+                              node_semver_version_major(version), node_semver_version_minor(version),
+                              node_semver_version_patch(version));
+    for (size_t i = 0; i < node_semver_version_pre_release_count(version); i++) {
+        answer->text[length++] = ' ';
+        size_t more = node_semver_version_pre_release_print(version, i, answer->text + length, size - length - 16);
+        if (more == 0) {
+            tell(answer, "out of memory");
+            return;
+        }
+        length += more;
+    }
+    for (size_t i = 0; i < node_semver_version_build_count(version); i++) {
+        length += (size_t)snprintf(answer->text + length, size - length, " +");
+        size_t more = node_semver_version_build_print(version, i, answer->text + length, size - length - 16);
+        if (more == 0) {
+            tell(answer, "out of memory");
+            return;
+        }
+        length += more;
+    }
+    snprintf(answer->text + length, size - length, "%s",
+             node_semver_version_is_prerelease(version) ? " prerelease" : " release");
+}
+
+struct row {
+    const char *call;
+    const char *kinds; /* of its texts, `v` a version and `r` a range; none where the call reads them itself */
+    const char *texts[2];
+    const char *answer;
+};
+
+#include "rows.h"
+
+static void run(const struct row *row, struct answer *answer) {
+    struct read read;
+    if (!read_texts(&read, row->kinds, row->texts, answer)) {
+        return;
+    }
+    const node_semver_version *v = read.versions;
+    const node_semver_range *r = read.ranges;
+    if (strcmp(row->call, "print") == 0) {
+        if (row->kinds[0] == 'v') {
+            tell_version(answer, &v[0]);
+        } else {
+            tell_range(answer, &r[0]);
+        }
+    } else if (strcmp(row->call, "fields") == 0) {
+        tell_fields(answer, &v[0]);
+    } else if (strcmp(row->call, "compare") == 0) {
+        snprintf(answer->text, sizeof answer->text, "%" PRId32, node_semver_version_compare(&v[0], &v[1]));
+    } else if (strcmp(row->call, "hash") == 0) {
+        tell_truth(answer, row->kinds[0] == 'v' ? node_semver_version_hash(&v[0]) == node_semver_version_hash(&v[1])
+                                                : node_semver_range_hash(&r[0]) == node_semver_range_hash(&r[1]));
+    } else if (strcmp(row->call, "equals") == 0) {
+        tell_truth(answer, node_semver_range_equals(&r[0], &r[1]));
+    } else if (strcmp(row->call, "satisfies") == 0) {
+        tell_truth(answer, node_semver_satisfies(&r[0], &v[1]));
+    } else if (strcmp(row->call, "allows_any") == 0) {
+        tell_truth(answer, node_semver_range_allows_any(&r[0], &r[1]));
+    } else if (strcmp(row->call, "allows_all") == 0) {
+        tell_truth(answer, node_semver_range_allows_all(&r[0], &r[1]));
+    } else if (strcmp(row->call, "intersect") == 0) {
+        run_algebra(node_semver_range_intersect, &read, answer);
+    } else if (strcmp(row->call, "difference") == 0) {
+        run_algebra(node_semver_range_difference, &read, answer);
+    } else if (strcmp(row->call, "min_version") == 0) {
+        run_search(NULL, &read, answer);
+    } else if (strcmp(row->call, "least_beyond") == 0) {
+        run_search(node_semver_least_beyond, &read, answer);
+    } else if (strcmp(row->call, "max_satisfying") == 0) {
+        run_greatest(row->texts, answer);
+    } else if (strcmp(row->call, "satisfies_text") == 0) {
+        run_texts(row->texts, answer);
+    } else {
+        tell(answer, "no such call");
+    }
+    free_read(&read);
+}
+
+/* Whether the row answers what it should. Where a request was refused that may be want of memory, or the row all the
+ * same: memory that is only to be given back may be kept. */
+static bool is_right(const struct row *row) {
+    struct answer answer;
+    requests = 0;
+    run(row, &answer);
+    bool is_met = refused != 0 && refused <= requests;
+    if (strcmp(answer.text, row->answer) == 0 || (is_met && strcmp(answer.text, "out of memory") == 0)) {
+        return true;
+    }
+    printf("WRONG: %s %s %s: %s, and not %s (request %lu refused)\n", row->call, row->texts[0],
+           row->texts[1] == NULL ? "" : row->texts[1], answer.text, row->answer, refused);
+    return false;
+}
+
+int main(int count, char **words) {
+    bool refuses = count == 2 && strcmp(words[1], "refuse") == 0;
+    unsigned long wrong = 0, runs = 0;
+    size_t rows_count = sizeof rows / sizeof rows[0];
+    for (size_t i = 0; i < rows_count; i++) {
+        refused = 0;
+        wrong += !is_right(&rows[i]);
+        unsigned long made = requests;
+        for (refused = 1; refuses && refused <= made; refused++) {
+            wrong += !is_right(&rows[i]);
+            runs++;
+        }
+    }
+    printf("%zu rows, %lu runs with a request refused: %lu wrong\n", rows_count, runs, wrong);
+    return wrong != 0;
+}

@@ -52,8 +52,16 @@ impl Sets {
     {
         match (self, other) {
             (Sets::One(set), Sets::One(other)) => set.shares_cut(other),
-            _ => self.merged().share_cut(&other.merged()),
+            _ => self.share_merged_cut(other),
         }
+    }
+
+    // The same along the merged spans of both.
+    #[inline(never)]
+    fn share_merged_cut(&self, other: &Sets) -> bool
+        ensures { IsTrue result ↔ ShareCut version_cmp (sets_seen self.now) (sets_seen other.now) }
+    {
+        self.merged().share_cut(&other.merged())
     }
 
     // Whether one of the sets admits a version.

@@ -10,7 +10,8 @@ use Rattle.semver_cuts.specs.Sharing.{ShareCut}
 use Rattle.node_semver.specs.declared.error.SemverError.{SemverError}
 use Rattle.node_semver.specs.Comparison.{version_cmp}
 use Rattle.node_semver.specs.Error.{refusal_of}
-use Rattle.node_semver.specs.Least.{AdmitsNone, AdmitsNoneBeyond, HasBuildOfFirst, IsAdmittedBy, IsLeastAdmitted, IsLeastBeyond}
+use Rattle.node_semver.specs.Least.{AdmitsNone, AdmitsNoneBeyond, HasBuildOfFirst, IsAdmittedBy}
+use Rattle.node_semver.specs.Least.{IsLeastAdmitted, IsLeastBeyond}
 use Rattle.node_semver.specs.Meaning.{RangeAdmits}
 use Rattle.node_semver.specs.RangeAlgebra.{PairAdmits, sets_of_answer}
 use Rattle.node_semver.specs.RangeSets.{IsRangeValue}
@@ -27,8 +28,8 @@ IsTold answer status held fault =
     MatchResult answer (λ x. IsKept x status held) (λ e. IsRefusalTold (refusal_of e) status fault × (held ≡ None))
 
 -- some answer that the call may give is told
-pub record IsSomeTold {X : Type 0} (Answers : Result X SemverError → Type 0) (status : ℕ) (held : Option X) (fault : Fault)
-    : Type 0 where
+pub record IsSomeTold {X : Type 0} (Answers : Result X SemverError → Type 0) (status : ℕ) (held : Option X)
+    (fault : Fault) : Type 0 where
   pub answer : Result X SemverError
   pub promised : Answers answer
   pub told : IsTold answer status held fault
@@ -46,7 +47,8 @@ IsFound Answers status held =
     (Answers held × (status ≡ status_found held)) ⊎ ((status ≡ OUT_OF_MEMORY) × (held ≡ None))
 
 -- what `Range::intersect` answers
-pub record IsIntersection (one other : List (Ends VersionValue)) (answer : Option (List (Ends VersionValue))) : Type 0 where
+pub record IsIntersection (one other : List (Ends VersionValue)) (answer : Option (List (Ends VersionValue)))
+    : Type 0 where
   pub sets : sets_of_answer answer ≡ common_spans version_cmp one other
   pub cuts : (cut : Cut VersionValue) → IsInSome version_cmp (sets_of_answer answer) cut
       ↔ (IsInSome version_cmp one cut × IsInSome version_cmp other cut)
@@ -58,11 +60,13 @@ pub record IsIntersection (one other : List (Ends VersionValue)) (answer : Optio
   pub holds : IfSome answer IsRangeValue
 
 -- what `Range::difference` answers
-pub record IsDifference (one other : List (Ends VersionValue)) (answer : Option (List (Ends VersionValue))) : Type 0 where
+pub record IsDifference (one other : List (Ends VersionValue)) (answer : Option (List (Ends VersionValue)))
+    : Type 0 where
   pub sets : AreRestSpans version_cmp one other (sets_of_answer answer)
   pub cuts : (cut : Cut VersionValue) → IsInSome version_cmp (sets_of_answer answer) cut
       ↔ (IsInSome version_cmp one cut × ¬ IsInSome version_cmp other cut)
-  pub none : IsNone answer ↔ ((cut : Cut VersionValue) → ¬ (IsInSome version_cmp one cut × ¬ IsInSome version_cmp other cut))
+  pub none : IsNone answer
+      ↔ ((cut : Cut VersionValue) → ¬ (IsInSome version_cmp one cut × ¬ IsInSome version_cmp other cut))
   pub releases : (v : VersionValue) → ¬ IsPrerelease v
       → RangeAdmits (sets_of_answer answer) v ↔ (RangeAdmits one v × ¬ RangeAdmits other v)
   pub holds : IfSome answer IsRangeValue

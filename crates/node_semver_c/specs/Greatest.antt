@@ -27,8 +27,8 @@ IsAbove None v = Unit {0}
 IsAbove (Some best) v = version_cmp best.1 v ≡ Less
 
 -- the version and its place if it is above the best so far and the range admits it, or else the best
-abbrev pub IsGreater : List (Ends VersionValue) → Option (ℕ × VersionValue) → ℕ → VersionValue → Option (ℕ × VersionValue)
-    → Type 0
+abbrev pub IsGreater : List (Ends VersionValue) → Option (ℕ × VersionValue) → ℕ → VersionValue
+    → Option (ℕ × VersionValue) → Type 0
 IsGreater sets best place v greater =
     (IsAbove best v × RangeAdmits sets v × (greater ≡ Some (place, v)))
     ⊎ ((¬ (IsAbove best v × RangeAdmits sets v)) × (greater ≡ best))

@@ -8,8 +8,8 @@ use Rattle.std.specs.Box.Ownership.{box_owns}
 use Rattle.std.specs.declared.alloc.Global.{Global}
 use Rattle.std.specs.contracts.impls.GlobalAllocator.TheImpl.{ghosts}
 
--- a handle that is lent: while the lifetime a lasts, the value x of the type R lies at p, and nobody changes or frees it.
--- Whoever has one has some share of the right to end the lifetime, so a handle may be lent to many calls at once.
+-- a handle that is lent: while the lifetime a lasts, the value x of the type R lies at p, and nobody changes or frees
+-- it. Whoever has one has some share of the right to end the lifetime, so a handle may be lent to many calls at once.
 abbrev pub borrows : (R : RattleType) → Ptr → ℕ → R.Denot → Fml
 borrows R p a x = fsep (fex Share (λ s. flft (a ∷ []) s)) (lent_at R p x (a ∷ []))
 

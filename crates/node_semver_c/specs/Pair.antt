@@ -18,7 +18,8 @@ pub record IsErrorTold (Is : SemverError → Type 0) (status : ℕ) (fault : Fau
   pub told : IsRefusalTold (refusal_of error) status fault
 
 -- the version of the text was asked of something: whether it satisfies it, or the fault of the text
-pub data IsAsked (Admits : VersionValue → Type 0) (text : List ℕ) (status : ℕ) (answer : Bool) (fault : Fault) : Type 0 where
+pub data IsAsked (Admits : VersionValue → Type 0) (text : List ℕ) (status : ℕ) (answer : Bool) (fault : Fault)
+    : Type 0 where
   answered : (v : VersionValue) → IsVersionText text v → status ≡ OK → (IsTrue answer ↔ Admits v)
       → IsAsked Admits text status answer fault
   refused : IsErrorTold (λ e. IsOutOfMemory e ⊎ IsFaultOf text e) status fault → IsAsked Admits text status answer fault
@@ -29,7 +30,8 @@ IsVersionTold sets text status answer fault = IsAsked (RangeAdmits sets) text st
 
 -- the range text is refused, or memory was; or it is not refused, and the version of the other text was asked of it
 pub data IsPairTold (range version : List ℕ) (status : ℕ) (answer : Bool) (fault : Fault) : Type 0 where
-  range_refused : IsErrorTold (λ e. IsOutOfMemory e ⊎ (IsRefusalAt range no_valid_ranges 0 e × IsRefused range)) status fault
+  range_refused :
+      IsErrorTold (λ e. IsOutOfMemory e ⊎ (IsRefusalAt range no_valid_ranges 0 e × IsRefused range)) status fault
       → IsPairTold range version status answer fault
   asked : ¬ IsRefused range → IsAsked (TextAdmits range) version status answer fault
       → IsPairTold range version status answer fault

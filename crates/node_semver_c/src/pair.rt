@@ -7,8 +7,9 @@ use crate::status::{Fault, NOT_UTF8, OK, tell};
 use node_semver::{Range, Version};
 use std::alloc::Global;
 
-/// `Range::parse`, `Version::parse` and `satisfies`: whether the version of one text satisfies the range of another. The
-/// range is read first, and of two faults its one is told.
+/// `Range::parse`, `Version::parse` and `satisfies`: whether the version of one text satisfies the range of another.
+///
+/// The range is read first, and of two faults its one is told.
 #[unsafe(no_mangle)]
 pub extern "C" fn node_semver_satisfies_text(
     alloc: Global,

@@ -14,9 +14,9 @@ mod skip;
 mod triple;
 
 pub(crate) use fault::Fault;
-pub(crate) use full::{read_full_triple, read_leading_triple};
+pub(crate) use full::read_full_triple;
 pub(crate) use identifiers::read_prerelease;
 pub(crate) use number::large_kind;
 pub(crate) use partial::{Partial, Shape, read_partial};
 pub(crate) use skip::{begins_clean, skip_blanks, skip_solid, skip_some_blanks};
-pub(crate) use triple::{read_extended, read_extras, read_version};
+pub(crate) use triple::{read_extras, read_version};

@@ -1,7 +1,7 @@
 //! Exports on ranges.
 ghost use Rattle.std.specs.Prelude.{◌≡◌, ◌≢◌, ◌↔◌, [], IsTrue, IsUtf8, None};
 ghost use Rattle.semver_cuts.specs.CommonSpans.{common_spans};
-ghost use Rattle.semver_cuts.specs.Sharing.{CoversOne, ShareCut};
+ghost use Rattle.semver_cuts.specs.Sharing.{CoversAll, ShareCut};
 ghost use Rattle.node_semver.specs.Comparison.{version_cmp};
 ghost use Rattle.node_semver.specs.Meaning.{RangeAdmits};
 ghost use Rattle.node_semver.specs.RangeAnswer.{IsRangeAnswer};
@@ -93,7 +93,7 @@ pub extern "C" fn node_semver_range_allows_any(one: &RangeRef, other: &RangeRef)
 /// `Range::allows_all`.
 #[unsafe(no_mangle)]
 pub extern "C" fn node_semver_range_allows_all(one: &RangeRef, other: &RangeRef) -> bool
-    ensures { IsTrue result ↔ CoversOne version_cmp one.now.value other.now.value }
+    ensures { IsTrue result ↔ CoversAll version_cmp one.now.value other.now.value }
 {
     one.get().allows_all(other.get())
 }

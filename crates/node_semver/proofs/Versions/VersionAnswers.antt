@@ -1,26 +1,17 @@
 -- What is answered for a version text, by whether it is a version of the text or tells its fault.
-use Rattle.std.proofs.Common.{◌≡◌, ◌<◌, ◌≤◌, ◌⊎◌, ℕ, List, [], ◌∷◌, length, Ok, Err, arith, inl, inr}
+use Rattle.std.proofs.Common.{◌≡◌, ◌≤◌, ◌⊎◌, ℕ, List, length, Ok, Err, inl, inr}
 use Rattle.std.specs.Prelude.{IfErr, IfOk, Result}
 use Rattle.node_semver.specs.Error.{IsOutOfMemory}
 use Rattle.node_semver.specs.Fault.{IsFaultOf}
 use Rattle.node_semver.specs.Print.{version_text}
 use Rattle.node_semver.specs.ReadingBack.{HasText, VersionReadsBack}
-use Rattle.node_semver.specs.Version.{VersionValue, release}
+use Rattle.node_semver.specs.Version.{VersionValue}
 use Rattle.node_semver.specs.VersionText.{IsReadAs, IsVersionText}
 use Rattle.node_semver.specs.declared.TheConstants.{MAX_LENGTH}
 use Rattle.node_semver.specs.declared.error.SemverError.{SemverError}
 use Rattle.node_semver.proofs.Prints.PrintReading.{version-print_read, version-reads_back}
 use Rattle.node_semver.proofs.Versions.FaultLemmas.{version-no_fault}
-use Rattle.node_semver.proofs.Versions.OneReading.{one_reading, read-version}
-use Rattle.node_semver.proofs.Words.PartialViews.{full-text}
-use Rattle.node_semver.specs.Private.RangeViews.{BeginsWithTriple}
-
--- three numbers alone are that version
-pub triple-found : (text rest : List ℕ) (major minor patch : ℕ) → length text ≤ MAX_LENGTH
-    → BeginsWithTriple text major minor patch rest → length rest < 1 → IsVersionText text (release major minor patch)
-triple-found text [] major minor patch short triple none =
-    read-version text (release major minor patch) short (full-text text major minor patch triple).version
-triple-found text (b ∷ rest) major minor patch short triple none = absurd (omega arith)
+use Rattle.node_semver.proofs.Versions.OneReading.{one_reading}
 
 -- no other version is the text
 pub only-answer : (text : List ℕ) (answer : Result VersionValue SemverError) → IfOk answer (λ v. IsVersionText text v)

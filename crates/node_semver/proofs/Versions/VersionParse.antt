@@ -1,7 +1,7 @@
 -- What a reader at the start of a text says of the whole text.
 use Rattle.std.proofs.Common.{◌≡◌, ◌-◌, ◌<◌, ◌≤◌, ◌^◌, ◌⊎◌, ℕ, List, [], ◌∷◌, ◌++◌, length, Ok, Err, refl, sym, ap, ◌∙◌, inl, inr, subst, arith, take, drop}
 use Rattle.std.proofs.lemmas.Bool.{cases_Bool}
-use Rattle.std.specs.Prelude.{IsOk, Result, codes, nat_lt}
+use Rattle.std.specs.Prelude.{IfSome, IsOk, None, Option, Result, Some, codes, nat_lt}
 use Rattle.node_semver.proofs.Texts.IdentifierReading.{pick-false, pick-true}
 use Rattle.node_semver.proofs.Texts.Places.{to-end}
 use Rattle.node_semver.proofs.Texts.Prefixes.{begins-append}
@@ -13,7 +13,8 @@ use Rattle.node_semver.specs.NumberText.{number_of}
 use Rattle.node_semver.specs.Private.Reading.{Read, prefix_of, read_version}
 use Rattle.node_semver.specs.Private.ReadingViews.{IsMemoryOr, IsPlainOk, IsWantOfMemory, kind_in}
 use Rattle.node_semver.specs.declared.parse.fault.Fault.TheVariants.{TooLarge}
-use Rattle.node_semver.specs.Version.{VersionValue}
+use Rattle.node_semver.specs.Version.{VersionValue, release}
+use Rattle.node_semver.specs.Private.RangeViews.{IsFullText}
 use Rattle.node_semver.specs.VersionText.{IsVersionText}
 use Rattle.node_semver.specs.declared.parse.fault.Fault.{Fault}
 use Rattle.node_semver.proofs.Versions.FaultReading.{behind-there, fault-takes, left-takes}
@@ -83,3 +84,9 @@ pub number-there : (text : List ℕ) (left place : ℕ) → place ≡ length tex
     → too_large (number_of (prefix_of is_digit (take (length text - place) (drop place text))))
     ≡ kind_in text (TooLarge left)
 number-there text left place here = rw (to-end text place, here) refl
+
+-- three numbers that are the whole text are that version
+pub triple-version : (text : List ℕ) (triple : Option (ℕ × ℕ × ℕ)) → length text ≤ MAX_LENGTH
+    → IfSome triple (λ t. IsFullText text t.0 t.1 t.2) → IfSome triple (λ t. IsVersionText text (release t.0 t.1 t.2))
+triple-version text None short full = full
+triple-version text (Some t) short full = read-version text (release t.0 t.1 t.2) short full.version

@@ -11,9 +11,9 @@ use Rattle.std.proofs.lemmas.List.{take_all}
 use Rattle.node_semver.specs.Characters.{BeginsWith, BeginsWithNo, dot, is_blank, is_digit, is_partial_mark, is_version_mark, is_x}
 use Rattle.node_semver.specs.Division.{IsCleanEnd}
 use Rattle.node_semver.specs.PartialText.{Partial, plain_partial}
-use Rattle.node_semver.specs.Private.RangeViews.{BeginsWithTriple, IsFullText}
+use Rattle.node_semver.specs.Private.RangeViews.{IsFullText}
 use Rattle.node_semver.specs.Version.{release}
-use Rattle.node_semver.specs.Private.Reading.{begins, read_dot, read_extended, read_extras, read_number, read_triple, read_unmarked, read_version, rest_of, skip_one}
+use Rattle.node_semver.specs.Private.Reading.{begins, read_dot, read_extras, read_number, read_triple, read_unmarked, read_version, rest_of, skip_one}
 use Rattle.node_semver.specs.Private.WordReading.{is_clean, read_component, read_components, read_from_minor, read_from_patch, read_partial, with_extras}
 use Rattle.node_semver.proofs.Texts.ExtrasReading.{extras-again}
 use Rattle.node_semver.proofs.Texts.NumberReading.{number-takes}
@@ -179,32 +179,33 @@ unfolding rest_of skip_one
 version-begins [] digit = absurd digit
 version-begins (b ∷ text) digit = rw (digit-no_version_mark b digit, digit-no_blank (b ∷ text) digit) refl
 
--- three numbers with dots between them are a version with the extras that follow
-pub triple-version : (text rest : List ℕ) (major minor patch : ℕ) → BeginsWithTriple text major minor patch rest
-    → read_version text ≡ read_extended (major, minor, patch) rest
+-- three numbers with dots between them are a version
+full-version : (text first second next third : List ℕ) (major minor patch : ℕ) → BeginsWith is_digit text
+    → Ok (major, first) ≡ read_number text → first ≡ dot ∷ second
+    → Ok (minor, next) ≡ read_number second → next ≡ dot ∷ third → Ok (patch, []) ≡ read_number third
+    → read_version text ≡ Ok (release major minor patch, [])
 unfolding read_version read_unmarked read_triple read_dot
-triple-version text rest major minor patch h =
-    rw (version-begins text (number-digit text h.first major h.one), ← h.one, h.dot_one, ← h.two, h.dot_two, ← h.three) refl
-
-extended-none : (major minor patch : ℕ) → read_extended (major, minor, patch) [] ≡ Ok (release major minor patch, [])
-extended-none major minor patch = rw no-extras refl
+full-version text first second next third major minor patch digit one dot1 two dot2 three =
+    rw (version-begins text digit, ← one, dot1, ← two, dot2, ← three, no-extras) refl
 
 -- three numbers with dots between them, and nothing else
-pub full-text : (text : List ℕ) (major minor patch : ℕ) → BeginsWithTriple text major minor patch []
+pub full-text : (text first second next third : List ℕ) (major minor patch : ℕ)
+    → Ok (major, first) ≡ read_number text → first ≡ dot ∷ second
+    → Ok (minor, next) ≡ read_number second → next ≡ dot ∷ third → Ok (patch, []) ≡ read_number third
     → IsFullText text major minor patch
 unfolding read_partial
-full-text text major minor patch h =
-    let digit = number-digit text h.first major h.one in
+full-text text first second next third major minor patch one dot1 two dot2 three =
+    let digit = number-digit text first major one in
     record {
       digit = digit;
-      read = components-three text h.first h.second h.next h.third [] [] (Some major) (Some minor) (Some patch) _
-          (number-component text h.first major h.one) h.dot_one (number-component h.second h.next minor h.two) h.dot_two
-          (number-component h.third [] patch h.three) (rw no-extras refl) (rw no-extras refl)
+      read = components-three text first second next third [] [] (Some major) (Some minor) (Some patch) _
+          (number-component text first major one) dot1 (number-component second next minor two) dot2
+          (number-component third [] patch three) (rw no-extras refl) (rw no-extras refl)
           ∙ ap read_components (sym (digit-begins text digit));
-      version = triple-version text [] major minor patch h ∙ extended-none major minor patch;
-      major_limit = number-limit text h.first major h.one;
-      minor_limit = number-limit h.second h.next minor h.two;
-      patch_limit = number-limit h.third [] patch h.three;
+      version = full-version text first second next third major minor patch digit one dot1 two dot2 three;
+      major_limit = number-limit text first major one;
+      minor_limit = number-limit second next minor two;
+      patch_limit = number-limit third [] patch three;
     }
 
 -- the same by the first byte

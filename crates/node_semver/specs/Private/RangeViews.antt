@@ -10,8 +10,8 @@ use Rattle.node_semver.specs.Meaning.{GiveSet, IsRefused}
 use Rattle.node_semver.specs.Merging.{AreSetsOfText, IsSetOf}
 use Rattle.node_semver.specs.PartialText.{plain_partial}
 use Rattle.node_semver.specs.Version.{VersionValue, release}
-use Rattle.node_semver.specs.Private.Reading.{read_number, read_version}
-use Rattle.node_semver.specs.Characters.{BeginsWith, dot, is_digit}
+use Rattle.node_semver.specs.Private.Reading.{read_version}
+use Rattle.node_semver.specs.Characters.{BeginsWith, is_digit}
 use Rattle.node_semver.specs.Private.WordViews.{listed}
 use Rattle.node_semver.specs.Private.WordReading.{Lead, caret_lead, lead_comparator, no_lead, read_partial, tilde_lead}
 use Rattle.node_semver.specs.declared.TheConstants.{MAX_SAFE_INTEGER}
@@ -63,18 +63,6 @@ abbrev pub sign_seen : Sign → Lead
 sign_seen Caret = caret_lead
 sign_seen Tilde = tilde_lead
 sign_seen Nothing = no_lead
-
--- three numbers with dots between them, and what is left behind them
-pub record BeginsWithTriple (text : List ℕ) (major minor patch : ℕ) (rest : List ℕ) : Type 0 where
-  pub first : List ℕ
-  pub second : List ℕ
-  pub next : List ℕ
-  pub third : List ℕ
-  pub one : Ok (major, first) ≡ read_number text
-  pub dot_one : first ≡ dot ∷ second
-  pub two : Ok (minor, next) ≡ read_number second
-  pub dot_two : next ≡ dot ∷ third
-  pub three : Ok (patch, rest) ≡ read_number third
 
 -- three numbers, which are the whole text, the partial that it begins with and the version
 pub record IsFullText (text : List ℕ) (major minor patch : ℕ) : Type 0 where

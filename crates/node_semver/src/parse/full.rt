@@ -1,13 +1,13 @@
-//! Texts that begin with three numbers, as most versions and nine of ten ranges are these and no more.
+//! Texts that are three numbers and no more, as most versions and nine of ten ranges are.
 ghost use Rattle.std.specs.Prelude.{IfSome};
-ghost use Rattle.node_semver.specs.Private.RangeViews.{BeginsWithTriple, IsFullText};
+ghost use Rattle.node_semver.specs.Private.RangeViews.{IsFullText};
 
 use crate::parse::number::read_number;
 
-// The numbers and `-alpha` of `1.2.3-alpha`.
+// The numbers of `1.2.3`, which is the whole text.
 #[inline(always)]
-pub(crate) fn read_leading_triple(text: &[u8]) -> Option<((u64, u64, u64), &[u8])>
-    ensures { IfSome result (λ t. BeginsWithTriple text.now t.0.0 t.0.1 t.0.2 t.1.now) }
+pub(crate) fn read_full_triple(text: &[u8]) -> Option<(u64, u64, u64)>
+    ensures { IfSome result (λ t. IsFullText text.now t.0 t.1 t.2) }
 {
     let (major, rest) = read_number(text).ok()?;
     let [b'.', rest @ ..] = rest else {
@@ -17,17 +17,8 @@ pub(crate) fn read_leading_triple(text: &[u8]) -> Option<((u64, u64, u64), &[u8]
     let [b'.', rest @ ..] = rest else {
         return None;
     };
-    let (patch, rest) = read_number(rest).ok()?;
-    Some(((major, minor, patch), rest))
-}
-
-// The numbers of `1.2.3`, which is the whole text.
-#[inline(always)]
-pub(crate) fn read_full_triple(text: &[u8]) -> Option<(u64, u64, u64)>
-    ensures { IfSome result (λ t. IsFullText text.now t.0 t.1 t.2) }
-{
-    match read_leading_triple(text) {
-        Some((triple, [])) => Some(triple),
+    match read_number(rest).ok()? {
+        (patch, []) => Some((major, minor, patch)),
         _ => None,
     }
 }

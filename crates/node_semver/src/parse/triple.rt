@@ -71,7 +71,7 @@ fn read_from_major(alloc: Global, major: u64, text: &[u8]) -> Result<(Version, &
 // A triple with the prerelease and the build that follow it.
 #[inline(always)]
 #[tactic(auto, unfolding(crate::specs::Private::Reading::read_extras))]
-pub(crate) fn read_extended(
+fn read_extended(
     alloc: Global,
     triple: (u64, u64, u64),
     text: &[u8],

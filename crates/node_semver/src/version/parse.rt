@@ -1,12 +1,11 @@
 ghost use Rattle.std.specs.Prelude.{◌≡◌, ◌⊎◌, ◌≤◌, [], IfOk, IfErr, IfSome, IsOk, length};
 ghost use Rattle.node_semver.specs.Error.{IsOutOfMemory, kind_of};
 ghost use Rattle.node_semver.specs.Fault.{IsFaultOf};
-ghost use Rattle.node_semver.specs.Private.RangeViews.{BeginsWithTriple};
 ghost use Rattle.node_semver.specs.Private.ReadingViews.{IsErrorOf, IsMemoryOr, kind_in};
 ghost use Rattle.node_semver.specs.Print.{version_text};
 ghost use Rattle.node_semver.specs.ReadingBack.{HasText, VersionReadsBack};
 ghost use Rattle.node_semver.specs.declared.TheConstants.{MAX_LENGTH};
-ghost use Rattle.node_semver.specs.Version.{VersionValue};
+ghost use Rattle.node_semver.specs.Version.{VersionValue, release};
 ghost use Rattle.node_semver.specs.declared.parse.fault.Fault.TheVariants.{TooLarge};
 ghost use Rattle.node_semver.specs.VersionText.{IsReadAs, IsVersionText};
 
@@ -59,44 +58,37 @@ impl Version {
         ensures printed { (v : VersionValue) → HasText v → version_text v ≡ text.now
             → length text.now ≤ MAX_LENGTH → IsReadAs v result }
     {
-        match short_triple(text.as_bytes()) {
-            Some(((major, minor, patch), [])) => Ok(Version::new(alloc, major, minor, patch)),
-            found => {
+        match whole_triple(text.as_bytes()) {
+            Some((major, minor, patch)) => Ok(Version::new(alloc, major, minor, patch)),
+            None => {
                 // Held before it is answered: so no place is cleared for it where the text is three numbers alone.
-                let answer = version_in_parts(alloc, text, found);
+                let answer = version_in_parts(alloc, text);
                 answer
             }
         }
     }
 }
 
-// The numbers and `-alpha` of `1.2.3-alpha`, where the text is no longer than a version's.
+// The numbers of `1.2.3`, which is the whole text and no longer than a version's.
 #[inline(always)]
-fn short_triple(text: &[u8]) -> Option<((u64, u64, u64), &[u8])>
-    ensures short { IfSome result (λ t. length text.now ≤ MAX_LENGTH) }
-    ensures triple { IfSome result (λ t. BeginsWithTriple text.now t.0.0 t.0.1 t.0.2 t.1.now) }
+fn whole_triple(text: &[u8]) -> Option<(u64, u64, u64)>
+    ensures { IfSome result (λ t. IsVersionText text.now (release t.0 t.1 t.2)) }
 {
     if text.len() > MAX_LENGTH {
         return None;
     }
-    parse::read_leading_triple(text)
+    parse::read_full_triple(text)
 }
 
-// The version that any text is, by the triple that it was found to begin with, or from its first byte.
+// The version that any text is.
 #[inline(never)]
-fn version_in_parts(
-    alloc: Global,
-    text: &str,
-    found: Option<((u64, u64, u64), &[u8])>,
-) -> Result<Version, SemverError>
-    requires short { IfSome found (λ t. length text.now ≤ MAX_LENGTH) }
-    requires triple { IfSome found (λ t. BeginsWithTriple text.now t.0.0 t.0.1 t.0.2 t.1.now) }
+fn version_in_parts(alloc: Global, text: &str) -> Result<Version, SemverError>
     ensures found { IfOk result (λ v. IsVersionText text.now v) }
     ensures fault { IfErr result (λ e. IsOutOfMemory e ⊎ IsFaultOf text.now e) }
     ensures plain { (v : VersionValue) → IsVersionText text.now v → v.pre_release ≡ []
         → v.build ≡ [] → IsOk result }
 {
-    match whole_found(alloc, text.as_bytes(), found) {
+    match whole(alloc, text.as_bytes()) {
         Ok(version) => Ok(version),
         Err(fault) => {
             let error = refusal(alloc, text, fault);
@@ -106,48 +98,6 @@ fn version_in_parts(
 }
 
 // The same, or the fault of the text.
-#[inline(always)]
-fn whole_found(
-    alloc: Global,
-    text: &[u8],
-    found: Option<((u64, u64, u64), &[u8])>,
-) -> Result<Version, Fault>
-    requires short { IfSome found (λ t. length text.now ≤ MAX_LENGTH) }
-    requires triple { IfSome found (λ t. BeginsWithTriple text.now t.0.0 t.0.1 t.0.2 t.1.now) }
-    ensures found { IfOk result (λ v. IsVersionText text.now v) }
-    ensures fault { IfErr result (IsMemoryOr text.now) }
-    ensures plain { (v : VersionValue) → IsVersionText text.now v → v.pre_release ≡ []
-        → v.build ≡ [] → IsOk result }
-{
-    match found {
-        Some((triple, rest)) => whole_extended(alloc, text, triple, rest),
-        None => whole(alloc, text),
-    }
-}
-
-// The version of a text that begins with a triple, by what is left behind it, or the fault of the text.
-#[inline(always)]
-fn whole_extended(
-    alloc: Global,
-    text: &[u8],
-    triple: (u64, u64, u64),
-    rest: &[u8],
-) -> Result<Version, Fault>
-    requires short { length text.now ≤ MAX_LENGTH }
-    requires triple { BeginsWithTriple text.now triple.0 triple.1 triple.2 rest.now }
-    ensures found { IfOk result (λ v. IsVersionText text.now v) }
-    ensures fault { IfErr result (IsMemoryOr text.now) }
-    ensures plain { (v : VersionValue) → IsVersionText text.now v → v.pre_release ≡ []
-        → v.build ≡ [] → IsOk result }
-{
-    match parse::read_extended(alloc, triple, rest) {
-        Ok((version, [])) => Ok(version),
-        Ok((_, rest)) => Err(Fault::LeftOver(rest.len())),
-        Err(fault) => Err(fault),
-    }
-}
-
-// The same of any text.
 #[inline(always)]
 fn whole(alloc: Global, text: &[u8]) -> Result<Version, Fault>
     ensures found { IfOk result (λ v. IsVersionText text.now v) }

@@ -1,5 +1,7 @@
 //! Texts that are written into one array, from its end.
 ghost use Rattle.std.specs.Prelude.{◌≡◌, ◌+◌, ◌≤◌, ◌∷◌, ◌++◌, IfSome, decimal, drop};
+ghost use Rattle.node_semver.specs.Characters.{dot};
+ghost use Rattle.node_semver.specs.declared.line.TheConstants.{ROOM};
 
 use itoa::write_digits;
 use std::str;
@@ -11,7 +13,7 @@ pub(crate) const ROOM: usize = 176;
 #[inline]
 pub(crate) fn triple_text<'a>(line: &'a mut [u8; ROOM], triple: (u64, u64, u64)) -> Option<&'a str>
     ensures { IfSome result (λ text.
-        text.now ≡ decimal triple.0 ++ (46 ∷ (decimal triple.1 ++ (46 ∷ decimal triple.2)))) }
+        text.now ≡ decimal triple.0 ++ (dot ∷ (decimal triple.1 ++ (dot ∷ decimal triple.2)))) }
 {
     let start = put_triple_last(line, triple);
     str::from_utf8(&line[start..]).ok()
@@ -20,8 +22,8 @@ pub(crate) fn triple_text<'a>(line: &'a mut [u8; ROOM], triple: (u64, u64, u64))
 // `1.2.3`, at the end of the line
 #[inline]
 fn put_triple_last(line: &mut [u8; ROOM], triple: (u64, u64, u64)) -> usize
-    ensures place { result ≤ 176 }
-    ensures text { drop result line.new ≡ decimal triple.0 ++ (46 ∷ (decimal triple.1 ++ (46 ∷ decimal triple.2))) }
+    ensures place { result ≤ ROOM }
+    ensures text { drop result line.new ≡ decimal triple.0 ++ (dot ∷ (decimal triple.1 ++ (dot ∷ decimal triple.2))) }
 {
     put_triple(line, ROOM, triple)
 }
@@ -29,10 +31,10 @@ fn put_triple_last(line: &mut [u8; ROOM], triple: (u64, u64, u64)) -> usize
 // `1.2.3`
 #[inline]
 pub(crate) fn put_triple(line: &mut [u8; ROOM], end: usize, triple: (u64, u64, u64)) -> usize
-    requires { (62 ≤ end) × (end ≤ 176) }
+    requires { (62 ≤ end) × (end ≤ ROOM) }
     ensures place { (result ≤ end) × (end ≤ result + 62) }
     ensures text { drop result line.new
-        ≡ decimal triple.0 ++ (46 ∷ (decimal triple.1 ++ (46 ∷ (decimal triple.2 ++ drop end line.old)))) }
+        ≡ decimal triple.0 ++ (dot ∷ (decimal triple.1 ++ (dot ∷ (decimal triple.2 ++ drop end line.old)))) }
 {
     let (major, minor, patch) = triple;
     let at = put_number(line, end, patch);
@@ -45,7 +47,7 @@ pub(crate) fn put_triple(line: &mut [u8; ROOM], end: usize, triple: (u64, u64, u
 // A number's digits before the end.
 #[inline(always)]
 pub(crate) fn put_number(line: &mut [u8; ROOM], end: usize, n: u64) -> usize
-    requires { (20 ≤ end) × (end ≤ 176) }
+    requires { (20 ≤ end) × (end ≤ ROOM) }
     ensures place { (result ≤ end) × (end ≤ result + 20) }
     ensures text { drop result line.new ≡ decimal n ++ drop end line.old }
 {
@@ -55,7 +57,7 @@ pub(crate) fn put_number(line: &mut [u8; ROOM], end: usize, n: u64) -> usize
 // One byte before the end.
 #[inline(always)]
 pub(crate) fn put_byte(line: &mut [u8; ROOM], end: usize, byte: u8) -> usize
-    requires { (1 ≤ end) × (end ≤ 176) }
+    requires { (1 ≤ end) × (end ≤ ROOM) }
     ensures place { result + 1 ≡ end }
     ensures text { drop result line.new ≡ byte ∷ drop end line.old }
 {

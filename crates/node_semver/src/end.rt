@@ -27,7 +27,7 @@ pub(crate) struct End {
 
 // Written out, as that of `Range` is: one call, and no branch for each form of the extras.
 impl Drop for End {
-    #[inline]
+    #[inline(always)]
     fn drop(self) {
         let End {
             major: _,

@@ -63,7 +63,7 @@ pub struct Range {
 // Written out: letting a range go is then one call in the proof of whoever has one, and not a branch for each form of
 // its ends.
 impl Drop for Range {
-    #[inline]
+    #[inline(always)]
     fn drop(self) {
         let Range { sets: _ } = self;
     }

@@ -1,5 +1,7 @@
 //! Texts that are written into one array, from its end.
 ghost use Rattle.std.specs.Prelude.{◌≡◌, ◌+◌, ◌≤◌, ◌∷◌, ◌++◌, decimal, drop};
+ghost use Rattle.node_semver.specs.Characters.{dot};
+ghost use Rattle.node_semver.specs.declared.line.TheConstants.{ROOM};
 
 use itoa::write_digits;
 use std::str;
@@ -10,7 +12,7 @@ pub(crate) const ROOM: usize = 176;
 // `1.2.3` as a text
 #[inline]
 pub(crate) fn triple_text(line: &mut [u8; ROOM], major: u64, minor: u64, patch: u64) -> &str
-    ensures { result.now ≡ decimal major ++ (46 ∷ (decimal minor ++ (46 ∷ decimal patch))) }
+    ensures { result.now ≡ decimal major ++ (dot ∷ (decimal minor ++ (dot ∷ decimal patch))) }
 {
     let start = put_triple_last(line, (major, minor, patch));
     let text = &line[start..];
@@ -21,8 +23,8 @@ pub(crate) fn triple_text(line: &mut [u8; ROOM], major: u64, minor: u64, patch: 
 // `1.2.3`, at the end of the line
 #[inline]
 fn put_triple_last(line: &mut [u8; ROOM], triple: (u64, u64, u64)) -> usize
-    ensures place { result ≤ 176 }
-    ensures text { drop result line.new ≡ decimal triple.0 ++ (46 ∷ (decimal triple.1 ++ (46 ∷ decimal triple.2))) }
+    ensures place { result ≤ ROOM }
+    ensures text { drop result line.new ≡ decimal triple.0 ++ (dot ∷ (decimal triple.1 ++ (dot ∷ decimal triple.2))) }
 {
     put_triple(line, ROOM, triple)
 }
@@ -30,10 +32,10 @@ fn put_triple_last(line: &mut [u8; ROOM], triple: (u64, u64, u64)) -> usize
 // `1.2.3`
 #[inline]
 pub(crate) fn put_triple(line: &mut [u8; ROOM], end: usize, triple: (u64, u64, u64)) -> usize
-    requires { (62 ≤ end) × (end ≤ 176) }
+    requires { (62 ≤ end) × (end ≤ ROOM) }
     ensures place { (result ≤ end) × (end ≤ result + 62) }
     ensures text { drop result line.new
-        ≡ decimal triple.0 ++ (46 ∷ (decimal triple.1 ++ (46 ∷ (decimal triple.2 ++ drop end line.old)))) }
+        ≡ decimal triple.0 ++ (dot ∷ (decimal triple.1 ++ (dot ∷ (decimal triple.2 ++ drop end line.old)))) }
 {
     let (major, minor, patch) = triple;
     let at = put_number(line, end, patch);
@@ -46,7 +48,7 @@ pub(crate) fn put_triple(line: &mut [u8; ROOM], end: usize, triple: (u64, u64, u
 // A number's digits before the end.
 #[inline(always)]
 pub(crate) fn put_number(line: &mut [u8; ROOM], end: usize, n: u64) -> usize
-    requires { (20 ≤ end) × (end ≤ 176) }
+    requires { (20 ≤ end) × (end ≤ ROOM) }
     ensures place { (result ≤ end) × (end ≤ result + 20) }
     ensures text { drop result line.new ≡ decimal n ++ drop end line.old }
 {
@@ -56,7 +58,7 @@ pub(crate) fn put_number(line: &mut [u8; ROOM], end: usize, n: u64) -> usize
 // One byte before the end.
 #[inline(always)]
 pub(crate) fn put_byte(line: &mut [u8; ROOM], end: usize, byte: u8) -> usize
-    requires { (1 ≤ end) × (end ≤ 176) }
+    requires { (1 ≤ end) × (end ≤ ROOM) }
     ensures place { result + 1 ≡ end }
     ensures text { drop result line.new ≡ byte ∷ drop end line.old }
 {

@@ -20,7 +20,7 @@ use crate::end::End;
 use crate::{Comparisons, SemverError, Version};
 pub use equality::ranges_are_equal_where_their_cuts_are;
 pub use greatest::max_satisfying;
-use read::{Sign, caret_range, exact_range, read_full, read_range, tilde_range};
+use read::{FullLead, caret_range, exact_range, read_full, read_range, tilde_range};
 use searched::Searched;
 use semver_cuts::{Cut, Span};
 use sets::Sets;
@@ -109,9 +109,9 @@ impl Range {
         ensures { IsRangeAnswer text.now result }
     {
         match read_full(text.as_bytes()) {
-            Some((Sign::Caret, major, minor, patch)) => Ok(caret_range(major, minor, patch)),
-            Some((Sign::Tilde, major, minor, patch)) => Ok(tilde_range(major, minor, patch)),
-            Some((Sign::Nothing, major, minor, patch)) => Ok(exact_range(major, minor, patch)),
+            Some((FullLead::Caret, major, minor, patch)) => Ok(caret_range(major, minor, patch)),
+            Some((FullLead::Tilde, major, minor, patch)) => Ok(tilde_range(major, minor, patch)),
+            Some((FullLead::Nothing, major, minor, patch)) => Ok(exact_range(major, minor, patch)),
             None => {
                 // Held before it is answered: so no place is cleared for it where the text is a full version.
                 let answer = read_range(alloc, text);

@@ -13,10 +13,10 @@ mod question;
 mod requests;
 mod trees;
 
-use call::call_of;
+use call::{Call, call_of};
 use fault::Fault;
 use requests::{MANY, granted};
-use std::alloc::AllocGlobal;
+use std::alloc::{AllocError, AllocGlobal, Global};
 use std::env;
 use std::env::Env;
 use std::process::ExitCode;
@@ -29,7 +29,7 @@ fn main(rt: HostRuntime) -> ExitCode {
     }
 }
 
-/// Makes the call that the words name, and says whether its arguments are as before.
+/// Makes the call that the words name. It is lent from there on, since each `?` of a function that owns one lets it go.
 fn made(rt: &(impl Print + Env + AllocGlobal)) -> Result<bool, Fault> {
     let alloc = rt.alloc();
     let mut words = Vec::new(alloc);
@@ -41,12 +41,31 @@ fn made(rt: &(impl Print + Env + AllocGlobal)) -> Result<bool, Fault> {
     };
     let count = count.parse::<usize>().map_err(|_| Fault::Words)?;
     let call = call_of(alloc, name, arguments)?;
+    is_unchanged(rt, count, &call)
+}
+
+/// Makes the call twice, and says whether its arguments are as before.
+fn is_unchanged(rt: &(impl Print + AllocGlobal), count: usize, call: &Call) -> Result<bool, Fault> {
+    let alloc = rt.alloc();
     let print = call.print(alloc)?;
-    let before = granted(alloc, count);
-    let first = call.answer(alloc);
-    let after = granted(alloc, MANY);
-    let first = first.print(alloc)?;
-    let second = call.answer(alloc).print(alloc)?;
+    let (before, first, after) = first_answer(alloc, count, call)?;
+    let second = second_answer(alloc, call)?;
     println!(rt; "{before}\n{first}\n{after}\n{second}")?;
     Ok(call.print(alloc)? == print)
+}
+
+/// The requests that were granted before the call, its answer, and the requests that were granted after it.
+fn first_answer(
+    alloc: Global,
+    count: usize,
+    call: &Call,
+) -> Result<(usize, String, usize), AllocError> {
+    let before = granted(alloc, count);
+    let answer = call.answer(alloc);
+    let after = granted(alloc, MANY);
+    Ok((before, answer.print(alloc)?, after))
+}
+
+fn second_answer(alloc: Global, call: &Call) -> Result<String, AllocError> {
+    call.answer(alloc).print(alloc)
 }

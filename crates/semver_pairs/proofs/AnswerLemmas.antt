@@ -23,7 +23,8 @@ utf8_or_not line = elim (cases_Bool (is_utf8 line)) [
   | inr fails ↦ inr (λ text. let passes : is_utf8 line ≡ true = is_utf8-from_IsUtf8 line text in cc (passes, fails))
 ]
 
-version_or_not : (text : List ℕ) → ((v : VersionValue) × IsVersionText text v) ⊎ ((v : VersionValue) → ¬ IsVersionText text v)
+version_or_not : (text : List ℕ) → ((v : VersionValue) × IsVersionText text v)
+    ⊎ ((v : VersionValue) → ¬ IsVersionText text v)
 version_or_not text = elim (read_or_faulty text) [
   | inl read ↦ inl read
   | inr faulty ↦ inr (λ v read. version-no_fault text v faulty.0 faulty.1 read faulty.2)

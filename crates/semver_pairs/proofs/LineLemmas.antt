@@ -108,8 +108,11 @@ none_later b bytes to none = λ k low high here. none (suc k) (omega arith) (ome
 
 pub no_newline-from : (bytes : List ℕ) → Nowhere (IsNewlineAt bytes) 0 (length bytes) → HasNoNewline bytes
 no_newline-from [] none = tt
-no_newline-from (b ∷ bytes) none =
-    (not_first b bytes (none 0 (omega arith) (omega arith)), no_newline-from bytes (none_later b bytes (length bytes) none))
+no_newline-from (b ∷ bytes) none = (
+  not_first b bytes (none 0 (omega arith) (omega arith)),
+  no_newline-from bytes (none_later b bytes (length bytes)
+      none),
+)
 
 begins_at : (bytes : List ℕ) (at : ℕ) → at < length bytes → Nowhere (IsNewlineAt bytes) 0 at → IsNewlineAt bytes at
     → BeginsWithLine bytes (take at bytes) (drop (suc at) bytes)

@@ -29,7 +29,8 @@ byte-begins b false fewer more begins = with_byte-begins b fewer.ended fewer.res
 
 ended-begins : (bytes more : List ℕ) → Begins (divided bytes).ended (divided (bytes ++ more)).ended
 ended-begins [] more = ((divided more).ended, refl)
-ended-begins (b ∷ bytes) more = byte-begins b (b == newline) (divided bytes) (divided (bytes ++ more)) (ended-begins bytes more)
+ended-begins (b ∷ bytes) more = byte-begins b (b == newline) (divided bytes) (divided (bytes ++ more))
+    (ended-begins bytes more)
 
 ended_lines-begin : (bytes more : List ℕ) → Begins (lines_read false bytes) (lines_read false (bytes ++ more))
 ended_lines-begin bytes more =
@@ -39,16 +40,21 @@ ended_lines-begin bytes more =
           ∙ map-append strip_carriage_return (divided bytes).ended ended.0,
     )
 
-lines-begin : (is_end : Bool) (bytes more : List ℕ) → Begins (lines_read false bytes) (lines_read is_end (bytes ++ more))
+lines-begin : (is_end : Bool) (bytes more : List ℕ)
+    → Begins (lines_read false bytes) (lines_read is_end (bytes ++ more))
 lines-begin false bytes more = ended_lines-begin bytes more
 lines-begin true bytes more =
     let lines = ended_lines-begin bytes more in
-    let last = rest_line (divided (bytes ++ more)).rest in
-    (lines.0 ++ last, ap (λ (l : List (List ℕ)). l ++ last) lines.1 ∙ append_assoc (lines_read false bytes) lines.0 last)
+    let last = rest_line (divided (bytes ++ more)).rest in (
+      lines.0 ++ last,
+      ap (λ (l : List (List ℕ)). l ++ last) lines.1 ∙ append_assoc (lines_read false bytes) lines.0
+          last,
+    )
 
 -- ---- pairs
 
-pairs-begin : (is_end : Bool) (lines more : List (List ℕ)) → Begins (pairs_of false lines) (pairs_of is_end (lines ++ more))
+pairs-begin : (is_end : Bool) (lines more : List (List ℕ))
+    → Begins (pairs_of false lines) (pairs_of is_end (lines ++ more))
 pairs-begin is_end [] more = (pairs_of is_end more, refl)
 pairs-begin is_end (line ∷ []) more = (pairs_of is_end (line ∷ more), refl)
 pairs-begin false (range ∷ version ∷ lines) more =
@@ -58,7 +64,8 @@ pairs-begin true (range ∷ version ∷ lines) more =
     let others = pairs-begin true lines more in
     (others.0, ap (λ (l : List Pair). both range version ∷ l) others.1)
 
-read-begins : (is_end : Bool) (bytes more : List ℕ) → Begins (pairs_read false bytes) (pairs_read is_end (bytes ++ more))
+read-begins : (is_end : Bool) (bytes more : List ℕ)
+    → Begins (pairs_read false bytes) (pairs_read is_end (bytes ++ more))
 read-begins is_end bytes more =
     let lines = lines-begin is_end bytes more in
     let pairs = pairs-begin is_end (lines_read false bytes) lines.0 in

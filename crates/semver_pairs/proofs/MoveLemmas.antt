@@ -34,10 +34,12 @@ pub so_far_more : (range version_first bytes_first version bytes line next mid :
     (waiting held left : List ℕ) → VersionsSoFar range version_first bytes_first version bytes old now waiting held
     → IsAnswerLine (strip_carriage_return range) version line → Moves now new held line left
     → BeginsWithPair bytes range next mid → VersionsSoFar range version_first bytes_first next mid old new waiting left
-so_far_more range version_first bytes_first version bytes line next mid old now new waiting held left so_far answer moves begins =
+so_far_more range version_first bytes_first version bytes line next mid old now new waiting held left so_far answer
+    moves begins =
     record {
       done = so_far.done ++ line;
-      goes = goes-more range version_first bytes_first version bytes so_far.done line next mid so_far.goes answer begins;
+      goes = goes-more range version_first bytes_first version bytes so_far.done line next mid so_far.goes answer
+          begins;
       moves = moves-trans old now new waiting so_far.done held line left so_far.moves moves;
     }
 
@@ -45,11 +47,12 @@ pub so_far_end : (range version_first bytes_first version bytes line : List ℕ)
     (waiting held left : List ℕ) → VersionsSoFar range version_first bytes_first version bytes old now waiting held
     → IsAnswerLine (strip_carriage_return range) version line → Moves now new held line left
     → AnswersRange range version_first bytes_first bytes old new waiting left
-so_far_end range version_first bytes_first version bytes line old now new waiting held left so_far answer moves = record {
-  added = so_far.done ++ line;
-  answers = goes-end range version_first bytes_first version bytes so_far.done line so_far.goes answer;
-  moves = moves-trans old now new waiting so_far.done held line left so_far.moves moves;
-}
+so_far_end range version_first bytes_first version bytes line old now new waiting held left so_far answer moves =
+    record {
+      added = so_far.done ++ line;
+      answers = goes-end range version_first bytes_first version bytes so_far.done line so_far.goes answer;
+      moves = moves-trans old now new waiting so_far.done held line left so_far.moves moves;
+    }
 
 -- the writer failed
 pub so_far_part : (range version_first bytes_first version bytes line : List ℕ) (old now new : Option (List ℕ))
@@ -59,7 +62,8 @@ pub so_far_part : (range version_first bytes_first version bytes line : List ℕ
 so_far_part range version_first bytes_first version bytes line old now new waiting held so_far answer part = record {
   rest = bytes;
   left = part.0;
-  past = so_far_end range version_first bytes_first version bytes line old now new waiting held part.0 so_far answer part.1;
+  past = so_far_end range version_first bytes_first version bytes line old now new waiting held part.0 so_far answer
+      part.1;
 }
 
 -- memory was refused
@@ -110,7 +114,8 @@ past_pair bytes range version mid rest old new waiting left begins answers = rec
   moves = answers.moves;
 }
 
-pub past_more : (bytes here range version mid rest : List ℕ) (old now new : Option (List ℕ)) (waiting held left : List ℕ)
+pub past_more : (bytes here range version mid rest : List ℕ) (old now new : Option (List ℕ))
+    (waiting held left : List ℕ)
     → AnswersPast bytes here old now waiting held → BeginsWithPair here range version mid
     → AnswersRange range version mid rest now new held left → AnswersPast bytes rest old new waiting left
 past_more bytes here range version mid rest old now new waiting held left past begins answers =
@@ -228,6 +233,7 @@ last_pair pair rest old new waiting left lines ended some answers =
     rw ended (record {
       added = answers.added;
       answers = last_one (both (strip_carriage_return pair.range.items) pair.version.items)
-          (pair.range.items ++ (newline ∷ pair.version.items)) answers.added (last-both pair.range.items pair.version.items lines.range lines.version some) one;
+          (pair.range.items ++ (newline ∷ pair.version.items)) answers.added
+          (last-both pair.range.items pair.version.items lines.range lines.version some) one;
       moves = answers.moves;
     })

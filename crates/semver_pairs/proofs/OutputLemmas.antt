@@ -79,7 +79,8 @@ pub begins-some : (read rest added written left : List ℕ) → AnswersUpTo read
     → BeginsAnswers (pairs_read false read) written
 begins-some read rest added written left up_to is =
     let some = answers-exist (pairs_read false rest) in
-    let all : AreAnswers (pairs_read false read) (added ++ some.0) = answers-all false read rest added some.0 up_to some.1 in (
+    let all : AreAnswers (pairs_read false read) (added ++ some.0) = answers-all false read rest added some.0 up_to
+    some.1 in (
       left ++ some.0,
       subst (AreAnswers (pairs_read false read))
           (ap (λ (l : List ℕ). l ++ some.0) is ∙ append_assoc written left some.0) all,

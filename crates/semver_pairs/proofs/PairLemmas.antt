@@ -49,7 +49,8 @@ pairs-pair is_end bytes range version rest later begins =
     ∙ ap (λ (l : List ℕ). range ++ (newline ∷ l)) second in
     ap (pairs_read is_end) first
     ∙ pairs-two is_end range begins.line (rest ++ later) begins.first.one_line begins.second.one_line
-    ∙ ap (λ (l : List ℕ). both (strip_carriage_return range) l ∷ pairs_read is_end (rest ++ later)) (sym begins.stripped)
+    ∙ ap (λ (l : List ℕ). both (strip_carriage_return range) l ∷ pairs_read is_end (rest ++ later))
+    (sym begins.stripped)
 
 -- no line is ended
 pub pairs-no_newline : (bytes : List ℕ) → HasNoNewline bytes → pairs_read false bytes ≡ []
@@ -116,7 +117,8 @@ answers-pair bytes range version mid rest added begins from = record {
       ap (λ (l : List ℕ). l ++ more) from.both ∙ append_assoc from.first from.others more
       ∙ ap (λ (l : List ℕ). l ++ (from.others ++ more)) from.answer.2
       ∙ append_assoc from.answer.0 (newline ∷ []) (from.others ++ more) in
-      let whole : AreAnswers (both (strip_carriage_return range) version ∷ pairs_read is_end (mid ++ later)) (added ++ more) =
+      let whole : AreAnswers (both (strip_carriage_return range) version ∷ pairs_read is_end (mid ++ later))
+      (added ++ more) =
       (from.answer.0, from.others ++ more, from.answer.1, from.later.go_on is_end later more answers, is) in
       subst (λ (pairs : List Pair). AreAnswers pairs (added ++ more))
       (sym (pairs-pair is_end bytes range version mid later begins)) whole;
@@ -136,7 +138,8 @@ from-one range version bytes line answer = record {
 }
 
 -- and those to a pair with the same range line
-from-more : (range version bytes line next mid rest added : List ℕ) → IsAnswerLine (strip_carriage_return range) version line
+from-more : (range version bytes line next mid rest added : List ℕ) → IsAnswerLine (strip_carriage_return range) version
+    line
     → BeginsWithPair bytes range next mid → AnswersFrom range next mid rest added
     → AnswersFrom range version bytes rest (line ++ added)
 from-more range version bytes line next mid rest added answer begins from = record {
@@ -218,4 +221,5 @@ pub answers-all : (is_end : Bool) (bytes rest added more : List ℕ) → Answers
     → AreAnswers (pairs_read is_end rest) more → AreAnswers (pairs_read is_end bytes) (added ++ more)
 answers-all is_end bytes rest added more up_to answers =
     subst (λ (l : List ℕ). AreAnswers (pairs_read is_end l) (added ++ more)) (append-nil bytes)
-    (up_to.go_on is_end [] more (subst (λ (l : List ℕ). AreAnswers (pairs_read is_end l) more) (sym (append-nil rest)) answers))
+    (up_to.go_on is_end [] more (subst (λ (l : List ℕ). AreAnswers (pairs_read is_end l) more) (sym (append-nil rest))
+    answers))

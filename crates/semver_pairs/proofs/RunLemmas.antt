@@ -36,14 +36,17 @@ lone-answer pair lines some alone =
     answered : (bytes line : List ℕ) → pairs_read true bytes ≡ lone line ∷ []
         → AreAnswers (pairs_read true bytes) (codes "missing version\n")
     answered bytes line is =
-        let one : AreAnswers (lone line ∷ []) (codes "missing version\n") = (codes "missing version", [], refl, refl, refl) in
+        let one : AreAnswers (lone line ∷ []) (codes "missing version\n") =
+        (codes "missing version", [], refl, refl, refl) in
         subst (λ (pairs : List Pair). AreAnswers pairs (codes "missing version\n")) (sym is) one
 
     by_end : (range version : List ℕ) (is_ended : Bool) → HasNoNewline range
         → (if is_ended then range ++ (newline ∷ version) else range) ≢ []
         → ¬ ((is_ended ≡ true) × (version ≢ []))
-        → AreAnswers (pairs_read true (if is_ended then range ++ (newline ∷ version) else range)) (codes "missing version\n")
-    by_end range [] true one some alone = answered (range ++ (newline ∷ [])) (strip_carriage_return range) (last-ended range one)
+        → AreAnswers (pairs_read true (if is_ended then range ++ (newline ∷ version) else range))
+        (codes "missing version\n")
+    by_end range [] true one some alone = answered (range ++ (newline ∷ [])) (strip_carriage_return range)
+        (last-ended range one)
     by_end range (b ∷ version) true one some alone = absurd (alone (refl, λ is. cc (is)))
     by_end range version false one some alone = answered range range (last-unended range one some)
 
@@ -102,7 +105,8 @@ pub ruleset last_steps = (
 -- ---- one read after the other
 
 -- So much was read, by so many reads, and the answers to the pairs before the open one are written.
-pub record RunSoFar (remaining remaining_new contents contents_new : Option (List ℕ)) (kept : OpenPair) (count : ℕ) : Type 0 where
+pub record RunSoFar (remaining remaining_new contents contents_new : Option (List ℕ)) (kept : OpenPair)
+    (count : ℕ) : Type 0 where
   pub read : List ℕ
   pub taken : Consumes remaining remaining_new read
   pub past : AnswersPast read (open_bytes kept) contents contents_new [] []
@@ -163,7 +167,8 @@ run_part Ended r0 r1 r2 c0 c1 c2 kept count piece so_far taken some =
       together = (
         false,
         λ is_end. cc is_end,
-        begins-some (so_far.read ++ piece) some.rest past.added past.moves.written some.left past.answers past.moves.all,
+        begins-some (so_far.read ++ piece) some.rest past.added past.moves.written some.left past.answers
+            past.moves.all,
       );
     }
 
@@ -178,7 +183,8 @@ run_stop Ended r0 r1 r2 c0 c1 kept count so_far keeps = record {
   together = (
     false,
     λ is_end. cc is_end,
-    begins-some so_far.read (open_bytes kept) so_far.past.added so_far.past.moves.written [] so_far.past.answers so_far.past.moves.all,
+    begins-some so_far.read (open_bytes kept) so_far.past.added so_far.past.moves.written [] so_far.past.answers
+        so_far.past.moves.all,
   );
 }
 

@@ -44,7 +44,8 @@ pub a_range_line_is_left_alone : pairs_read true (codes "1\n1.0.0\n2\n")
     ≡ both (codes "1") (codes "1.0.0") ∷ lone (codes "2") ∷ []
 a_range_line_is_left_alone = refl
 
-pub a_carriage_return_goes_with_its_newline : pairs_read true (codes "1\r\n1.0.0\r\n") ≡ both (codes "1") (codes "1.0.0") ∷ []
+pub a_carriage_return_goes_with_its_newline : pairs_read true (codes "1\r\n1.0.0\r\n")
+    ≡ both (codes "1") (codes "1.0.0") ∷ []
 a_carriage_return_goes_with_its_newline = refl
 
 pub only_one_goes : lines_read true (codes "1\r\r\n\r2\n\r\n") ≡ codes "1\r" ∷ codes "\r2" ∷ [] ∷ []
@@ -94,7 +95,11 @@ caret = refl
 
 caret-good : IsGoodRange (codes "^1.2.3-rc.4")
 unfolding lib.Utf8.encode
-caret-good = ((codes "^1.2.3-rc.4", (refl, refl)), accepted-by _ _ (from_up_to (prerelease 4) (least_of 2 0 0)).lower (written-by _ _ caret) refl)
+caret-good = (
+  (codes "^1.2.3-rc.4", (refl, refl)),
+  accepted-by _ _ (from_up_to (prerelease 4) (least_of 2 0 0)).lower
+      (written-by _ _ caret) refl,
+)
 
 caret-admits : TextAdmits (codes "^1.2.3-rc.4") (prerelease 5)
 caret-admits = admits-by _ _ _ (written-by _ _ caret) refl
@@ -124,7 +129,8 @@ word-bad : IsBadVersion (codes "bad")
 word-bad = inr (λ v read. version-no_fault (codes "bad") v _ _ read word-faulty)
 
 pub four_pairs : pairs_read true (codes "^1.2.3-rc.4\n1.2.3-rc.5\nfoo\n1.0.0\n1\nbad\n1\n")
-    ≡ both (codes "^1.2.3-rc.4") (codes "1.2.3-rc.5") ∷ both (codes "foo") (codes "1.0.0") ∷ both (codes "1") (codes "bad")
+    ≡ both (codes "^1.2.3-rc.4") (codes "1.2.3-rc.5") ∷ both (codes "foo") (codes "1.0.0")
+    ∷ both (codes "1") (codes "bad")
     ∷ lone (codes "1") ∷ []
 four_pairs = refl
 

@@ -19,7 +19,8 @@ pairs_of false (line ∷ []) = []
 pairs_of true (line ∷ []) = lone line ∷ []
 pairs_of is_end (range ∷ version ∷ lines) = both range version ∷ pairs_of is_end lines
 
--- The pairs that were wholly read, of these bytes and, where `is_end`, the end behind them: a pair once its version line
+-- The pairs that were wholly read, of these bytes and, where `is_end`, the end behind them: a pair once its version
+-- line
 -- was, and a lone last line once the end was.
 abbrev pub pairs_read : (is_end : Bool) → (bytes : List ℕ) → List Pair
 pairs_read is_end bytes = pairs_of is_end (lines_read is_end bytes)

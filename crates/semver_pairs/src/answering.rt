@@ -106,7 +106,8 @@ pub(crate) fn answer_range<'b, W: Write>(
     }
 }
 
-/// Answers a pair and those right behind it that have the same range line, which was read as this range or is a bad one.
+/// Answers a pair and those right behind it that have the same range line, which was read as this range or is a bad
+/// one.
 #[inline(never)]
 #[tactic(auto, using(crate::proofs::MoveLemmas::version_steps))]
 fn answer_versions<'b, W: Write>(

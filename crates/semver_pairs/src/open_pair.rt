@@ -65,7 +65,8 @@ impl OpenPair {
     pub(crate) fn read_on<'b>(&mut self, bytes: &'b [u8]) -> Result<Option<&'b [u8]>, RunError>
         requires { IsOpen self.old }
         ensures whole { IfOk result (λ found. IfSome found (λ rest. BeginsWithPair
-            (open_bytes self.old ++ bytes.now) self.new.range.items (strip_carriage_return self.new.version.items) rest.now)) }
+            (open_bytes self.old ++ bytes.now) self.new.range.items
+            (strip_carriage_return self.new.version.items) rest.now)) }
         ensures lines { IfOk result (λ found. IfNone found (IsOpen self.new)) }
         ensures more { IfOk result (λ found. IfNone found
             (open_bytes self.new ≡ open_bytes self.old ++ bytes.now)) }
@@ -111,7 +112,8 @@ impl OpenPair {
         requires lines { IsOpen self.old }
         requires ended { self.old.is_range_ended ≡ true }
         ensures whole { IfOk result (λ found. IfSome found (λ rest. BeginsWithPair
-            (open_bytes self.old ++ bytes.now) self.new.range.items (strip_carriage_return self.new.version.items) rest.now)) }
+            (open_bytes self.old ++ bytes.now) self.new.range.items
+            (strip_carriage_return self.new.version.items) rest.now)) }
         ensures lines { IfOk result (λ found. IfNone found (IsOpen self.new)) }
         ensures more { IfOk result (λ found. IfNone found
             (open_bytes self.new ≡ open_bytes self.old ++ bytes.now)) }

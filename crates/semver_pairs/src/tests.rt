@@ -207,7 +207,8 @@ fn leaves_both_alone_where_a_gauge_had_failed(rt: HostRuntime) {
     }
 }
 
-/// Each request for memory is refused in turn by `rt try --test --fail-alloc N`.
+/// `.ci/refuse_memory` refuses each request for memory of the program in turn, and `rt try --test --fail-alloc N` one
+/// of this test.
 #[test]
 fn answers_or_says_that_memory_is_out(rt: HostRuntime) {
     let outcome = outcome_of(rt.alloc(), PAIRS, (7, usize::MAX), WHOLE);

@@ -16,8 +16,8 @@ use Rattle.node_semver.specs.Private.WordViews.{listed}
 use Rattle.node_semver.specs.Private.WordReading.{Lead, caret_lead, lead_comparator, no_lead, read_partial, tilde_lead}
 use Rattle.node_semver.specs.declared.TheConstants.{MAX_SAFE_INTEGER}
 use Rattle.node_semver.specs.declared.error.SemverError.{SemverError}
-use Rattle.node_semver.specs.declared.range.read.full.Sign.{Sign}
-use Rattle.node_semver.specs.declared.range.read.full.Sign.TheVariants.{Caret, Nothing, Tilde}
+use Rattle.node_semver.specs.declared.range.read.full.FullLead.{FullLead}
+use Rattle.node_semver.specs.declared.range.read.full.FullLead.TheVariants.{Caret, Nothing, Tilde}
 use Rattle.node_semver.specs.declared.range.algebra.gathered.Found.{Found}
 use Rattle.node_semver.specs.declared.range.algebra.gathered.Found.TheVariants.{Many, One}
 
@@ -59,10 +59,10 @@ pub record IsOnlyComparator (text : List ℕ) (comparator : Comparator) : Type 0
   pub below : IsCutBelow version_cmp comparator.lower comparator.upper
 
 -- what stands before a full version
-abbrev pub sign_seen : Sign → Lead
-sign_seen Caret = caret_lead
-sign_seen Tilde = tilde_lead
-sign_seen Nothing = no_lead
+abbrev pub full_lead_seen : FullLead → Lead
+full_lead_seen Caret = caret_lead
+full_lead_seen Tilde = tilde_lead
+full_lead_seen Nothing = no_lead
 
 -- three numbers, which are the whole text, the partial that it begins with and the version
 pub record IsFullText (text : List ℕ) (major minor patch : ℕ) : Type 0 where

@@ -11,7 +11,7 @@ use crate::range::Range;
 use crate::word::skip_thrown_away;
 use crate::{SemverError, SemverErrorKind};
 use alternative::read_set;
-pub(crate) use full::{Sign, caret_range, exact_range, read_full, tilde_range};
+pub(crate) use full::{FullLead, caret_range, exact_range, read_full, tilde_range};
 use pieces::next_piece;
 use sets::read_sets;
 use std::alloc::Global;

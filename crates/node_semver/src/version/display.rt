@@ -2,6 +2,7 @@
 
 ghost use Rattle.std.specs.Prelude.{◌∷◌, ◌++◌, Some, decimal, flat_map};
 ghost use Rattle.std.specs.Fmt.{WritesOnOk};
+ghost use Rattle.node_semver.specs.Characters.{dot};
 ghost use Rattle.node_semver.specs.Identifier.{values_of};
 ghost use Rattle.node_semver.specs.Print.{version_text};
 ghost use Rattle.node_semver.specs.Lemmas.Print.{dotted_text, led_text};
@@ -54,7 +55,7 @@ pub(crate) fn write_version<W: fmt::Write>(
 #[inline]
 fn write_triple<W: fmt::Write>(f: &mut fmt::Formatter<W>, triple: (u64, u64, u64)) -> fmt::Result
     ensures { WritesOnOk W.write_str_gives f.old result
-        (decimal triple.0 ++ (46 ∷ (decimal triple.1 ++ (46 ∷ decimal triple.2)))) f.new }
+        (decimal triple.0 ++ (dot ∷ (decimal triple.1 ++ (dot ∷ decimal triple.2)))) f.new }
 {
     let mut line = [0; ROOM];
     let (major, minor, patch) = triple;

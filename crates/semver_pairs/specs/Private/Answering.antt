@@ -39,10 +39,11 @@ pub record Moves (contents contents_new : Option (List ℕ)) (waiting added left
   pub all : waiting ++ added ≡ written ++ left
 
 -- The answers to the pairs that stand before the rest were added.
-pub record AnswersPast (bytes rest : List ℕ) (contents contents_new : Option (List ℕ)) (waiting left : List ℕ) : Type 0 where
-  pub added : List ℕ
-  pub answers : AnswersUpTo bytes rest added
-  pub moves : Moves contents contents_new waiting added left
+pub record AnswersPast (bytes rest : List ℕ) (contents contents_new : Option (List ℕ)) (waiting left : List ℕ) : Type 0
+  where
+    pub added : List ℕ
+    pub answers : AnswersUpTo bytes rest added
+    pub moves : Moves contents contents_new waiting added left
 
 -- The same, where it is left open up to where, and what waits.
 pub record AnswersSome (bytes : List ℕ) (contents contents_new : Option (List ℕ)) (waiting : List ℕ) : Type 0 where

@@ -13,7 +13,8 @@ pub record BeginsWithLine (bytes line rest : List ℕ) : Type 0 where
   pub one_line : HasNoNewline line
   pub split : bytes ≡ line ++ (newline ∷ rest)
 
--- A range line stands first and then a version line, which is given without its carriage return. The rest stands past them.
+-- A range line stands first and then a version line, which is given without its carriage return. The rest stands past
+-- them.
 pub record BeginsWithPair (bytes range version rest : List ℕ) : Type 0 where
   pub others : List ℕ
   pub line : List ℕ

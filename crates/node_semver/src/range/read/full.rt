@@ -7,7 +7,7 @@ ghost use Rattle.node_semver.specs.Comparator as Comparators;
 ghost use Rattle.node_semver.specs.Comparison.{version_cmp};
 ghost use Rattle.node_semver.specs.RangeSets.{IsRangeValue};
 ghost use Rattle.node_semver.specs.Version as Versions;
-ghost use Rattle.node_semver.specs.Private.RangeViews.{IsFull, full_comparator, listed_set, sign_seen};
+ghost use Rattle.node_semver.specs.Private.RangeViews.{IsFull, full_comparator, full_lead_seen, listed_set};
 ghost use Rattle.node_semver.specs.Private.WordReading as Reading;
 
 use crate::end::End;
@@ -17,7 +17,7 @@ use semver_cuts::{Cut, Span};
 
 // What stands before the version.
 #[derive(Clone, Copy)]
-pub(crate) enum Sign {
+pub(crate) enum FullLead {
     // `^`
     Caret,
     // `~`
@@ -28,16 +28,16 @@ pub(crate) enum Sign {
 
 // `^` and the three numbers of `^1.2.3`
 #[inline(always)]
-pub(crate) fn read_full(text: &[u8]) -> Option<(Sign, u64, u64, u64)>
-    ensures { IfSome result (λ f. IsFull text.now (sign_seen f.0) f.1 f.2 f.3) }
+pub(crate) fn read_full(text: &[u8]) -> Option<(FullLead, u64, u64, u64)>
+    ensures { IfSome result (λ f. IsFull text.now (full_lead_seen f.0) f.1 f.2 f.3) }
 {
-    let (sign, version) = match text {
-        [b'^', rest @ ..] => (Sign::Caret, rest),
-        [b'~', rest @ ..] => (Sign::Tilde, rest),
-        _ => (Sign::Nothing, text),
+    let (lead, version) = match text {
+        [b'^', rest @ ..] => (FullLead::Caret, rest),
+        [b'~', rest @ ..] => (FullLead::Tilde, rest),
+        _ => (FullLead::Nothing, text),
     };
     let (major, minor, patch) = read_full_triple(version)?;
-    Some((sign, major, minor, patch))
+    Some((lead, major, minor, patch))
 }
 
 // `^1.2.3` is `>=1.2.3 <2.0.0-0`, `^0.2.3` is `>=0.2.3 <0.3.0-0`, `^0.0.3` is `>=0.0.3 <0.0.4-0`.

@@ -60,7 +60,8 @@ pub record IsIntersection (one other : List (Ends VersionValue)) (answer : Optio
   pub disjoint : (rest : List (Ends VersionValue)) → AreRestSpans version_cmp one other rest → (cut : Cut VersionValue)
       → ¬ (IsInSome version_cmp (sets_of_answer answer) cut × IsInSome version_cmp rest cut)
   pub together : (rest : List (Ends VersionValue)) → AreRestSpans version_cmp one other rest → (cut : Cut VersionValue)
-      → IsInSome version_cmp one cut ↔ (IsInSome version_cmp (sets_of_answer answer) cut ⊎ IsInSome version_cmp rest cut)
+      → IsInSome version_cmp one cut
+      ↔ (IsInSome version_cmp (sets_of_answer answer) cut ⊎ IsInSome version_cmp rest cut)
   pub holds : IfSome answer IsRangeValue
 
 -- what `Range::difference` answers
@@ -76,7 +77,8 @@ pub record IsDifference (one other : List (Ends VersionValue)) (answer : Option 
   pub disjoint : (cut : Cut VersionValue) → ¬ (IsInSome version_cmp (common_spans version_cmp one other) cut
       × IsInSome version_cmp (sets_of_answer answer) cut)
   pub together : (cut : Cut VersionValue) → IsInSome version_cmp one cut
-      ↔ (IsInSome version_cmp (common_spans version_cmp one other) cut ⊎ IsInSome version_cmp (sets_of_answer answer) cut)
+      ↔ (IsInSome version_cmp (common_spans version_cmp one other) cut
+      ⊎ IsInSome version_cmp (sets_of_answer answer) cut)
   pub holds : IfSome answer IsRangeValue
 
 -- what `Range::min_version` answers

@@ -104,7 +104,8 @@ pub extern "C" fn node_semver_range_allows_all(one: &RangeRef, other: &RangeRef)
 #[unsafe(no_mangle)]
 pub extern "C" fn node_semver_range_hash(range: &RangeRef) -> u64
     ensures hash { result ≡ range_hash range.now.value }
-    ensures alike { (other : List (Ends VersionValue)) → are_same_cuts range.now.value other ≡ true → result ≡ range_hash other }
+    ensures alike { (other : List (Ends VersionValue)) → are_same_cuts range.now.value other ≡ true
+        → result ≡ range_hash other }
 {
     hash_of(range.get())
 }

@@ -120,7 +120,8 @@ pub extern "C" fn node_semver_version_patch(version: &VersionRef) -> u64
 #[unsafe(no_mangle)]
 pub extern "C" fn node_semver_version_hash(version: &VersionRef) -> u64
     ensures hash { result ≡ version_hash version.now.value }
-    ensures alike { (other : VersionValue) → eq_by_cmp version_cmp version.now.value other ≡ true → result ≡ version_hash other }
+    ensures alike { (other : VersionValue) → eq_by_cmp version_cmp version.now.value other ≡ true
+        → result ≡ version_hash other }
 {
     hash_of(version.get())
 }

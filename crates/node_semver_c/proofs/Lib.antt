@@ -1,3 +1,4 @@
+mod Alike
 mod Asked
 mod Found
 mod GreatestPlaces

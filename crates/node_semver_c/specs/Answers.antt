@@ -57,6 +57,11 @@ pub record IsIntersection (one other : List (Ends VersionValue)) (answer : Optio
   pub releases : (v : VersionValue) → ¬ IsPrerelease v
       → RangeAdmits (sets_of_answer answer) v ↔ (RangeAdmits one v × RangeAdmits other v)
   pub prereleases : (v : VersionValue) → IsPrerelease v → RangeAdmits (sets_of_answer answer) v ↔ PairAdmits one other v
+  pub disjoint : (rest : List (Ends VersionValue)) → AreRestSpans version_cmp one other rest → (cut : Cut VersionValue)
+      → ¬ (IsInSome version_cmp (sets_of_answer answer) cut × IsInSome version_cmp rest cut)
+  pub together : (rest : List (Ends VersionValue)) → AreRestSpans version_cmp one other rest → (cut : Cut VersionValue)
+      → IsInSome version_cmp one cut
+      ↔ (IsInSome version_cmp (sets_of_answer answer) cut ⊎ IsInSome version_cmp rest cut)
   pub holds : IfSome answer IsRangeValue
 
 -- what `Range::difference` answers
@@ -69,6 +74,11 @@ pub record IsDifference (one other : List (Ends VersionValue)) (answer : Option 
       ↔ ((cut : Cut VersionValue) → ¬ (IsInSome version_cmp one cut × ¬ IsInSome version_cmp other cut))
   pub releases : (v : VersionValue) → ¬ IsPrerelease v
       → RangeAdmits (sets_of_answer answer) v ↔ (RangeAdmits one v × ¬ RangeAdmits other v)
+  pub disjoint : (cut : Cut VersionValue) → ¬ (IsInSome version_cmp (common_spans version_cmp one other) cut
+      × IsInSome version_cmp (sets_of_answer answer) cut)
+  pub together : (cut : Cut VersionValue) → IsInSome version_cmp one cut
+      ↔ (IsInSome version_cmp (common_spans version_cmp one other) cut
+      ⊎ IsInSome version_cmp (sets_of_answer answer) cut)
   pub holds : IfSome answer IsRangeValue
 
 -- what `Range::min_version` answers

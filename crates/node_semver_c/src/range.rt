@@ -1,12 +1,14 @@
 //! Exports on ranges.
-ghost use Rattle.std.specs.Prelude.{◌≡◌, ◌≢◌, ◌↔◌, [], IsTrue, IsUtf8, None};
+ghost use Rattle.std.specs.Prelude.{◌≡◌, ◌≢◌, ◌↔◌, List, [], IsTrue, IsUtf8, None, true};
 ghost use Rattle.semver_cuts.specs.CommonSpans.{common_spans};
+ghost use Rattle.semver_cuts.specs.Ends.{Ends};
 ghost use Rattle.semver_cuts.specs.Sharing.{CoversAll, ShareCut};
 ghost use Rattle.node_semver.specs.Comparison.{version_cmp};
 ghost use Rattle.node_semver.specs.Meaning.{RangeAdmits};
 ghost use Rattle.node_semver.specs.RangeAnswer.{IsRangeAnswer};
-ghost use Rattle.node_semver.specs.RangeEquality.{AreSameCuts};
+ghost use Rattle.node_semver.specs.RangeEquality.{AreSameCuts, are_same_cuts};
 ghost use Rattle.node_semver.specs.RangePrint.{range_text};
+ghost use Rattle.node_semver.specs.Version.{VersionValue};
 ghost use Rattle.node_semver_c.specs.Answers.{IsSomeTold};
 ghost use Rattle.node_semver_c.specs.Compared.{range_hash};
 ghost use Rattle.node_semver_c.specs.Printed.{IsPrinted};
@@ -101,9 +103,17 @@ pub extern "C" fn node_semver_range_allows_all(one: &RangeRef, other: &RangeRef)
 /// A hash: equal ranges have one.
 #[unsafe(no_mangle)]
 pub extern "C" fn node_semver_range_hash(range: &RangeRef) -> u64
-    ensures { result ≡ range_hash range.now.value }
+    ensures hash { result ≡ range_hash range.now.value }
+    ensures alike { (other : List (Ends VersionValue)) → are_same_cuts range.now.value other ≡ true
+        → result ≡ range_hash other }
+{
+    hash_of(range.get())
+}
+
+fn hash_of(range: &Range) -> u64
+    ensures { result ≡ range_hash range.now }
 {
     let mut hasher = FoldHasher::default();
-    range.get().hash(&mut hasher);
+    range.hash(&mut hasher);
     hasher.finish()
 }

@@ -1,10 +1,11 @@
 //! Exports on versions.
-ghost use Rattle.std.specs.Prelude.{◌≡◌, ◌≢◌, ◌↔◌, IsTrue, IsUtf8, None};
+ghost use Rattle.std.specs.Prelude.{◌≡◌, ◌≢◌, ◌↔◌, IsTrue, IsUtf8, None, true};
+ghost use Rattle.std.specs.Ordering.{eq_by_cmp};
 ghost use Rattle.node_semver.specs.Comparison.{version_cmp};
 ghost use Rattle.node_semver.specs.Json.{IsVersionAnswer};
 ghost use Rattle.node_semver.specs.Order.{OrderMeans};
 ghost use Rattle.node_semver.specs.Print.{version_text};
-ghost use Rattle.node_semver.specs.Version.{IsPrerelease};
+ghost use Rattle.node_semver.specs.Version.{IsPrerelease, VersionValue};
 ghost use Rattle.node_semver_c.specs.Answers.{IsSomeTold};
 ghost use Rattle.node_semver_c.specs.Compared.{sign_of, version_hash};
 ghost use Rattle.node_semver_c.specs.Printed.{IsPrinted};
@@ -118,9 +119,17 @@ pub extern "C" fn node_semver_version_patch(version: &VersionRef) -> u64
 /// A hash: equal versions have one.
 #[unsafe(no_mangle)]
 pub extern "C" fn node_semver_version_hash(version: &VersionRef) -> u64
-    ensures { result ≡ version_hash version.now.value }
+    ensures hash { result ≡ version_hash version.now.value }
+    ensures alike { (other : VersionValue) → eq_by_cmp version_cmp version.now.value other ≡ true
+        → result ≡ version_hash other }
+{
+    hash_of(version.get())
+}
+
+fn hash_of(version: &Version) -> u64
+    ensures { result ≡ version_hash version.now }
 {
     let mut hasher = FoldHasher::default();
-    version.get().hash(&mut hasher);
+    version.hash(&mut hasher);
     hasher.finish()
 }

@@ -10,5 +10,7 @@ returns-in-Ok c =
       cuts = c.in-Ok.ensures.cuts;
       none = c.in-Ok.ensures.none;
       releases = c.in-Ok.ensures.releases;
+      disjoint = c.in-Ok.ensures.disjoint;
+      together = c.in-Ok.ensures.together;
       holds = c.in-Ok.ensures.holds;
     } c.keep_range_found.ensures

@@ -12,5 +12,7 @@ returns-in-Ok c =
       some = c.in-Ok.ensures.some;
       releases = c.in-Ok.ensures.releases;
       prereleases = c.in-Ok.ensures.prereleases;
+      disjoint = c.in-Ok.ensures.disjoint;
+      together = c.in-Ok.ensures.together;
       holds = c.in-Ok.ensures.holds;
     } c.keep_range_found.ensures

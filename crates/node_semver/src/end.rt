@@ -137,6 +137,18 @@ impl End {
         }
     }
 
+    // Whether it has no lists: a prerelease is then the least version of its triple.
+    #[inline(always)]
+    pub(crate) fn has_no_lists(&self) -> bool
+        ensures { IsTrue result → IsPrerelease self.now
+            → self.now ≡ Versions.least_of self.now.major self.now.minor self.now.patch }
+    {
+        match &self.extras {
+            Extras::Nothing | Extras::Zero => true,
+            Extras::Lists(_) => false,
+        }
+    }
+
     // The identifiers of the prerelease.
     #[inline]
     pub(crate) fn pre_release(&self) -> Lent<'_>

@@ -4,7 +4,7 @@ use Rattle.std.specs.List.{AllByRecursion}
 use Rattle.std.specs.declared.cmp.Ordering.TheVariants.{Less}
 use Rattle.semver_cuts.specs.declared.cut.Cut.{Cut}
 use Rattle.semver_cuts.specs.declared.cut.Cut.TheVariants.{Start, Before, After, End}
-use Rattle.semver_cuts.specs.Ends.{Ends}
+use Rattle.semver_cuts.specs.Ends.{Ends, IsCutBelow}
 use Rattle.node_semver.specs.Comparison.{version_cmp}
 use Rattle.node_semver.specs.IdentifierValue.{IdentifierValue}
 use Rattle.node_semver.specs.Least.{AdmitsBeyond, AdmitsNoneBeyond, IsLeastBeyond}
@@ -75,6 +75,10 @@ abbrev pub IsLeastOpened : Cut VersionValue → Option VersionValue → Type 0
 IsLeastOpened cut None = (v : VersionValue) → ¬ Opens cut v
 IsLeastOpened cut (Some least) =
     (least.build ≡ []) × ((v : VersionValue) → Opens cut v → least_of v.major v.minor v.patch ≡ least)
+
+-- the least version of no triple that the cut opens lies below it
+abbrev pub IsShut : Cut VersionValue → Type 0
+IsShut cut = (v : VersionValue) → Opens cut v → ¬ IsCutBelow version_cmp (Before (least_of v.major v.minor v.patch)) cut
 
 -- what was tried before is tried, and the best is one still
 pub record IsStep (sets others : List (Ends VersionValue)) (earlier later : Option VersionValue) : Type 0 where

@@ -108,7 +108,7 @@ impl End {
 
     // The order of the end and the release of its triple.
     #[inline(always)]
-    fn cmp_release(&self) -> Ordering
+    pub(crate) fn cmp_release(&self) -> Ordering
         ensures { result ≡ prerelease_cmp self.now.pre_release [] }
     {
         if self.is_prerelease() {

@@ -3,12 +3,14 @@ ghost use Rattle.std.specs.Prelude.{◌≡◌, ◌↔◌, [], IfOk, IfSome, IsNo
 ghost use Rattle.std.specs.List.{AllByRecursion};
 ghost use Rattle.semver_cuts.specs.declared.cut.Cut.TheVariants.{After, Before};
 ghost use Rattle.node_semver.specs.Least.{AdmitsBeyond, AdmitsNoneBeyond, IsAdmittedBy, IsLeastBeyond};
-ghost use Rattle.node_semver.specs.Private.BeyondViews.{AreSetsTried, AreUppersTried, IsBelowBest, IsCutTrial, IsLeastBeyondOrNone, IsLeastOpened, IsOpenTrial, IsSetTrial, IsTrial};
+ghost use Rattle.node_semver.specs.Private.BeyondViews.{AreSetsTried, AreUppersTried, IsBelowBest, IsCutTrial, IsLeastBeyondOrNone, IsLeastOpened, IsOpenTrial, IsSetTrial, IsShut, IsTrial};
 ghost use Rattle.node_semver.specs.RangeSets.{IsRangeSet, IsReadCut, IsReadVersion};
+ghost use Rattle.node_semver.specs.Version.{release};
 
 use crate::end::End;
+use crate::range::least::candidates::Release;
 use crate::range::least::unbuilt::Unbuilt;
-use crate::set::admits;
+use crate::set::{Asked, admits};
 use crate::{Comparisons, Range, Version};
 use semver_cuts::{Cut, Span};
 use std::alloc::{AllocError, Global};
@@ -47,7 +49,7 @@ impl Range {
 }
 
 // The least version, not built yet.
-#[inline]
+#[inline(always)]
 fn least_unbuilt<'a>(range: &'a Range, other: &'a Range) -> Option<Unbuilt<'a>>
     ensures { IsLeastBeyondOrNone range.now other.now result }
 {
@@ -56,18 +58,20 @@ fn least_unbuilt<'a>(range: &'a Range, other: &'a Range) -> Option<Unbuilt<'a>>
 }
 
 // The least of the candidates of the sets.
+#[inline(always)]
 fn least_of_sets<'a>(sets: &'a [Span<End>], range: &Range, other: &Range) -> Option<Unbuilt<'a>>
     requires { AllByRecursion IsRangeSet sets.now }
     ensures { AreSetsTried range.now other.now sets.now result }
 {
     let mut best = None;
     'sets: for set in sets {
-        best = lesser_of_set(best, set, range, other);
+        try_set(&mut best, set, range, other);
     }
     best
 }
 
 // And of those at the upper ends of the other's sets.
+#[inline(always)]
 fn least_with_others<'a>(
     found: Option<Unbuilt<'a>>,
     sets: &'a [Span<End>],
@@ -80,111 +84,126 @@ fn least_with_others<'a>(
 {
     let mut best = found;
     'sets: for set in sets {
-        best = lesser_at_end(best, set, range, other);
+        try_end(&mut best, set, range, other);
     }
     best
 }
 
-// The least of the best so far and the candidates of a set: where it begins, and in the triple that its upper end
-// opens.
-#[inline]
-fn lesser_of_set<'a>(
-    best: Option<Unbuilt<'a>>,
+// Tries the candidates of a set, so that the best so far stays the least: where it begins, and in the triple that its
+// upper end opens.
+#[inline(always)]
+fn try_set<'a>(
+    best: &mut Option<Unbuilt<'a>>,
     set: &'a Span<End>,
     range: &Range,
     other: &Range,
-) -> Option<Unbuilt<'a>>
+)
     requires { IsRangeSet set.now }
-    ensures { IsSetTrial range.now other.now best.entry set.now result }
+    ensures { IsSetTrial range.now other.now best.old set.now best.new }
 {
-    let best = lesser_at_cut(best, set.lower(), range, other);
-    lesser_opened(best, set, range, other)
+    try_cut(best, set.lower(), range, other);
+    try_opened(best, set, range, other);
 }
 
-// The same of the candidates where a set ends.
-#[inline]
-fn lesser_at_end<'a>(
-    best: Option<Unbuilt<'a>>,
+// The candidates where a set ends.
+#[inline(always)]
+fn try_end<'a>(
+    best: &mut Option<Unbuilt<'a>>,
     set: &'a Span<End>,
     range: &Range,
     other: &Range,
-) -> Option<Unbuilt<'a>>
+)
     requires { IsRangeSet set.now }
-    ensures { IsCutTrial range.now other.now best.entry set.now.upper result }
+    ensures { IsCutTrial range.now other.now best.old set.now.upper best.new }
 {
-    lesser_at_cut(best, set.upper(), range, other)
+    try_cut(best, set.upper(), range, other);
 }
 
-// The same of the candidates at a cut: the least release after it and, at a prerelease, the least version after it.
-fn lesser_at_cut<'a>(
-    best: Option<Unbuilt<'a>>,
+// The candidates at a cut: the least release after it and, at a prerelease, the least version after it.
+#[inline(always)]
+fn try_cut<'a>(
+    best: &mut Option<Unbuilt<'a>>,
     cut: &'a Cut<End>,
     range: &Range,
     other: &Range,
-) -> Option<Unbuilt<'a>>
+)
     requires { IsReadCut cut.now }
-    ensures { IsCutTrial range.now other.now best.entry cut.now result }
+    ensures { IsCutTrial range.now other.now best.old cut.now best.new }
 {
     match cut {
-        Cut::Start => lesser(best, Unbuilt::release(0, 0, 0), range, other),
-        Cut::Before(end) => lesser_before(best, end, range, other),
-        Cut::After(end) => lesser_after(best, end, range, other),
-        Cut::End => best,
+        Cut::Start => try_release(best, Release::of(0, 0, 0), range, other),
+        Cut::Before(end) => try_before(best, end, range, other),
+        Cut::After(end) => try_after(best, end, range, other),
+        Cut::End => {}
     }
 }
 
-fn lesser_before<'a>(
-    best: Option<Unbuilt<'a>>,
-    end: &'a End,
-    range: &Range,
-    other: &Range,
-) -> Option<Unbuilt<'a>>
-    ensures { IsCutTrial range.now other.now best.entry (Before end.now) result }
+#[inline(always)]
+fn try_before<'a>(best: &mut Option<Unbuilt<'a>>, end: &'a End, range: &Range, other: &Range)
+    ensures { IsCutTrial range.now other.now best.old (Before end.now) best.new }
 {
-    let release = Unbuilt::release(end.major, end.minor, end.patch);
     if end.is_prerelease() {
         let least = Unbuilt::at_end(end).without_build();
-        return lesser(lesser(best, least, range, other), release, range, other);
+        try_candidate(best, least, range, other);
+        try_release(best, Release::of(end.major, end.minor, end.patch), range, other);
+        return;
     }
-    lesser(best, release, range, other)
+    try_release(best, Release::of(end.major, end.minor, end.patch), range, other);
 }
 
-fn lesser_after<'a>(
-    best: Option<Unbuilt<'a>>,
-    end: &'a End,
-    range: &Range,
-    other: &Range,
-) -> Option<Unbuilt<'a>>
+#[inline(never)]
+fn try_after<'a>(best: &mut Option<Unbuilt<'a>>, end: &'a End, range: &Range, other: &Range)
     requires { IsReadVersion end.now }
-    ensures { IsCutTrial range.now other.now best.entry (After end.now) result }
+    ensures { IsCutTrial range.now other.now best.old (After end.now) best.new }
 {
     if end.is_prerelease() {
         let least = Unbuilt::after_end(end).without_build();
-        let release = Unbuilt::release(end.major, end.minor, end.patch);
-        return lesser(lesser(best, least, range, other), release, range, other);
+        try_candidate(best, least, range, other);
+        try_release(best, Release::of(end.major, end.minor, end.patch), range, other);
+        return;
     }
-    let next = Unbuilt::release(end.major, end.minor, end.patch + 1);
-    lesser(best, next, range, other)
+    try_release(best, Release::of(end.major, end.minor, end.patch + 1), range, other);
 }
 
-// The same of the least version of a triple that the upper end of a set opens, if the set admits it.
-fn lesser_opened<'a>(
-    best: Option<Unbuilt<'a>>,
+// The least version of a triple that the upper end of a set opens, if the set admits it: none is below `1.2.3-0`.
+#[inline(always)]
+fn try_opened<'a>(best: &mut Option<Unbuilt<'a>>, set: &Span<End>, range: &Range, other: &Range)
+    ensures { IsOpenTrial range.now other.now best.old set.now best.new }
+{
+    if opens_nothing_inside(set.upper()) {
+        return;
+    }
+    try_least_opened(best, set, range, other);
+}
+
+#[inline(never)]
+fn try_least_opened<'a>(
+    best: &mut Option<Unbuilt<'a>>,
     set: &Span<End>,
     range: &Range,
     other: &Range,
-) -> Option<Unbuilt<'a>>
-    ensures { IsOpenTrial range.now other.now best.entry set.now result }
+)
+    ensures { IsOpenTrial range.now other.now best.old set.now best.new }
 {
     match least_opened(set.upper()) {
         Some(least) => {
             if admits(set, &least, &mut Comparisons::new()) {
-                lesser(best, least, range, other)
-            } else {
-                best
+                try_candidate(best, least, range, other);
             }
         }
-        None => best,
+        None => {}
+    }
+}
+
+// Whether no prerelease of a triple that the cut opens lies below it, told by what stands after the triple alone.
+#[inline(always)]
+fn opens_nothing_inside(cut: &Cut<End>) -> bool
+    ensures { IsTrue result → IsShut cut.now }
+{
+    match cut {
+        Cut::Before(end) => end.has_no_lists(),
+        Cut::After(end) => !end.is_prerelease(),
+        Cut::Start | Cut::End => true,
     }
 }
 
@@ -205,38 +224,37 @@ fn least_opened<'a>(cut: &Cut<End>) -> Option<Unbuilt<'a>>
     }
 }
 
-// The candidate if it is below the best so far and the one range admits it and the other does not, or else the best.
+// The candidate is the best if it is below the best so far and the one range admits it and the other does not.
 #[inline(never)]
-fn lesser<'a>(
-    best: Option<Unbuilt<'a>>,
+fn try_candidate<'a>(
+    best: &mut Option<Unbuilt<'a>>,
     candidate: Unbuilt<'a>,
     range: &Range,
     other: &Range,
-) -> Option<Unbuilt<'a>>
+)
     requires { candidate.build ≡ [] }
-    ensures { IsTrial range.now other.now best.entry candidate.entry result }
+    ensures { IsTrial range.now other.now best.old candidate.entry best.new }
 {
-    if is_below_best(&candidate, &best) && is_beyond(&candidate, range, other) {
-        Some(candidate)
-    } else {
-        best
+    if candidate.is_below_best(best) && is_beyond(&candidate, range, other) {
+        *best = Some(candidate);
     }
 }
 
-#[inline(always)]
-fn is_below_best(candidate: &Unbuilt<'_>, best: &Option<Unbuilt<'_>>) -> bool
-    ensures { IsTrue result ↔ IsBelowBest best.now candidate.now }
+// The same of a release, of which only triples are compared.
+#[inline(never)]
+fn try_release(best: &mut Option<Unbuilt<'_>>, candidate: Release, range: &Range, other: &Range)
+    ensures { IsTrial range.now other.now best.old (release candidate.major candidate.minor candidate.patch) best.new }
 {
-    match best {
-        Some(best) => candidate.is_below(best),
-        None => true,
+    if candidate.is_below_best(best) && is_beyond(&candidate, range, other) {
+        *best = Some(Unbuilt::release(candidate.major, candidate.minor, candidate.patch));
     }
 }
 
 // Whether the one range admits the candidate and the other does not.
 #[inline(always)]
-fn is_beyond(candidate: &Unbuilt<'_>, range: &Range, other: &Range) -> bool
-    ensures { IsTrue result ↔ AdmitsBeyond range.now other.now candidate.now }
+fn is_beyond<V: Asked>(candidate: &V, range: &Range, other: &Range) -> bool
+    ensures { IsTrue result ↔ AdmitsBeyond range.now other.now (V.asked candidate.now) }
 {
-    candidate.satisfies(range) && !candidate.satisfies(other)
+    range.sets.admits(candidate, &mut Comparisons::new())
+        && !other.sets.admits(candidate, &mut Comparisons::new())
 }

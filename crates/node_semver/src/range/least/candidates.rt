@@ -1,13 +1,13 @@
 //! Versions at which the least one beyond another range may be, asked of sets before they are built.
 ghost use Rattle.std.specs.Prelude.{◌≡◌, ◌↔◌, IsTrue};
-ghost use Rattle.node_semver.specs.Comparison.{prerelease_cmp};
-ghost use Rattle.node_semver.specs.Meaning.{RangeAdmits};
+ghost use Rattle.std.specs.declared.cmp.Ordering.TheVariants.{Less};
+ghost use Rattle.node_semver.specs.Comparison.{prerelease_cmp, version_cmp};
+ghost use Rattle.node_semver.specs.Private.BeyondViews.{IsBelowBest};
 ghost use Rattle.node_semver.specs.Version.{least_of, release, without_build};
 
 use crate::end::{End, Lent};
 use crate::range::least::unbuilt::Unbuilt;
 use crate::set::Asked;
-use crate::{Comparisons, Range};
 use std::cmp::Ordering;
 
 impl<'a> Unbuilt<'a> {
@@ -45,12 +45,15 @@ impl<'a> Unbuilt<'a> {
         Unbuilt { build: &[], ..self }
     }
 
-    // Whether the range admits the version.
-    #[inline]
-    pub(crate) fn satisfies(&self, range: &Range) -> bool
-        ensures { IsTrue result ↔ RangeAdmits range.now self.now }
+    // Whether there is no best version so far that it is not below.
+    #[inline(always)]
+    pub(crate) fn is_below_best(&self, best: &Option<Unbuilt<'_>>) -> bool
+        ensures { IsTrue result ↔ IsBelowBest best.now self.now }
     {
-        range.sets.admits(self, &mut Comparisons::new())
+        match best {
+            Some(best) => self.is_below(best),
+            None => true,
+        }
     }
 }
 
@@ -94,5 +97,79 @@ fn cmp_prereleases(end: &End, version: &Unbuilt<'_>) -> Ordering
         Ordering::Greater
     } else {
         Ordering::Equal
+    }
+}
+
+// A release, which its triple tells.
+#[derive(Clone, Copy)]
+pub(crate) struct Release {
+    pub(crate) major: u64,
+    pub(crate) minor: u64,
+    pub(crate) patch: u64,
+}
+
+impl Release {
+    #[inline(always)]
+    pub(crate) fn of(major: u64, minor: u64, patch: u64) -> Release
+        ensures { release result.major result.minor result.patch ≡ release major minor patch }
+    {
+        Release {
+            major,
+            minor,
+            patch,
+        }
+    }
+
+    // Whether there is no best version so far that it is not below. No version of its triple is above it.
+    #[inline(always)]
+    pub(crate) fn is_below_best(&self, best: &Option<Unbuilt<'_>>) -> bool
+        ensures { IsTrue result ↔ IsBelowBest best.now (release self.now.major self.now.minor self.now.patch) }
+    {
+        match best {
+            Some(best) => self.is_below(best),
+            None => true,
+        }
+    }
+
+    #[inline(always)]
+    fn is_below(&self, other: &Unbuilt<'_>) -> bool
+        ensures { IsTrue result ↔
+            (version_cmp (release self.now.major self.now.minor self.now.patch) other.now ≡ Less) }
+    {
+        if self.major != other.major {
+            return self.major < other.major;
+        }
+        if self.minor != other.minor {
+            return self.minor < other.minor;
+        }
+        self.patch < other.patch
+    }
+}
+
+impl Asked for Release {
+    ghost asked = { λ version. release version.major version.minor version.patch };
+
+    #[inline(always)]
+    fn is_prerelease(&self) -> bool {
+        false
+    }
+
+    #[inline(always)]
+    fn triple(&self) -> (u64, u64, u64) {
+        (self.major, self.minor, self.patch)
+    }
+
+    #[inline(always)]
+    fn cmp_end(&self, end: &End) -> Ordering {
+        if end.major != self.major {
+            return end.major.cmp(&self.major);
+        }
+        if end.minor != self.minor {
+            return end.minor.cmp(&self.minor);
+        }
+        if end.patch != self.patch {
+            return end.patch.cmp(&self.patch);
+        }
+        end.cmp_release()
     }
 }

@@ -12,7 +12,7 @@ sets-init c = record { best = tt; each = tt }
 pub sets-preserved : goal.sets-preserved
 sets-preserved c =
     sets-more c.args.range.now c.args.other.now c.args.sets.now c.sets.set-index c.set-item.result c.sets.best
-    c.lesser_of_set-best.result c.sets-test.true c.set-item.is c.sets.invariant c.lesser_of_set-best.ensures
+    c.try_set.new.best c.sets-test.true c.set-item.is c.sets.invariant c.try_set.ensures
 
 pub returns : goal.returns
 returns c =

@@ -12,7 +12,7 @@ sets-init c = record { lowers = c.requires.found; each = tt }
 pub sets-preserved : goal.sets-preserved
 sets-preserved c =
     uppers-more c.args.range.now c.args.other.now c.args.sets.now c.sets.set-index c.set-item.result c.sets.best
-    c.lesser_at_end-best.result c.sets-test.true c.set-item.is c.sets.invariant c.lesser_at_end-best.ensures
+    c.try_end.new.best c.sets-test.true c.set-item.is c.sets.invariant c.try_end.ensures
 
 pub returns : goal.returns
 returns c =

@@ -64,11 +64,7 @@ pub(crate) fn admits<V: Asked>(set: &Span<End>, version: &V, comparisons: &mut C
 
 // The same of a prerelease.
 #[inline(never)]
-fn admits_prerelease<V: Asked>(
-    set: &Span<End>,
-    version: &V,
-    comparisons: &mut Comparisons,
-) -> bool
+fn admits_prerelease<V: Asked>(set: &Span<End>, version: &V, comparisons: &mut Comparisons) -> bool
     requires { IsPrerelease (V.asked version.now) }
     ensures answer { IsTrue result ↔ SetAdmits set.now (V.asked version.now) }
     ensures short { comparisons.new ≤ comparisons.old + 2 }

@@ -92,12 +92,7 @@ fn least_with_others<'a>(
 // Tries the candidates of a set, so that the best so far stays the least: where it begins, and in the triple that its
 // upper end opens.
 #[inline(always)]
-fn try_set<'a>(
-    best: &mut Option<Unbuilt<'a>>,
-    set: &'a Span<End>,
-    range: &Range,
-    other: &Range,
-)
+fn try_set<'a>(best: &mut Option<Unbuilt<'a>>, set: &'a Span<End>, range: &Range, other: &Range)
     requires { IsRangeSet set.now }
     ensures { IsSetTrial range.now other.now best.old set.now best.new }
 {
@@ -107,12 +102,7 @@ fn try_set<'a>(
 
 // The candidates where a set ends.
 #[inline(always)]
-fn try_end<'a>(
-    best: &mut Option<Unbuilt<'a>>,
-    set: &'a Span<End>,
-    range: &Range,
-    other: &Range,
-)
+fn try_end<'a>(best: &mut Option<Unbuilt<'a>>, set: &'a Span<End>, range: &Range, other: &Range)
     requires { IsRangeSet set.now }
     ensures { IsCutTrial range.now other.now best.old set.now.upper best.new }
 {
@@ -121,12 +111,7 @@ fn try_end<'a>(
 
 // The candidates at a cut: the least release after it and, at a prerelease, the least version after it.
 #[inline(always)]
-fn try_cut<'a>(
-    best: &mut Option<Unbuilt<'a>>,
-    cut: &'a Cut<End>,
-    range: &Range,
-    other: &Range,
-)
+fn try_cut<'a>(best: &mut Option<Unbuilt<'a>>, cut: &'a Cut<End>, range: &Range, other: &Range)
     requires { IsReadCut cut.now }
     ensures { IsCutTrial range.now other.now best.old cut.now best.new }
 {
@@ -145,10 +130,20 @@ fn try_before<'a>(best: &mut Option<Unbuilt<'a>>, end: &'a End, range: &Range, o
     if end.is_prerelease() {
         let least = Unbuilt::at_end(end).without_build();
         try_candidate(best, least, range, other);
-        try_release(best, Release::of(end.major, end.minor, end.patch), range, other);
+        try_release(
+            best,
+            Release::of(end.major, end.minor, end.patch),
+            range,
+            other,
+        );
         return;
     }
-    try_release(best, Release::of(end.major, end.minor, end.patch), range, other);
+    try_release(
+        best,
+        Release::of(end.major, end.minor, end.patch),
+        range,
+        other,
+    );
 }
 
 #[inline(never)]
@@ -159,10 +154,20 @@ fn try_after<'a>(best: &mut Option<Unbuilt<'a>>, end: &'a End, range: &Range, ot
     if end.is_prerelease() {
         let least = Unbuilt::after_end(end).without_build();
         try_candidate(best, least, range, other);
-        try_release(best, Release::of(end.major, end.minor, end.patch), range, other);
+        try_release(
+            best,
+            Release::of(end.major, end.minor, end.patch),
+            range,
+            other,
+        );
         return;
     }
-    try_release(best, Release::of(end.major, end.minor, end.patch + 1), range, other);
+    try_release(
+        best,
+        Release::of(end.major, end.minor, end.patch + 1),
+        range,
+        other,
+    );
 }
 
 // The least version of a triple that the upper end of a set opens, if the set admits it: none is below `1.2.3-0`.

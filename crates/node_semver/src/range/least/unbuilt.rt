@@ -7,6 +7,7 @@ ghost use Rattle.node_semver.specs.Comparison.{prerelease_cmp, version_cmp};
 ghost use Rattle.node_semver.specs.Identifier.{value_of, values_of};
 ghost use Rattle.node_semver.specs.IdentifierValue.{numeric};
 ghost use Rattle.node_semver.specs.Private.LeastViews.{IsInsideOrNone, with_zeros};
+ghost use Rattle.node_semver.specs.Version.{release};
 
 use crate::end::{End, Lent, Zero};
 use crate::identifier::copy::{copies_of, copies_with_zero};
@@ -130,8 +131,26 @@ impl<'a> Unbuilt<'a> {
         )
     }
 
-    // The version, with lists of its own.
+    // The version, with lists of its own. Most are releases without a build, which take none.
+    #[inline(always)]
     pub(crate) fn built(&self, alloc: Global) -> Result<Version, AllocError>
+        ensures { IfOk result (λ v. v ≡ self.now) }
+    {
+        if self.is_triple_alone() {
+            return Ok(Version::new(alloc, self.major, self.minor, self.patch));
+        }
+        self.built_with_lists(alloc)
+    }
+
+    #[inline(always)]
+    fn is_triple_alone(&self) -> bool
+        ensures { IsTrue result → release self.now.major self.now.minor self.now.patch ≡ self.now }
+    {
+        !self.zero && self.identifiers.is_empty() && self.build.is_empty()
+    }
+
+    #[inline(never)]
+    fn built_with_lists(&self, alloc: Global) -> Result<Version, AllocError>
         ensures { IfOk result (λ v. v ≡ self.now) }
     {
         let zero = Zero::new();

@@ -246,11 +246,22 @@ fn try_candidate<'a>(
 }
 
 // The same of a release, of which only triples are compared.
-#[inline(never)]
+#[inline(always)]
 fn try_release(best: &mut Option<Unbuilt<'_>>, candidate: Release, range: &Range, other: &Range)
     ensures { IsTrial range.now other.now best.old (release candidate.major candidate.minor candidate.patch) best.new }
 {
-    if candidate.is_below_best(best) && is_beyond(&candidate, range, other) {
+    if candidate.is_below_best(best) {
+        try_lower(best, candidate, range, other);
+    }
+}
+
+// The same of a release that is below the best so far.
+#[inline(never)]
+fn try_lower(best: &mut Option<Unbuilt<'_>>, candidate: Release, range: &Range, other: &Range)
+    requires { IsBelowBest best.old (release candidate.major candidate.minor candidate.patch) }
+    ensures { IsTrial range.now other.now best.old (release candidate.major candidate.minor candidate.patch) best.new }
+{
+    if is_beyond(&candidate, range, other) {
         *best = Some(Unbuilt::release(candidate.major, candidate.minor, candidate.patch));
     }
 }

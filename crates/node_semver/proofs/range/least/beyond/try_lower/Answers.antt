@@ -2,7 +2,7 @@ use Rattle.std.proofs.Common.{Some, refl, subst, sym}
 use Rattle.node_semver.specs.Private.BeyondViews.{IsTrial}
 use Rattle.node_semver.specs.Version.{VersionValue, release}
 use Rattle.node_semver.proofs.Least.BeyondSteps.{trial-found}
-use Rattle.node_semver.proofs.range.least.beyond.try_release.Goals as goal
+use Rattle.node_semver.proofs.range.least.beyond.try_lower.Goals as goal
 
 pub returns-then-is_beyond : goal.returns-then-is_beyond
 returns-then-is_beyond c =
@@ -10,5 +10,5 @@ returns-then-is_beyond c =
     let others = c.args.other.now in
     let tried = release c.args.candidate.major c.args.candidate.minor c.args.candidate.patch in
     subst (λ (v : VersionValue). IsTrial sets others c.args.best.now tried (Some v)) (sym c.release.ensures)
-    (trial-found sets others c.args.best.now tried refl (c.is_below_best.ensures.0 c.if-is_below_best.true)
+    (trial-found sets others c.args.best.now tried refl c.requires
     (c.is_beyond.ensures.0 c.if-is_beyond.true))

@@ -10,25 +10,14 @@ use Rattle.node_semver.specs.Comparison.{version_cmp}
 use Rattle.node_semver.specs.IdentifierValue.{IdentifierValue}
 use Rattle.node_semver.specs.Least.{AdmitsBeyond}
 use Rattle.node_semver.specs.Meaning.{SetAdmits}
-use Rattle.node_semver.specs.Version.{HasSameTriple, IsPrerelease, VersionValue, least_of, release, without_build}
+use Rattle.node_semver.specs.Version.{IsPrerelease, VersionValue, least_of, release, without_build}
 use Rattle.node_semver.specs.VersionSteps.{with_zero}
-use Rattle.node_semver.specs.Lemmas.Order.{Less-version, version_total}
+use Rattle.node_semver.specs.Lemmas.Order.{version_total}
 use Rattle.node_semver.specs.Private.BeyondViews.{AreSetsTried, AreUppersTried, IsBelowBest, IsCutTrial, IsCutTried, IsLeastOpened, IsOpenTrial, IsSetTrial, IsSetTried, IsShut, IsStep, IsTrial, IsTried, after_by, before_by, candidates_at}
 use Rattle.node_semver.proofs.Least.HighestCut.{all-map}
-use Rattle.node_semver.proofs.Versions.VersionSteps.{none-below_least}
 
 never-below_itself : (v : VersionValue) → ¬ (version_cmp v v ≡ Less)
 never-below_itself v less = cc (less, tied_itself version_total v)
-
--- where a prerelease is the least version of its triple, that is not below it
-pub least-shut : (p v : VersionValue) → p ≡ least_of p.major p.minor p.patch → HasSameTriple p v
-    → ¬ (version_cmp (least_of v.major v.minor v.patch) p ≡ Less)
-least-shut p v is same less = none-below_least least p.major p.minor p.patch
-    (record { major = sym same.major; minor = sym same.minor; patch = sym same.patch })
-    (Less-version least (least_of p.major p.minor p.patch) (subst (λ (w : VersionValue). version_cmp least w ≡ Less) is less))
-  where
-    least : VersionValue
-    least = least_of v.major v.minor v.patch
 
 module _ (sets others : List (Ends VersionValue)) where
   -- ---- one version more

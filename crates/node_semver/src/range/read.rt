@@ -26,7 +26,12 @@ pub(crate) fn read_range(alloc: Global, text: &str) -> Result<Range, SemverError
         let answer = barred_range(alloc, text);
         return answer;
     }
-    match read_set(alloc, skip_thrown_away(piece)) {
+    let words = skip_thrown_away(piece);
+    if words.is_empty() {
+        let answer = refused(alloc, text);
+        return answer;
+    }
+    match read_set(alloc, words) {
         Ok(Some(set)) => Ok(Range::of_set(set)),
         Ok(None) => {
             let answer = refused(alloc, text);

@@ -97,12 +97,12 @@ pub(crate) fn answer_range<'b, W: Write>(
     ensures never { (¬ IsErrOf result RunError.Read) × (¬ IsErrOf result RunError.Endless) }
 {
     let Some(text) = text_of(without_return(pair.range), pair.is_ascii) else {
-        return answer_versions(alloc, None, pair, answers, writer);
+        return answer_versions(alloc, None, &pair, answers, writer);
     };
     match &Range::parse(alloc, text) {
         Err(error) if is_want_of_memory(error) => Err(RunError::Memory),
-        Err(_) => answer_versions(alloc, None, pair, answers, writer),
-        Ok(range) => answer_versions(alloc, Some(range), pair, answers, writer),
+        Err(_) => answer_versions(alloc, None, &pair, answers, writer),
+        Ok(range) => answer_versions(alloc, Some(range), &pair, answers, writer),
     }
 }
 
@@ -113,21 +113,21 @@ pub(crate) fn answer_range<'b, W: Write>(
 fn answer_versions<'b, W: Write>(
     alloc: Global,
     range: Option<&Range>,
-    pair: Pair<'b>,
+    pair: &Pair<'b>,
     answers: &mut Answers,
     writer: &mut Gauge<W>,
 ) -> Result<&'b [u8], RunError>
-    requires one_line { HasNoNewline pair.range.now }
-    requires range { MatchOption range (IsBadRange (strip_carriage_return pair.range.now))
-        (λ r. IsReadAs (strip_carriage_return pair.range.now) (RangeAdmits r.now)) }
-    requires ascii { IsTrue pair.is_ascii → IsAscii pair.version.now × IsAscii pair.rest.now }
+    requires one_line { HasNoNewline pair.now.range.now }
+    requires range { MatchOption range (IsBadRange (strip_carriage_return pair.now.range.now))
+        (λ r. IsReadAs (strip_carriage_return pair.now.range.now) (RangeAdmits r.now)) }
+    requires ascii { IsTrue pair.now.is_ascii → IsAscii pair.now.version.now × IsAscii pair.now.rest.now }
     requires unfailed { ¬ HasFailed writer.old }
     ensures answers { IfOk result (λ rest. AnswersRange
-        pair.entry.range.now pair.entry.version.now pair.entry.rest.now rest.now
+        pair.now.range.now pair.now.version.now pair.now.rest.now rest.now
         (W.contents writer.old.inner) (W.contents writer.new.inner) answers.old answers.new) }
-    ensures fewer { IfOk result (λ rest. length rest.now ≤ length pair.entry.rest.now) }
-    ensures ascii { IfOk result (λ rest. IsTrue pair.entry.is_ascii → IsAscii rest.now) }
-    ensures part { OnErr result (AnswersRangeSome pair.entry.range.now pair.entry.version.now pair.entry.rest.now
+    ensures fewer { IfOk result (λ rest. length rest.now ≤ length pair.now.rest.now) }
+    ensures ascii { IfOk result (λ rest. IsTrue pair.now.is_ascii → IsAscii rest.now) }
+    ensures part { OnErr result (AnswersRangeSome pair.now.range.now pair.now.version.now pair.now.rest.now
         (W.contents writer.old.inner) (W.contents writer.new.inner) answers.old) }
     ensures write { IsErrOf result RunError.Write ↔ HasFailed writer.new }
     ensures never { (¬ IsErrOf result RunError.Read) × (¬ IsErrOf result RunError.Endless) }

@@ -97,17 +97,16 @@ pub(crate) fn is_begun<V: Asked>(cut: &Cut<End>, version: &V, comparisons: &mut 
     is_at_most(cut, version)
 }
 
-// The same, not counted. Most ends of sets stand just before a version.
+// The same, not counted.
 #[inline(always)]
 fn is_at_most<V: Asked>(cut: &Cut<End>, version: &V) -> bool
     ensures { IsTrue result ↔ IsCutAtMost version_cmp cut.now (Before (V.asked version.now)) }
 {
-    if let Cut::Before(end) = cut {
-        version.cmp_end(end).is_le()
-    } else if let Cut::After(end) = cut {
-        version.cmp_end(end).is_lt()
-    } else {
-        matches!(cut, Cut::Start)
+    match cut {
+        Cut::Start => true,
+        Cut::Before(end) => version.cmp_end(end).is_le(),
+        Cut::After(end) => version.cmp_end(end).is_lt(),
+        Cut::End => false,
     }
 }
 

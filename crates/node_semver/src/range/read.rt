@@ -1,4 +1,6 @@
 //! How a range text is read: alternative after alternative, each by its words.
+ghost use Rattle.std.specs.Prelude.{IfErr, IsErr};
+ghost use Rattle.node_semver.specs.Error.{IsOutOfMemory};
 ghost use Rattle.node_semver.specs.Meaning.{IsRefused};
 ghost use Rattle.node_semver.specs.Private.RangeViews.{IsReadRange};
 
@@ -23,25 +25,25 @@ pub(crate) fn read_range(alloc: Global, text: &str) -> Result<Range, SemverError
 {
     let (piece, left) = next_piece(text.as_bytes());
     if left.is_some() {
-        let answer = barred_range(alloc, text);
-        return answer;
+        return with_bars(alloc, text);
     }
     let words = skip_thrown_away(piece);
     if words.is_empty() {
-        let answer = refused(alloc, text);
-        return answer;
+        return refusal(alloc, text);
     }
     match read_set(alloc, words) {
         Ok(Some(set)) => Ok(Range::of_set(set)),
-        Ok(None) => {
-            let answer = refused(alloc, text);
-            answer
-        }
-        Err(_) => {
-            let error = SemverError::out_of_memory(alloc);
-            Err(error)
-        }
+        Ok(None) => refusal(alloc, text),
+        Err(_) => no_memory(alloc),
     }
+}
+
+// The same as `barred_range`, whose place is then cleared where a text has bars, and nowhere else; so also below.
+#[inline(always)]
+fn with_bars(alloc: Global, text: &str) -> Result<Range, SemverError>
+    ensures { IsReadRange text.now result }
+{
+    barred_range(alloc, text)
 }
 
 // Alternative after alternative.
@@ -59,6 +61,24 @@ fn barred_range(alloc: Global, text: &str) -> Result<Range, SemverError>
         return Err(SemverError::out_of_memory(alloc));
     };
     Ok(range)
+}
+
+// The same as `refused`.
+#[inline(always)]
+fn refusal(alloc: Global, text: &str) -> Result<Range, SemverError>
+    requires { IsRefused text.now }
+    ensures { IsReadRange text.now result }
+{
+    refused(alloc, text)
+}
+
+// Memory ran out.
+#[inline(always)]
+fn no_memory(alloc: Global) -> Result<Range, SemverError>
+    ensures memory { IfErr result IsOutOfMemory }
+    ensures error { IsErr result }
+{
+    Err(SemverError::out_of_memory(alloc))
 }
 
 // No alternative gives a set.

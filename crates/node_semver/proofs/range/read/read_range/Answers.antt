@@ -46,8 +46,8 @@ words-none (b ∷ words) r is none =
 nothing-given : IsSetOfAlternative [] None
 nothing-given = merged-set [] None None ([], completes-end [] [] (completes-nothing []), refl) refl
 
-pub refused-answer-requires : goal.refused-answer-requires
-refused-answer-requires c =
+pub refusal-requires : goal.refusal-requires
+refusal-requires c =
     let piece = c.next_piece.result.0.now in
     let words = c.skip_thrown_away-words.result.now in
     let left : is_some c.next_piece.result.1 ≡ false = cc (c.is_some.ensures, c.if-is_some.false) in
@@ -58,8 +58,8 @@ refused-answer-requires c =
     none-read c.args.text.now piece divided (later-set piece words None c.skip_thrown_away-words.ensures
     (subst (λ (l : List ℕ). IsSetOfAlternative l None) (sym none) nothing-given))
 
-pub refused-answer-requires-in-Ok-None : goal.refused-answer-requires-in-Ok-None
-refused-answer-requires-in-Ok-None c =
+pub refusal-requires-in-Ok-None : goal.refusal-requires-in-Ok-None
+refusal-requires-in-Ok-None c =
     let piece = c.next_piece.result.0.now in
     let left : is_some c.next_piece.result.1 ≡ false = cc (c.is_some.ensures, c.if-is_some.false) in
     let divided : (piece, None) ≡ piece_at c.args.text.now =

@@ -1,5 +1,5 @@
 //! The least version that a range admits.
-ghost use Rattle.std.specs.Prelude.{◌≡◌, ◌↔◌, Some, IsTrue, IfOk, IfSome, IsNone};
+ghost use Rattle.std.specs.Prelude.{◌≡◌, ◌↔◌, Some, IsFalse, IsTrue, IfOk, IfSome, IsNone};
 ghost use Rattle.std.specs.List.{AllByRecursion};
 ghost use Rattle.node_semver.specs.Identifier.{values_of};
 ghost use Rattle.node_semver.specs.Least.{AdmitsNone, HasBuildOfFirst, IsLeastAdmitted};
@@ -102,24 +102,30 @@ fn least_of_sets(sets: &[Span<End>]) -> Option<Unbuilt<'_>>
 {
     let mut least = None;
     'sets: for set in sets {
-        least = lesser(least, least_of_set(set));
+        keep_lesser(&mut least, least_of_set(set));
     }
     least
 }
 
-// The lesser of two, and of equal ones the earlier.
+// The later one where it is the lesser. A set that begins at or above the least so far is passed by one comparison.
 #[inline(always)]
-fn lesser<'a>(earlier: Option<Unbuilt<'a>>, later: Option<Unbuilt<'a>>) -> Option<Unbuilt<'a>>
-    ensures { IsLesser earlier.entry later.entry result }
+fn keep_lesser<'a>(least: &mut Option<Unbuilt<'a>>, later: Option<Unbuilt<'a>>)
+    ensures { IsLesser least.old later.entry least.new }
 {
-    match (earlier, later) {
-        (Some(earlier), Some(later)) => Some(if later.is_below(&earlier) {
-            later
-        } else {
-            earlier
-        }),
-        (Some(one), None) | (None, Some(one)) => Some(one),
-        (None, None) => None,
+    if is_lesser(&later, least) {
+        *least = later;
+    }
+}
+
+#[inline(always)]
+fn is_lesser(later: &Option<Unbuilt<'_>>, least: &Option<Unbuilt<'_>>) -> bool
+    ensures taken { IsTrue result → IsLesser least.now later.now later.now }
+    ensures left { IsFalse result → IsLesser least.now later.now least.now }
+{
+    match (later, least) {
+        (Some(later), Some(least)) => later.is_below(least),
+        (Some(_), None) => true,
+        (None, _) => false,
     }
 }
 

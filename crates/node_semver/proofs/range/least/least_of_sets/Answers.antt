@@ -8,8 +8,8 @@ use Rattle.node_semver.proofs.range.least.least_of_sets.Goals as goal
 
 pub sets-preserved : goal.sets-preserved
 sets-preserved c =
-    taken-least c.args.sets.now c.sets.set-index c.set-item.result c.sets.least c.least_of_set.result c.lesser-least.result
-    c.sets-test.true c.set-item.is c.sets.invariant c.least_of_set.ensures c.lesser-least.ensures
+    taken-least c.args.sets.now c.sets.set-index c.set-item.result c.sets.least c.least_of_set.result c.keep_lesser.new.least
+    c.sets-test.true c.set-item.is c.sets.invariant c.least_of_set.ensures c.keep_lesser.ensures
 
 pub returns : goal.returns
 returns c =

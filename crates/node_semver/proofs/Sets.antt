@@ -14,3 +14,4 @@ pub mod TreeSets
 pub mod TreeAnswers
 pub mod RestUnique
 pub mod TreeUnique
+pub mod MergedSpans

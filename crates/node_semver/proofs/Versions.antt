@@ -1,5 +1,6 @@
 pub mod VersionReading
 pub mod OneReading
+pub mod LeadingTriple
 pub mod VersionAnswers
 pub mod VersionParse
 pub mod FaultReading

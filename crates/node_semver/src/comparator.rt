@@ -1,9 +1,9 @@
 //! Comparators: what one word of a range text asks of a version, and what several ask together.
-ghost use Rattle.std.specs.Prelude.{◌≡◌, ◌++◌, ◌∷◌, [], List, None};
+ghost use Rattle.std.specs.Prelude.{◌≡◌, ◌↔◌, ◌++◌, ◌∷◌, [], IsTrue, List, None};
 ghost use Rattle.semver_cuts.specs.Private.Merging.{IsEarlierLeast, IsLaterGreatest};
 ghost use Rattle.node_semver.specs.Comparator.{Comparator};
 ghost use Rattle.node_semver.specs.Comparison.{version_cmp};
-ghost use Rattle.node_semver.specs.Private.RangeViews.{IsMerged, IsSpanOf};
+ghost use Rattle.node_semver.specs.Private.RangeViews.{HasSpan, IsMerged, IsSpanOf};
 
 use crate::end::End;
 use semver_cuts::{Cut, Span};
@@ -76,11 +76,19 @@ impl Merged {
     pub(crate) fn into_set(self) -> Option<Span<End>>
         ensures { IsSpanOf self result }
     {
-        if self.found {
-            Span::new(self.lower, self.upper)
+        if self.has_cut() {
+            Some(Span::between(self.lower, self.upper))
         } else {
             None
         }
+    }
+
+    // Whether there are any, and a cut is common to all of them.
+    #[inline(always)]
+    fn has_cut(&self) -> bool
+        ensures { IsTrue result ↔ HasSpan self.now }
+    {
+        self.found && self.lower < self.upper
     }
 }
 

@@ -19,4 +19,4 @@ pub(crate) use identifiers::read_prerelease;
 pub(crate) use number::large_kind;
 pub(crate) use partial::{Partial, Shape, read_partial};
 pub(crate) use skip::{begins_clean, skip_blanks, skip_solid, skip_some_blanks};
-pub(crate) use triple::{read_extras, read_version};
+pub(crate) use triple::{read_after_triple, read_extras, read_leading_triple, read_version};

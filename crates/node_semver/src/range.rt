@@ -112,11 +112,7 @@ impl Range {
             Some((FullLead::Caret, major, minor, patch)) => Ok(caret_range(major, minor, patch)),
             Some((FullLead::Tilde, major, minor, patch)) => Ok(tilde_range(major, minor, patch)),
             Some((FullLead::Nothing, major, minor, patch)) => Ok(exact_range(major, minor, patch)),
-            None => {
-                // Held before it is answered: so no place is cleared for it where the text is a full version.
-                let answer = read_range(alloc, text);
-                answer
-            }
+            None => read_range(alloc, text),
         }
     }
 

@@ -1,9 +1,10 @@
 //! Which versions a set admits.
 ghost use Rattle.std.specs.Prelude.{◌≡◌, ◌≤◌, ◌+◌, ◌↔◌, IsTrue};
-ghost use Rattle.semver_cuts.specs.declared.cut.Cut.TheVariants.{Before};
+ghost use Rattle.semver_cuts.specs.declared.cut.Cut.TheVariants.{Before, Start};
 ghost use Rattle.semver_cuts.specs.Ends.{IsCutAtMost};
-ghost use Rattle.node_semver.specs.Comparison.{version_cmp};
+ghost use Rattle.node_semver.specs.Comparison.{prerelease_cmp, version_cmp};
 ghost use Rattle.node_semver.specs.Meaning.{HasOpenEnd, IsInside, Opens, SetAdmits};
+ghost use Rattle.node_semver.specs.Private.EndViews.{IsAtTriple};
 ghost use Rattle.node_semver.specs.Version.{IsPrerelease, VersionValue, release};
 
 use crate::end::End;
@@ -23,9 +24,9 @@ pub(crate) trait Asked {
         ensures minor { result.1 ≡ (asked self.now).minor }
         ensures patch { result.2 ≡ (asked self.now).patch };
 
-    // The order of an end and the version.
-    fn cmp_end(&self, end: &End) -> Ordering
-        ensures { result ≡ version_cmp end.now (asked self.now) };
+    // The order of what follows the triples of an end and of the version.
+    fn cmp_extras(&self, end: &End) -> Ordering
+        ensures { result ≡ prerelease_cmp end.now.pre_release (asked self.now).pre_release };
 }
 
 impl Asked for Version {
@@ -42,8 +43,11 @@ impl Asked for Version {
     }
 
     #[inline(always)]
-    fn cmp_end(&self, end: &End) -> Ordering {
-        end.cmp_version(self)
+    fn cmp_extras(&self, end: &End) -> Ordering {
+        if self.pre_release.is_empty() {
+            return end.cmp_release();
+        }
+        end.cmp_pre_release(&self.pre_release)
     }
 }
 
@@ -97,16 +101,49 @@ pub(crate) fn is_begun<V: Asked>(cut: &Cut<End>, version: &V, comparisons: &mut 
     is_at_most(cut, version)
 }
 
-// The same, not counted.
+// The same, not counted. Most cuts stand at an end, and most ends are told by their triples.
 #[inline(always)]
 fn is_at_most<V: Asked>(cut: &Cut<End>, version: &V) -> bool
     ensures { IsTrue result ↔ IsCutAtMost version_cmp cut.now (Before (V.asked version.now)) }
 {
     match cut {
+        Cut::Before(end) | Cut::After(end) => {
+            let (major, minor, patch) = version.triple();
+            if end.major != major {
+                return end.major < major;
+            }
+            if end.minor != minor {
+                return end.minor < minor;
+            }
+            if end.patch != patch {
+                return end.patch < patch;
+            }
+            is_at_most_in_triple(cut, version)
+        }
+        Cut::Start | Cut::End => is_start(cut),
+    }
+}
+
+// The same of a cut at an end with the version's triple.
+#[inline(always)]
+fn is_at_most_in_triple<V: Asked>(cut: &Cut<End>, version: &V) -> bool
+    requires { IsAtTriple cut.now (V.asked version.now) }
+    ensures { IsTrue result ↔ IsCutAtMost version_cmp cut.now (Before (V.asked version.now)) }
+{
+    match cut {
+        Cut::Before(end) => version.cmp_extras(end).is_le(),
+        Cut::After(end) => version.cmp_extras(end).is_lt(),
+        Cut::Start | Cut::End => is_start(cut),
+    }
+}
+
+#[inline]
+fn is_start(cut: &Cut<End>) -> bool
+    ensures { IsTrue result ↔ (cut.now ≡ Start) }
+{
+    match cut {
         Cut::Start => true,
-        Cut::Before(end) => version.cmp_end(end).is_le(),
-        Cut::After(end) => version.cmp_end(end).is_lt(),
-        Cut::End => false,
+        Cut::Before(_) | Cut::After(_) | Cut::End => false,
     }
 }
 

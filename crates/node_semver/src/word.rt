@@ -28,28 +28,15 @@ pub(crate) fn read_word(text: &[u8]) -> (WordEnds, &[u8])
     requires { BeginsWithNo is_blank text.now }
     ensures { word_seen result ≡ Reading.read_word text.now }
 {
-    match comparator_at(text) {
+    match some_comparator(text) {
         Some(word) => word,
         None => (nothing(), skip_solid(text)),
     }
 }
 
-// The same as `read_comparator`, where the first byte can begin a comparator.
-#[inline(always)]
-fn comparator_at(text: &[u8]) -> Option<(WordEnds, &[u8])>
-    requires { BeginsWithNo is_blank text.now }
-    ensures { some_word_seen result ≡ Reading.or_else (Reading.read_hyphen text.now) (Reading.read_simple text.now) }
-{
-    if begins_comparator(text) {
-        some_comparator(text)
-    } else {
-        None
-    }
-}
-
 // Whether the first byte can begin a comparator.
 #[inline(always)]
-fn begins_comparator(text: &[u8]) -> bool
+pub(crate) fn begins_comparator(text: &[u8]) -> bool
     requires { BeginsWithNo is_blank text.now }
     ensures { result ≡ false → None ≡ Reading.or_else (Reading.read_hyphen text.now) (Reading.read_simple text.now) }
 {
@@ -78,7 +65,7 @@ pub(crate) fn skip_thrown_away(text: &[u8]) -> &[u8]
     rest
 }
 
-// The same, whose place is then cleared where it is called, and nowhere else.
+// The same as `read_comparator`, whose place is then cleared where it is called, and nowhere else.
 #[inline(always)]
 fn some_comparator(text: &[u8]) -> Option<(WordEnds, &[u8])>
     requires { BeginsWithNo is_blank text.now }

@@ -10,8 +10,6 @@ mod near;
 mod placed;
 mod places;
 mod rest;
-#[cfg(test)]
-mod tests;
 mod walks;
 
 use crate::Cut;

@@ -76,5 +76,3 @@ impl<T: Ord> Ord for Cut<T> {
 }
 
 mod hash;
-#[cfg(test)]
-mod tests;

@@ -4,8 +4,6 @@ ghost use Rattle.semver_cuts.specs.Ends.{HoldsCut, IsCutAtMost, IsCutBelow, IsIn
 
 mod common;
 mod equality;
-#[cfg(test)]
-mod tests;
 
 use crate::Cut;
 use std::marker::Model;

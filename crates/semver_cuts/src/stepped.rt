@@ -41,6 +41,3 @@ pub trait Stepped: Ord {
     fn next(&self, alloc: Global) -> Result<Option<Self>, AllocError>
         ensures { is_value self.now → IfOk result (λ next. IfSome next (IsNext Self.cmp is_value self.now)) };
 }
-
-#[cfg(test)]
-mod tests;

@@ -1,25 +1,25 @@
 -- Partials, as the readers see them.
-use Rattle.std.proofs.Common.{◌≡◌, ◌≢◌, ◌<◌, ◌≤◌, ℕ, arith, ◌-◌, drop, get_or, length, take, false, true, List, [], ◌∷◌, Ok, Err, Option, Some, None, refl, sym, ap, ◌∙◌, inl, inr}
+use Rattle.std.proofs.Common.{◌≡◌, ◌≢◌, ◌<◌, ◌≤◌, ℕ, arith, ◌-◌, drop, get_or, length, take, false, true, List, [], ◌∷◌, Ok, Err, Option, Some, None, refl, sym, ap, ◌∙◌}
 use Rattle.std.specs.Borrow.{Bor}
 use Rattle.std.specs.Prelude.{◌==◌, Result}
 use Rattle.std.specs.Result.{result_ok}
 use Rattle.node_semver.specs.declared.TheConstants.{MAX_SAFE_INTEGER}
 use Rattle.node_semver.specs.declared.parse.fault.Fault.{Fault}
 use Rattle.node_semver.specs.Private.ReadingViews.{seen}
-use Rattle.std.proofs.lemmas.Bool.{cases_Bool, ne_eqb}
+use Rattle.std.proofs.lemmas.Bool.{ne_eqb}
 use Rattle.std.proofs.lemmas.List.{take_all}
-use Rattle.node_semver.specs.Characters.{BeginsWith, BeginsWithNo, dot, is_blank, is_digit, is_partial_mark, is_version_mark, is_x}
+use Rattle.node_semver.specs.Characters.{BeginsWith, BeginsWithNo, dot, is_blank, is_digit, is_partial_mark, is_x}
 use Rattle.node_semver.specs.Division.{IsCleanEnd}
 use Rattle.node_semver.specs.PartialText.{Partial, plain_partial}
 use Rattle.node_semver.specs.Private.RangeViews.{IsFullText}
 use Rattle.node_semver.specs.Version.{release}
-use Rattle.node_semver.specs.Private.Reading.{begins, read_dot, read_extras, read_number, read_triple, read_unmarked, read_version, rest_of, skip_one}
+use Rattle.node_semver.specs.Private.Reading.{read_dot, read_extras, read_number, read_triple, read_unmarked, read_version, rest_of, skip_one}
 use Rattle.node_semver.specs.Private.WordReading.{is_clean, read_component, read_components, read_from_minor, read_from_patch, read_partial, with_extras}
 use Rattle.node_semver.proofs.Texts.ExtrasReading.{extras-again}
 use Rattle.node_semver.proofs.Texts.NumberReading.{number-takes}
-use Rattle.node_semver.proofs.Texts.Prefixes.{begins-with}
+use Rattle.node_semver.proofs.Versions.LeadingTriple.{number-digit, version-begins}
 use Rattle.node_semver.proofs.Versions.VersionReading.{clean-ends_extras}
-use Rattle.node_semver.proofs.Texts.Characters.{digit-begins_no_x, digit-no_blank, digit-no_partial_mark, digit-no_version_mark}
+use Rattle.node_semver.proofs.Texts.Characters.{digit-begins_no_x, digit-no_blank, digit-no_partial_mark}
 
 -- a clean end, as it is tested
 pub clean-end : (text : List ℕ) → is_clean text ≡ true → IsCleanEnd text
@@ -154,14 +154,6 @@ no-component (b ∷ text) x digit = rw (x, digit) refl
 
 -- ---- full versions
 
--- a number begins with a digit
-number-digit : (text rest : List ℕ) (number : ℕ) → Ok (number, rest) ≡ read_number text → BeginsWith is_digit text
-unfolding read_number
-number-digit text rest number h = elim (cases_Bool (begins is_digit text)) [
-  | inl some ↦ begins-with is_digit text some
-  | inr none ↦ cc (rw none at h)
-]
-
 -- where a digit stands first, there is neither a mark nor a blank
 digit-begins : (text : List ℕ) → BeginsWith is_digit text → rest_of is_blank (skip_one is_partial_mark text) ≡ text
 unfolding rest_of skip_one
@@ -172,12 +164,6 @@ digit-begins (b ∷ text) digit = rw (digit-no_partial_mark b digit, digit-no_bl
 number-component : (text rest : List ℕ) (number : ℕ) → Ok (number, rest) ≡ read_number text
     → Some (Some number, rest) ≡ read_component text
 number-component text rest number h = component-number text rest number h (digit-begins_no_x text (number-digit text rest number h))
-
--- nor a mark of a version
-version-begins : (text : List ℕ) → BeginsWith is_digit text → rest_of is_blank (skip_one is_version_mark text) ≡ text
-unfolding rest_of skip_one
-version-begins [] digit = absurd digit
-version-begins (b ∷ text) digit = rw (digit-no_version_mark b digit, digit-no_blank (b ∷ text) digit) refl
 
 -- three numbers with dots between them are a version
 full-version : (text first second next third : List ℕ) (major minor patch : ℕ) → BeginsWith is_digit text

@@ -1,11 +1,14 @@
 -- What is seen of what stands after the triple of an end, and of identifiers that it lends.
 use Rattle.std.specs.Prelude.{List, [], ◌∷◌}
+use Rattle.semver_cuts.specs.declared.cut.Cut.{Cut}
+use Rattle.semver_cuts.specs.declared.cut.Cut.TheVariants.{After, Before, End, Start}
 use Rattle.node_semver.specs.Identifier.{values_of}
 use Rattle.node_semver.specs.IdentifierValue.{IdentifierValue, numeric}
 use Rattle.node_semver.specs.declared.end.lent.Lent.{Lent}
 use Rattle.node_semver.specs.declared.end.lent.Lent.TheVariants.{List as ListLent, Zero as ZeroLent}
 use Rattle.node_semver.specs.declared.end.Extras.{Extras}
 use Rattle.node_semver.specs.declared.end.Extras.TheVariants.{Lists, Nothing, Zero}
+use Rattle.node_semver.specs.Version.{HasSameTriple, VersionValue}
 
 -- the prerelease
 abbrev pub prerelease_seen : Extras → List IdentifierValue
@@ -23,3 +26,10 @@ build_seen (Lists lists) = values_of lists.value.build.items
 abbrev pub lent_seen : Lent → List IdentifierValue
 lent_seen (ListLent identifiers) = values_of identifiers.now
 lent_seen ZeroLent = numeric 0 ∷ []
+
+-- the cut stands at a version of the same triple
+abbrev pub IsAtTriple : Cut VersionValue → VersionValue → Type 0
+IsAtTriple (Before v) w = HasSameTriple v w
+IsAtTriple (After v) w = HasSameTriple v w
+IsAtTriple Start w = ⊥
+IsAtTriple End w = ⊥

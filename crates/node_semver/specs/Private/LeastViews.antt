@@ -47,3 +47,7 @@ IsLesser None later lesser = lesser ≡ later
 IsLesser (Some e) None lesser = lesser ≡ Some e
 IsLesser (Some e) (Some l) lesser =
     ((version_cmp l e ≡ Less) × (lesser ≡ Some l)) ⊎ ((¬ (version_cmp l e ≡ Less)) × (lesser ≡ Some e))
+
+-- the least version of a set, or else the earlier version that it is not below
+abbrev pub IsKept : Ends VersionValue → Option VersionValue → Option VersionValue → Type 0
+IsKept set earlier lesser = (later : Option VersionValue) × (IsLeastOfSet set later × IsLesser earlier later lesser)

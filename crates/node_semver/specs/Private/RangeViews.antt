@@ -35,6 +35,11 @@ IsOneMerged before word after = (comparators : List Comparator) → IsMerged com
 abbrev pub merged_seen : Bool → Cut VersionValue → Cut VersionValue → Option Comparator
 merged_seen found lower upper = if found then Some (span_between lower upper) else None
 
+-- comparators came, and a cut is common to all of them
+abbrev pub HasSpan : Option Comparator → Type 0
+HasSpan None = ⊥
+HasSpan (Some merged) = HoldsCut version_cmp merged
+
 -- the span of merged comparators, or none where there are none or no cut lies between their ends
 abbrev pub IsSpanOf : Option Comparator → Option (Ends VersionValue) → Type 0
 IsSpanOf None span = span ≡ None

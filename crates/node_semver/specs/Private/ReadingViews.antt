@@ -1,13 +1,14 @@
 -- What is seen of what the private readers answer.
-use Rattle.std.specs.Prelude.{◌≡◌, ◌-◌, ◌<◌, ◌⊎◌, ℕ, Bool, true, List, [], ◌∷◌}
+use Rattle.std.specs.Prelude.{◌≡◌, ◌-◌, ◌<◌, ◌≤◌, ◌⊎◌, ℕ, Bool, true, List, [], ◌∷◌}
 use Rattle.std.specs.Prelude.{drop, length, Result, Ok, Err, IsOk, codes}
 use Rattle.node_semver.specs.Version.{VersionValue}
+use Rattle.node_semver.specs.declared.TheConstants.{MAX_LENGTH}
 use Rattle.std.specs.Borrow.{Bor}
-use Rattle.node_semver.specs.Characters.{is_digit, is_identifier_character, dot}
+use Rattle.node_semver.specs.Characters.{BeginsWith, is_digit, is_identifier_character, dot}
 use Rattle.node_semver.specs.Error.{IsOutOfMemory, IsRefusalAt, Kind, context, max_length, other, out_of_memory}
 use Rattle.node_semver.specs.Fault.{IsFault, too_large}
 use Rattle.node_semver.specs.NumberText.{number_of}
-use Rattle.node_semver.specs.Private.Reading.{Read, rest_of, begins, prefix_of}
+use Rattle.node_semver.specs.Private.Reading.{Read, rest_of, begins, prefix_of, read_triple}
 use Rattle.std.specs.declared.vec.Vec.{Vec}
 use Rattle.std.specs.declared.alloc.Global.{Global}
 use Rattle.node_semver.specs.Identifier.{values_of}
@@ -90,3 +91,12 @@ IsMemoryOr text f = IsWantOfMemory f ⊎ IsFault text (kind_in text f) (length t
 pub record IsErrorOf (text : List ℕ) (f : Fault) (e : SemverError) : Type 0 where
   pub memory : IsWantOfMemory f → IsOutOfMemory e
   pub fault : IsOutOfMemory e ⊎ IsRefusalAt text (kind_in text f) (length text - left_of f) e
+
+-- a triple at the very start of the text, and the rest
+pub record IsLeadingTriple (text : List ℕ) (triple : ℕ × ℕ × ℕ) (rest : List ℕ) : Type 0 where
+  pub digit : BeginsWith is_digit text
+  pub read : read_triple text ≡ Ok (triple, rest)
+
+-- the same of a text that is no longer than a version's, or the whole text where the triple is not read yet
+abbrev pub IsBegun : List ℕ → ℕ × ℕ × ℕ → List ℕ → Type 0
+IsBegun text triple rest = (IsLeadingTriple text triple rest × (length text ≤ MAX_LENGTH)) ⊎ (rest ≡ text)

@@ -6,9 +6,9 @@ ghost use Rattle.node_semver.specs.Comparison.{prerelease_cmp, version_cmp};
 ghost use Rattle.node_semver.specs.Identifier.{values_of};
 ghost use Rattle.node_semver.specs.Lemmas.Order.{version_total};
 
+use crate::Identifier;
 use crate::end::{End, Extras, Zero};
 use crate::version::order::cmp_prereleases;
-use crate::{Identifier, Version};
 use std::cmp::Ordering;
 
 impl PartialEq for End {
@@ -86,26 +86,6 @@ impl End {
         )
     }
 
-    // The order of the end and a version. That of a release is told by the triples, but where they are equal.
-    #[inline(always)]
-    pub(crate) fn cmp_version(&self, version: &Version) -> Ordering
-        ensures { result ≡ version_cmp self.now version.now }
-    {
-        if self.major != version.major {
-            return self.major.cmp(&version.major);
-        }
-        if self.minor != version.minor {
-            return self.minor.cmp(&version.minor);
-        }
-        if self.patch != version.patch {
-            return self.patch.cmp(&version.patch);
-        }
-        if version.pre_release.is_empty() {
-            return self.cmp_release();
-        }
-        self.cmp_pre_release(&version.pre_release)
-    }
-
     // The order of the end and the release of its triple.
     #[inline(always)]
     pub(crate) fn cmp_release(&self) -> Ordering
@@ -118,8 +98,9 @@ impl End {
         }
     }
 
+    // The order of the end and a prerelease of its triple.
     #[inline(never)]
-    fn cmp_pre_release(&self, identifiers: &[Identifier]) -> Ordering
+    pub(crate) fn cmp_pre_release(&self, identifiers: &[Identifier]) -> Ordering
         ensures { result ≡ prerelease_cmp self.now.pre_release (values_of identifiers.now) }
     {
         let zero = Zero::new();

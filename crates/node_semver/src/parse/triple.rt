@@ -1,7 +1,7 @@
-ghost use Rattle.std.specs.Prelude.{◌≡◌, IfOk, IsOk, []};
+ghost use Rattle.std.specs.Prelude.{◌≡◌, ◌<◌, IfOk, IfSome, IsOk, [], length};
 ghost use Rattle.node_semver.specs.Characters.{is_blank, is_version_mark};
 ghost use Rattle.node_semver.specs.Private.Reading as Reading;
-ghost use Rattle.node_semver.specs.Private.ReadingViews.{Gives, IsPlainOk, dot_seen, extras_seen, seen, version_seen};
+ghost use Rattle.node_semver.specs.Private.ReadingViews.{Gives, IsBegun, IsLeadingTriple, IsPlainOk, dot_seen, extras_seen, seen, version_seen};
 
 use crate::parse::Fault;
 use crate::parse::identifiers::{read_build, read_prerelease};
@@ -52,6 +52,15 @@ fn read_minor_and_patch(major: u64, text: &[u8]) -> Result<((u64, u64, u64), &[u
     let rest = read_dot(rest)?;
     let (patch, rest) = read_number(rest)?;
     Ok(((major, minor, patch), rest))
+}
+
+// `1.2.3` and `-alpha` of `1.2.3-alpha`: three numbers at the very start
+#[inline(always)]
+pub(crate) fn read_leading_triple(text: &[u8]) -> Option<((u64, u64, u64), &[u8])>
+    ensures { IfSome result (λ t. IsLeadingTriple text.now t.0 t.1.now) }
+{
+    let (major, rest) = read_number(text).ok()?;
+    read_minor_and_patch(major, rest).ok()
 }
 
 // `1.2.3-alpha+5` of 1 and `.2.3-alpha+5 <2.0.0`
@@ -118,4 +127,21 @@ pub(crate) fn read_version(alloc: Global, text: &[u8]) -> Result<(Version, &[u8]
 {
     let (major, rest) = read_major(text)?;
     read_from_major(alloc, major, rest)
+}
+
+// The same, where the triple is read already.
+#[inline(always)]
+pub(crate) fn read_after_triple<'a>(
+    alloc: Global,
+    text: &'a [u8],
+    triple: (u64, u64, u64),
+    rest: &'a [u8],
+) -> Result<(Version, &'a [u8]), Fault>
+    requires begun { IsBegun text.now triple rest.now }
+    requires read { length rest.now < length text.now }
+    ensures read { Gives version_seen result (Reading.read_version text.now) }
+    ensures plain { IsPlainOk result (Reading.read_version text.now) }
+{
+    let _length = text.len();
+    read_extended(alloc, triple, rest)
 }

@@ -3,7 +3,7 @@ ghost use Rattle.std.specs.Prelude.{◌≡◌, ◌↔◌, Some, IsFalse, IsTrue,
 ghost use Rattle.std.specs.List.{AllByRecursion};
 ghost use Rattle.node_semver.specs.Identifier.{values_of};
 ghost use Rattle.node_semver.specs.Least.{AdmitsNone, HasBuildOfFirst, IsLeastAdmitted};
-ghost use Rattle.node_semver.specs.Private.LeastViews.{IsLeastOfSet, IsLeastOfSets, IsLeastOfTriple, IsLesser};
+ghost use Rattle.node_semver.specs.Private.LeastViews.{IsKept, IsLeastOfSet, IsLeastOfSets, IsLeastOfTriple, IsLesser};
 ghost use Rattle.node_semver.specs.RangeSets.{IsRangeSet};
 ghost use Rattle.node_semver.specs.Version.{release};
 
@@ -102,12 +102,54 @@ fn least_of_sets(sets: &[Span<End>]) -> Option<Unbuilt<'_>>
 {
     let mut least = None;
     'sets: for set in sets {
-        keep_lesser(&mut least, least_of_set(set));
+        keep_least(&mut least, set);
     }
     least
 }
 
-// The later one where it is the lesser. A set that begins at or above the least so far is passed by one comparison.
+// The least version of the set, where it is below the least so far. Most sets begin before it: such a set is passed by
+// one comparison where it begins at or above the least so far.
+#[inline(always)]
+fn keep_least<'a>(least: &mut Option<Unbuilt<'a>>, set: &'a Span<End>)
+    requires { IsRangeSet set.now }
+    ensures { IsKept set.now least.old least.new }
+{
+    match set.lower() {
+        Cut::Before(end) => keep_lesser_end(least, end),
+        Cut::Start | Cut::After(_) | Cut::End => keep_least_inside(least, set),
+    }
+}
+
+#[inline(always)]
+fn keep_lesser_end<'a>(least: &mut Option<Unbuilt<'a>>, end: &'a End)
+    ensures { IsLesser least.old (Some end.now) least.new }
+{
+    if is_end_lesser(end, least) {
+        *least = Some(Unbuilt::at_end(end));
+    }
+}
+
+#[inline(always)]
+fn is_end_lesser(end: &End, least: &Option<Unbuilt<'_>>) -> bool
+    ensures taken { IsTrue result → IsLesser least.now (Some end.now) (Some end.now) }
+    ensures left { IsFalse result → IsLesser least.now (Some end.now) least.now }
+{
+    match least {
+        Some(least) => least.is_above(end),
+        None => true,
+    }
+}
+
+// The same of a set that does not begin before a version.
+#[inline(never)]
+fn keep_least_inside<'a>(least: &mut Option<Unbuilt<'a>>, set: &'a Span<End>)
+    requires { IsRangeSet set.now }
+    ensures { IsKept set.now least.old least.new }
+{
+    keep_lesser(least, least_of_set(set));
+}
+
+// The later one where it is the lesser.
 #[inline(always)]
 fn keep_lesser<'a>(least: &mut Option<Unbuilt<'a>>, later: Option<Unbuilt<'a>>)
     ensures { IsLesser least.old later.entry least.new }

@@ -1,7 +1,7 @@
-ghost use Rattle.std.specs.Prelude.{◌≡◌, ◌⊎◌, ◌≤◌, [], IfOk, IfErr, IfSome, IsOk, length};
+ghost use Rattle.std.specs.Prelude.{◌≡◌, ◌⊎◌, ◌≤◌, ◌<◌, [], IfOk, IfErr, IsOk, length};
 ghost use Rattle.node_semver.specs.Error.{IsOutOfMemory, kind_of};
 ghost use Rattle.node_semver.specs.Fault.{IsFaultOf};
-ghost use Rattle.node_semver.specs.Private.ReadingViews.{IsErrorOf, IsMemoryOr, kind_in};
+ghost use Rattle.node_semver.specs.Private.ReadingViews.{IsBegun, IsErrorOf, IsMemoryOr, kind_in};
 ghost use Rattle.node_semver.specs.Print.{version_text};
 ghost use Rattle.node_semver.specs.ReadingBack.{HasText, VersionReadsBack};
 ghost use Rattle.node_semver.specs.declared.TheConstants.{MAX_LENGTH};
@@ -46,6 +46,7 @@ impl Version {
     /// # Source
     ///
     /// SemVer 2.0.0, sections 2, 9 and 10; the Rust crate `node-semver` 2.2.0.
+    #[inline(always)]
     pub fn parse(alloc: Global, text: &str) -> Result<Version, SemverError>
         ensures found { IfOk result (λ v. IsVersionText text.now v) }
         ensures only { (v : VersionValue) → IsVersionText text.now v → IsReadAs v result }
@@ -59,30 +60,127 @@ impl Version {
             → length text.now ≤ MAX_LENGTH → IsReadAs v result }
     {
         match whole_triple(text.as_bytes()) {
-            Some((major, minor, patch)) => Ok(Version::new(alloc, major, minor, patch)),
-            None => {
-                // Held before it is answered: so no place is cleared for it where the text is three numbers alone.
-                let answer = version_in_parts(alloc, text);
-                answer
-            }
+            Ok((major, minor, patch)) => Ok(Version::new(alloc, major, minor, patch)),
+            Err((triple, rest)) => version_in_parts(alloc, text, triple, rest),
         }
     }
 }
 
-// The numbers of `1.2.3`, which is the whole text and no longer than a version's.
+// The numbers of `1.2.3`, which is the whole text and no longer than a version's; else what is read of it: three
+// numbers and the rest, or nothing yet.
 #[inline(always)]
-fn whole_triple(text: &[u8]) -> Option<(u64, u64, u64)>
-    ensures { IfSome result (λ t. IsVersionText text.now (release t.0 t.1 t.2)) }
+fn whole_triple(text: &[u8]) -> Result<(u64, u64, u64), ((u64, u64, u64), &[u8])>
+    ensures whole { IfOk result (λ t. IsVersionText text.now (release t.0 t.1 t.2)) }
+    ensures begun { IfErr result (λ begun. IsBegun text.now begun.0 begun.1.now) }
 {
     if text.len() > MAX_LENGTH {
-        return None;
+        return Err(((0, 0, 0), text));
     }
-    parse::read_full_triple(text)
+    match parse::read_leading_triple(text) {
+        Some((triple, [])) => Ok(triple),
+        Some(begun) => Err(begun),
+        None => Err(((0, 0, 0), text)),
+    }
 }
 
-// The version that any text is.
+// The version that any text is, of which the triple may be read already.
+//
+// What is out of line is called through a function that is not, so that the place of its answer is cleared where it is
+// called, and nowhere else; so also below.
+#[inline(always)]
+fn version_in_parts(
+    alloc: Global,
+    text: &str,
+    triple: (u64, u64, u64),
+    rest: &[u8],
+) -> Result<Version, SemverError>
+    requires { IsBegun text.now triple rest.now }
+    ensures found { IfOk result (λ v. IsVersionText text.now v) }
+    ensures fault { IfErr result (λ e. IsOutOfMemory e ⊎ IsFaultOf text.now e) }
+    ensures plain { (v : VersionValue) → IsVersionText text.now v → v.pre_release ≡ []
+        → v.build ≡ [] → IsOk result }
+{
+    if rest.len() < text.len() {
+        after_triple(alloc, text, triple, rest)
+    } else {
+        from_start(alloc, text)
+    }
+}
+
+// The same of a text whose triple is read.
+#[inline(always)]
+fn after_triple(
+    alloc: Global,
+    text: &str,
+    triple: (u64, u64, u64),
+    rest: &[u8],
+) -> Result<Version, SemverError>
+    requires begun { IsBegun text.now triple rest.now }
+    requires read { length rest.now < length text.now }
+    ensures found { IfOk result (λ v. IsVersionText text.now v) }
+    ensures fault { IfErr result (λ e. IsOutOfMemory e ⊎ IsFaultOf text.now e) }
+    ensures plain { (v : VersionValue) → IsVersionText text.now v → v.pre_release ≡ []
+        → v.build ≡ [] → IsOk result }
+{
+    version_after_triple(alloc, text, triple.0, triple.1, triple.2, rest)
+}
+
 #[inline(never)]
-fn version_in_parts(alloc: Global, text: &str) -> Result<Version, SemverError>
+fn version_after_triple(
+    alloc: Global,
+    text: &str,
+    major: u64,
+    minor: u64,
+    patch: u64,
+    rest: &[u8],
+) -> Result<Version, SemverError>
+    requires begun { IsBegun text.now (major, minor, patch) rest.now }
+    requires read { length rest.now < length text.now }
+    ensures found { IfOk result (λ v. IsVersionText text.now v) }
+    ensures fault { IfErr result (λ e. IsOutOfMemory e ⊎ IsFaultOf text.now e) }
+    ensures plain { (v : VersionValue) → IsVersionText text.now v → v.pre_release ≡ []
+        → v.build ≡ [] → IsOk result }
+{
+    match whole_after_triple(alloc, text.as_bytes(), (major, minor, patch), rest) {
+        Ok(version) => Ok(version),
+        Err(fault) => Err(refused(alloc, text, fault)),
+    }
+}
+
+#[inline(always)]
+fn whole_after_triple<'a>(
+    alloc: Global,
+    text: &'a [u8],
+    triple: (u64, u64, u64),
+    rest: &'a [u8],
+) -> Result<Version, Fault>
+    requires begun { IsBegun text.now triple rest.now }
+    requires read { length rest.now < length text.now }
+    ensures found { IfOk result (λ v. IsVersionText text.now v) }
+    ensures fault { IfErr result (IsMemoryOr text.now) }
+    ensures plain { (v : VersionValue) → IsVersionText text.now v → v.pre_release ≡ []
+        → v.build ≡ [] → IsOk result }
+{
+    match parse::read_after_triple(alloc, text, triple, rest) {
+        Ok((found, [])) => Ok(found),
+        Ok((_, rest)) => Err(Fault::LeftOver(rest.len())),
+        Err(fault) => Err(fault),
+    }
+}
+
+// The same of a text of which nothing is read.
+#[inline(always)]
+fn from_start(alloc: Global, text: &str) -> Result<Version, SemverError>
+    ensures found { IfOk result (λ v. IsVersionText text.now v) }
+    ensures fault { IfErr result (λ e. IsOutOfMemory e ⊎ IsFaultOf text.now e) }
+    ensures plain { (v : VersionValue) → IsVersionText text.now v → v.pre_release ≡ []
+        → v.build ≡ [] → IsOk result }
+{
+    version_of_text(alloc, text)
+}
+
+#[inline(never)]
+fn version_of_text(alloc: Global, text: &str) -> Result<Version, SemverError>
     ensures found { IfOk result (λ v. IsVersionText text.now v) }
     ensures fault { IfErr result (λ e. IsOutOfMemory e ⊎ IsFaultOf text.now e) }
     ensures plain { (v : VersionValue) → IsVersionText text.now v → v.pre_release ≡ []
@@ -90,14 +188,10 @@ fn version_in_parts(alloc: Global, text: &str) -> Result<Version, SemverError>
 {
     match whole(alloc, text.as_bytes()) {
         Ok(version) => Ok(version),
-        Err(fault) => {
-            let error = refusal(alloc, text, fault);
-            Err(error)
-        }
+        Err(fault) => Err(refusal(alloc, text, fault)),
     }
 }
 
-// The same, or the fault of the text.
 #[inline(always)]
 fn whole(alloc: Global, text: &[u8]) -> Result<Version, Fault>
     ensures found { IfOk result (λ v. IsVersionText text.now v) }
@@ -117,8 +211,7 @@ fn whole(alloc: Global, text: &[u8]) -> Result<Version, Fault>
 }
 
 // The error that tells a fault of this text.
-#[cold]
-#[inline(never)]
+#[inline(always)]
 fn refusal(alloc: Global, text: &str, fault: Fault) -> SemverError
     requires { IsMemoryOr text.now fault }
     ensures { IsErrorOf text.now fault result }
@@ -133,7 +226,27 @@ fn refusal(alloc: Global, text: &str, fault: Fault) -> SemverError
     SemverError::new(alloc, text, text.len().saturating_sub(left), kind)
 }
 
+#[inline(always)]
+fn refused(alloc: Global, text: &str, fault: Fault) -> SemverError
+    requires { IsMemoryOr text.now fault }
+    ensures { IsErrorOf text.now fault result }
+{
+    refusal_after_triple(alloc, text, fault)
+}
+
+// Few texts are refused after their triple.
+#[cold]
+#[inline(never)]
+fn refusal_after_triple(alloc: Global, text: &str, fault: Fault) -> SemverError
+    requires { IsMemoryOr text.now fault }
+    ensures { IsErrorOf text.now fault result }
+{
+    refusal(alloc, text, fault)
+}
+
 // The kind for the number that is too large where so many bytes are left.
+#[cold]
+#[inline(never)]
 fn large_kind_at(text: &[u8], left: usize) -> SemverErrorKind
     requires { IsMemoryOr text.now (TooLarge left) }
     ensures { kind_of result ≡ kind_in text.now (TooLarge left) }

@@ -1,4 +1,4 @@
-use Rattle.std.proofs.Common.{◌≡◌, ◌++◌, ◌∷◌, ◌<◌, ◌^◌, ◌∙◌, ◌-◌, ℕ, List, zero, suc, arith, sym, subst, ap, take, drop}
+use Rattle.std.proofs.Common.{◌++◌, ◌∷◌, ◌<◌, ◌^◌, ◌∙◌, ◌-◌, ℕ, List, zero, suc, arith, sym, subst, ap, take, drop}
 use Rattle.std.specs.Prelude.{IsAscii, IsUtf8, decimal}
 use Rattle.std.proofs.lemmas.Fmt.{IsAscii-decimal}
 use Rattle.std.proofs.lemmas.Str.{IsAscii-append, IsUtf8-from_ascii}

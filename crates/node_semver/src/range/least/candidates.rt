@@ -71,16 +71,7 @@ impl<'a> Asked for Unbuilt<'a> {
     }
 
     #[inline(always)]
-    fn cmp_end(&self, end: &End) -> Ordering {
-        if end.major != self.major {
-            return end.major.cmp(&self.major);
-        }
-        if end.minor != self.minor {
-            return end.minor.cmp(&self.minor);
-        }
-        if end.patch != self.patch {
-            return end.patch.cmp(&self.patch);
-        }
+    fn cmp_extras(&self, end: &End) -> Ordering {
         cmp_prereleases(end, self)
     }
 }
@@ -160,16 +151,7 @@ impl Asked for Release {
     }
 
     #[inline(always)]
-    fn cmp_end(&self, end: &End) -> Ordering {
-        if end.major != self.major {
-            return end.major.cmp(&self.major);
-        }
-        if end.minor != self.minor {
-            return end.minor.cmp(&self.minor);
-        }
-        if end.patch != self.patch {
-            return end.patch.cmp(&self.patch);
-        }
+    fn cmp_extras(&self, end: &End) -> Ordering {
         end.cmp_release()
     }
 }

@@ -117,6 +117,31 @@ impl<'a> Unbuilt<'a> {
         self.is_prerelease_below(other)
     }
 
+    // Whether the version at an end is below this one.
+    #[inline(always)]
+    pub(crate) fn is_above(&self, end: &End) -> bool
+        ensures { IsTrue result ↔ (version_cmp end.now self.now ≡ Less) }
+    {
+        if end.major != self.major {
+            return end.major < self.major;
+        }
+        if end.minor != self.minor {
+            return end.minor < self.minor;
+        }
+        if end.patch != self.patch {
+            return end.patch < self.patch;
+        }
+        self.is_prerelease_above(end)
+    }
+
+    // The same of two versions with one triple.
+    #[inline(never)]
+    fn is_prerelease_above(&self, end: &End) -> bool
+        ensures { IsTrue result ↔ (prerelease_cmp end.now.pre_release self.now.pre_release ≡ Less) }
+    {
+        Unbuilt::at_end(end).is_prerelease_below(self)
+    }
+
     // The same of two versions with one triple.
     #[inline(never)]
     pub(crate) fn is_prerelease_below(&self, other: &Unbuilt<'_>) -> bool

@@ -9,12 +9,13 @@ ghost use Rattle.node_semver.specs.Private.WordViews.{ends_seen, word_seen};
 
 use crate::comparator::Merged;
 use crate::end::End;
-use crate::parse::{skip_blanks, skip_some_blanks};
-use crate::word::{WordEnds, nothing, read_leading_hyphen, read_word};
+use crate::parse::{skip_blanks, skip_solid, skip_some_blanks};
+use crate::word::{WordEnds, begins_comparator, nothing, read_leading_hyphen, read_word};
 use semver_cuts::Span;
 use std::alloc::{AllocError, Global};
 
 // The set of an alternative, if it gives one.
+#[inline(always)]
 pub(crate) fn read_set(alloc: Global, text: &[u8]) -> Result<Option<Span<End>>, AllocError>
     ensures { IfOk result (λ set. IsSetOfAlternative text.now set) }
 {
@@ -30,7 +31,7 @@ fn merge_words(alloc: Global, text: &[u8], merged: &mut Merged) -> Result<(), Al
 {
     let mut rest = merge_leading(alloc, text, merged)?;
     while !rest.is_empty() {
-        rest = merge_word(alloc, rest, merged)?;
+        rest = merge_next(alloc, rest, merged)?;
     }
     Ok(())
 }
@@ -68,7 +69,27 @@ fn merge_leading_hyphen<'a>(
     Ok(skip_blanks(rest))
 }
 
-// The text without its first word, whose comparator is merged, and without the blanks behind that.
+// The text without its first word, whose comparator is merged, and without the blanks behind that. Where the first byte
+// begins no comparator, nothing is set up to read one.
+#[inline(always)]
+#[tactic(auto, unfolding(crate::specs::Private::WordReading::read_word))]
+fn merge_next<'a>(
+    alloc: Global,
+    text: &'a [u8],
+    merged: &mut Merged,
+) -> Result<&'a [u8], AllocError>
+    requires { BeginsWithNo is_blank text.now }
+    ensures rest { IfOk result (λ rest. rest.now ≡ rest_of is_blank (Reading.read_word text.now).1) }
+    ensures merged { OnOk result (IsOneMerged merged.old (Reading.read_word text.now).0 merged.new) }
+{
+    if begins_comparator(text) {
+        merge_word(alloc, text, merged)
+    } else {
+        Ok(skip_blanks(skip_solid(text)))
+    }
+}
+
+// The same of any word.
 #[inline(never)]
 fn merge_word<'a>(
     alloc: Global,

@@ -6,7 +6,7 @@ use Rattle.node_semver.proofs.range.Range.parse.Goals as goal
 
 -- alternative after alternative
 pub returns-in-None : goal.returns-in-None
-returns-in-None c = read-answer c.args.text.now c.read_range-answer.result c.read_range-answer.ensures
+returns-in-None c = read-answer c.args.text.now c.read_range.result c.read_range.ensures
 
 -- `^1.2.3`
 pub returns-in-Some-Caret-default-default-default : goal.returns-in-Some-Caret-default-default-default

@@ -8,8 +8,9 @@ use Rattle.node_semver.proofs.range.least.least_of_sets.Goals as goal
 
 pub sets-preserved : goal.sets-preserved
 sets-preserved c =
-    taken-least c.args.sets.now c.sets.set-index c.set-item.result c.sets.least c.least_of_set.result c.keep_lesser.new.least
-    c.sets-test.true c.set-item.is c.sets.invariant c.least_of_set.ensures c.keep_lesser.ensures
+    let kept = c.keep_least.ensures in
+    taken-least c.args.sets.now c.sets.set-index c.set-item.result c.sets.least kept.0 c.keep_least.new.least
+    c.sets-test.true c.set-item.is c.sets.invariant kept.1.0 kept.1.1
 
 pub returns : goal.returns
 returns c =

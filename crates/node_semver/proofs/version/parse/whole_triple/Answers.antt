@@ -1,5 +1,8 @@
-use Rattle.node_semver.proofs.Versions.VersionParse.{triple-version}
+use Rattle.node_semver.proofs.Versions.LeadingTriple.{leading-whole}
 use Rattle.node_semver.proofs.version.parse.whole_triple.Goals as goal
 
-pub returns : goal.returns
-returns c = triple-version c.args.text.now c.read_full_triple.result c.if-text-gt-MAX_LENGTH.false c.read_full_triple.ensures
+pub returns-in-Some-default-empty-clause-whole : goal.returns-in-Some-default-empty-clause-whole
+returns-in-Some-default-empty-clause-whole c =
+    let found = c.in-Some-default-empty in
+    leading-whole c.args.text.now found.field-0-1.now found.triple c.if-text-gt-MAX_LENGTH.false found.ensures
+    found.len_below

@@ -1,10 +1,10 @@
-use Rattle.std.proofs.Common.{◌≡◌, ◌++◌, ℕ, List, [], None, false, refl, sym, ap, ◌∙◌, subst}
+use Rattle.std.proofs.Common.{◌≡◌, ℕ, List, None, false, refl, sym, subst}
 use Rattle.std.proofs.lemmas.List.{append-nil}
 use Rattle.node_semver.specs.Characters.{is_blank}
 use Rattle.node_semver.specs.Comparator.{Comparator}
-use Rattle.node_semver.specs.Private.RangeViews.{IsMerged, IsOneMerged}
-use Rattle.node_semver.specs.Private.Reading.{begins, rest_of}
-use Rattle.node_semver.specs.Private.WordReading.{Word, leading_or_none, read_right}
+use Rattle.node_semver.specs.Private.RangeViews.{IsMerged}
+use Rattle.node_semver.specs.Private.Reading.{begins}
+use Rattle.node_semver.specs.Private.WordReading.{leading_or_none, read_right}
 use Rattle.node_semver.proofs.Texts.Prefixes.{begins-with_no, rest_of-none}
 use Rattle.node_semver.proofs.range.read.alternative.merge_leading.Goals as goal
 

@@ -48,8 +48,8 @@ none-from_empty (x ∷ xs) r e f =
     let none : length (x ∷ xs) ≡ 0 = eqb-true (length (x ∷ xs)) 0 (sym e ∙ f) in
     absurd (omega arith)
 
-pub merge_word-requires : goal.merge_word-requires
-merge_word-requires c = c.loop-rest.invariant.solid
+pub merge_next-requires : goal.merge_next-requires
+merge_next-requires c = c.loop-rest.invariant.solid
 
 pub loop-rest-smaller : goal.loop-rest-smaller
 loop-rest-smaller c =

@@ -1,4 +1,4 @@
-use super::*;
+use semver_cuts::{Cut, Span};
 use std::hash::{DefaultHasher, Hash, Hasher};
 
 // The cuts of 3 and 5, lowest first.

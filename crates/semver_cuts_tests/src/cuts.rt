@@ -1,4 +1,5 @@
-use super::*;
+use semver_cuts::Cut;
+use std::cmp::Ordering;
 use std::hash::{DefaultHasher, Hash, Hasher};
 
 fn ordering_of<T: Ord>(first: &T, second: &T) -> Ordering {

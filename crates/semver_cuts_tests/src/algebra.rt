@@ -1,9 +1,9 @@
 ghost use Rattle.std.specs.Prelude.{map};
 ghost use Rattle.semver_cuts.specs.Ends.{span_between};
 
-use super::*;
-use crate::Span;
-use std::alloc::Global;
+use semver_cuts::algebra::{Gather, Merged, Places, are_merged};
+use semver_cuts::{Cut, Span, covers, join};
+use std::alloc::{AllocError, Global};
 
 // The ends of the spans that were taken.
 #[derive(Drop)]
@@ -175,6 +175,20 @@ const JOIN_ROWS: &[(&[(u64, u64)], &[(u64, u64)])] = &[
     (&[], &[]),
 ];
 
+// Whether the merged spans are from before the first number up to before the second, of each pair.
+fn has_ends(merged: &Merged<'_, '_, u64>, joined: &[(u64, u64)]) -> bool {
+    if merged.len() != joined.len() {
+        return false;
+    }
+    for (number, (low, high)) in joined.iter().enumerate() {
+        let (lower, upper) = merged.ends(number);
+        if *lower != Cut::Before(*low) || *upper != Cut::Before(*high) {
+            return false;
+        }
+    }
+    true
+}
+
 #[test]
 fn joins_spans_and_keeps_their_places(rt: HostRuntime) {
     for (pairs, joined) in JOIN_ROWS {
@@ -182,16 +196,8 @@ fn joins_spans_and_keeps_their_places(rt: HostRuntime) {
         let list: &[Span<u64>] = &spans;
         let places = Places::of(rt.alloc(), list).expect(&rt, "memory");
         let copy = places.clone().expect(&rt, "memory");
-        assert!(rt; copy.as_slice() == places.as_slice());
-        let merged = Merged::with(list, &places);
-        assert!(rt; merged.len() == joined.len());
-        for number in 0..merged.len() {
-            let (lower, upper) = merged.ends(number);
-            let ends = joined
-                .get(number)
-                .map(|(low, high)| (Cut::Before(*low), Cut::Before(*high)));
-            assert!(rt; ends.is_some_and(|(low, high)| *lower == low && *upper == high));
-        }
+        assert!(rt; has_ends(&Merged::with(list, &places), joined));
+        assert!(rt; has_ends(&Merged::with(list, &copy), joined));
         let spans = join(rt.alloc(), spans).expect(&rt, "memory");
         let expected = spans_of(rt.alloc(), joined).expect(&rt, "memory");
         assert!(rt; spans == expected);

@@ -1,0 +1,14 @@
+use Rattle.std.proofs.Common.{[], ◌∷◌, subst, sym}
+use Rattle.node_semver.specs.Merging.{AreSetsOfText}
+use Rattle.node_semver.proofs.Ranges.RangeReading.{one-value}
+use Rattle.node_semver.proofs.range.read.range_of_words.Goals as goal
+
+pub of_set-requires : goal.of_set-requires
+of_set-requires c =
+    let sets = subst (λ t. AreSetsOfText t (c.in-Ok.set ∷ [])) c.as_bytes.ensures.value c.in-Ok.ensures.set in
+    (one-value c.args.text.now _ sets).each.0
+
+pub returns-in-Ok : goal.returns-in-Ok
+returns-in-Ok c =
+    let sets = subst (λ t. AreSetsOfText t (c.in-Ok.set ∷ [])) c.as_bytes.ensures.value c.in-Ok.ensures.set in
+    (subst (AreSetsOfText c.args.text.now) (sym c.of_set.ensures) sets, λ none. cc (none, c.of_set.ensures))

@@ -1,0 +1,46 @@
+ghost use Rattle.std.specs.Prelude.{◌<◌};
+
+use semver_cuts::Stepped;
+use std::alloc::{AllocError, Global};
+use std::test::Fail;
+
+// A number of eight bits.
+#[derive(Clone, Copy, Debug, PartialEq, Eq, PartialOrd, Ord)]
+struct Byte {
+    number: u8,
+}
+
+impl Stepped for Byte {
+    ghost is_value = { λ byte. byte.number < 256 };
+
+    fn known(&self) {
+        let _number = self.number;
+    }
+
+    fn least(_alloc: Global) -> Result<Byte, AllocError> {
+        Ok(Byte { number: 0 })
+    }
+
+    fn next(&self, _alloc: Global) -> Result<Option<Byte>, AllocError> {
+        Ok(self.number.checked_add(1).map(|number| Byte { number }))
+    }
+}
+
+// The third value of an order, if it has so many.
+fn third<T: Stepped + Drop>(alloc: Global) -> Result<Option<T>, AllocError> {
+    let least = T::least(alloc)?;
+    least.known();
+    match least.next(alloc)? {
+        Some(second) => second.next(alloc),
+        None => Ok(None),
+    }
+}
+
+#[test]
+fn steps_from_the_least_number(rt: HostRuntime) -> Result<(), Fail> {
+    let alloc = rt.alloc();
+    assert!(rt; third::<Byte>(alloc)? == Some(Byte { number: 2 }));
+    assert!(rt; Byte { number: 254 }.next(alloc)? == Some(Byte { number: 255 }));
+    assert!(rt; Byte { number: 255 }.next(alloc)?.is_none());
+    Ok(())
+}

@@ -1,12 +1,21 @@
 //! Texts that are written into one array, from its end.
 ghost use Rattle.std.specs.Prelude.{◌≡◌, ◌+◌, ◌≤◌, ◌∷◌, ◌++◌, decimal, drop};
 ghost use Rattle.node_semver.specs.Characters.{dot};
-ghost use Rattle.node_semver.specs.declared.line.TheConstants.{ROOM};
+ghost use Rattle.node_semver.specs.declared.line.TheConstants.{NUMBER_ROOM, ROOM, TRIPLE_ROOM};
 
 use itoa::write_digits;
 use std::str;
 
-// Room for two versions of four numbers of at most 20 digits, their dots and hyphens, their marks and a space.
+// What a number takes at most.
+pub(crate) const NUMBER_ROOM: usize = 20;
+
+// Three numbers and two dots.
+pub(crate) const TRIPLE_ROOM: usize = 62;
+
+// A triple, a hyphen and a number.
+pub(crate) const VERSION_ROOM: usize = 83;
+
+// Room for two versions, their marks and a space.
 pub(crate) const ROOM: usize = 176;
 
 // `1.2.3` as a text
@@ -32,8 +41,8 @@ fn put_triple_last(line: &mut [u8; ROOM], triple: (u64, u64, u64)) -> usize
 // `1.2.3`
 #[inline]
 pub(crate) fn put_triple(line: &mut [u8; ROOM], end: usize, triple: (u64, u64, u64)) -> usize
-    requires { (62 ≤ end) × (end ≤ ROOM) }
-    ensures place { (result ≤ end) × (end ≤ result + 62) }
+    requires { (TRIPLE_ROOM ≤ end) × (end ≤ ROOM) }
+    ensures place { (result ≤ end) × (end ≤ result + TRIPLE_ROOM) }
     ensures text { drop result line.new
         ≡ decimal triple.0 ++ (dot ∷ (decimal triple.1 ++ (dot ∷ (decimal triple.2 ++ drop end line.old)))) }
 {
@@ -48,8 +57,8 @@ pub(crate) fn put_triple(line: &mut [u8; ROOM], end: usize, triple: (u64, u64, u
 // A number's digits before the end.
 #[inline(always)]
 pub(crate) fn put_number(line: &mut [u8; ROOM], end: usize, n: u64) -> usize
-    requires { (20 ≤ end) × (end ≤ ROOM) }
-    ensures place { (result ≤ end) × (end ≤ result + 20) }
+    requires { (NUMBER_ROOM ≤ end) × (end ≤ ROOM) }
+    ensures place { (result ≤ end) × (end ≤ result + NUMBER_ROOM) }
     ensures text { drop result line.new ≡ decimal n ++ drop end line.old }
 {
     write_digits(n, line, end)

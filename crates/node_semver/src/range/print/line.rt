@@ -2,7 +2,7 @@
 ghost use Rattle.std.specs.Prelude.{◌≡◌, ◌+◌, ◌≤◌, ◌∷◌, ◌++◌, IfSome, codes, drop};
 ghost use Rattle.node_semver.specs.Print.{version_text};
 ghost use Rattle.node_semver.specs.RangePrint.{set_text};
-ghost use Rattle.node_semver.specs.declared.line.TheConstants.{ROOM};
+ghost use Rattle.node_semver.specs.declared.line.TheConstants.{ROOM, VERSION_ROOM};
 
 use crate::end::{End, Extras};
 use crate::line::{ROOM, put_byte, put_number, put_triple};
@@ -39,7 +39,7 @@ fn put_set(line: &mut [u8; ROOM], set: &Span<End>) -> Option<usize>
 // `>=1.2.3`
 #[inline]
 fn put_at_least(line: &mut [u8; ROOM], end: usize, version: &End) -> Option<usize>
-    requires { (85 ≤ end) × (end ≤ ROOM) }
+    requires { (VERSION_ROOM + 2 ≤ end) × (end ≤ ROOM) }
     ensures place { IfSome result (λ start. start ≤ end) }
     ensures text { IfSome result (λ start.
         drop start line.new ≡ codes ">=" ++ (version_text version.now ++ drop end line.old)) }
@@ -52,7 +52,7 @@ fn put_at_least(line: &mut [u8; ROOM], end: usize, version: &End) -> Option<usiz
 // `<2.0.0-0`, at the end of the line
 #[inline]
 fn put_below(line: &mut [u8; ROOM], version: &End) -> Option<usize>
-    ensures place { IfSome result (λ start. (92 ≤ start) × (start ≤ ROOM)) }
+    ensures place { IfSome result (λ start. (ROOM ≤ start + VERSION_ROOM + 1) × (start ≤ ROOM)) }
     ensures text { IfSome result (λ start. drop start line.new ≡ codes "<" ++ version_text version.now) }
 {
     let at = put_version(line, ROOM, version)?;
@@ -62,8 +62,8 @@ fn put_below(line: &mut [u8; ROOM], version: &End) -> Option<usize>
 // `1.2.3` and `1.2.3-0`
 #[inline]
 fn put_version(line: &mut [u8; ROOM], end: usize, version: &End) -> Option<usize>
-    requires { (83 ≤ end) × (end ≤ ROOM) }
-    ensures place { IfSome result (λ start. (start ≤ end) × (end ≤ start + 83)) }
+    requires { (VERSION_ROOM ≤ end) × (end ≤ ROOM) }
+    ensures place { IfSome result (λ start. (start ≤ end) × (end ≤ start + VERSION_ROOM)) }
     ensures text { IfSome result (λ start. drop start line.new ≡ version_text version.now ++ drop end line.old) }
 {
     let triple = (version.major, version.minor, version.patch);

@@ -42,7 +42,8 @@ InFormula (of_text t) cut = TextHasCut t cut
 InFormula (both one other) cut = InFormula one cut × InFormula other cut
 InFormula (without one other) cut = InFormula one cut × ¬ InFormula other cut
 
--- the sets of a tree in their order: those that its text writes, and none where it is refused; those that its sides have
+-- the sets of a tree in their order: those that its text writes, and none where it is refused; those that its sides
+-- have
 -- in common; or what the left side has and the right one has not. There are none where the left side has none, whatever
 -- the right one has
 abbrev pub AreSetsOfTree : Formula → List (Ends VersionValue) → Type 0
@@ -63,7 +64,8 @@ abbrev pub HasOneListOfSets : Formula → Type 0
 HasOneListOfSets tree = (one other : List (Ends VersionValue)) → AreSetsOfTree tree one → AreSetsOfTree tree other
     → one ≡ other
 
--- the sets of both sides admit a version, a prerelease too, where a set of each has it inside, and an end of one of these
+-- the sets of both sides admit a version, a prerelease too, where a set of each has it inside, and an end of one of
+-- these
 -- two opens its triple
 abbrev pub AdmitInPairs : Formula → Formula → VersionValue → Type 0
 AdmitInPairs one other v = (sets ones others : List (Ends VersionValue)) → AreSetsOfTree (both one other) sets

@@ -7,7 +7,8 @@ ghost use Rattle.node_semver.specs.Merging.{AdmitsTheSame, HasOneMerging, HasOne
 ghost use Rattle.node_semver.specs.SetTree.{AdmitInPairs, Formula, HasOneListOfSets};
 ghost use Rattle.node_semver.specs.Version.{VersionValue};
 ghost use Rattle.node_semver.specs.VersionLaws.{HasOneFault, HasOneReading, IsNeverBoth, IsReadOrFaulty};
-ghost use Rattle.node_semver.specs.RangeLaws.{HasWriting, IsOneHyphenRange, IsOnePartial, IsOneSimpleWord, IsWrittenOneWay};
+ghost use Rattle.node_semver.specs.RangeLaws.{HasWriting, IsOneHyphenRange, IsOnePartial, IsOneSimpleWord};
+ghost use Rattle.node_semver.specs.RangeLaws.{IsWrittenOneWay};
 
 pub use crate::error::{a_kind_is_always_copied, errors_are_equal_where_their_parts_are};
 pub use crate::json::json_errors_are_equal_where_their_parts_are;

@@ -4,7 +4,8 @@
 //! A [`Version`] and a [`Range`] are read from texts. A range is asked which versions it admits and which is the least
 //! of them, and two ranges what they have in common and what one has alone; a [`SetTree`] nests such questions.
 //!
-//! Each public call has a contract, and is proved to return an answer that meets it. The definitions that contracts name
+//! Each public call has a contract, and is proved to return an answer that meets it. The definitions that contracts
+//! name
 //! stand in `specs/`, and `docs/PROMISES.md` lists the clauses. [`laws`] has what follows from the definitions alone. A
 //! call that may take memory is passed the allocator, or holds it, and want of memory is an answer.
 //!

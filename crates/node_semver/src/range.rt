@@ -87,7 +87,8 @@ impl Range {
     /// Of lower ends at one cut, which differ in the build alone, the last stays, and of upper ends the first:
     /// `>=1.0.0+a >=1.0.0+b` is `>=1.0.0+b`.
     ///
-    /// The print of what was read is read as an equal range, where no set is unbounded at both sides and no number of an
+    /// The print of what was read is read as an equal range, where no set is unbounded at both sides and no number of
+    /// an
     /// end is above `MAX_SAFE_INTEGER`.
     ///
     /// # Errors
@@ -99,7 +100,8 @@ impl Range {
     ///
     /// # Memory
     ///
-    /// Takes the identifiers of the ends, one for each `-0`, and a list of the sets where the text has `||`. A word that
+    /// Takes the identifiers of the ends, one for each `-0`, and a list of the sets where the text has `||`. A word
+    /// that
     /// is thrown away takes none. An error holds a copy of the text.
     ///
     /// # Examples

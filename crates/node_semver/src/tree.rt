@@ -47,7 +47,8 @@ impl SetTree {
     /// left side and not the right one.
     ///
     /// The sets are those that [`Range::parse`] reads of a text, those that [`Range::intersect`] makes of `Both`, and
-    /// those that [`Range::difference`] makes of `Without`: so `1 || 1` has two, and `Both` of it and `1 || 1` has four.
+    /// those that [`Range::difference`] makes of `Without`: so `1 || 1` has two, and `Both` of it and `1 || 1` has
+    /// four.
     ///
     /// Which prereleases satisfy the range is read off its own sets. So `>=1` without `>=2.0.0-a` admits `2.0.0-0`, and
     /// `>=1` does not.

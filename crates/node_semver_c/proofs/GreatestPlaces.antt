@@ -1,5 +1,6 @@
 -- The greatest version of an array that a range admits, with its place, as one version more is looked at.
-use Rattle.std.proofs.Common.{◌≡◌, suc, ◌+◌, ◌<◌, ◌∙◌, ℕ, List, [], ◌∷◌, ◌++◌, Option, Some, None, length, get_or, take, refl, sym, ap, subst, inl, inr, Less, append_assoc, arith}
+use Rattle.std.proofs.Common.{◌≡◌, suc, ◌+◌, ◌<◌, ◌∙◌, ℕ, List, [], ◌∷◌, ◌++◌, Option, Some, None, length, get_or, take}
+use Rattle.std.proofs.Common.{refl, sym, ap, subst, inl, inr, Less, append_assoc, arith}
 use Rattle.std.proofs.lemmas.List.{take_more, length-take-le}
 use Rattle.std.specs.Cmp.{alike_right}
 use Rattle.semver_cuts.specs.Ends.{Ends}
@@ -23,7 +24,11 @@ module _ (sets : List (Ends VersionValue)) where
   NoneSame v w = RangeAdmits sets w → ¬ IsSame w v
 
   not-itself : (v : VersionValue) → ¬ IsBelow v v
-  not-itself v below = cc (version-Less v v below, version-Equal v v (record { triple = record { major = refl; minor = refl; patch = refl }; pre_release = refl }))
+  not-itself v below = cc (
+    version-Less v v below,
+    version-Equal v v
+        (record { triple = record { major = refl; minor = refl; patch = refl }; pre_release = refl }),
+  )
 
   -- the first that is admitted
   abbrev take-first : (done : List VersionValue) (v : VersionValue) → AdmitsNoneIn sets done → RangeAdmits sets v
@@ -34,9 +39,11 @@ module _ (sets : List (Ends VersionValue)) where
     parts = refl;
     admitted = admits;
     none_above = all-append (NoneAbove v) done (v ∷ [])
-        (all-map (λ (w : VersionValue). ¬ RangeAdmits sets w) (NoneAbove v) done (λ w not admitted. absurd (not admitted)) none)
+        (all-map (λ (w : VersionValue). ¬ RangeAdmits sets w) (NoneAbove v) done
+        (λ w not admitted. absurd (not admitted)) none)
         ((λ _. not-itself v), tt);
-    none_same = all-map (λ (w : VersionValue). ¬ RangeAdmits sets w) (NoneSame v) done (λ w not admitted. absurd (not admitted)) none;
+    none_same = all-map (λ (w : VersionValue). ¬ RangeAdmits sets w) (NoneSame v) done
+        (λ w not admitted. absurd (not admitted)) none;
   }
 
   -- one that is above the greatest so far
@@ -78,7 +85,8 @@ module _ (sets : List (Ends VersionValue)) where
   more-place done place v None found at none (inl (above, admits, is)) =
       subst (IsGreatestOrNone sets (done ++ v ∷ [])) (sym is) (take-first done v none admits, at)
   more-place done place v None found at none (inr (not, is)) = subst (IsGreatestOrNone sets (done ++ v ∷ [])) (sym is)
-      (all-append (λ (w : VersionValue). ¬ RangeAdmits sets w) done (v ∷ []) none ((λ admitted. not (tt, admitted)), tt))
+      (all-append (λ (w : VersionValue). ¬ RangeAdmits sets w) done (v ∷ []) none
+      ((λ admitted. not (tt, admitted)), tt))
   more-place done place v (Some best) found at greatest (inl (above, admits, is)) =
       subst (IsGreatestOrNone sets (done ++ v ∷ [])) (sym is) (take-above done best.1 v greatest.0 above admits, at)
   more-place done place v (Some best) found at greatest (inr (not, is)) =

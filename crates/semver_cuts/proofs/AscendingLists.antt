@@ -1,5 +1,6 @@
 -- Strictly ascending lists: one that leaves out only what gives nothing gives the same.
-use Rattle.std.proofs.Common.{◌≡◌, ◌⊎◌, ℕ, zero, suc, ◌<◌, List, [], ◌∷◌, ◌++◌, Ordering, Less, get_or, length, ap, sym, subst, refl, ◌∙◌, inl, inr, arith}
+use Rattle.std.proofs.Common.{◌≡◌, ◌⊎◌, ℕ, zero, suc, ◌<◌, List, [], ◌∷◌, ◌++◌, Ordering, Less, get_or, length, ap, sym}
+use Rattle.std.proofs.Common.{subst, refl, ◌∙◌, inl, inr, arith}
 use Rattle.std.specs.List.{AllByRecursion, Contains, flat_map}
 use Rattle.std.specs.List.Sorted.{IsStrictlySortedBy}
 use Rattle.std.specs.Cmp.{IsTotalOrder}
@@ -46,7 +47,8 @@ module _ {X Y : Type 0} {R : X → X → Ordering} (o : IsTotalOrder R) (f : X �
   not-both x y below above = not-itself x (o.trans x y x below above)
 
   -- what lies above the first is among the others
-  among-others : (x : X) (all ps : List X) → AllByRecursion (λ p. R x p ≡ Less) ps → AllByRecursion (IsAmong (x ∷ all)) ps
+  among-others : (x : X) (all ps : List X) → AllByRecursion (λ p. R x p ≡ Less) ps
+      → AllByRecursion (IsAmong (x ∷ all)) ps
       → AllByRecursion (IsAmong all) ps
   among-others x all [] above among = tt
   among-others x all (p ∷ ps) above among = (
@@ -73,7 +75,8 @@ module _ {X Y : Type 0} {R : X → X → Ordering} (o : IsTotalOrder R) (f : X �
   )
 
   -- of two such lists, of which one has all of the other but what gives nothing
-  pub given-alike : (all ps : List X) → IsStrictlySortedBy R all → IsStrictlySortedBy R ps → AllByRecursion (IsAmong all) ps
+  pub given-alike : (all ps : List X) → IsStrictlySortedBy R all → IsStrictlySortedBy R ps
+      → AllByRecursion (IsAmong all) ps
       → AllByRecursion (λ x. (f x ≡ []) ⊎ IsAmong ps x) all → flat_map f ps ≡ flat_map f all
   unfolding IsStrictlySortedBy
   given-alike [] [] every some among covered = refl
@@ -83,7 +86,8 @@ module _ {X Y : Type 0} {R : X → X → Ordering} (o : IsTotalOrder R) (f : X �
       given-alike all [] every.1 some tt covered.1 ∙ ap (λ l. l ++ flat_map f all) (sym nothing)
   given-alike (x ∷ all) (p ∷ ps) every some among covered = elim among.0 [
     | inl same ↦
-        let above : AllByRecursion (λ q. R x q ≡ Less) ps = subst (λ y. AllByRecursion (λ q. R y q ≡ Less) ps) same some.0 in
+        let above : AllByRecursion (λ q. R x q ≡ Less) ps = subst
+        (λ y. AllByRecursion (λ q. R y q ≡ Less) ps) same some.0 in
         let rest = given-alike all ps every.1 some.1 (among-others x all ps above among.1)
         (among-later x p ps all same every.0 covered.1) in
         λ i. f (same i) ++ rest i

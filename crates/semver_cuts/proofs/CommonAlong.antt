@@ -1,5 +1,6 @@
 -- What a span has in common with others that are apart: nothing with those before it and those behind it.
-use Rattle.std.proofs.Common.{◌≡◌, ◌<◌, ◌+◌, ℕ, Bool, List, [], ◌∷◌, ◌++◌, get_or, length, take, drop, ap, subst, sym, refl, ◌∙◌, inl, true, false, Ordering}
+use Rattle.std.proofs.Common.{◌≡◌, ◌<◌, ◌+◌, ℕ, Bool, List, [], ◌∷◌, ◌++◌, get_or, length, take, drop, ap, subst, sym}
+use Rattle.std.proofs.Common.{refl, ◌∙◌, inl, true, false, Ordering}
 use Rattle.std.proofs.lemmas.List.{append-nil, drop_more, take-append-drop}
 use Rattle.std.specs.Bool.{if◌then◌else◌}
 use Rattle.std.specs.Cmp.{IsTotalOrder}
@@ -20,15 +21,18 @@ use Rattle.semver_cuts.proofs.CommonSpans.{common_with-append}
 
 module _ {T : Type 0} {cmp : T → T → Ordering} (o : IsTotalOrder cmp) (one : Ends T) where
   pub nothing : (other : Ends T) → ¬ HaveCommonCut cmp one other → common_of cmp one other ≡ []
-  nothing other apart = common_of-cases o one other (λ spans. spans ≡ []) (λ shared. absurd (apart shared)) (λ none. refl)
+  nothing other apart = common_of-cases o one other (λ spans. spans ≡ []) (λ shared. absurd (apart shared))
+      (λ none. refl)
 
   pub before : (other : Ends T) → IsCutAtMost cmp other.upper one.lower → ¬ HaveCommonCut cmp one other
   before other ended shared =
-      below-not-at_most o shared.0 other.upper shared.2.upper (at_most_trans o other.upper one.lower shared.0 ended shared.1.lower)
+      below-not-at_most o shared.0 other.upper shared.2.upper
+      (at_most_trans o other.upper one.lower shared.0 ended shared.1.lower)
 
   pub behind : (other : Ends T) → IsCutAtMost cmp one.upper other.lower → ¬ HaveCommonCut cmp one other
   behind other begins shared =
-      below-not-at_most o shared.0 one.upper shared.1.upper (at_most_trans o one.upper other.lower shared.0 begins shared.2.lower)
+      below-not-at_most o shared.0 one.upper shared.1.upper
+      (at_most_trans o one.upper other.lower shared.0 begins shared.2.lower)
 
   from_by : (other : Ends T) (others : List (Ends T)) (r : Bool) → is_le (cut_cmp cmp other.upper one.lower) ≡ r
       → common_with cmp one (ending_above cmp one.lower others) ≡ common_with cmp one others
@@ -46,7 +50,8 @@ module _ {T : Type 0} {cmp : T → T → Ordering} (o : IsTotalOrder cmp) (one :
   common_with-from (other ∷ others) =
       from_by other others (is_le (cut_cmp cmp other.upper one.lower)) refl (common_with-from others)
 
-  all_behind : (others : List (Ends T)) → AllByRecursion (λ (other : Ends T). IsCutAtMost cmp one.upper other.lower) others
+  all_behind : (others : List (Ends T))
+      → AllByRecursion (λ (other : Ends T). IsCutAtMost cmp one.upper other.lower) others
       → common_with cmp one others ≡ []
   all_behind [] all = refl
   all_behind (other ∷ others) all =
@@ -54,7 +59,8 @@ module _ {T : Type 0} {cmp : T → T → Ordering} (o : IsTotalOrder cmp) (one :
 
   -- nor do those from one on that begins where the span ends or above
   pub common_with-until : (others : List (Ends T)) (k : ℕ) (other : Ends T) → k < length others
-      → other ≡ get_or others k other → AreApart cmp others → AreRising cmp others → IsCutAtMost cmp one.upper other.lower
+      → other ≡ get_or others k other → AreApart cmp others → AreRising cmp others
+      → IsCutAtMost cmp one.upper other.lower
       → common_with cmp one others ≡ common_with cmp one (take k others)
   common_with-until others k other lt e apart rising begins =
       let whole : others ≡ take k others ++ drop k others = sym (take-append-drop k others) in
@@ -64,7 +70,8 @@ module _ {T : Type 0} {cmp : T → T → Ordering} (o : IsTotalOrder cmp) (one :
       let apart' : AreApart cmp (other ∷ rest) =
       subst (AreApart cmp) here (apart-behind cmp (take k others) (drop k others) (subst (AreApart cmp) whole apart)) in
       let rising' : AreRising cmp (other ∷ rest) =
-      subst (AreRising cmp) here (rising-behind cmp (take k others) (drop k others) (subst (AreRising cmp) whole rising)) in
+      subst (AreRising cmp) here (rising-behind cmp (take k others) (drop k others)
+      (subst (AreRising cmp) whole rising)) in
       let above : AllByRecursion (λ (span : Ends T). IsCutAtMost cmp one.upper span.lower) rest =
       all_map (λ (span : Ends T). IsCutBelow cmp other.upper span.lower)
       (λ (span : Ends T). IsCutAtMost cmp one.upper span.lower)

@@ -1,5 +1,6 @@
 -- What spans have in common, gathered along two lists.
-use Rattle.std.proofs.Common.{◌≡◌, ◌<◌, ◌+◌, ℕ, Bool, List, [], ◌∷◌, ◌++◌, get_or, length, take, append_assoc, ap, sym, refl, ◌∙◌, true, false, Ordering}
+use Rattle.std.proofs.Common.{◌≡◌, ◌<◌, ◌+◌, ℕ, Bool, List, [], ◌∷◌, ◌++◌, get_or, length, take, append_assoc, ap, sym}
+use Rattle.std.proofs.Common.{refl, ◌∙◌, true, false, Ordering}
 use Rattle.std.proofs.lemmas.List.{append-nil, take_more}
 use Rattle.std.specs.Bool.{if◌then◌else◌}
 use Rattle.std.specs.Ordering.{is_lt}
@@ -51,7 +52,8 @@ module _ {T : Type 0} (cmp : T → T → Ordering) where
   -- one more of the first list
   pub common_spans-more : (ones others : List (Ends T)) (k : ℕ) (one : Ends T) → k < length ones
       → one ≡ get_or ones k one
-      → common_spans cmp (take (k + 1) ones) others ≡ common_spans cmp (take k ones) others ++ common_with cmp one others
+      → common_spans cmp (take (k + 1) ones) others
+      ≡ common_spans cmp (take k ones) others ++ common_with cmp one others
   common_spans-more ones others k one lt e =
       ap (λ l. common_spans cmp l others) (take_more ones k one lt)
       ∙ common_spans-append (take k ones) (get_or ones k one ∷ []) others
@@ -59,7 +61,8 @@ module _ {T : Type 0} (cmp : T → T → Ordering) where
       ∙ ap (λ l. common_spans cmp (take k ones) others ++ l) (append-nil (common_with cmp one others))
 
   -- what was gathered, with what one more of the others has in common
-  pub gathered_with-more : (old mid new : List (Ends T)) (one : Ends T) (others : List (Ends T)) (k : ℕ) (other : Ends T)
+  pub gathered_with-more : (old mid new : List (Ends T)) (one : Ends T) (others : List (Ends T)) (k : ℕ)
+      (other : Ends T)
       → k < length others → other ≡ get_or others k other → mid ≡ old ++ common_with cmp one (take k others)
       → new ≡ mid ++ common_of cmp one other → new ≡ old ++ common_with cmp one (take (k + 1) others)
   gathered_with-more old mid new one others k other lt e before more =

@@ -7,7 +7,8 @@ use Rattle.semver_cuts.specs.Common.{AreApart, IsInSome, IsWithin}
 use Rattle.semver_cuts.specs.Ends.{Ends, IsCutBelow, IsInSpan}
 use Rattle.semver_cuts.specs.Joined.{AreRising}
 use Rattle.semver_cuts.specs.Lemmas.Apart.{apart-above, apart-tail}
-use Rattle.semver_cuts.specs.Lemmas.Ends.{at_most-below, at_most-or-below, at_most_refl, at_most_trans, below-at_most, below-not-at_most, below_irrefl, below_trans}
+use Rattle.semver_cuts.specs.Lemmas.Ends.{at_most-below, at_most-or-below, at_most_refl, at_most_trans, below-at_most}
+use Rattle.semver_cuts.specs.Lemmas.Ends.{below-not-at_most, below_irrefl, below_trans}
 use Rattle.semver_cuts.specs.Lemmas.Merging.{all_both, all_map}
 
 module _ {T : Type 0} (cmp : T → T → Ordering) where
@@ -50,7 +51,8 @@ module _ {T : Type 0} {cmp : T → T → Ordering} (o : IsTotalOrder cmp) where
       let Above : Ends T → Type 0 = λ s. IsCutBelow cmp span.upper s.lower in
       let above : AllByRecursion Above spans = apart-above o span spans apart rising.1 in
       let over : AllByRecursion (λ (s : Ends T). IsCutBelow cmp span.upper s.upper) spans =
-      all_both Above (λ (s : Ends T). IsCutBelow cmp s.lower s.upper) (λ (s : Ends T). IsCutBelow cmp span.upper s.upper)
+      all_both Above (λ (s : Ends T). IsCutBelow cmp s.lower s.upper)
+      (λ (s : Ends T). IsCutBelow cmp span.upper s.upper)
       (λ s p q. below_trans o span.upper s.lower s.upper p q) spans above rising.1 in (
         ⊎_elim (λ h. below_irrefl o span.upper h.upper) (none-above cmp o span.upper spans above),
         all_both Free (λ (s : Ends T). IsCutBelow cmp span.upper s.upper)

@@ -1,5 +1,6 @@
 -- What the spans of a list are joined to: apart, with their cuts, and of equal ends the first of the list.
-use Rattle.std.proofs.Common.{◌≡◌, ◌↔◌, ℕ, ◌+◌, ◌≤◌, suc, List, [], ◌∷◌, map, Ordering, Equal, Bool, false, refl, sym, ap, subst, ◌∙◌, inl, inr, arith, add-one}
+use Rattle.std.proofs.Common.{◌≡◌, ◌↔◌, ℕ, ◌+◌, ◌≤◌, suc, List, [], ◌∷◌, map, Ordering, Equal, Bool, false, refl, sym}
+use Rattle.std.proofs.Common.{ap, subst, ◌∙◌, inl, inr, arith, add-one}
 use Rattle.std.specs.List.{AllByRecursion}
 use Rattle.std.specs.List.Sorted.{IsPermutation, IsSorted, IsSortedBy}
 use Rattle.std.specs.Ordering.{is_lt}
@@ -53,7 +54,8 @@ module _ {T : Type 0} {cmp : T → T → Ordering} (o : IsTotalOrder cmp) where
   among-some (q ∷ ps) cut p (inr there) h = inr (among-some ps cut p there h)
 
   some-moved : (ps qs : List (PlacedSpan T)) → IsPermutation ps qs → (cut : Cut T)
-      → IsInSome cmp (map (λ (p : PlacedSpan T). p.span) qs) cut → IsInSome cmp (map (λ (p : PlacedSpan T). p.span) ps) cut
+      → IsInSome cmp (map (λ (p : PlacedSpan T). p.span) qs) cut
+      → IsInSome cmp (map (λ (p : PlacedSpan T). p.span) ps) cut
   some-moved ps qs moves cut is =
       let h = some-among qs cut is in among-some ps cut h.0 (among-moved ps qs moves h.0 h.1) h.2
 
@@ -95,7 +97,11 @@ module _ {T : Type 0} {cmp : T → T → Ordering} (o : IsTotalOrder cmp) where
         after = rest.after;
         parts = ap (λ l. span ∷ l) rest.parts;
         end_of = rest.end_of;
-        earlier = (λ same. let low = least (record { span = span; place = n }) (inl refl) same in absurd (omega arith), rest.earlier);
+        earlier = (
+          λ same. let low = least (record { span = span; place = n }) (inl refl) same in absurd
+              (omega arith),
+          rest.earlier,
+        );
         later = rest.later;
       }
 

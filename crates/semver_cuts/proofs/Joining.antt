@@ -1,5 +1,7 @@
--- Spans that are joined in the order of their lower ends: what comes out is apart, has their cuts, and of equal ends the first.
-use Rattle.std.proofs.Common.{◌≡◌, ◌⊎◌, ◌↔◌, ℕ, ◌≤◌, List, [], ◌∷◌, map, Ordering, Equal, Bool, true, false, if◌then◌else◌, refl, sym, ap, subst, ◌∙◌, inl, inr, ⊎_elim, arith}
+-- Spans that are joined in the order of their lower ends: what comes out is apart, has their cuts, and of equal ends
+-- the first.
+use Rattle.std.proofs.Common.{◌≡◌, ◌⊎◌, ◌↔◌, ℕ, ◌≤◌, List, [], ◌∷◌, map, Ordering, Equal, Bool, true, false}
+use Rattle.std.proofs.Common.{if◌then◌else◌, refl, sym, ap, subst, ◌∙◌, inl, inr, ⊎_elim, arith}
 use Rattle.std.specs.List.{AllByRecursion}
 use Rattle.std.specs.Ordering.{is_lt}
 use Rattle.std.specs.Cmp.{IsTotalOrder}
@@ -11,9 +13,12 @@ use Rattle.semver_cuts.specs.Joined.{AreRising}
 use Rattle.semver_cuts.specs.Private.Joining.{ends_later, joined_from}
 use Rattle.semver_cuts.specs.Private.Placed.{PlacedSpan, placed_cmp}
 use Rattle.semver_cuts.specs.Lemmas.Apart.{apart-cons}
-use Rattle.semver_cuts.specs.Lemmas.Ends.{at_most-below, at_most-from_not_lt, at_most-or-below, at_most_refl, at_most_trans, below-at_most, below-from_lt, below-not-at_most, below_trans, cut_cmp-equal_back, cut_cmp-refl}
+use Rattle.semver_cuts.specs.Lemmas.Ends.{at_most-below, at_most-from_not_lt, at_most-or-below, at_most_refl}
+use Rattle.semver_cuts.specs.Lemmas.Ends.{at_most_trans, below-at_most, below-from_lt, below-not-at_most, below_trans}
+use Rattle.semver_cuts.specs.Lemmas.Ends.{cut_cmp-equal_back, cut_cmp-refl}
 use Rattle.semver_cuts.specs.Lemmas.Merging.{all_map}
-use Rattle.semver_cuts.proofs.PlacedOrder.{AreInOrder, EndsNoLater, IsAmong, all-among, later_by, lower-later, no_later-trans, no_later_by, place-later}
+use Rattle.semver_cuts.proofs.PlacedOrder.{AreInOrder, EndsNoLater, IsAmong, all-among, later_by, lower-later}
+use Rattle.semver_cuts.proofs.PlacedOrder.{no_later-trans, no_later_by, place-later}
 
 module _ {T : Type 0} {cmp : T → T → Ordering} (o : IsTotalOrder cmp) (In : PlacedSpan T → Type 0)
     (rises : (p : PlacedSpan T) → In p → IsCutBelow cmp p.span.lower p.span.upper) where
@@ -54,7 +59,8 @@ module _ {T : Type 0} {cmp : T → T → Ordering} (o : IsTotalOrder cmp) (In : 
         (below_trans o upper q.span.lower q.span.upper
         (all-among (λ (p : PlacedSpan T). IsCutBelow cmp upper p.span.lower) later q above there) (rises q in'))
         (inr same)))
-        (⊎_elim (λ below. absurd (below-not-at_most o q.span.upper upper below (inr (cut_cmp-equal_back o q.span.upper upper same))))
+        (⊎_elim (λ below. absurd (below-not-at_most o q.span.upper upper below
+        (inr (cut_cmp-equal_back o q.span.upper upper same))))
         (λ at. at.1))
         (run.done q in')),
   )
@@ -89,7 +95,8 @@ module _ {T : Type 0} {cmp : T → T → Ordering} (o : IsTotalOrder cmp) (In : 
         (λ below. inr (inl (below_trans o q.span.upper next.span.lower next.span.upper below (rises next in'))))
         (old q is);
     ahead = all_map (λ (q : PlacedSpan T). is_lt (placed_cmp cmp q next) ≡ false)
-        (λ (q : PlacedSpan T). IsCutAtMost cmp next.span.lower q.span.lower) (λ q h. lower-later o next q h) later order.0;
+        (λ (q : PlacedSpan T). IsCutAtMost cmp next.span.lower q.span.lower)
+        (λ q h. lower-later o next q h) later order.0;
   }
 
   -- ---- one span more
@@ -117,11 +124,13 @@ module _ {T : Type 0} {cmp : T → T → Ordering} (o : IsTotalOrder cmp) (In : 
         record {
           rising = (run.rising, rest.rising);
           apart = apart-cons cmp (span_between lower upper) entries
-              (all_map (λ (s : Ends T). IsCutAtMost cmp next.span.lower s.lower) (λ (s : Ends T). IsCutBelow cmp upper s.lower)
+              (all_map (λ (s : Ends T). IsCutAtMost cmp next.span.lower s.lower)
+              (λ (s : Ends T). IsCutBelow cmp upper s.lower)
               (λ s h. below-at_most o upper next.span.lower s.lower gap h) entries rest.from) rest.apart;
           from = (
             at_most_refl o lower,
-            all_map (λ (s : Ends T). IsCutAtMost cmp next.span.lower s.lower) (λ (s : Ends T). IsCutAtMost cmp lower s.lower)
+            all_map (λ (s : Ends T). IsCutAtMost cmp next.span.lower s.lower)
+                (λ (s : Ends T). IsCutAtMost cmp lower s.lower)
                 (λ s h. at_most_trans o lower next.span.lower s.lower run.ahead.0 h) entries rest.from,
           );
           lowers = (run.begins, rest.lowers);
@@ -151,7 +160,8 @@ module _ {T : Type 0} {cmp : T → T → Ordering} (o : IsTotalOrder cmp) (In : 
                 let e' = ap (λ (p : PlacedSpan T). p.place) e in omega arith,
               )))
               (λ there. inl there))
-              (λ done. inr (no_later-trans o upper next.span.upper place next.place q done ends_later)) (run.done q in');
+              (λ done. inr (no_later-trans o upper next.span.upper place next.place q done ends_later))
+              (run.done q in');
           ahead = run.ahead.1;
         }) in
         record {
@@ -162,11 +172,16 @@ module _ {T : Type 0} {cmp : T → T → Ordering} (o : IsTotalOrder cmp) (In : 
           uppers = rest.uppers;
           cuts = λ cut. (
             λ is. ⊎_elim
-                (λ h. ⊎_elim (λ past. inr (inl (record { lower = at_most_trans o next.span.lower upper cut touches past; upper = h.upper })))
+                (λ h. ⊎_elim (λ past. inr (inl
+                (record { lower = at_most_trans o next.span.lower upper cut touches past; upper = h.upper })))
                 (λ inside. inl (record { lower = h.lower; upper = inside })) (at_most-or-below o upper cut))
                 (λ h. inr (inr h)) ((rest.cuts cut).0 is),
             λ is. (rest.cuts cut).1 (⊎_elim
-                (λ h. inl (record { lower = h.lower; upper = below-at_most o cut upper next.span.upper h.upper higher }))
+                (λ h. inl (record {
+                  lower = h.lower;
+                  upper =
+                      below-at_most o cut upper next.span.upper h.upper higher;
+                }))
                 (⊎_elim
                 (λ h. inl (record { lower = at_most_trans o lower next.span.lower cut run.ahead.0 h.lower; upper = h.upper }))
                 (λ h. inr h)) is),
@@ -182,7 +197,8 @@ module _ {T : Type 0} {cmp : T → T → Ordering} (o : IsTotalOrder cmp) (In : 
           rising = run.rising;
           begins = run.begins;
           ends = run.ends;
-          done = λ q in'. ⊎_elim (⊎_elim (λ e. inr (subst (EndsNoLater o upper place) (sym e) no_later)) (λ there. inl there))
+          done = λ q in'. ⊎_elim (⊎_elim (λ e. inr (subst (EndsNoLater o upper place) (sym e) no_later))
+              (λ there. inl there))
               (λ done. inr done) (run.done q in');
           ahead = run.ahead.1;
         }) in

@@ -1,5 +1,6 @@
 -- Merged spans kept as places in a list: those of a sort are such places, and each names its span.
-use Rattle.std.proofs.Common.{◌≡◌, ◌≢◌, ℕ, zero, suc, ◌+◌, ◌<◌, List, [], ◌∷◌, ◌++◌, Bool, true, false, if◌then◌else◌, Ordering, drop, get_or, length, map, refl, sym, ap, subst, ◌∙◌, inl, arith, length-append}
+use Rattle.std.proofs.Common.{◌≡◌, ◌≢◌, ℕ, zero, suc, ◌+◌, ◌<◌, List, [], ◌∷◌, ◌++◌, Bool, true, false, if◌then◌else◌}
+use Rattle.std.proofs.Common.{Ordering, drop, get_or, length, map, refl, sym, ap, subst, ◌∙◌, inl, arith, length-append}
 use Rattle.std.specs.List.{AllByRecursion}
 use Rattle.std.specs.List.Sorted.{IsPermutation, IsSorted}
 use Rattle.std.specs.Ordering.{is_lt}
@@ -33,7 +34,8 @@ placed-in front (span ∷ spans) n e =
     let within : n < length (front ++ span ∷ spans) = omega (arith, length-append front (span ∷ spans)) in
     let next : length (front ++ span ∷ []) ≡ n + 1 = omega (arith, length-append front (span ∷ [])) in (
       (within, get_or_at front span spans (span_between Start End) n e),
-      subst (λ l. AllByRecursion (IsPlaced l) (placed_from (n + 1) spans)) at (placed-in (front ++ span ∷ []) spans (n + 1) next),
+      subst (λ l. AllByRecursion (IsPlaced l) (placed_from (n + 1) spans)) at
+          (placed-in (front ++ span ∷ []) spans (n + 1) next),
     )
 
 module _ {T : Type 0} (cmp : T → T → Ordering) (spans : List (Ends T)) where
@@ -48,12 +50,14 @@ module _ {T : Type 0} (cmp : T → T → Ordering) (spans : List (Ends T)) where
   map-if true ps qs ss ts e f = e
   map-if false ps qs ss ts e f = f
 
-  within-if : (b : Bool) (ps qs : List (ℕ × ℕ)) → AllByRecursion (AreWithin spans) ps → AllByRecursion (AreWithin spans) qs
+  within-if : (b : Bool) (ps qs : List (ℕ × ℕ)) → AllByRecursion (AreWithin spans) ps
+      → AllByRecursion (AreWithin spans) qs
       → AllByRecursion (AreWithin spans) (if b then ps else qs)
   within-if true ps qs p q = p
   within-if false ps qs p q = q
 
-  places-spans : (later : List (PlacedSpan T)) → AllByRecursion (IsPlaced spans) later → (first place : ℕ) (lower upper : Cut T)
+  places-spans : (later : List (PlacedSpan T)) → AllByRecursion (IsPlaced spans) later
+      → (first place : ℕ) (lower upper : Cut T)
       → (span_at spans first).lower ≡ lower → (span_at spans place).upper ≡ upper
       → map (span_of_places spans) (places_from cmp first upper place later) ≡ joined_from cmp lower upper place later
   places-spans [] placed first place lower upper e f = ap (λ s. s ∷ []) (span-at_places first place lower upper e f)
@@ -77,7 +81,8 @@ module _ {T : Type 0} (cmp : T → T → Ordering) (spans : List (Ends T)) where
       (places-spans later placed.1 first next.place lower next.span.upper e high)
       (places-spans later placed.1 first place lower upper e f))
 
-  places-within : (later : List (PlacedSpan T)) → AllByRecursion (IsPlaced spans) later → (first place : ℕ) (upper : Cut T)
+  places-within : (later : List (PlacedSpan T)) → AllByRecursion (IsPlaced spans) later
+      → (first place : ℕ) (upper : Cut T)
       → first < length spans → place < length spans
       → AllByRecursion (AreWithin spans) (places_from cmp first upper place later)
   places-within [] placed first place upper e f = ((e, f), tt)
@@ -102,7 +107,8 @@ module _ {T : Type 0} (cmp : T → T → Ordering) (spans : List (Ends T)) where
   if-some true ps qs p q = p
   if-some false ps qs p q = q
 
-  places-some : (later : List (PlacedSpan T)) (first place : ℕ) (upper : Cut T) → places_from cmp first upper place later ≢ []
+  places-some : (later : List (PlacedSpan T)) (first place : ℕ) (upper : Cut T)
+      → places_from cmp first upper place later ≢ []
   places-some [] first place upper = λ e. cc
   places-some (next ∷ later) first place upper =
       if-some (is_lt (cut_cmp cmp upper next.span.lower))
@@ -121,7 +127,8 @@ module _ {T : Type 0} {cmp : T → T → Ordering} (o : IsTotalOrder cmp) where
   none-joined (span ∷ spans) rising are = absurd ((are.cuts span.lower).1 (inl (first-cut o span rising.0)))
 
   -- the places of a sort, of spans that are not merged as they stand
-  pub order-places : (spans : List (Ends T)) → AreRising cmp spans → ¬ AreApart cmp spans → (order : List (PlacedSpan T))
+  pub order-places : (spans : List (Ends T)) → AreRising cmp spans → ¬ AreApart cmp spans
+      → (order : List (PlacedSpan T))
       → IsPermutation (placed_from 0 spans) order → IsSorted (placed_cmp cmp) order
       → IsPlacesOf cmp spans (places_in_order cmp order)
   order-places spans rising divided [] moves sorted =
@@ -146,7 +153,8 @@ module _ {T : Type 0} {cmp : T → T → Ordering} (o : IsTotalOrder cmp) where
 
 module _ {T : Type 0} (cmp : T → T → Ordering) where
   -- the merged span of a pair of places
-  pub merged-at : (spans : List (Ends T)) (pairs : List (ℕ × ℕ)) (k : ℕ) (d : ℕ × ℕ) (span : Ends T) → ¬ (length pairs ≡ 0)
+  pub merged-at : (spans : List (Ends T)) (pairs : List (ℕ × ℕ)) (k : ℕ) (d : ℕ × ℕ) (span : Ends T)
+      → ¬ (length pairs ≡ 0)
       → k < length (merged_spans spans pairs) → span ≡ span_of_places spans (get_or pairs k d)
       → drop k (merged_spans spans pairs) ≡ span ∷ drop (k + 1) (merged_spans spans pairs)
   merged-at spans [] k d span some within e = absurd (some refl)
@@ -159,7 +167,8 @@ module _ {T : Type 0} (cmp : T → T → Ordering) where
       ∙ ap (λ l. span ∷ l) (sym (drop-map f (k + 1) (p ∷ pairs)))
 
   -- each pair names two spans of the list
-  pub within-at : (spans : List (Ends T)) (pairs : List (ℕ × ℕ)) (k : ℕ) (d : ℕ × ℕ) → AllByRecursion (AreWithin spans) pairs
+  pub within-at : (spans : List (Ends T)) (pairs : List (ℕ × ℕ)) (k : ℕ) (d : ℕ × ℕ)
+      → AllByRecursion (AreWithin spans) pairs
       → k < length pairs → AreWithin spans (get_or pairs k d)
   within-at spans [] k d within low = absurd (omega arith)
   within-at spans (p ∷ pairs) zero d within low = within.0
@@ -193,17 +202,21 @@ module _ {T : Type 0} {cmp : T → T → Ordering} (o : IsTotalOrder cmp) (spans
     one-kept later above rises kept =
         let lower : (span_at new later.0).lower ≡ (span_at now later.0).lower =
         lowers later.0 (λ e. below_irrefl o (span_of_places spans pair).lower
-        (below_trans o (span_of_places spans pair).lower (span_of_places spans pair).upper (span_of_places spans pair).lower rising
+        (below_trans o (span_of_places spans pair).lower (span_of_places spans pair).upper
+        (span_of_places spans pair).lower rising
         (subst (λ k. IsCutBelow cmp (span_of_places spans pair).upper (span_at spans k).lower) e above))) in
         let upper : (span_at new later.1).upper ≡ (span_at now later.1).upper =
         uppers later.1 (λ e. below_irrefl o (span_of_places spans pair).upper
         (subst (λ k. IsCutBelow cmp (span_of_places spans pair).upper (span_at spans k).upper) e
-        (below_trans o (span_of_places spans pair).upper (span_of_places spans later).lower (span_of_places spans later).upper above rises))) in
+        (below_trans o (span_of_places spans pair).upper (span_of_places spans later).lower
+        (span_of_places spans later).upper above rises))) in
         (λ i. span_between (lower i) (upper i)) ∙ kept
 
     all-kept : (later : List (ℕ × ℕ))
-        → AllByRecursion (λ (s : Ends T). IsCutBelow cmp (span_of_places spans pair).upper s.lower) (map (span_of_places spans) later)
-        → AreRising cmp (map (span_of_places spans) later) → AllByRecursion (IsKept now) later → AllByRecursion (IsKept new) later
+        → AllByRecursion (λ (s : Ends T). IsCutBelow cmp (span_of_places spans pair).upper s.lower)
+        (map (span_of_places spans) later)
+        → AreRising cmp (map (span_of_places spans) later) → AllByRecursion (IsKept now) later
+        → AllByRecursion (IsKept new) later
     all-kept [] above rises kept = tt
     all-kept (p ∷ later) above rises kept = (one-kept p above.0 rises.0 kept.0, all-kept later above.1 rises.1 kept.1)
 
@@ -215,7 +228,8 @@ module _ {T : Type 0} {cmp : T → T → Ordering} (o : IsTotalOrder cmp) (spans
       → AllByRecursion (IsKept now) later → AllByRecursion (IsKept new) later
   later-kept now new pair later are lowers uppers kept =
       all-kept now new pair lowers uppers are.rising.0 later
-      (apart-above o (span_of_places spans pair) (map (span_of_places spans) later) are.apart are.rising.1) are.rising.1 kept
+      (apart-above o (span_of_places spans pair)
+      (map (span_of_places spans) later) are.apart are.rising.1) are.rising.1 kept
 
   pub itself-kept : (pairs : List (ℕ × ℕ)) → AllByRecursion (IsKept spans) pairs
   itself-kept [] = tt
@@ -237,7 +251,8 @@ module _ {T : Type 0} {cmp : T → T → Ordering} (o : IsTotalOrder cmp) (spans
     left : AreMerged cmp (map (span_of_places spans) (next ∷ drop (k + 1) pairs))
     left =
         merged-behind cmp (merged_spans spans pairs) k (map (span_of_places spans) (next ∷ drop (k + 1) pairs)) are
-        (ap (drop k) (some-map cmp spans pairs some) ∙ drop-map (span_of_places spans) k pairs ∙ ap (map (span_of_places spans)) here)
+        (ap (drop k) (some-map cmp spans pairs some) ∙ drop-map (span_of_places spans) k pairs ∙ ap
+        (map (span_of_places spans)) here)
 
     pub next-rising : IsCutBelow cmp (span_at now next.0).lower (span_at now next.1).upper
     next-rising = subst (λ (s : Ends T). IsCutBelow cmp s.lower s.upper) (sym kept'.0) left.rising.0

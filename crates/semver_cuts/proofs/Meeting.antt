@@ -1,6 +1,7 @@
 -- What is found along two lists in the order of their lower ends: each pair of spans that meet, and pairs of places
 -- of the two lists alone.
-use Rattle.std.proofs.Common.{◌≡◌, ◌⊎◌, ℕ, ◌+◌, ◌<◌, Bool, true, false, List, [], ◌∷◌, ◌++◌, ◌==◌, ◌&&◌, Ordering, drop, get_or, length, ap, sym, subst, refl, ◌∙◌, inl, inr, if◌then◌else◌}
+use Rattle.std.proofs.Common.{◌≡◌, ◌⊎◌, ℕ, ◌+◌, ◌<◌, Bool, true, false, List, [], ◌∷◌, ◌++◌, ◌==◌, ◌&&◌, Ordering, drop}
+use Rattle.std.proofs.Common.{get_or, length, ap, sym, subst, refl, ◌∙◌, inl, inr, if◌then◌else◌}
 use mathlib.Core.Bool.{true≢false}
 use Rattle.std.specs.List.{AllByRecursion, dedup, flat_map}
 use Rattle.std.specs.List.Sorted.{IsPermutation, IsSorted, IsStrictlySortedBy}
@@ -19,22 +20,28 @@ use Rattle.semver_cuts.specs.declared.cut.Cut.TheVariants.{Start, End}
 use Rattle.semver_cuts.specs.Ends.{Ends, IsCutAtMost, IsCutBelow, span_between}
 use Rattle.semver_cuts.specs.CommonSpans.{common_of, common_spans}
 use Rattle.semver_cuts.specs.Places.{span_at}
-use Rattle.semver_cuts.specs.Private.Meeting.{AreBothWithin, AreMeeting, beginning_from, common_at, pairs_along, pairs_until, places_by}
+use Rattle.semver_cuts.specs.Private.Meeting.{AreBothWithin, AreMeeting, beginning_from, common_at, pairs_along}
+use Rattle.semver_cuts.specs.Private.Meeting.{pairs_until, places_by}
 use Rattle.semver_cuts.specs.Private.Placed.{PlacedSpan, placed_cmp, placed_from}
-use Rattle.semver_cuts.specs.Lemmas.Ends.{at_most-below, at_most-or-below, at_most_trans, below-from_lt, below-not-at_most, lt-from_below}
+use Rattle.semver_cuts.specs.Lemmas.Ends.{at_most-below, at_most-or-below, at_most_trans, below-from_lt}
+use Rattle.semver_cuts.specs.Lemmas.Ends.{below-not-at_most, lt-from_below}
 use Rattle.semver_cuts.specs.Lemmas.Lists.{all-append}
-use Rattle.semver_cuts.proofs.AscendingLists.{among-from_contains, among-left, among-right, contains-from_among, given-alike}
+use Rattle.semver_cuts.proofs.AscendingLists.{among-from_contains, among-left, among-right, contains-from_among}
+use Rattle.semver_cuts.proofs.AscendingLists.{given-alike}
 use Rattle.semver_cuts.proofs.CommonAlong.{before, behind, nothing}
 use Rattle.semver_cuts.proofs.JoinedSpans.{all-moved, among-moved, map-placed, sorted-order}
 use Rattle.semver_cuts.proofs.Kept.{IsPlaced, placed-in}
-use Rattle.semver_cuts.proofs.MeetingPairs.{every, every-ascending, every-common, every-each, every-has, pair_cmp, pair_total, places-rise}
+use Rattle.semver_cuts.proofs.MeetingPairs.{every, every-ascending, every-common, every-each, every-has, pair_cmp}
+use Rattle.semver_cuts.proofs.MeetingPairs.{pair_total, places-rise}
 use Rattle.semver_cuts.proofs.PlacedOrder.{AreInOrder, IsAmong, all-among, lower-later}
 
 -- ---- from a cut on
 
 module _ {T : Type 0} {cmp : T → T → Ordering} (o : IsTotalOrder cmp) where
-  from-by : (P : List (PlacedSpan T) → Type 0) (cut : Cut T) (next : PlacedSpan T) (later : List (PlacedSpan T)) (r : Bool)
-      → is_lt (cut_cmp cmp next.span.lower cut) ≡ r → (r ≡ true → P (beginning_from cmp cut later)) → (r ≡ false → P (next ∷ later))
+  from-by : (P : List (PlacedSpan T) → Type 0) (cut : Cut T) (next : PlacedSpan T) (later : List (PlacedSpan T))
+      (r : Bool)
+      → is_lt (cut_cmp cmp next.span.lower cut) ≡ r → (r ≡ true → P (beginning_from cmp cut later))
+      → (r ≡ false → P (next ∷ later))
       → P (if r then beginning_from cmp cut later else next ∷ later)
   from-by P cut next later true h gone stays = gone refl
   from-by P cut next later false h gone stays = stays refl
@@ -57,10 +64,12 @@ module _ {T : Type 0} {cmp : T → T → Ordering} (o : IsTotalOrder cmp) where
       → IsAmong spans p
   from-some cut [] p is = elim is [ ]
   from-some cut (next ∷ later) p is =
-      from-by (λ l. IsAmong l p → IsAmong (next ∷ later) p) cut next later (is_lt (cut_cmp cmp next.span.lower cut)) refl
+      from-by (λ l. IsAmong l p → IsAmong (next ∷ later) p) cut next later
+      (is_lt (cut_cmp cmp next.span.lower cut)) refl
       (λ h there. inr (from-some cut later p there)) (λ h there. there) is
 
-  from-ordered : (cut : Cut T) (spans : List (PlacedSpan T)) → AreInOrder cmp spans → AreInOrder cmp (beginning_from cmp cut spans)
+  from-ordered : (cut : Cut T) (spans : List (PlacedSpan T)) → AreInOrder cmp spans
+      → AreInOrder cmp (beginning_from cmp cut spans)
   from-ordered cut [] order = tt
   from-ordered cut (next ∷ later) order =
       from-by (AreInOrder cmp) cut next later (is_lt (cut_cmp cmp next.span.lower cut)) refl
@@ -69,22 +78,27 @@ module _ {T : Type 0} {cmp : T → T → Ordering} (o : IsTotalOrder cmp) where
   module _ (swapped : Bool) where
     -- ---- up to a cut
 
-    until-by : (P : List (ℕ × ℕ) → Type 0) (place : ℕ) (cut : Cut T) (next : PlacedSpan T) (later : List (PlacedSpan T)) (r : Bool)
+    until-by : (P : List (ℕ × ℕ) → Type 0) (place : ℕ) (cut : Cut T) (next : PlacedSpan T) (later : List (PlacedSpan T))
+        (r : Bool)
         → is_lt (cut_cmp cmp next.span.lower cut) ≡ r
-        → (r ≡ true → P (places_by swapped place next.place ∷ pairs_until cmp swapped place cut later)) → (r ≡ false → P [])
+        → (r ≡ true → P (places_by swapped place next.place ∷ pairs_until cmp swapped place cut later))
+        → (r ≡ false → P [])
         → P (if r then places_by swapped place next.place ∷ pairs_until cmp swapped place cut later else [])
     until-by P place cut next later true h more over = more refl
     until-by P place cut next later false h more over = over refl
 
     -- what begins below the cut comes
-    until-has : (place : ℕ) (cut : Cut T) (spans : List (PlacedSpan T)) (p : PlacedSpan T) → AreInOrder cmp spans → IsAmong spans p
-        → IsCutBelow cmp p.span.lower cut → IsAmong (pairs_until cmp swapped place cut spans) (places_by swapped place p.place)
+    until-has : (place : ℕ) (cut : Cut T) (spans : List (PlacedSpan T)) (p : PlacedSpan T) → AreInOrder cmp spans
+        → IsAmong spans p
+        → IsCutBelow cmp p.span.lower cut
+        → IsAmong (pairs_until cmp swapped place cut spans) (places_by swapped place p.place)
     until-has place cut [] p order is below = elim is [ ]
     until-has place cut (next ∷ later) p order is below =
         let first : IsCutBelow cmp next.span.lower cut = elim is [
           | inl same ↦ subst (λ (q : PlacedSpan T). IsCutBelow cmp q.span.lower cut) same below
           | inr there ↦ at_most-below o next.span.lower p.span.lower cut
-              (lower-later o next p (all-among (λ (q : PlacedSpan T). is_lt (placed_cmp cmp q next) ≡ false) later p order.0 there)) below
+              (lower-later o next p (all-among
+              (λ (q : PlacedSpan T). is_lt (placed_cmp cmp q next) ≡ false) later p order.0 there)) below
         ] in
         until-by (λ l. IsAmong l (places_by swapped place p.place)) place cut next later
         (is_lt (cut_cmp cmp next.span.lower cut)) refl
@@ -106,7 +120,8 @@ module _ {T : Type 0} {cmp : T → T → Ordering} (o : IsTotalOrder cmp) where
     -- ---- along two lists
 
     -- the pair of two spans of which the second begins in the first
-    along-has : (ones others : List (PlacedSpan T)) (one other : PlacedSpan T) → AreInOrder cmp ones → AreInOrder cmp others
+    along-has : (ones others : List (PlacedSpan T)) (one other : PlacedSpan T) → AreInOrder cmp ones
+        → AreInOrder cmp others
         → IsAmong ones one → IsAmong others other → IsCutAtMost cmp one.span.lower other.span.lower
         → IsCutBelow cmp other.span.lower one.span.upper
         → IsAmong (pairs_along cmp swapped ones others) (places_by swapped one.place other.place)
@@ -122,16 +137,19 @@ module _ {T : Type 0} {cmp : T → T → Ordering} (o : IsTotalOrder cmp) where
               (places_by swapped one.place other.place)
               (subst (λ (q : PlacedSpan T). IsAmong (pairs_until cmp swapped next.place next.span.upper rest)
               (places_by swapped q.place other.place)) (sym same)
-              (until-has next.place next.span.upper rest other ordered (from-keeps next.span.lower others other has begun)
+              (until-has next.place next.span.upper rest other ordered
+              (from-keeps next.span.lower others other has begun)
               (subst (λ (q : PlacedSpan T). IsCutBelow cmp other.span.lower q.span.upper) same below)))
           | inr there ↦
               let begun : IsCutAtMost cmp next.span.lower other.span.lower =
               at_most_trans o next.span.lower one.span.lower other.span.lower
-              (lower-later o next one (all-among (λ (q : PlacedSpan T). is_lt (placed_cmp cmp q next) ≡ false) ones one first.0 there))
+              (lower-later o next one (all-among
+              (λ (q : PlacedSpan T). is_lt (placed_cmp cmp q next) ≡ false) ones one first.0 there))
               begins in
               among-right (pairs_until cmp swapped next.place next.span.upper rest) (pairs_along cmp swapped ones rest)
               (places_by swapped one.place other.place)
-              (along-has ones rest one other first.1 ordered there (from-keeps next.span.lower others other has begun) begins below)
+              (along-has ones rest one other first.1 ordered there
+              (from-keeps next.span.lower others other has begun) begins below)
         ]
 
     along-each : (P : ℕ × ℕ → Type 0) (ones others : List (PlacedSpan T))
@@ -143,7 +161,8 @@ module _ {T : Type 0} {cmp : T → T → Ordering} (o : IsTotalOrder cmp) where
         all-append P (pairs_until cmp swapped one.place one.span.upper rest) (pairs_along cmp swapped ones rest)
         (until-each P one.place one.span.upper rest
         (λ other is. each one other (inl refl) (from-some one.span.lower others other is)))
-        (along-each P ones rest (λ next other is has. each next other (inr is) (from-some one.span.lower others other has)))
+        (along-each P ones rest (λ next other is has. each next other (inr is)
+        (from-some one.span.lower others other has)))
 
 -- ---- pairs sorted, each kept once
 
@@ -152,7 +171,8 @@ same_pair x y = (x.0 == y.0) && (x.1 == y.1)
 
 pair-ties : (x y : ℕ × ℕ) → same_pair x y ≡ eq_by_cmp pair_cmp x y
 pair-ties x y =
-    both_tied (x.0 == y.0) (x.1 == y.1) (nat_cmp x.0 y.0) (nat_cmp x.1 y.1) (unsigned_ties x.0 y.0) (unsigned_ties x.1 y.1)
+    both_tied (x.0 == y.0) (x.1 == y.1) (nat_cmp x.0 y.0) (nat_cmp x.1 y.1) (unsigned_ties x.0 y.0)
+    (unsigned_ties x.1 y.1)
 
 and-both : (a b : Bool) → (a && b) ≡ true → (a ≡ true) × (b ≡ true)
 and-both true b h = (refl, h)
@@ -181,7 +201,8 @@ module _ {T : Type 0} {cmp : T → T → Ordering} (o : IsTotalOrder cmp) (ones 
   into-order = among-moved order (placed_from 0 ones) (IsPermutation-sym (placed_from 0 ones) order moves)
 
   into-other : (p : PlacedSpan T) → IsAmong (placed_from 0 others) p → IsAmong other_order p
-  into-other = among-moved other_order (placed_from 0 others) (IsPermutation-sym (placed_from 0 others) other_order other_moves)
+  into-other = among-moved other_order (placed_from 0 others)
+      (IsPermutation-sym (placed_from 0 others) other_order other_moves)
 
   is-kept : (x : ℕ × ℕ) → IsAmong whole x → IsAmong kept x
   unfolding whole
@@ -219,14 +240,18 @@ module _ {T : Type 0} {cmp : T → T → Ordering} (o : IsTotalOrder cmp) (ones 
         | inl begins ↦ elim (at_most-or-below o one.span.upper other.span.lower) [
           | inl ended ↦ inl (nothing o one.span other.span (behind o one.span other.span ended))
           | inr below ↦ inr (is-kept (one.place, other.place)
-              (among-left (pairs_along cmp false order other_order) (pairs_along cmp true other_order order) (one.place, other.place)
-              (along-has o false order other_order one other ordered other_ordered (into-order one is) (into-other other has) begins below)))
+              (among-left (pairs_along cmp false order other_order) (pairs_along cmp true other_order order)
+              (one.place, other.place)
+              (along-has o false order other_order one other ordered other_ordered (into-order one is)
+              (into-other other has) begins below)))
         ]
         | inr begun ↦ elim (at_most-or-below o other.span.upper one.span.lower) [
           | inl ended ↦ inl (nothing o one.span other.span (before o one.span other.span ended))
           | inr below ↦ inr (is-kept (one.place, other.place)
-              (among-right (pairs_along cmp false order other_order) (pairs_along cmp true other_order order) (one.place, other.place)
-              (along-has o true other_order order other one other_ordered ordered (into-other other has) (into-order one is)
+              (among-right (pairs_along cmp false order other_order) (pairs_along cmp true other_order order)
+              (one.place, other.place)
+              (along-has o true other_order order other one other_ordered ordered (into-other other has)
+              (into-order one is)
               (inl begun) below)))
         ]
       ]
@@ -277,7 +302,8 @@ module _ {T : Type 0} (cmp : T → T → Ordering) (ones others : List (Ends T))
       let pair : ℕ × ℕ = get_or pairs k (0, 0) in
       let both = All-from_recursion (AreBothWithin ones others) pairs within k (0, 0) low in
       let here : one ≡ span_at ones pair.0 = at ∙ get_or_default ones pair.0 one (span_between Start End) both.0 in
-      let there : other ≡ span_at others pair.1 = other_at ∙ get_or_default others pair.1 other (span_between Start End) both.1 in
+      let there : other ≡ span_at others pair.1 = other_at ∙ get_or_default others pair.1 other
+      (span_between Start End) both.1 in
       ap (λ l. l ++ flat_map f (drop (k + 1) pairs)) (more ∙ (λ i. mid ++ common_of cmp (here i) (there i)))
       ∙ append_assoc mid (f pair) (flat_map f (drop (k + 1) pairs))
       ∙ ap (λ l. mid ++ flat_map f l) (sym (drop_more pairs k (0, 0) low)) ∙ before

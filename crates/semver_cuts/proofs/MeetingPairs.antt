@@ -1,5 +1,6 @@
 -- All pairs of places of two lists, in ascending order: what each pair of spans has in common is what the lists have.
-use Rattle.std.proofs.Common.{◌≡◌, ℕ, ◌+◌, ◌<◌, List, [], ◌∷◌, ◌++◌, map, Ordering, Less, Equal, Greater, ap, subst, refl, ◌∙◌, inl, inr, arith}
+use Rattle.std.proofs.Common.{◌≡◌, ℕ, ◌+◌, ◌<◌, List, [], ◌∷◌, ◌++◌, map, Ordering, Less, Equal, Greater, ap, subst}
+use Rattle.std.proofs.Common.{refl, ◌∙◌, inl, inr, arith}
 use Rattle.std.specs.List.{AllByRecursion, flat_map}
 use Rattle.std.specs.List.Sorted.{IsStrictlySortedBy}
 use Rattle.std.specs.Ordering.{nat_cmp, ordering_then}
@@ -59,18 +60,22 @@ module _ {T : Type 0} where
   row-has one other (next ∷ others) (inl same) = inl (ap (λ (p : PlacedSpan T). (one.place, p.place)) same)
   row-has one other (next ∷ others) (inr there) = inr (row-has one other others there)
 
-  pub every-has : (ones others : List (PlacedSpan T)) (one other : PlacedSpan T) → IsAmong ones one → IsAmong others other
+  pub every-has : (ones others : List (PlacedSpan T)) (one other : PlacedSpan T) → IsAmong ones one
+      → IsAmong others other
       → IsAmong (every ones others) (one.place, other.place)
   every-has [] others one other is has = elim is [ ]
   every-has (next ∷ ones) others one other (inl same) has =
       among-left (row next others) (every ones others) (one.place, other.place)
-      (subst (λ (p : PlacedSpan T). IsAmong (row p others) (one.place, other.place)) same (row-has one other others has))
+      (subst (λ (p : PlacedSpan T). IsAmong (row p others) (one.place, other.place)) same
+      (row-has one other others has))
   every-has (next ∷ ones) others one other (inr there) has =
-      among-right (row next others) (every ones others) (one.place, other.place) (every-has ones others one other there has)
+      among-right (row next others) (every ones others) (one.place, other.place)
+      (every-has ones others one other there has)
 
   module _ (P : ℕ × ℕ → Type 0) where
     row-each : (one : PlacedSpan T) (others : List (PlacedSpan T))
-        → ((other : PlacedSpan T) → IsAmong others other → P (one.place, other.place)) → AllByRecursion P (row one others)
+        → ((other : PlacedSpan T) → IsAmong others other → P (one.place, other.place))
+        → AllByRecursion P (row one others)
     row-each one [] each = tt
     row-each one (other ∷ others) each = (each other (inl refl), row-each one others (λ next is. each next (inr is)))
 
@@ -79,7 +84,8 @@ module _ {T : Type 0} where
         → AllByRecursion P (every ones others)
     every-each [] others each = tt
     every-each (one ∷ ones) others each =
-        all-append P (row one others) (every ones others) (row-each one others (λ other has. each one other (inl refl) has))
+        all-append P (row one others) (every ones others)
+        (row-each one others (λ other has. each one other (inl refl) has))
         (every-each ones others (λ next other is has. each next other (inr is) has))
 
   -- ---- in ascending order
@@ -135,7 +141,8 @@ module _ {T : Type 0} where
   unfolding IsStrictlySortedBy
   every-ascending [] others rise rises = tt
   every-ascending (one ∷ ones) others rise rises =
-      ascending-append pair_total (λ (p : ℕ × ℕ). p ∷ []) (row one others) (every ones others) (row-ascending one others rises)
+      ascending-append pair_total (λ (p : ℕ × ℕ). p ∷ []) (row one others) (every ones others)
+      (row-ascending one others rises)
       (every-ascending ones others rise.1 rises) (row-below one ones others others rise.0)
 
   -- ---- what they have in common
@@ -143,13 +150,15 @@ module _ {T : Type 0} where
   module _ (cmp : T → T → Ordering) (ones others : List (Ends T)) where
     row-common : (one : PlacedSpan T) (qs : List (PlacedSpan T)) → span_at ones one.place ≡ one.span
         → AllByRecursion (IsPlaced others) qs
-        → flat_map (common_at cmp ones others) (row one qs) ≡ common_with cmp one.span (map (λ (p : PlacedSpan T). p.span) qs)
+        → flat_map (common_at cmp ones others)
+        (row one qs) ≡ common_with cmp one.span (map (λ (p : PlacedSpan T). p.span) qs)
     row-common one [] at placed = refl
     row-common one (other ∷ qs) at placed =
         let rest = row-common one qs at placed.1 in
         λ i. common_of cmp (at i) (placed.0.1 i) ++ rest i
 
-    pub every-common : (ps qs : List (PlacedSpan T)) → AllByRecursion (IsPlaced ones) ps → AllByRecursion (IsPlaced others) qs
+    pub every-common : (ps qs : List (PlacedSpan T)) → AllByRecursion (IsPlaced ones) ps
+        → AllByRecursion (IsPlaced others) qs
         → flat_map (common_at cmp ones others) (every ps qs)
         ≡ common_spans cmp (map (λ (p : PlacedSpan T). p.span) ps) (map (λ (p : PlacedSpan T). p.span) qs)
     every-common [] qs first second = refl

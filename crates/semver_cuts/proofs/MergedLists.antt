@@ -7,7 +7,8 @@ use Rattle.semver_cuts.specs.Common.{IsInSome}
 use Rattle.semver_cuts.specs.Ends.{Ends, IsCutAtMost, IsInSpan}
 use Rattle.semver_cuts.specs.Joined.{AreMerged, AreSameSpans}
 use Rattle.semver_cuts.specs.Lemmas.Apart.{apart-tail}
-use Rattle.semver_cuts.specs.Lemmas.Ends.{at_most-below, at_most-or-below, below-at_most, below-not-at_most, below_irrefl}
+use Rattle.semver_cuts.specs.Lemmas.Ends.{at_most-below, at_most-or-below, below-at_most, below-not-at_most}
+use Rattle.semver_cuts.specs.Lemmas.Ends.{below_irrefl}
 use Rattle.semver_cuts.proofs.Walks.{all-from_first, first-cut, later-above}
 
 module _ {T : Type 0} {cmp : T → T → Ordering} (o : IsTotalOrder cmp) where
@@ -30,7 +31,8 @@ module _ {T : Type 0} {cmp : T → T → Ordering} (o : IsTotalOrder cmp) where
       }))))
       (at_most-or-below o other.upper one.upper)
 
-  later-in : (one : Ends T) (ones : List (Ends T)) (other : Ends T) (others : List (Ends T)) → AreMerged cmp (one ∷ ones)
+  later-in : (one : Ends T) (ones : List (Ends T)) (other : Ends T) (others : List (Ends T))
+      → AreMerged cmp (one ∷ ones)
       → IsCutAtMost cmp other.upper one.upper
       → ((cut : Cut T) → IsInSome cmp (one ∷ ones) cut → IsInSome cmp (other ∷ others) cut)
       → (cut : Cut T) → IsInSome cmp ones cut → IsInSome cmp others cut

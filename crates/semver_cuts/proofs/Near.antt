@@ -1,5 +1,6 @@
 -- The first of spans that are apart to end above a cut, known by itself and the one before it.
-use Rattle.std.proofs.Common.{◌≡◌, ◌<◌, ◌+◌, ◌-◌, ℕ, List, ◌∷◌, get_or, length, take, drop, ap, subst, sym, ◌∙◌, arith, Ordering}
+use Rattle.std.proofs.Common.{◌≡◌, ◌<◌, ◌+◌, ◌-◌, ℕ, List, ◌∷◌, get_or, length, take, drop, ap, subst, sym, ◌∙◌, arith}
+use Rattle.std.proofs.Common.{Ordering}
 use Rattle.std.proofs.lemmas.List.{drop_more, take-append-drop}
 use Rattle.std.specs.Cmp.{IsTotalOrder}
 use Rattle.std.specs.List.{AllByRecursion}
@@ -27,7 +28,8 @@ module _ {T : Type 0} {cmp : T → T → Ordering} (o : IsTotalOrder cmp) (spans
 
   -- one behind a span that ends at or below the cut
   pub found_behind : (place : ℕ) (span last : Ends T) → place < length spans → span ≡ get_or spans place span
-      → IsCutBelow cmp cut span.upper → 0 < place → last ≡ get_or spans (place - 1) last → IsCutAtMost cmp last.upper cut
+      → IsCutBelow cmp cut span.upper → 0 < place → last ≡ get_or spans (place - 1) last
+      → IsCutAtMost cmp last.upper cut
       → drop place spans ≡ ending_above cmp cut spans
   found_behind place span last lt e above positive e' ended =
       let within : place - 1 < length spans = omega arith in

@@ -1,5 +1,6 @@
 -- What is left of a span along spans that are apart, part by part in ascending order.
-use Rattle.std.proofs.Common.{◌≡◌, List, [], ◌∷◌, ◌++◌, Ordering, Bool, true, false, if◌then◌else◌, refl, inl, inr, ⊎_elim}
+use Rattle.std.proofs.Common.{◌≡◌, List, [], ◌∷◌, ◌++◌, Ordering, Bool, true, false, if◌then◌else◌, refl, inl, inr}
+use Rattle.std.proofs.Common.{⊎_elim}
 use Rattle.std.specs.List.{AllByRecursion}
 use Rattle.std.specs.Ordering.{is_lt}
 use Rattle.std.specs.Cmp.{IsTotalOrder}
@@ -11,7 +12,8 @@ use Rattle.semver_cuts.specs.Rest.{IsFirstAt, IsPieceLower, IsPieceUpper}
 use Rattle.semver_cuts.specs.Joined.{AreRising}
 use Rattle.semver_cuts.specs.Private.Rest.{part_between, parts_between}
 use Rattle.semver_cuts.specs.Lemmas.Apart.{apart-above, apart-cons, apart-tail}
-use Rattle.semver_cuts.specs.Lemmas.Ends.{at_most-below, at_most-from_not_lt, at_most-or-below, at_most_refl, at_most_trans, below-at_most, below-from_lt, below-not-at_most, below_trans}
+use Rattle.semver_cuts.specs.Lemmas.Ends.{at_most-below, at_most-from_not_lt, at_most-or-below, at_most_refl}
+use Rattle.semver_cuts.specs.Lemmas.Ends.{at_most_trans, below-at_most, below-from_lt, below-not-at_most, below_trans}
 use Rattle.semver_cuts.specs.Lemmas.Merging.{all_both, all_map}
 use Rattle.semver_cuts.proofs.Greatest.{none-above}
 
@@ -31,7 +33,8 @@ pub record ArePartsFrom {T : Type 0} (cmp : T → T → Ordering) (others : List
 -- the ends of such a span are the first of the others at these cuts
 abbrev pub HasFirstEnds : {T : Type 0} → (T → T → Ordering) → List (Ends T) → Ends T → Type 0
 HasFirstEnds {T} cmp others span =
-    IsFirstAt cmp (λ (s : Ends T). s.lower) others span.lower × IsFirstAt cmp (λ (s : Ends T). s.upper) others span.upper
+    IsFirstAt cmp (λ (s : Ends T). s.lower) others span.lower × IsFirstAt cmp
+    (λ (s : Ends T). s.upper) others span.upper
 
 module _ {T : Type 0} {cmp : T → T → Ordering} (o : IsTotalOrder cmp) (others : List (Ends T)) (one : Ends T) where
   -- all of it, where the spans begin no lower than where the one ends
@@ -48,7 +51,8 @@ module _ {T : Type 0} {cmp : T → T → Ordering} (o : IsTotalOrder cmp) (other
           is.lower,
           is.upper,
           none-above cmp o cut spans (all_map (λ (s : Ends T). IsCutAtMost cmp one.upper s.lower)
-              (λ (s : Ends T). IsCutBelow cmp cut s.lower) (λ s h. below-at_most o cut one.upper s.lower is.upper h) spans above),
+              (λ (s : Ends T). IsCutBelow cmp cut s.lower)
+              (λ s h. below-at_most o cut one.upper s.lower is.upper h) spans above),
         ))
         (λ h. elim h [ ]);
     all = λ cut l u free. inl (record { lower = l; upper = u });
@@ -75,7 +79,8 @@ module _ {T : Type 0} {cmp : T → T → Ordering} (o : IsTotalOrder cmp) (other
       (begins : IsCutBelow cmp span.lower one.upper) where
     -- what is left behind a span, and what is left before it
     behind : (parts : List (Ends T)) → ArePartsFrom cmp others one span.upper spans parts → (cut : Cut T)
-        → IsInSome cmp parts cut → IsCutAtMost cmp low cut × IsCutBelow cmp cut one.upper × ¬ (IsInSome cmp (span ∷ spans) cut)
+        → IsInSome cmp parts cut
+        → IsCutAtMost cmp low cut × IsCutBelow cmp cut one.upper × ¬ (IsInSome cmp (span ∷ spans) cut)
     behind parts are cut is =
         let in' = are.inside cut is in (
           inl (below-at_most o low span.upper cut over in'.0),
@@ -110,7 +115,8 @@ module _ {T : Type 0} {cmp : T → T → Ordering} (o : IsTotalOrder cmp) (other
     with-first parts are room end first = record {
       rising = (room, are.rising);
       apart = apart-cons cmp (span_between low span.lower) parts
-          (all_map (λ (s : Ends T). IsCutAtMost cmp span.upper s.lower) (λ (s : Ends T). IsCutBelow cmp span.lower s.lower)
+          (all_map (λ (s : Ends T). IsCutAtMost cmp span.upper s.lower)
+          (λ (s : Ends T). IsCutBelow cmp span.lower s.lower)
           (λ s h. below-at_most o span.lower span.upper s.lower rising h) parts are.from) are.apart;
       from = (
         at_most_refl o low,
@@ -124,7 +130,8 @@ module _ {T : Type 0} {cmp : T → T → Ordering} (o : IsTotalOrder cmp) (other
             none-above cmp o cut (span ∷ spans) (
               is.upper,
               all_map (λ (s : Ends T). IsCutBelow cmp span.upper s.lower) (λ (s : Ends T). IsCutBelow cmp cut s.lower)
-                  (λ s h. below_trans o cut span.upper s.lower (below_trans o cut span.lower span.upper is.upper rising) h)
+                  (λ s h. below_trans o cut span.upper s.lower
+                  (below_trans o cut span.lower span.upper is.upper rising) h)
                   spans above,
             ),
           ))
@@ -170,8 +177,10 @@ module _ {T : Type 0} {cmp : T → T → Ordering} (o : IsTotalOrder cmp) (other
         let past : IsCutAtMost cmp one.upper span.lower = at_most-from_not_lt o span.lower one.upper e in
         whole-part low (span ∷ spans) below end (
           past,
-          all_map (λ (s : Ends T). IsCutBelow cmp span.upper s.lower) (λ (s : Ends T). IsCutAtMost cmp one.upper s.lower)
-              (λ s h. inl (at_most-below o one.upper span.lower s.lower past (below_trans o span.lower span.upper s.lower rising h)))
+          all_map (λ (s : Ends T). IsCutBelow cmp span.upper s.lower)
+              (λ (s : Ends T). IsCutAtMost cmp one.upper s.lower)
+              (λ s h. inl (at_most-below o one.upper span.lower s.lower past
+              (below_trans o span.lower span.upper s.lower rising h)))
               spans above,
         )
 

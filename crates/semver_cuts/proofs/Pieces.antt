@@ -1,5 +1,6 @@
 -- What is found along spans that are apart are the pieces of a span: all of them, each a greatest one.
-use Rattle.std.proofs.Common.{◌≡◌, List, [], ◌∷◌, ◌++◌, Ordering, Bool, true, false, if◌then◌else◌, refl, sym, ap, subst, inl, inr}
+use Rattle.std.proofs.Common.{◌≡◌, List, [], ◌∷◌, ◌++◌, Ordering, Bool, true, false, if◌then◌else◌, refl, sym, ap}
+use Rattle.std.proofs.Common.{subst, inl, inr}
 use Rattle.std.specs.List.{AllByRecursion}
 use Rattle.std.specs.Ordering.{is_le}
 use Rattle.std.specs.Cmp.{IsTotalOrder}
@@ -11,7 +12,8 @@ use Rattle.semver_cuts.specs.Rest.{AreRestSpans, ArePieces, IsFirstAt, IsLeft, I
 use Rattle.semver_cuts.specs.Joined.{AreJoined, AreRising}
 use Rattle.semver_cuts.specs.Private.Rest.{ending_above, pieces_of, pieces_of_all}
 use Rattle.semver_cuts.specs.Lemmas.Apart.{apart-above, apart-behind, apart-tail, rising-behind}
-use Rattle.semver_cuts.specs.Lemmas.Ends.{at_most_refl, at_most_trans, below-from_not_le, below-not-at_most, below_trans, at_most-from_le}
+use Rattle.semver_cuts.specs.Lemmas.Ends.{at_most_refl, at_most_trans, below-from_not_le, below-not-at_most}
+use Rattle.semver_cuts.specs.Lemmas.Ends.{below_trans, at_most-from_le}
 use Rattle.semver_cuts.specs.Lemmas.Merging.{all_both}
 use Rattle.semver_cuts.proofs.Greatest.{HasGapBelow, each-in_some, ends-free, gaps-below, greatest}
 use Rattle.semver_cuts.proofs.Parts.{ArePartsFrom, HasFirstEnds, found-parts}
@@ -66,7 +68,8 @@ module _ {T : Type 0} {cmp : T → T → Ordering} (o : IsTotalOrder cmp) (cut :
       (is_le (cut_cmp cmp span.upper cut)) refl
 
   -- a cut that is not below lies in one of the list where it lies in one of them
-  not-before : (front back : List (Ends T)) (at : Cut T) → AllByRecursion (λ (s : Ends T). IsCutAtMost cmp s.upper cut) front
+  not-before : (front back : List (Ends T)) (at : Cut T)
+      → AllByRecursion (λ (s : Ends T). IsCutAtMost cmp s.upper cut) front
       → IsCutAtMost cmp cut at → IsInSome cmp (front ++ back) at → IsInSome cmp back at
   not-before [] back at below l is = is
   not-before (span ∷ front) back at below l (inl here) =
@@ -78,7 +81,8 @@ module _ {T : Type 0} (cmp : T → T → Ordering) where
   in_some-behind [] back cut is = is
   in_some-behind (span ∷ front) back cut is = inr (in_some-behind front back cut is)
 
-all_behind : {X : Type 0} (P : X → Type 0) (front back : List X) → AllByRecursion P (front ++ back) → AllByRecursion P back
+all_behind : {X : Type 0} (P : X → Type 0) (front back : List X) → AllByRecursion P (front ++ back)
+    → AllByRecursion P back
 all_behind P [] back all = all
 all_behind P (x ∷ front) back all = all_behind P front back all.1
 

@@ -1,5 +1,6 @@
 -- Spans in the order of their lower ends: which begins and which ends later.
-use Rattle.std.proofs.Common.{◌≡◌, ◌⊎◌, ℕ, ◌<◌, ◌≤◌, List, [], ◌∷◌, Ordering, Less, Equal, Greater, true, false, refl, sym, ap, subst, ◌∙◌, inl, inr, ⊎_elim, arith}
+use Rattle.std.proofs.Common.{◌≡◌, ◌⊎◌, ℕ, ◌<◌, ◌≤◌, List, [], ◌∷◌, Ordering, Less, Equal, Greater, true, false, refl}
+use Rattle.std.proofs.Common.{sym, ap, subst, ◌∙◌, inl, inr, ⊎_elim, arith}
 use mathlib.Core.Bool.{true≢false}
 use Rattle.std.specs.List.{AllByRecursion}
 use Rattle.std.specs.Ordering.{is_lt, nat_cmp, ordering_then}
@@ -9,7 +10,8 @@ use Rattle.semver_cuts.specs.declared.cut.Cut.{Cut}
 use Rattle.semver_cuts.specs.Cut.{cut_cmp}
 use Rattle.semver_cuts.specs.Ends.{IsCutAtMost, IsCutBelow}
 use Rattle.semver_cuts.specs.Private.Placed.{PlacedSpan, placed_cmp}
-use Rattle.semver_cuts.specs.Lemmas.Ends.{at_most-below, below-at_most, below-from_greater, cut_cmp-equal_back, cut_cmp-equal_left}
+use Rattle.semver_cuts.specs.Lemmas.Ends.{at_most-below, below-at_most, below-from_greater, cut_cmp-equal_back}
+use Rattle.semver_cuts.specs.Lemmas.Ends.{cut_cmp-equal_left}
 
 -- ---- tests of numbers
 
@@ -43,7 +45,8 @@ AreInOrder {T} cmp (first ∷ later) =
     AllByRecursion (λ (next : PlacedSpan T). is_lt (placed_cmp cmp next first) ≡ false) later × AreInOrder cmp later
 
 module _ {T : Type 0} {cmp : T → T → Ordering} (o : IsTotalOrder cmp) where
-  lower_by : (c d : Cut T) (r s : Ordering) → cut_cmp cmp c d ≡ r → is_lt (ordering_then r s) ≡ false → IsCutAtMost cmp d c
+  lower_by : (c d : Cut T) (r s : Ordering) → cut_cmp cmp c d ≡ r → is_lt (ordering_then r s) ≡ false
+      → IsCutAtMost cmp d c
   lower_by c d Less s e h = absurd (true≢false h)
   lower_by c d Equal s e h = inr (cut_cmp-equal_back o c d e)
   lower_by c d Greater s e h = inl (below-from_greater o c d e)
@@ -69,7 +72,8 @@ module _ {T : Type 0} {cmp : T → T → Ordering} (o : IsTotalOrder cmp) where
   EndsNoLater upper place p =
       IsCutBelow cmp p.span.upper upper ⊎ ((cut_cmp cmp p.span.upper upper ≡ Equal) × (place ≤ p.place))
 
-  pub no_later_by : (upper : Cut T) (place : ℕ) (next : PlacedSpan T) (r : Ordering) → cut_cmp cmp upper next.span.upper ≡ r
+  pub no_later_by : (upper : Cut T) (place : ℕ) (next : PlacedSpan T) (r : Ordering)
+      → cut_cmp cmp upper next.span.upper ≡ r
       → is_lt (ordering_then r (nat_cmp next.place place)) ≡ false → EndsNoLater upper place next
   no_later_by upper place next Less e h = absurd (true≢false h)
   no_later_by upper place next Equal e h =
@@ -79,7 +83,8 @@ module _ {T : Type 0} {cmp : T → T → Ordering} (o : IsTotalOrder cmp) where
       )
   no_later_by upper place next Greater e h = inl (below-from_greater o upper next.span.upper e)
 
-  pub later_by : (upper : Cut T) (place : ℕ) (next : PlacedSpan T) (r : Ordering) → cut_cmp cmp upper next.span.upper ≡ r
+  pub later_by : (upper : Cut T) (place : ℕ) (next : PlacedSpan T) (r : Ordering)
+      → cut_cmp cmp upper next.span.upper ≡ r
       → is_lt (ordering_then r (nat_cmp next.place place)) ≡ true
       → IsCutBelow cmp upper next.span.upper ⊎ ((cut_cmp cmp upper next.span.upper ≡ Equal) × (next.place ≤ place))
   later_by upper place next Less e h = inl e

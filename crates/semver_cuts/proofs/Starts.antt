@@ -1,5 +1,6 @@
 -- At each cut of a list a joined span begins, or a span of the list reaches it from below.
-use Rattle.std.proofs.Common.{◌≡◌, ◌⊎◌, List, [], ◌∷◌, Bool, true, false, not, ◌&&◌, ◌||◌, Ordering, Less, Equal, Greater, refl, sym, ap, ◌∙◌, inl, inr, ⊎_elim}
+use Rattle.std.proofs.Common.{◌≡◌, ◌⊎◌, List, [], ◌∷◌, Bool, true, false, not, ◌&&◌, ◌||◌, Ordering, Less, Equal}
+use Rattle.std.proofs.Common.{Greater, refl, sym, ap, ◌∙◌, inl, inr, ⊎_elim}
 use mathlib.Core.Bool.{true≢false}
 use Rattle.std.specs.List.{AllByRecursion}
 use Rattle.std.specs.Ordering.{is_eq, is_le, is_lt}
@@ -11,7 +12,9 @@ use Rattle.semver_cuts.specs.Ends.{Ends, IsCutAtMost, IsCutBelow}
 use Rattle.semver_cuts.specs.Joined.{AreJoined, AreMerged, AreRising}
 use Rattle.semver_cuts.specs.Starts.{begins_at, reaches}
 use Rattle.semver_cuts.specs.Lemmas.Apart.{apart-above, apart-tail}
-use Rattle.semver_cuts.specs.Lemmas.Ends.{at_most-below, at_most-from_le, at_most-or-below, at_most_refl, at_most_trans, below-at_most, below-from_lt, below-not-at_most, below_irrefl, below_trans, cut_cmp-equal_back, le-from_at_most, lt-from_below}
+use Rattle.semver_cuts.specs.Lemmas.Ends.{at_most-below, at_most-from_le, at_most-or-below, at_most_refl, at_most_trans}
+use Rattle.semver_cuts.specs.Lemmas.Ends.{below-at_most, below-from_lt, below-not-at_most, below_irrefl, below_trans}
+use Rattle.semver_cuts.specs.Lemmas.Ends.{cut_cmp-equal_back, le-from_at_most, lt-from_below}
 use Rattle.semver_cuts.specs.Lemmas.InSome.{in_span-or_not}
 use Rattle.semver_cuts.proofs.Walks.{all-from_first, first-cut, later-above}
 
@@ -61,7 +64,8 @@ module _ {T : Type 0} {cmp : T → T → Ordering} (o : IsTotalOrder cmp) where
   equal-from c d h = (Equal-is (cut_cmp cmp c d)).0 h
 
   -- the cut where one of the spans begins is above what they all begin above
-  pub begins-above : (c cut : Cut T) (spans : List (Ends T)) → AllByRecursion (λ (s : Ends T). IsCutBelow cmp c s.lower) spans
+  pub begins-above : (c cut : Cut T) (spans : List (Ends T))
+      → AllByRecursion (λ (s : Ends T). IsCutBelow cmp c s.lower) spans
       → begins_at cmp spans cut ≡ true → IsCutBelow cmp c cut
   begins-above c cut [] above h = absurd (true≢false (sym h))
   begins-above c cut (span ∷ spans) above h =
@@ -91,7 +95,8 @@ module _ {T : Type 0} {cmp : T → T → Ordering} (o : IsTotalOrder cmp) where
       ))
       (λ there.
       let found = gap-before spans rest cut early later there low in
-      let over : IsCutBelow cmp span.upper found.0 = below_trans o span.upper early found.0 (later-above o span spans early are there) found.1 in (
+      let over : IsCutBelow cmp span.upper found.0 = below_trans o span.upper early found.0
+      (later-above o span spans early are there) found.1 in (
         found.0,
         found.1,
         found.2,
@@ -122,7 +127,8 @@ module _ {T : Type 0} {cmp : T → T → Ordering} (o : IsTotalOrder cmp) where
   -- ---- where a span of a list reaches a cut
 
   -- where none reaches it from below, some cut from any lower one on lies in none
-  beyond : (spans : List (Ends T)) (cut : Cut T) → reaches cmp spans cut ≡ false → (low : Cut T) → IsCutBelow cmp low cut
+  beyond : (spans : List (Ends T)) (cut : Cut T) → reaches cmp spans cut ≡ false → (low : Cut T)
+      → IsCutBelow cmp low cut
       → (c : Cut T) × IsCutAtMost cmp low c × IsCutBelow cmp c cut × ¬ IsInSome cmp spans c
   beyond [] cut h low lt = (low, at_most_refl o low, lt, λ is. is)
   beyond (span ∷ spans) cut h low lt =
@@ -164,12 +170,14 @@ module _ {T : Type 0} {cmp : T → T → Ordering} (o : IsTotalOrder cmp) where
           upper = below-at_most o c cut span.upper high (at_most-from_le cmp cut span.upper both.1);
         }),
       ))
-      (λ there. let found = reached spans rising.1 cut there in (found.0, inr found.1, found.2, λ c low high. inr (found.3 c low high)))
+      (λ there. let found = reached spans rising.1 cut there in
+      (found.0, inr found.1, found.2, λ c low high. inr (found.3 c low high)))
       (or-true test (reaches cmp spans cut) h)
 
   -- ---- a cut of the list: a joined span begins there, or a span reaches it
 
-  pub begins-or_reached : (spans joined : List (Ends T)) → AreRising cmp spans → AreJoined cmp spans joined → (cut : Cut T)
+  pub begins-or_reached : (spans joined : List (Ends T)) → AreRising cmp spans → AreJoined cmp spans joined
+      → (cut : Cut T)
       → IsInSome cmp spans cut → not (reaches cmp spans cut) ≡ begins_at cmp joined cut
   begins-or_reached spans joined rising are cut is =
       one_only (begins_at cmp joined cut) (reaches cmp spans cut)

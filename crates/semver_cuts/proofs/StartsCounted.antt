@@ -1,5 +1,6 @@
 -- As many spans begin where nothing goes on as there are spans that the list is joined to.
-use Rattle.std.proofs.Common.{◌≡◌, ℕ, ◌+◌, List, [], ◌∷◌, ◌++◌, Bool, true, false, not, ◌&&◌, ◌||◌, if◌then◌else◌, Ordering, Equal, length, refl, sym, ap, ◌∙◌, inl, inr, ⊎_elim, arith}
+use Rattle.std.proofs.Common.{◌≡◌, ℕ, ◌+◌, List, [], ◌∷◌, ◌++◌, Bool, true, false, not, ◌&&◌, ◌||◌, if◌then◌else◌}
+use Rattle.std.proofs.Common.{Ordering, Equal, length, refl, sym, ap, ◌∙◌, inl, inr, ⊎_elim, arith}
 use mathlib.Core.Bool.{true≢false}
 use Rattle.std.specs.List.{AllByRecursion}
 use Rattle.std.specs.Ordering.{is_eq}
@@ -13,8 +14,10 @@ use Rattle.semver_cuts.specs.Joined.{AreJoined, AreMerged, AreRising}
 use Rattle.semver_cuts.specs.Rest.{IsFirstAt}
 use Rattle.semver_cuts.specs.Starts.{begins_at, count_of_starts, count_of_starts_from, reaches}
 use Rattle.semver_cuts.specs.Lemmas.Apart.{apart-above, apart-tail}
-use Rattle.semver_cuts.specs.Lemmas.Ends.{at_most_trans, below-not-at_most, cut_cmp-equal_back, cut_cmp-equal_right, cut_cmp-refl}
-use Rattle.semver_cuts.proofs.Starts.{begins-above, begins-or_reached, equal-from, not_equal, or-left, or-right, or-true}
+use Rattle.semver_cuts.specs.Lemmas.Ends.{at_most_trans, below-not-at_most, cut_cmp-equal_back, cut_cmp-equal_right}
+use Rattle.semver_cuts.specs.Lemmas.Ends.{cut_cmp-refl}
+use Rattle.semver_cuts.proofs.Starts.{begins-above, begins-or_reached, equal-from, not_equal, or-left, or-right}
+use Rattle.semver_cuts.proofs.Starts.{or-true}
 use Rattle.semver_cuts.proofs.Walks.{first-cut}
 
 module _ {T : Type 0} (cmp : T → T → Ordering) where
@@ -59,7 +62,8 @@ module _ {T : Type 0} (cmp : T → T → Ordering) where
   -- one span more of which none of the others begins at its cut
   count-more : (first : Ends T) (firsts earlier later : List (Ends T))
       → ((c : Cut T) → is_eq (cut_cmp cmp first.lower c) ≡ true → begins_at cmp firsts c ≡ true → ⊥)
-      → count_first (first ∷ firsts) earlier later ≡ count_first (first ∷ []) earlier later + count_first firsts earlier later
+      → count_first (first ∷ firsts) earlier later
+      ≡ count_first (first ∷ []) earlier later + count_first firsts earlier later
   unfolding count_first
   count-more first firsts earlier [] h = refl
   count-more first firsts earlier (span ∷ later) h =
@@ -83,11 +87,13 @@ module _ {T : Type 0} (cmp : T → T → Ordering) where
   one-if false true n p q e = omega arith
   one-if false false n p q e = absurd (true≢false (sym q))
 
-  begins-left : (cut : Cut T) (ones others : List (Ends T)) → begins_at cmp ones cut ≡ true → begins_at cmp (ones ++ others) cut ≡ true
+  begins-left : (cut : Cut T) (ones others : List (Ends T)) → begins_at cmp ones cut ≡ true
+      → begins_at cmp (ones ++ others) cut ≡ true
   begins-left cut [] others h = absurd (true≢false (sym h))
   begins-left cut (one ∷ ones) others h =
       ⊎_elim (λ here. or-left (is_eq (cut_cmp cmp one.lower cut)) (begins_at cmp (ones ++ others) cut) here)
-      (λ there. or-right (is_eq (cut_cmp cmp one.lower cut)) (begins_at cmp (ones ++ others) cut) (begins-left cut ones others there))
+      (λ there. or-right (is_eq (cut_cmp cmp one.lower cut)) (begins_at cmp (ones ++ others) cut)
+      (begins-left cut ones others there))
       (or-true (is_eq (cut_cmp cmp one.lower cut)) (begins_at cmp ones cut) h)
 
   begins-last : (cut : Cut T) (ones : List (Ends T)) (span : Ends T) → is_eq (cut_cmp cmp span.lower cut) ≡ true
@@ -96,13 +102,16 @@ module _ {T : Type 0} (cmp : T → T → Ordering) where
   begins-last cut (one ∷ ones) span h =
       or-right (is_eq (cut_cmp cmp one.lower cut)) (begins_at cmp (ones ++ span ∷ []) cut) (begins-last cut ones span h)
 
-  none-begins : (cut : Cut T) (spans : List (Ends T)) → AllByRecursion (λ (s : Ends T). ¬ (cut_cmp cmp s.lower cut ≡ Equal)) spans
+  none-begins : (cut : Cut T) (spans : List (Ends T))
+      → AllByRecursion (λ (s : Ends T). ¬ (cut_cmp cmp s.lower cut ≡ Equal)) spans
       → begins_at cmp spans cut ≡ false
   none-begins cut [] none = refl
-  none-begins cut (span ∷ spans) none = λ i. not_equal (cut_cmp cmp span.lower cut) none.0 i || none-begins cut spans none.1 i
+  none-begins cut (span ∷ spans) none = λ i. not_equal
+      (cut_cmp cmp span.lower cut) none.0 i || none-begins cut spans none.1 i
 
 module _ {T : Type 0} {cmp : T → T → Ordering} (o : IsTotalOrder cmp) where
-  begins-same : (c d : Cut T) → cut_cmp cmp c d ≡ Equal → (spans : List (Ends T)) → begins_at cmp spans c ≡ begins_at cmp spans d
+  begins-same : (c d : Cut T) → cut_cmp cmp c d ≡ Equal → (spans : List (Ends T))
+      → begins_at cmp spans c ≡ begins_at cmp spans d
   begins-same c d e [] = refl
   begins-same c d e (span ∷ spans) = λ i. is_eq (cut_cmp-equal_right o c d span.lower e i) || begins-same c d e spans i
 
@@ -144,7 +153,8 @@ module _ {T : Type 0} {cmp : T → T → Ordering} (o : IsTotalOrder cmp) where
       (count_first cmp (first ∷ []) (at.before ++ at.span ∷ []) at.after)
       (begins-same at.span.lower first.lower equal at.before ∙ none-begins cmp first.lower at.before at.earlier)
       (ap is_eq back)
-      (begun-none first (at.before ++ at.span ∷ []) at.after (begins-last cmp first.lower at.before at.span (ap is_eq equal)))
+      (begun-none first (at.before ++ at.span ∷ []) at.after
+      (begins-last cmp first.lower at.before at.span (ap is_eq equal)))
 
   firsts-counted : (spans joined : List (Ends T)) → AreMerged cmp joined
       → AllByRecursion (λ (span : Ends T). IsFirstAt cmp (λ (s : Ends T). s.lower) spans span.lower) joined
@@ -152,7 +162,11 @@ module _ {T : Type 0} {cmp : T → T → Ordering} (o : IsTotalOrder cmp) where
   firsts-counted spans [] are firsts = none-counted cmp [] spans
   firsts-counted spans (first ∷ joined) are firsts =
       let above = apart-above o first joined are.apart are.rising.1 in
-      let rest : AreMerged cmp joined = record { rising = are.rising.1; apart = apart-tail cmp first joined are.apart } in
+      let rest : AreMerged cmp joined = record {
+        rising = are.rising.1;
+        apart =
+            apart-tail cmp first joined are.apart;
+      } in
       let more = count-more cmp first joined [] spans
       (λ c here there. below-not-at_most o first.lower first.upper are.rising.0
       (at_most_trans o first.upper c first.lower (inl (begins-above o first.upper c joined above there))
@@ -161,8 +175,10 @@ module _ {T : Type 0} {cmp : T → T → Ordering} (o : IsTotalOrder cmp) where
       let others = firsts-counted spans joined rest firsts.1 in
       omega (arith, more, one, others)
 
-  all-in : (spans part : List (Ends T)) (P : Cut T → Type 0) → ((c : Cut T) → IsInSome cmp part c → IsInSome cmp spans c)
-      → AreRising cmp part → ((c : Cut T) → IsInSome cmp spans c → P c) → AllByRecursion (λ (s : Ends T). P s.lower) part
+  all-in : (spans part : List (Ends T)) (P : Cut T → Type 0)
+      → ((c : Cut T) → IsInSome cmp part c → IsInSome cmp spans c)
+      → AreRising cmp part → ((c : Cut T) → IsInSome cmp spans c → P c)
+      → AllByRecursion (λ (s : Ends T). P s.lower) part
   all-in spans [] P within rising holds = tt
   all-in spans (span ∷ part) P within rising holds = (
     holds span.lower (within span.lower (inl (first-cut o span rising.0))),

@@ -1,5 +1,6 @@
 -- Along two lists of merged spans: which of two stands past the other, and what is left to ask.
-use Rattle.std.proofs.Common.{◌≡◌, ◌⊎◌, ◌↔◌, ℕ, ◌+◌, ◌<◌, ◌≤◌, List, [], ◌∷◌, ◌++◌, Ordering, Bool, IsTrue, get_or, take, drop, length, sym, ap, subst, ◌∙◌, inl, inr, ⊎_elim, arith}
+use Rattle.std.proofs.Common.{◌≡◌, ◌⊎◌, ◌↔◌, ℕ, ◌+◌, ◌<◌, ◌≤◌, List, [], ◌∷◌, ◌++◌, Ordering, Bool, IsTrue, get_or}
+use Rattle.std.proofs.Common.{take, drop, length, sym, ap, subst, ◌∙◌, inl, inr, ⊎_elim, arith}
 use Rattle.std.specs.List.{AllByRecursion}
 use Rattle.std.specs.Cmp.{IsTotalOrder}
 use Rattle.std.proofs.lemmas.List.{drop_all, drop_more, take-append-drop}
@@ -11,11 +12,13 @@ use Rattle.semver_cuts.specs.Joined.{AreJoined, AreMerged, AreRising}
 use Rattle.semver_cuts.specs.Places.{span_at}
 use Rattle.semver_cuts.specs.Sharing.{CoversAll, ShareCut}
 use Rattle.semver_cuts.specs.Lemmas.Apart.{apart-above, apart-behind, rising-behind}
-use Rattle.semver_cuts.specs.Lemmas.Ends.{at_most-or-below, at_most_refl, at_most_trans, below-at_most, below-not-at_most, below_trans}
+use Rattle.semver_cuts.specs.Lemmas.Ends.{at_most-or-below, at_most_refl, at_most_trans, below-at_most}
+use Rattle.semver_cuts.specs.Lemmas.Ends.{below-not-at_most, below_trans}
 
 module _ {T : Type 0} (cmp : T → T → Ordering) where
   -- what stands at a place and behind it is merged
-  pub merged-behind : (spans : List (Ends T)) (place : ℕ) (back : List (Ends T)) → AreMerged cmp spans → drop place spans ≡ back
+  pub merged-behind : (spans : List (Ends T)) (place : ℕ) (back : List (Ends T)) → AreMerged cmp spans
+      → drop place spans ≡ back
       → AreMerged cmp back
   merged-behind spans place back are here =
       let parts : spans ≡ take place spans ++ back =
@@ -48,7 +51,8 @@ module _ {T : Type 0} {cmp : T → T → Ordering} (o : IsTotalOrder cmp) where
   in_some-over c (span ∷ spans) cut above (inr there) = in_some-over c spans cut above.1 there
 
   -- a cut in one of the later spans stands above where the first one ends
-  pub later-above : (span : Ends T) (spans : List (Ends T)) (cut : Cut T) → AreMerged cmp (span ∷ spans) → IsInSome cmp spans cut
+  pub later-above : (span : Ends T) (spans : List (Ends T)) (cut : Cut T) → AreMerged cmp (span ∷ spans)
+      → IsInSome cmp spans cut
       → IsCutBelow cmp span.upper cut
   later-above span spans cut are is =
       in_some-over span.upper spans cut (apart-above o span spans are.apart are.rising.1) is
@@ -80,7 +84,8 @@ module _ {T : Type 0} {cmp : T → T → Ordering} (o : IsTotalOrder cmp) where
     shared-past_one past shared =
         ⊎_elim
         (λ here. absurd (below-not-at_most o shared.0 one.upper here.upper
-        (at_most_trans o one.upper other.lower shared.0 past (all-from_first other others shared.0 others_are shared.2))))
+        (at_most_trans o one.upper other.lower shared.0 past
+        (all-from_first other others shared.0 others_are shared.2))))
         (λ there. (shared.0, there, shared.2)) shared.1
 
     shared-here : IsCutBelow cmp one.lower other.upper → IsCutBelow cmp other.lower one.upper
@@ -118,12 +123,14 @@ module _ {T : Type 0} {cmp : T → T → Ordering} (o : IsTotalOrder cmp) where
         → ¬ CoversAll cmp (one ∷ ones) (other ∷ others)
     missed-above begun high covers =
         ⊎_elim (λ here. below-not-at_most o one.upper one.upper here.upper (at_most_refl o one.upper))
-        (λ there. below-not-at_most o one.upper one.upper (later-above one ones one.upper are there) (at_most_refl o one.upper))
+        (λ there. below-not-at_most o one.upper one.upper (later-above one ones one.upper are there)
+        (at_most_refl o one.upper))
         (covers one.upper (inl (record { lower = inl begun; upper = high })))
 
   -- ---- the same at two places
 
-  module _ (ms ws : List (Ends T)) (ms_are : AreMerged cmp ms) (ws_are : AreMerged cmp ws) (i j : ℕ) (one other : Ends T)
+  module _ (ms ws : List (Ends T)) (ms_are : AreMerged cmp ms) (ws_are : AreMerged cmp ws) (i j : ℕ)
+      (one other : Ends T)
       (at : drop i ms ≡ one ∷ drop (i + 1) ms) (other_at : drop j ws ≡ other ∷ drop (j + 1) ws) where
     are' : AreMerged cmp (one ∷ drop (i + 1) ms)
     are' = merged-behind cmp ms i (one ∷ drop (i + 1) ms) ms_are at
@@ -146,7 +153,8 @@ module _ {T : Type 0} {cmp : T → T → Ordering} (o : IsTotalOrder cmp) where
         → Left (ShareCut cmp) (drop i ms) (drop (j + 1) ws)
     share-past_other past left = (
       λ shared. subst (λ l. ShareCut cmp l (drop (j + 1) ws)) (sym at)
-          (shared-past_other one (drop (i + 1) ms) other (drop (j + 1) ws) are' others_are' past (into (ShareCut cmp) (left.0 shared))),
+          (shared-past_other one (drop (i + 1) ms) other (drop (j + 1) ws) are' others_are' past
+          (into (ShareCut cmp) (left.0 shared))),
       λ shared. left.1 (subst (ShareCut cmp (drop i ms)) (sym other_at) (shared.0, shared.1, inr shared.2)),
     )
 
@@ -154,20 +162,23 @@ module _ {T : Type 0} {cmp : T → T → Ordering} (o : IsTotalOrder cmp) where
         → Left (ShareCut cmp) (drop (i + 1) ms) (drop j ws)
     share-past_one past left = (
       λ shared. subst (ShareCut cmp (drop (i + 1) ms)) (sym other_at)
-          (shared-past_one one (drop (i + 1) ms) other (drop (j + 1) ws) are' others_are' past (into (ShareCut cmp) (left.0 shared))),
+          (shared-past_one one (drop (i + 1) ms) other (drop (j + 1) ws) are' others_are' past
+          (into (ShareCut cmp) (left.0 shared))),
       λ shared. left.1 (subst (λ l. ShareCut cmp l (drop j ws)) (sym at) (shared.0, inr shared.1, shared.2)),
     )
 
     pub share-found : IsCutBelow cmp one.lower other.upper → IsCutBelow cmp other.lower one.upper
         → Left (ShareCut cmp) (drop i ms) (drop j ws) → ShareCut cmp ms ws
     share-found low high left =
-        left.1 (back (ShareCut cmp) (shared-here one (drop (i + 1) ms) other (drop (j + 1) ws) are' others_are' low high))
+        left.1 (back (ShareCut cmp) (shared-here one (drop (i + 1) ms) other
+        (drop (j + 1) ws) are' others_are' low high))
 
     pub covers-past : IsCutAtMost cmp one.upper other.lower → Left (CoversAll cmp) (drop i ms) (drop j ws)
         → Left (CoversAll cmp) (drop (i + 1) ms) (drop j ws)
     covers-past past left = (
       λ covers. subst (CoversAll cmp (drop (i + 1) ms)) (sym other_at)
-          (covered-past one (drop (i + 1) ms) other (drop (j + 1) ws) are' others_are' past (into (CoversAll cmp) (left.0 covers))),
+          (covered-past one (drop (i + 1) ms) other (drop (j + 1) ws) are' others_are' past
+          (into (CoversAll cmp) (left.0 covers))),
       λ covers. left.1 (subst (λ l. CoversAll cmp l (drop j ws)) (sym at) (λ cut is. inr (covers cut is))),
     )
 
@@ -183,7 +194,8 @@ module _ {T : Type 0} {cmp : T → T → Ordering} (o : IsTotalOrder cmp) where
     pub covers-missed_below : IsCutBelow cmp other.lower one.lower → Left (CoversAll cmp) (drop i ms) (drop j ws)
         → ¬ CoversAll cmp ms ws
     covers-missed_below low left covers =
-        missed-below one (drop (i + 1) ms) other (drop (j + 1) ws) are' others_are' low (into (CoversAll cmp) (left.0 covers))
+        missed-below one (drop (i + 1) ms) other (drop (j + 1) ws) are' others_are' low
+        (into (CoversAll cmp) (left.0 covers))
 
     pub covers-missed_above : IsCutBelow cmp other.lower one.upper → IsCutBelow cmp one.upper other.upper
         → Left (CoversAll cmp) (drop i ms) (drop j ws) → ¬ CoversAll cmp ms ws
@@ -216,7 +228,8 @@ module _ {T : Type 0} {cmp : T → T → Ordering} (o : IsTotalOrder cmp) where
   covers-left_over ms ws i j h more ws_are left covers =
       let other : Ends T = span_at ws j in
       let here : drop j ws ≡ other ∷ drop (j + 1) ws = drop_more ws j (span_between Start End) more in
-      let rising : IsCutBelow cmp other.lower other.upper = (merged-behind cmp ws j (other ∷ drop (j + 1) ws) ws_are here).rising.0 in
+      let rising : IsCutBelow cmp other.lower other.upper =
+      (merged-behind cmp ws j (other ∷ drop (j + 1) ws) ws_are here).rising.0 in
       subst (λ l. IsInSome cmp l other.lower) (drop_all i ms h)
       (left.0 covers other.lower (subst (λ l. IsInSome cmp l other.lower) (sym here) (inl (first-cut other rising))))
 
@@ -235,7 +248,8 @@ module _ {T : Type 0} (cmp : T → T → Ordering) where
   one-list (y ∷ z ∷ xs) x l e = absurd (omega arith)
 
   -- the same of two lists with one span each
-  pub covers-lone : (ones others : List (Ends T)) (one other : Ends T) (r : Bool) → length ones ≡ 1 → one ≡ get_or ones 0 one
+  pub covers-lone : (ones others : List (Ends T)) (one other : Ends T) (r : Bool) → length ones ≡ 1
+      → one ≡ get_or ones 0 one
       → length others ≡ 1 → other ≡ get_or others 0 other → IsTrue r ↔ IsWithin cmp other one
       → IsTrue r ↔ CoversAll cmp ones others
   covers-lone ones others one other r l e m f law =

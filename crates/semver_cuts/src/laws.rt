@@ -1,4 +1,5 @@
-//! The laws of the order of cuts and of lists of spans. A function here does nothing: its contract is the law, for every type with an order.
+//! The laws of the order of cuts and of lists of spans. A function here does nothing: its contract is the law, for
+//! every type with an order.
 ghost use Rattle.std.specs.Prelude.{◌≡◌, ◌≢◌, ◌↔◌, ◌⊎◌, List, [], length};
 ghost use Rattle.std.specs.declared.cmp.Ordering.{Ordering};
 ghost use Rattle.semver_cuts.specs.declared.cut.Cut.{Cut};
@@ -27,7 +28,8 @@ pub fn cuts_stand_in_order<T: Ord>()
 /// Two lists of spans part the cuts of the first: each lies in what they have in common or in what the first alone has,
 /// and none in both.
 ///
-/// Nothing is common just where no cut lies in a span of each list, and nothing is left just where each cut of the first
+/// Nothing is common just where no cut lies in a span of each list, and nothing is left just where each cut of the
+/// first
 /// list lies in a span of the second.
 pub fn common_and_rest_part_the_cuts<T: Ord>()
     ensures common { (ones others : List (Ends T)) (cut : Cut T) → IsInSome T.cmp (common_spans T.cmp ones others) cut

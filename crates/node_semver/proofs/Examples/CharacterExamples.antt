@@ -3,7 +3,8 @@
 use Rattle.std.proofs.Common.{◌≡◌, ℕ, ◌+◌, zero, suc, List, [], ◌∷◌, ◌++◌, Some, Ok, arith, codes, refl}
 use Rattle.std.specs.Prelude.{map, not}
 use Rattle.std.specs.List.{AllByRecursion, filter}
-use Rattle.node_semver.specs.Characters.{is_blank, is_digit, is_identifier_character, is_partial_mark, is_version_mark, is_x}
+use Rattle.node_semver.specs.Characters.{is_blank, is_digit, is_identifier_character, is_partial_mark, is_version_mark}
+use Rattle.node_semver.specs.Characters.{is_x}
 use Rattle.node_semver.specs.Comparator.{Comparator, exactly}
 use Rattle.node_semver.specs.Error.{other}
 use Rattle.node_semver.specs.Fault.{IsFault}

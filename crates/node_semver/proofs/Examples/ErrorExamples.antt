@@ -2,7 +2,9 @@
 use Rattle.std.proofs.Common.{◌≡◌, ℕ, List, [], ◌∷◌, ◌++◌, Some, None, Bor, codes, refl}
 use Rattle.std.specs.Fmt.{digits}
 use Rattle.std.specs.declared.num.ParseIntError.{ParseIntError as IntFault}
-use Rattle.node_semver.specs.declared.error.kind.SemverErrorKind.TheVariants.{MaxLengthError, IncompleteInput, ParseIntError, MaxIntError, Context, NoValidRanges, Other, OutOfMemory}
+use Rattle.node_semver.specs.declared.error.kind.SemverErrorKind.TheVariants.{MaxLengthError, IncompleteInput}
+use Rattle.node_semver.specs.declared.error.kind.SemverErrorKind.TheVariants.{ParseIntError, MaxIntError, Context}
+use Rattle.node_semver.specs.declared.error.kind.SemverErrorKind.TheVariants.{NoValidRanges, Other, OutOfMemory}
 use Rattle.node_semver.specs.ErrorLocation.{column_at, lines_before}
 use Rattle.node_semver.specs.ErrorText.{kind_text}
 

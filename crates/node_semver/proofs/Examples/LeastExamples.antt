@@ -54,7 +54,8 @@ first_set-admits = record {
 }
 
 -- what lies after `1.0.0` is not below `1.0.1-0`
-after-first : (v : VersionValue) → IsCutAtMost version_cmp (After (release 1 0 0)) (Before v) → ¬ IsBelow v (least_of 1 0 1)
+after-first : (v : VersionValue) → IsCutAtMost version_cmp (After (release 1 0 0)) (Before v)
+    → ¬ IsBelow v (least_of 1 0 1)
 after-first v after below =
     let one = release 1 0 0 in
     (after-floor one (least_of 1 0 1) (next-above one) (none-before_next one)).none_below v after
@@ -79,7 +80,8 @@ release-not_least least = least.none_below (least_of 1 0 1) (inl first_set-admit
 
 nothing-admitted : AdmitsNone (span_between (After (tagged [])) (Before (tagged (numeric 0 ∷ []))) ∷ [])
 nothing-admitted v admits = elim admits [
-  | inl here ↦ (after-floor (tagged []) (tagged (numeric 0 ∷ [])) (next-above (tagged [])) (none-before_next (tagged []))).none_below
+  | inl here ↦ (after-floor (tagged []) (tagged (numeric 0 ∷ [])) (next-above (tagged []))
+      (none-before_next (tagged []))).none_below
       v here.inside.lower here.inside.upper
   | inr nowhere ↦ nowhere
 ]

@@ -1,4 +1,5 @@
--- Worked examples: the greatest numbers of a range text, and that the ends of ranges go no further than these take them.
+-- Worked examples: the greatest numbers of a range text, and that the ends of ranges go no further than these take
+-- them.
 use Rattle.std.proofs.Common.{◌≡◌, ℕ, ◌+◌, ◌≤◌, List, [], ◌∷◌, ◌++◌, codes, refl}
 use Rattle.std.specs.Fmt.{decimal, digits}
 use Rattle.semver_cuts.specs.declared.cut.Cut.TheVariants.{Before}

@@ -1,5 +1,6 @@
 -- What a text means, by tests that compute: for worked examples.
-use Rattle.std.proofs.Common.{◌≡◌, ◌≢◌, ◌↔◌, ℕ, zero, suc, Bool, true, false, List, [], ◌∷◌, ◌++◌, Option, Some, None, eq-eqb, refl, subst, inl, inr}
+use Rattle.std.proofs.Common.{◌≡◌, ◌≢◌, ◌↔◌, ℕ, zero, suc, Bool, true, false, List, [], ◌∷◌, ◌++◌, Option, Some, None}
+use Rattle.std.proofs.Common.{eq-eqb, refl, subst, inl, inr}
 use Rattle.std.proofs.lemmas.Bool.{and_from, and_parts, cases_Bool, eqb-true, or_cases, or_left, or_right}
 use Rattle.std.specs.List.{AllByRecursion, list_all, list_any}
 use Rattle.std.specs.Ordering.{is_le, is_lt}
@@ -12,13 +13,17 @@ use Rattle.semver_cuts.specs.Lemmas.Ends.{at_most-below, at_most-from_le, below-
 use Rattle.node_semver.specs.Characters.{is_blank}
 use Rattle.node_semver.specs.Comparator.{Comparator}
 use Rattle.node_semver.specs.Division.{IsAlternative, IsWritten}
-use Rattle.node_semver.specs.Meaning.{Admit, AnyByRecursion, GiveSet, HasOpenEnd, IsInside, IsRefused, Opens, TextAdmits}
+use Rattle.node_semver.specs.Meaning.{Admit, AnyByRecursion, GiveSet, HasOpenEnd, IsInside, IsRefused, Opens}
+use Rattle.node_semver.specs.Meaning.{TextAdmits}
 use Rattle.node_semver.specs.Comparison.{version_cmp}
 use Rattle.node_semver.specs.Lemmas.Order.{version_total}
 use Rattle.node_semver.specs.Private.PieceReading.{piece_at}
-use Rattle.node_semver.specs.Private.Reading.{list_prefix, list_rest, prefix_of, read_build, read_extras, read_number, read_prerelease, rest_of, skip_one, skip_plus}
+use Rattle.node_semver.specs.Private.Reading.{list_prefix, list_rest, prefix_of, read_build, read_extras, read_number}
+use Rattle.node_semver.specs.Private.Reading.{read_prerelease, rest_of, skip_one, skip_plus}
 use Rattle.node_semver.specs.Version.{HasSameTriple, IsPrerelease, VersionValue}
-use Rattle.node_semver.specs.Private.WordReading.{leading_or_none, read_component, read_components, read_hyphen, read_lead, read_operator, read_partial, read_right, read_simple, read_word}
+use Rattle.node_semver.specs.Private.WordReading.{leading_or_none, read_component, read_components, read_hyphen}
+use Rattle.node_semver.specs.Private.WordReading.{read_lead, read_operator, read_partial, read_right, read_simple}
+use Rattle.node_semver.specs.Private.WordReading.{read_word}
 use Rattle.node_semver.proofs.Ranges.AlternativeLemmas.{AreLeft, left-more, reads-start, written-unique}
 use Rattle.node_semver.proofs.Ranges.DivisionLemmas.{Completes, completes-end, completes-leading, completes-more}
 use Rattle.node_semver.specs.Private.WordViews.{listed}

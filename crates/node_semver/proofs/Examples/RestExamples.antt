@@ -1,4 +1,5 @@
--- Worked examples: which end stands where several sets of the other text touch one cut, in what one text has and another
+-- Worked examples: which end stands where several sets of the other text touch one cut, in what one text has and
+-- another
 -- has not; and what it is to have all cuts of another text.
 use Rattle.std.proofs.Common.{◌≡◌, ◌≢◌, ◌↔◌, ◌∙◌, ℕ, List, [], ◌∷◌, ◌++◌, ap, arith, codes, inl, inr, refl, subst}
 use Rattle.std.specs.Fmt.{digits}
@@ -214,7 +215,8 @@ below-print = (
 
 not_first-beginning : (before after : Sets) (span : Ends VersionValue) → beginning ≡ before ++ span ∷ after
     → span.lower ≡ Before other_build
-    → AllByRecursion (λ (s : Ends VersionValue). ¬ (cut_cmp version_cmp s.lower (Before other_build) ≡ Equal)) before → ⊥
+    → AllByRecursion (λ (s : Ends VersionValue). ¬ (cut_cmp version_cmp s.lower (Before other_build) ≡ Equal)) before
+    → ⊥
 not_first-beginning [] after span parts end_of earlier =
     let first : from_to one_build (release 3 0 0) ≡ span = cc parts in
     builds-apart (Before one_build) (Before other_build) refl refl

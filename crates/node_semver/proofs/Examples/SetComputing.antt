@@ -1,5 +1,6 @@
 -- The sets of a text, by tests that compute: for worked examples.
-use Rattle.std.proofs.Common.{◌≡◌, ◌↔◌, ℕ, Bool, true, List, [], ◌∷◌, ◌++◌, Option, Some, None, append_assoc, inl, inr, refl, subst}
+use Rattle.std.proofs.Common.{◌≡◌, ◌↔◌, ℕ, Bool, true, List, [], ◌∷◌, ◌++◌, Option, Some, None, append_assoc, inl, inr}
+use Rattle.std.proofs.Common.{refl, subst}
 use Rattle.std.proofs.lemmas.Bool.{and_parts, cases_Bool}
 use Rattle.std.specs.List.{AllByRecursion, list_all}
 use Rattle.std.specs.Ordering.{is_le, is_lt}
@@ -14,7 +15,8 @@ use Rattle.node_semver.specs.Comparison.{version_cmp}
 use Rattle.node_semver.specs.Merging.{AreSetsOf, AreSetsOfText, no_more, none, one_more}
 use Rattle.node_semver.specs.RangePrint.{range_text}
 use Rattle.node_semver.specs.Version.{VersionValue}
-use Rattle.node_semver.proofs.Examples.RangeComputing.{all-iff, alternatives_in, are_crossed, first-same, gives-by, lies_in, none-by, written-by}
+use Rattle.node_semver.proofs.Examples.RangeComputing.{all-iff, alternatives_in, are_crossed, first-same, gives-by}
+use Rattle.node_semver.proofs.Examples.RangeComputing.{lies_in, none-by, written-by}
 
 -- ---- an end of the comparators
 

@@ -9,7 +9,9 @@ use Rattle.node_semver.specs.Meaning.{AnyByRecursion}
 use Rattle.node_semver.specs.SetTree.{Formula, InFormula, TextHasCut, both, of_text, without}
 use Rattle.node_semver.specs.Version.{VersionValue, least_of, release}
 use Rattle.node_semver.proofs.Ranges.AlternativeLemmas.{written-unique}
-use Rattle.node_semver.proofs.Examples.RangeComputing.{Holds, all-iff, alternatives_in, any-iff, elements-iff, has_elements, holds, holds-iff, lies_in, lies_in_some, refused-by, written-by}
+use Rattle.node_semver.proofs.Examples.RangeComputing.{Holds, all-iff, alternatives_in, any-iff, elements-iff}
+use Rattle.node_semver.proofs.Examples.RangeComputing.{has_elements, holds, holds-iff, lies_in, lies_in_some}
+use Rattle.node_semver.proofs.Examples.RangeComputing.{refused-by, written-by}
 use Rattle.node_semver.proofs.Examples.RangeExamples.{no_word}
 use Rattle.node_semver.proofs.Sets.TextCuts.{HasCutSome, refused-cut}
 

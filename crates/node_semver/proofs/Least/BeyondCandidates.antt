@@ -15,7 +15,8 @@ use Rattle.node_semver.specs.Lemmas.Order.{Less-version, version-Equal, version_
 use Rattle.node_semver.specs.Private.BeyondViews.{after_by, before_by, candidates_at}
 use Rattle.node_semver.proofs.Least.LeastLemmas.{IsFloor, after-floor, at-least, before-floor, same-floor, start-floor}
 use Rattle.node_semver.proofs.Sets.Convex.{by-value, from-cmp, prerelease-below, triple-back, triple-between}
-use Rattle.node_semver.proofs.Versions.VersionSteps.{none-below_least, none-between_patches, none-between_zeros, patch-above, prerelease-from_below, with_zero-above}
+use Rattle.node_semver.proofs.Versions.VersionSteps.{none-below_least, none-between_patches, none-between_zeros}
+use Rattle.node_semver.proofs.Versions.VersionSteps.{patch-above, prerelease-from_below, with_zero-above}
 
 -- ---- the least version after a cut, and the release of its triple
 

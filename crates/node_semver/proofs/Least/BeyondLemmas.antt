@@ -12,9 +12,12 @@ use Rattle.node_semver.specs.Least.{AdmitsBeyond}
 use Rattle.node_semver.specs.Meaning.{Opens, SetAdmits}
 use Rattle.node_semver.specs.Version.{IsPrerelease, VersionValue}
 use Rattle.node_semver.specs.Lemmas.Order.{Less-version, version-Less, version_total}
-use Rattle.node_semver.specs.Private.BeyondViews.{IsBest, IsCutTried, IsLeastBeyondOrNone, IsNotBelow, IsSetTried, IsTried, candidates_at}
-use Rattle.node_semver.proofs.Least.BeyondCandidates.{least_of_triple, prerelease-candidate, release-candidate, shut-below}
-use Rattle.node_semver.proofs.Least.HighestCut.{AskAlike, all-map, beyond-between, both_prereleases, both_releases, highest, set-between, some-along}
+use Rattle.node_semver.specs.Private.BeyondViews.{IsBest, IsCutTried, IsLeastBeyondOrNone, IsNotBelow, IsSetTried}
+use Rattle.node_semver.specs.Private.BeyondViews.{IsTried, candidates_at}
+use Rattle.node_semver.proofs.Least.BeyondCandidates.{least_of_triple, prerelease-candidate, release-candidate}
+use Rattle.node_semver.proofs.Least.BeyondCandidates.{shut-below}
+use Rattle.node_semver.proofs.Least.HighestCut.{AskAlike, all-map, beyond-between, both_prereleases, both_releases}
+use Rattle.node_semver.proofs.Least.HighestCut.{highest, set-between, some-along}
 use Rattle.node_semver.proofs.Least.LeastLemmas.{at-least}
 use Rattle.node_semver.proofs.Least.LeastOfSets.{not-below}
 use Rattle.node_semver.proofs.Versions.VersionSteps.{none-below_least}
@@ -43,7 +46,8 @@ module _ (P : VersionValue → Type 0) (sets others : List (Ends VersionValue)) 
     uppers : AllByRecursion (λ (s : Ends VersionValue). IsCutAtMost version_cmp s.upper (Before w) → IsCutAtMost version_cmp s.upper c) others
 
   -- a candidate that is one between them
-  between : (c : Cut VersionValue) → IsLastCut c → (x : VersionValue) → P x → AskAlike x w → IsCutAtMost version_cmp c (Before x)
+  between : (c : Cut VersionValue) → IsLastCut c → (x : VersionValue) → P x → AskAlike x w
+      → IsCutAtMost version_cmp c (Before x)
       → ¬ (version_cmp w x ≡ Less) → CandidateBelow P sets others w
   between c last x is alike from above = record {
     version = x;
@@ -74,12 +78,17 @@ module _ (P : VersionValue → Type 0) (sets others : List (Ends VersionValue)) 
       → IsCutBelow version_cmp c (Before (least_of_triple w)) → CandidateBelow P sets others w
   of-opened c last set candidates admits lower pre below =
       let zero = least_of_triple w in
-      let alike : AskAlike zero w = both_prereleases (λ e. cc e) pre (record { major = refl; minor = refl; patch = refl }) in
+      let alike : AskAlike zero w = both_prereleases (λ e. cc e) pre
+      (record { major = refl; minor = refl; patch = refl }) in
       let above : ¬ (version_cmp w zero ≡ Less) = λ less. none-below_least w w.major w.minor w.patch
       (record { major = refl; minor = refl; patch = refl }) (Less-version w zero less) in
       let shut : ¬ Opens set.lower w =
       shut-below set.lower w (at_most-below version_total set.lower c (Before zero) lower below) in
-      let opens : Opens set.upper w = elim (admits.opened pre) [ inl opens ↦ absurd (shut opens) | inr opens ↦ opens ] in
+      let opens : Opens set.upper w = elim (admits.opened pre) [
+        | inl opens ↦ absurd
+            (shut opens)
+        | inr opens ↦ opens
+      ] in
       let admitted = set-between c zero w alike (inl below) (at-least zero w above) set (λ _. lower) admits in
       between c last zero (candidates.opened w opens admitted) alike (inl below) above
 
@@ -102,15 +111,18 @@ module _ (P : VersionValue → Type 0) (sets others : List (Ends VersionValue)) 
       let some = some-along (IsCandidateSet P) (λ (s : Ends VersionValue). SetAdmits s w) sets each beyond.admitted in
       let set = some.0 in
       let first = highest Tried (λ (s : Ends VersionValue). s.lower) w sets set.lower some.1.lower some.2.inside.lower
-      (all-map (IsCandidateSet P) (λ (s : Ends VersionValue). Tried s.lower) sets (λ s candidates. candidates.lower) each) in
+      (all-map (IsCandidateSet P) (λ (s : Ends VersionValue). Tried s.lower) sets
+      (λ s candidates. candidates.lower) each) in
       let last = highest Tried (λ (s : Ends VersionValue). s.upper) w others first.cut first.is first.highest.below ends in
       let c = last.cut in
       let cut : IsLastCut c = record {
         below = last.highest.below;
         lowers = all-map
-            (λ (s : Ends VersionValue). IsCutAtMost version_cmp s.lower (Before w) → IsCutAtMost version_cmp s.lower first.cut)
+            (λ (s : Ends VersionValue). IsCutAtMost version_cmp s.lower (Before w)
+            → IsCutAtMost version_cmp s.lower first.cut)
             (λ (s : Ends VersionValue). IsCutAtMost version_cmp s.lower (Before w) → IsCutAtMost version_cmp s.lower c)
-            sets (λ s at_most inside. at_most_trans version_total s.lower first.cut c (at_most inside) last.highest.above)
+            sets (λ s at_most inside. at_most_trans version_total s.lower first.cut c
+            (at_most inside) last.highest.above)
             first.highest.each;
         uppers = last.highest.each;
       } in

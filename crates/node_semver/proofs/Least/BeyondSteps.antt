@@ -1,5 +1,6 @@
 -- Candidates that are tried one after another, so that the best stays the least of them.
-use Rattle.std.proofs.Common.{◌≡◌, ◌≢◌, ◌+◌, ◌<◌, ◌∙◌, ℕ, List, [], ◌∷◌, ◌++◌, Option, Some, None, length, get_or, take, refl, sym, ap, subst, Less}
+use Rattle.std.proofs.Common.{◌≡◌, ◌≢◌, ◌+◌, ◌<◌, ◌∙◌, ℕ, List, [], ◌∷◌, ◌++◌, Option, Some, None, length, get_or, take}
+use Rattle.std.proofs.Common.{refl, sym, ap, subst, Less}
 use Rattle.std.proofs.lemmas.List.{take_more}
 use Rattle.std.specs.Cmp.{tied_itself}
 use Rattle.std.specs.List.{AllByRecursion}
@@ -13,7 +14,9 @@ use Rattle.node_semver.specs.Meaning.{SetAdmits}
 use Rattle.node_semver.specs.Version.{IsPrerelease, VersionValue, least_of, release, without_build}
 use Rattle.node_semver.specs.VersionSteps.{with_zero}
 use Rattle.node_semver.specs.Lemmas.Order.{version_total}
-use Rattle.node_semver.specs.Private.BeyondViews.{AreSetsTried, AreUppersTried, IsBelowBest, IsCutTrial, IsCutTried, IsLeastOpened, IsOpenTrial, IsSetTrial, IsSetTried, IsShut, IsStep, IsTrial, IsTried, after_by, before_by, candidates_at}
+use Rattle.node_semver.specs.Private.BeyondViews.{AreSetsTried, AreUppersTried, IsBelowBest, IsCutTrial, IsCutTried}
+use Rattle.node_semver.specs.Private.BeyondViews.{IsLeastOpened, IsOpenTrial, IsSetTrial, IsSetTried, IsShut, IsStep}
+use Rattle.node_semver.specs.Private.BeyondViews.{IsTrial, IsTried, after_by, before_by, candidates_at}
 use Rattle.node_semver.proofs.Least.HighestCut.{all-map}
 
 never-below_itself : (v : VersionValue) → ¬ (version_cmp v v ≡ Less)
@@ -25,7 +28,8 @@ module _ (sets others : List (Ends VersionValue)) where
   pub same-step : (best : Option VersionValue) → IsStep sets others best best
   same-step best = record { best = λ is. is; kept = λ v not. not }
 
-  pub step-step : (a b c : Option VersionValue) → IsStep sets others a b → IsStep sets others b c → IsStep sets others a c
+  pub step-step : (a b c : Option VersionValue) → IsStep sets others a b → IsStep sets others b c
+      → IsStep sets others a c
   step-step a b c first second = record {
     best = λ is. second.best (first.best is);
     kept = λ v not. second.kept v (first.kept v not);
@@ -37,7 +41,8 @@ module _ (sets others : List (Ends VersionValue)) where
   tried-kept a b step v tried = λ beyond. step.kept v (tried beyond)
 
   -- a version that is below the best so far
-  lower-step : (best : Option VersionValue) (v : VersionValue) → v.build ≡ [] → IsBelowBest best v → AdmitsBeyond sets others v
+  lower-step : (best : Option VersionValue) (v : VersionValue) → v.build ≡ [] → IsBelowBest best v
+      → AdmitsBeyond sets others v
       → IsStep sets others best (Some v)
   lower-step None v plain below beyond = record { best = λ is. (beyond, plain); kept = λ w not. absurd not }
   lower-step (Some b) v plain below beyond = record {
@@ -69,7 +74,8 @@ module _ (sets others : List (Ends VersionValue)) where
   pub end-trial : (best : Option VersionValue) → IsCutTrial sets others best End best
   end-trial best = record { step = same-step best; tried = tt }
 
-  before-two : (P : VersionValue → Type 0) (v : VersionValue) (xs : List IdentifierValue) → xs ≢ [] → P (without_build v)
+  before-two : (P : VersionValue → Type 0) (v : VersionValue) (xs : List IdentifierValue) → xs ≢ []
+      → P (without_build v)
       → P (release v.major v.minor v.patch) → AllByRecursion P (before_by v xs)
   before-two P v [] some first second = absurd (some refl)
   before-two P v (x ∷ xs) some first second = (first, (second, tt))
@@ -90,7 +96,8 @@ module _ (sets others : List (Ends VersionValue)) where
   after-one P v (x ∷ xs) none only = absurd (none (λ e. cc e))
 
   pub before-prerelease-trial : (best first later : Option VersionValue) (v : VersionValue) → IsPrerelease v
-      → IsTrial sets others best (without_build v) first → IsTrial sets others first (release v.major v.minor v.patch) later
+      → IsTrial sets others best (without_build v) first
+      → IsTrial sets others first (release v.major v.minor v.patch) later
       → IsCutTrial sets others best (Before v) later
   before-prerelease-trial best first later v pre one two = record {
     step = step-step best first later one.step two.step;
@@ -115,7 +122,8 @@ module _ (sets others : List (Ends VersionValue)) where
   }
 
   pub after-release-trial : (best later : Option VersionValue) (v : VersionValue) → ¬ IsPrerelease v
-      → IsTrial sets others best (release v.major v.minor (v.patch + 1)) later → IsCutTrial sets others best (After v) later
+      → IsTrial sets others best (release v.major v.minor (v.patch + 1)) later
+      → IsCutTrial sets others best (After v) later
   after-release-trial best later v final only = record {
     step = only.step;
     tried = after-one (IsTried sets others later) v v.pre_release final only.tried;
@@ -124,7 +132,8 @@ module _ (sets others : List (Ends VersionValue)) where
   -- ---- the triple that an upper end opens
 
   pub open-trial : (best later : Option VersionValue) (set : Ends VersionValue) (least : VersionValue)
-      → IsLeastOpened set.upper (Some least) → IsTrial sets others best least later → IsOpenTrial sets others best set later
+      → IsLeastOpened set.upper (Some least) → IsTrial sets others best least later
+      → IsOpenTrial sets others best set later
   open-trial best later set least opened trial = record {
     step = trial.step;
     tried = λ v opens admits. subst (IsTried sets others later) (sym (opened.1 v opens)) trial.tried;
@@ -161,7 +170,8 @@ module _ (sets others : List (Ends VersionValue)) where
     };
   }
 
-  set-kept : (a b : Option VersionValue) → IsStep sets others a b → (set : Ends VersionValue) → IsSetTried sets others a set
+  set-kept : (a b : Option VersionValue) → IsStep sets others a b → (set : Ends VersionValue)
+      → IsSetTried sets others a set
       → IsSetTried sets others b set
   set-kept a b step set tried = record {
     lower = all-kept a b step (candidates_at set.lower) tried.lower;
@@ -169,12 +179,14 @@ module _ (sets others : List (Ends VersionValue)) where
   }
 
   more-taken : (P : Ends VersionValue → Type 0) (all : List (Ends VersionValue)) (k : ℕ) (set : Ends VersionValue)
-      → k < length all → set ≡ get_or all k set → AllByRecursion P (take k all) → P set → AllByRecursion P (take (k + 1) all)
+      → k < length all → set ≡ get_or all k set → AllByRecursion P (take k all) → P set
+      → AllByRecursion P (take (k + 1) all)
   more-taken P all k set lt is each this = subst (AllByRecursion P)
       (sym (take_more all k set lt ∙ ap (λ (s : Ends VersionValue). take k all ++ s ∷ []) (sym is)))
       (all-append P (take k all) (set ∷ []) each (this, tt))
 
-  pub sets-more : (all : List (Ends VersionValue)) (k : ℕ) (set : Ends VersionValue) (earlier later : Option VersionValue)
+  pub sets-more : (all : List (Ends VersionValue)) (k : ℕ) (set : Ends VersionValue)
+      (earlier later : Option VersionValue)
       → k < length all → set ≡ get_or all k set → AreSetsTried sets others (take k all) earlier
       → IsSetTrial sets others earlier set later → AreSetsTried sets others (take (k + 1) all) later
   sets-more all k set earlier later lt is tried trial = record {
@@ -184,7 +196,8 @@ module _ (sets others : List (Ends VersionValue)) where
         (set-kept earlier later trial.step) tried.each) trial.tried;
   }
 
-  pub uppers-more : (all : List (Ends VersionValue)) (k : ℕ) (set : Ends VersionValue) (earlier later : Option VersionValue)
+  pub uppers-more : (all : List (Ends VersionValue)) (k : ℕ) (set : Ends VersionValue)
+      (earlier later : Option VersionValue)
       → k < length all → set ≡ get_or all k set → AreUppersTried sets others (take k all) earlier
       → IsCutTrial sets others earlier set.upper later → AreUppersTried sets others (take (k + 1) all) later
   uppers-more all k set earlier later lt is tried trial =
@@ -197,6 +210,7 @@ module _ (sets others : List (Ends VersionValue)) where
               (set-kept earlier later trial.step) tried.lowers.each;
         };
         each = more-taken Now all k set lt is
-            (all-map Earlier Now (take k all) (λ s cut. all-kept earlier later trial.step (candidates_at s.upper) cut) tried.each)
+            (all-map Earlier Now (take k all)
+            (λ s cut. all-kept earlier later trial.step (candidates_at s.upper) cut) tried.each)
             trial.tried;
       }

@@ -1,5 +1,6 @@
 -- The greatest version of a list that a range admits, as one version more is looked at.
-use Rattle.std.proofs.Common.{◌≡◌, ◌↔◌, ◌+◌, ◌<◌, ◌∙◌, ℕ, List, [], ◌∷◌, ◌++◌, Option, Some, None, IfSome, IsNone, length, get_or, take, refl, sym, ap, subst, inl, inr, Less, append_assoc}
+use Rattle.std.proofs.Common.{◌≡◌, ◌↔◌, ◌+◌, ◌<◌, ◌∙◌, ℕ, List, [], ◌∷◌, ◌++◌, Option, Some, None, IfSome, IsNone}
+use Rattle.std.proofs.Common.{length, get_or, take, refl, sym, ap, subst, inl, inr, Less, append_assoc}
 use Rattle.std.proofs.lemmas.List.{take_more}
 use Rattle.std.specs.Cmp.{alike_right}
 use Rattle.std.specs.Option.{option_map}
@@ -27,7 +28,11 @@ module _ (sets : List (Ends VersionValue)) where
   not-itself v below = version-Less-irrefl (version-Less v v below)
     where
       version-Less-irrefl : ¬ (version_cmp v v ≡ Less)
-      version-Less-irrefl less = cc (less, version-Equal v v (record { triple = record { major = refl; minor = refl; patch = refl }; pre_release = refl }))
+      version-Less-irrefl less = cc (
+        less,
+        version-Equal v v
+            (record { triple = record { major = refl; minor = refl; patch = refl }; pre_release = refl }),
+      )
 
   -- the first that is admitted
   take-first : (done : List VersionValue) (v : VersionValue) → AdmitsNoneIn sets done → RangeAdmits sets v
@@ -38,9 +43,11 @@ module _ (sets : List (Ends VersionValue)) where
     parts = refl;
     admitted = admits;
     none_above = all-append (NoneAbove v) done (v ∷ [])
-        (all-map (λ (w : VersionValue). ¬ RangeAdmits sets w) (NoneAbove v) done (λ w not admitted. absurd (not admitted)) none)
+        (all-map (λ (w : VersionValue). ¬ RangeAdmits sets w) (NoneAbove v) done
+        (λ w not admitted. absurd (not admitted)) none)
         ((λ _. not-itself v), tt);
-    none_same = all-map (λ (w : VersionValue). ¬ RangeAdmits sets w) (NoneSame v) done (λ w not admitted. absurd (not admitted)) none;
+    none_same = all-map (λ (w : VersionValue). ¬ RangeAdmits sets w) (NoneSame v) done
+        (λ w not admitted. absurd (not admitted)) none;
   }
 
   -- one that is above the greatest so far
@@ -81,7 +88,8 @@ module _ (sets : List (Ends VersionValue)) where
   more-greatest done v None found none (inl (above, admits, is)) =
       subst (IsGreatestOrNone sets (done ++ v ∷ [])) (sym is) (take-first done v none admits)
   more-greatest done v None found none (inr (not, is)) = subst (IsGreatestOrNone sets (done ++ v ∷ [])) (sym is)
-      (all-append (λ (w : VersionValue). ¬ RangeAdmits sets w) done (v ∷ []) none ((λ admitted. not (tt, admitted)), tt))
+      (all-append (λ (w : VersionValue). ¬ RangeAdmits sets w) done (v ∷ []) none
+      ((λ admitted. not (tt, admitted)), tt))
   more-greatest done v (Some best) found greatest (inl (above, admits, is)) =
       subst (IsGreatestOrNone sets (done ++ v ∷ [])) (sym is) (take-above done best v greatest above admits)
   more-greatest done v (Some best) found greatest (inr (not, is)) =
@@ -114,7 +122,8 @@ none-at sets before after versions v parts admits none =
     turned-away (w ∷ l) none = turned-away l none.1
 
 pub none-greatest : {R : Type 0} (r : Option R) (now : R → VersionValue) (sets : List (Ends VersionValue))
-    (versions : List VersionValue) → IsGreatestOrNone sets versions (option_map now r) → IsNone r ↔ AdmitsNoneIn sets versions
+    (versions : List VersionValue) → IsGreatestOrNone sets versions (option_map now r)
+    → IsNone r ↔ AdmitsNoneIn sets versions
 none-greatest (Some v) now sets versions greatest = (
   λ e. cc e,
   λ none. absurd (none-at sets greatest.before greatest.after versions (now v) greatest.parts greatest.admitted none),

@@ -4,7 +4,8 @@ use Rattle.std.specs.List.{AllByRecursion}
 use Rattle.semver_cuts.specs.declared.cut.Cut.{Cut}
 use Rattle.semver_cuts.specs.declared.cut.Cut.TheVariants.{Start, Before, After, End}
 use Rattle.semver_cuts.specs.Ends.{Ends, IsCutAtMost}
-use Rattle.semver_cuts.specs.Lemmas.Ends.{at_most-below, at_most-or-below, at_most_refl, at_most_trans, below-not-at_most}
+use Rattle.semver_cuts.specs.Lemmas.Ends.{at_most-below, at_most-or-below, at_most_refl, at_most_trans}
+use Rattle.semver_cuts.specs.Lemmas.Ends.{below-not-at_most}
 use Rattle.node_semver.specs.Comparison.{version_cmp}
 use Rattle.node_semver.specs.Least.{AdmitsBeyond}
 use Rattle.node_semver.specs.Meaning.{AnyByRecursion, HasOpenEnd, Opens, SetAdmits}
@@ -35,7 +36,8 @@ some-along R P (x ∷ xs) all (inr there) = some-along R P xs all.1 there
 -- ---- the highest cut
 
 -- the cut is not above the version, is at least the first cut, and no end of the list lies between it and the version
-pub record IsHighest {X : Type 0} (end : X → Cut VersionValue) (xs : List X) (w : VersionValue) (first c : Cut VersionValue)
+pub record IsHighest {X : Type 0} (end : X → Cut VersionValue) (xs : List X) (w : VersionValue)
+    (first c : Cut VersionValue)
     : Type 0 where
   pub below : IsCutAtMost version_cmp c (Before w)
   pub above : IsCutAtMost version_cmp first c
@@ -65,7 +67,11 @@ module _ {X : Type 0} (P : Cut VersionValue → Type 0) (end : X → Cut Version
           highest = record {
             below = found.highest.below;
             above = found.highest.above;
-            each = (λ _. at_most_trans version_total (end x) first found.cut lower found.highest.above, found.highest.each);
+            each = (
+              λ _. at_most_trans version_total
+                  (end x) first found.cut lower found.highest.above,
+              found.highest.each,
+            );
           };
         }
     | inr higher ↦ elim (at_most-or-below version_total (end x) (Before w)) [
@@ -177,9 +183,11 @@ module _ (c : Cut VersionValue) (x w : VersionValue) (alike : AskAlike x w)
       → AllByRecursion (λ (set : Ends VersionValue). IsCutAtMost version_cmp set.upper (Before w) → IsCutAtMost version_cmp set.upper c) others
       → AdmitsBeyond sets others w → AdmitsBeyond sets others x
   beyond-between sets others lowers uppers beyond = record {
-    admitted = any-along _ (λ (set : Ends VersionValue). SetAdmits set w) (λ (set : Ends VersionValue). SetAdmits set x) sets
+    admitted = any-along _ (λ (set : Ends VersionValue). SetAdmits set w)
+        (λ (set : Ends VersionValue). SetAdmits set x) sets
         (λ set lower. set-between set lower) lowers beyond.admitted;
     turned_away = λ admits. beyond.turned_away
-        (any-along _ (λ (set : Ends VersionValue). SetAdmits set x) (λ (set : Ends VersionValue). SetAdmits set w) others
+        (any-along _ (λ (set : Ends VersionValue). SetAdmits set x)
+        (λ (set : Ends VersionValue). SetAdmits set w) others
         (λ set upper. set-beyond set upper) uppers admits);
   }

@@ -1,5 +1,6 @@
 -- The least version that a set admits: where the set begins, and what its ends open.
-use Rattle.std.proofs.Common.{◌≡◌, ◌↔◌, ◌⊎◌, ◌+◌, ◌∙◌, ℕ, List, [], ◌∷◌, ◌++◌, Bool, true, false, not, Option, IsTrue, refl, sym, ap, subst, inl, inr, Ordering, Less, Equal, Greater}
+use Rattle.std.proofs.Common.{◌≡◌, ◌↔◌, ◌⊎◌, ◌+◌, ◌∙◌, ℕ, List, [], ◌∷◌, ◌++◌, Bool, true, false, not, Option, IsTrue}
+use Rattle.std.proofs.Common.{refl, sym, ap, subst, inl, inr, Ordering, Less, Equal, Greater}
 use Rattle.std.specs.Ordering.{ordering_then}
 use Rattle.std.specs.Cmp.{alike_right, tied_back, tied_itself}
 use Rattle.semver_cuts.specs.declared.cut.Cut.{Cut}
@@ -16,7 +17,8 @@ use Rattle.node_semver.specs.VersionSteps.{with_zero}
 use Rattle.node_semver.specs.Lemmas.Order.{Greater-turned, Less-version, version-Equal, version-Less, version_total}
 use Rattle.node_semver.specs.Private.LeastViews.{IsInsideOrNone, IsLeastInSet, IsLeastOfSet, IsLeastOfTriple}
 use Rattle.node_semver.proofs.Sets.Convex.{from-cmp, triple-between}
-use Rattle.node_semver.proofs.Versions.VersionSteps.{none-below_first, none-between_patches, none-between_zeros, patch-above, prerelease-from_below, with_zero-above}
+use Rattle.node_semver.proofs.Versions.VersionSteps.{none-below_first, none-between_patches, none-between_zeros}
+use Rattle.node_semver.proofs.Versions.VersionSteps.{patch-above, prerelease-from_below, with_zero-above}
 
 -- ---- versions and ends
 
@@ -43,7 +45,8 @@ pub inside-after : (v w : VersionValue) (upper : Cut VersionValue) (below : Bool
 inside-after v w upper below is test = (
   λ h. subst (λ (c : Cut VersionValue). IsCutBelow version_cmp (Before v) c) (sym is)
       (forward (at-least v w (λ less. so-not below h (test.1 less)))),
-  λ inside. not-so below (λ yes. backward (test.0 yes) (subst (λ (c : Cut VersionValue). IsCutBelow version_cmp (Before v) c) is inside)),
+  λ inside. not-so below (λ yes. backward (test.0 yes)
+      (subst (λ (c : Cut VersionValue). IsCutBelow version_cmp (Before v) c) is inside)),
 )
   where
     forward : (version_cmp v w ≡ Less) ⊎ (version_cmp v w ≡ Equal) → ordering_then (version_cmp v w) Less ≡ Less
@@ -118,12 +121,18 @@ from-closed : (set : Ends VersionValue) (m n p : ℕ) (v : VersionValue) → IsF
     → HasSameTriple v (least_of m n p) → ¬ IsPrerelease v → ¬ HasOpenEnd v set → IsBeginning set v
 from-closed set m n p v floor triple final closed =
     let least = least_of m n p in
-    let back : HasSameTriple least v = record { major = sym triple.major; minor = sym triple.minor; patch = sym triple.patch } in
+    let back : HasSameTriple least v = record {
+      major = sym triple.major;
+      minor = sym triple.minor;
+      patch =
+          sym triple.patch;
+    } in
     record {
       at = at_most_trans version_total set.lower (Before least) (Before v) floor.at
           (at-least least v (λ less. final (prerelease-from_below v least triple (Less-version v least less))));
       none_below = λ w admits less.
-          let t = triple-between least w v (from-cmp least w (at-least least w (floor.none_below w admits.inside.lower)))
+          let t = triple-between least w v (from-cmp least w
+          (at-least least w (floor.none_below w admits.inside.lower)))
           (inl (Less-version w v less)) back in
           let pre = prerelease-from_below w v t (Less-version w v less) in
           closed (open-same set w v t (admits.opened pre));
@@ -200,7 +209,11 @@ pub zero-candidate : (set : Ends VersionValue) (v w : VersionValue) → set.lowe
 zero-candidate set v w is pre same =
     let zero : VersionValue = record v { pre_release = v.pre_release ++ numeric 0 ∷ [] } in
     let floor : IsFloor (After v) zero = same-floor (After v) (with_zero v) zero
-    (version-Equal (with_zero v) zero (record { triple = record { major = refl; minor = refl; patch = refl }; pre_release = refl }))
+    (version-Equal (with_zero v) zero (record {
+      triple =
+          record { major = refl; minor = refl; patch = refl };
+      pre_release = refl;
+    }))
     (after-floor v (with_zero v) (with_zero-above v pre) (λ w. none-between_zeros v w pre)) in
     subst (IsCandidate set) (sym same) (record {
       begins = from-floor set zero (subst (λ (c : Cut VersionValue). IsFloor c zero) (sym is) floor);
@@ -217,7 +230,8 @@ triple-candidate set m n p build w floor closed same (inl (opens, is)) =
     let least : VersionValue = record (least_of m n p) { build = build } in
     subst (IsCandidate set) (sym is) (record {
       begins = from-floor set least (same-floor set.lower (least_of m n p) least
-          (version-Equal (least_of m n p) least (record { triple = record { major = refl; minor = refl; patch = refl }; pre_release = refl })) floor);
+          (version-Equal (least_of m n p) least
+          (record { triple = record { major = refl; minor = refl; patch = refl }; pre_release = refl })) floor);
       opened = λ _. inr (as_release set.upper opens);
       build = same;
     })

@@ -1,5 +1,7 @@
 -- The least version that a list of sets admits, from that of each set.
-use Rattle.std.proofs.Common.{◌≡◌, ◌↔◌, ◌⊎◌, ◌+◌, ◌<◌, ◌≤◌, ◌∙◌, ℕ, true, false, arith, Ok, Err, IfOk, IsNone, List, [], ◌∷◌, ◌++◌, Option, Some, None, length, get_or, take, refl, sym, ap, subst, inl, inr, Less, append_assoc}
+use Rattle.std.proofs.Common.{◌≡◌, ◌↔◌, ◌⊎◌, ◌+◌, ◌<◌, ◌≤◌, ◌∙◌, ℕ, true, false, arith, Ok, Err, IfOk, IsNone, List, []}
+use Rattle.std.proofs.Common.{◌∷◌, ◌++◌, Option, Some, None, length, get_or, take, refl, sym, ap, subst, inl, inr, Less}
+use Rattle.std.proofs.Common.{append_assoc}
 use Rattle.std.proofs.lemmas.List.{take_more}
 use Rattle.std.specs.Cmp.{alike_right}
 use Rattle.std.specs.List.{AllByRecursion}
@@ -110,7 +112,8 @@ take-earlier done set v least built above = (
 )
 
 -- what is not below a version that is not below another is not below that
-pub not-below : (u v w : VersionValue) → ¬ (version_cmp v w ≡ Less) → ¬ (version_cmp u v ≡ Less) → ¬ (version_cmp u w ≡ Less)
+pub not-below : (u v w : VersionValue) → ¬ (version_cmp v w ≡ Less) → ¬ (version_cmp u v ≡ Less)
+    → ¬ (version_cmp u w ≡ Less)
 not-below u v w n m less = elim (at-least w v n) [
   | inl above ↦ m (version_total.trans u w v less above)
   | inr same ↦ m (sym (alike_right version_total w v u same) ∙ less)
@@ -138,7 +141,8 @@ more-least done set (Some e) (Some l) found least later (inr (above, is)) =
     (λ w admits. not-below w l e above (later.none_below w admits)))
 
 -- as a loop goes over the sets
-pub taken-least : (sets : List (Ends VersionValue)) (k : ℕ) (set : Ends VersionValue) (earlier later found : Option VersionValue)
+pub taken-least : (sets : List (Ends VersionValue)) (k : ℕ) (set : Ends VersionValue)
+    (earlier later found : Option VersionValue)
     → k < length sets → set ≡ get_or sets k set → IsLeastOfSets (take k sets) earlier → IsLeastOfSet set later
     → IsLesser earlier later found → IsLeastOfSets (take (k + 1) sets) found
 taken-least sets k set earlier later found lt is least later_least lesser =

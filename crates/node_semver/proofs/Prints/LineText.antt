@@ -1,5 +1,6 @@
 -- What stands in a line from a place on, where nothing lies past its end.
-use Rattle.std.proofs.Common.{◌≡◌, ◌∙◌, ◌≤◌, ℕ, List, ◌++◌, Option, Some, None, IfSome, append-nil, ap, codes, drop, if◌then◌else◌, length, sym, true}
+use Rattle.std.proofs.Common.{◌≡◌, ◌∙◌, ◌≤◌, ℕ, List, ◌++◌, Option, Some, None, IfSome, append-nil, ap, codes, drop}
+use Rattle.std.proofs.Common.{if◌then◌else◌, length, sym, true}
 use Rattle.std.proofs.lemmas.List.{drop_all}
 use Rattle.std.specs.Ordering.{eq_by_cmp}
 use Rattle.semver_cuts.specs.declared.cut.Cut.TheVariants.{Before, After, End}

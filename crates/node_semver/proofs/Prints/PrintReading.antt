@@ -1,13 +1,16 @@
 -- The print of a version of which a text can write the numbers and the identifiers is such a text.
-use Rattle.std.proofs.Common.{◌≡◌, ◌<◌, ◌≤◌, ◌^◌, ◌∙◌, ℕ, Bool, true, false, List, [], ◌∷◌, ◌++◌, map, length, append_assoc, arith, refl, sym, ap, subst, inl, inr}
+use Rattle.std.proofs.Common.{◌≡◌, ◌<◌, ◌≤◌, ◌^◌, ◌∙◌, ℕ, Bool, true, false, List, [], ◌∷◌, ◌++◌, map, length}
+use Rattle.std.proofs.Common.{append_assoc, arith, refl, sym, ap, subst, inl, inr}
 use Rattle.std.proofs.lemmas.Bool.{and_from, and_parts, cases_Bool, lt-ltb, ltb-true}
 use Rattle.std.proofs.lemmas.Fmt.{decimal_nonempty, digits_decimal, digits_value-decimal}
 use Rattle.std.specs.Fmt.{decimal}
 use Rattle.std.specs.List.{AllByRecursion, join_with_byte, list_all}
 use Rattle.std.specs.Prelude.{◌&&◌, nat_lt}
 use Rattle.node_semver.specs.declared.TheConstants.{MAX_LENGTH, MAX_SAFE_INTEGER}
-use Rattle.node_semver.specs.Characters.{AreAll, BeginsWith, BeginsWithNo, dot, hyphen, is_digit, is_identifier_character, is_version_mark, mark_of, plus}
-use Rattle.node_semver.specs.IdentifierText.{IsBuildText, IsIdentifierList, IsIdentifierText, IsPrereleaseText, identifier_of, parts_of}
+use Rattle.node_semver.specs.Characters.{AreAll, BeginsWith, BeginsWithNo, dot, hyphen, is_digit}
+use Rattle.node_semver.specs.Characters.{is_identifier_character, is_version_mark, mark_of, plus}
+use Rattle.node_semver.specs.IdentifierText.{IsBuildText, IsIdentifierList, IsIdentifierText, IsPrereleaseText}
+use Rattle.node_semver.specs.IdentifierText.{identifier_of, parts_of}
 use Rattle.node_semver.specs.IdentifierValue.{IdentifierValue, numeric}
 use Rattle.node_semver.specs.NumberText.{IsNumberText, number_of}
 use Rattle.node_semver.specs.Print.{identifier_text, marked_text, version_text}

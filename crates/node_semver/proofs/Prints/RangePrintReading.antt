@@ -87,7 +87,8 @@ equal-from_sets : (text : List ℕ) (sets others : List (Ends VersionValue)) →
     → AreSameCuts others sets → IsReadAsEqual text sets
 equal-from_sets text sets others are some same = record {
   accepted = λ refused. some (empty-from_refused text others are refused);
-  equal = λ found is. subst (λ (l : List (Ends VersionValue)). AreSameCuts l sets) (one-merging text others found are is)
+  equal = λ found is. subst (λ (l : List (Ends VersionValue)). AreSameCuts l sets)
+      (one-merging text others found are is)
       same;
 }
 

@@ -171,7 +171,8 @@ set_ends-read (Before v) (Before w) lt some a b =
     (at_least-word v (codes " " ++ upper_text (Before w)) a refl) (below-word w b) refl refl lt
 set_ends-read (Before v) (After w) lt some a b = between-read v w lt a b
 set_ends-read (Before v) End lt some a b =
-    word-read_alike (lower_text (Before v)) (at_least v) (at_least v) (at_least-word v [] a tt) refl (itself (at_least v))
+    word-read_alike (lower_text (Before v)) (at_least v) (at_least v) (at_least-word v [] a tt) refl
+    (itself (at_least v))
 set_ends-read (After v) Start lt some a b = cc lt
 set_ends-read (After v) (Before w) lt some a b =
     two-read (lower_text (After v)) (upper_text (Before w)) (After v) (Before w)

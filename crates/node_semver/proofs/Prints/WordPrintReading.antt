@@ -1,16 +1,19 @@
 -- The print of a version, alone or after an operator, is a word that stands for its comparator.
-use Rattle.std.proofs.Common.{◌≡◌, ◌∙◌, ℕ, true, false, List, [], ◌∷◌, ◌++◌, Some, None, append_assoc, refl, sym, ap, subst, inl, inr}
+use Rattle.std.proofs.Common.{◌≡◌, ◌∙◌, ℕ, true, false, List, [], ◌∷◌, ◌++◌, Some, None, append_assoc, refl, sym, ap}
+use Rattle.std.proofs.Common.{subst, inl, inr}
 use Rattle.std.proofs.lemmas.Bool.{cases_Bool, eqb-true}
 use Rattle.std.specs.Prelude.{◌==◌}
 use Rattle.node_semver.specs.Characters.{BeginsWith, BeginsWithNo, is_blank, is_digit, is_partial_mark}
 use Rattle.node_semver.specs.Comparator.{Comparator, exactly}
 use Rattle.node_semver.specs.Division.{IsCleanEnd, IsSimpleText, IsWord, NoneAt, by_operator, plain, simple}
 use Rattle.node_semver.specs.HyphenRanges.{IsHyphenText}
-use Rattle.node_semver.specs.Operators.{Operator, equal, greater, greater_or_equal, less, less_or_equal, operator_comparator, operator_text}
+use Rattle.node_semver.specs.Operators.{Operator, equal, greater, greater_or_equal, less, less_or_equal}
+use Rattle.node_semver.specs.Operators.{operator_comparator, operator_text}
 use Rattle.node_semver.specs.PartialText.{IsPartialText, IsUnmarkedPartial, Partial, three}
 use Rattle.node_semver.specs.Print.{version_text}
 use Rattle.node_semver.specs.Version.{VersionValue}
-use Rattle.node_semver.specs.Private.WordReading.{Lead, is_solid, operator, read_hyphen, read_lead, read_partial, with_left}
+use Rattle.node_semver.specs.Private.WordReading.{Lead, is_solid, operator, read_hyphen, read_lead, read_partial}
+use Rattle.node_semver.specs.Private.WordReading.{with_left}
 use Rattle.node_semver.proofs.Words.HyphenReading.{left-ends, right-none}
 use Rattle.node_semver.proofs.Words.LeadReading.{lead-not_partial, lead-operator}
 use Rattle.node_semver.proofs.Words.NoBars.{HasNoBar, simple-none}
@@ -103,10 +106,12 @@ operator-no_hyphen o behind ends =
     let text = operator_text o ++ behind in
     let led : (read_lead text).0 ≡ operator o = ap (λ (l : Lead × List ℕ). l.0) (lead-operator o behind ends) in
     let none : read_partial text ≡ None = lead-not_partial text (λ e. cc (sym led ∙ e)) in
-    no-hyphen text (hyphen-with_left text (right-no_blank text (solid-begins text (operator-begins o behind))) ∙ ap with_left none)
+    no-hyphen text (hyphen-with_left text (right-no_blank text (solid-begins text (operator-begins o behind)))
+    ∙ ap with_left none)
 
 -- an operator and the print of a version: `>=1.2.3`
-pub operator-word : (o : Operator) (v : VersionValue) (rest : List ℕ) (c : Comparator) → IsTextVersion v → IsCleanEnd rest
+pub operator-word : (o : Operator) (v : VersionValue) (rest : List ℕ) (c : Comparator) → IsTextVersion v
+    → IsCleanEnd rest
     → Some c ≡ operator_comparator o (partial_of v) → IsPrintedWord (operator_text o ++ version_text v) rest c
 operator-word o v rest c is clean says =
     let text = operator_text o ++ version_text v in

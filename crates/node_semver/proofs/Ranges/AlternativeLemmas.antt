@@ -1,13 +1,16 @@
 -- Range texts: each has exactly one list of alternatives, and is read alternative by alternative.
-use Rattle.std.proofs.Common.{◌≡◌, ◌<◌, ℕ, zero, suc, List, [], ◌∷◌, ◌++◌, length, Option, Some, None, append_assoc, arith, refl, sym, ap, subst, ◌∙◌}
+use Rattle.std.proofs.Common.{◌≡◌, ◌<◌, ℕ, zero, suc, List, [], ◌∷◌, ◌++◌, length, Option, Some, None, append_assoc}
+use Rattle.std.proofs.Common.{arith, refl, sym, ap, subst, ◌∙◌}
 use Rattle.std.proofs.lemmas.List.{append-nil}
 use Rattle.node_semver.specs.Characters.{is_blank}
 use Rattle.node_semver.specs.Comparator.{Comparator}
-use Rattle.node_semver.specs.Division.{AreAlternatives, AreLaterAlternatives, IsAlternative, IsLaterAlternative, IsPieces, IsWritten}
+use Rattle.node_semver.specs.Division.{AreAlternatives, AreLaterAlternatives, IsAlternative, IsLaterAlternative}
+use Rattle.node_semver.specs.Division.{IsPieces, IsWritten}
 use Rattle.node_semver.specs.Private.PieceReading.{piece_at}
 use Rattle.node_semver.specs.Private.Reading.{prefix_of, rest_of}
 use Rattle.node_semver.proofs.Ranges.DivisionLemmas.{alternative-exists, alternative-unique}
-use Rattle.node_semver.proofs.Ranges.PieceLemmas.{before-more, piece-first, piece-last, piece-shorter, pieces-exist, pieces-unique}
+use Rattle.node_semver.proofs.Ranges.PieceLemmas.{before-more, piece-first, piece-last, piece-shorter, pieces-exist}
+use Rattle.node_semver.proofs.Ranges.PieceLemmas.{pieces-unique}
 use Rattle.node_semver.proofs.Texts.Prefixes.{prefix_of-all, prefix_of-rest_of, rest_of-again, rest_of-no}
 
 -- ---- a piece after the first

@@ -42,7 +42,8 @@ gives_or_not (c ∷ comparators) =
     elim (holds_or_not merged.0) [ inl passes ↦ inl (same.1 passes) | inr fails ↦ inr (λ gives. fails (same.0 gives)) ]
 
 -- no alternative gives a set, or not so
-none_or_some : (alternatives : List (List Comparator)) → Decided (AllByRecursion (λ comparators. ¬ GiveSet comparators) alternatives)
+none_or_some : (alternatives : List (List Comparator))
+    → Decided (AllByRecursion (λ comparators. ¬ GiveSet comparators) alternatives)
 none_or_some [] = inl tt
 none_or_some (comparators ∷ alternatives) = elim (gives_or_not comparators) [
   | inl gives ↦ inr (λ none. none.0 gives)

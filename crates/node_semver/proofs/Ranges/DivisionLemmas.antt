@@ -1,14 +1,18 @@
 -- Alternatives: each is divided into words in exactly one way.
-use Rattle.std.proofs.Common.{◌≡◌, ◌<◌, ◌≤◌, ℕ, zero, suc, Bool, List, [], ◌∷◌, ◌++◌, length, Option, Some, None, append_assoc, length-append, arith, refl, sym, ap, subst, ◌∙◌, inl, inr}
+use Rattle.std.proofs.Common.{◌≡◌, ◌<◌, ◌≤◌, ℕ, zero, suc, Bool, List, [], ◌∷◌, ◌++◌, length, Option, Some, None}
+use Rattle.std.proofs.Common.{append_assoc, length-append, arith, refl, sym, ap, subst, ◌∙◌, inl, inr}
 use Rattle.std.proofs.lemmas.Bool.{cases_Bool}
 use Rattle.std.proofs.lemmas.List.{append-nil}
 use Rattle.node_semver.specs.Characters.{AreAll, BeginsWith, BeginsWithNo, is_blank}
 use Rattle.node_semver.specs.Comparator.{Comparator}
 use Rattle.node_semver.specs.Division.{IsAlternative, IsDivision, IsWord, comparators_of}
 use Rattle.node_semver.specs.Private.Reading.{prefix_of, rest_of, skip_one}
-use Rattle.node_semver.specs.Private.WordReading.{ReadPartial, Word, leading_or_none, read_component, read_components, read_hyphen, read_lead, read_partial, read_right, read_simple, read_word}
+use Rattle.node_semver.specs.Private.WordReading.{ReadPartial, Word, leading_or_none, read_component, read_components}
+use Rattle.node_semver.specs.Private.WordReading.{read_hyphen, read_lead, read_partial, read_right, read_simple}
+use Rattle.node_semver.specs.Private.WordReading.{read_word}
 use Rattle.node_semver.specs.Private.WordViews.{listed}
-use Rattle.node_semver.proofs.Texts.Prefixes.{prefix_of-all, prefix_of-begins, prefix_of-rest_of, rest_of-again, rest_of-no}
+use Rattle.node_semver.proofs.Texts.Prefixes.{prefix_of-all, prefix_of-begins, prefix_of-rest_of, rest_of-again}
+use Rattle.node_semver.proofs.Texts.Prefixes.{rest_of-no}
 use Rattle.node_semver.proofs.Words.WordLemmas.{HasWord, has-word, word-after_blanks, word-again, word-is, word-leading}
 
 -- ---- all words

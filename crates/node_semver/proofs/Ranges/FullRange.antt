@@ -1,5 +1,6 @@
 -- Texts that are a full version, with a caret, a tilde or nothing before it.
-use Rattle.std.proofs.Common.{◌≡◌, ◌<◌, ◌+◌, ℕ, zero, suc, false, true, List, [], ◌∷◌, Some, Ok, arith, refl, sym, ap, ◌∙◌, inl, inr, subst}
+use Rattle.std.proofs.Common.{◌≡◌, ◌<◌, ◌+◌, ℕ, zero, suc, false, true, List, [], ◌∷◌, Some, Ok, arith, refl, sym, ap}
+use Rattle.std.proofs.Common.{◌∙◌, inl, inr, subst}
 use Rattle.std.proofs.lemmas.Bool.{cases_Bool, eqb-true}
 use Rattle.std.specs.Prelude.{◌==◌}
 use Rattle.semver_cuts.specs.Ends.{Ends}
@@ -100,7 +101,8 @@ full-value text l major minor patch c is full =
     subst (λ (x : Comparator). IsRangeValue (x ∷ [])) same (only-value text full.comparator full.only)
 
 -- it is the one set of the text, and what is read
-pub full-read : (text bytes : List ℕ) (l : Lead) (major minor patch : ℕ) (sets : List (Ends VersionValue)) → bytes ≡ text
+pub full-read : (text bytes : List ℕ) (l : Lead) (major minor patch : ℕ) (sets : List (Ends VersionValue))
+    → bytes ≡ text
     → IsFull bytes l major minor patch → sets ≡ listed_set (full_comparator l major minor patch)
     → IsReadRange text (Ok sets)
 full-read text bytes l major minor patch sets same full is =

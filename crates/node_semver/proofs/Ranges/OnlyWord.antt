@@ -1,5 +1,6 @@
 -- A text that is one word and no hyphen range: its comparator is the only one of the range.
-use Rattle.std.proofs.Common.{◌≡◌, ℕ, List, [], ◌∷◌, Option, Some, None, refl, sym, ap, subst, ◌∙◌, inl, inr, append-nil}
+use Rattle.std.proofs.Common.{◌≡◌, ℕ, List, [], ◌∷◌, Option, Some, None, refl, sym, ap, subst, ◌∙◌, inl, inr}
+use Rattle.std.proofs.Common.{append-nil}
 use Rattle.std.proofs.lemmas.Bool.{cases_Bool}
 use Rattle.std.specs.Prelude.{IfSome}
 use Rattle.node_semver.specs.Characters.{is_blank}
@@ -8,7 +9,8 @@ use Rattle.node_semver.specs.Division.{IsSimpleText, IsWord, NoneAt, simple}
 use Rattle.node_semver.specs.HyphenRanges.{IsHyphenText}
 use Rattle.node_semver.specs.PartialText.{Partial}
 use Rattle.node_semver.specs.Private.RangeViews.{IsOnlyComparator}
-use Rattle.node_semver.specs.Private.WordReading.{Lead, lead_comparator, no_lead, read_hyphen, read_lead, read_partial, read_right, read_simple, with_left}
+use Rattle.node_semver.specs.Private.WordReading.{Lead, lead_comparator, no_lead, read_hyphen, read_lead, read_partial}
+use Rattle.node_semver.specs.Private.WordReading.{read_right, read_simple, with_left}
 use Rattle.node_semver.proofs.Words.HyphenReading.{left-ends, right-none}
 use Rattle.node_semver.proofs.Words.LeadReading.{lead-not_partial, lead-plain}
 use Rattle.node_semver.proofs.Words.NoBars.{simple-no_bars}

@@ -1,5 +1,7 @@
 -- Range texts: each is divided at `||` in exactly one way.
-use Rattle.std.proofs.Common.{◌≡◌, ◌+◌, ◌-◌, ◌<◌, ◌≤◌, ℕ, zero, suc, true, false, List, [], ◌∷◌, ◌++◌, length, get_or, take, drop, Option, Some, None, append_assoc, length-append, arith, refl, sym, ap, subst, ◌∙◌, inl, inr}
+use Rattle.std.proofs.Common.{◌≡◌, ◌+◌, ◌-◌, ◌<◌, ◌≤◌, ℕ, zero, suc, true, false, List, [], ◌∷◌, ◌++◌, length, get_or}
+use Rattle.std.proofs.Common.{take, drop, Option, Some, None, append_assoc, length-append, arith, refl, sym, ap, subst}
+use Rattle.std.proofs.Common.{◌∙◌, inl, inr}
 use Rattle.std.specs.Borrow.{Bor}
 use Rattle.std.specs.Option.{is_some}
 use Rattle.std.specs.Prelude.{◌⊎◌, ◌==◌, ◌&&◌}
@@ -297,7 +299,8 @@ pub pass-free : (text : List ℕ) (i n : ℕ) → i + n ≤ length text
     → ((k : ℕ) → i ≤ k → k < i + n → (get_or text k 0 == bar) ≡ false) → Passed text i → Passed text (i + n)
 pass-free text i zero h free passed = subst (Passed text) (omega arith) passed
 pass-free text i (suc n) h free passed =
-    let before : Passed text (i + n) = pass-free text i n (omega arith) (λ k low high. free k low (omega arith)) passed in
+    let before : Passed text (i + n) = pass-free text i n (omega arith)
+    (λ k low high. free k low (omega arith)) passed in
     let none : bars_after (drop (i + n) text) ≡ None =
     ap bars_after (at-place text (i + n) (omega arith))
     ∙ no-bars-here (get_or text (i + n) 0) (drop (i + n + 1) text) (free (i + n) (omega arith) (omega arith)) in

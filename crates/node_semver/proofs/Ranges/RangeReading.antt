@@ -28,7 +28,12 @@ pub one-read : (text piece : List ℕ) (set : Option (Ends VersionValue)) → (p
 one-read text piece set divided is_set =
     let read = reads-set piece [] [] set none is_set in
     let reads = reads-start text piece None read.comparators (sym divided) read.alternative in
-    record { alternatives = read.comparators ∷ []; written = reads-end text (read.comparators ∷ []) reads; merged = read.merged }
+    record {
+      alternatives = read.comparators ∷ [];
+      written = reads-end text
+          (read.comparators ∷ []) reads;
+      merged = read.merged;
+    }
 
 -- a set that it gives is one that a range can have
 pub one-value : (text : List ℕ) (set : Ends VersionValue) → AreSetsOfText text (set ∷ []) → IsRangeValue (set ∷ [])
@@ -40,7 +45,8 @@ none-read text piece divided is_set = refused-from_empty text [] (one-read text 
 
 -- ---- all alternatives
 
-pub all-read : (text : List ℕ) (done : List (List Comparator)) (sets : List (Ends VersionValue)) (left : Option (List ℕ))
+pub all-read : (text : List ℕ) (done : List (List Comparator)) (sets : List (Ends VersionValue))
+    (left : Option (List ℕ))
     → Reads text done left → left ≡ None → AreSetsOf done sets → AreSetsOfText text sets
 all-read text done sets left reads none_left merged = record {
   alternatives = done;

@@ -7,7 +7,8 @@ use Rattle.node_semver.specs.Comparison.{version_cmp}
 use Rattle.node_semver.specs.Division.{IsAlternative}
 use Rattle.node_semver.specs.Merging.{IsSetOf}
 use Rattle.node_semver.specs.Version.{VersionValue}
-use Rattle.node_semver.specs.Private.RangeViews.{IsMerged, IsMergedAlternative, IsSetOfAlternative, IsSpanOf, given, not_given}
+use Rattle.node_semver.specs.Private.RangeViews.{IsMerged, IsMergedAlternative, IsSetOfAlternative, IsSpanOf, given}
+use Rattle.node_semver.specs.Private.RangeViews.{not_given}
 use Rattle.node_semver.proofs.Sets.Merging.{merged-gives}
 
 -- no comparators give no set
@@ -18,7 +19,8 @@ without-set text merged m none =
     not_given m.0 m.1 (λ gives. gives.some empty) refl
 
 -- others give one where a cut lies between their merged ends
-pub with-set : (text : List ℕ) (merged : Option Comparator) (ends : Ends VersionValue) (set : Option (Ends VersionValue))
+pub with-set : (text : List ℕ) (merged : Option Comparator) (ends : Ends VersionValue)
+    (set : Option (Ends VersionValue))
     → IsMergedAlternative text merged → merged ≡ Some ends → IsSome set ↔ HoldsCut version_cmp ends
     → IfSome set (λ span. span ≡ ends) → IsSetOfAlternative text set
 with-set text merged ends None m some cut same =
@@ -38,5 +40,7 @@ merged-set text (Some ends) set m span = with-set text (Some ends) ends set m re
 pub later-set : (text left : List ℕ) (set : Option (Ends VersionValue))
     → ((comparators : List Comparator) → IsAlternative left comparators → IsAlternative text comparators)
     → IsSetOfAlternative left set → IsSetOfAlternative text set
-later-set text left set later (given comparators ends is gives of same) = given comparators ends (later comparators is) gives of same
-later-set text left set later (not_given comparators is gives same) = not_given comparators (later comparators is) gives same
+later-set text left set later (given comparators ends is gives of same) = given comparators ends
+    (later comparators is) gives of same
+later-set text left set later (not_given comparators is gives same) = not_given comparators
+    (later comparators is) gives same

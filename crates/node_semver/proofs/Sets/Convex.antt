@@ -50,7 +50,8 @@ triple-between u v w h k t =
     record { major = major; minor = minor; patch = patch }
 
 -- of one triple, what is at most a prerelease is one
-pub prerelease-below : (v w : VersionValue) → IsBelow v w ⊎ IsSame v w → HasSameTriple v w → IsPrerelease w → IsPrerelease v
+pub prerelease-below : (v w : VersionValue) → IsBelow v w ⊎ IsSame v w → HasSameTriple v w → IsPrerelease w
+    → IsPrerelease v
 prerelease-below v w (inl (by_major h)) t p = let e = t.major in absurd (omega arith)
 prerelease-below v w (inl (by_minor a h)) t p = let e = t.minor in absurd (omega arith)
 prerelease-below v w (inl (by_patch a b h)) t p = let e = t.patch in absurd (omega arith)

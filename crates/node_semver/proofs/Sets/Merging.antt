@@ -1,5 +1,6 @@
 -- Comparators merged into one set.
-use Rattle.std.proofs.Common.{◌≡◌, ◌↔◌, ℕ, Bool, true, false, List, [], ◌∷◌, ◌++◌, length, arith, refl, sym, subst, inl, inr}
+use Rattle.std.proofs.Common.{◌≡◌, ◌↔◌, ℕ, Bool, true, false, List, [], ◌∷◌, ◌++◌, length, arith, refl, sym, subst, inl}
+use Rattle.std.proofs.Common.{inr}
 use Rattle.std.specs.List.{AllByRecursion}
 use Rattle.std.proofs.lemmas.List.{append-nil, append_assoc}
 use Rattle.semver_cuts.specs.declared.cut.Cut.{Cut}
@@ -7,7 +8,9 @@ use Rattle.semver_cuts.specs.declared.cut.Cut.TheVariants.{Start, Before, After,
 use Rattle.semver_cuts.specs.Ends.{Ends, HoldsCut, IsCutAtMost, span_between}
 use Rattle.semver_cuts.specs.Private.Merging.{IsEarlierLeast, IsLaterGreatest}
 use Rattle.semver_cuts.specs.Lemmas.Ends.{at_most-or-below, below-not-at_most}
-use Rattle.semver_cuts.specs.Lemmas.Merging.{chosen_lower-above, chosen_lower-one, chosen_lower-push, chosen_lower-some, chosen_lower-unique, chosen_upper-below, chosen_upper-one, chosen_upper-push, chosen_upper-unique, common-holds, in_every-between}
+use Rattle.semver_cuts.specs.Lemmas.Merging.{chosen_lower-above, chosen_lower-one, chosen_lower-push, chosen_lower-some}
+use Rattle.semver_cuts.specs.Lemmas.Merging.{chosen_lower-unique, chosen_upper-below, chosen_upper-one}
+use Rattle.semver_cuts.specs.Lemmas.Merging.{chosen_upper-push, chosen_upper-unique, common-holds, in_every-between}
 use Rattle.node_semver.specs.Comparator.{Comparator}
 use Rattle.node_semver.specs.Comparison.{version_cmp}
 use Rattle.node_semver.specs.Meaning.{AnyByRecursion, GiveSet, HasOpenEnd, IsInside, Opens}

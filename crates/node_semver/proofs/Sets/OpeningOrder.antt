@@ -1,5 +1,6 @@
 -- Openings in the order of their triples: those of one triple stand together.
-use Rattle.std.proofs.Common.{◌≡◌, ℕ, zero, suc, ◌≤◌, ◌&&◌, Bool, true, false, List, [], ◌∷◌, ◌++◌, length, take, drop, get_or, arith, sym, ap, ◌∙◌, refl}
+use Rattle.std.proofs.Common.{◌≡◌, ℕ, zero, suc, ◌≤◌, ◌&&◌, Bool, true, false, List, [], ◌∷◌, ◌++◌, length, take, drop}
+use Rattle.std.proofs.Common.{get_or, arith, sym, ap, ◌∙◌, refl}
 use Rattle.std.specs.Prelude.{filter, not}
 use Rattle.std.specs.List.{AllByRecursion, AllWithin}
 use Rattle.std.specs.List.Sorted.{IsPartitionedBy, IsPartitionPoint, IsSortedByKey, IsNonDecreasingBy, ties}
@@ -43,9 +44,11 @@ tied Equal = refl
 tied Greater = refl
 
 pub ties-same : (v : VersionValue) (place : ℕ) (o : Opening)
-    → ties (λ x y. is_lt (triple_cmp x.triple y.triple)) (record { triple = triple_of v; place = place }) o ≡ is_opening_of v o
+    → ties (λ x y. is_lt (triple_cmp x.triple y.triple))
+    (record { triple = triple_of v; place = place }) o ≡ is_opening_of v o
 ties-same v place o =
-    ap (λ r. not (is_lt r) && not (is_lt (triple_cmp o.triple (triple_of v)))) (triple_total.antisymm (triple_of v) o.triple)
+    ap (λ r. not (is_lt r) && not (is_lt (triple_cmp o.triple (triple_of v))))
+    (triple_total.antisymm (triple_of v) o.triple)
     ∙ tied (triple_cmp o.triple (triple_of v)) ∙ sym (same-equal o.triple (triple_of v))
 
 -- ---- lists
@@ -84,7 +87,8 @@ module _ {X : Type 0} (p : X → Bool) where
   filter-alike q same xs = λ i. filter (λ x. same x i) xs
 
 -- without the first elements none that passes comes after one that fails either
-pub parted-drop : {X : Type 0} (p : X → Bool) (i : ℕ) (xs : List X) → IsPartitionedBy p xs → IsPartitionedBy p (drop i xs)
+pub parted-drop : {X : Type 0} (p : X → Bool) (i : ℕ) (xs : List X) → IsPartitionedBy p xs
+    → IsPartitionedBy p (drop i xs)
 parted-drop p zero [] h = h
 parted-drop p zero (x ∷ xs) h = h
 parted-drop p (suc i) [] h = h
@@ -125,11 +129,13 @@ module _ (t : Triple) where
 
     pub parted-below : IsPartitionedBy is_below xs
     parted-below i j d most within e =
-        below-before (triple_cmp (get_or xs i d).triple t) (triple_cmp (get_or xs j d).triple t) (rises i j d most within) e
+        below-before (triple_cmp (get_or xs i d).triple t) (triple_cmp (get_or xs j d).triple t)
+        (rises i j d most within) e
 
     pub parted-at_most : IsPartitionedBy is_at_most xs
     parted-at_most i j d most within e =
-        at_most-before (triple_cmp (get_or xs i d).triple t) (triple_cmp (get_or xs j d).triple t) (rises i j d most within) e
+        at_most-before (triple_cmp (get_or xs i d).triple t) (triple_cmp (get_or xs j d).triple t)
+        (rises i j d most within) e
 
   not-below : (r : Ordering) → is_lt r ≡ true → is_eq r ≡ false
   not-below Less e = refl
@@ -157,11 +163,13 @@ module _ (t : Triple) where
   none-above [] all = refl
   none-above (o ∷ xs) all = simp (alike o ∙ not-above (triple_cmp o.triple t) all.0) (none-above xs all.1)
 
-  all-of : (xs : List Opening) → AllByRecursion (λ o. is_below o ≡ false) xs → AllByRecursion (λ o. is_at_most o ≡ true) xs
+  all-of : (xs : List Opening) → AllByRecursion (λ o. is_below o ≡ false) xs
+      → AllByRecursion (λ o. is_at_most o ≡ true) xs
       → filter is_same xs ≡ xs
   all-of [] low high = refl
   all-of (o ∷ xs) low high =
-      simp (alike o ∙ between (triple_cmp o.triple t) low.0 high.0) (ap (λ (l : List Opening). o ∷ l) (all-of xs low.1 high.1))
+      simp (alike o ∙ between (triple_cmp o.triple t) low.0 high.0)
+      (ap (λ (l : List Opening). o ∷ l) (all-of xs low.1 high.1))
 
   module _ (xs : List Opening) (i j : ℕ) (most : i ≤ length xs) (more : j ≤ length (drop i xs))
       (first : IsPartitionPoint (λ o. is_below o ≡ true) (λ o. is_below o ≡ false) xs i)

@@ -1,5 +1,7 @@
 -- Which sets open which triples, as it is kept, and what that says of a prerelease.
-use Rattle.std.proofs.Common.{◌≡◌, ◌≢◌, ◌↔◌, ◌⊎◌, ℕ, zero, suc, ◌+◌, ◌*◌, ◌^◌, ◌<◌, ◌≤◌, ◌==◌, ◌&&◌, ◌||◌, Bool, true, false, List, [], ◌∷◌, ◌++◌, get_or, length, map, take, Option, Some, None, if◌then◌else◌, IsTrue, arith, sym, ap, subst, ◌∙◌, refl, inl, inr}
+use Rattle.std.proofs.Common.{◌≡◌, ◌≢◌, ◌↔◌, ◌⊎◌, ℕ, zero, suc, ◌+◌, ◌*◌, ◌^◌, ◌<◌, ◌≤◌, ◌==◌, ◌&&◌, ◌||◌, Bool, true}
+use Rattle.std.proofs.Common.{false, List, [], ◌∷◌, ◌++◌, get_or, length, map, take, Option, Some, None, if◌then◌else◌}
+use Rattle.std.proofs.Common.{IsTrue, arith, sym, ap, subst, ◌∙◌, refl, inl, inr}
 use Rattle.std.specs.Prelude.{cond, filter, not}
 use Rattle.std.specs.Ordering.{is_le, is_lt}
 use Rattle.std.specs.declared.cmp.Ordering.{Ordering}
@@ -23,9 +25,11 @@ use Rattle.node_semver.specs.Comparison.{version_cmp}
 use Rattle.node_semver.specs.IdentifierValue.{IdentifierValue}
 use Rattle.node_semver.specs.Meaning.{HasOpenEnd, IsInside, Opens, RangeAdmits}
 use Rattle.node_semver.specs.Lemmas.Order.{version_total}
-use Rattle.node_semver.specs.Searching.{IsShortSearch, count_of_opening, has_identifiers, has_open_end, has_same_triple, opens}
+use Rattle.node_semver.specs.Searching.{IsShortSearch, count_of_opening, has_identifiers, has_open_end, has_same_triple}
+use Rattle.node_semver.specs.Searching.{opens}
 use Rattle.node_semver.specs.Version.{HasSameTriple, IsPrerelease, VersionValue}
-use Rattle.node_semver.specs.Private.SearchViews.{is_opening_of, opening_at, openings_from, openings_of, other_than, places_opening, same_triples, triple_at, triple_of}
+use Rattle.node_semver.specs.Private.SearchViews.{is_opening_of, opening_at, openings_from, openings_of, other_than}
+use Rattle.node_semver.specs.Private.SearchViews.{places_opening, same_triples, triple_at, triple_of}
 use Rattle.node_semver.specs.declared.range.opened.Opening.{Opening}
 use Rattle.node_semver.specs.declared.range.opened.Triple.{Triple}
 use Rattle.node_semver.proofs.Sets.SomeElement.{all-at}
@@ -113,7 +117,8 @@ fits : VersionValue → Option Triple → Bool
 fits v None = false
 fits v (Some triple) = same_triples triple (triple_of v)
 
-fits-if : (v : VersionValue) (b : Bool) (t : Triple) → fits v (if b then Some t else None) ≡ (b && same_triples t (triple_of v))
+fits-if : (v : VersionValue) (b : Bool) (t : Triple)
+    → fits v (if b then Some t else None) ≡ (b && same_triples t (triple_of v))
 unfolding fits
 fits-if v true t = refl
 fits-if v false t = refl
@@ -169,7 +174,8 @@ unfolding place-if
 joined-same place true = refl
 joined-same place false = refl
 
-joined-apart : (place : ℕ) (a b : Bool) → ¬ (IsTrue a × IsTrue b) → place-if place a ++ place-if place b ≡ place-if place (a || b)
+joined-apart : (place : ℕ) (a b : Bool) → ¬ (IsTrue a × IsTrue b)
+    → place-if place a ++ place-if place b ≡ place-if place (a || b)
 unfolding place-if
 joined-apart place true true never = absurd (never (refl, refl))
 joined-apart place true false never = refl
@@ -243,7 +249,8 @@ counted : (v : VersionValue) → List (Ends VersionValue) → ℕ
 counted v [] = 0
 counted v (set ∷ sets) = cond (has_open_end v set) (1 + counted v sets) (counted v sets)
 
-one-more : (place n : ℕ) (b : Bool) (later : List ℕ) → length later ≡ n → length (if b then place ∷ later else later) ≡ cond b (1 + n) n
+one-more : (place n : ℕ) (b : Bool) (later : List ℕ) → length later ≡ n
+    → length (if b then place ∷ later else later) ≡ cond b (1 + n) n
 one-more place n true later e = omega (arith, e)
 one-more place n false later e = e
 
@@ -252,7 +259,8 @@ length-places : (v : VersionValue) (place : ℕ) (sets : List (Ends VersionValue
 unfolding counted
 length-places v place [] = refl
 length-places v place (set ∷ sets) =
-    one-more place (counted v sets) (has_open_end v set) (places_opening v (place + 1) sets) (length-places v (place + 1) sets)
+    one-more place (counted v sets) (has_open_end v set) (places_opening v (place + 1) sets)
+    (length-places v (place + 1) sets)
 
 -- there are as many places as sets that open the triple
 pub places-count : (v : VersionValue) (place : ℕ) (sets : List (Ends VersionValue))
@@ -266,11 +274,13 @@ module _ (v : VersionValue) (prerelease : IsPrerelease v) where
   abbrev IsInsideAt : List (Ends VersionValue) → ℕ → Type 0
   IsInsideAt all place = IsInside v (span_at all place)
 
-  at-length : (front back : List (Ends VersionValue)) (set : Ends VersionValue) → span_at (front ++ set ∷ back) (length front) ≡ set
+  at-length : (front back : List (Ends VersionValue)) (set : Ends VersionValue)
+      → span_at (front ++ set ∷ back) (length front) ≡ set
   at-length [] back set = refl
   at-length (first ∷ front) back set = at-length front back set
 
-  shift : (front back : List (Ends VersionValue)) (set : Ends VersionValue) → (front ++ set ∷ []) ++ back ≡ front ++ set ∷ back
+  shift : (front back : List (Ends VersionValue)) (set : Ends VersionValue)
+      → (front ++ set ∷ []) ++ back ≡ front ++ set ∷ back
   shift [] back set = refl
   shift (first ∷ front) back set = ap (λ (l : List (Ends VersionValue)). first ∷ l) (shift front back set)
 
@@ -282,7 +292,8 @@ module _ (v : VersionValue) (prerelease : IsPrerelease v) where
   Means all places sets = AllByRecursion (λ place. place < length all) places
       × (AnyByRecursion (IsInsideAt all) places ↔ RangeAdmits sets v)
 
-  meant : (all : List (Ends VersionValue)) (place : ℕ) (set : Ends VersionValue) (sets : List (Ends VersionValue)) (later : List ℕ)
+  meant : (all : List (Ends VersionValue)) (place : ℕ) (set : Ends VersionValue) (sets : List (Ends VersionValue))
+      (later : List ℕ)
       (b : Bool) → has_open_end v set ≡ b → place < length all → span_at all place ≡ set → Means all later sets
       → Means all (if b then place ∷ later else later) (set ∷ sets)
   meant all place set sets later true e within at means = (
@@ -309,7 +320,8 @@ module _ (v : VersionValue) (prerelease : IsPrerelease v) where
     ),
   )
 
-  short : (front back : List (Ends VersionValue)) (set : Ends VersionValue) → length front < length (front ++ set ∷ back)
+  short : (front back : List (Ends VersionValue)) (set : Ends VersionValue)
+      → length front < length (front ++ set ∷ back)
   short [] back set = omega arith
   short (first ∷ front) back set = let h = short front back set in omega arith
 
@@ -343,7 +355,8 @@ module _ (P : ℕ → Type 0) where
   all-of_places (o ∷ openings) all = (all.0, all-of_places openings all.1)
 
   pub any-of_places : (openings : List Opening)
-      → AnyByRecursion (λ (o : Opening). P o.place) openings ↔ AnyByRecursion P (map (λ (o : Opening). o.place) openings)
+      → AnyByRecursion (λ (o : Opening). P o.place) openings
+      ↔ AnyByRecursion P (map (λ (o : Opening). o.place) openings)
   any-of_places [] = (λ is. is, λ is. is)
   any-of_places (o ∷ openings) =
       let more = any-of_places openings in (
@@ -400,7 +413,8 @@ module _ (v : VersionValue) (sets : List (Ends VersionValue)) (openings : List O
   pub opening-outside : ¬ AnyByRecursion (λ (o : Opening). IsInside v (span_at sets o.place)) (take k openings)
       → ¬ IsInside v set → ¬ AnyByRecursion (λ (o : Opening). IsInside v (span_at sets o.place)) (take (k + 1) openings)
   opening-outside none outside =
-      none-more (λ (o : Opening). IsInside v (span_at sets o.place)) openings k (get_or openings k o) within opening-is none
+      none-more (λ (o : Opening). IsInside v (span_at sets o.place)) openings k
+      (get_or openings k o) within opening-is none
       (λ inside. outside (subst (IsInside v) (sym set-is) inside))
 
 -- ---- releases

@@ -11,7 +11,8 @@ use Rattle.semver_cuts.specs.Cut.{cut_cmp}
 use Rattle.semver_cuts.specs.Ends.{Ends, IsCutAtMost, IsCutBelow, IsInSpan, span_between}
 use Rattle.semver_cuts.specs.Rest.{AreRestSpans, IsAllLeft, IsFirstAt, IsLeft, IsPiece, IsPieceLower, IsPieceUpper}
 use Rattle.semver_cuts.specs.Lemmas.Apart.{apart-above, apart-tail}
-use Rattle.semver_cuts.specs.Lemmas.Ends.{at_most_refl, at_most_trans, at_most-below, at_most-or-below, below-at_most, below-not-at_most, below_irrefl, below_trans, cut_cmp-equal_back}
+use Rattle.semver_cuts.specs.Lemmas.Ends.{at_most_refl, at_most_trans, at_most-below, at_most-or-below, below-at_most}
+use Rattle.semver_cuts.specs.Lemmas.Ends.{below-not-at_most, below_irrefl, below_trans, cut_cmp-equal_back}
 use Rattle.semver_cuts.specs.Lemmas.Merging.{all_map}
 use Rattle.semver_cuts.specs.Lemmas.TwoSpans.{holds-below}
 

@@ -1,5 +1,6 @@
 -- How halving finds a cut among spans that are apart, by where they begin, and how many steps it takes.
-use Rattle.std.proofs.Common.{Bool, true, false, IsTrue, ◌≡◌, ◌↔◌, ℕ, zero, suc, ◌+◌, ◌*◌, ◌^◌, ◌<◌, ◌≤◌, List, [], ◌∷◌, ◌++◌, take, drop, length, arith, sym, ap, subst, ◌∙◌, refl, inl, inr}
+use Rattle.std.proofs.Common.{Bool, true, false, IsTrue, ◌≡◌, ◌↔◌, ℕ, zero, suc, ◌+◌, ◌*◌, ◌^◌, ◌<◌, ◌≤◌, List, [], ◌∷◌}
+use Rattle.std.proofs.Common.{◌++◌, take, drop, length, arith, sym, ap, subst, ◌∙◌, refl, inl, inr}
 use Rattle.std.specs.Prelude.{not}
 use Rattle.std.specs.declared.cmp.Ordering.{Ordering}
 use Rattle.std.specs.Cmp.{IsTotalOrder}
@@ -27,7 +28,8 @@ pub left-first : (before digits distance : ℕ) → distance < 2 ^ digits → Is
 left-first before digits distance fits = record { rest = digits; sum = refl; fits = fits }
 
 -- one step more, to half of the distance
-step-of : (before after digits distance half rest : ℕ) → 1 ≤ distance → 2 * half ≤ distance → after + rest ≡ before + digits
+step-of : (before after digits distance half rest : ℕ) → 1 ≤ distance → 2 * half ≤ distance
+    → after + rest ≡ before + digits
     → distance < 2 ^ rest → IsLeft before (after + 1) digits half
 step-of before after digits distance half zero some halved sum fits = absurd (omega arith)
 step-of before after digits distance half (suc rest) some halved sum fits =
@@ -48,7 +50,8 @@ module _ {X : Type 0} (P : X → Type 0) where
 
 module _ {T : Type 0} {cmp : T → T → Ordering} (o : IsTotalOrder cmp) (cut : Cut T) where
   -- not at or below is above
-  pub not-begun : (b : Bool) (lower : Cut T) → IsTrue b ↔ IsCutAtMost cmp lower cut → IsTrue (not b) ↔ IsCutBelow cmp cut lower
+  pub not-begun : (b : Bool) (lower : Cut T) → IsTrue b ↔ IsCutAtMost cmp lower cut
+      → IsTrue (not b) ↔ IsCutBelow cmp cut lower
   not-begun true lower same = (λ h. absurd (cc h), λ below. absurd (below-not-at_most o cut lower below (same.0 refl)))
   not-begun false lower same = (
     λ h. elim (at_most-or-below o lower cut) [ inl begun ↦ absurd (cc (same.1 begun)) | inr below ↦ below ],
@@ -106,9 +109,11 @@ module _ {T : Type 0} {cmp : T → T → Ordering} (o : IsTotalOrder cmp) (cut :
     begun_below h =
         let Below : Ends T → Type 0 = λ s. IsCutAtMost cmp s.lower cut in
         let rises : AllByRecursion (λ (s : Ends T). IsCutBelow cmp s.lower s.upper) (take place spans) =
-        all-front (λ (s : Ends T). IsCutBelow cmp s.lower s.upper) (take place spans) (span ∷ drop (place + 1) spans) rising in
+        all-front (λ (s : Ends T). IsCutBelow cmp s.lower s.upper) (take place spans)
+        (span ∷ drop (place + 1) spans) rising in
         subst (AllByRecursion Below) (sym one_more) (all_push Below (take place spans) span
-        (all_both (λ (s : Ends T). IsCutBelow cmp s.lower s.upper) (λ (s : Ends T). IsCutBelow cmp s.upper span.lower) Below
+        (all_both (λ (s : Ends T). IsCutBelow cmp s.lower s.upper)
+        (λ (s : Ends T). IsCutBelow cmp s.upper span.lower) Below
         (λ s p q. inl (below-at_most o s.lower span.lower cut (below_trans o s.lower s.upper span.lower p q) h))
         (take place spans) rises before) h)
 

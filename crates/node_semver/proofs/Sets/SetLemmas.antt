@@ -16,7 +16,8 @@ use Rattle.node_semver.proofs.Sets.Merging.{merged-admits, set-unique}
 -- ---- one alternative after another
 
 -- one more alternative that gives a set
-more-set : (done : List (List Comparator)) (sets : List (Ends VersionValue)) (a : List Comparator) (set : Ends VersionValue)
+more-set : (done : List (List Comparator)) (sets : List (Ends VersionValue)) (a : List Comparator)
+    (set : Ends VersionValue)
     → AreSetsOf done sets → GiveSet a → IsSetOf a set → AreSetsOf (done ++ a ∷ []) (sets ++ set ∷ [])
 more-set [] [] a set none gives is = one_more a [] set [] gives is none
 more-set [] (s ∷ sets) a set m gives is = elim m [ ]
@@ -42,25 +43,30 @@ pub record ReadsMore (text : List ℕ) (done : List (List Comparator)) (more : L
   pub merged : AreSetsOf (done ++ comparators ∷ []) more
 
 -- one more alternative
-pub reads-set : (text : List ℕ) (done : List (List Comparator)) (sets : List (Ends VersionValue)) (set : Option (Ends VersionValue))
+pub reads-set : (text : List ℕ) (done : List (List Comparator)) (sets : List (Ends VersionValue))
+    (set : Option (Ends VersionValue))
     → AreSetsOf done sets → IsSetOfAlternative text set → ReadsMore text done (sets ++ listed_set set)
 reads-set text done sets set merged (given comparators ends alternative gives is same) = record {
   comparators = comparators;
   alternative = alternative;
-  merged = subst (λ (o : Option (Ends VersionValue)). AreSetsOf (done ++ comparators ∷ []) (sets ++ listed_set o)) (sym same)
+  merged = subst (λ (o : Option (Ends VersionValue)). AreSetsOf (done ++ comparators ∷ [])
+      (sets ++ listed_set o)) (sym same)
       (more-set done sets comparators ends merged gives is);
 }
 reads-set text done sets set merged (not_given comparators alternative nothing same) = record {
   comparators = comparators;
   alternative = alternative;
-  merged = subst (λ (o : Option (Ends VersionValue)). AreSetsOf (done ++ comparators ∷ []) (sets ++ listed_set o)) (sym same)
-      (subst (AreSetsOf (done ++ comparators ∷ [])) (sym (append-nil sets)) (more-none done sets comparators merged nothing));
+  merged = subst (λ (o : Option (Ends VersionValue)). AreSetsOf (done ++ comparators ∷ [])
+      (sets ++ listed_set o)) (sym same)
+      (subst (AreSetsOf (done ++ comparators ∷ [])) (sym (append-nil sets))
+      (more-none done sets comparators merged nothing));
 }
 
 -- ---- no sets
 
 -- where there is no set, no alternative gives one
-none-given : (alternatives : List (List Comparator)) (sets : List (Ends VersionValue)) → AreSetsOf alternatives sets → sets ≡ []
+none-given : (alternatives : List (List Comparator)) (sets : List (Ends VersionValue)) → AreSetsOf alternatives sets
+    → sets ≡ []
     → NoneGive alternatives
 none-given [] [] none empty = tt
 none-given [] (s ∷ sets) m empty = elim m [ ]
@@ -76,12 +82,14 @@ given-none (c ∷ alternatives) (s ∷ sets) (one_more _ _ _ _ g i more) all = a
 given-none (c ∷ alternatives) sets (no_more _ _ _ n more) all = given-none alternatives sets more all.1
 
 -- a text without sets is refused
-pub refused-from_empty : (text : List ℕ) (sets : List (Ends VersionValue)) → AreSetsOfText text sets → sets ≡ [] → IsRefused text
+pub refused-from_empty : (text : List ℕ) (sets : List (Ends VersionValue)) → AreSetsOfText text sets → sets ≡ []
+    → IsRefused text
 refused-from_empty text sets m empty =
     refused-from_none text m.alternatives m.written (none-given m.alternatives sets m.merged empty)
 
 -- and no other text
-pub empty-from_refused : (text : List ℕ) (sets : List (Ends VersionValue)) → AreSetsOfText text sets → IsRefused text → sets ≡ []
+pub empty-from_refused : (text : List ℕ) (sets : List (Ends VersionValue)) → AreSetsOfText text sets → IsRefused text
+    → sets ≡ []
 empty-from_refused text sets m refused =
     given-none m.alternatives sets m.merged (none-from_refused text m.alternatives m.written refused)
 
@@ -91,7 +99,8 @@ empty-from_refused text sets m refused =
 gives-from : (comparators : List Comparator) (v : VersionValue) → AdmitSome v comparators → GiveSet comparators
 gives-from comparators v admit = record { some = admit.0; common = (Before v, admit.1.inside) }
 
-sets-admit : (alternatives : List (List Comparator)) (sets : List (Ends VersionValue)) (v : VersionValue) → AreSetsOf alternatives sets
+sets-admit : (alternatives : List (List Comparator)) (sets : List (Ends VersionValue)) (v : VersionValue)
+    → AreSetsOf alternatives sets
     → RangeAdmits sets v ↔ AnyByRecursion (AdmitSome v) alternatives
 sets-admit [] [] v none = (λ nowhere. nowhere, λ nowhere. nowhere)
 sets-admit [] (s ∷ sets) v m = elim m [ ]
@@ -119,7 +128,8 @@ text-admits text sets m v =
 
 -- ---- one list
 
-sets-unique : (alternatives : List (List Comparator)) (one other : List (Ends VersionValue)) → AreSetsOf alternatives one
+sets-unique : (alternatives : List (List Comparator)) (one other : List (Ends VersionValue))
+    → AreSetsOf alternatives one
     → AreSetsOf alternatives other → one ≡ other
 sets-unique [] [] [] none none = refl
 sets-unique [] [] (t ∷ other) m n = elim n [ ]
@@ -133,7 +143,9 @@ sets-unique (c ∷ alternatives) one other (no_more _ _ _ n more) (no_more _ _ _
     sets-unique alternatives one other more next
 
 -- a text writes one list of sets
-pub one-merging : (text : List ℕ) (one other : List (Ends VersionValue)) → AreSetsOfText text one → AreSetsOfText text other → one ≡ other
+pub one-merging : (text : List ℕ) (one other : List (Ends VersionValue)) → AreSetsOfText text one
+    → AreSetsOfText text other → one ≡ other
 one-merging text one other m n =
     sets-unique n.alternatives one other
-    (subst (λ (l : List (List Comparator)). AreSetsOf l one) (written-unique text m.alternatives n.alternatives m.written n.written) m.merged) n.merged
+    (subst (λ (l : List (List Comparator)). AreSetsOf l one)
+    (written-unique text m.alternatives n.alternatives m.written n.written) m.merged) n.merged

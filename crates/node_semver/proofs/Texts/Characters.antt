@@ -1,11 +1,13 @@
 -- Characters: those of a class one by one, which classes have none in common, and which are ASCII.
-use Rattle.std.proofs.Common.{◌≡◌, ◌<◌, ℕ, Bool, true, false, List, [], ◌∷◌, zero, suc, arith, refl, sym, ap, ◌∙◌, inl, inr, subst}
+use Rattle.std.proofs.Common.{◌≡◌, ◌<◌, ℕ, Bool, true, false, List, [], ◌∷◌, zero, suc, arith, refl, sym, ap, ◌∙◌, inl}
+use Rattle.std.proofs.Common.{inr, subst}
 use Rattle.std.proofs.lemmas.Bool.{and_parts, cases_Bool, eqb-true, or_cases}
 use Rattle.std.proofs.lemmas.Bool.Decides.{nat_tests}
 use Rattle.std.specs.Prelude.{◌==◌, ◌||◌}
 use Rattle.std.specs.List.{list_all}
 use Rattle.std.specs.Str.{IsAscii}
-use Rattle.node_semver.specs.Characters.{AreAll, BeginsWith, BeginsWithNo, dot, hyphen, is_blank, is_digit, is_identifier_character, is_partial_mark, is_version_mark, is_x}
+use Rattle.node_semver.specs.Characters.{AreAll, BeginsWith, BeginsWithNo, dot, hyphen, is_blank, is_digit}
+use Rattle.node_semver.specs.Characters.{is_identifier_character, is_partial_mark, is_version_mark, is_x}
 
 -- ---- the characters of a class
 

@@ -1,13 +1,17 @@
 -- Prereleases, builds and extras: what is read is such a text, and such a text is read.
-use Rattle.std.proofs.Common.{◌≡◌, ◌⊎◌, ℕ, true, false, List, [], ◌∷◌, ◌++◌, refl, sym, ap, ◌∙◌, inl, inr, subst, append_assoc}
+use Rattle.std.proofs.Common.{◌≡◌, ◌⊎◌, ℕ, true, false, List, [], ◌∷◌, ◌++◌, refl, sym, ap, ◌∙◌, inl, inr, subst}
+use Rattle.std.proofs.Common.{append_assoc}
 use Rattle.std.proofs.lemmas.Bool.{cases_Bool, eqb-true}
 use Rattle.std.specs.Prelude.{◌==◌}
 use Rattle.node_semver.specs.Characters.{BeginsWith, BeginsWithNo, hyphen, is_identifier_character, plus, dot}
 use Rattle.node_semver.specs.IdentifierText.{IsBuildText, IsExtrasText, IsIdentifierList, IsPrereleaseText}
 use Rattle.node_semver.specs.IdentifierValue.{IdentifierValue}
-use Rattle.node_semver.specs.Private.Reading.{skip_one, skip_plus, begins, read_build, read_extras, list_rest, list_prefix, read_list_or, list_values, read_prerelease}
+use Rattle.node_semver.specs.Private.Reading.{skip_one, skip_plus, begins, read_build, read_extras, list_rest}
+use Rattle.node_semver.specs.Private.Reading.{list_prefix, read_list_or, list_values, read_prerelease}
 use Rattle.node_semver.proofs.Texts.Prefixes.{begins-append, with-begins}
-use Rattle.node_semver.proofs.Texts.IdentifierReading.{EndsExtras, ends-list, ends-plus, first-stays, goes_on-character, is_of_list, list-again, list-takes, list-whole, or-left, pick-false, pick-true, some-values, stops-list}
+use Rattle.node_semver.proofs.Texts.IdentifierReading.{EndsExtras, ends-list, ends-plus, first-stays, goes_on-character}
+use Rattle.node_semver.proofs.Texts.IdentifierReading.{is_of_list, list-again, list-takes, list-whole, or-left}
+use Rattle.node_semver.proofs.Texts.IdentifierReading.{pick-false, pick-true, some-values, stops-list}
 use Rattle.node_semver.proofs.Texts.Characters.{other-no_hyphen}
 
 -- what is read in each case

@@ -21,7 +21,8 @@ pub parts-before : (text rest : List ℕ) → AreAll is_identifier_character tex
 parts-before [] rest all = parts-dot dot rest refl
 parts-before (b ∷ text) rest all =
     let both = and_parts (is_identifier_character b) (list_all is_identifier_character text) all in
-    parts-other b (text ++ (dot ∷ rest)) text (parts_of rest) (character-no_dot b both.0) (parts-before text rest both.1)
+    parts-other b (text ++ (dot ∷ rest)) text (parts_of rest) (character-no_dot b both.0)
+    (parts-before text rest both.1)
 
 pub parts-alone : (text : List ℕ) → AreAll is_identifier_character text → parts_of text ≡ text ∷ []
 parts-alone [] all = refl

@@ -1,5 +1,6 @@
 -- What stands before an unmarked text: its mark and blanks.
-use Rattle.std.proofs.Common.{◌≡◌, ◌<◌, ℕ, Bool, List, [], ◌∷◌, ◌++◌, arith, length, refl, sym, ap, ◌∙◌, inl, inr, append_assoc}
+use Rattle.std.proofs.Common.{◌≡◌, ◌<◌, ℕ, Bool, List, [], ◌∷◌, ◌++◌, arith, length, refl, sym, ap, ◌∙◌, inl, inr}
+use Rattle.std.proofs.Common.{append_assoc}
 use Rattle.std.proofs.lemmas.Bool.{cases_Bool}
 use Rattle.node_semver.specs.Characters.{BeginsWithNo, is_blank, mark_of}
 use Rattle.node_semver.specs.VersionText.{IsMarked}

@@ -7,7 +7,8 @@ use Rattle.node_semver.specs.Characters.{BeginsWithNo, is_digit, dot}
 use Rattle.node_semver.specs.NumberText.{IsNumberText, number_of}
 use Rattle.node_semver.specs.Private.Reading.{◌>>=◌, rest_of, begins, prefix_of, read_number, read_dot}
 use Rattle.node_semver.specs.declared.parse.fault.Fault.{Fault}
-use Rattle.node_semver.proofs.Texts.Prefixes.{rest_of-again, rest_of-no, begins-append, begins-with, prefix_of-rest_of, prefix_of-again, prefix_of-all, prefix_of-begins, with-begins}
+use Rattle.node_semver.proofs.Texts.Prefixes.{rest_of-again, rest_of-no, begins-append, begins-with, prefix_of-rest_of}
+use Rattle.node_semver.proofs.Texts.Prefixes.{prefix_of-again, prefix_of-all, prefix_of-begins, with-begins}
 
 -- a chain that gave an answer
 pub bind-ok : {A B : Type 0} (r : Result A Fault) (f : A → Result B Fault) (y : B) → (r >>= f) ≡ Ok y

@@ -1,5 +1,6 @@
 -- The longest prefix whose characters all pass, from place to place, as a loop goes over a text.
-use Rattle.std.proofs.Common.{◌≡◌, ◌+◌, ◌-◌, ◌<◌, ◌≤◌, ℕ, Bool, true, false, List, [], ◌∷◌, ◌++◌, length, get_or, take, drop, refl, sym, ap, ◌∙◌, add-one, append-nil, append_assoc, drop-cons, suc, zero, arith}
+use Rattle.std.proofs.Common.{◌≡◌, ◌+◌, ◌-◌, ◌<◌, ◌≤◌, ℕ, Bool, true, false, List, [], ◌∷◌, ◌++◌, length, get_or, take}
+use Rattle.std.proofs.Common.{drop, refl, sym, ap, ◌∙◌, add-one, append-nil, append_assoc, drop-cons, suc, zero, arith}
 use Rattle.std.proofs.lemmas.List.{drop_all, take_rest}
 use Rattle.std.proofs.Math.Seq.{take-suc}
 use Rattle.node_semver.specs.Private.Reading.{rest_of, prefix_of}

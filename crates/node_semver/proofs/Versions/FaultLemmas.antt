@@ -1,21 +1,26 @@
 -- Laws of faults: each text is a version text or has a fault, never both, and one fault at most.
-use Rattle.std.proofs.Common.{◌≡◌, ◌⊎◌, ◌≤◌, ◌<◌, ℕ, ◌-◌, true, List, [], ◌∷◌, ◌++◌, length, Ok, Err, refl, sym, ap, ◌∙◌, inl, inr, arith, subst, append_assoc, append-nil}
+use Rattle.std.proofs.Common.{◌≡◌, ◌⊎◌, ◌≤◌, ◌<◌, ℕ, ◌-◌, true, List, [], ◌∷◌, ◌++◌, length, Ok, Err, refl, sym, ap}
+use Rattle.std.proofs.Common.{◌∙◌, inl, inr, arith, subst, append_assoc, append-nil}
 use Rattle.std.proofs.lemmas.Bool.{cases_Bool, le-leb, leb-false, leb-true, lt-leb}
 use Rattle.std.proofs.lemmas.List.{length-append}
 use Rattle.std.specs.Prelude.{Option, Some, None, Result, ◌==◌, if◌then◌else◌, nat_le}
 use Rattle.node_semver.specs.declared.TheConstants.{MAX_LENGTH, MAX_SAFE_INTEGER}
 use Rattle.node_semver.specs.Characters.{BeginsWithNo, dot, is_blank, is_digit, is_version_mark, mark_of}
 use Rattle.node_semver.specs.Error.{Kind, max_length, other}
-use Rattle.node_semver.specs.Fault.{IsAllDigits, IsFault, HasPrefix, large_number, left_over, no_number, no_dot, too_large, too_long, with_dots}
+use Rattle.node_semver.specs.Fault.{IsAllDigits, IsFault, HasPrefix, large_number, left_over, no_number, no_dot}
+use Rattle.node_semver.specs.Fault.{too_large, too_long, with_dots}
 use Rattle.node_semver.specs.NumberText.{number_of}
 use Rattle.node_semver.specs.Version.{VersionValue}
 use Rattle.node_semver.specs.VersionText.{IsMarked, IsUnmarkedVersion, IsVersionText}
-use Rattle.node_semver.specs.Private.Reading.{rest_of, skip_one, begins, read_extras, prefix_of, read_version, read_number, read_triple, read_dot, read_unmarked, version_of}
+use Rattle.node_semver.specs.Private.Reading.{rest_of, skip_one, begins, read_extras, prefix_of, read_version}
+use Rattle.node_semver.specs.Private.Reading.{read_number, read_triple, read_dot, read_unmarked, version_of}
 use Rattle.node_semver.specs.declared.parse.fault.Fault.{Fault}
 use Rattle.node_semver.specs.declared.parse.fault.Fault.TheVariants.{TooLarge}
 use Rattle.node_semver.specs.Private.ReadingViews.{kind_in, left_of}
-use Rattle.node_semver.proofs.Versions.FaultReading.{AreNumbers, digits-there, fault-takes, prefix-length, left-takes, missing_at}
-use Rattle.node_semver.proofs.Texts.Prefixes.{begins-append, rest_of-again, prefix_of-again, no-append, with-begins, with_no-begins}
+use Rattle.node_semver.proofs.Versions.FaultReading.{AreNumbers, digits-there, fault-takes, prefix-length, left-takes}
+use Rattle.node_semver.proofs.Versions.FaultReading.{missing_at}
+use Rattle.node_semver.proofs.Texts.Prefixes.{begins-append, rest_of-again, prefix_of-again, no-append, with-begins}
+use Rattle.node_semver.proofs.Texts.Prefixes.{with_no-begins}
 use Rattle.node_semver.proofs.Texts.IdentifierReading.{pick-false, pick-true}
 use Rattle.node_semver.proofs.Texts.LongestReading.{version-longest}
 use Rattle.node_semver.proofs.Texts.NumberReading.{number-again, dot-again}

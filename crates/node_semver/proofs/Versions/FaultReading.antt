@@ -1,5 +1,6 @@
 -- Faults: where the reader gives a fault, the text has that fault.
-use Rattle.std.proofs.Common.{◌≡◌, ◌⊎◌, ◌≤◌, ◌<◌, ℕ, ◌+◌, ◌-◌, List, [], ◌∷◌, ◌++◌, drop, length, Ok, Err, refl, sym, ap, ◌∙◌, inl, inr, arith, subst, append_assoc}
+use Rattle.std.proofs.Common.{◌≡◌, ◌⊎◌, ◌≤◌, ◌<◌, ℕ, ◌+◌, ◌-◌, List, [], ◌∷◌, ◌++◌, drop, length, Ok, Err, refl, sym}
+use Rattle.std.proofs.Common.{ap, ◌∙◌, inl, inr, arith, subst, append_assoc}
 use Rattle.std.proofs.lemmas.Bool.{cases_Bool, leb-false}
 use Rattle.std.proofs.lemmas.List.{length-append}
 use Rattle.std.proofs.Math.Seq.{drop-append_seam}
@@ -8,15 +9,18 @@ use Rattle.std.specs.List.{AllByRecursion}
 use Rattle.node_semver.specs.declared.TheConstants.{MAX_LENGTH, MAX_SAFE_INTEGER}
 use Rattle.node_semver.specs.Characters.{BeginsWithNo, dot, is_blank, is_digit, is_version_mark, mark_of}
 use Rattle.node_semver.specs.Error.{Kind, context, other}
-use Rattle.node_semver.specs.Fault.{IsAllDigits, IsFault, HasPrefix, large_number, left_over, no_number, no_dot, too_large, with_dots}
+use Rattle.node_semver.specs.Fault.{IsAllDigits, IsFault, HasPrefix, large_number, left_over, no_number, no_dot}
+use Rattle.node_semver.specs.Fault.{too_large, with_dots}
 use Rattle.node_semver.specs.NumberText.{IsNumberText, number_of}
 use Rattle.node_semver.specs.Version.{VersionValue}
 use Rattle.node_semver.specs.VersionText.{IsVersionText}
-use Rattle.node_semver.specs.Private.Reading.{◌>>=◌, rest_of, skip_one, begins, prefix_of, read_version, read_number, read_triple, read_dot, read_unmarked}
+use Rattle.node_semver.specs.Private.Reading.{◌>>=◌, rest_of, skip_one, begins, prefix_of, read_version, read_number}
+use Rattle.node_semver.specs.Private.Reading.{read_triple, read_dot, read_unmarked}
 use Rattle.node_semver.specs.declared.parse.fault.Fault.{Fault}
 use Rattle.node_semver.specs.declared.parse.fault.Fault.TheVariants.{Missing, TooLarge}
 use Rattle.node_semver.specs.Private.ReadingViews.{kind_in, left_of}
-use Rattle.node_semver.proofs.Texts.Prefixes.{rest_of-no, begins-with, begins-with_no, prefix_of-rest_of, prefix_of-again, prefix_of-all, prefix_of-begins}
+use Rattle.node_semver.proofs.Texts.Prefixes.{rest_of-no, begins-with, begins-with_no, prefix_of-rest_of}
+use Rattle.node_semver.proofs.Texts.Prefixes.{prefix_of-again, prefix_of-all, prefix_of-begins}
 use Rattle.node_semver.proofs.Texts.LongestReading.{version-longest, version-no_digit}
 use Rattle.node_semver.proofs.Texts.NumberReading.{number-takes, dot-takes, refusal}
 use Rattle.node_semver.proofs.Texts.Marks.{mark-skip}

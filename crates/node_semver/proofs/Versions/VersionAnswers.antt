@@ -19,7 +19,8 @@ pub only-answer : (text : List ℕ) (answer : Result VersionValue SemverError) �
     → IsReadAs v answer
 only-answer text (Ok w) found fault v h = one_reading text w v found h
 only-answer text (Err e) found (inl memory) v h = memory
-only-answer text (Err e) found (inr (kind, offset, fault, refusal)) v h = absurd (version-no_fault text v kind offset h fault)
+only-answer text (Err e) found (inr (kind, offset, fault, refusal)) v h = absurd
+    (version-no_fault text v kind offset h fault)
 
 -- its print is read as it
 pub answer-reads_back : (text : List ℕ) (answer : Result VersionValue SemverError)
@@ -28,7 +29,8 @@ answer-reads_back text (Ok w) found = version-reads_back text w found
 answer-reads_back text (Err e) found = found
 
 -- and a text that is a print is read as the version
-pub answer-printed : (text : List ℕ) (answer : Result VersionValue SemverError) → IfOk answer (λ v. IsVersionText text v)
+pub answer-printed : (text : List ℕ) (answer : Result VersionValue SemverError)
+    → IfOk answer (λ v. IsVersionText text v)
     → IfErr answer (λ e. IsOutOfMemory e ⊎ IsFaultOf text e) → (v : VersionValue) → HasText v → version_text v ≡ text
     → length text ≤ MAX_LENGTH → IsReadAs v answer
 answer-printed text answer found fault v has print short =

@@ -1,12 +1,15 @@
 -- Triples and versions: what is read is such a text, and such a text is read.
-use Rattle.std.proofs.Common.{◌≡◌, ◌<◌, ℕ, Bool, true, false, List, [], ◌∷◌, ◌++◌, arith, get_or, length, Ok, refl, sym, ap, ◌∙◌, subst, append_assoc}
+use Rattle.std.proofs.Common.{◌≡◌, ◌<◌, ℕ, Bool, true, false, List, [], ◌∷◌, ◌++◌, arith, get_or, length, Ok, refl, sym}
+use Rattle.std.proofs.Common.{ap, ◌∙◌, subst, append_assoc}
 use Rattle.std.specs.Prelude.{◌==◌, ◌||◌}
-use Rattle.node_semver.specs.Characters.{BeginsWith, BeginsWithNo, dot, is_blank, is_digit, is_identifier_character, is_version_mark, plus}
+use Rattle.node_semver.specs.Characters.{BeginsWith, BeginsWithNo, dot, is_blank, is_digit, is_identifier_character}
+use Rattle.node_semver.specs.Characters.{is_version_mark, plus}
 use Rattle.node_semver.specs.Division.{IsCleanEnd}
 use Rattle.node_semver.specs.NumberText.{IsNumberText}
 use Rattle.node_semver.specs.Version.{VersionValue}
 use Rattle.node_semver.specs.VersionText.{IsMarked, IsUnmarkedVersion}
-use Rattle.node_semver.specs.Private.Reading.{read_dot, read_extras, read_number, read_triple, read_unmarked, read_version, rest_of, skip_one, version_of}
+use Rattle.node_semver.specs.Private.Reading.{read_dot, read_extras, read_number, read_triple, read_unmarked}
+use Rattle.node_semver.specs.Private.Reading.{read_version, rest_of, skip_one, version_of}
 use Rattle.node_semver.proofs.Texts.Marks.{TakesMarked, marked-follows, marked-taken}
 use Rattle.node_semver.proofs.Texts.Prefixes.{begins-append, no-append}
 use Rattle.node_semver.proofs.Texts.ExtrasReading.{extras-again, extras-takes}

@@ -1,5 +1,6 @@
 -- The least version, and from each version the next one, between which lies none.
-use Rattle.std.proofs.Common.{◌≡◌, ◌≢◌, ◌<◌, ◌≤◌, ◌⊎◌, ◌+◌, ◌^◌, ℕ, zero, suc, length, get_or, take, lit<, List, [], ◌∷◌, ◌++◌, refl, sym, subst, ◌∙◌, inl, inr, arith, Ordering, Less, Equal, Greater}
+use Rattle.std.proofs.Common.{◌≡◌, ◌≢◌, ◌<◌, ◌≤◌, ◌⊎◌, ◌+◌, ◌^◌, ℕ, zero, suc, length, get_or, take, lit<, List, []}
+use Rattle.std.proofs.Common.{◌∷◌, ◌++◌, refl, sym, subst, ◌∙◌, inl, inr, arith, Ordering, Less, Equal, Greater}
 use Rattle.std.specs.Ordering.{nat_cmp, ordering_then}
 use Rattle.std.specs.Cmp.Lexicographic.{slice_cmp}
 use Rattle.std.specs.List.{AllByRecursion}
@@ -8,11 +9,13 @@ use Rattle.semver_cuts.specs.Steps.{IsLeast, IsNext}
 use Rattle.node_semver.specs.Comparison.{identifier_cmp, version_cmp}
 use Rattle.node_semver.specs.Identifier.{value_of, values_of}
 use Rattle.node_semver.specs.IdentifierValue.{IdentifierValue, alphanumeric, numeric}
-use Rattle.node_semver.specs.Order.{IsBelow, IsListBelow, IsIdentifierBelow, before_release, by_identifiers, by_major, by_minor, by_patch}
+use Rattle.node_semver.specs.Order.{IsBelow, IsListBelow, IsIdentifierBelow, before_release, by_identifiers, by_major}
+use Rattle.node_semver.specs.Order.{by_minor, by_patch}
 use Rattle.node_semver.specs.Version.{HasSameTriple, IsPrerelease, VersionValue, least_of}
 use Rattle.node_semver.specs.VersionSteps.{IsIdentifier, IsVersion, next_by, next_version, with_zero}
 use Rattle.node_semver.specs.declared.identifier.Identifier.{Identifier}
-use Rattle.node_semver.specs.Lemmas.Order.{Greater-turned, Less-version, identifier-Less, identifier_total, list-Less, version-Less}
+use Rattle.node_semver.specs.Lemmas.Order.{Greater-turned, Less-version, identifier-Less, identifier_total, list-Less}
+use Rattle.node_semver.specs.Lemmas.Order.{version-Less}
 use Rattle.node_semver.proofs.Sets.Convex.{major≤, minor≤, patch≤, prerelease-below, triple-between}
 
 -- ---- lists of identifiers
@@ -151,7 +154,8 @@ with_zero-prerelease v = longer v.pre_release
     longer (x ∷ xs) e = cc e
 
 pub with_zero-above : (v : VersionValue) → IsPrerelease v → IsBelow v (with_zero v)
-with_zero-above v pre = by_identifiers (record { major = refl; minor = refl; patch = refl }) pre (with_zero-prerelease v)
+with_zero-above v pre = by_identifiers (record { major = refl; minor = refl; patch = refl }) pre
+    (with_zero-prerelease v)
     (inl (record { next = numeric 0; rest = []; goes_on = refl }))
 
 pub none-between_zeros : (v w : VersionValue) → IsPrerelease v → IsBelow v w → ¬ IsBelow w (with_zero v)

@@ -1,5 +1,6 @@
 -- Lists of identifiers and those with a 0 more: how they compare.
-use Rattle.std.proofs.Common.{◌≡◌, ◌≢◌, ◌↔◌, ◌∙◌, List, [], ◌∷◌, ◌++◌, ◌==◌, not, length, append-nil, Bool, true, false, IsTrue, refl, sym, ap, subst, Ordering, Less, Equal, Greater}
+use Rattle.std.proofs.Common.{◌≡◌, ◌≢◌, ◌↔◌, ◌∙◌, List, [], ◌∷◌, ◌++◌, ◌==◌, not, length, append-nil, Bool, true, false}
+use Rattle.std.proofs.Common.{IsTrue, refl, sym, ap, subst, Ordering, Less, Equal, Greater}
 use Rattle.std.specs.Ordering.{is_eq, is_le, is_lt, on}
 use Rattle.std.specs.Cmp.{Equal-is, IsTotalOrder, tied_itself}
 use Rattle.std.specs.Cmp.Lexicographic.{lists_total, slice_cmp}
@@ -34,7 +35,8 @@ tied xs ys e = slice_cmp-IsAntisymmetric identifier-IsAntisymmetric xs ys e
 -- ---- what compares
 
 -- a list is below another with a 0 more where it is at most the other
-below-zeroed : (xs ys : List IdentifierValue) (r : Ordering) → order xs ys ≡ r → IsTrue (is_le r) ↔ (order xs (zeroed ys) ≡ Less)
+below-zeroed : (xs ys : List IdentifierValue) (r : Ordering) → order xs ys ≡ r
+    → IsTrue (is_le r) ↔ (order xs (zeroed ys) ≡ Less)
 below-zeroed xs ys Less e = (λ t. total.trans xs ys (zeroed ys) e (zero-above ys), λ h. refl)
 below-zeroed xs ys Equal e = (λ t. total.congr xs ys (zeroed ys) e ∙ zero-above ys, λ h. refl)
 below-zeroed xs ys Greater e = (
@@ -43,7 +45,8 @@ below-zeroed xs ys Greater e = (
 )
 
 -- with a 0 more a list is below another where it is without, and the other is not just that
-zeroed-below : (xs ys : List IdentifierValue) → (order (zeroed xs) ys ≡ Less) ↔ ((order xs ys ≡ Less) × (ys ≢ zeroed xs))
+zeroed-below : (xs ys : List IdentifierValue)
+    → (order (zeroed xs) ys ≡ Less) ↔ ((order xs ys ≡ Less) × (ys ≢ zeroed xs))
 zeroed-below xs ys = (
   λ h. (
     total.trans xs (zeroed xs) ys (zero-above xs) h,
@@ -78,7 +81,8 @@ both-zeroed xs ys = (
         → order xs ys ≡ Less
     downward Less e t h = e
     downward Equal e t h =
-        absurd (never-less (zeroed ys) (subst (λ (l : List IdentifierValue). order (zeroed l) (zeroed ys) ≡ Less) (tied xs ys e) h))
+        absurd (never-less (zeroed ys) (subst (λ (l : List IdentifierValue). order (zeroed l) (zeroed ys) ≡ Less)
+        (tied xs ys e) h))
     downward Greater e t h = cc t
 
 -- ---- as the program compares them
@@ -130,7 +134,8 @@ in-second a b z w r p q some e =
     let xs = values_of a in
     let ys = values_of b in
     let same : prerelease_cmp (with_zeros xs z) (with_zeros ys w) ≡ order xs (zeroed ys) =
-    (λ i. prerelease_cmp (without xs z p i) (with ys w q i)) ∙ both-some xs (zeroed ys) (values-some a some) (some-zeroed ys) in
+    (λ i. prerelease_cmp (without xs z p i) (with ys w q i)) ∙ both-some xs (zeroed ys) (values-some a some)
+    (some-zeroed ys) in
     along (is_le r) _ _ same (below-zeroed xs ys r (compared a b r e))
 
 module _ (a b : List Identifier) (z w : Bool) (r : Ordering) (p : z ≡ true) (q : w ≡ false)
@@ -171,7 +176,8 @@ in-both a b z w r p q e =
     let xs = values_of a in
     let ys = values_of b in
     let same : prerelease_cmp (with_zeros xs z) (with_zeros ys w) ≡ order (zeroed xs) (zeroed ys) =
-    (λ i. prerelease_cmp (with xs z p i) (with ys w q i)) ∙ both-some (zeroed xs) (zeroed ys) (some-zeroed xs) (some-zeroed ys) in
+    (λ i. prerelease_cmp (with xs z p i) (with ys w q i)) ∙ both-some (zeroed xs) (zeroed ys) (some-zeroed xs)
+    (some-zeroed ys) in
     let both = both-zeroed xs ys in
     along (is_lt r) _ _ same (
       λ h. both.0 (compared a b r e ∙ (less-is r).0 h),
@@ -180,7 +186,8 @@ in-both a b z w r p q e =
 
 -- ---- the list with a 0 more, from its last identifier
 
-last-values : (front : List Identifier) (x : Identifier) → values_of (front ++ x ∷ []) ≡ values_of front ++ value_of x ∷ []
+last-values : (front : List Identifier) (x : Identifier)
+    → values_of (front ++ x ∷ []) ≡ values_of front ++ value_of x ∷ []
 last-values front x = map-append value_of front (x ∷ [])
 
 last-same : (xs ys : List IdentifierValue) (x y : IdentifierValue) → xs ++ x ∷ [] ≡ ys ++ y ∷ [] → (x ≡ y) × (xs ≡ ys)
@@ -205,5 +212,6 @@ last-zero longer shorter front x r parts e zero =
           (compared front shorter r e ∙ (Equal-is r).0 h) i ++ zero i ∷ []),
       λ h. let same = last-same (values_of front) (values_of shorter) (value_of x) (numeric 0) (sym whole ∙ h) in
           (Equal-is r).1 (sym (compared front shorter r e)
-          ∙ subst (λ (l : List IdentifierValue). order (values_of front) l ≡ Equal) same.1 (tied_itself total (values_of front))),
+          ∙ subst (λ (l : List IdentifierValue). order (values_of front) l ≡ Equal) same.1
+          (tied_itself total (values_of front))),
     )

@@ -1,5 +1,6 @@
 -- Components with dots between them: what is read is an unmarked partial, and an unmarked partial is read.
-use Rattle.std.proofs.Common.{◌≡◌, ℕ, List, [], ◌∷◌, ◌++◌, Option, Some, None, refl, sym, ap, ◌∙◌, inl, inr, subst, append_assoc}
+use Rattle.std.proofs.Common.{◌≡◌, ℕ, List, [], ◌∷◌, ◌++◌, Option, Some, None, refl, sym, ap, ◌∙◌, inl, inr, subst}
+use Rattle.std.proofs.Common.{append_assoc}
 use Rattle.std.proofs.lemmas.Bool.{cases_Bool, eqb-true}
 use Rattle.std.proofs.lemmas.Option.{same_Some}
 use Rattle.std.specs.Prelude.{◌==◌}
@@ -7,7 +8,9 @@ use Rattle.node_semver.specs.Characters.{BeginsWithNo, dot, is_digit}
 use Rattle.node_semver.specs.Division.{IsCleanEnd}
 use Rattle.node_semver.specs.PartialText.{IsComponentText, IsUnmarkedPartial, Partial, one, plain_partial, three, two}
 use Rattle.node_semver.specs.Private.Reading.{read_extras}
-use Rattle.node_semver.specs.Private.WordReading.{Component, ReadPartial, read_component, read_components, read_from_minor, read_from_patch, with_extras, with_first, with_second, with_third}
+use Rattle.node_semver.specs.Private.WordReading.{Component, ReadPartial, read_component, read_components}
+use Rattle.node_semver.specs.Private.WordReading.{read_from_minor, read_from_patch, with_extras, with_first}
+use Rattle.node_semver.specs.Private.WordReading.{with_second, with_third}
 use Rattle.node_semver.proofs.Texts.CleanEnds.{clean-no_dot}
 use Rattle.node_semver.proofs.Words.ComponentReading.{component-again, component-takes}
 use Rattle.node_semver.proofs.Texts.ExtrasReading.{extras-again, extras-takes}

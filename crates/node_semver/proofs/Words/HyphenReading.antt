@@ -1,5 +1,6 @@
 -- Hyphen ranges: what is read is such a text, and such a text is read.
-use Rattle.std.proofs.Common.{◌≡◌, ℕ, true, List, [], ◌∷◌, ◌++◌, Option, Some, None, refl, sym, ap, ◌∙◌, inl, inr, subst, append_assoc}
+use Rattle.std.proofs.Common.{◌≡◌, ℕ, true, List, [], ◌∷◌, ◌++◌, Option, Some, None, refl, sym, ap, ◌∙◌, inl, inr}
+use Rattle.std.proofs.Common.{subst, append_assoc}
 use Rattle.std.proofs.lemmas.Bool.{cases_Bool, eqb-true}
 use Rattle.std.proofs.lemmas.Option.{same_Some}
 use Rattle.std.specs.Prelude.{◌==◌}
@@ -9,10 +10,12 @@ use Rattle.node_semver.specs.Division.{IsCleanEnd}
 use Rattle.node_semver.specs.HyphenRanges.{IsHyphenText, IsLeftText, hyphen_comparator}
 use Rattle.node_semver.specs.PartialText.{IsPartialText, Partial}
 use Rattle.node_semver.specs.Private.Reading.{begins, prefix_of, rest_of}
-use Rattle.node_semver.specs.Private.WordReading.{ReadPartial, Word, or_else, read_hyphen, read_partial, read_right, right_at, said_hyphen, with_left}
+use Rattle.node_semver.specs.Private.WordReading.{ReadPartial, Word, or_else, read_hyphen, read_partial, read_right}
+use Rattle.node_semver.specs.Private.WordReading.{right_at, said_hyphen, with_left}
 use Rattle.node_semver.proofs.Texts.CleanEnds.{blanks-clean, true-clean, up_to_clean-takes}
 use Rattle.node_semver.proofs.Words.PartialReading.{partial-again, partial-no, partial-takes, partial-unblanked}
-use Rattle.node_semver.proofs.Texts.Prefixes.{begins-append, begins-with, prefix_of-all, prefix_of-begins, prefix_of-rest_of, rest_of-again, rest_of-all, with-begins}
+use Rattle.node_semver.proofs.Texts.Prefixes.{begins-append, begins-with, prefix_of-all, prefix_of-begins}
+use Rattle.node_semver.proofs.Texts.Prefixes.{prefix_of-rest_of, rest_of-again, rest_of-all, with-begins}
 
 -- ---- from the blanks before a hyphen on
 
@@ -142,7 +145,8 @@ hyphen-taken left_text text left (Some p) c rest h r e =
     })
 
 -- with a left side
-hyphen_left-takes : (text : List ℕ) (read : ReadPartial) (c : Option Comparator) (rest : List ℕ) → read_partial text ≡ read
+hyphen_left-takes : (text : List ℕ) (read : ReadPartial) (c : Option Comparator) (rest : List ℕ)
+    → read_partial text ≡ read
     → with_left read ≡ Some (c, rest) → TakesHyphen text c rest
 hyphen_left-takes text None c rest r h = cc h
 hyphen_left-takes text (Some left) c rest r h =

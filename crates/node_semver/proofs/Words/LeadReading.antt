@@ -1,13 +1,16 @@
 -- What stands before the partial of a word: an operator, a tilde, a caret or nothing. What is read stands there,
 -- and what stands there is read.
-use Rattle.std.proofs.Common.{◌≡◌, ℕ, false, List, [], ◌∷◌, ◌++◌, Option, Some, None, refl, sym, ap, ◌∙◌, inl, inr, subst, append_assoc}
+use Rattle.std.proofs.Common.{◌≡◌, ℕ, false, List, [], ◌∷◌, ◌++◌, Option, Some, None, refl, sym, ap, ◌∙◌, inl, inr}
+use Rattle.std.proofs.Common.{subst, append_assoc}
 use Rattle.std.proofs.lemmas.Bool.{cases_Bool, eqb-true}
 use Rattle.std.specs.Prelude.{◌==◌}
 use Rattle.node_semver.specs.Characters.{AreAll, BeginsWithNo, caret, greater_sign, is_blank, tilde}
 use Rattle.node_semver.specs.Operators.{Operator, equal, greater, greater_or_equal, less, less_or_equal, operator_text}
 use Rattle.node_semver.specs.PartialText.{Partial}
 use Rattle.node_semver.specs.Private.Reading.{prefix_of, rest_of}
-use Rattle.node_semver.specs.Private.WordReading.{Lead, ReadPartial, caret_lead, no_lead, operator, operator_lead, read_lead, read_operator, read_partial, tilde_at, tilde_greater_lead, tilde_lead, with_equals}
+use Rattle.node_semver.specs.Private.WordReading.{Lead, ReadPartial, caret_lead, no_lead, operator, operator_lead}
+use Rattle.node_semver.specs.Private.WordReading.{read_lead, read_operator, read_partial, tilde_at, tilde_greater_lead}
+use Rattle.node_semver.specs.Private.WordReading.{tilde_lead, with_equals}
 use Rattle.node_semver.proofs.Words.PartialReading.{partial-no}
 use Rattle.node_semver.proofs.Texts.Prefixes.{prefix_of-all, prefix_of-rest_of, rest_of-again}
 

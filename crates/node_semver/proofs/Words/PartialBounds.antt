@@ -5,7 +5,8 @@ use Rattle.std.specs.List.{AllByRecursion}
 use Rattle.node_semver.specs.declared.TheConstants.{MAX_SAFE_INTEGER}
 use Rattle.node_semver.specs.IdentifierText.{IsBuildText, IsIdentifierText, IsPrereleaseText, identifier_of}
 use Rattle.node_semver.specs.IdentifierValue.{IdentifierValue, numeric}
-use Rattle.node_semver.specs.PartialText.{IsComponentText, IsLed, IsPartialText, IsUnmarkedPartial, Partial, one, plain_partial, three, two, zeroed}
+use Rattle.node_semver.specs.PartialText.{IsComponentText, IsLed, IsPartialText, IsUnmarkedPartial, Partial, one}
+use Rattle.node_semver.specs.PartialText.{plain_partial, three, two, zeroed}
 use Rattle.node_semver.specs.RangeSets.{IsReadIdentifier, IsReadVersion}
 use Rattle.node_semver.specs.Version.{VersionValue, least_of, release, without_build}
 
@@ -45,7 +46,8 @@ build-read text [] is = tt
 build-read text (i ∷ identifiers) is =
     subst (AllByRecursion IsReadIdentifier) (sym is.2.values) (values-read _ is.2.parts)
 
-plain_partial-read : (major minor patch : Option ℕ) → IsReadComponent major → IsReadComponent minor → IsReadComponent patch
+plain_partial-read : (major minor patch : Option ℕ) → IsReadComponent major → IsReadComponent minor
+    → IsReadComponent patch
     → IsReadPartial (plain_partial major minor patch)
 plain_partial-read major minor patch a b c = record { major = a; minor = b; patch = c; pre_release = tt; build = tt }
 

@@ -1,5 +1,6 @@
 -- Partials, as the readers see them.
-use Rattle.std.proofs.Common.{◌≡◌, ◌≢◌, ◌<◌, ◌≤◌, ℕ, arith, ◌-◌, drop, get_or, length, take, false, true, List, [], ◌∷◌, Ok, Err, Option, Some, None, refl, sym, ap, ◌∙◌}
+use Rattle.std.proofs.Common.{◌≡◌, ◌≢◌, ◌<◌, ◌≤◌, ℕ, arith, ◌-◌, drop, get_or, length, take, false, true, List, [], ◌∷◌}
+use Rattle.std.proofs.Common.{Ok, Err, Option, Some, None, refl, sym, ap, ◌∙◌}
 use Rattle.std.specs.Borrow.{Bor}
 use Rattle.std.specs.Prelude.{◌==◌, Result}
 use Rattle.std.specs.Result.{result_ok}
@@ -13,8 +14,10 @@ use Rattle.node_semver.specs.Division.{IsCleanEnd}
 use Rattle.node_semver.specs.PartialText.{Partial, plain_partial}
 use Rattle.node_semver.specs.Private.RangeViews.{IsFullText}
 use Rattle.node_semver.specs.Version.{release}
-use Rattle.node_semver.specs.Private.Reading.{read_dot, read_extras, read_number, read_triple, read_unmarked, read_version, rest_of, skip_one}
-use Rattle.node_semver.specs.Private.WordReading.{is_clean, read_component, read_components, read_from_minor, read_from_patch, read_partial, with_extras}
+use Rattle.node_semver.specs.Private.Reading.{read_dot, read_extras, read_number, read_triple, read_unmarked}
+use Rattle.node_semver.specs.Private.Reading.{read_version, rest_of, skip_one}
+use Rattle.node_semver.specs.Private.WordReading.{is_clean, read_component, read_components, read_from_minor}
+use Rattle.node_semver.specs.Private.WordReading.{read_from_patch, read_partial, with_extras}
 use Rattle.node_semver.proofs.Texts.ExtrasReading.{extras-again}
 use Rattle.node_semver.proofs.Texts.NumberReading.{number-takes}
 use Rattle.node_semver.proofs.Versions.LeadingTriple.{number-digit, version-begins}
@@ -142,7 +145,8 @@ none-three text first second next third major minor one dotted two dotted_again 
     rw (← one, dotted, ← two, dotted_again, ← h) refl
 
 -- a text that has no digit first begins with none
-pub no-digit_first : (text : List ℕ) → (0 < length text → is_digit (get_or text 0 0) ≡ false) → BeginsWithNo is_digit text
+pub no-digit_first : (text : List ℕ) → (0 < length text → is_digit (get_or text 0 0) ≡ false)
+    → BeginsWithNo is_digit text
 no-digit_first [] h = tt
 no-digit_first (b ∷ rest) h = h (omega arith)
 
@@ -163,7 +167,8 @@ digit-begins (b ∷ text) digit = rw (digit-no_partial_mark b digit, digit-no_bl
 -- a number as a component
 number-component : (text rest : List ℕ) (number : ℕ) → Ok (number, rest) ≡ read_number text
     → Some (Some number, rest) ≡ read_component text
-number-component text rest number h = component-number text rest number h (digit-begins_no_x text (number-digit text rest number h))
+number-component text rest number h = component-number text rest number h
+    (digit-begins_no_x text (number-digit text rest number h))
 
 -- three numbers with dots between them are a version
 full-version : (text first second next third : List ℕ) (major minor patch : ℕ) → BeginsWith is_digit text

@@ -10,7 +10,8 @@ use Rattle.node_semver.specs.Comparator.{Comparator, exactly, from_up_to, with_m
 use Rattle.node_semver.specs.Comparison.{version_cmp}
 use Rattle.node_semver.specs.Division.{IsSimpleText, by_caret, by_operator, by_tilde, plain}
 use Rattle.node_semver.specs.Lemmas.Order.{version-Less, version_total}
-use Rattle.node_semver.specs.Operators.{Operator, equal, equal_row, greater, greater_or_equal, greater_row, less, less_or_equal, less_or_equal_row, less_row, operator_comparator, plain_row}
+use Rattle.node_semver.specs.Operators.{Operator, equal, equal_row, greater, greater_or_equal, greater_row, less}
+use Rattle.node_semver.specs.Operators.{less_or_equal, less_or_equal_row, less_row, operator_comparator, plain_row}
 use Rattle.node_semver.specs.Order.{by_major, by_minor, by_patch}
 use Rattle.node_semver.specs.PartialText.{Partial, zeroed}
 use Rattle.node_semver.specs.TildeRanges.{IsTildeText, tilde_greater_row, tilde_row, with_tilde, with_tilde_greater}

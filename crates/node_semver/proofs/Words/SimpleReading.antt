@@ -1,5 +1,6 @@
 -- Words of every kind but the hyphen: what is read is such a text, and such a text is read.
-use Rattle.std.proofs.Common.{◌≡◌, ℕ, false, List, [], ◌∷◌, ◌++◌, Option, Some, None, refl, sym, ap, ◌∙◌, subst, append_assoc}
+use Rattle.std.proofs.Common.{◌≡◌, ℕ, false, List, [], ◌∷◌, ◌++◌, Option, Some, None, refl, sym, ap, ◌∙◌, subst}
+use Rattle.std.proofs.Common.{append_assoc}
 use Rattle.std.proofs.lemmas.Bool.{and_parts}
 use Rattle.std.proofs.lemmas.Option.{same_Some}
 use Rattle.std.specs.List.{list_all}
@@ -11,9 +12,12 @@ use Rattle.node_semver.specs.Operators.{operator_text}
 use Rattle.node_semver.specs.PartialText.{IsLed, IsPartialText, Partial}
 use Rattle.node_semver.specs.TildeRanges.{with_tilde, with_tilde_greater}
 use Rattle.node_semver.specs.Private.Reading.{rest_of}
-use Rattle.node_semver.specs.Private.WordReading.{Lead, ReadPartial, Word, caret_lead, lead_comparator, no_lead, operator, read_lead, read_partial, read_simple, said, tilde_greater_lead, tilde_lead, up_to_clean}
+use Rattle.node_semver.specs.Private.WordReading.{Lead, ReadPartial, Word, caret_lead, lead_comparator, no_lead}
+use Rattle.node_semver.specs.Private.WordReading.{operator, read_lead, read_partial, read_simple, said}
+use Rattle.node_semver.specs.Private.WordReading.{tilde_greater_lead, tilde_lead, up_to_clean}
 use Rattle.node_semver.proofs.Texts.CleanEnds.{up_to_clean-again, up_to_clean-takes}
-use Rattle.node_semver.proofs.Words.LeadReading.{IsFollowed, StandsBefore, lead-caret, lead-none, lead-operator, lead-takes, lead-tilde, lead-tilde_greater}
+use Rattle.node_semver.proofs.Words.LeadReading.{IsFollowed, StandsBefore, lead-caret, lead-none, lead-operator}
+use Rattle.node_semver.proofs.Words.LeadReading.{lead-takes, lead-tilde, lead-tilde_greater}
 use Rattle.node_semver.proofs.Words.PartialReading.{partial-again, partial-no, partial-takes, partial-unblanked}
 use Rattle.node_semver.proofs.Texts.Prefixes.{no-append, rest_of-all}
 use Rattle.node_semver.proofs.Texts.Characters.{blank-cases}

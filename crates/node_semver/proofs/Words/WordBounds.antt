@@ -3,15 +3,19 @@ use Rattle.std.proofs.Common.{◌≤◌, ◌+◌, ℕ, zero, suc, List, Option, 
 use Rattle.std.specs.Prelude.{unwrap_or}
 use Rattle.node_semver.specs.declared.TheConstants.{MAX_SAFE_INTEGER}
 use Rattle.node_semver.specs.CaretRanges.{caret_row}
-use Rattle.node_semver.specs.Comparator.{Comparator, above, at_least, at_most, below, from_up_to, with_major, with_minor}
-use Rattle.node_semver.specs.Division.{IsSimpleText, IsWord, by_caret, by_operator, by_tilde, hyphen_range, plain, simple, thrown_away}
+use Rattle.node_semver.specs.Comparator.{Comparator, above, at_least, at_most, below, from_up_to, with_major}
+use Rattle.node_semver.specs.Comparator.{with_minor}
+use Rattle.node_semver.specs.Division.{IsSimpleText, IsWord, by_caret, by_operator, by_tilde, hyphen_range, plain}
+use Rattle.node_semver.specs.Division.{simple, thrown_away}
 use Rattle.node_semver.specs.HyphenRanges.{IsHyphenText, IsLeftText, left_cut, right_row}
-use Rattle.node_semver.specs.Operators.{Operator, equal, equal_row, greater, greater_or_equal, greater_row, less, less_or_equal, less_or_equal_row, less_row, operator_comparator, plain_row}
+use Rattle.node_semver.specs.Operators.{Operator, equal, equal_row, greater, greater_or_equal, greater_row, less}
+use Rattle.node_semver.specs.Operators.{less_or_equal, less_or_equal_row, less_row, operator_comparator, plain_row}
 use Rattle.node_semver.specs.PartialText.{Partial, zeroed}
 use Rattle.node_semver.specs.RangeSets.{IsReadCut, IsReadVersion}
 use Rattle.node_semver.specs.TildeRanges.{IsTildeText, tilde_greater_row, tilde_row, with_tilde, with_tilde_greater}
 use Rattle.node_semver.specs.Version.{VersionValue, least_of, release, without_build}
-use Rattle.node_semver.proofs.Words.PartialBounds.{IsReadComponent, IsReadPartial, least-read, led-read, or-zero, partial-read, release-read, without_build-read, zeroed-read}
+use Rattle.node_semver.proofs.Words.PartialBounds.{IsReadComponent, IsReadPartial, least-read, led-read, or-zero}
+use Rattle.node_semver.proofs.Words.PartialBounds.{partial-read, release-read, without_build-read, zeroed-read}
 
 -- ---- comparators
 

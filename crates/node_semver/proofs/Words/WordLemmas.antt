@@ -1,5 +1,6 @@
 -- The word with which a text begins: what is read is such a word, and such a word is read.
-use Rattle.std.proofs.Common.{◌≡◌, ◌⊎◌, ℕ, true, List, [], ◌∷◌, ◌++◌, Option, Some, None, refl, sym, ap, subst, ◌∙◌, inl, inr}
+use Rattle.std.proofs.Common.{◌≡◌, ◌⊎◌, ℕ, true, List, [], ◌∷◌, ◌++◌, Option, Some, None, refl, sym, ap, subst, ◌∙◌}
+use Rattle.std.proofs.Common.{inl, inr}
 use Rattle.std.proofs.lemmas.Bool.{cases_Bool, eqb-true, or_cases}
 use Rattle.std.specs.Prelude.{◌==◌}
 use Rattle.node_semver.specs.Characters.{BeginsWithNo, is_blank}
@@ -8,11 +9,14 @@ use Rattle.node_semver.specs.Division.{IsCleanEnd, IsSimpleText, IsWord, NoneAt,
 use Rattle.node_semver.specs.HyphenRanges.{IsHyphenText, hyphen_comparator}
 use Rattle.node_semver.specs.PartialText.{Partial}
 use Rattle.node_semver.specs.Private.Reading.{prefix_of, rest_of}
-use Rattle.node_semver.specs.Private.WordReading.{ReadPartial, Word, is_solid, no_lead, or_else, or_thrown_away, read_hyphen, read_lead, read_operator, read_partial, read_right, read_simple, read_word, said, up_to_clean, with_left}
+use Rattle.node_semver.specs.Private.WordReading.{ReadPartial, Word, is_solid, no_lead, or_else, or_thrown_away}
+use Rattle.node_semver.specs.Private.WordReading.{read_hyphen, read_lead, read_operator, read_partial, read_right}
+use Rattle.node_semver.specs.Private.WordReading.{read_simple, read_word, said, up_to_clean, with_left}
 use Rattle.node_semver.proofs.Words.HyphenReading.{hyphen-again, hyphen-takes}
 use Rattle.node_semver.proofs.Words.LeadReading.{lead-none}
 use Rattle.node_semver.proofs.Words.PartialReading.{partial-unblanked}
-use Rattle.node_semver.proofs.Texts.Prefixes.{prefix_of-all, prefix_of-rest_of, rest_of-again, rest_of-no, with_no-begins}
+use Rattle.node_semver.proofs.Texts.Prefixes.{prefix_of-all, prefix_of-rest_of, rest_of-again, rest_of-no}
+use Rattle.node_semver.proofs.Texts.Prefixes.{with_no-begins}
 use Rattle.node_semver.proofs.Words.SimpleReading.{simple-again, simple-takes}
 
 -- what begins with no solid character is the end or begins with a blank
@@ -41,7 +45,8 @@ hyphen-none text (Some w) r none =
     let t = hyphen-takes text w.0 w.1 r in
     absurd (none t.taken w.1 w.0 t.whole t.clean t.read)
 
-simple-unread : (text : List ℕ) (found : Option Word) → read_simple text ≡ found → NoneAt IsSimpleText text → found ≡ None
+simple-unread : (text : List ℕ) (found : Option Word) → read_simple text ≡ found → NoneAt IsSimpleText text
+    → found ≡ None
 simple-unread text None r none = refl
 simple-unread text (Some w) r none =
     let t = simple-takes text w.0 w.1 r in

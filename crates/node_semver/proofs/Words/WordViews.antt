@@ -1,12 +1,16 @@
 -- Words, as the readers see them.
-use Rattle.std.proofs.Common.{◌≡◌, ◌≢◌, ◌⊎◌, ◌<◌, ◌≤◌, ℕ, arith, get_or, length, true, false, List, [], ◌∷◌, Option, Some, None, refl, sym, ap, ◌∙◌, inl, inr}
+use Rattle.std.proofs.Common.{◌≡◌, ◌≢◌, ◌⊎◌, ◌<◌, ◌≤◌, ℕ, arith, get_or, length, true, false, List, [], ◌∷◌, Option}
+use Rattle.std.proofs.Common.{Some, None, refl, sym, ap, ◌∙◌, inl, inr}
 use Rattle.std.proofs.lemmas.Bool.{and_parts, cases_Bool, eqb-true, leb-true, ne_eqb}
 use Rattle.std.specs.Prelude.{◌==◌}
 use Rattle.node_semver.specs.Characters.{BeginsWithNo, caret, is_blank, is_digit, tilde}
 use Rattle.node_semver.specs.Operators.{Operator as SpecOperator}
 use Rattle.node_semver.specs.PartialText.{Partial}
 use Rattle.node_semver.specs.Private.Reading.{begins, read_number, rest_of, skip_one}
-use Rattle.node_semver.specs.Private.WordReading.{Lead, Word, caret_lead, is_clean, lead_comparator, no_lead, operator, or_else, read_component, read_components, read_hyphen, read_lead, read_operator, read_partial, read_right, read_simple, said, said_hyphen, tilde_greater_lead, tilde_lead, up_to_clean, with_left}
+use Rattle.node_semver.specs.Private.WordReading.{Lead, Word, caret_lead, is_clean, lead_comparator, no_lead, operator}
+use Rattle.node_semver.specs.Private.WordReading.{or_else, read_component, read_components, read_hyphen, read_lead}
+use Rattle.node_semver.specs.Private.WordReading.{read_operator, read_partial, read_right, read_simple, said}
+use Rattle.node_semver.specs.Private.WordReading.{said_hyphen, tilde_greater_lead, tilde_lead, up_to_clean, with_left}
 use Rattle.node_semver.specs.Private.WordViews.{lead_seen}
 use Rattle.node_semver.specs.declared.word.lead.Lead.{Lead as CodeLead}
 use Rattle.node_semver.specs.declared.word.lead.Lead.TheVariants.{Caret, Operator, Plain, Tilde, TildeGreater}

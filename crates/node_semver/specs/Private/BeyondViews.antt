@@ -98,7 +98,8 @@ pub record IsCutTrial (sets others : List (Ends VersionValue)) (earlier : Option
   pub tried : IsCutTried sets others later cut
 
 -- and the triple that the upper end of a set opens
-pub record IsOpenTrial (sets others : List (Ends VersionValue)) (earlier : Option VersionValue) (set : Ends VersionValue)
+pub record IsOpenTrial (sets others : List (Ends VersionValue)) (earlier : Option VersionValue)
+    (set : Ends VersionValue)
     (later : Option VersionValue) : Type 0 where
   pub step : IsStep sets others earlier later
   pub tried : IsOpenTried sets others later set

@@ -33,7 +33,8 @@ IsLeastOfSets sets (Some least) = IsLeastAdmitted sets least × HasBuildOfFirst 
 -- the version if it is inside an upper end, or none
 abbrev pub IsInsideOrNone : Cut VersionValue → VersionValue → Option VersionValue → Type 0
 IsInsideOrNone upper v found =
-    (IsCutBelow version_cmp (Before v) upper × (found ≡ Some v)) ⊎ ((¬ IsCutBelow version_cmp (Before v) upper) × (found ≡ None))
+    (IsCutBelow version_cmp (Before v) upper × (found ≡ Some v)) ⊎
+    ((¬ IsCutBelow version_cmp (Before v) upper) × (found ≡ None))
 
 -- the least version with a triple that an upper end opens, or the release with it where the end does not
 abbrev pub IsLeastOfTriple : Cut VersionValue → ℕ → ℕ → ℕ → List IdentifierValue → VersionValue → Type 0

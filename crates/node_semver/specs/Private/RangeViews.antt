@@ -1,5 +1,6 @@
 -- What the private functions that make the sets of a range do.
-use Rattle.std.specs.Prelude.{◌≡◌, ◌≢◌, ◌⊎◌, ◌≤◌, ◌↔◌, ℕ, Bool, List, [], ◌∷◌, ◌++◌, if◌then◌else◌, Option, Some, None, IfSome, IsSome, Result, Ok, Err}
+use Rattle.std.specs.Prelude.{◌≡◌, ◌≢◌, ◌⊎◌, ◌≤◌, ◌↔◌, ℕ, Bool, List, [], ◌∷◌, ◌++◌, if◌then◌else◌, Option, Some, None}
+use Rattle.std.specs.Prelude.{IfSome, IsSome, Result, Ok, Err}
 use Rattle.semver_cuts.specs.declared.cut.Cut.{Cut}
 use Rattle.semver_cuts.specs.Ends.{Ends, HoldsCut, IsCutBelow, span_between}
 use Rattle.node_semver.specs.Comparator.{Comparator}
@@ -48,11 +49,13 @@ IsSpanOf (Some merged) span =
 
 -- those of an alternative
 abbrev pub IsMergedAlternative : List ℕ → Option Comparator → Type 0
-IsMergedAlternative text merged = (comparators : List Comparator) × IsAlternative text comparators × IsMerged comparators merged
+IsMergedAlternative text merged = (comparators : List Comparator) × IsAlternative text comparators
+    × IsMerged comparators merged
 
 -- the set of an alternative, or none where its comparators give none
 pub data IsSetOfAlternative (text : List ℕ) (set : Option (Ends VersionValue)) : Type 0 where
-  given : (comparators : List Comparator) (ends : Ends VersionValue) → IsAlternative text comparators → GiveSet comparators
+  given : (comparators : List Comparator) (ends : Ends VersionValue) → IsAlternative text comparators
+      → GiveSet comparators
       → IsSetOf comparators ends → set ≡ Some ends → IsSetOfAlternative text set
   not_given : (comparators : List Comparator) → IsAlternative text comparators → ¬ GiveSet comparators → set ≡ None
       → IsSetOfAlternative text set
@@ -98,7 +101,8 @@ listed_set (Some set) = set ∷ []
 
 -- the sets of one alternative more
 abbrev pub IsOneMore : List ℕ → List (Ends VersionValue) → List (Ends VersionValue) → Type 0
-IsOneMore text before after = (set : Option (Ends VersionValue)) × IsSetOfAlternative text set × (after ≡ before ++ listed_set set)
+IsOneMore text before after = (set : Option (Ends VersionValue)) × IsSetOfAlternative text set
+    × (after ≡ before ++ listed_set set)
 
 -- the list of the sets that came, where any came
 abbrev pub found_seen : Found → List (Ends VersionValue)

@@ -14,14 +14,21 @@ use Rattle.node_semver.specs.declared.TheConstants.{MAX_SAFE_INTEGER}
 use Rattle.node_semver.specs.declared.parse.partial.Component.{Component}
 use Rattle.node_semver.specs.declared.parse.partial.Partial.{Partial as CodePartial}
 use Rattle.node_semver.specs.declared.parse.partial.Shape.{Shape}
-use Rattle.node_semver.specs.declared.parse.partial.Shape.TheVariants.{Full, Major, MajorMinor, MajorPatch, Minor, MinorPatch, Nothing, Patch}
+use Rattle.node_semver.specs.declared.parse.partial.Shape.TheVariants.{Full, Major, MajorMinor, MajorPatch, Minor}
+use Rattle.node_semver.specs.declared.parse.partial.Shape.TheVariants.{MinorPatch, Nothing, Patch}
 use Rattle.node_semver.specs.declared.word.ends.WordEnds.{WordEnds}
 use Rattle.node_semver.specs.declared.word.ends.Form.{Form}
-use Rattle.node_semver.specs.declared.word.ends.Form.TheVariants.{Above as AboveForm, AtLeast as AtLeastForm, AtMost as AtMostForm, AtMostLeast as AtMostLeastForm, BareUpTo as BareUpToForm, Below as BelowForm, BelowLeast as BelowLeastForm, Equal as EqualForm, Exactly as ExactlyForm, Nothing as NothingForm, Through as ThroughForm, UpTo as UpToForm}
+use Rattle.node_semver.specs.declared.word.ends.Form.TheVariants.{Above as AboveForm, AtLeast as AtLeastForm}
+use Rattle.node_semver.specs.declared.word.ends.Form.TheVariants.{AtMost as AtMostForm, AtMostLeast as AtMostLeastForm}
+use Rattle.node_semver.specs.declared.word.ends.Form.TheVariants.{BareUpTo as BareUpToForm, Below as BelowForm}
+use Rattle.node_semver.specs.declared.word.ends.Form.TheVariants.{BelowLeast as BelowLeastForm, Equal as EqualForm}
+use Rattle.node_semver.specs.declared.word.ends.Form.TheVariants.{Exactly as ExactlyForm, Nothing as NothingForm}
+use Rattle.node_semver.specs.declared.word.ends.Form.TheVariants.{Through as ThroughForm, UpTo as UpToForm}
 use Rattle.node_semver.specs.declared.word.ends.WrittenVersion.{WrittenVersion}
 use Rattle.node_semver.specs.declared.word.hyphen.RightEnd.{RightEnd}
 use Rattle.node_semver.specs.declared.word.lead.Lead.{Lead}
-use Rattle.node_semver.specs.declared.word.lead.Lead.TheVariants.{Caret, Operator as OperatorLead, Plain, Tilde, TildeGreater}
+use Rattle.node_semver.specs.declared.word.lead.Lead.TheVariants.{Caret, Operator as OperatorLead, Plain, Tilde}
+use Rattle.node_semver.specs.declared.word.lead.Lead.TheVariants.{TildeGreater}
 use Rattle.node_semver.specs.declared.word.operator.Operator.{Operator as CodeOperator}
 use Rattle.node_semver.specs.declared.word.operator.Operator.TheVariants.{Above, AtLeast, AtMost, Below, Equal}
 

@@ -1,4 +1,5 @@
-ghost use Rattle.std.specs.Prelude.{◌≡◌, ◌&&◌, ◌^◌, ◌+◌, ◌-◌, ◌*◌, nat_lt, if◌then◌else◌, Some, None, IfSome, IfNone, IfOk, IsOk, [], false};
+ghost use Rattle.std.specs.Prelude.{◌≡◌, ◌&&◌, ◌^◌, ◌+◌, ◌-◌, ◌*◌, nat_lt, if◌then◌else◌, Some, None, IfSome, IfNone};
+ghost use Rattle.std.specs.Prelude.{IfOk, IsOk, [], false};
 ghost use Rattle.std.specs.List.{list_all};
 ghost use Rattle.node_semver.specs.Characters as Characters;
 ghost use Rattle.node_semver.specs.Characters.{AreAll, BeginsWithNo};

@@ -6,7 +6,8 @@ ghost use Rattle.std.specs.Prelude.{◌≡◌, IfSome};
 ghost use Rattle.node_semver.specs.Characters.{is_blank, is_partial_mark};
 ghost use Rattle.node_semver.specs.Private.Reading.{read_extras, rest_of, skip_one};
 ghost use Rattle.node_semver.specs.Private.WordReading as Reading;
-ghost use Rattle.node_semver.specs.Private.WordViews.{IsComponentSound, IsSound, component_seen, component_value, has_major, has_minor, has_patch, partial_seen, read_partial_seen};
+ghost use Rattle.node_semver.specs.Private.WordViews.{IsComponentSound, IsSound, component_seen, component_value};
+ghost use Rattle.node_semver.specs.Private.WordViews.{has_major, has_minor, has_patch, partial_seen, read_partial_seen};
 
 use crate::parse::extras::skip_extras;
 use crate::parse::number::{is_digit, read_number};

@@ -1,7 +1,8 @@
 ghost use Rattle.std.specs.Prelude.{◌≡◌, ◌<◌, IfOk, IfSome, IsOk, [], length};
 ghost use Rattle.node_semver.specs.Characters.{is_blank, is_version_mark};
 ghost use Rattle.node_semver.specs.Private.Reading as Reading;
-ghost use Rattle.node_semver.specs.Private.ReadingViews.{Gives, IsBegun, IsLeadingTriple, IsPlainOk, dot_seen, extras_seen, seen, version_seen};
+ghost use Rattle.node_semver.specs.Private.ReadingViews.{Gives, IsBegun, IsLeadingTriple, IsPlainOk, dot_seen};
+ghost use Rattle.node_semver.specs.Private.ReadingViews.{extras_seen, seen, version_seen};
 
 use crate::parse::Fault;
 use crate::parse::identifiers::{read_build, read_prerelease};

@@ -1,7 +1,8 @@
 //! Which sets of a range open which triples.
 ghost use Rattle.std.specs.Prelude.{◌≡◌, ◌≤◌, ◌*◌, ◌++◌, ◌↔◌, IfOk, OnOk, IsTrue, filter, length};
 ghost use Rattle.std.specs.List.Sorted.{IsSortedByKey};
-ghost use Rattle.node_semver.specs.Private.SearchViews.{AreOpeningsOf, opened_triple, openings_of, other_than, same_triples, triple_at, triple_cmp};
+ghost use Rattle.node_semver.specs.Private.SearchViews.{AreOpeningsOf, opened_triple, openings_of, other_than};
+ghost use Rattle.node_semver.specs.Private.SearchViews.{same_triples, triple_at, triple_cmp};
 
 use crate::end::End;
 use semver_cuts::{Cut, Span};

@@ -48,7 +48,8 @@ fn one_number(major: u64) -> WordEnds<'static>
     }
 }
 
-// Up to where the first of two numbers that is not 0 rises, or the second: from `1.2` to `2.0.0-0`, from `0.2` to `0.3.0-0`
+// Up to where the first of two numbers that is not 0 rises, or the second: from `1.2` to `2.0.0-0`, from `0.2` to
+// `0.3.0-0`
 #[inline(always)]
 fn from_two<'a>(lower: WrittenVersion<'a>, major: u64, minor: u64) -> WordEnds<'a>
     requires major { major ≤ MAX_SAFE_INTEGER }

@@ -6,7 +6,8 @@ ghost use Rattle.semver_cuts.specs.declared.cut.Cut.TheVariants.{Before};
 ghost use Rattle.node_semver.specs.PartialText as PartialText;
 ghost use Rattle.node_semver.specs.Version as Versions;
 ghost use Rattle.node_semver.specs.Private.WordReading as Reading;
-ghost use Rattle.node_semver.specs.Private.WordViews.{IsSound, ends_seen, partial_seen, read_partial_seen, right_end_seen, some_word_seen};
+ghost use Rattle.node_semver.specs.Private.WordViews.{IsSound, ends_seen, partial_seen, read_partial_seen};
+ghost use Rattle.node_semver.specs.Private.WordViews.{right_end_seen, some_word_seen};
 
 use crate::parse::{Partial, Shape, begins_clean, read_partial, skip_some_blanks};
 use crate::word::ends::{

@@ -3,7 +3,8 @@ ghost use Rattle.std.specs.Prelude.{◌≡◌, Some};
 ghost use Rattle.node_semver.specs.Operators as Operators;
 ghost use Rattle.node_semver.specs.PartialText as PartialText;
 ghost use Rattle.node_semver.specs.Private.WordReading as Reading;
-ghost use Rattle.node_semver.specs.Private.WordViews.{IsSound, ends_seen, operator_seen, partial_seen, read_operator_seen};
+ghost use Rattle.node_semver.specs.Private.WordViews.{IsSound, ends_seen, operator_seen, partial_seen};
+ghost use Rattle.node_semver.specs.Private.WordViews.{read_operator_seen};
 
 use crate::parse::{Partial, Shape};
 use crate::word::ends::{

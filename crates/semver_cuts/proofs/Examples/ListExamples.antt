@@ -32,7 +32,8 @@ none = refl
 
 -- ---- places
 
-kept : merged_spans (from_to 2 5 ∷ from_to 0 1 ∷ from_to 4 7 ∷ []) ((1, 1) ∷ (0, 2) ∷ []) ≡ from_to 0 1 ∷ from_to 2 7 ∷ []
+kept : merged_spans (from_to 2 5 ∷ from_to 0 1 ∷ from_to 4 7 ∷ [])
+    ((1, 1) ∷ (0, 2) ∷ []) ≡ from_to 0 1 ∷ from_to 2 7 ∷ []
 kept = refl
 
 itself : merged_spans (from_to 0 1 ∷ from_to 2 7 ∷ []) [] ≡ from_to 0 1 ∷ from_to 2 7 ∷ []

@@ -1,5 +1,6 @@
 -- Which end stands where several touch one cut. The values are numbers with a mark, which the order does not see.
-use Rattle.std.proofs.Common.{◌≡◌, ◌⊎◌, ℕ, List, [], ◌∷◌, ◌++◌, Ordering, Less, Equal, refl, ap, subst, sym, ◌∙◌, inl, inr, ⊎_elim, arith}
+use Rattle.std.proofs.Common.{◌≡◌, ◌⊎◌, ℕ, List, [], ◌∷◌, ◌++◌, Ordering, Less, Equal, refl, ap, subst, sym, ◌∙◌, inl}
+use Rattle.std.proofs.Common.{inr, ⊎_elim, arith}
 use Rattle.std.specs.List.{AllByRecursion}
 use Rattle.std.specs.Ordering.{nat_cmp, on}
 use Rattle.semver_cuts.specs.declared.cut.Cut.{Cut}
@@ -71,7 +72,8 @@ abbrev NotAt : (Ends Marked → Cut Marked) → Cut Marked → Ends Marked → T
 NotAt end cut other = ¬ (cut_cmp marked_cmp (end other) cut ≡ Equal)
 
 stands-by : (end : Ends Marked → Cut Marked) (first : Ends Marked) (spans : List (Ends Marked)) (cut : Cut Marked)
-    → cut_cmp marked_cmp (end first) cut ≡ Equal → (before : List (Ends Marked)) (span : Ends Marked) (after : List (Ends Marked))
+    → cut_cmp marked_cmp (end first) cut ≡ Equal
+    → (before : List (Ends Marked)) (span : Ends Marked) (after : List (Ends Marked))
     → first ∷ spans ≡ before ++ span ∷ after → end span ≡ cut → AllByRecursion (NotAt end cut) before → end first ≡ cut
 stands-by end first spans cut same [] span after parts at earlier =
     ap end (head-same first span spans after parts) ∙ at
@@ -109,7 +111,8 @@ begins-at_first = inr (
 not-at_second : ¬ IsPieceLower marked_cmp ending_together whole (Before (2, 2))
 not-at_second (inl e) = two-not_three (ap mark_of e)
 not-at_second (inr at) =
-    one-not_two (ap mark_of (first-stands (λ s. s.upper) (from_to 1 1 2) (from_to 2 0 2 ∷ []) (Before (2, 2)) refl at.1))
+    one-not_two (ap mark_of (first-stands (λ s. s.upper) (from_to 1 1 2) (from_to 2 0 2 ∷ [])
+    (Before (2, 2)) refl at.1))
 
 abbrev beginning_together : List (Ends Marked)
 beginning_together = from_to 1 5 6 ∷ from_to 2 5 7 ∷ []
@@ -131,11 +134,13 @@ ends-at_first = inr (
 ends-not_at_second : ¬ IsPieceUpper marked_cmp beginning_together whole (Before (5, 2))
 ends-not_at_second (inl e) = two-not_three (ap mark_of e)
 ends-not_at_second (inr at) =
-    one-not_two (ap mark_of (first-stands (λ s. s.lower) (from_to 1 5 6) (from_to 2 5 7 ∷ []) (Before (5, 2)) refl at.1))
+    one-not_two (ap mark_of (first-stands (λ s. s.lower) (from_to 1 5 6) (from_to 2 5 7 ∷ [])
+    (Before (5, 2)) refl at.1))
 
 -- ---- what all of a list have in common: of equal lower ends the last, of equal upper ends the first
 
-chosen-by : (end : Ends Marked → Cut Marked) (P Q : Cut Marked → Cut Marked → Type 0) (one two : Ends Marked) (cut : Cut Marked)
+chosen-by : (end : Ends Marked → Cut Marked) (P Q : Cut Marked → Cut Marked → Type 0) (one two : Ends Marked)
+    (cut : Cut Marked)
     (before : List (Ends Marked)) (span : Ends Marked) (after : List (Ends Marked))
     → one ∷ two ∷ [] ≡ before ++ span ∷ after → end span ≡ cut
     → AllByRecursion (λ (other : Ends Marked). P (end other) cut) before
@@ -154,7 +159,8 @@ chosen-by end P Q one two cut (x ∷ []) span after parts at earlier later =
       subst (λ s. P (end s) cut) (sym (head-same one x (two ∷ []) (span ∷ after) parts)) earlier.0,
     )
 chosen-by end P Q one two cut (x ∷ y ∷ []) span after parts at earlier later =
-    absurd (not-none span after (tail-same two y [] (span ∷ after) (tail-same one x (two ∷ []) (y ∷ span ∷ after) parts)))
+    absurd (not-none span after (tail-same two y [] (span ∷ after)
+    (tail-same one x (two ∷ []) (y ∷ span ∷ after) parts)))
 chosen-by end P Q one two cut (x ∷ y ∷ z ∷ before) span after parts at earlier later =
     absurd (not-none z (before ++ span ∷ after) (tail-same two y [] (z ∷ (before ++ span ∷ after))
     (tail-same one x (two ∷ []) (y ∷ z ∷ (before ++ span ∷ after)) parts)))

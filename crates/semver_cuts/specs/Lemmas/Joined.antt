@@ -34,7 +34,8 @@ module _ {T : Type 0} {cmp : T → T → Ordering} (o : IsTotalOrder cmp) where
     end_of = refl;
     earlier = all_map (λ (s : Ends T). IsCutBelow cmp (end s) (end span))
         (λ (s : Ends T). ¬ (cut_cmp cmp (end s) (end span) ≡ Equal))
-        (λ s h e. below-not-at_most o (end s) (end span) h (inr (cut_cmp-equal_back o (end s) (end span) e))) front below;
+        (λ s h e. below-not-at_most o (end s) (end span) h
+        (inr (cut_cmp-equal_back o (end s) (end span) e))) front below;
     later = all_unit back;
   }
 
@@ -54,7 +55,8 @@ module _ {T : Type 0} {cmp : T → T → Ordering} (o : IsTotalOrder cmp) where
       let at : (front ++ span ∷ []) ++ back ≡ front ++ span ∷ back = append_assoc front (span ∷ []) back in
       let rest : HaveFirstEnds (front ++ span ∷ back) back =
       subst (λ spans. HaveFirstEnds spans back) at
-      (first-ends (front ++ span ∷ []) back (subst (AreRising cmp) (sym at) rising) (subst (AreApart cmp) (sym at) apart)) in
+      (first-ends (front ++ span ∷ []) back (subst (AreRising cmp) (sym at) rising)
+      (subst (AreApart cmp) (sym at) apart)) in
       let before : AllByRecursion (λ (s : Ends T). IsCutBelow cmp s.upper span.lower) front =
       apart-before o front back span apart rising in
       let rise : AreRising cmp front = rising-front front (span ∷ back) rising in
@@ -62,14 +64,16 @@ module _ {T : Type 0} {cmp : T → T → Ordering} (o : IsTotalOrder cmp) where
       all_middle (λ (s : Ends T). IsCutBelow cmp s.lower s.upper) front back span rising in (
         (
           first-apart (λ s. s.lower) front back span
-              (all_both (λ (s : Ends T). IsCutBelow cmp s.lower s.upper) (λ (s : Ends T). IsCutBelow cmp s.upper span.lower)
+              (all_both (λ (s : Ends T). IsCutBelow cmp s.lower s.upper)
+              (λ (s : Ends T). IsCutBelow cmp s.upper span.lower)
               (λ (s : Ends T). IsCutBelow cmp s.lower span.lower)
               (λ s p q. below_trans o s.lower s.upper span.lower p q) front rise before),
           rest.0,
         ),
         (
           first-apart (λ s. s.upper) front back span
-              (all_map (λ (s : Ends T). IsCutBelow cmp s.upper span.lower) (λ (s : Ends T). IsCutBelow cmp s.upper span.upper)
+              (all_map (λ (s : Ends T). IsCutBelow cmp s.upper span.lower)
+              (λ (s : Ends T). IsCutBelow cmp s.upper span.upper)
               (λ s p. below_trans o s.upper span.lower span.upper p risen) front before),
           rest.1,
         ),

@@ -13,7 +13,9 @@ returns-then-is_begun-clause-inside g c =
     let begins = c.is_begun.result in
     let ends = c.is_begun-then-is_begun.result in
     in_span version_total (Before (g.V.Asked.asked c.args.version.now)) begins ends c.args.set.now c.if-is_begun.true
-    (subst (λ (cut : Cut VersionValue). IsTrue begins ↔ IsCutAtMost version_cmp cut (Before (g.V.Asked.asked c.args.version.now)))
+    (subst (λ (cut : Cut VersionValue). IsTrue begins ↔ IsCutAtMost version_cmp cut
+    (Before (g.V.Asked.asked c.args.version.now)))
     c.lower.ensures c.is_begun.ensures.begun)
-    (subst (λ (cut : Cut VersionValue). IsTrue ends ↔ IsCutAtMost version_cmp cut (Before (g.V.Asked.asked c.args.version.now)))
+    (subst (λ (cut : Cut VersionValue). IsTrue ends ↔ IsCutAtMost version_cmp cut
+    (Before (g.V.Asked.asked c.args.version.now)))
     c.upper.ensures c.is_begun-then-is_begun.ensures.begun)

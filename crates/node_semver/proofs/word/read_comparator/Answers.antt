@@ -5,7 +5,8 @@ use Rattle.node_semver.specs.Private.WordReading.{Word, no_lead}
 use Rattle.node_semver.specs.Private.WordViews.{lead_seen, some_word_seen}
 use Rattle.node_semver.proofs.Words.WordViews.{no-bytes, none-missing, none-unclean, plain-seen, word-plain, word-led}
 use Rattle.node_semver.proofs.word.read_comparator.Goals as goal
-use Rattle.node_semver.proofs.word.read_comparator.Goals.{in_default-via-in-Plain+then-rest-lt1, in_default-via-in_default}
+use Rattle.node_semver.proofs.word.read_comparator.Goals.{in_default-via-in-Plain+then-rest-lt1}
+use Rattle.node_semver.proofs.word.read_comparator.Goals.{in_default-via-in_default}
 
 pub returns-in_err-partial : goal.returns-in_err-partial
 returns-in_err-partial c =

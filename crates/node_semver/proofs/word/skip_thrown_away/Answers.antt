@@ -4,13 +4,15 @@ use Rattle.node_semver.specs.Characters.{BeginsWithNo, is_blank}
 use Rattle.node_semver.specs.Comparator.{Comparator}
 use Rattle.node_semver.specs.Division.{IsAlternative}
 use Rattle.node_semver.specs.Private.Reading.{rest_of}
-use Rattle.node_semver.specs.Private.WordReading.{is_solid, or_else, or_thrown_away, read_hyphen, read_simple, read_word}
+use Rattle.node_semver.specs.Private.WordReading.{is_solid, or_else, or_thrown_away, read_hyphen, read_simple}
+use Rattle.node_semver.specs.Private.WordReading.{read_word}
 use Rattle.node_semver.proofs.Ranges.DivisionLemmas.{completes-more, completes-nothing, next-shorter}
 use Rattle.node_semver.proofs.Texts.Prefixes.{rest_of-no}
 use Rattle.node_semver.proofs.word.skip_thrown_away.Goals as goal
 
 -- a word that begins no comparator
-thrown : (text : List ℕ) → None ≡ or_else (read_hyphen text) (read_simple text) → read_word text ≡ (None, rest_of is_solid text)
+thrown : (text : List ℕ) → None ≡ or_else (read_hyphen text) (read_simple text)
+    → read_word text ≡ (None, rest_of is_solid text)
 unfolding read_word
 thrown text none = ap (λ w. or_thrown_away w text) (sym none)
 
@@ -41,7 +43,8 @@ words-preserved c =
     let read = thrown rest (c.begins_comparator.ensures c.if-not-begins_comparator.true) in
     let same = c.skip_blanks-rest.ensures ∙ ap (rest_of is_blank) c.skip_solid.ensures in
     record {
-      solid = subst (λ (l : List ℕ). BeginsWithNo is_blank l) (sym c.skip_blanks-rest.ensures) (rest_of-no is_blank c.skip_solid.result.now);
+      solid = subst (λ (l : List ℕ). BeginsWithNo is_blank l) (sym c.skip_blanks-rest.ensures)
+          (rest_of-no is_blank c.skip_solid.result.now);
       later = λ comparators a. c.words.invariant.later comparators
           (later-writes rest (rest_of is_solid rest) read comparators
           (subst (λ (l : List ℕ). IsAlternative l comparators) same a));

@@ -3,7 +3,9 @@ ghost use Rattle.std.specs.Prelude.{◌≡◌, ◌↔◌, [], IfOk, IfSome, IsNo
 ghost use Rattle.std.specs.List.{AllByRecursion};
 ghost use Rattle.semver_cuts.specs.declared.cut.Cut.TheVariants.{After, Before};
 ghost use Rattle.node_semver.specs.Least.{AdmitsBeyond, AdmitsNoneBeyond, IsAdmittedBy, IsLeastBeyond};
-ghost use Rattle.node_semver.specs.Private.BeyondViews.{AreSetsTried, AreUppersTried, IsBelowBest, IsCutTrial, IsLeastBeyondOrNone, IsLeastOpened, IsOpenTrial, IsSetTrial, IsShut, IsTrial};
+ghost use Rattle.node_semver.specs.Private.BeyondViews.{AreSetsTried, AreUppersTried, IsBelowBest, IsCutTrial};
+ghost use Rattle.node_semver.specs.Private.BeyondViews.{IsLeastBeyondOrNone, IsLeastOpened, IsOpenTrial, IsSetTrial};
+ghost use Rattle.node_semver.specs.Private.BeyondViews.{IsShut, IsTrial};
 ghost use Rattle.node_semver.specs.RangeSets.{IsRangeSet, IsReadCut, IsReadVersion};
 ghost use Rattle.node_semver.specs.Version.{release};
 
@@ -19,7 +21,8 @@ impl Range {
     /// The least version that the range admits and the other does not, or `None` where there is none.
     ///
     /// So `a.least_beyond(b)` is `None` exactly where each version that satisfies a satisfies b. Where
-    /// [`Range::allows_all`] speaks of cuts, this speaks of the versions admitted. `1 || 2` lacks cuts of `1 - 2`, those
+    /// [`Range::allows_all`] speaks of cuts, this speaks of the versions admitted. `1 || 2` lacks cuts of `1 - 2`,
+    /// those
     /// from `2.0.0-0` up to `2.0.0`, and admits each version that `1 - 2` does. `>=1.0.0-0` has all cuts of
     /// `^1.2.3-rc.4`, and does not admit `1.2.3-rc.4`. The answer has no build.
     ///

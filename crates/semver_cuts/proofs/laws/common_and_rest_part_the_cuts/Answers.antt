@@ -1,5 +1,6 @@
 use Rattle.semver_cuts.specs.Lemmas.CommonSpans.{common_spans-cuts, common_spans-none}
-use Rattle.semver_cuts.specs.Lemmas.Rest.{common_rest-disjoint, common_rest-together, rest_spans-cuts, rest_spans-covered}
+use Rattle.semver_cuts.specs.Lemmas.Rest.{common_rest-disjoint, common_rest-together, rest_spans-cuts}
+use Rattle.semver_cuts.specs.Lemmas.Rest.{rest_spans-covered}
 use Rattle.semver_cuts.proofs.laws.common_and_rest_part_the_cuts.Goals as goal
 
 pub returns-clause-common : goal.returns-clause-common

@@ -8,7 +8,9 @@ use Rattle.std.specs.contracts.num.IntErrorKind.{the_type}
 use Rattle.std.specs.declared.num.ParseIntError.{ParseIntError as IntFault}
 use Rattle.node_semver.specs.contracts.error.kind.SemverErrorKindPartialEq.TheImpl.{ghosts as kinds}
 use Rattle.node_semver.specs.declared.error.kind.SemverErrorKind.{SemverErrorKind}
-use Rattle.node_semver.specs.declared.error.kind.SemverErrorKind.TheVariants.{MaxLengthError, IncompleteInput, ParseIntError, MaxIntError, Context, NoValidRanges, Other, OutOfMemory}
+use Rattle.node_semver.specs.declared.error.kind.SemverErrorKind.TheVariants.{MaxLengthError, IncompleteInput}
+use Rattle.node_semver.specs.declared.error.kind.SemverErrorKind.TheVariants.{ParseIntError, MaxIntError, Context}
+use Rattle.node_semver.specs.declared.error.kind.SemverErrorKind.TheVariants.{NoValidRanges, Other, OutOfMemory}
 use Rattle.node_semver.specs.Error.{max_int, context, parse_int}
 use Rattle.node_semver.specs.ErrorEquality.{kind_value}
 use Rattle.node_semver.proofs.error.equality.errors_are_equal_where_their_parts_are.Goals as goal

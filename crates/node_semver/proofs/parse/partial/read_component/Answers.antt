@@ -3,7 +3,8 @@ use borrow.Author.Tests.{ltb-true}
 use Rattle.node_semver.specs.Characters.{is_digit}
 use Rattle.node_semver.proofs.Words.PartialViews.{no-component, no-digit_first, no-x_first, number-limit, read-ok}
 use Rattle.node_semver.proofs.parse.partial.read_component.Goals as goal
-use Rattle.node_semver.proofs.parse.partial.read_component.Goals.{in_default-via-then-text-lt1, in_default-via-in-len1-up+else-is_digit+in_default}
+use Rattle.node_semver.proofs.parse.partial.read_component.Goals.{in_default-via-then-text-lt1}
+use Rattle.node_semver.proofs.parse.partial.read_component.Goals.{in_default-via-in-len1-up+else-is_digit+in_default}
 
 pub returns-in_ok-number-in-len1-up-clause-sound : goal.returns-in_ok-number-in-len1-up-clause-sound
 returns-in_ok-number-in-len1-up-clause-sound c =

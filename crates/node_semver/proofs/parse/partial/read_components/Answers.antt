@@ -2,9 +2,13 @@ use Rattle.std.proofs.Common.{arith, ap, ◌∙◌, ◌<◌, ◌≢◌, get_or, 
 use borrow.Author.Tests.{ltb-true}
 use Rattle.node_semver.specs.Characters.{dot}
 use Rattle.node_semver.specs.Private.WordViews.{read_partial_seen}
-use Rattle.node_semver.proofs.Words.PartialViews.{behind-dot, components-one, components-two, components-three, no-dot_first, none-one, none-two, none-three}
+use Rattle.node_semver.proofs.Words.PartialViews.{behind-dot, components-one, components-two, components-three}
+use Rattle.node_semver.proofs.Words.PartialViews.{no-dot_first, none-one, none-two, none-three}
 use Rattle.node_semver.proofs.parse.partial.read_components.Goals as goal
-use Rattle.node_semver.proofs.parse.partial.read_components.Goals.{in_default-via-then-rest-lt1, in_default-via-else-rest-lt1+in_default-1, in_default-rest-via-then-rest-lt1-2, in_default-rest-via-else-rest-lt1-2+in_default-1}
+use Rattle.node_semver.proofs.parse.partial.read_components.Goals.{in_default-via-then-rest-lt1}
+use Rattle.node_semver.proofs.parse.partial.read_components.Goals.{in_default-via-else-rest-lt1+in_default-1}
+use Rattle.node_semver.proofs.parse.partial.read_components.Goals.{in_default-rest-via-then-rest-lt1-2}
+use Rattle.node_semver.proofs.parse.partial.read_components.Goals.{in_default-rest-via-else-rest-lt1-2+in_default-1}
 
 pub returns-in_err-major-clause-read : goal.returns-in_err-major-clause-read
 returns-in_err-major-clause-read c =

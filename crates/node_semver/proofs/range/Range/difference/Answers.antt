@@ -1,7 +1,8 @@
 use Rattle.std.proofs.Common.{rules, subst}
 use Rattle.semver_cuts.specs.Common.{IsInSome}
 use Rattle.semver_cuts.specs.Rest.{AreRestSpans}
-use Rattle.semver_cuts.specs.Lemmas.Rest.{common_rest-disjoint, common_rest-together, rest_spans-covered, rest_spans-cuts}
+use Rattle.semver_cuts.specs.Lemmas.Rest.{common_rest-disjoint, common_rest-together, rest_spans-covered}
+use Rattle.semver_cuts.specs.Lemmas.Rest.{rest_spans-cuts}
 use Rattle.node_semver.specs.Comparison.{version_cmp}
 use Rattle.node_semver.specs.Lemmas.Order.{version_total}
 use Rattle.node_semver.specs.RangeAlgebra.{sets_of_answer}
@@ -19,7 +20,8 @@ into_range-requires c =
 
 pub returns-clause-cuts : goal.returns-clause-cuts
 returns-clause-cuts c =
-    let answered : AreRestSpans version_cmp c.args.self.now c.args.other.now (sets_of_answer c.in_ok-into_range.field-0) =
+    let answered : AreRestSpans version_cmp c.args.self.now c.args.other.now
+    (sets_of_answer c.in_ok-into_range.field-0) =
     search rules in
     rest_spans-cuts version_cmp _ _ _ answered
 
@@ -31,26 +33,30 @@ returns-clause-none c =
 
 pub returns-clause-releases : goal.returns-clause-releases
 returns-clause-releases c =
-    let answered : AreRestSpans version_cmp c.args.self.now c.args.other.now (sets_of_answer c.in_ok-into_range.field-0) =
+    let answered : AreRestSpans version_cmp c.args.self.now c.args.other.now
+    (sets_of_answer c.in_ok-into_range.field-0) =
     search rules in
     rest-releases _ _ _ answered
 
 pub returns-clause-disjoint : goal.returns-clause-disjoint
 returns-clause-disjoint c =
-    let answered : AreRestSpans version_cmp c.args.self.now c.args.other.now (sets_of_answer c.in_ok-into_range.field-0) =
+    let answered : AreRestSpans version_cmp c.args.self.now c.args.other.now
+    (sets_of_answer c.in_ok-into_range.field-0) =
     search rules in
     λ cut both. common_rest-disjoint version_total _ _ _ answered cut both.0 both.1
 
 pub returns-clause-together : goal.returns-clause-together
 returns-clause-together c =
-    let answered : AreRestSpans version_cmp c.args.self.now c.args.other.now (sets_of_answer c.in_ok-into_range.field-0) =
+    let answered : AreRestSpans version_cmp c.args.self.now c.args.other.now
+    (sets_of_answer c.in_ok-into_range.field-0) =
     search rules in
     λ cut.
     let either = common_rest-together version_total _ _ _ answered cut in (either.1, either.0)
 
 pub returns-clause-covered : goal.returns-clause-covered
 returns-clause-covered c =
-    let answered : AreRestSpans version_cmp c.args.self.now c.args.other.now (sets_of_answer c.in_ok-into_range.field-0) =
+    let answered : AreRestSpans version_cmp c.args.self.now c.args.other.now
+    (sets_of_answer c.in_ok-into_range.field-0) =
     search rules in
     let law = rest_spans-covered version_total _ _ _ answered in
     let none = none-listed c.in_ok-into_range.field-0 c.in_ok-into_range.ensures.holds in

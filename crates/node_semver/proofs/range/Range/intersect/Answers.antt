@@ -22,7 +22,8 @@ into_range-requires c =
 
 pub returns-clause-cuts : goal.returns-clause-cuts
 returns-clause-cuts c =
-    let answered : sets_of_answer c.in_ok-into_range.field-0 ≡ common_spans version_cmp c.args.self.now c.args.other.now =
+    let answered : sets_of_answer c.in_ok-into_range.field-0
+    ≡ common_spans version_cmp c.args.self.now c.args.other.now =
     search rules in
     λ cut. rw answered (common_spans-cuts version_total c.args.self.now c.args.other.now cut)
 
@@ -46,20 +47,23 @@ returns-clause-some c =
 
 pub returns-clause-releases : goal.returns-clause-releases
 returns-clause-releases c =
-    let answered : sets_of_answer c.in_ok-into_range.field-0 ≡ common_spans version_cmp c.args.self.now c.args.other.now =
+    let answered : sets_of_answer c.in_ok-into_range.field-0
+    ≡ common_spans version_cmp c.args.self.now c.args.other.now =
     search rules in
     λ v release.
     rw answered (common-releases c.args.self.now c.args.other.now v release)
 
 pub returns-clause-prereleases : goal.returns-clause-prereleases
 returns-clause-prereleases c =
-    let answered : sets_of_answer c.in_ok-into_range.field-0 ≡ common_spans version_cmp c.args.self.now c.args.other.now =
+    let answered : sets_of_answer c.in_ok-into_range.field-0
+    ≡ common_spans version_cmp c.args.self.now c.args.other.now =
     search rules in
     λ v pre. rw answered (common-admits v c.args.self.now c.args.other.now)
 
 pub returns-clause-disjoint : goal.returns-clause-disjoint
 returns-clause-disjoint c =
-    let answered : sets_of_answer c.in_ok-into_range.field-0 ≡ common_spans version_cmp c.args.self.now c.args.other.now =
+    let answered : sets_of_answer c.in_ok-into_range.field-0
+    ≡ common_spans version_cmp c.args.self.now c.args.other.now =
     search rules in
     λ rest are cut.
     rw answered
@@ -67,7 +71,8 @@ returns-clause-disjoint c =
 
 pub returns-clause-together : goal.returns-clause-together
 returns-clause-together c =
-    let answered : sets_of_answer c.in_ok-into_range.field-0 ≡ common_spans version_cmp c.args.self.now c.args.other.now =
+    let answered : sets_of_answer c.in_ok-into_range.field-0
+    ≡ common_spans version_cmp c.args.self.now c.args.other.now =
     search rules in
     λ rest are cut.
     let either = common_rest-together version_total c.args.self.now c.args.other.now rest are cut in

@@ -1,5 +1,6 @@
 use Rattle.std.proofs.Common.{[], ◌≡◌, ◌+◌, ◌∙◌, ap, sym, subst}
-use Rattle.node_semver.proofs.Least.LeastLemmas.{before-least, candidate-least, patch-candidate, start-candidate, zero-candidate}
+use Rattle.node_semver.proofs.Least.LeastLemmas.{before-least, candidate-least, patch-candidate, start-candidate}
+use Rattle.node_semver.proofs.Least.LeastLemmas.{zero-candidate}
 use Rattle.node_semver.specs.Private.EndViews.{build_seen}
 use Rattle.node_semver.specs.Private.LeastViews.{IsInsideOrNone, IsLeastInSet, IsLeastOfTriple}
 use Rattle.node_semver.specs.Version.{VersionValue}
@@ -44,6 +45,7 @@ returns-in-After-2 c =
       c.is_prerelease.ensures.1 (λ final. pre (ap (λ (v : VersionValue). v.pre_release) same ∙ final)),
       c.if-is_prerelease.false,
     ))
-    (subst (λ (v : VersionValue). IsLeastOfTriple set.upper v.major v.minor (v.patch + 1) v.build found) c.end.view_is built))
+    (subst (λ (v : VersionValue). IsLeastOfTriple set.upper v.major v.minor
+    (v.patch + 1) v.build found) c.end.view_is built))
     (subst (λ u. IsInsideOrNone u found c.if_inside-in-After-2.result) c.upper-upper.ensures
     c.if_inside-in-After-2.ensures)

@@ -1,9 +1,11 @@
-use Rattle.std.proofs.Common.{rules, of_calls, List, ◌≡◌, ◌≤◌, ◌-◌, ◌∙◌, arith, ap, drop, length, sym, subst, take, true, false}
+use Rattle.std.proofs.Common.{rules, of_calls, List, ◌≡◌, ◌≤◌, ◌-◌, ◌∙◌, arith, ap, drop, length, sym, subst, take}
+use Rattle.std.proofs.Common.{true, false}
 use Rattle.std.specs.List.Sorted.{IsPartitionPoint, IsPartitionedBy}
 use Rattle.std.proofs.lemmas.Fn.{always_returns_same}
 use Rattle.std.proofs.lemmas.List.{length-drop, take_all}
 use Rattle.node_semver.specs.declared.range.opened.Opening.{Opening}
-use Rattle.node_semver.proofs.Sets.OpeningOrder.{found-openings, is_at_most, is_below, parted-at_most, parted-below, parted-drop}
+use Rattle.node_semver.proofs.Sets.OpeningOrder.{found-openings, is_at_most, is_below, parted-at_most, parted-below}
+use Rattle.node_semver.proofs.Sets.OpeningOrder.{parted-drop}
 use Rattle.node_semver.proofs.range.opened.openings_at.Goals as goal
 
 pub returns : goal.returns
@@ -23,4 +25,5 @@ returns c =
     ap (take j) same
     ∙ found-openings t xs i j c.partition_point-begin.ensures.bound
     (subst (λ (l : List Opening). j ≤ length l) same c.partition_point-end.ensures.bound) first
-    (subst (λ (l : List Opening). IsPartitionPoint (λ o. is_at_most t o ≡ true) (λ o. is_at_most t o ≡ false) l j) same second)
+    (subst (λ (l : List Opening). IsPartitionPoint (λ o. is_at_most t o ≡ true)
+    (λ o. is_at_most t o ≡ false) l j) same second)

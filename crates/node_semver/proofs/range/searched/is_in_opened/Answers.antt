@@ -24,6 +24,7 @@ openings-preserved g c = record {
 pub returns-clause-inside : goal.returns-clause-inside
 returns-clause-inside g c =
     let whole = take_all c.openings.opening-index c.args.openings.now c.openings-test.false in
-    let none = subst (λ (l : List Opening). ¬ AnyByRecursion (λ o. IsInside (g.V.Asked.asked c.args.version.now) (span_at c.args.sets.now o.place)) l) whole
+    let none = subst (λ (l : List Opening). ¬ AnyByRecursion
+    (λ o. IsInside (g.V.Asked.asked c.args.version.now) (span_at c.args.sets.now o.place)) l) whole
     c.openings.invariant.none in
     (λ h. absurd (cc h), λ some. absurd (none some))

@@ -5,6 +5,7 @@ use Rattle.node_semver.proofs.range.searched.is_in_opened.Given as goal
 
 abbrev pub invariant-openings : goal.invariant-openings
 invariant-openings g l = record {
-  none : ¬ AnyByRecursion (λ o. IsInside (g.V.Asked.asked l.version) (span_at l.sets o.place)) (take l.opening-index l.openings);
+  none : ¬ AnyByRecursion (λ o. IsInside (g.V.Asked.asked l.version) (span_at l.sets o.place))
+      (take l.opening-index l.openings);
   short : l.comparisons ≤ l.fn.comparisons + 2 * l.opening-index;
 }

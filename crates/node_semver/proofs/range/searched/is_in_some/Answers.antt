@@ -7,7 +7,8 @@ use Rattle.semver_cuts.specs.Ends.{Ends, IsCutAtMost, IsCutBelow, span_between}
 use Rattle.node_semver.specs.Comparison.{version_cmp}
 use Rattle.node_semver.specs.Lemmas.Order.{version_total}
 use Rattle.node_semver.specs.Version.{VersionValue}
-use Rattle.node_semver.proofs.Sets.Searching.{IsLeft, begun_above, begun_below, begun_last, last_begun, left-first, left-step, none-begun, not-begun}
+use Rattle.node_semver.proofs.Sets.Searching.{IsLeft, begun_above, begun_below, begun_last, last_begun, left-first}
+use Rattle.node_semver.proofs.Sets.Searching.{left-step, none-begun, not-begun}
 use Rattle.node_semver.proofs.range.searched.is_in_some.Goals as goal
 
 pub loop-low-init : goal.loop-low-init
@@ -34,12 +35,14 @@ loop-low-preserved-then-is_begun g c =
     record {
       ordered = omega arith;
       within = omega arith;
-      below = begun_below version_total (Before (g.V.Asked.asked c.args.version.now)) spans c.len-high.ensures.joined.merged middle span within
+      below = begun_below version_total (Before
+          (g.V.Asked.asked c.args.version.now)) spans c.len-high.ensures.joined.merged middle span within
           c.ends.ensures (c.is_begun.ensures.begun.0 c.if-is_begun.true);
       above = c.loop-low.invariant.above;
       steps = λ digits fits.
           subst (λ n. IsLeft c.args.comparisons.now n digits (high - (middle + 1))) (sym c.is_begun.ensures.counted)
-          (left-step c.args.comparisons.now c.loop-low.comparisons digits (high - low) (high - (middle + 1)) (omega arith)
+          (left-step c.args.comparisons.now c.loop-low.comparisons digits (high - low) (high - (middle + 1))
+          (omega arith)
           (omega arith) (c.loop-low.invariant.steps digits fits));
     }
 
@@ -55,7 +58,8 @@ loop-low-preserved g c =
       ordered = omega arith;
       within = omega arith;
       below = c.loop-low.invariant.below;
-      above = begun_above version_total (Before (g.V.Asked.asked c.args.version.now)) spans c.len-high.ensures.joined.merged middle span within
+      above = begun_above version_total (Before
+          (g.V.Asked.asked c.args.version.now)) spans c.len-high.ensures.joined.merged middle span within
           c.ends.ensures
           ((not-begun version_total (Before (g.V.Asked.asked c.args.version.now)) c.is_begun.result span.lower c.is_begun.ensures.begun).0
           (ap not c.if-is_begun.false));
@@ -70,7 +74,8 @@ returns-then-low-eq0-clause-inside g c =
     let spans = c.args.spans.now.merged in
     let cut = Before (g.V.Asked.asked c.args.version.now) in
     let all : c.loop-low.high ≡ 0 = omega arith in
-    let above = subst (λ k. AllByRecursion (λ s. IsCutBelow version_cmp (Before (g.V.Asked.asked c.args.version.now)) s.lower) (drop k spans)) all
+    let above = subst (λ k. AllByRecursion (λ s. IsCutBelow version_cmp
+    (Before (g.V.Asked.asked c.args.version.now)) s.lower) (drop k spans)) all
     c.loop-low.invariant.above in (
       λ h. absurd (cc h),
       λ is. absurd (none-begun version_total cut spans above ((c.len-high.ensures.joined.cuts cut).1 is)),
@@ -87,9 +92,11 @@ returns-clause-inside g c =
     let next : c.loop-low.low ≡ place + 1 = omega arith in
     let end : c.loop-low.high ≡ place + 1 = omega arith in
     let begun = begun_last version_total cut spans c.len-high.ensures.joined.merged place span within c.ends-2.ensures
-    (subst (λ k. AllByRecursion (λ s. IsCutAtMost version_cmp s.lower (Before (g.V.Asked.asked c.args.version.now))) (take k spans)) next
+    (subst (λ k. AllByRecursion (λ s. IsCutAtMost version_cmp s.lower (Before (g.V.Asked.asked c.args.version.now)))
+    (take k spans)) next
     c.loop-low.invariant.below) in
-    let above = subst (λ k. AllByRecursion (λ s. IsCutBelow version_cmp (Before (g.V.Asked.asked c.args.version.now)) s.lower) (drop k spans)) end
+    let above = subst (λ k. AllByRecursion (λ s. IsCutBelow version_cmp
+    (Before (g.V.Asked.asked c.args.version.now)) s.lower) (drop k spans)) end
     c.loop-low.invariant.above in
     let inside = last_begun version_total cut spans c.len-high.ensures.joined.merged place span within c.ends-2.ensures begun above in
     let not_begun = not-begun version_total cut c.is_begun-2.result span.upper c.is_begun-2.ensures.begun in

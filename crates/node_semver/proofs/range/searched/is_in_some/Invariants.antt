@@ -10,8 +10,10 @@ abbrev pub invariant-loop-low : goal.invariant-loop-low
 invariant-loop-low g l = record {
   ordered : l.low ≤ l.high;
   within : l.high ≤ length l.spans.merged;
-  below : AllByRecursion (λ s. IsCutAtMost version_cmp s.lower (Before (g.V.Asked.asked l.version))) (take l.low l.spans.merged);
-  above : AllByRecursion (λ s. IsCutBelow version_cmp (Before (g.V.Asked.asked l.version)) s.lower) (drop l.high l.spans.merged);
+  below : AllByRecursion (λ s. IsCutAtMost version_cmp s.lower (Before (g.V.Asked.asked l.version)))
+      (take l.low l.spans.merged);
+  above : AllByRecursion (λ s. IsCutBelow version_cmp (Before (g.V.Asked.asked l.version)) s.lower)
+      (drop l.high l.spans.merged);
   steps : (digits : ℕ) → length l.spans.merged < 2 ^ digits
       → IsLeft l.fn.comparisons l.comparisons digits (l.high - l.low);
 }

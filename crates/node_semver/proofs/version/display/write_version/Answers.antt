@@ -5,4 +5,5 @@ use Rattle.node_semver.proofs.version.display.write_version.Goals as goal
 
 pub returns : goal.returns
 returns g c =
-    rw (← led_text-marked 45 c.args.pre_release.now, ← led_text-marked 43 c.args.build.now) (grind (arith, common_steps))
+    rw (← led_text-marked 45 c.args.pre_release.now, ← led_text-marked 43 c.args.build.now)
+    (grind (arith, common_steps))

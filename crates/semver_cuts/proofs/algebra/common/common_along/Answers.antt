@@ -16,8 +16,10 @@ common_until-requires g c κs =
     rw (take_rest others first) (
       (refl, tt),
       (
-        apart-behind g.T.Ord.cmp (take first others) (drop first others) (subst (AreApart g.T.Ord.cmp) whole c.requires.apart),
-        rising-behind g.T.Ord.cmp (take first others) (drop first others) (subst (AreRising g.T.Ord.cmp) whole c.requires.rising),
+        apart-behind g.T.Ord.cmp (take first others) (drop first others)
+            (subst (AreApart g.T.Ord.cmp) whole c.requires.apart),
+        rising-behind g.T.Ord.cmp (take first others) (drop first others)
+            (subst (AreRising g.T.Ord.cmp) whole c.requires.rising),
       ),
     )
 

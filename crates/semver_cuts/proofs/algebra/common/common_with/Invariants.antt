@@ -4,4 +4,5 @@ use Rattle.semver_cuts.proofs.algebra.common.common_with.Given as goal
 
 abbrev pub invariant-loop-other : goal.invariant-loop-other
 invariant-loop-other g l =
-    g.S.Gather.gathered l.into ≡ g.S.Gather.gathered l.fn.into ++ common_with g.T.Ord.cmp l.one (take l.other-index l.others)
+    g.S.Gather.gathered l.into ≡ g.S.Gather.gathered l.fn.into ++ common_with g.T.Ord.cmp l.one
+    (take l.other-index l.others)

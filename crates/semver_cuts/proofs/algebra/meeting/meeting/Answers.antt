@@ -10,7 +10,8 @@ returns g c =
     let order = c.in_ok-order.order.items in
     let other_order = c.in_ok-other_order.other_order.items in
     let found : c.add_pairs-2.new.pairs.items
-    ≡ pairs_along g.T.Ord.cmp false order other_order ++ pairs_along g.T.Ord.cmp true other_order order = search rules in
+    ≡ pairs_along g.T.Ord.cmp false order other_order
+    ++ pairs_along g.T.Ord.cmp true other_order order = search rules in
     are-meeting g.met.T.Ord.total c.args.ones.now c.args.others.now order other_order
     c.in_ok-order.ensures.same c.in_ok-other_order.ensures.same c.in_ok-order.ensures.sorted c.in_ok-other_order.ensures.sorted
     c.sort_unstable.new.self.items c.dedup.new.self.items

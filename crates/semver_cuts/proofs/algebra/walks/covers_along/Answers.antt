@@ -2,7 +2,8 @@ use Rattle.std.proofs.Common.{arith, sym, ◌∙◌}
 use mathlib.Core.Bool.{true≢false}
 use Rattle.semver_cuts.specs.Ends.{span_between}
 use Rattle.semver_cuts.specs.Lemmas.Ends.{at_most-from_le, at_most-from_not_lt, below-from_lt, below-from_not_le}
-use Rattle.semver_cuts.proofs.Walks.{covers-joined, covers-left_over, covers-missed_above, covers-missed_below, covers-past, covers-within}
+use Rattle.semver_cuts.proofs.Walks.{covers-joined, covers-left_over, covers-missed_above, covers-missed_below}
+use Rattle.semver_cuts.proofs.Walks.{covers-past, covers-within}
 use Rattle.semver_cuts.proofs.algebra.walks.covers_along.Goals as goal
 use Rattle.semver_cuts.proofs.algebra.walks.covers_along.Goals.{then-lt, else-lt}
 
@@ -26,7 +27,8 @@ loop-other_place-preserved-then-le g c =
       left = covers-past g.met.T.Ord.total c.args.ones.now.merged c.args.others.now.merged
           c.len-count.ensures.joined.merged c.len-other_count.ensures.joined.merged c.loop-other_place.place
           c.loop-other_place.other_place one other c.ends.ensures c.ends-in-loop-other_place.ensures
-          (at_most-from_le g.T.Ord.cmp one.upper other.lower (sym c.le.ensures ∙ c.if-le.true)) c.loop-other_place.invariant.left;
+          (at_most-from_le g.T.Ord.cmp one.upper other.lower
+          (sym c.le.ensures ∙ c.if-le.true)) c.loop-other_place.invariant.left;
     }
 
 pub returns-then-lt-2 : goal.returns-then-lt-2
@@ -40,13 +42,15 @@ returns-then-lt-2 g c =
         | then-lt w ↦ covers-missed_below g.met.T.Ord.total c.args.ones.now.merged c.args.others.now.merged
             c.len-count.ensures.joined.merged c.len-other_count.ensures.joined.merged c.loop-other_place.place
             c.loop-other_place.other_place one other c.ends.ensures c.ends-in-loop-other_place.ensures
-            (below-from_lt g.T.Ord.cmp other.lower one.lower (sym c.lt.ensures ∙ w.if-lt.true)) c.loop-other_place.invariant.left
+            (below-from_lt g.T.Ord.cmp other.lower one.lower
+            (sym c.lt.ensures ∙ w.if-lt.true)) c.loop-other_place.invariant.left
             (merged covers)
         | else-lt w ↦ covers-missed_above g.met.T.Ord.total c.args.ones.now.merged c.args.others.now.merged
             c.len-count.ensures.joined.merged c.len-other_count.ensures.joined.merged c.loop-other_place.place
             c.loop-other_place.other_place one other c.ends.ensures c.ends-in-loop-other_place.ensures
             (below-from_not_le g.met.T.Ord.total one.upper other.lower (sym c.le.ensures ∙ c.if-le.false))
-            (below-from_lt g.T.Ord.cmp one.upper other.upper (sym w.lt-else-lt.ensures ∙ sym w.value-is ∙ c.if-lt-2.true))
+            (below-from_lt g.T.Ord.cmp one.upper other.upper
+            (sym w.lt-else-lt.ensures ∙ sym w.value-is ∙ c.if-lt-2.true))
             c.loop-other_place.invariant.left (merged covers)
       ]),
     )
@@ -64,7 +68,8 @@ loop-other_place-preserved g c =
             c.len-count.ensures.joined.merged c.len-other_count.ensures.joined.merged c.loop-other_place.place
             c.loop-other_place.other_place one other c.ends.ensures c.ends-in-loop-other_place.ensures
             (at_most-from_not_lt g.met.T.Ord.total other.lower one.lower (sym c.lt.ensures ∙ w.if-lt.false))
-            (at_most-from_not_lt g.met.T.Ord.total one.upper other.upper (sym w.lt-else-lt.ensures ∙ sym w.value-is ∙ c.if-lt-2.false))
+            (at_most-from_not_lt g.met.T.Ord.total one.upper other.upper
+            (sym w.lt-else-lt.ensures ∙ sym w.value-is ∙ c.if-lt-2.false))
             c.loop-other_place.invariant.left
       ];
     }

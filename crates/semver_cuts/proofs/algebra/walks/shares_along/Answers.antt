@@ -14,7 +14,8 @@ loop-place-preserved-then-le g c =
       left = share-past_other g.met.T.Ord.total c.args.ones.now.merged c.args.others.now.merged
           c.len-count.ensures.joined.merged c.len-other_count.ensures.joined.merged c.loop-place.place c.loop-place.other_place
           one other c.ends.ensures c.ends-in-loop-place.ensures
-          (at_most-from_le g.T.Ord.cmp other.upper one.lower (sym c.le.ensures ∙ c.if-le.true)) c.loop-place.invariant.left;
+          (at_most-from_le g.T.Ord.cmp other.upper one.lower
+          (sym c.le.ensures ∙ c.if-le.true)) c.loop-place.invariant.left;
     }
 
 pub loop-place-preserved : goal.loop-place-preserved

@@ -11,7 +11,8 @@ pub returns : goal.returns
 returns g c =
     let e = c.self.inside in
     let fields = version_writes-fields e.major e.minor e.patch c.as_slice.result.now (build_seen e.extras) in
-    let seen = c.as_slice.ensures ∙ c.pre_release.ensures ∙ sym (ap (λ (v : VersionValue). v.pre_release) c.self.view_is) in
+    let seen = c.as_slice.ensures ∙ c.pre_release.ensures ∙ sym
+    (ap (λ (v : VersionValue). v.pre_release) c.self.view_is) in
     let listed = ap (λ (l : List IdentifierValue). version_writes (record {
       major = e.major;
       minor = e.minor;

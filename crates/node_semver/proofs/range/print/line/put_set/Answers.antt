@@ -5,7 +5,8 @@ use Rattle.node_semver.proofs.range.print.line.put_set.Goals as goal
 pub returns-in-Before-After-clause-text : goal.returns-in-Before-After-clause-text
 returns-in-Before-After-clause-text c =
     whole_if_put _ c.args.line.now _ _ _ (omega arith)
-    (alone_text c.args.set.now c.in-Before-After.low c.in-Before-After.high (search rules) (search rules) (search rules))
+    (alone_text c.args.set.now c.in-Before-After.low c.in-Before-After.high (search rules) (search rules)
+    (search rules))
     c.put_version.ensures.text
 
 pub returns-in-Before-End-clause-text : goal.returns-in-Before-End-clause-text

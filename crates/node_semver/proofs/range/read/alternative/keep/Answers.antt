@@ -7,4 +7,5 @@ use Rattle.node_semver.proofs.range.read.alternative.keep.Goals as goal
 pub returns-in_ok-comparator : goal.returns-in_ok-comparator
 returns-in_ok-comparator c = λ comparators merged.
     let one : listed (ends_seen c.args.ends) ≡ c.in_ok-comparator.field-0 ∷ [] = ap listed c.in_ok-comparator.ensures in
-    subst (λ (l : List Comparator). IsMerged (comparators ++ l) c.merge.new.self) (sym one) (c.merge.ensures comparators merged)
+    subst (λ (l : List Comparator). IsMerged (comparators ++ l) c.merge.new.self) (sym one)
+    (c.merge.ensures comparators merged)

@@ -16,7 +16,8 @@ no-leading text none = rw none refl
 pub returns-in-None-clause-rest : goal.returns-in-None-clause-rest
 returns-in-None-clause-rest c =
     let text = c.args.text.now in
-    rw (no-leading text c.in-None.ensures.none) (sym (rest_of-none is_blank text (begins-with_no is_blank text c.in-None.ensures.none)))
+    rw (no-leading text c.in-None.ensures.none)
+    (sym (rest_of-none is_blank text (begins-with_no is_blank text c.in-None.ensures.none)))
 
 pub returns-in-None-clause-merged : goal.returns-in-None-clause-merged
 returns-in-None-clause-merged c = rw (no-leading c.args.text.now c.in-None.ensures.none) (λ comparators merged.

@@ -1,4 +1,5 @@
-use Rattle.std.proofs.Common.{◌≡◌, ◌<◌, ℕ, Bool, true, false, List, [], ◌∷◌, ◌++◌, Option, Some, None, length, arith, refl, sym, subst, ◌∙◌}
+use Rattle.std.proofs.Common.{◌≡◌, ◌<◌, ℕ, Bool, true, false, List, [], ◌∷◌, ◌++◌, Option, Some, None, length, arith}
+use Rattle.std.proofs.Common.{refl, sym, subst, ◌∙◌}
 use Rattle.std.specs.Prelude.{◌==◌}
 use Rattle.std.proofs.lemmas.Bool.{eqb-true}
 use Rattle.node_semver.specs.Characters.{BeginsWithNo, is_blank}
@@ -7,7 +8,8 @@ use Rattle.node_semver.specs.Private.RangeViews.{IsMerged}
 use Rattle.node_semver.specs.Private.Reading.{rest_of}
 use Rattle.node_semver.specs.Private.WordReading.{leading_or_none, read_right, read_word}
 use Rattle.node_semver.specs.Private.WordViews.{listed}
-use Rattle.node_semver.proofs.Ranges.DivisionLemmas.{Completes, completes-end, completes-leading, completes-more, next-shorter}
+use Rattle.node_semver.proofs.Ranges.DivisionLemmas.{Completes, completes-end, completes-leading, completes-more}
+use Rattle.node_semver.proofs.Ranges.DivisionLemmas.{next-shorter}
 use Rattle.node_semver.proofs.Texts.Prefixes.{rest_of-no}
 use Rattle.node_semver.proofs.range.read.alternative.merge_words.Goals as goal
 
@@ -56,7 +58,8 @@ loop-rest-smaller c =
     let rest = c.loop-rest.rest.now in
     let word = read_word rest in
     let some : 0 < length rest = some-from_not_empty rest c.is_empty.result c.is_empty.ensures c.loop-rest-test.true in
-    subst (λ (l : List ℕ). length l < length rest) (sym c.in_ok-rest-2.ensures.rest) (next-shorter rest word.0 word.1 refl some)
+    subst (λ (l : List ℕ). length l < length rest) (sym c.in_ok-rest-2.ensures.rest)
+    (next-shorter rest word.0 word.1 refl some)
 
 pub loop-rest-preserved : goal.loop-rest-preserved
 loop-rest-preserved c =

@@ -16,7 +16,8 @@ length-left : (text : List ℕ) (i : ℕ) → length (left text i) ≡ length te
 length-left text i = ap length (to-end text i) ∙ length-drop i text
 
 -- all before the first bar of what is left is passed
-to-bar : (text : List ℕ) (i n : ℕ) → i ≤ length text → NoneBefore (Passes (is_byte bar) (left text i)) 0 (length (left text i)) n
+to-bar : (text : List ℕ) (i n : ℕ) → i ≤ length text
+    → NoneBefore (Passes (is_byte bar) (left text i)) 0 (length (left text i)) n
     → Passed text i → (i + n < length text) × Passed text (i + n)
 to-bar text i n h none passed =
     let size = length-left text i in
@@ -25,7 +26,8 @@ to-bar text i n h none passed =
     (within, pass-to_bar text (left text i) i n (to-end text i) (omega arith) none.before passed)
 
 -- and where there is none, all is
-to-end-of_text : (text : List ℕ) (i : ℕ) → i ≤ length text → Nowhere (Passes (is_byte bar) (left text i)) 0 (length (left text i))
+to-end-of_text : (text : List ℕ) (i : ℕ) → i ≤ length text
+    → Nowhere (Passes (is_byte bar) (left text i)) 0 (length (left text i))
     → Passed text i → Passed text (i + length (left text i))
 to-end-of_text text i h none passed =
     let size = length-left text i in

@@ -25,9 +25,11 @@ loop-left-init c =
 pub loop-left-smaller : goal.loop-left-smaller
 loop-left-smaller c =
     let left : some_seen c.loop-left.left ≡ Some c.in-Some.rest.now = ap some_seen c.in-Some.is in
-    let shorter = left-shorter c.in-Some.rest.now c.next_piece-in-Some.result.0.now (some_seen c.next_piece-in-Some.result.1)
+    let shorter = left-shorter c.in-Some.rest.now c.next_piece-in-Some.result.0.now
+    (some_seen c.next_piece-in-Some.result.1)
     (sym c.next_piece-in-Some.ensures) in
-    subst (λ (l : Option (List ℕ)). left_length (some_seen c.next_piece-in-Some.result.1) < left_length l) (sym left) shorter
+    subst (λ (l : Option (List ℕ)). left_length (some_seen c.next_piece-in-Some.result.1) < left_length l)
+    (sym left) shorter
 
 pub loop-left-preserved : goal.loop-left-preserved
 loop-left-preserved c =

@@ -7,7 +7,8 @@ use Rattle.node_semver.proofs.range.read.sets.read_sets.Given as goal
 
 -- the sets so far are those of the alternatives so far
 abbrev pub invariant-loop-left : goal.invariant-loop-left
-invariant-loop-left l = (done : List (List Comparator)) × Reads l.text done (some_seen l.left) × AreSetsOf done l.sets.items
+invariant-loop-left l = (done : List (List Comparator)) × Reads l.text done (some_seen l.left)
+    × AreSetsOf done l.sets.items
 
 abbrev pub decreases-loop-left : goal.decreases-loop-left
 decreases-loop-left l = left_length (some_seen l.left)

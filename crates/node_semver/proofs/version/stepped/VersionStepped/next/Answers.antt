@@ -7,4 +7,5 @@ returns-then-is_prerelease-clause-next c = zero-next c.args.self.now _ (search r
 
 pub returns-in_ok-with_pre_release-in-Some-clause-next :
     goal.returns-in_ok-with_pre_release-in-Some-clause-next
-returns-in_ok-with_pre_release-in-Some-clause-next c = patch-next c.args.self.now _ (search rules) (search rules) (search rules)
+returns-in_ok-with_pre_release-in-Some-clause-next c = patch-next c.args.self.now _ (search rules) (search rules)
+    (search rules)

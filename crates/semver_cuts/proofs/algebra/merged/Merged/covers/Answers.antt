@@ -10,6 +10,7 @@ returns-in-len1-len1 g c =
     let one : length c.spans.result.now ≡ 1 = grind (arith, common_steps) in
     let other : length c.spans-2.result.now ≡ 1 = grind (arith, common_steps) in
     covers-lone g.T.Ord.cmp c.args.self.now.list c.args.other.now.list this that c.covers.result
-    (subst (λ l. length l ≡ 1) c.spans.ensures.list one) (subst (λ l. this ≡ get_or l 0 this) c.spans.ensures.list c.this-item.is)
+    (subst (λ l. length l ≡ 1) c.spans.ensures.list one)
+    (subst (λ l. this ≡ get_or l 0 this) c.spans.ensures.list c.this-item.is)
     (subst (λ l. length l ≡ 1) c.spans-2.ensures.list other)
     (subst (λ l. that ≡ get_or l 0 that) c.spans-2.ensures.list c.that-item.is) c.covers.ensures

@@ -39,7 +39,8 @@ pub returns-clause-above : goal.returns-clause-above
 returns-clause-above g c =
     let spans = c.args.self.now.merged in
     let low = c.loop-low.low in
-    let Above : List (Ends g.row.T.Denot) → Type 0 = AllByRecursion (λ s. IsCutBelow g.T.Ord.cmp c.args.cut.now s.upper) in
+    let Above : List (Ends g.row.T.Denot) → Type 0 = AllByRecursion
+    (λ s. IsCutBelow g.T.Ord.cmp c.args.cut.now s.upper) in
     let e : drop c.loop-low.high spans ≡ drop low spans = ap (λ k. drop k spans) (omega arith) in
     let found = ending_above-at g.met.T.Ord.total c.args.cut.now (take low spans) (drop low spans)
     c.loop-low.invariant.below (subst Above e c.loop-low.invariant.above) in

@@ -12,7 +12,8 @@ returns-then-is_empty-clause-starts g c =
     let spans = c.self.inside.spans.now in
     let places = c.self.inside.places.now in
     subst (λ m. length spans ≡ count_of_starts g.T.Ord.cmp m.list) c.self.view_is
-    (sym (merged-length_none g.T.Ord.cmp spans places (eqb-true (length places) 0 (sym c.is_empty.ensures ∙ c.if-is_empty.true)))
+    (sym (merged-length_none g.T.Ord.cmp spans places
+    (eqb-true (length places) 0 (sym c.is_empty.ensures ∙ c.if-is_empty.true)))
     ∙ starts-counted g.met.T.Ord.total spans (merged_spans spans places) c.self.invariant.rising c.self.invariant.joined)
 
 pub returns-else-is_empty-clause-starts : goal.returns-else-is_empty-clause-starts

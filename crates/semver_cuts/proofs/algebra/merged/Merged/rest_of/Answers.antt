@@ -9,7 +9,8 @@ use Rattle.semver_cuts.proofs.Pieces.{rest-found}
 use Rattle.semver_cuts.proofs.algebra.merged.Merged.rest_of.Goals as goal
 
 -- after the last span
-rest-gathered : {T : Type 0} {cmp : T → T → Ordering} → IsTotalOrder cmp → (ones others joined now old : List (Ends T)) (i : ℕ)
+rest-gathered : {T : Type 0} {cmp : T → T → Ordering} → IsTotalOrder cmp
+    → (ones others joined now old : List (Ends T)) (i : ℕ)
     → length ones ≤ i → AreJoined cmp others joined
     → now ++ pieces_of_all cmp (drop i ones) joined ≡ old ++ pieces_of_all cmp ones joined
     → (AreRising cmp (drop i ones) → AreRising cmp ones)
@@ -26,6 +27,7 @@ returns g c =
     let kept = c.loop-one.invariant in
     record {
       rest = rest-gathered g.met.T.Ord.total c.args.ones.now c.args.self.now.list c.args.self.now.merged
-          (g.S.Gather.gathered c.loop-one.into) (g.S.Gather.gathered c.args.into.now) c.loop-one.one-index c.loop-one-test.false
+          (g.S.Gather.gathered c.loop-one.into)
+          (g.S.Gather.gathered c.args.into.now) c.loop-one.one-index c.loop-one-test.false
           c.spans-others.ensures.joined kept.pieces kept.rising;
     }

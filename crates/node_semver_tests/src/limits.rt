@@ -1,9 +1,7 @@
-use crate::checks::{answer, is_text, limits, parts, refuses, row_admits, row_prints};
-use crate::faults::row_is_fault;
+use crate::checks::range_answer;
+use crate::questions::{Question, each};
 use node_semver::{MAX_LENGTH, MAX_SAFE_INTEGER, Range, Version};
-use std::alloc::{AllocGlobal, Global};
-use std::process::Abort;
-use std::test::Fail;
+use std::alloc::Global;
 
 // In these rows `#` stands for the greatest number of a text, `@` for one less and `$` for one more.
 
@@ -95,96 +93,38 @@ const FAULTS: [&str; 5] = [
     "900719925474100.a; Context(\"version\") at 16 (0, 16)",
 ];
 
-fn limit_admits(rt: &(impl Abort + AllocGlobal), row: &str) -> Result<(), Fail> {
-    let row = limits(rt.alloc(), row)?;
-    row_admits(rt, &row)
-}
+// The least version beyond the greatest number.
+const LEAST: [&str; 1] = [">#; $.0.0"];
 
 #[test]
-fn greatest_numbers(rt: HostRuntime) -> Result<(), Fail> {
-    for row in &GREATEST {
-        limit_admits(&rt, row)?;
-    }
-    for row in &THROWN_AWAY {
-        limit_admits(&rt, row)?;
-    }
-    Ok(())
-}
-
-fn limit_is_refused(rt: &(impl Abort + AllocGlobal), row: &str) -> Result<(), Fail> {
-    let text = limits(rt.alloc(), row)?;
-    refuses(rt, &text);
-    Ok(())
-}
-
-fn limit_is_fault(rt: &(impl Abort + AllocGlobal), row: &str) -> Result<(), Fail> {
-    let row = limits(rt.alloc(), row)?;
-    row_is_fault(rt, &row)
-}
-
-#[test]
-fn numbers_that_are_too_large(rt: HostRuntime) -> Result<(), Fail> {
-    for row in &TOO_LARGE {
-        limit_is_refused(&rt, row)?;
-    }
-    for row in &BOTH_READ {
-        limit_is_refused(&rt, row)?;
-    }
-    for row in &FAULTS {
-        limit_is_fault(&rt, row)?;
-    }
-    Ok(())
+fn greatest_numbers(rt: HostRuntime) {
+    each(&rt, Question::Admits, &GREATEST);
+    each(&rt, Question::Admits, &THROWN_AWAY);
+    each(&rt, Question::IsRefused, &TOO_LARGE);
+    each(&rt, Question::IsRefused, &BOTH_READ);
+    each(&rt, Question::VersionPrint, &FAULTS);
+    each(&rt, Question::BeyondAnswers, &BEYOND);
+    each(&rt, Question::RangePrint, &PRINTS);
+    each(&rt, Question::LeastPrint, &LEAST);
 }
 
 // The version of three numbers, which may be greater than those of any text.
-fn beyond(alloc: Global, numbers: &str) -> Result<Version, Fail> {
-    let (major, rest) = numbers.split_once(' ').ok_or("no minor")?;
-    let (minor, patch) = rest.split_once(' ').ok_or("no patch")?;
-    let (major, minor) = (major.parse::<u64>()?, minor.parse::<u64>()?);
-    Ok(Version::new(alloc, major, minor, patch.parse::<u64>()?))
+fn beyond(alloc: Global, numbers: &str) -> Option<Version> {
+    let (major, rest) = numbers.split_once(' ')?;
+    let (minor, patch) = rest.split_once(' ')?;
+    let (major, minor) = (major.parse::<u64>().ok()?, minor.parse::<u64>().ok()?);
+    Some(Version::new(alloc, major, minor, patch.parse::<u64>().ok()?))
 }
 
-fn beyond_answer(alloc: Global, text: &str, numbers: &str) -> Result<Option<bool>, Fail> {
+pub(crate) fn beyond_answers(alloc: Global, row: &str) -> Option<bool> {
+    let (text, rest) = row.split_once("; ")?;
+    let (numbers, wanted) = rest.split_once("; ")?;
     let version = beyond(alloc, numbers)?;
-    let range = Range::parse(alloc, text)?;
-    Ok(answer(&range, &version))
+    Some(range_answer(alloc, text, &version) == Some(wanted == "yes"))
 }
 
-fn beyond_answers(rt: &(impl Abort + AllocGlobal), row: &str) -> Result<(), Fail> {
-    let row = limits(rt.alloc(), row)?;
-    let (text, rest) = parts(&row)?;
-    let (numbers, wanted) = parts(rest)?;
-    let answer = beyond_answer(rt.alloc(), text, numbers)?;
-    assert!(rt; answer == Some(wanted == "yes"), "{text} and {numbers}");
-    Ok(())
-}
-
-fn limit_prints(rt: &(impl Abort + AllocGlobal), row: &str) -> Result<(), Fail> {
-    let row = limits(rt.alloc(), row)?;
-    row_prints(rt, &row)
-}
-
-fn least_print(alloc: Global, text: &str) -> Result<String, Fail> {
-    let range = Range::parse(alloc, text)?;
-    let least = range.min_version(alloc)?.ok_or("no version")?;
-    Ok(least.to_string(alloc)?)
-}
-
-fn limit_is_least(rt: &(impl Abort + AllocGlobal), text: &str, least: &str) -> Result<(), Fail> {
-    let text = limits(rt.alloc(), text)?;
-    let found = least_print(rt.alloc(), &text)?;
-    let wanted = limits(rt.alloc(), least)?;
-    is_text(rt, &found, &wanted);
-    Ok(())
-}
-
-#[test]
-fn ends_beyond_the_greatest_number(rt: HostRuntime) -> Result<(), Fail> {
-    for row in &BEYOND {
-        beyond_answers(&rt, row)?;
-    }
-    for row in &PRINTS {
-        limit_prints(&rt, row)?;
-    }
-    limit_is_least(&rt, ">#", "$.0.0")
+pub(crate) fn least_print(alloc: Global, text: &str) -> Option<String> {
+    let range = Range::parse(alloc, text).ok()?;
+    let least = range.min_version(alloc).ok()??;
+    least.to_string(alloc).ok()
 }

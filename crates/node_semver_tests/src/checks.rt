@@ -1,4 +1,4 @@
-use crate::told::range_print;
+use crate::spread::spread;
 use node_semver::{Range, SemverError, Version};
 use std::alloc::Global;
 
@@ -29,8 +29,10 @@ fn answer_of_text(alloc: Global, range: &Range, version: &str) -> Option<bool> {
     }
 }
 
+// What the range of a text answers, which may be written short.
 pub(crate) fn range_answer(alloc: Global, text: &str, version: &Version) -> Option<bool> {
-    match Range::parse(alloc, text) {
+    let text = spread(alloc, text)?;
+    match Range::parse(alloc, &text) {
         Ok(range) => answer(&range, version),
         Err(_) => None,
     }
@@ -69,9 +71,5 @@ pub(crate) fn holds(error: &SemverError, text: &str) -> bool {
     error.input() == text && span.offset() == error.offset() && span.len() == 0
 }
 
-// The text is no range, and the error tells so at the start of the text.
-pub(crate) fn is_refused(alloc: Global, text: &str) -> bool {
-    is_print(range_print(alloc, text), NO_RANGE)
-}
-
+// What the error of a text that is no range tells: that, at the start of the text.
 pub(crate) const NO_RANGE: &str = "NoValidRanges at 0 (0, 0)";

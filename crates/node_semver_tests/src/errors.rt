@@ -2,17 +2,13 @@ use crate::checks::is_print;
 use crate::questions::{Question, each};
 use node_semver::{Range, SemverError, SemverErrorKind, Version};
 use std::alloc::Global;
-use std::num::ParseIntError;
 
-// What std's `parse` says of digits that make no `u64`.
-pub(crate) fn int_fault(digits: &str) -> Option<ParseIntError> {
-    digits.parse::<u64>().err()
-}
-
-// A kind by its name and what it holds.
+// A kind by its name and what it holds: of digits that make no `u64`, what std's `parse` says of them.
 pub(crate) fn kind(name: &str) -> Option<SemverErrorKind> {
     match name.split_once(' ') {
-        Some(("ParseIntError", digits)) => Some(SemverErrorKind::ParseIntError(int_fault(digits)?)),
+        Some(("ParseIntError", digits)) => Some(SemverErrorKind::ParseIntError(
+            digits.parse::<u64>().err()?,
+        )),
         Some(("MaxIntError", number)) => {
             Some(SemverErrorKind::MaxIntError(number.parse::<u64>().ok()?))
         }

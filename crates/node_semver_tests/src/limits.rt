@@ -55,18 +55,21 @@ const THROWN_AWAY: [&str; 4] = [
     ">=#.0.0 <$.0.0-0; #.0.0; @.0.0",
 ];
 
-// Ends of one more, and versions beyond every text.
-const BEYOND: [&str; 10] = [
-    ">#; $ 0 0; yes",
-    ">#; # 9 9; no",
-    ">0.#; 0 $ 0; yes",
-    ">0.#; 0 # 9; no",
-    "^#; $ 0 0; no",
-    "^#; # 18446744073709551615 0; yes",
-    "~0.#; 0 $ 0; no",
-    "^0.0.#; 0 0 $; no",
-    ">=1.0.0; 18446744073709551615 18446744073709551615 18446744073709551615; yes",
-    "<1; 18446744073709551615 18446744073709551615 18446744073709551615; no",
+const BEYOND_TEXTS: u64 = MAX_SAFE_INTEGER + 1;
+
+// Ends of one more, and versions beyond every text: a range text, three numbers, and whether the version of these
+// satisfies the range.
+const BEYOND: [(&str, [u64; 3], bool); 10] = [
+    (">#", [BEYOND_TEXTS, 0, 0], true),
+    (">#", [MAX_SAFE_INTEGER, 9, 9], false),
+    (">0.#", [0, BEYOND_TEXTS, 0], true),
+    (">0.#", [0, MAX_SAFE_INTEGER, 9], false),
+    ("^#", [BEYOND_TEXTS, 0, 0], false),
+    ("^#", [MAX_SAFE_INTEGER, u64::MAX, 0], true),
+    ("~0.#", [0, BEYOND_TEXTS, 0], false),
+    ("^0.0.#", [0, 0, BEYOND_TEXTS], false),
+    (">=1.0.0", [u64::MAX, u64::MAX, u64::MAX], true),
+    ("<1", [u64::MAX, u64::MAX, u64::MAX], false),
 ];
 
 // Prints of ends of one more, and of numbers with a digit less.
@@ -103,24 +106,24 @@ fn greatest_numbers(rt: HostRuntime) {
     each(&rt, Question::IsRefused, &TOO_LARGE);
     each(&rt, Question::IsRefused, &BOTH_READ);
     each(&rt, Question::VersionPrint, &FAULTS);
-    each(&rt, Question::BeyondAnswers, &BEYOND);
     each(&rt, Question::RangePrint, &PRINTS);
     each(&rt, Question::LeastPrint, &LEAST);
 }
 
-// The version of three numbers, which may be greater than those of any text.
-fn beyond(alloc: Global, numbers: &str) -> Option<Version> {
-    let (major, rest) = numbers.split_once(' ')?;
-    let (minor, patch) = rest.split_once(' ')?;
-    let (major, minor) = (major.parse::<u64>().ok()?, minor.parse::<u64>().ok()?);
-    Some(Version::new(alloc, major, minor, patch.parse::<u64>().ok()?))
+fn beyond_answer(alloc: Global, text: &str, numbers: [u64; 3]) -> Option<bool> {
+    let [major, minor, patch] = numbers;
+    let version = Version::new(alloc, major, minor, patch);
+    range_answer(alloc, text, &version)
 }
 
-pub(crate) fn beyond_answers(alloc: Global, row: &str) -> Option<bool> {
-    let (text, rest) = row.split_once("; ")?;
-    let (numbers, wanted) = rest.split_once("; ")?;
-    let version = beyond(alloc, numbers)?;
-    Some(range_answer(alloc, text, &version) == Some(wanted == "yes"))
+#[test]
+fn ends_beyond_the_greatest_number(rt: HostRuntime) {
+    for (text, numbers, wanted) in &BEYOND {
+        assert!(rt;
+            beyond_answer(rt.alloc(), text, *numbers) == Some(*wanted),
+            "{text}"
+        );
+    }
 }
 
 pub(crate) fn least_print(alloc: Global, text: &str) -> Option<String> {

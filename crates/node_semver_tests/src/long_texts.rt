@@ -53,116 +53,60 @@ const PRINTS: [&str; 2] = [
 ];
 
 #[test]
-fn reads_and_prints_long_ranges(rt: HostRuntime) {
+fn reads_long_ranges(rt: HostRuntime) {
     each(&rt, Question::Admits, &ADMITTED);
+}
+
+#[test]
+fn refuses_long_ranges(rt: HostRuntime) {
     each(&rt, Question::IsRefused, &REFUSED);
+}
+
+#[test]
+fn prints_long_ranges(rt: HostRuntime) {
     each(&rt, Question::RangePrint, &PRINTS);
 }
 
-fn push_words(
-    version: &mut Version,
-    alloc: Global,
-    word: &str,
-    times: usize,
-) -> Result<(), AllocError> {
-    for _ in 0..times {
-        let word = String::from_str(alloc, word)?;
-        version.pre_release.push(Identifier::AlphaNumeric(word))?;
+// Words with blanks between come after the identifiers of a version: `0` is a number, and each other word a text.
+fn push_words(version: &mut Version, alloc: Global, words: &str) -> Result<(), AllocError> {
+    for word in words.split_whitespace() {
+        let identifier = if word == "0" {
+            Identifier::Numeric(0)
+        } else {
+            Identifier::AlphaNumeric(String::from_str(alloc, word)?)
+        };
+        version.pre_release.push(identifier)?;
     }
     Ok(())
 }
 
-// A range text, and a version with a word some times more among its identifiers, and a 0 at the end where one is
-// wanted.
-struct Longer {
-    range: &'static str,
-    text: &'static str,
-    word: &'static str,
-    times: usize,
-    zero: bool,
-}
-
-// Versions of 10,001 identifiers and of one of 5,000 bytes, as no text is, each with what is answered of it:
-// `1.2.3-a` and `b` some times, of the range of `1.2.3-a.b.b` with 10,000 of them, and `1.2.3` with an identifier of
-// 5,000 bytes, of what is above it.
-const LONGER: [(Longer, bool); 5] = [
-    (
-        Longer {
-            range: "=1.2.3-a{10000*.b}",
-            text: "1.2.3-a",
-            word: "b",
-            times: 0,
-            zero: false,
-        },
-        false,
-    ),
-    (
-        Longer {
-            range: "=1.2.3-a{10000*.b}",
-            text: "1.2.3-a",
-            word: "b",
-            times: 10000,
-            zero: false,
-        },
-        true,
-    ),
-    (
-        Longer {
-            range: "=1.2.3-a{10000*.b}",
-            text: "1.2.3-a",
-            word: "b",
-            times: 10000,
-            zero: true,
-        },
-        false,
-    ),
-    (
-        Longer {
-            range: ">1.2.3-{5000*c}",
-            text: "1.2.3",
-            word: "{5000*c}",
-            times: 1,
-            zero: false,
-        },
-        false,
-    ),
-    (
-        Longer {
-            range: ">1.2.3-{5000*c}",
-            text: "1.2.3",
-            word: "{5000*c}",
-            times: 1,
-            zero: true,
-        },
-        true,
-    ),
-];
-
-fn made_longer(alloc: Global, row: &Longer) -> Option<Version> {
-    let word = spread(alloc, row.word)?;
-    let mut version = Version::parse(alloc, row.text).ok()?;
-    push_words(&mut version, alloc, &word, row.times).ok()?;
-    if row.zero {
-        version.pre_release.push(Identifier::Numeric(0)).ok()?;
-    }
+fn longer(alloc: Global, text: &str, words: &str) -> Option<Version> {
+    let mut version = Version::parse(alloc, text).ok()?;
+    push_words(&mut version, alloc, words).ok()?;
     Some(version)
 }
 
-fn longer_answer(alloc: Global, row: &Longer) -> Option<bool> {
-    let version = made_longer(alloc, row)?;
-    let range = spread(alloc, row.range)?;
-    range_answer(alloc, &range, &version)
+pub(crate) fn answers_longer(alloc: Global, row: &str) -> Option<bool> {
+    let (range, rest) = row.split_once("; ")?;
+    let (text, rest) = rest.split_once("; ")?;
+    let (words, wanted) = rest.split_once("; ")?;
+    let version = longer(alloc, text, words)?;
+    Some(range_answer(alloc, range, &version) == Some(wanted == "yes"))
 }
+
+// Versions of 10,001 identifiers and of one of 5,000 bytes, as no text is: `1.2.3-a` and `b` some times, of the range
+// of `1.2.3-a.b.b` with 10,000 of them, and `1.2.3` with an identifier of 5,000 bytes, of what is above it.
+const LONGER: [&str; 5] = [
+    "=1.2.3-a{10000*.b}; 1.2.3-a; ; no",
+    "=1.2.3-a{10000*.b}; 1.2.3-a; {10000*b }; yes",
+    "=1.2.3-a{10000*.b}; 1.2.3-a; {10000*b }0; no",
+    ">1.2.3-{5000*c}; 1.2.3; {5000*c}; no",
+    ">1.2.3-{5000*c}; 1.2.3; {5000*c} 0; yes",
+];
 
 #[test]
 fn reads_ranges_of_long_versions(rt: HostRuntime) {
-    for (row, wanted) in &LONGER {
-        let (text, times, zero) = (row.text, row.times, row.zero);
-        assert!(rt;
-            longer_answer(rt.alloc(), row) == Some(*wanted),
-            "{text}, {times}, {zero}"
-        );
-    }
+    each(&rt, Question::AnswersLonger, &LONGER);
 }
 
 fn long_version_print(alloc: Global) -> Option<String> {

@@ -1,3 +1,4 @@
+use crate::checks::is_print;
 use crate::errors::{error_of, kind};
 use crate::questions::{Question, each};
 use node_semver::{Identifier, Range, Version};
@@ -5,60 +6,55 @@ use std::alloc::Global;
 use std::fmt::Display;
 
 // A width, a fill and the other form are not looked at.
-fn forms(alloc: Global, value: &impl Display) -> Option<String> {
-    format!(in alloc; "{value}, {value:>9}, {value:*^40}, {value:>120}, {value:#}").ok()
-}
-
-fn is_one_way(alloc: Global, value: &impl Display, text: &str) -> Option<bool> {
-    let print = forms(alloc, value)?;
-    let plain = format!(in alloc; "{text}, {text}, {text}, {text}, {text}").ok()?;
-    Some(print == plain)
+fn is_one_way(alloc: Global, value: &impl Display, text: &str) -> bool {
+    is_print(format!(in alloc; "{value}").ok(), text)
+        && is_print(format!(in alloc; "{value:>9}").ok(), text)
+        && is_print(format!(in alloc; "{value:*^40}").ok(), text)
+        && is_print(format!(in alloc; "{value:>120}").ok(), text)
+        && is_print(format!(in alloc; "{value:#}").ok(), text)
 }
 
 fn version_prints(alloc: Global, text: &str, print: &str) -> Option<bool> {
     let version = Version::parse(alloc, text).ok()?;
-    is_one_way(alloc, &version, print)
+    Some(is_one_way(alloc, &version, print))
 }
 
 // With the greatest patch, which no text has.
 fn greatest_prints(alloc: Global, text: &str, print: &str) -> Option<bool> {
     let mut version = Version::parse(alloc, text).ok()?;
     version.patch = u64::MAX;
-    is_one_way(alloc, &version, print)
+    Some(is_one_way(alloc, &version, print))
 }
 
 fn word_prints(alloc: Global, text: &str, print: &str) -> Option<bool> {
     let word = Identifier::AlphaNumeric(String::from_str(alloc, text).ok()?);
-    is_one_way(alloc, &word, print)
+    Some(is_one_way(alloc, &word, print))
 }
 
 fn number_prints(alloc: Global, text: &str, print: &str) -> Option<bool> {
     let number = text.parse::<u64>().ok()?;
-    is_one_way(alloc, &Identifier::Numeric(number), print)
+    Some(is_one_way(alloc, &Identifier::Numeric(number), print))
 }
 
 fn range_prints(alloc: Global, text: &str, print: &str) -> Option<bool> {
     let range = Range::parse(alloc, text).ok()?;
-    is_one_way(alloc, &range, print)
+    Some(is_one_way(alloc, &range, print))
 }
 
 fn any_prints(alloc: Global, print: &str) -> Option<bool> {
     let range = Range::any(alloc).ok()?;
-    is_one_way(alloc, &range, print)
+    Some(is_one_way(alloc, &range, print))
 }
 
 fn kind_prints(alloc: Global, name: &str, print: &str) -> Option<bool> {
     let kind = kind(name)?;
-    is_one_way(alloc, &kind, print)
+    Some(is_one_way(alloc, &kind, print))
 }
 
 // An error prints as its kind.
 fn error_prints(alloc: Global, call: &str, text: &str, print: &str) -> Option<bool> {
     let error = error_of(alloc, call, text)?;
-    Some(
-        is_one_way(alloc, &error, print) == Some(true)
-            && is_one_way(alloc, error.kind(), print) == Some(true),
-    )
+    Some(is_one_way(alloc, &error, print) && is_one_way(alloc, error.kind(), print))
 }
 
 pub(crate) fn prints_in_one_way(alloc: Global, row: &str) -> Option<bool> {

@@ -1,7 +1,8 @@
-use crate::checks::{admits, is_print, is_refused};
+use crate::checks::{NO_RANGE, admits, is_print};
 use crate::clones::copies_version;
 use crate::errors::{copies_error, error_prints, kind_print};
-use crate::limits::{beyond_answers, least_print};
+use crate::limits::least_print;
+use crate::long_texts::answers_longer;
 use crate::order::{is_below, is_same};
 use crate::prints::prints_in_one_way;
 use crate::search::counts;
@@ -38,8 +39,8 @@ pub(crate) enum Question {
     CopiesVersion,
     // A call, and a text that it refuses.
     CopiesError,
-    // A range text, three numbers, and whether the version of these satisfies the range.
-    BeyondAnswers,
+    // A range text, a version text, identifiers that come after its own, and whether that version satisfies the range.
+    AnswersLonger,
     // Two version texts, the lower one first.
     IsBelow,
     // A version text, and whether it is the version of `1.0.0-rc.1+7`.
@@ -67,13 +68,13 @@ fn prints(alloc: Global, question: Question, row: &str) -> Option<bool> {
 fn is_answered(alloc: Global, question: Question, row: &str) -> Option<bool> {
     match question {
         Question::Admits => admits(alloc, row),
-        Question::IsRefused => Some(is_refused(alloc, row)),
+        Question::IsRefused => Some(is_print(range_print(alloc, row), NO_RANGE)),
         Question::ErrorPrint => error_prints(alloc, row),
         Question::PrintsInOneWay => prints_in_one_way(alloc, row),
         Question::ReadsBack => reads_back(alloc, row),
         Question::CopiesVersion => copies_version(alloc, row),
         Question::CopiesError => copies_error(alloc, row),
-        Question::BeyondAnswers => beyond_answers(alloc, row),
+        Question::AnswersLonger => answers_longer(alloc, row),
         Question::IsBelow => is_below(alloc, row),
         Question::IsSame => is_same(alloc, row),
         Question::Counts => counts(alloc, row),

@@ -3,6 +3,15 @@ use crate::range_equality::agreed;
 use node_semver::Range;
 use std::alloc::{AllocError, Global};
 
+// The range of a text, and of `any` the range of all cuts.
+pub(crate) fn range(alloc: Global, text: &str) -> Option<Range> {
+    if text == "any" {
+        Range::any(alloc).ok()
+    } else {
+        Range::parse(alloc, text).ok()
+    }
+}
+
 // What is made of two ranges.
 #[derive(Clone, Copy)]
 pub(crate) enum Made {
@@ -23,8 +32,8 @@ fn make(
 }
 
 pub(crate) fn made_of(alloc: Global, asked: Made, one: &str, other: &str) -> Option<Option<Range>> {
-    let one = Range::parse(alloc, one).ok()?;
-    let other = Range::parse(alloc, other).ok()?;
+    let one = range(alloc, one)?;
+    let other = range(alloc, other)?;
     make(alloc, asked, &one, &other).ok()
 }
 
@@ -52,7 +61,7 @@ fn any(one: &Range, other: &Range) -> Option<bool> {
 
 // Whether one range has all cuts of another, and nothing where it leaves some of them and says so, or leaves none and
 // denies it.
-pub(crate) fn covers(alloc: Global, one: &Range, other: &Range) -> Option<bool> {
+fn covers(alloc: Global, one: &Range, other: &Range) -> Option<bool> {
     let answer = one.allows_all(other);
     let left = other.difference(alloc, one).ok()?;
     if left.is_none() == answer {
@@ -71,7 +80,7 @@ fn answer(alloc: Global, asked: Asked, one: &Range, other: &Range) -> Option<boo
 }
 
 pub(crate) fn answer_of(alloc: Global, asked: Asked, one: &str, other: &str) -> Option<bool> {
-    let one = Range::parse(alloc, one).ok()?;
-    let other = Range::parse(alloc, other).ok()?;
+    let one = range(alloc, one)?;
+    let other = range(alloc, other)?;
     answer(alloc, asked, &one, &other)
 }

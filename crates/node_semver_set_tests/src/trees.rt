@@ -1,7 +1,8 @@
 use crate::checks::{is_print, print_of};
+use crate::pairs::Made;
 use crate::questions::{Question, each};
 use node_semver::SetTree;
-use std::alloc::{AllocError, Global};
+use std::alloc::Global;
 
 // The print of the tree's range.
 fn tree_print(alloc: Global, tree: Option<SetTree>) -> Option<String> {
@@ -13,22 +14,23 @@ fn text(alloc: Global, text: &str) -> Option<SetTree> {
     Some(SetTree::Text(String::from_str(alloc, text).ok()?))
 }
 
-fn both(alloc: Global, one: SetTree, other: SetTree) -> Result<SetTree, AllocError> {
-    Ok(SetTree::Both(Box::new(alloc, one)?, Box::new(alloc, other)?))
+// The tree of what two trees have in common, or of what the first has and the second has not.
+fn joined(
+    alloc: Global,
+    made: Made,
+    one: Option<SetTree>,
+    other: Option<SetTree>,
+) -> Option<SetTree> {
+    let one = Box::new(alloc, one?).ok()?;
+    let other = Box::new(alloc, other?).ok()?;
+    match made {
+        Made::Common => Some(SetTree::Both(one, other)),
+        Made::Rest => Some(SetTree::Without(one, other)),
+    }
 }
 
-fn without(alloc: Global, one: SetTree, other: SetTree) -> Result<SetTree, AllocError> {
-    Ok(SetTree::Without(Box::new(alloc, one)?, Box::new(alloc, other)?))
-}
-
-fn both_texts(alloc: Global, one: &str, other: &str) -> Option<SetTree> {
-    let one = text(alloc, one)?;
-    both(alloc, one, text(alloc, other)?).ok()
-}
-
-fn without_text(alloc: Global, one: &str, other: &str) -> Option<SetTree> {
-    let one = text(alloc, one)?;
-    without(alloc, one, text(alloc, other)?).ok()
+fn joined_texts(alloc: Global, made: Made, one: &str, other: &str) -> Option<SetTree> {
+    joined(alloc, made, text(alloc, one), text(alloc, other))
 }
 
 pub(crate) fn leaf_print(alloc: Global, leaf: &str) -> Option<String> {
@@ -49,29 +51,33 @@ pub(crate) fn joins(alloc: Global, row: &str) -> Option<bool> {
     let (other, wanted) = row.split_once("; ")?;
     let (common, rest) = wanted.split_once("; ")?;
     Some(
-        is_print(tree_print(alloc, both_texts(alloc, one, other)), common)
-            && is_print(tree_print(alloc, without_text(alloc, one, other)), rest),
+        is_print(
+            tree_print(alloc, joined_texts(alloc, Made::Common, one, other)),
+            common,
+        ) && is_print(
+            tree_print(alloc, joined_texts(alloc, Made::Rest, one, other)),
+            rest,
+        ),
     )
 }
 
 // What two texts have in common, without a third.
-fn both_without(alloc: Global, one: &str, other: &str, taken: &str) -> Option<SetTree> {
-    let tree = both_texts(alloc, one, other)?;
-    without(alloc, tree, text(alloc, taken)?).ok()
+fn common_rest(alloc: Global, one: &str, other: &str, taken: &str) -> Option<String> {
+    let common = joined_texts(alloc, Made::Common, one, other);
+    tree_print(alloc, joined(alloc, Made::Rest, common, text(alloc, taken)))
 }
 
 // What a text has without another, and a third one too.
-fn without_both(alloc: Global, one: &str, taken: &str, other: &str) -> Option<SetTree> {
-    let tree = without_text(alloc, one, taken)?;
-    both(alloc, tree, text(alloc, other)?).ok()
+fn rest_common(alloc: Global, one: &str, taken: &str, other: &str) -> Option<String> {
+    let rest = joined_texts(alloc, Made::Rest, one, taken);
+    tree_print(alloc, joined(alloc, Made::Common, rest, text(alloc, other)))
 }
 
 #[test]
 fn joins_texts_and_trees(rt: HostRuntime) {
     each(&rt, Question::Joins, &PAIRS);
-    let alloc = rt.alloc();
-    let print = tree_print(alloc, both_without(alloc, ">=1", "<3", "2"));
+    let print = common_rest(rt.alloc(), ">=1", "<3", "2");
     assert!(rt; is_print(print, ">=1.0.0 <2.0.0||>=3.0.0-0 <3.0.0"));
-    let print = tree_print(alloc, without_both(alloc, ">=1", "2", "2 || 3"));
+    let print = rest_common(rt.alloc(), ">=1", "2", "2 || 3");
     assert!(rt; is_print(print, ">=3.0.0 <4.0.0-0"));
 }

@@ -1,81 +1,18 @@
-use crate::checks::{is_text, parts, print_of};
+use crate::checks::is_print;
+use crate::pairs::{Asked, Made, answer_of, made_of, made_print, range};
+use crate::questions::{Question, each};
 use node_semver::{Range, Version};
-use std::alloc::{AllocError, AllocGlobal, Global};
-use std::process::Abort;
-use std::test::Fail;
+use std::alloc::Global;
 
-pub(crate) fn common(alloc: Global, one: &str, other: &str) -> Result<String, Fail> {
-    let one = Range::parse(alloc, one)?;
-    let other = Range::parse(alloc, other)?;
-    let answer = one.intersect(alloc, &other)?;
-    Ok(print_of(alloc, &answer)?)
-}
-
-pub(crate) fn rest(alloc: Global, one: &str, other: &str) -> Result<String, Fail> {
-    let one = Range::parse(alloc, one)?;
-    let other = Range::parse(alloc, other)?;
-    let answer = one.difference(alloc, &other)?;
-    Ok(print_of(alloc, &answer)?)
-}
-
-// Whether one range allows any of another, and nothing where both ways do not agree.
-fn any(alloc: Global, one: &str, other: &str) -> Result<Option<bool>, Fail> {
-    let one = Range::parse(alloc, one)?;
-    let other = Range::parse(alloc, other)?;
-    let answer = one.allows_any(&other);
-    Ok(if other.allows_any(&one) == answer {
-        Some(answer)
-    } else {
-        None
-    })
-}
-
-// Whether one range has all cuts of another, and nothing where it leaves some of them and says so, or leaves none and
-// denies it.
-fn covers(alloc: Global, one: &Range, other: &Range) -> Result<Option<bool>, AllocError> {
-    let answer = one.allows_all(other);
-    let left = other.difference(alloc, one)?;
-    Ok(if left.is_none() == answer {
-        Some(answer)
-    } else {
-        None
-    })
-}
-
-fn all(alloc: Global, one: &str, other: &str) -> Result<Option<bool>, Fail> {
-    let one = Range::parse(alloc, one)?;
-    let other = Range::parse(alloc, other)?;
-    Ok(covers(alloc, &one, &other)?)
-}
-
-fn allows_any(
-    rt: &(impl Abort + AllocGlobal),
-    one: &str,
-    other: &str,
-    wanted: bool,
-) -> Result<(), Fail> {
-    let answer = any(rt.alloc(), one, other)?;
-    assert!(rt; answer == Some(wanted), "{one} and {other}");
-    Ok(())
-}
-
-// Two ranges, what they have in common, and what the first has and the second has not.
-fn answers(
-    rt: &(impl Abort + AllocGlobal),
-    one: &str,
-    other: &str,
-    wanted: &str,
-) -> Result<(), Fail> {
-    let (both, left) = parts(wanted)?;
-    is_text(rt, &common(rt.alloc(), one, other)?, both);
-    is_text(rt, &rest(rt.alloc(), one, other)?, left);
-    allows_any(rt, one, other, both != "None")
-}
-
-fn row_answers(rt: &(impl Abort + AllocGlobal), row: &str) -> Result<(), Fail> {
-    let (one, row) = parts(row)?;
-    let (other, wanted) = parts(row)?;
-    answers(rt, one, other, wanted)
+pub(crate) fn answers(alloc: Global, row: &str) -> Option<bool> {
+    let (one, row) = row.split_once("; ")?;
+    let (other, wanted) = row.split_once("; ")?;
+    let (both, left) = wanted.split_once("; ")?;
+    Some(
+        is_print(made_print(alloc, Made::Common, one, other), both)
+            && is_print(made_print(alloc, Made::Rest, one, other), left)
+            && answer_of(alloc, Asked::Any, one, other) == Some(both != "None"),
+    )
 }
 
 // The first eight are those of the Rust crate `node-semver` 2.2.0.
@@ -100,30 +37,26 @@ const ANSWERS: [&str; 17] = [
 ];
 
 #[test]
-fn intersects_and_takes_away(rt: HostRuntime) -> Result<(), Fail> {
-    for row in &ANSWERS {
-        row_answers(&rt, row)?;
-    }
-    Ok(())
+fn intersects_and_takes_away(rt: HostRuntime) {
+    each(&rt, Question::Answers, &ANSWERS);
 }
 
-fn each_any(
-    rt: &(impl Abort + AllocGlobal),
-    one: &str,
-    others: &str,
-    wanted: bool,
-) -> Result<(), Fail> {
-    for other in others.split(", ") {
-        allows_any(rt, one, other, wanted)?;
+fn answers_each(alloc: Global, asked: Asked, one: &str, others: &str, wanted: bool) -> bool {
+    for other in others.split_terminator(", ") {
+        if answer_of(alloc, asked, one, other) != Some(wanted) {
+            return false;
+        }
     }
-    Ok(())
+    true
 }
 
-fn row_any(rt: &(impl Abort + AllocGlobal), row: &str) -> Result<(), Fail> {
-    let (one, row) = parts(row)?;
-    let (allowed, denied) = parts(row)?;
-    each_any(rt, one, allowed, true)?;
-    each_any(rt, one, denied, false)
+pub(crate) fn allows(alloc: Global, asked: Asked, row: &str) -> Option<bool> {
+    let (one, row) = row.split_once("; ")?;
+    let (allowed, denied) = row.split_once("; ")?;
+    Some(
+        answers_each(alloc, asked, one, allowed, true)
+            && answers_each(alloc, asked, one, denied, false),
+    )
 }
 
 // Of which ranges one allows any, and of which none.
@@ -136,37 +69,14 @@ const ANY: [&str; 5] = [
 ];
 
 #[test]
-fn allows_any_where_a_cut_is_common(rt: HostRuntime) -> Result<(), Fail> {
-    for row in &ANY {
-        row_any(&rt, row)?;
-    }
-    Ok(())
+fn allows_any_where_a_cut_is_common(rt: HostRuntime) {
+    each(&rt, Question::AllowsAny, &ANY);
 }
 
-fn each_all(
-    rt: &(impl Abort + AllocGlobal),
-    one: &str,
-    others: &str,
-    wanted: bool,
-) -> Result<(), Fail> {
-    for other in others.split(", ") {
-        let answer = all(rt.alloc(), one, other)?;
-        assert!(rt; answer == Some(wanted), "{one} and {other}");
-    }
-    Ok(())
-}
-
-fn row_all(rt: &(impl Abort + AllocGlobal), row: &str) -> Result<(), Fail> {
-    let (one, row) = parts(row)?;
-    let (allowed, denied) = parts(row)?;
-    each_all(rt, one, allowed, true)?;
-    each_all(rt, one, denied, false)
-}
-
-// Of which ranges one allows all, and of which not: sets that lie below or between its own are not allowed, and sets that
-// its own have together are. `^1.2.3-rc.4` admits a prerelease that `>=1.0.0-0` does not, and `1 || 2` admits all that
-// `1 - 2` does.
-const ALL: [&str; 10] = [
+// Of which ranges one allows all, and of which not: sets that lie below or between its own are not allowed, and sets
+// that its own have together are. `^1.2.3-rc.4` admits a prerelease that `>=1.0.0-0` does not, and `1 || 2` admits all
+// that `1 - 2` does. Every cut is a cut of `any`, and those below `0.0.0` are none of `>=0.0.0`.
+const ALL: [&str; 12] = [
     ">=1.2.3; >=2.0.0, >2, 2.0.0, 1.2.3, 2 - 7; 0.1 || 1.4, 1.0.0, <1.2, >=1.2.2, 1 - 3, 0.1 || <1.2.0, >1.0.0",
     ">1.2.3; >=2.0.0, 2.0.0; 0.1 || 1.4, >=1.2.3, 1 - 3, <=3",
     "<1.2.3; <=1.2.0, <1, 1.0.0; 0.1 || 1.4, 1 - 3, >1, 2.0 || >9, >1.0.0, <=1.2.3",
@@ -177,67 +87,53 @@ const ALL: [&str; 10] = [
     "1 || 2; 1.5 || 2.5 || 1.2.3, 1.2.3+a || 2.0.0; 1.5.0 - 2.5.0, 1 - 2, 1 || 2 || 3",
     ">=2.0.0-0 || 1 || >0.5.0 <=1.0.0; >=1.5.0 <2.5.0, 1 || 0.6, >0.5.0; *, >=0.5.0",
     ">=1.0.0-0; ^1.2.3-rc.4; 0.9.9, <1.0.0-0",
+    "any; >=0.0.0; ",
+    ">=0.0.0; ; any",
 ];
 
-// Every cut is a cut of `any`, and those below `0.0.0` are none of `>=0.0.0`.
-fn any_allows_all(alloc: Global) -> Result<bool, Fail> {
-    let any = Range::any(alloc)?;
-    let versions = Range::parse(alloc, ">=0.0.0")?;
-    let allowed = covers(alloc, &any, &versions)? == Some(true);
-    Ok(allowed && covers(alloc, &versions, &any)? == Some(false))
-}
-
 #[test]
-fn allows_all_where_each_cut_is_covered(rt: HostRuntime) -> Result<(), Fail> {
-    for row in &ALL {
-        row_all(&rt, row)?;
-    }
-    assert!(rt; any_allows_all(rt.alloc())?);
-    Ok(())
+fn allows_all_where_each_cut_is_covered(rt: HostRuntime) {
+    each(&rt, Question::AllowsAll, &ALL);
 }
 
-fn satisfies(alloc: Global, range: &Range, version: &str) -> Result<bool, Fail> {
-    let version = Version::parse(alloc, version)?;
-    Ok(range.satisfies(&version))
+fn satisfies(alloc: Global, range: &Range, version: &str) -> Option<bool> {
+    let version = Version::parse(alloc, version).ok()?;
+    Some(range.satisfies(&version))
 }
 
-fn text_admits(alloc: Global, text: &str, version: &str) -> Result<bool, Fail> {
-    let range = Range::parse(alloc, text)?;
+fn text_admits(alloc: Global, text: &str, version: &str) -> Option<bool> {
+    let range = range(alloc, text)?;
     satisfies(alloc, &range, version)
 }
 
-fn common_admits(alloc: Global, one: &str, other: &str, version: &str) -> Result<bool, Fail> {
-    let one = Range::parse(alloc, one)?;
-    let other = Range::parse(alloc, other)?;
-    let both = one.intersect(alloc, &other)?.ok_or("nothing in common")?;
-    satisfies(alloc, &both, version)
-}
-
-fn rest_admits(alloc: Global, one: &str, other: &str, version: &str) -> Result<bool, Fail> {
-    let one = Range::parse(alloc, one)?;
-    let other = Range::parse(alloc, other)?;
-    let left = one.difference(alloc, &other)?.ok_or("nothing left")?;
-    satisfies(alloc, &left, version)
+fn made_admits(alloc: Global, made: Made, one: &str, other: &str, version: &str) -> Option<bool> {
+    let range = made_of(alloc, made, one, other)??;
+    satisfies(alloc, &range, version)
 }
 
 // npm's "Prerelease Tags": an end of one of two sets opens the triple for both.
 #[test]
-fn prereleases_of_what_is_common(rt: HostRuntime) -> Result<(), Fail> {
+fn prereleases_of_what_is_common(rt: HostRuntime) {
+    let alloc = rt.alloc();
     let (one, other, version) = (">=1.0.0-a", "<2.0.0", "1.0.0-b");
-    assert!(rt; common_admits(rt.alloc(), one, other, version)?);
-    assert!(rt; common_admits(rt.alloc(), other, one, version)?);
-    assert!(rt; text_admits(rt.alloc(), one, version)?);
-    assert!(rt; !text_admits(rt.alloc(), other, version)?);
-    Ok(())
+    assert!(rt; made_admits(alloc, Made::Common, one, other, version) == Some(true));
+    assert!(rt; made_admits(alloc, Made::Common, other, one, version) == Some(true));
+    assert!(rt; text_admits(alloc, one, version) == Some(true));
+    assert!(rt; text_admits(alloc, other, version) == Some(false));
 }
 
 // An end that is taken over from the other range opens its triple: `2.0.0-0` satisfies what is left, and not the whole.
 #[test]
-fn prereleases_of_what_is_left(rt: HostRuntime) -> Result<(), Fail> {
+fn prereleases_of_what_is_left(rt: HostRuntime) {
+    let alloc = rt.alloc();
     let (whole, taken, version) = (">=1.0.0", ">=2.0.0-a", "2.0.0-0");
-    is_text(&rt, &rest(rt.alloc(), whole, taken)?, ">=1.0.0 <2.0.0-a");
-    assert!(rt; rest_admits(rt.alloc(), whole, taken, version)?);
-    assert!(rt; !text_admits(rt.alloc(), whole, version)?);
-    assert!(rt; !text_admits(rt.alloc(), taken, version)?);
-    Ok(())
+    assert!(rt;
+        is_print(
+            made_print(alloc, Made::Rest, whole, taken),
+            ">=1.0.0 <2.0.0-a"
+        )
+    );
+    assert!(rt; made_admits(alloc, Made::Rest, whole, taken, version) == Some(true));
+    assert!(rt; text_admits(alloc, whole, version) == Some(false));
+    assert!(rt; text_admits(alloc, taken, version) == Some(false));
 }

@@ -1,38 +1,31 @@
-use crate::checks::{is_text, parts};
+use crate::checks::is_print;
+use crate::pairs::range;
+use crate::questions::{Question, each};
 use node_semver::{Identifier, Range, Version};
 use semver_cuts::Stepped;
-use std::alloc::{AllocError, AllocGlobal, Global};
-use std::process::Abort;
-use std::test::Fail;
+use std::alloc::{AllocError, Global};
 
 // The print of the least version, which has to satisfy the range.
-fn told(alloc: Global, range: &Range, least: &Option<Version>) -> Result<String, AllocError> {
+fn told(alloc: Global, range: &Range, least: &Option<Version>) -> Option<String> {
     match least {
-        Some(version) if range.satisfies(version) => version.to_string(alloc),
-        Some(_) => String::from_str(alloc, "a version that is turned away"),
-        None => String::from_str(alloc, "None"),
+        Some(version) if range.satisfies(version) => version.to_string(alloc).ok(),
+        Some(_) => None,
+        None => String::from_str(alloc, "None").ok(),
     }
 }
 
-fn least_print(alloc: Global, range: &Range) -> Result<String, AllocError> {
-    let least = range.min_version(alloc)?;
+fn least_print(alloc: Global, range: &Range) -> Option<String> {
+    let least = range.min_version(alloc).ok()?;
     told(alloc, range, &least)
 }
 
-pub(crate) fn least_of(alloc: Global, text: &str) -> Result<String, Fail> {
-    let range = Range::parse(alloc, text)?;
-    Ok(least_print(alloc, &range)?)
-}
-
-fn row_is_least(rt: &(impl Abort + AllocGlobal), row: &str) -> Result<(), Fail> {
-    let (text, wanted) = parts(row)?;
-    let least = least_of(rt.alloc(), text)?;
-    is_text(rt, &least, wanted);
-    Ok(())
+pub(crate) fn least_of(alloc: Global, text: &str) -> Option<String> {
+    let range = range(alloc, text)?;
+    least_print(alloc, &range)
 }
 
 // The least version that a range admits.
-const LEAST: [&str; 39] = [
+const LEAST: [&str; 40] = [
     // One set.
     "1.1 - 1.8.0; 1.1.0",
     "^2.16.2 ^2.16; 2.16.2",
@@ -53,6 +46,7 @@ const LEAST: [&str; 39] = [
     ">1.0.0 <1.0.1-0; None",
     ">1.0.0 <=1.0.1-0; 1.0.1-0",
     ">1.0.0 <1.0.2-beta; 1.0.1",
+    "any; 0.0.0",
     // Several sets.
     ">=2 || *; 0.0.0",
     ">=4 || <=2; 0.0.0",
@@ -78,69 +72,59 @@ const LEAST: [&str; 39] = [
 ];
 
 #[test]
-fn the_least_version_of_a_range(rt: HostRuntime) -> Result<(), Fail> {
-    for row in &LEAST {
-        row_is_least(&rt, row)?;
-    }
-    Ok(())
-}
-
-fn least_of_any(alloc: Global) -> Result<String, Fail> {
-    let range = Range::any(alloc)?;
-    Ok(least_print(alloc, &range)?)
-}
-
-#[test]
-fn the_least_version_of_any_range(rt: HostRuntime) -> Result<(), Fail> {
-    is_text(&rt, &least_of_any(rt.alloc())?, "0.0.0");
-    Ok(())
+fn the_least_version_of_a_range(rt: HostRuntime) {
+    each(&rt, Question::Least, &LEAST);
 }
 
 // The value that is next after one in hand.
-pub(crate) fn next_after<T: Stepped>(alloc: Global, value: &T) -> Result<Option<T>, AllocError> {
+fn next_after<T: Stepped>(alloc: Global, value: &T) -> Result<Option<T>, AllocError> {
     value.known();
     value.next(alloc)
 }
 
-fn next_print(alloc: Global, text: &str) -> Result<String, Fail> {
-    let version = Version::parse(alloc, text)?;
-    let next = next_after(alloc, &version)?.ok_or("no version is next")?;
-    Ok(next.to_string(alloc)?)
+// The print of the version that is next.
+pub(crate) fn next_of(alloc: Global, version: &Version) -> Option<String> {
+    let next = next_after(alloc, version).ok()??;
+    next.to_string(alloc).ok()
 }
 
-fn least_version(alloc: Global) -> Result<String, AllocError> {
-    let least = Version::least(alloc)?;
-    least.to_string(alloc)
+pub(crate) fn next_print(alloc: Global, text: &str) -> Option<String> {
+    let version = Version::parse(alloc, text).ok()?;
+    next_of(alloc, &version)
 }
+
+fn least_version(alloc: Global) -> Option<String> {
+    let least = Version::least(alloc).ok()?;
+    least.to_string(alloc).ok()
+}
+
+// A version, and the one that is next.
+const NEXT: [&str; 3] = [
+    "1.2.3; 1.2.4-0",
+    "1.2.3+b; 1.2.4-0",
+    "1.2.3-rc.1+b; 1.2.3-rc.1.0",
+];
 
 #[test]
-fn steps_from_version_to_version(rt: HostRuntime) -> Result<(), Fail> {
-    is_text(&rt, &least_version(rt.alloc())?, "0.0.0-0");
-    is_text(&rt, &next_print(rt.alloc(), "1.2.3")?, "1.2.4-0");
-    is_text(&rt, &next_print(rt.alloc(), "1.2.3+b")?, "1.2.4-0");
-    is_text(
-        &rt,
-        &next_print(rt.alloc(), "1.2.3-rc.1+b")?,
-        "1.2.3-rc.1.0",
-    );
-    Ok(())
+fn steps_from_version_to_version(rt: HostRuntime) {
+    assert!(rt; is_print(least_version(rt.alloc()), "0.0.0-0"));
+    each(&rt, Question::Next, &NEXT);
 }
 
 // Whether a version has a next one: `1.2.0` with the greatest patch, and with an identifier more.
-fn last_has_next(alloc: Global) -> Result<bool, AllocError> {
+fn last_has_next(alloc: Global) -> Option<bool> {
     let last = Version::new(alloc, 1, 2, u64::MAX);
-    Ok(next_after(alloc, &last)?.is_some())
+    Some(next_after(alloc, &last).ok()?.is_some())
 }
 
-fn last_prerelease_has_next(alloc: Global) -> Result<bool, AllocError> {
+fn last_prerelease_has_next(alloc: Global) -> Option<bool> {
     let mut last = Version::new(alloc, 1, 2, u64::MAX);
-    last.pre_release.push(Identifier::Numeric(u64::MAX))?;
-    Ok(next_after(alloc, &last)?.is_some())
+    last.pre_release.push(Identifier::Numeric(u64::MAX)).ok()?;
+    Some(next_after(alloc, &last).ok()?.is_some())
 }
 
 #[test]
-fn the_last_patch_has_no_next(rt: HostRuntime) -> Result<(), Fail> {
-    assert!(rt; !last_has_next(rt.alloc())?);
-    assert!(rt; last_prerelease_has_next(rt.alloc())?);
-    Ok(())
+fn the_last_patch_has_no_next(rt: HostRuntime) {
+    assert!(rt; last_has_next(rt.alloc()) == Some(false));
+    assert!(rt; last_prerelease_has_next(rt.alloc()) == Some(true));
 }

@@ -14,6 +14,12 @@ mod large;
 #[cfg(test)]
 mod least;
 #[cfg(test)]
+mod pairs;
+#[cfg(test)]
+mod questions;
+#[cfg(test)]
 mod range_equality;
+#[cfg(test)]
+mod spread;
 #[cfg(test)]
 mod trees;

@@ -1,45 +1,40 @@
-use crate::checks::{is_text, parts, print_of};
+use crate::checks::{is_print, print_of};
+use crate::pairs::Made;
+use crate::questions::{Question, each};
 use node_semver::SetTree;
-use std::alloc::{AllocError, AllocGlobal, Global};
-use std::process::Abort;
-use std::test::Fail;
+use std::alloc::Global;
 
 // The print of the tree's range.
-pub(crate) fn tree_print(alloc: Global, tree: &SetTree) -> Result<String, AllocError> {
-    let answer = tree.evaluate(alloc)?;
-    print_of(alloc, &answer)
+fn tree_print(alloc: Global, tree: Option<SetTree>) -> Option<String> {
+    let tree = tree?;
+    print_of(alloc, tree.evaluate(alloc).ok()?)
 }
 
-pub(crate) fn text(alloc: Global, text: &str) -> Result<SetTree, AllocError> {
-    Ok(SetTree::Text(String::from_str(alloc, text)?))
+fn text(alloc: Global, text: &str) -> Option<SetTree> {
+    Some(SetTree::Text(String::from_str(alloc, text).ok()?))
 }
 
-fn both(alloc: Global, one: SetTree, other: SetTree) -> Result<SetTree, AllocError> {
-    Ok(SetTree::Both(Box::new(alloc, one)?, Box::new(alloc, other)?))
+// The tree of what two trees have in common, or of what the first has and the second has not.
+fn joined(
+    alloc: Global,
+    made: Made,
+    one: Option<SetTree>,
+    other: Option<SetTree>,
+) -> Option<SetTree> {
+    let one = Box::new(alloc, one?).ok()?;
+    let other = Box::new(alloc, other?).ok()?;
+    match made {
+        Made::Common => Some(SetTree::Both(one, other)),
+        Made::Rest => Some(SetTree::Without(one, other)),
+    }
 }
 
-fn without(alloc: Global, one: SetTree, other: SetTree) -> Result<SetTree, AllocError> {
-    Ok(SetTree::Without(Box::new(alloc, one)?, Box::new(alloc, other)?))
+fn joined_texts(alloc: Global, made: Made, one: &str, other: &str) -> Option<SetTree> {
+    joined(alloc, made, text(alloc, one), text(alloc, other))
 }
 
-fn both_texts(alloc: Global, one: &str, other: &str) -> Result<SetTree, AllocError> {
-    let one = text(alloc, one)?;
-    both(alloc, one, text(alloc, other)?)
-}
-
-fn without_text(alloc: Global, one: &str, other: &str) -> Result<SetTree, AllocError> {
-    let one = text(alloc, one)?;
-    without(alloc, one, text(alloc, other)?)
-}
-
-pub(crate) fn both_print(alloc: Global, one: &str, other: &str) -> Result<String, AllocError> {
-    let tree = both_texts(alloc, one, other)?;
-    tree_print(alloc, &tree)
-}
-
-pub(crate) fn without_print(alloc: Global, one: &str, other: &str) -> Result<String, AllocError> {
-    let tree = without_text(alloc, one, other)?;
-    tree_print(alloc, &tree)
+pub(crate) fn leaf_print(alloc: Global, leaf: &str) -> Option<String> {
+    tree_print(alloc, text(alloc, leaf))
 }
 
 // Two texts, what they have in common, and what the first has and the second has not.
@@ -51,42 +46,38 @@ const PAIRS: [&str; 5] = [
     "1 || 3; >=1.5; >=1.5.0 <2.0.0-0||>=3.0.0 <4.0.0-0; >=1.0.0 <1.5.0",
 ];
 
-fn row_joins(rt: &(impl Abort + AllocGlobal), row: &str) -> Result<(), Fail> {
-    let (one, row) = parts(row)?;
-    let (other, wanted) = parts(row)?;
-    let (common, rest) = parts(wanted)?;
-    is_text(rt, &both_print(rt.alloc(), one, other)?, common);
-    is_text(rt, &without_print(rt.alloc(), one, other)?, rest);
-    Ok(())
-}
-
-#[test]
-fn joins_two_texts(rt: HostRuntime) -> Result<(), Fail> {
-    for row in &PAIRS {
-        row_joins(&rt, row)?;
-    }
-    Ok(())
+pub(crate) fn joins(alloc: Global, row: &str) -> Option<bool> {
+    let (one, row) = row.split_once("; ")?;
+    let (other, wanted) = row.split_once("; ")?;
+    let (common, rest) = wanted.split_once("; ")?;
+    Some(
+        is_print(
+            tree_print(alloc, joined_texts(alloc, Made::Common, one, other)),
+            common,
+        ) && is_print(
+            tree_print(alloc, joined_texts(alloc, Made::Rest, one, other)),
+            rest,
+        ),
+    )
 }
 
 // What two texts have in common, without a third.
-fn both_without(alloc: Global, one: &str, other: &str, taken: &str) -> Result<String, AllocError> {
-    let tree = both_texts(alloc, one, other)?;
-    let tree = without(alloc, tree, text(alloc, taken)?)?;
-    tree_print(alloc, &tree)
+fn common_rest(alloc: Global, one: &str, other: &str, taken: &str) -> Option<String> {
+    let common = joined_texts(alloc, Made::Common, one, other);
+    tree_print(alloc, joined(alloc, Made::Rest, common, text(alloc, taken)))
 }
 
 // What a text has without another, and a third one too.
-fn without_both(alloc: Global, one: &str, taken: &str, other: &str) -> Result<String, AllocError> {
-    let tree = without_text(alloc, one, taken)?;
-    let tree = both(alloc, tree, text(alloc, other)?)?;
-    tree_print(alloc, &tree)
+fn rest_common(alloc: Global, one: &str, taken: &str, other: &str) -> Option<String> {
+    let rest = joined_texts(alloc, Made::Rest, one, taken);
+    tree_print(alloc, joined(alloc, Made::Common, rest, text(alloc, other)))
 }
 
 #[test]
-fn joins_trees(rt: HostRuntime) -> Result<(), Fail> {
-    let print = both_without(rt.alloc(), ">=1", "<3", "2")?;
-    is_text(&rt, &print, ">=1.0.0 <2.0.0||>=3.0.0-0 <3.0.0");
-    let print = without_both(rt.alloc(), ">=1", "2", "2 || 3")?;
-    is_text(&rt, &print, ">=3.0.0 <4.0.0-0");
-    Ok(())
+fn joins_texts_and_trees(rt: HostRuntime) {
+    each(&rt, Question::Joins, &PAIRS);
+    let print = common_rest(rt.alloc(), ">=1", "<3", "2");
+    assert!(rt; is_print(print, ">=1.0.0 <2.0.0||>=3.0.0-0 <3.0.0"));
+    let print = rest_common(rt.alloc(), ">=1", "2", "2 || 3");
+    assert!(rt; is_print(print, ">=3.0.0 <4.0.0-0"));
 }

@@ -1,27 +1,31 @@
-use crate::checks::{int_fault, is_text, limits, long, parts};
+use crate::checks::is_print;
+use crate::questions::{Question, each};
 use node_semver::{Range, SemverError, SemverErrorKind, Version};
-use std::alloc::{AllocError, AllocGlobal, Global};
-use std::process::Abort;
-use std::test::Fail;
+use std::alloc::Global;
 
-// A kind by its name and what it holds.
-fn kind(name: &'static str) -> Result<SemverErrorKind, Fail> {
+// A kind by its name and what it holds: of digits that make no `u64`, what std's `parse` says of them.
+pub(crate) fn kind(name: &str) -> Option<SemverErrorKind> {
     match name.split_once(' ') {
-        Some(("ParseIntError", digits)) => Ok(SemverErrorKind::ParseIntError(int_fault(digits)?)),
-        Some(("MaxIntError", number)) => Ok(SemverErrorKind::MaxIntError(number.parse::<u64>()?)),
-        Some(("Context", word)) => Ok(SemverErrorKind::Context(word)),
+        Some(("ParseIntError", digits)) => Some(SemverErrorKind::ParseIntError(
+            digits.parse::<u64>().err()?,
+        )),
+        Some(("MaxIntError", number)) => {
+            Some(SemverErrorKind::MaxIntError(number.parse::<u64>().ok()?))
+        }
+        Some(("Context", "version")) => Some(SemverErrorKind::Context("version")),
+        Some(("Context", "range")) => Some(SemverErrorKind::Context("range")),
         _ => plain_kind(name),
     }
 }
 
-fn plain_kind(name: &str) -> Result<SemverErrorKind, Fail> {
+fn plain_kind(name: &str) -> Option<SemverErrorKind> {
     match name {
-        "MaxLengthError" => Ok(SemverErrorKind::MaxLengthError),
-        "IncompleteInput" => Ok(SemverErrorKind::IncompleteInput),
-        "NoValidRanges" => Ok(SemverErrorKind::NoValidRanges),
-        "Other" => Ok(SemverErrorKind::Other),
-        "OutOfMemory" => Ok(SemverErrorKind::OutOfMemory),
-        _ => Err(Fail::new("no such kind")),
+        "MaxLengthError" => Some(SemverErrorKind::MaxLengthError),
+        "IncompleteInput" => Some(SemverErrorKind::IncompleteInput),
+        "NoValidRanges" => Some(SemverErrorKind::NoValidRanges),
+        "Other" => Some(SemverErrorKind::Other),
+        "OutOfMemory" => Some(SemverErrorKind::OutOfMemory),
+        _ => None,
     }
 }
 
@@ -41,28 +45,12 @@ const KINDS: [&str; 9] = [
     "OutOfMemory; Out of memory.",
 ];
 
-fn kind_print(alloc: Global, name: &'static str) -> Result<String, Fail> {
-    let kind = kind(name)?;
-    Ok(kind.to_string(alloc)?)
+pub(crate) fn kind_print(alloc: Global, name: &str) -> Option<String> {
+    kind(name)?.to_string(alloc).ok()
 }
 
-fn kind_prints(rt: &(impl Abort + AllocGlobal), row: &'static str) -> Result<(), Fail> {
-    let (name, text) = parts(row)?;
-    let print = kind_print(rt.alloc(), name)?;
-    is_text(rt, &print, text);
-    Ok(())
-}
-
-#[test]
-fn each_kind_has_its_text(rt: HostRuntime) -> Result<(), Fail> {
-    for row in &KINDS {
-        kind_prints(&rt, row)?;
-    }
-    Ok(())
-}
-
-// Kinds of which no two are equal.
-const DIFFERENT: [&str; 9] = [
+// Of these no two are equal but the first and the last: what is told of too many digits does not name them.
+const DIFFERENT: [&str; 10] = [
     "ParseIntError 18446744073709551616",
     "ParseIntError ",
     "MaxIntError 7",
@@ -72,46 +60,37 @@ const DIFFERENT: [&str; 9] = [
     "Other",
     "NoValidRanges",
     "OutOfMemory",
+    "ParseIntError 99999999999999999999",
 ];
 
 // Whether two kinds are equal, and nothing where a kind is not equal to its copy or both ways do not agree.
-fn kinds_equal(name: &'static str, other: &'static str) -> Result<Option<bool>, Fail> {
+fn kinds_equal(name: &str, other: &str) -> Option<bool> {
     let kind = self::kind(name)?;
     let other = self::kind(other)?;
-    let copy = kind.clone()?;
+    let copy = kind.clone().ok()?;
     let equal = kind == other;
-    Ok(if copy == kind && (other == kind) == equal {
+    if copy == kind && (other == kind) == equal {
         Some(equal)
     } else {
         None
-    })
+    }
 }
 
-fn are_equal_kinds(
-    rt: &impl Abort,
-    name: &'static str,
-    other: &'static str,
-    wanted: bool,
-) -> Result<(), Fail> {
-    let equal = kinds_equal(name, other)?;
-    assert!(rt; equal == Some(wanted), "{name} and {other}");
-    Ok(())
-}
-
-// What is told of too many digits does not name them.
 #[test]
-fn equal_kinds_hold_equal_values(rt: HostRuntime) -> Result<(), Fail> {
+fn equal_kinds_hold_equal_values(rt: HostRuntime) {
     for (i, name) in DIFFERENT.iter().enumerate() {
         for (j, other) in DIFFERENT.iter().enumerate() {
-            are_equal_kinds(&rt, name, other, i == j)?;
+            let wanted = i % 9 == j % 9;
+            assert!(rt;
+                kinds_equal(name, other) == Some(wanted),
+                "{name} and {other}"
+            );
         }
-        are_equal_kinds(&rt, name, "ParseIntError 99999999999999999999", i == 0)?;
     }
-    Ok(())
 }
 
 // The error of a text that is refused, by the call that refuses it.
-fn error_of(alloc: Global, call: &str, text: &str) -> Option<SemverError> {
+pub(crate) fn error_of(alloc: Global, call: &str, text: &str) -> Option<SemverError> {
     if call == "version" {
         Version::parse(alloc, text).err()
     } else {
@@ -119,9 +98,15 @@ fn error_of(alloc: Global, call: &str, text: &str) -> Option<SemverError> {
     }
 }
 
-fn error_print(alloc: Global, call: &str, text: &str) -> Result<String, Fail> {
-    let error = error_of(alloc, call, text).ok_or("it was read")?;
-    Ok(error.to_string(alloc)?)
+fn error_print(alloc: Global, call: &str, text: &str) -> Option<String> {
+    let error = error_of(alloc, call, text)?;
+    error.to_string(alloc).ok()
+}
+
+pub(crate) fn error_prints(alloc: Global, row: &str) -> Option<bool> {
+    let (call, rest) = row.split_once("; ")?;
+    let (text, wanted) = rest.split_once("; ")?;
+    Some(is_print(error_print(alloc, call, text), wanted))
 }
 
 // A call, a text that it refuses, and what the error prints. `$` is one more than the greatest number of a text.
@@ -138,26 +123,10 @@ const REFUSALS: [&str; 7] = [
     "range; foo; No valid ranges could be parsed",
 ];
 
-fn refusal_prints(rt: &(impl Abort + AllocGlobal), row: &str) -> Result<(), Fail> {
-    let (call, rest) = parts(row)?;
-    let (text, wanted) = parts(rest)?;
-    let print = error_print(rt.alloc(), call, text)?;
-    is_text(rt, &print, wanted);
-    Ok(())
-}
-
-fn row_prints(rt: &(impl Abort + AllocGlobal), row: &str) -> Result<(), Fail> {
-    let row = limits(rt.alloc(), row)?;
-    let row = long(rt.alloc(), &row)?;
-    refusal_prints(rt, &row)
-}
-
 #[test]
-fn each_refusal_has_the_text_of_its_kind(rt: HostRuntime) -> Result<(), Fail> {
-    for row in &REFUSALS {
-        row_prints(&rt, row)?;
-    }
-    Ok(())
+fn each_kind_and_each_refusal_has_its_text(rt: HostRuntime) {
+    each(&rt, Question::KindPrint, &KINDS);
+    each(&rt, Question::ErrorPrint, &REFUSALS);
 }
 
 // Each error differs from the others in its text, its place or its kind.
@@ -197,40 +166,25 @@ fn errors_equal(alloc: Global, row: &str, other: &str) -> Option<bool> {
     agreed(&error, &other)
 }
 
-fn copy_equals(error: &SemverError) -> Result<Option<bool>, AllocError> {
-    let copy = error.clone()?;
-    Ok(agreed(error, &copy))
-}
-
-fn row_copies(rt: &(impl Abort + AllocGlobal), row: &str) -> Result<(), Fail> {
-    let error = row_error(rt.alloc(), row).ok_or("it was read")?;
-    assert!(rt; copy_equals(&error)? == Some(true), "{row}");
-    Ok(())
-}
-
-fn are_equal_errors(rt: &(impl Abort + AllocGlobal), row: &str, other: &str, wanted: bool) {
-    let equal = errors_equal(rt.alloc(), row, other);
-    assert!(rt; equal == Some(wanted), "{row} and {other}");
-}
-
-#[test]
-fn equal_errors_have_one_text_one_place_and_one_kind(rt: HostRuntime) -> Result<(), Fail> {
-    for (i, row) in REFUSED.iter().enumerate() {
-        for (j, other) in REFUSED.iter().enumerate() {
-            are_equal_errors(&rt, row, other, i == j);
-        }
-        row_copies(&rt, row)?;
-    }
-    Ok(())
+pub(crate) fn copies_error(alloc: Global, row: &str) -> Option<bool> {
+    let error = row_error(alloc, row)?;
+    let copy = error.clone().ok()?;
+    agreed(&error, &copy)
 }
 
 // A copy of an error holds the whole text, however long it is.
-fn long_copies(rt: &(impl Abort + AllocGlobal), row: &str) -> Result<(), Fail> {
-    let row = long(rt.alloc(), row)?;
-    row_copies(rt, &row)
-}
+const LONG: [&str; 1] = ["version; 1.2.3-{1000*\u{161}abc}"];
 
 #[test]
-fn copies_an_error_with_a_long_text(rt: HostRuntime) -> Result<(), Fail> {
-    long_copies(&rt, "version; 1.2.3-{1000*\u{161}abc}")
+fn equal_errors_have_one_text_one_place_and_one_kind(rt: HostRuntime) {
+    for (i, row) in REFUSED.iter().enumerate() {
+        for (j, other) in REFUSED.iter().enumerate() {
+            assert!(rt;
+                errors_equal(rt.alloc(), row, other) == Some(i == j),
+                "{row} and {other}"
+            );
+        }
+    }
+    each(&rt, Question::CopiesError, &REFUSED);
+    each(&rt, Question::CopiesError, &LONG);
 }

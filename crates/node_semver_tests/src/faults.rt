@@ -1,51 +1,8 @@
-use crate::checks::{holds, int_fault, is_text, long, parts};
-use node_semver::{SemverError, SemverErrorKind, Version};
-use std::alloc::{AllocError, AllocGlobal, Global};
-use std::process::Abort;
-use std::test::Fail;
-
-// What an error tells: its kind, its byte offset, its line and its column.
-fn told(alloc: Global, error: &SemverError) -> Result<String, AllocError> {
-    let (kind, offset) = (error.kind(), error.offset());
-    let (line, column) = error.location();
-    format!(in alloc; "{kind:?} at {offset} ({line}, {column})")
-}
-
-// The same of an error of this text, with a span to match.
-pub(crate) fn told_of(
-    alloc: Global,
-    error: &SemverError,
-    text: &str,
-) -> Result<String, AllocError> {
-    if holds(error, text) {
-        told(alloc, error)
-    } else {
-        String::from_str(alloc, "an error of another text")
-    }
-}
-
-fn fault(alloc: Global, text: &str) -> Result<String, AllocError> {
-    match Version::parse(alloc, text) {
-        Ok(_) => String::from_str(alloc, "a version"),
-        Err(error) => told_of(alloc, &error, text),
-    }
-}
-
-// The text is no version, and its error tells this kind and this place.
-pub(crate) fn is_fault(
-    rt: &(impl Abort + AllocGlobal),
-    text: &str,
-    wanted: &str,
-) -> Result<(), Fail> {
-    let found = fault(rt.alloc(), text)?;
-    is_text(rt, &found, wanted);
-    Ok(())
-}
-
-pub(crate) fn row_is_fault(rt: &(impl Abort + AllocGlobal), row: &str) -> Result<(), Fail> {
-    let (text, wanted) = parts(row)?;
-    is_fault(rt, text, wanted)
-}
+use crate::checks::holds;
+use crate::errors::kind;
+use crate::questions::{Question, each};
+use node_semver::{SemverError, Version};
+use std::alloc::Global;
 
 // What is wrong with a version text: its kind, its byte offset, and its line and column.
 const FAULTS: [&str; 18] = [
@@ -71,14 +28,6 @@ const FAULTS: [&str; 18] = [
     "1.2.3-a_b; Other at 7 (0, 7)",
 ];
 
-#[test]
-fn refuses_versions_at_the_first_fault(rt: HostRuntime) -> Result<(), Fail> {
-    for row in &FAULTS {
-        row_is_fault(&rt, row)?;
-    }
-    Ok(())
-}
-
 // At most 256 bytes, whatever is written in them. A character may reach over the last byte.
 const LONG: [&str; 8] = [
     "a\n{298*b}; MaxLengthError at 299 (1, 297)",
@@ -91,35 +40,27 @@ const LONG: [&str; 8] = [
     "1.2.3-{1000*\u{161}abc}; MaxLengthError at 5005 (0, 5005)",
 ];
 
-fn long_is_fault(rt: &(impl Abort + AllocGlobal), row: &str) -> Result<(), Fail> {
-    let (text, wanted) = parts(row)?;
-    let text = long(rt.alloc(), text)?;
-    is_fault(rt, &text, wanted)
+fn is_kind(error: &SemverError, name: &str) -> Option<bool> {
+    let kind = kind(name)?;
+    Some(error.kind() == &kind)
+}
+
+// The error of this text has this kind, at the start of the text.
+fn begins_with_fault(alloc: Global, text: &str, name: &str) -> Option<bool> {
+    let error = Version::parse(alloc, text).err()?;
+    let (line, column) = error.location();
+    let is_at_the_start = error.offset() == 0 && line == 0 && column == 0;
+    Some(is_kind(&error, name) == Some(true) && holds(&error, text) && is_at_the_start)
 }
 
 #[test]
-fn refuses_long_versions(rt: HostRuntime) -> Result<(), Fail> {
-    for row in &LONG {
-        long_is_fault(&rt, row)?;
-    }
-    Ok(())
-}
-
-// A number above 64 bits, whose kind holds what std tells of it.
-fn is_too_large_for_64_bits(alloc: Global, text: &str, digits: &str) -> Result<bool, Fail> {
-    let error = Version::parse(alloc, text).err().ok_or("it was read")?;
-    let kind = SemverErrorKind::ParseIntError(int_fault(digits)?);
-    Ok(
-        error.kind() == &kind
-            && holds(&error, text)
-            && error.offset() == 0
-            && error.location() == (0, 0),
-    )
-}
-
-#[test]
-fn refuses_numbers_above_64_bits(rt: HostRuntime) -> Result<(), Fail> {
-    let digits = "18446744073709551616";
-    assert!(rt; is_too_large_for_64_bits(rt.alloc(), "18446744073709551616.0.0", digits)?);
-    Ok(())
+fn refuses_versions_at_the_first_fault(rt: HostRuntime) {
+    each(&rt, Question::VersionPrint, &FAULTS);
+    each(&rt, Question::VersionPrint, &LONG);
+    // A number above 64 bits, whose kind holds what std tells of it.
+    let (text, kind) = (
+        "18446744073709551616.0.0",
+        "ParseIntError 18446744073709551616",
+    );
+    assert!(rt; begins_with_fault(rt.alloc(), text, kind) == Some(true));
 }

@@ -2,6 +2,8 @@
 #![tactic(auto)]
 
 #[cfg(test)]
+mod admitted;
+#[cfg(test)]
 mod alternatives;
 #[cfg(test)]
 mod bytes;
@@ -30,6 +32,8 @@ mod prerelease_tags;
 #[cfg(test)]
 mod prints;
 #[cfg(test)]
+mod questions;
+#[cfg(test)]
 mod range_prints;
 #[cfg(test)]
 mod readme;
@@ -38,7 +42,11 @@ mod refusals;
 #[cfg(test)]
 mod search;
 #[cfg(test)]
+mod spread;
+#[cfg(test)]
 mod tildes;
+#[cfg(test)]
+mod told;
 #[cfg(test)]
 mod versions;
 #[cfg(test)]

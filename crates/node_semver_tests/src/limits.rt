@@ -1,9 +1,7 @@
-use crate::checks::{answer, is_text, limits, parts, refuses, row_admits, row_prints};
-use crate::faults::row_is_fault;
+use crate::checks::range_answer;
+use crate::questions::{Question, each};
 use node_semver::{MAX_LENGTH, MAX_SAFE_INTEGER, Range, Version};
-use std::alloc::{AllocGlobal, Global};
-use std::process::Abort;
-use std::test::Fail;
+use std::alloc::Global;
 
 // In these rows `#` stands for the greatest number of a text, `@` for one less and `$` for one more.
 
@@ -57,18 +55,21 @@ const THROWN_AWAY: [&str; 4] = [
     ">=#.0.0 <$.0.0-0; #.0.0; @.0.0",
 ];
 
-// Ends of one more, and versions beyond every text.
-const BEYOND: [&str; 10] = [
-    ">#; $ 0 0; yes",
-    ">#; # 9 9; no",
-    ">0.#; 0 $ 0; yes",
-    ">0.#; 0 # 9; no",
-    "^#; $ 0 0; no",
-    "^#; # 18446744073709551615 0; yes",
-    "~0.#; 0 $ 0; no",
-    "^0.0.#; 0 0 $; no",
-    ">=1.0.0; 18446744073709551615 18446744073709551615 18446744073709551615; yes",
-    "<1; 18446744073709551615 18446744073709551615 18446744073709551615; no",
+const BEYOND_TEXTS: u64 = MAX_SAFE_INTEGER + 1;
+
+// Ends of one more, and versions beyond every text: a range text, three numbers, and whether the version of these
+// satisfies the range.
+const BEYOND: [(&str, [u64; 3], bool); 10] = [
+    (">#", [BEYOND_TEXTS, 0, 0], true),
+    (">#", [MAX_SAFE_INTEGER, 9, 9], false),
+    (">0.#", [0, BEYOND_TEXTS, 0], true),
+    (">0.#", [0, MAX_SAFE_INTEGER, 9], false),
+    ("^#", [BEYOND_TEXTS, 0, 0], false),
+    ("^#", [MAX_SAFE_INTEGER, u64::MAX, 0], true),
+    ("~0.#", [0, BEYOND_TEXTS, 0], false),
+    ("^0.0.#", [0, 0, BEYOND_TEXTS], false),
+    (">=1.0.0", [u64::MAX, u64::MAX, u64::MAX], true),
+    ("<1", [u64::MAX, u64::MAX, u64::MAX], false),
 ];
 
 // Prints of ends of one more, and of numbers with a digit less.
@@ -95,96 +96,38 @@ const FAULTS: [&str; 5] = [
     "900719925474100.a; Context(\"version\") at 16 (0, 16)",
 ];
 
-fn limit_admits(rt: &(impl Abort + AllocGlobal), row: &str) -> Result<(), Fail> {
-    let row = limits(rt.alloc(), row)?;
-    row_admits(rt, &row)
+// The least version beyond the greatest number.
+const LEAST: [&str; 1] = [">#; $.0.0"];
+
+#[test]
+fn greatest_numbers(rt: HostRuntime) {
+    each(&rt, Question::Admits, &GREATEST);
+    each(&rt, Question::Admits, &THROWN_AWAY);
+    each(&rt, Question::IsRefused, &TOO_LARGE);
+    each(&rt, Question::IsRefused, &BOTH_READ);
+    each(&rt, Question::VersionPrint, &FAULTS);
+    each(&rt, Question::RangePrint, &PRINTS);
+    each(&rt, Question::LeastPrint, &LEAST);
+}
+
+fn beyond_answer(alloc: Global, text: &str, numbers: [u64; 3]) -> Option<bool> {
+    let [major, minor, patch] = numbers;
+    let version = Version::new(alloc, major, minor, patch);
+    range_answer(alloc, text, &version)
 }
 
 #[test]
-fn greatest_numbers(rt: HostRuntime) -> Result<(), Fail> {
-    for row in &GREATEST {
-        limit_admits(&rt, row)?;
+fn ends_beyond_the_greatest_number(rt: HostRuntime) {
+    for (text, numbers, wanted) in &BEYOND {
+        assert!(rt;
+            beyond_answer(rt.alloc(), text, *numbers) == Some(*wanted),
+            "{text}"
+        );
     }
-    for row in &THROWN_AWAY {
-        limit_admits(&rt, row)?;
-    }
-    Ok(())
 }
 
-fn limit_is_refused(rt: &(impl Abort + AllocGlobal), row: &str) -> Result<(), Fail> {
-    let text = limits(rt.alloc(), row)?;
-    refuses(rt, &text);
-    Ok(())
-}
-
-fn limit_is_fault(rt: &(impl Abort + AllocGlobal), row: &str) -> Result<(), Fail> {
-    let row = limits(rt.alloc(), row)?;
-    row_is_fault(rt, &row)
-}
-
-#[test]
-fn numbers_that_are_too_large(rt: HostRuntime) -> Result<(), Fail> {
-    for row in &TOO_LARGE {
-        limit_is_refused(&rt, row)?;
-    }
-    for row in &BOTH_READ {
-        limit_is_refused(&rt, row)?;
-    }
-    for row in &FAULTS {
-        limit_is_fault(&rt, row)?;
-    }
-    Ok(())
-}
-
-// The version of three numbers, which may be greater than those of any text.
-fn beyond(alloc: Global, numbers: &str) -> Result<Version, Fail> {
-    let (major, rest) = numbers.split_once(' ').ok_or("no minor")?;
-    let (minor, patch) = rest.split_once(' ').ok_or("no patch")?;
-    let (major, minor) = (major.parse::<u64>()?, minor.parse::<u64>()?);
-    Ok(Version::new(alloc, major, minor, patch.parse::<u64>()?))
-}
-
-fn beyond_answer(alloc: Global, text: &str, numbers: &str) -> Result<Option<bool>, Fail> {
-    let version = beyond(alloc, numbers)?;
-    let range = Range::parse(alloc, text)?;
-    Ok(answer(&range, &version))
-}
-
-fn beyond_answers(rt: &(impl Abort + AllocGlobal), row: &str) -> Result<(), Fail> {
-    let row = limits(rt.alloc(), row)?;
-    let (text, rest) = parts(&row)?;
-    let (numbers, wanted) = parts(rest)?;
-    let answer = beyond_answer(rt.alloc(), text, numbers)?;
-    assert!(rt; answer == Some(wanted == "yes"), "{text} and {numbers}");
-    Ok(())
-}
-
-fn limit_prints(rt: &(impl Abort + AllocGlobal), row: &str) -> Result<(), Fail> {
-    let row = limits(rt.alloc(), row)?;
-    row_prints(rt, &row)
-}
-
-fn least_print(alloc: Global, text: &str) -> Result<String, Fail> {
-    let range = Range::parse(alloc, text)?;
-    let least = range.min_version(alloc)?.ok_or("no version")?;
-    Ok(least.to_string(alloc)?)
-}
-
-fn limit_is_least(rt: &(impl Abort + AllocGlobal), text: &str, least: &str) -> Result<(), Fail> {
-    let text = limits(rt.alloc(), text)?;
-    let found = least_print(rt.alloc(), &text)?;
-    let wanted = limits(rt.alloc(), least)?;
-    is_text(rt, &found, &wanted);
-    Ok(())
-}
-
-#[test]
-fn ends_beyond_the_greatest_number(rt: HostRuntime) -> Result<(), Fail> {
-    for row in &BEYOND {
-        beyond_answers(&rt, row)?;
-    }
-    for row in &PRINTS {
-        limit_prints(&rt, row)?;
-    }
-    limit_is_least(&rt, ">#", "$.0.0")
+pub(crate) fn least_print(alloc: Global, text: &str) -> Option<String> {
+    let range = Range::parse(alloc, text).ok()?;
+    let least = range.min_version(alloc).ok()??;
+    least.to_string(alloc).ok()
 }

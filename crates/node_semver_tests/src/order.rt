@@ -1,10 +1,8 @@
-use crate::checks::parts;
+use crate::questions::{Question, each};
 use node_semver::Version;
-use std::alloc::{AllocGlobal, Global};
+use std::alloc::Global;
 use std::cmp::Ordering;
 use std::hash::{DefaultHasher, Hash, Hasher};
-use std::process::Abort;
-use std::test::Fail;
 
 // What `cmp` answers, where `partial_cmp`, `==` and `<` agree with it.
 fn agreed(v: &Version, w: &Version) -> Option<Ordering> {
@@ -15,21 +13,10 @@ fn agreed(v: &Version, w: &Version) -> Option<Ordering> {
     if agree { Some(ordering) } else { None }
 }
 
-fn compared(alloc: Global, text: &str, other: &str) -> Result<Option<Ordering>, Fail> {
-    let v = Version::parse(alloc, text)?;
-    let w = Version::parse(alloc, other)?;
-    Ok(agreed(&v, &w))
-}
-
-fn are_ordered(
-    rt: &(impl Abort + AllocGlobal),
-    text: &str,
-    other: &str,
-    wanted: Ordering,
-) -> Result<(), Fail> {
-    let ordering = compared(rt.alloc(), text, other)?;
-    assert!(rt; ordering == Some(wanted), "{text} and {other}");
-    Ok(())
+fn compared(alloc: Global, text: &str, other: &str) -> Option<Ordering> {
+    let v = Version::parse(alloc, text).ok()?;
+    let w = Version::parse(alloc, other).ok()?;
+    agreed(&v, &w)
 }
 
 // SemVer 2.0.0, section 11.4.
@@ -45,13 +32,15 @@ const CHAIN: [&str; 8] = [
 ];
 
 #[test]
-fn orders_the_standards_chain(rt: HostRuntime) -> Result<(), Fail> {
+fn orders_the_standards_chain(rt: HostRuntime) {
     for (i, text) in CHAIN.iter().enumerate() {
         for (j, other) in CHAIN.iter().enumerate() {
-            are_ordered(&rt, text, other, i.cmp(&j))?;
+            assert!(rt;
+                compared(rt.alloc(), text, other) == Some(i.cmp(&j)),
+                "{text} and {other}"
+            );
         }
     }
-    Ok(())
 }
 
 // Numbers come first, by size, and a number is below each text.
@@ -65,18 +54,17 @@ const BELOW: [&str; 7] = [
     "1.0.0-Beta; 1.0.0-alpha",
 ];
 
-fn is_below(rt: &(impl Abort + AllocGlobal), row: &str) -> Result<(), Fail> {
-    let (below, above) = parts(row)?;
-    are_ordered(rt, below, above, Ordering::Less)?;
-    are_ordered(rt, above, below, Ordering::Greater)
+pub(crate) fn is_below(alloc: Global, row: &str) -> Option<bool> {
+    let (below, above) = row.split_once("; ")?;
+    Some(
+        compared(alloc, below, above) == Some(Ordering::Less)
+            && compared(alloc, above, below) == Some(Ordering::Greater),
+    )
 }
 
 #[test]
-fn orders_by_the_triple_and_then_by_identifiers(rt: HostRuntime) -> Result<(), Fail> {
-    for row in &BELOW {
-        is_below(&rt, row)?;
-    }
-    Ok(())
+fn orders_by_the_triple_and_then_by_identifiers(rt: HostRuntime) {
+    each(&rt, Question::IsBelow, &BELOW);
 }
 
 fn hash_of(version: &Version) -> u64 {
@@ -86,12 +74,12 @@ fn hash_of(version: &Version) -> u64 {
 }
 
 // Whether they are equal and hash alike, and nothing where only one of both is so.
-fn are_same(alloc: Global, text: &str, other: &str) -> Result<Option<bool>, Fail> {
-    let v = Version::parse(alloc, text)?;
-    let w = Version::parse(alloc, other)?;
+fn are_same(alloc: Global, text: &str, other: &str) -> Option<bool> {
+    let v = Version::parse(alloc, text).ok()?;
+    let w = Version::parse(alloc, other).ok()?;
     let equal = agreed(&v, &w) == Some(Ordering::Equal);
     let alike = hash_of(&v) == hash_of(&w);
-    Ok(if equal == alike { Some(equal) } else { None })
+    if equal == alike { Some(equal) } else { None }
 }
 
 // SemVer 2.0.0, section 10: a version, and whether it is that of `1.0.0-rc.1+7`.
@@ -103,17 +91,12 @@ const SAME: [&str; 5] = [
     "1.0.0+7; another",
 ];
 
-fn is_same(rt: &(impl Abort + AllocGlobal), row: &str) -> Result<(), Fail> {
-    let (text, wanted) = parts(row)?;
-    let same = are_same(rt.alloc(), "1.0.0-rc.1+7", text)?;
-    assert!(rt; same == Some(wanted == "same"), "{text}");
-    Ok(())
+pub(crate) fn is_same(alloc: Global, row: &str) -> Option<bool> {
+    let (text, wanted) = row.split_once("; ")?;
+    Some(are_same(alloc, "1.0.0-rc.1+7", text)? == (wanted == "same"))
 }
 
 #[test]
-fn equality_order_and_hash_ignore_the_build(rt: HostRuntime) -> Result<(), Fail> {
-    for row in &SAME {
-        is_same(&rt, row)?;
-    }
-    Ok(())
+fn equality_order_and_hash_ignore_the_build(rt: HostRuntime) {
+    each(&rt, Question::IsSame, &SAME);
 }

@@ -1,116 +1,101 @@
-use crate::checks::is_text;
-use node_semver::{Identifier, Range, SemverErrorKind, Version};
-use std::alloc::{AllocError, AllocGlobal, Global};
+use crate::checks::is_print;
+use crate::errors::{error_of, kind};
+use crate::questions::{Question, each};
+use node_semver::{Identifier, Range, Version};
+use std::alloc::Global;
 use std::fmt::Display;
-use std::process::Abort;
-use std::test::Fail;
 
 // A width, a fill and the other form are not looked at.
-fn prints(alloc: Global, value: &impl Display) -> Result<String, AllocError> {
-    format!(in alloc; "{value}, {value:>9}, {value:*^40}, {value:>120}, {value:#}")
+fn is_one_way(alloc: Global, value: &impl Display, text: &str) -> bool {
+    is_print(format!(in alloc; "{value}").ok(), text)
+        && is_print(format!(in alloc; "{value:>9}").ok(), text)
+        && is_print(format!(in alloc; "{value:*^40}").ok(), text)
+        && is_print(format!(in alloc; "{value:>120}").ok(), text)
+        && is_print(format!(in alloc; "{value:#}").ok(), text)
 }
 
-fn prints_in_one_way(
-    rt: &(impl Abort + AllocGlobal),
-    value: &impl Display,
-    text: &str,
-) -> Result<(), Fail> {
-    let print = prints(rt.alloc(), value)?;
-    let plain = format!(in rt.alloc(); "{text}, {text}, {text}, {text}, {text}")?;
-    is_text(rt, &print, &plain);
-    Ok(())
+fn version_prints(alloc: Global, text: &str, print: &str) -> Option<bool> {
+    let version = Version::parse(alloc, text).ok()?;
+    Some(is_one_way(alloc, &version, print))
 }
 
-fn version_prints(rt: &(impl Abort + AllocGlobal), text: &str) -> Result<(), Fail> {
-    let version = Version::parse(rt.alloc(), text)?;
-    prints_in_one_way(rt, &version, text)
-}
-
-fn greatest_prints(rt: &(impl Abort + AllocGlobal)) -> Result<(), Fail> {
-    let mut version = Version::parse(rt.alloc(), "0.0.0+x.y")?;
+// With the greatest patch, which no text has.
+fn greatest_prints(alloc: Global, text: &str, print: &str) -> Option<bool> {
+    let mut version = Version::parse(alloc, text).ok()?;
     version.patch = u64::MAX;
-    prints_in_one_way(rt, &version, "0.0.18446744073709551615+x.y")
+    Some(is_one_way(alloc, &version, print))
 }
 
-// SemVer 2.0.0, section 2, 9 and 10.
-#[test]
-fn prints_versions_in_one_way(rt: HostRuntime) -> Result<(), Fail> {
-    version_prints(&rt, "1.2.34-abc.213+2")?;
-    version_prints(&rt, "1.2.3")?;
-    version_prints(&rt, "1.0.0-rc-1")?;
-    greatest_prints(&rt)
+fn word_prints(alloc: Global, text: &str, print: &str) -> Option<bool> {
+    let word = Identifier::AlphaNumeric(String::from_str(alloc, text).ok()?);
+    Some(is_one_way(alloc, &word, print))
 }
 
-fn word_prints(rt: &(impl Abort + AllocGlobal), text: &str) -> Result<(), Fail> {
-    let word = Identifier::AlphaNumeric(String::from_str(rt.alloc(), text)?);
-    prints_in_one_way(rt, &word, text)
+fn number_prints(alloc: Global, text: &str, print: &str) -> Option<bool> {
+    let number = text.parse::<u64>().ok()?;
+    Some(is_one_way(alloc, &Identifier::Numeric(number), print))
 }
 
-fn number_prints(rt: &(impl Abort + AllocGlobal), number: u64, text: &str) -> Result<(), Fail> {
-    prints_in_one_way(rt, &Identifier::Numeric(number), text)
+fn range_prints(alloc: Global, text: &str, print: &str) -> Option<bool> {
+    let range = Range::parse(alloc, text).ok()?;
+    Some(is_one_way(alloc, &range, print))
 }
 
-#[test]
-fn prints_identifiers_in_one_way(rt: HostRuntime) -> Result<(), Fail> {
-    number_prints(&rt, 1, "1")?;
-    number_prints(&rt, u64::MAX, "18446744073709551615")?;
-    word_prints(&rt, "rc")?;
-    word_prints(&rt, "")
+fn any_prints(alloc: Global, print: &str) -> Option<bool> {
+    let range = Range::any(alloc).ok()?;
+    Some(is_one_way(alloc, &range, print))
 }
 
-fn range_prints(rt: &(impl Abort + AllocGlobal), text: &str, print: &str) -> Result<(), Fail> {
-    let range = Range::parse(rt.alloc(), text)?;
-    prints_in_one_way(rt, &range, print)
-}
-
-fn any_prints(rt: &(impl Abort + AllocGlobal)) -> Result<(), Fail> {
-    let range = Range::any(rt.alloc())?;
-    prints_in_one_way(rt, &range, "*")
-}
-
-#[test]
-fn prints_ranges_in_one_way(rt: HostRuntime) -> Result<(), Fail> {
-    range_prints(&rt, "<1.0.0", "<1.0.0")?;
-    range_prints(&rt, "1||2", ">=1.0.0 <2.0.0-0||>=2.0.0 <3.0.0-0")?;
-    any_prints(&rt)
-}
-
-fn kind_prints(
-    rt: &(impl Abort + AllocGlobal),
-    kind: &SemverErrorKind,
-    print: &str,
-) -> Result<(), Fail> {
-    prints_in_one_way(rt, kind, print)
+fn kind_prints(alloc: Global, name: &str, print: &str) -> Option<bool> {
+    let kind = kind(name)?;
+    Some(is_one_way(alloc, &kind, print))
 }
 
 // An error prints as its kind.
-fn version_error_prints(
-    rt: &(impl Abort + AllocGlobal),
-    text: &str,
-    print: &str,
-) -> Result<(), Fail> {
-    let error = Version::parse(rt.alloc(), text).err().ok_or("it was read")?;
-    prints_in_one_way(rt, &error, print)?;
-    kind_prints(rt, error.kind(), print)
+fn error_prints(alloc: Global, call: &str, text: &str, print: &str) -> Option<bool> {
+    let error = error_of(alloc, call, text)?;
+    Some(is_one_way(alloc, &error, print) && is_one_way(alloc, error.kind(), print))
 }
 
-fn range_error_prints(
-    rt: &(impl Abort + AllocGlobal),
-    text: &str,
-    print: &str,
-) -> Result<(), Fail> {
-    let error = Range::parse(rt.alloc(), text).err().ok_or("it was read")?;
-    prints_in_one_way(rt, &error, print)?;
-    kind_prints(rt, error.kind(), print)
+pub(crate) fn prints_in_one_way(alloc: Global, row: &str) -> Option<bool> {
+    let (value, rest) = row.split_once("; ")?;
+    let (text, print) = rest.split_once("; ")?;
+    match value {
+        "version" => version_prints(alloc, text, print),
+        "greatest" => greatest_prints(alloc, text, print),
+        "number" => number_prints(alloc, text, print),
+        "word" => word_prints(alloc, text, print),
+        "range" => range_prints(alloc, text, print),
+        "any" => any_prints(alloc, print),
+        "version error" => error_prints(alloc, "version", text, print),
+        "range error" => error_prints(alloc, "range", text, print),
+        "kind" => kind_prints(alloc, text, print),
+        _ => None,
+    }
 }
 
-const SEVEN: &str =
-    "Integer component of semver string is larger than JavaScript's Number.MAX_SAFE_INTEGER: 7";
+// What is printed, its text, and its print.
+const PRINTS: [&str; 15] = [
+    // SemVer 2.0.0, section 2, 9 and 10.
+    "version; 1.2.34-abc.213+2; 1.2.34-abc.213+2",
+    "version; 1.2.3; 1.2.3",
+    "version; 1.0.0-rc-1; 1.0.0-rc-1",
+    "greatest; 0.0.0+x.y; 0.0.18446744073709551615+x.y",
+    "number; 1; 1",
+    "number; 18446744073709551615; 18446744073709551615",
+    "word; rc; rc",
+    "word; ; ",
+    "range; <1.0.0; <1.0.0",
+    "range; 1||2; >=1.0.0 <2.0.0-0||>=2.0.0 <3.0.0-0",
+    "any; ; *",
+    "version error; 1.2; Failed to parse version.",
+    "version error; 1.2.3 ; An unspecified error occurred.",
+    "range error; foo; No valid ranges could be parsed",
+    "kind; MaxIntError 7; \
+        Integer component of semver string is larger than JavaScript's Number.MAX_SAFE_INTEGER: 7",
+];
 
 #[test]
-fn prints_errors_in_one_way(rt: HostRuntime) -> Result<(), Fail> {
-    version_error_prints(&rt, "1.2", "Failed to parse version.")?;
-    version_error_prints(&rt, "1.2.3 ", "An unspecified error occurred.")?;
-    range_error_prints(&rt, "foo", "No valid ranges could be parsed")?;
-    kind_prints(&rt, &SemverErrorKind::MaxIntError(7), SEVEN)
+fn prints_each_value_in_one_way(rt: HostRuntime) {
+    each(&rt, Question::PrintsInOneWay, &PRINTS);
 }

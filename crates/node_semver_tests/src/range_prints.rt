@@ -1,8 +1,7 @@
-use crate::checks::{answer, each_prints_as};
-use node_semver::{Range, Version};
-use std::alloc::{AllocGlobal, Global};
-use std::process::Abort;
-use std::test::Fail;
+use crate::checks::answers_each;
+use crate::questions::{Question, each};
+use node_semver::Range;
+use std::alloc::Global;
 
 const PRINTS: [&str; 78] = [
     // The Rust crate `node-semver` 2.2.0, and npm's "Advanced Range Syntax".
@@ -90,27 +89,20 @@ const PRINTS: [&str; 78] = [
 ];
 
 #[test]
-fn prints_ranges(rt: HostRuntime) -> Result<(), Fail> {
-    each_prints_as(&rt, &PRINTS)
+fn prints_ranges(rt: HostRuntime) {
+    each(&rt, Question::RangePrint, &PRINTS);
 }
 
-fn any_answer(alloc: Global, version: &str) -> Result<Option<bool>, Fail> {
-    let range = Range::any(alloc)?;
-    let version = Version::parse(alloc, version)?;
-    Ok(answer(&range, &version))
-}
-
-fn any_answers(rt: &(impl Abort + AllocGlobal), versions: &str, wanted: bool) -> Result<(), Fail> {
-    for version in versions.split_whitespace() {
-        let answer = any_answer(rt.alloc(), version)?;
-        assert!(rt; answer == Some(wanted), "{version}");
+fn any_answers(alloc: Global, versions: &str, wanted: bool) -> bool {
+    match Range::any(alloc) {
+        Ok(range) => answers_each(alloc, &range, versions, wanted),
+        Err(_) => false,
     }
-    Ok(())
 }
 
 // No end is a version, so no triple is opened: each release, and no prerelease.
 #[test]
-fn any_range_admits_each_release(rt: HostRuntime) -> Result<(), Fail> {
-    any_answers(&rt, "0.0.0 1.0.0 1.2.3", true)?;
-    any_answers(&rt, "1.0.0-0 1.2.3-a", false)
+fn any_range_admits_each_release(rt: HostRuntime) {
+    assert!(rt; any_answers(rt.alloc(), "0.0.0 1.0.0 1.2.3", true));
+    assert!(rt; any_answers(rt.alloc(), "1.0.0-0 1.2.3-a", false));
 }

@@ -32,16 +32,19 @@ pub fn is_wanted(alloc: Global, text: &str, version: &Version) -> Result<bool, S
     Ok(range.satisfies(version))
 }
 
+fn text_is_wanted(alloc: Global, text: &str, version: &str) -> Option<bool> {
+    let version = Version::parse(alloc, version).ok()?;
+    is_wanted(alloc, text, &version).ok()
+}
+
 #[test]
-fn asks_what_a_text_admits(rt: HostRuntime) -> Result<(), Fail> {
+fn asks_what_a_text_admits(rt: HostRuntime) {
     for (text, version, wanted) in [
         ("^1.2.3-rc.4 || >=3", "1.9.0", true),
         ("^1.2.3-rc.4 || >=3", "3.0.0", true),
         ("^1.2.3-rc.4 || >=3", "1.2.4-rc.6", false),
     ] {
-        let version = Version::parse(rt.alloc(), version)?;
-        let answer = is_wanted(rt.alloc(), text, &version)?;
-        assert_eq!(rt; answer, wanted, "{text} and {version}");
+        let answer = text_is_wanted(rt.alloc(), text, version);
+        assert!(rt; answer == Some(wanted), "{text} and {version}");
     }
-    Ok(())
 }

@@ -1,5 +1,4 @@
-use crate::checks::each_refused;
-use std::test::Fail;
+use crate::questions::{Question, each};
 
 // Texts that are no range.
 const REFUSED: [&str; 105] = [
@@ -118,6 +117,6 @@ const REFUSED: [&str; 105] = [
 ];
 
 #[test]
-fn refuses_ranges(rt: HostRuntime) -> Result<(), Fail> {
-    each_refused(&rt, &REFUSED)
+fn refuses_ranges(rt: HostRuntime) {
+    each(&rt, Question::IsRefused, &REFUSED);
 }

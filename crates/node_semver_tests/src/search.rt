@@ -1,81 +1,52 @@
-use crate::checks::admits;
+use crate::questions::{Question, each};
 use node_semver::{Comparisons, Range, Version};
-use std::alloc::AllocGlobal;
-use std::process::Abort;
-use std::test::Fail;
-
-// What is answered with a count is what is answered without, of a release and of a prerelease.
-fn counts(rt: &(impl Abort + AllocGlobal), text: &str, version: &str) -> Result<(), Fail> {
-    let range = Range::parse(rt.alloc(), text)?;
-    let version = Version::parse(rt.alloc(), version)?;
-    let mut comparisons = Comparisons::new();
-    let counted = range.satisfies_counted(&version, &mut comparisons);
-    assert!(rt;
-        counted == range.satisfies(&version),
-        "{text} and {version}"
-    );
-    Ok(())
-}
+use std::alloc::Global;
 
 // Each of these ranges has one word in another order, or sets that touch, overlap or lie in one another.
-#[test]
-fn finds_releases_among_joined_sets(rt: HostRuntime) -> Result<(), Fail> {
-    admits(
-        &rt,
-        "1 || 3 || 5",
-        "1.9.9 3.0.0 5.1.0",
-        "0.9.9 2.0.0 4.5.6 6.0.0",
-    )?;
-    admits(
-        &rt,
-        "5 || 1 || 3",
-        "1.9.9 3.0.0 5.1.0",
-        "0.9.9 2.0.0 4.5.6 6.0.0",
-    )?;
-    admits(&rt, "1 || 1.5 - 3 || 2", "1.0.0 2.9.9 3.9.9", "0.9.9 4.0.0")?;
-    admits(&rt, "1 || >=2.0.0-0", "1.0.0 2.0.0 9.0.0", "0.9.9")?;
-    admits(&rt, "1 || 2", "1.0.0 2.0.0 2.9.9", "0.9.9 3.0.0")?;
-    admits(&rt, "1 || 3 || 1", "1.0.0 3.9.9", "0.9.9 2.0.0 4.0.0")?;
-    admits(
-        &rt,
-        "5 || 1 - 4 || 2 - 3",
-        "1.0.0 3.5.0 4.9.9 5.0.0",
-        "0.9.9 6.0.0",
-    )?;
-    admits(
-        &rt,
-        ">=3.0.0+d || >=1.0.0+a <2.0.0 || >=1.0.0+b <3.0.0+c",
-        "1.0.0 2.0.0 3.0.0 9.0.0",
-        "0.9.9",
-    )
-}
+pub(crate) const RELEASES: [&str; 8] = [
+    "1 || 3 || 5; 1.9.9 3.0.0 5.1.0; 0.9.9 2.0.0 4.5.6 6.0.0",
+    "5 || 1 || 3; 1.9.9 3.0.0 5.1.0; 0.9.9 2.0.0 4.5.6 6.0.0",
+    "1 || 1.5 - 3 || 2; 1.0.0 2.9.9 3.9.9; 0.9.9 4.0.0",
+    "1 || >=2.0.0-0; 1.0.0 2.0.0 9.0.0; 0.9.9",
+    "1 || 2; 1.0.0 2.0.0 2.9.9; 0.9.9 3.0.0",
+    "1 || 3 || 1; 1.0.0 3.9.9; 0.9.9 2.0.0 4.0.0",
+    "5 || 1 - 4 || 2 - 3; 1.0.0 3.5.0 4.9.9 5.0.0; 0.9.9 6.0.0",
+    ">=3.0.0+d || >=1.0.0+a <2.0.0 || >=1.0.0+b <3.0.0+c; 1.0.0 2.0.0 3.0.0 9.0.0; 0.9.9",
+];
 
 // Where no end opens a triple, and where two sets do.
-#[test]
-fn finds_prereleases_in_the_sets_that_open_their_triple(rt: HostRuntime) -> Result<(), Fail> {
-    admits(&rt, "1 || >=2.0.0-0", "2.0.0-a", "1.5.0-a 2.0.1-a")?;
-    admits(
-        &rt,
-        ">=1.2.3-rc.4 <1.2.3-rc.6 || <2.0.0",
-        "1.2.3-rc.5 1.2.3",
-        "1.2.3-rc.3 1.2.3-rc.7 1.2.4-rc.5 2.0.0-a",
-    )?;
-    admits(
-        &rt,
-        ">=3.0.0-b || >=1.0.0-a <1.0.0-c || >=1.0.0-e <2.0.0-b",
-        "1.0.0-b 1.0.0-f 2.0.0-a 3.0.0-c",
-        "1.0.0-d 3.0.0-a 2.0.0-c 1.5.0-a",
-    )
+pub(crate) const PRERELEASES: [&str; 3] = [
+    "1 || >=2.0.0-0; 2.0.0-a; 1.5.0-a 2.0.1-a",
+    ">=1.2.3-rc.4 <1.2.3-rc.6 || <2.0.0; 1.2.3-rc.5 1.2.3; 1.2.3-rc.3 1.2.3-rc.7 1.2.4-rc.5 2.0.0-a",
+    ">=3.0.0-b || >=1.0.0-a <1.0.0-c || >=1.0.0-e <2.0.0-b; \
+        1.0.0-b 1.0.0-f 2.0.0-a 3.0.0-c; 1.0.0-d 3.0.0-a 2.0.0-c 1.5.0-a",
+];
+
+// What is answered with a count is what is answered without, of a release and of a prerelease.
+const COUNTED: [&str; 7] = [
+    "^1.2.3; 1.9.0",
+    "1 || 3 || 5; 3.9.0",
+    "1 || 1.5 - 3 || 2; 4.0.0",
+    "1 || >=2.0.0-0; 2.0.0",
+    "1 || 2; 2.0.0-0",
+    ">=1.2.3-rc.4 <1.2.3-rc.6 || <2.0.0; 1.2.3-rc.5",
+    ">=1.2.3-rc.4 <1.2.3-rc.6 || <2.0.0; 1.2.3-rc.7",
+];
+
+fn answers_alike(range: &Range, version: &Version) -> bool {
+    let mut comparisons = Comparisons::new();
+    let counted = range.satisfies_counted(version, &mut comparisons);
+    counted == range.satisfies(version)
 }
 
-// The same answer with a counter.
+pub(crate) fn counts(alloc: Global, row: &str) -> Option<bool> {
+    let (text, version) = row.split_once("; ")?;
+    let range = Range::parse(alloc, text).ok()?;
+    let version = Version::parse(alloc, version).ok()?;
+    Some(answers_alike(&range, &version))
+}
+
 #[test]
-fn answers_alike_with_a_counter(rt: HostRuntime) -> Result<(), Fail> {
-    counts(&rt, "^1.2.3", "1.9.0")?;
-    counts(&rt, "1 || 3 || 5", "3.9.0")?;
-    counts(&rt, "1 || 1.5 - 3 || 2", "4.0.0")?;
-    counts(&rt, "1 || >=2.0.0-0", "2.0.0")?;
-    counts(&rt, "1 || 2", "2.0.0-0")?;
-    counts(&rt, ">=1.2.3-rc.4 <1.2.3-rc.6 || <2.0.0", "1.2.3-rc.5")?;
-    counts(&rt, ">=1.2.3-rc.4 <1.2.3-rc.6 || <2.0.0", "1.2.3-rc.7")
+fn answers_alike_with_a_counter(rt: HostRuntime) {
+    each(&rt, Question::Counts, &COUNTED);
 }

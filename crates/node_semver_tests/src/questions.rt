@@ -1,0 +1,96 @@
+use crate::checks::{NO_RANGE, admits, is_print};
+use crate::clones::copies_version;
+use crate::errors::{copies_error, error_prints, kind_print};
+use crate::limits::least_print;
+use crate::long_texts::answers_longer;
+use crate::order::{is_below, is_same};
+use crate::prints::prints_in_one_way;
+use crate::search::counts;
+use crate::spread::spread;
+use crate::told::{range_print, version_print};
+use crate::versions::{reads_back, shape_of_text};
+use std::alloc::{AllocGlobal, Global};
+use std::process::Abort;
+
+// What is asked of each row of a table: a row's parts stand between `; `.
+#[derive(Clone, Copy)]
+pub(crate) enum Question {
+    // A range text, the versions that it admits, and those that it turns away, with blanks between versions.
+    Admits,
+    // A text that is no range.
+    IsRefused,
+    // A range text, and its print.
+    RangePrint,
+    // A version text, and its print or what its error tells.
+    VersionPrint,
+    // A version text, and its numbers and identifiers.
+    Shape,
+    // A range text, and the print of its least version.
+    LeastPrint,
+    // A kind of error, and its print.
+    KindPrint,
+    // A call, a text that it refuses, and what the error prints.
+    ErrorPrint,
+    // What is printed, its text, and its print.
+    PrintsInOneWay,
+    // A version text, and a text that an equal version is read from and that both print.
+    ReadsBack,
+    // A version text.
+    CopiesVersion,
+    // A call, and a text that it refuses.
+    CopiesError,
+    // A range text, a version text, identifiers that come after its own, and whether that version satisfies the range.
+    AnswersLonger,
+    // Two version texts, the lower one first.
+    IsBelow,
+    // A version text, and whether it is the version of `1.0.0-rc.1+7`.
+    IsSame,
+    // A range text and a version text.
+    Counts,
+}
+
+fn print(alloc: Global, question: Question, text: &str) -> Option<String> {
+    match question {
+        Question::RangePrint => range_print(alloc, text),
+        Question::VersionPrint => version_print(alloc, text),
+        Question::Shape => shape_of_text(alloc, text),
+        Question::LeastPrint => least_print(alloc, text),
+        Question::KindPrint => kind_print(alloc, text),
+        _ => None,
+    }
+}
+
+fn prints(alloc: Global, question: Question, row: &str) -> Option<bool> {
+    let (text, wanted) = row.split_once("; ")?;
+    Some(is_print(print(alloc, question, text), wanted))
+}
+
+fn is_answered(alloc: Global, question: Question, row: &str) -> Option<bool> {
+    match question {
+        Question::Admits => admits(alloc, row),
+        Question::IsRefused => Some(is_print(range_print(alloc, row), NO_RANGE)),
+        Question::ErrorPrint => error_prints(alloc, row),
+        Question::PrintsInOneWay => prints_in_one_way(alloc, row),
+        Question::ReadsBack => reads_back(alloc, row),
+        Question::CopiesVersion => copies_version(alloc, row),
+        Question::CopiesError => copies_error(alloc, row),
+        Question::AnswersLonger => answers_longer(alloc, row),
+        Question::IsBelow => is_below(alloc, row),
+        Question::IsSame => is_same(alloc, row),
+        Question::Counts => counts(alloc, row),
+        _ => prints(alloc, question, row),
+    }
+}
+
+fn is_so(alloc: Global, question: Question, row: &str) -> bool {
+    match spread(alloc, row) {
+        Some(row) => is_answered(alloc, question, &row) == Some(true),
+        None => false,
+    }
+}
+
+pub(crate) fn each(rt: &(impl Abort + AllocGlobal), question: Question, rows: &[&str]) {
+    for row in rows {
+        assert!(rt; is_so(rt.alloc(), question, row), "{row}");
+    }
+}

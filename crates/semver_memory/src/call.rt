@@ -138,37 +138,65 @@ fn read_and_ask(alloc: Global, text: &str, version: &str) -> Result<Call, Fault>
     Ok(Call::ReadAndAsk(String::from_str(alloc, text)?, version))
 }
 
-/// The same for calls whose arguments are read of texts.
+/// The same for calls whose arguments are read of texts. Each kind of them is read in one place.
 fn call_of_value(alloc: Global, name: &str, one: &str, other: &str) -> Result<Call, Fault> {
     match name {
-        "Identifier::clone" => {
-            let text = String::from_str(alloc, one)?;
-            Ok(Call::CopyIdentifier(Identifier::AlphaNumeric(text)))
+        "Identifier::clone" => copy_of_identifier(alloc, one),
+        "SemverError::clone" => copy_of_error(alloc, one),
+        "Version::clone" | "Version::to_json" => call_of_version(alloc, name, one),
+        "Range::clone" | "Range::min_version" | "Range::to_json" => call_of_range(alloc, name, one),
+        "Range::intersect" | "Range::difference" | "Range::least_beyond" => {
+            call_of_ranges(alloc, name, one, other)
         }
-        "Version::clone" => Ok(Call::CopyVersion(Version::parse(alloc, one)?)),
-        "Range::clone" => Ok(Call::CopyRange(Range::parse(alloc, one)?)),
-        "SemverError::clone" => Ok(Call::CopyError(error_of(alloc, one)?)),
-        "Range::intersect" => Ok(Call::Intersect(
-            Range::parse(alloc, one)?,
-            Range::parse(alloc, other)?,
-        )),
-        "Range::difference" => Ok(Call::Difference(
-            Range::parse(alloc, one)?,
-            Range::parse(alloc, other)?,
-        )),
-        "Range::min_version" => Ok(Call::MinVersion(Range::parse(alloc, one)?)),
-        "Range::least_beyond" => Ok(Call::LeastBeyond(
-            Range::parse(alloc, one)?,
-            Range::parse(alloc, other)?,
-        )),
-        "Version::to_json" => Ok(Call::VersionToJson(Version::parse(alloc, one)?)),
-        "Range::to_json" => Ok(Call::RangeToJson(Range::parse(alloc, one)?)),
-        "Version::from_json" => Ok(Call::VersionFromJson(string(alloc, one)?)),
-        "Range::from_json" => Ok(Call::RangeFromJson(string(alloc, one)?)),
-        _ => Ok(Call::Ask(question_of(alloc, name, one, other)?)),
+        "Version::from_json" | "Range::from_json" => call_of_json(alloc, name, one),
+        _ => call_of_question(alloc, name, one, other),
     }
 }
 
-fn string(alloc: Global, text: &str) -> Result<Value, AllocError> {
-    Ok(Value::String(String::from_str(alloc, text)?))
+fn copy_of_identifier(alloc: Global, text: &str) -> Result<Call, Fault> {
+    let text = String::from_str(alloc, text)?;
+    Ok(Call::CopyIdentifier(Identifier::AlphaNumeric(text)))
+}
+
+fn copy_of_error(alloc: Global, text: &str) -> Result<Call, Fault> {
+    Ok(Call::CopyError(error_of(alloc, text)?))
+}
+
+fn call_of_version(alloc: Global, name: &str, text: &str) -> Result<Call, Fault> {
+    let version = Version::parse(alloc, text)?;
+    Ok(match name {
+        "Version::clone" => Call::CopyVersion(version),
+        _ => Call::VersionToJson(version),
+    })
+}
+
+fn call_of_range(alloc: Global, name: &str, text: &str) -> Result<Call, Fault> {
+    let range = Range::parse(alloc, text)?;
+    Ok(match name {
+        "Range::clone" => Call::CopyRange(range),
+        "Range::min_version" => Call::MinVersion(range),
+        _ => Call::RangeToJson(range),
+    })
+}
+
+fn call_of_ranges(alloc: Global, name: &str, one: &str, other: &str) -> Result<Call, Fault> {
+    let one = Range::parse(alloc, one)?;
+    let other = Range::parse(alloc, other)?;
+    Ok(match name {
+        "Range::intersect" => Call::Intersect(one, other),
+        "Range::difference" => Call::Difference(one, other),
+        _ => Call::LeastBeyond(one, other),
+    })
+}
+
+fn call_of_json(alloc: Global, name: &str, text: &str) -> Result<Call, Fault> {
+    let value = Value::String(String::from_str(alloc, text)?);
+    Ok(match name {
+        "Version::from_json" => Call::VersionFromJson(value),
+        _ => Call::RangeFromJson(value),
+    })
+}
+
+fn call_of_question(alloc: Global, name: &str, one: &str, other: &str) -> Result<Call, Fault> {
+    Ok(Call::Ask(question_of(alloc, name, one, other)?))
 }

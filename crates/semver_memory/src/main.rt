@@ -29,29 +29,44 @@ fn main(rt: HostRuntime) -> ExitCode {
     }
 }
 
-/// Makes the call that the words name. It is lent from there on, since each `?` of a function that owns one lets it go.
+/// Makes the call that the words name.
 fn made(rt: &(impl Print + Env + AllocGlobal)) -> Result<bool, Fault> {
-    let alloc = rt.alloc();
-    let mut words = Vec::new(alloc);
+    let words = words_of(rt)?;
+    made_of(rt, &words)
+}
+
+/// The program's words, of which the first is its name.
+fn words_of(rt: &(impl Env + AllocGlobal)) -> Result<Vec<String>, Fault> {
+    let mut words = Vec::new(rt.alloc());
     for word in env::args(rt)? {
         words.push(word)?;
     }
-    let [_, count, name, arguments @ ..] = words.as_slice() else {
+    Ok(words)
+}
+
+/// Makes the call of these words. It is lent from there on, since each `?` of a function that owns one lets it go.
+fn made_of(rt: &(impl Print + AllocGlobal), words: &[String]) -> Result<bool, Fault> {
+    let [_, count, name, arguments @ ..] = words else {
         return Err(Fault::Words);
     };
     let count = count.parse::<usize>().map_err(|_| Fault::Words)?;
-    let call = call_of(alloc, name, arguments)?;
+    let call = call_of(rt.alloc(), name, arguments)?;
     is_unchanged(rt, count, &call)
 }
 
 /// Makes the call twice, and says whether its arguments are as before.
 fn is_unchanged(rt: &(impl Print + AllocGlobal), count: usize, call: &Call) -> Result<bool, Fault> {
-    let alloc = rt.alloc();
-    let print = call.print(alloc)?;
-    let (before, first, after) = first_answer(alloc, count, call)?;
-    let second = second_answer(alloc, call)?;
+    let print = call.print(rt.alloc())?;
+    write_answers(rt, count, call)?;
+    Ok(call.print(rt.alloc())? == print)
+}
+
+/// Makes the call twice, and writes what it answered.
+fn write_answers(rt: &(impl Print + AllocGlobal), count: usize, call: &Call) -> Result<(), Fault> {
+    let (before, first, after) = first_answer(rt.alloc(), count, call)?;
+    let second = second_answer(rt.alloc(), call)?;
     println!(rt; "{before}\n{first}\n{after}\n{second}")?;
-    Ok(call.print(alloc)? == print)
+    Ok(())
 }
 
 /// The requests that were granted before the call, its answer, and the requests that were granted after it.

@@ -105,26 +105,35 @@ pub(crate) fn question_of(
 ) -> Result<Question, Fault> {
     match name {
         "Version::new" => Ok(Question::New),
-        "Identifier: order and hash" => Ok(Question::OfIdentifiers(
-            Identifier::AlphaNumeric(String::from_str(alloc, one)?),
-            Identifier::AlphaNumeric(String::from_str(alloc, other)?),
-        )),
-        "Version: order and hash" => Ok(Question::OfVersions(
-            Version::parse(alloc, one)?,
-            Version::parse(alloc, other)?,
-        )),
-        "Range: equality, hash and allows" => Ok(Question::OfRanges(
-            Range::parse(alloc, one)?,
-            Range::parse(alloc, other)?,
-        )),
-        "Range::satisfies" => Ok(Question::Satisfies(
-            Range::parse(alloc, one)?,
-            Version::parse(alloc, other)?,
-        )),
+        "Identifier: order and hash" => of_identifiers(alloc, one, other),
+        "Version: order and hash" => of_versions(alloc, one, other),
+        "Range: equality, hash and allows" => of_ranges(alloc, one, other),
+        "Range::satisfies" => satisfies(alloc, one, other),
         "SemverError: its parts" => Ok(Question::OfError(error_of(alloc, one)?)),
         "Span: all calls" => Ok(Question::OfSpans),
         _ => Err(Fault::Words),
     }
+}
+
+fn of_identifiers(alloc: Global, one: &str, other: &str) -> Result<Question, Fault> {
+    let one = Identifier::AlphaNumeric(String::from_str(alloc, one)?);
+    let other = Identifier::AlphaNumeric(String::from_str(alloc, other)?);
+    Ok(Question::OfIdentifiers(one, other))
+}
+
+fn of_versions(alloc: Global, one: &str, other: &str) -> Result<Question, Fault> {
+    let one = Version::parse(alloc, one)?;
+    Ok(Question::OfVersions(one, Version::parse(alloc, other)?))
+}
+
+fn of_ranges(alloc: Global, one: &str, other: &str) -> Result<Question, Fault> {
+    let one = Range::parse(alloc, one)?;
+    Ok(Question::OfRanges(one, Range::parse(alloc, other)?))
+}
+
+fn satisfies(alloc: Global, range: &str, version: &str) -> Result<Question, Fault> {
+    let range = Range::parse(alloc, range)?;
+    Ok(Question::Satisfies(range, Version::parse(alloc, version)?))
 }
 
 /// The error of a text that is no version.

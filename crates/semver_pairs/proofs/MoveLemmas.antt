@@ -5,6 +5,7 @@ use Rattle.std.specs.Io.KnownBytes.{Appends}
 use Rattle.std.specs.Str.Lines.{strip_carriage_return}
 use Rattle.node_semver.specs.ErrorLocation.{newline}
 use Rattle.semver_pairs.specs.declared.open_pair.OpenPair.{OpenPair}
+use Rattle.semver_pairs.specs.GaugeValue.{GaugeValue}
 use Rattle.semver_pairs.specs.Output.{AreAnswers}
 use Rattle.semver_pairs.specs.Pairs.{Pair, both, pairs_read}
 use Rattle.semver_pairs.specs.Private.Answering.{AnswersAll, AnswersPast, AnswersRange}
@@ -161,6 +162,13 @@ pub past_stop : (bytes : List ℕ) (contents : Option (List ℕ)) (waiting : Lis
 past_stop bytes contents waiting =
     record { rest = bytes; left = waiting; past = past_none bytes contents waiting }
 
+-- nothing of a pair was read before
+pub open_none-past : (pair : OpenPair) (bytes : List ℕ) (contents : Option (List ℕ)) (waiting : List ℕ)
+    → open_bytes pair ≡ [] → AnswersPast (open_bytes pair ++ bytes) bytes contents contents waiting waiting
+open_none-past pair bytes contents waiting none =
+    subst (λ (l : List ℕ). AnswersPast (l ++ bytes) bytes contents contents waiting waiting) (sym none)
+    (past_none bytes contents waiting)
+
 pub ruleset open_steps = (past_none, past_stop, open_whole, open_part)
 
 -- ---- one read
@@ -211,6 +219,16 @@ piece_part bytes mid rest old first second new held waiting before pairs part = 
       (past_trans bytes mid rest old first second [] held waiting before pairs)
       (record { added = []; answers = answers-none rest; moves = moves-part second new waiting [] part.0 part.1 });
 }
+
+-- the piece stays open
+pub piece_open : {T : Type 0} (contents : T → Option (List ℕ)) (bytes rest : List ℕ) (old new : GaugeValue T)
+    → rest ≡ bytes → new ≡ old → AnswersPast bytes rest (contents old.inner) (contents new.inner) [] []
+piece_open contents bytes rest old new is same = rw (is, same) (past_none bytes (contents old.inner) [])
+
+-- an equal rest stands for the rest
+pub past_same : (bytes rest other : List ℕ) (old new : Option (List ℕ)) (waiting left : List ℕ) → other ≡ rest
+    → AnswersPast bytes rest old new waiting left → AnswersPast bytes other old new waiting left
+past_same bytes rest other old new waiting left is past = rw is past
 
 pub ruleset piece_steps = (past_none, piece_all, piece_stop, piece_pairs, piece_part)
 

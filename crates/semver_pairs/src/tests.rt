@@ -3,13 +3,9 @@ mod outcome;
 mod stepwise;
 
 use crate::exit::ending;
-use crate::gauge::Gauge;
-use crate::program::run;
 use crate::run_error::RunError;
-use outcome::{WHOLE, gives, outcome_of};
-use std::io::Cursor;
-use std::test::Fail;
-use stepwise::Stepwise;
+use outcome::{WHOLE, gives, leaves_both_alone, outcome_of};
+use std::alloc::Global;
 
 /// What some inputs give.
 const ROWS: &[(&[u8], &[u8])] = &[
@@ -125,85 +121,77 @@ fn answers_what_was_read_up_to_any_end(rt: HostRuntime) {
     }
 }
 
+/// Whether the last of so many reads, after so many bytes, fails, and just the answers to the pairs that were wholly
+/// read are written.
+fn stops_at_a_read(alloc: Global, most: usize, count: usize, reads: usize) -> bool {
+    let outcome = outcome_of(alloc, PAIRS, (most, count), WHOLE);
+    // No answer is kept back.
+    let is_answered = outcome.text() == answers_up_to(count);
+    is_answered && outcome.has_stopped_reading() && outcome.reads == reads
+}
+
 #[test]
 fn stops_at_a_read_that_fails(rt: HostRuntime) {
     for most in READS {
         for count in 0..=PAIRS.len() {
-            let outcome = outcome_of(rt.alloc(), PAIRS, (*most, count), WHOLE);
-            assert!(rt; outcome.result == Err(RunError::Read), "after {count}");
+            // The failed read is the last one.
+            let reads = count.div_ceil(*most) + 1;
             assert!(rt;
-                outcome.has_read_failed && !outcome.has_write_failed,
+                stops_at_a_read(rt.alloc(), *most, count, reads),
                 "after {count}"
             );
-            // No answer is kept back.
-            assert!(rt; outcome.text() == answers_up_to(count), "after {count}");
-            // The failed read is the last one.
-            assert!(rt; outcome.reads == count.div_ceil(*most) + 1, "after {count}");
         }
     }
+}
+
+/// Whether a write after so many bytes fails, by two bytes a write, and just these bytes are written.
+fn stops_at_a_write(alloc: Global, count: usize) -> bool {
+    let outcome = outcome_of(alloc, PAIRS, WHOLE, (2, count));
+    let is_written = output_up_to(PAIRS.len()).get(..count) == Some(outcome.text());
+    // The failed write is the last one.
+    is_written && outcome.has_stopped_writing() && outcome.writes == count.div_ceil(2) + 1
 }
 
 #[test]
 fn stops_at_a_write_that_fails(rt: HostRuntime) {
-    let output = output_up_to(PAIRS.len());
-    for count in 0..output.len() {
-        let outcome = outcome_of(rt.alloc(), PAIRS, WHOLE, (2, count));
-        assert!(rt; outcome.result == Err(RunError::Write), "after {count}");
-        assert!(rt;
-            !outcome.has_read_failed && outcome.has_write_failed,
-            "after {count}"
-        );
-        assert!(rt; outcome.text() == &output[..count], "after {count}");
-        // The failed write is the last one.
-        assert!(rt; outcome.writes == count.div_ceil(2) + 1, "after {count}");
+    for count in 0..output_up_to(PAIRS.len()).len() {
+        assert!(rt; stops_at_a_write(rt.alloc(), count), "after {count}");
     }
+    // No byte is taken.
     let outcome = outcome_of(rt.alloc(), PAIRS, WHOLE, (0, usize::MAX));
-    assert!(rt; outcome.result == Err(RunError::Write), "no byte is taken");
     assert!(rt;
-        outcome.has_write_failed && outcome.writes == 1,
+        outcome.has_stopped_writing() && outcome.writes == 1,
         "no byte is taken"
     );
 }
 
+/// Inputs, how many bytes a read gives, and how many writes are made.
+const WRITES: &[(&[u8], usize, usize)] = &[
+    // The last line is answered once the end was read.
+    (PAIRS, usize::MAX, 2),
+    (b"", usize::MAX, 0),
+    (PAIRS, 1, 4),
+];
+
 #[test]
 fn writes_what_one_read_gave_at_once(rt: HostRuntime) {
-    // The last line is answered once the end was read.
-    let outcome = outcome_of(rt.alloc(), PAIRS, WHOLE, WHOLE);
-    assert!(rt; outcome.writes == 2);
-    let outcome = outcome_of(rt.alloc(), b"", WHOLE, WHOLE);
-    assert!(rt; outcome.writes == 0);
-    let outcome = outcome_of(rt.alloc(), PAIRS, (1, usize::MAX), WHOLE);
-    assert!(rt; outcome.writes == 4);
+    for (input, most, writes) in WRITES {
+        let made = outcome_of(rt.alloc(), input, (*most, usize::MAX), WHOLE).writes;
+        assert!(rt; made == *writes, "{made} writes");
+    }
     // The first pair has 23 bytes, so four reads of seven, and no further one.
     let outcome = outcome_of(rt.alloc(), PAIRS, (7, usize::MAX), (usize::MAX, 0));
-    assert!(rt; outcome.result == Err(RunError::Write) && outcome.reads == 4);
-    assert!(rt; outcome.text().is_empty());
+    let is_written = outcome.text().is_empty() && outcome.reads == 4;
+    assert!(rt; is_written && outcome.has_stopped_writing());
 }
+
+/// Whether the reader's gauge had failed, and the writer's.
+const FAILED: &[(bool, bool)] = &[(true, false), (false, true), (true, true)];
 
 #[test]
 fn leaves_both_alone_where_a_gauge_had_failed(rt: HostRuntime) {
-    for (has_read, has_written, error) in [
-        (true, false, RunError::Read),
-        (false, true, RunError::Write),
-        (true, true, RunError::Read),
-    ] {
-        let none_left = (usize::MAX, 0);
-        let mut reader = Gauge::new(Stepwise::new(PAIRS, if has_read { none_left } else { WHOLE }));
-        if has_read {
-            assert!(rt; reader.read(&mut [0; 4]).is_err());
-        }
-        let written = Cursor::new([0u8; 32]);
-        let mut writer = Gauge::new(Stepwise::new(
-            written,
-            if has_written { none_left } else { WHOLE },
-        ));
-        if has_written {
-            assert!(rt; writer.write(b"no").is_err());
-        }
-        assert!(rt; run(rt.alloc(), &mut reader, &mut writer) == Err(error));
-        // Of the calls that failed none was made again.
-        let calls = (reader.into_inner().calls, writer.into_inner().calls);
-        assert!(rt; calls == (usize::from(has_read), usize::from(has_written)));
+    for (has_read, has_written) in FAILED {
+        assert!(rt; leaves_both_alone(rt.alloc(), PAIRS, *has_read, *has_written));
     }
 }
 
@@ -212,36 +200,53 @@ fn leaves_both_alone_where_a_gauge_had_failed(rt: HostRuntime) {
 #[test]
 fn answers_or_says_that_memory_is_out(rt: HostRuntime) {
     let outcome = outcome_of(rt.alloc(), PAIRS, (7, usize::MAX), WHOLE);
-    assert!(rt; !outcome.has_read_failed && !outcome.has_write_failed);
     let output = output_up_to(PAIRS.len());
-    match &outcome.result {
-        Ok(()) => assert!(rt; outcome.text() == output),
-        Err(error) => {
-            assert!(rt; *error == RunError::Memory);
-            assert!(rt; output.starts_with(outcome.text()));
-        }
-    }
+    let is_out = outcome.is_out_of_memory() && output.starts_with(outcome.text());
+    assert!(rt; is_out || gives(&outcome, output));
 }
+
+/// What the program ends by, and how.
+const ENDS: &[(Option<Result<(), RunError>>, u8, &str)] = &[
+    (Some(Ok(())), 0, ""),
+    (Some(Err(RunError::Read)), 1, "semver_pairs: read failed"),
+    (Some(Err(RunError::Write)), 1, "semver_pairs: write failed"),
+    (
+        Some(Err(RunError::Memory)),
+        1,
+        "semver_pairs: out of memory",
+    ),
+    (
+        Some(Err(RunError::Endless)),
+        1,
+        "semver_pairs: input does not end",
+    ),
+    (None, 2, "semver_pairs: takes no arguments"),
+];
 
 #[test]
 fn ends_with_a_status_and_a_line(rt: HostRuntime) {
-    assert!(rt; ending(Some(&Ok(()))) == (0, ""));
-    assert!(rt; ending(Some(&Err(RunError::Read))) == (1, "semver_pairs: read failed"));
-    assert!(rt; ending(Some(&Err(RunError::Write))) == (1, "semver_pairs: write failed"));
-    assert!(rt; ending(Some(&Err(RunError::Memory))) == (1, "semver_pairs: out of memory"));
-    assert!(rt; ending(Some(&Err(RunError::Endless))) == (1, "semver_pairs: input does not end"));
-    assert!(rt; ending(None) == (2, "semver_pairs: takes no arguments"));
+    for (outcome, status, line) in ENDS {
+        assert!(rt; ending(outcome.as_ref()) == (*status, *line), "{line}");
+    }
 }
 
+/// Why the program stopped, and the text of it.
+const TOLD: &[(RunError, &str)] = &[
+    (RunError::Read, "read failed"),
+    (RunError::Write, "write failed"),
+    (RunError::Memory, "out of memory"),
+    (RunError::Endless, "input does not end"),
+];
+
 #[test]
-fn tells_why_it_stopped(rt: HostRuntime) -> Result<(), Fail> {
-    for (error, text) in [
-        (RunError::Read, "read failed"),
-        (RunError::Write, "write failed"),
-        (RunError::Memory, "out of memory"),
-        (RunError::Endless, "input does not end"),
-    ] {
-        assert!(rt; error.to_string(rt.alloc())?.as_str() == text);
+fn tells_why_it_stopped(rt: HostRuntime) {
+    for (error, text) in TOLD {
+        assert!(rt; tells(rt.alloc(), error, text), "{text}");
     }
-    Ok(())
+}
+
+fn tells(alloc: Global, error: &RunError, text: &str) -> bool {
+    error
+        .to_string(alloc)
+        .is_ok_and(|told| told.as_str() == text)
 }

@@ -1,7 +1,6 @@
 //! Lines longer than what one read gives, and what stands where one read ends.
-use super::outcome::{WHOLE, gives, outcome_of};
+use super::outcome::{Outcome, WHOLE, gives, outcome_of};
 use std::alloc::{AllocError, Global};
-use std::test::Fail;
 
 /// A text, a piece so many times, and the rest.
 fn repeated(
@@ -25,12 +24,11 @@ fn repeated_gives(
     row: &(&[u8], &[u8], usize, &[u8]),
     output: &[u8],
     most: usize,
-) -> Result<bool, AllocError> {
-    let input = repeated(alloc, row.0, row.1, row.2, row.3)?;
-    Ok(gives(
-        &outcome_of(alloc, &input, (most, usize::MAX), WHOLE),
-        output,
-    ))
+) -> bool {
+    match &repeated(alloc, row.0, row.1, row.2, row.3) {
+        Ok(input) => gives(&outcome_of(alloc, input, (most, usize::MAX), WHOLE), output),
+        Err(_) => false,
+    }
 }
 
 /// A text, a piece so many times, and the rest; and what they give.
@@ -74,14 +72,16 @@ const LONG: &[((&[u8], &[u8], usize, &[u8]), &[u8])] = &[
     ((b"1\nv", b" ", 99_994, b"1.0.0"), b"bad version\n"),
 ];
 
+/// How many bytes a read gives of long lines.
+const READS: &[usize] = &[4095, 4096, 4097];
+
 #[test]
-fn answers_long_lines_with_ample_memory(rt: HostRuntime) -> Result<(), Fail> {
+fn answers_long_lines_with_ample_memory(rt: HostRuntime) {
     for (row, output) in LONG {
-        for most in [4095, 4096, 4097] {
-            assert!(rt; repeated_gives(rt.alloc(), row, output, most)?, "{}", row.2);
+        for most in READS {
+            assert!(rt; repeated_gives(rt.alloc(), row, output, *most), "{}", row.2);
         }
     }
-    Ok(())
 }
 
 /// What stands past a range line that is filled up, and what it gives.
@@ -99,28 +99,43 @@ const PAST: &[(&[u8], &[u8])] = &[
 ];
 
 #[test]
-fn ends_lines_anywhere_around_the_end_of_a_read(rt: HostRuntime) -> Result<(), Fail> {
+fn ends_lines_anywhere_around_the_end_of_a_read(rt: HostRuntime) {
     for (rest, output) in PAST {
         for spaces in 4080..4100 {
             let row = (&b"1"[..], &b" "[..], spaces, *rest);
-            assert!(rt; repeated_gives(rt.alloc(), &row, output, 4096)?, "{spaces}");
+            assert!(rt; repeated_gives(rt.alloc(), &row, output, 4096), "{spaces}");
         }
     }
-    Ok(())
 }
 
 /// Whether so many pairs with a bad range are answered so, by so many writes.
-fn bad_ranges_give(alloc: Global, pairs: usize, writes: usize) -> Result<bool, AllocError> {
-    let input = repeated(alloc, b"", b"\n\n", pairs, b"")?;
-    let output = repeated(alloc, b"", b"bad range\n", pairs, b"")?;
-    let outcome = outcome_of(alloc, &input, WHOLE, WHOLE);
-    Ok(gives(&outcome, &output) && outcome.writes == writes)
+fn bad_ranges_give(alloc: Global, pairs: usize, writes: usize) -> bool {
+    match &repeated(alloc, b"", b"\n\n", pairs, b"") {
+        Ok(input) => {
+            let outcome = outcome_of(alloc, input, WHOLE, WHOLE);
+            outcome.writes == writes && says_bad_ranges(alloc, &outcome, pairs)
+        }
+        Err(_) => false,
+    }
 }
 
+/// Whether the output says of so many pairs that their range is a bad one.
+fn says_bad_ranges(alloc: Global, outcome: &Outcome, pairs: usize) -> bool {
+    match &repeated(alloc, b"", b"bad range\n", pairs, b"") {
+        Ok(output) => gives(outcome, output),
+        Err(_) => false,
+    }
+}
+
+/// So many pairs with a bad range, and by how many writes they are answered.
+const BAD_RANGES: &[(usize, usize)] = &[(409, 1), (410, 2), (1_000, 3)];
+
 #[test]
-fn writes_more_answers_than_wait_at_once(rt: HostRuntime) -> Result<(), Fail> {
-    assert!(rt; bad_ranges_give(rt.alloc(), 409, 1)?);
-    assert!(rt; bad_ranges_give(rt.alloc(), 410, 2)?);
-    assert!(rt; bad_ranges_give(rt.alloc(), 1_000, 3)?);
-    Ok(())
+fn writes_more_answers_than_wait_at_once(rt: HostRuntime) {
+    for (pairs, writes) in BAD_RANGES {
+        assert!(rt;
+            bad_ranges_give(rt.alloc(), *pairs, *writes),
+            "{pairs} pairs"
+        );
+    }
 }

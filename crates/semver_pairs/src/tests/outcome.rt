@@ -26,6 +26,24 @@ impl Outcome {
         let count = self.written.position() as usize;
         self.written.get_ref().get(..count).unwrap_or(&[])
     }
+
+    /// Whether the run ended by a read that failed, and no write has.
+    pub(crate) fn has_stopped_reading(&self) -> bool {
+        let is_told = self.result == Err(RunError::Read);
+        is_told && self.has_read_failed && !self.has_write_failed
+    }
+
+    /// Whether the run ended by a write that failed, and no read has.
+    pub(crate) fn has_stopped_writing(&self) -> bool {
+        let is_told = self.result == Err(RunError::Write);
+        is_told && !self.has_read_failed && self.has_write_failed
+    }
+
+    /// Whether the run ended for want of memory, and no read and no write has failed.
+    pub(crate) fn is_out_of_memory(&self) -> bool {
+        let is_told = self.result == Err(RunError::Memory);
+        is_told && !self.has_read_failed && !self.has_write_failed
+    }
 }
 
 /// Runs over the input, with at most so many bytes a call and in all.
@@ -50,7 +68,39 @@ pub(crate) fn outcome_of(
     }
 }
 
-/// Whether the run ended well and wrote just this.
+/// Whether the run ended well and wrote just this, and no read and no write has failed.
 pub(crate) fn gives(outcome: &Outcome, output: &[u8]) -> bool {
-    outcome.result == Ok(()) && outcome.text() == output
+    let has_failed = outcome.has_read_failed || outcome.has_write_failed;
+    outcome.result == Ok(()) && !has_failed && outcome.text() == output
+}
+
+/// Whether a run makes no call where the reader's gauge had failed, or the writer's, and says which had, the reader's
+/// first.
+pub(crate) fn leaves_both_alone(
+    alloc: Global,
+    input: &[u8],
+    has_read: bool,
+    has_written: bool,
+) -> bool {
+    let mut reader = Gauge::new(Stepwise::new(input, limits(has_read)));
+    let mut writer = Gauge::new(Stepwise::new(Cursor::new([0; 12_000]), limits(has_written)));
+    if has_read && reader.read(&mut [0; 4]).is_ok() {
+        return false;
+    }
+    if has_written && writer.write(b"no").is_ok() {
+        return false;
+    }
+    let is_told = match run(alloc, &mut reader, &mut writer) {
+        Err(RunError::Read) => has_read,
+        Err(RunError::Write) => !has_read,
+        _ => false,
+    };
+    // Of the calls that failed none was made again.
+    let calls = (reader.into_inner().calls, writer.into_inner().calls);
+    is_told && calls == (usize::from(has_read), usize::from(has_written))
+}
+
+/// None are left where the first call is to fail.
+fn limits(fails: bool) -> (usize, usize) {
+    if fails { (usize::MAX, 0) } else { WHOLE }
 }

@@ -1,6 +1,6 @@
 use Rattle.std.proofs.Common.{arith}
 use Rattle.std.specs.Str.Lines.{strip_carriage_return}
-use Rattle.semver_pairs.proofs.MoveLemmas.{so_far_end, so_far_more, so_far_part, so_far_stop}
+use Rattle.semver_pairs.proofs.MoveLemmas.{so_far_end, so_far_more, so_far_none, so_far_part, so_far_stop}
 use Rattle.semver_pairs.proofs.OutputLemmas.{on_err-of}
 use Rattle.semver_pairs.proofs.answering.answer_versions.Goals as goal
 
@@ -32,3 +32,6 @@ versions-preserved g c =
       omega (arith, c.in-Some.ensures.fewer),
       λ is. c.in-Some.ensures.ascii (c.versions.invariant.3 is).1,
     )
+
+pub versions-init : goal.versions-init
+versions-init g c = (so_far_none _ _ _ _ _, c.requires.unfailed, omega arith, c.requires.ascii)

@@ -1,9 +1,10 @@
-use Rattle.std.proofs.Common.{◌≡◌, ◌<◌, length, ap, arith}
+use Rattle.std.proofs.Common.{◌≡◌, ◌<◌, ◌≤◌, length, take, ap, arith}
 use Rattle.std.proofs.KnownBytes.{Keeps-refl}
+use Rattle.std.proofs.lemmas.Grind.{common_steps}
 use Rattle.std.proofs.lemmas.Result.{on_ok_weaker, on_err_weaker}
 use Rattle.semver_pairs.specs.Output.{HasEnded}
 use Rattle.semver_pairs.proofs.OutputLemmas.{exchanges-nothing, on_err-of}
-use Rattle.semver_pairs.proofs.RunLemmas.{run_end, run_end_part, run_part, run_stop, run_stop_all}
+use Rattle.semver_pairs.proofs.RunLemmas.{run_end, run_end_part, run_more, run_part, run_stop, run_stop_all}
 use Rattle.semver_pairs.proofs.program.run.Goals as goal
 
 pub returns-then-failed-clause-begun : goal.returns-then-failed-clause-begun
@@ -47,3 +48,15 @@ returns-in_err-answer_piece-in-Ok-clause-begun g c =
     let some = run_part (HasEnded g.R.Read.remaining c.read.new.self) _ _ _ _ _ _ _ _ _ c.reads.invariant.0
     c.in-Ok.ensures.bytes.0 c.in_err-answer_piece-in-Ok.ensures.part in
     on_err-of _ some
+
+pub reads-preserved : goal.reads-preserved
+reads-preserved g c =
+    let given = c.in_ok-answer_piece-in-Ok.ensures in
+    let some : 1 ≤ length (take c.in-Ok.count c.read.new.piece) =
+    grind (arith, common_steps, c.in-Ok.ensures.at_most, c.in-Ok.count-test) in (
+      run_more _ _ _ _ _ _ _ _ _ _ c.reads.invariant.0 c.in-Ok.ensures.bytes.0 some given.answers,
+      given.lines,
+      given.written,
+      λ failed. cc (c.in-Ok.ensures.mark.0 failed),
+      λ failed. cc (given.write.1 failed),
+    )

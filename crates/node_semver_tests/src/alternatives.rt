@@ -1,5 +1,7 @@
+use crate::questions::{Question, each};
+
 // npm's "Ranges".
-pub(crate) const ALTERNATIVES: [&str; 55] = [
+const ALTERNATIVES: [&str; 55] = [
     // A version in one of the alternatives is enough.
     "1||2; 1.0.0 1.9.9 2.0.0 2.9.9; 0.9.9 3.0.0 2.0.0-0 3.0.0-0",
     "1 || 3; 1.0.0 3.9.9; 0.9.9 2.0.0 4.0.0",
@@ -62,3 +64,8 @@ pub(crate) const ALTERNATIVES: [&str; 55] = [
     "1 - || 3; 1.0.0 3.0.0; 2.0.0 4.0.0",
     "1 ||- 3; 1.0.0 3.0.0; 2.0.0 4.0.0",
 ];
+
+#[test]
+fn alternatives(rt: HostRuntime) {
+    each(&rt, Question::Admits, &ALTERNATIVES);
+}

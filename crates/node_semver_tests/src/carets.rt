@@ -1,5 +1,7 @@
+use crate::questions::{Question, each};
+
 // npm's "Caret Ranges".
-pub(crate) const CARETS: [&str; 23] = [
+const CARETS: [&str; 23] = [
     // The first number that is not 0 stays.
     "^1.2.3; 1.2.3 1.9.9; 1.2.2 2.0.0 2.0.0-0 1.2.4-a",
     "^0.2.3; 0.2.3 0.2.9; 0.2.2 0.3.0 0.3.0-0",
@@ -28,3 +30,8 @@ pub(crate) const CARETS: [&str; 23] = [
     "^* 2; 2.0.0; 1.0.0 3.0.0",
     "^x.1 2; 2.0.0; 0.1.0 3.0.0",
 ];
+
+#[test]
+fn caret_ranges(rt: HostRuntime) {
+    each(&rt, Question::Admits, &CARETS);
+}

@@ -29,6 +29,15 @@ fn answer_of_text(alloc: Global, range: &Range, version: &str) -> Option<bool> {
     }
 }
 
+// The range of a text, and of `any` the range of all cuts.
+pub(crate) fn range(alloc: Global, text: &str) -> Option<Range> {
+    if text == "any" {
+        Range::any(alloc).ok()
+    } else {
+        Range::parse(alloc, text).ok()
+    }
+}
+
 // What the range of a text answers, which may be written short.
 pub(crate) fn range_answer(alloc: Global, text: &str, version: &Version) -> Option<bool> {
     let text = spread(alloc, text)?;
@@ -39,7 +48,7 @@ pub(crate) fn range_answer(alloc: Global, text: &str, version: &Version) -> Opti
 }
 
 // The range answers so of each of these versions, with blanks between.
-pub(crate) fn answers_each(alloc: Global, range: &Range, versions: &str, wanted: bool) -> bool {
+fn answers_each(alloc: Global, range: &Range, versions: &str, wanted: bool) -> bool {
     for version in versions.split_whitespace() {
         if answer_of_text(alloc, range, version) != Some(wanted) {
             return false;
@@ -49,12 +58,12 @@ pub(crate) fn answers_each(alloc: Global, range: &Range, versions: &str, wanted:
 }
 
 fn text_answers(alloc: Global, text: &str, admitted: &str, turned_away: &str) -> bool {
-    match Range::parse(alloc, text) {
-        Ok(range) => {
+    match range(alloc, text) {
+        Some(range) => {
             answers_each(alloc, &range, admitted, true)
                 && answers_each(alloc, &range, turned_away, false)
         }
-        Err(_) => false,
+        None => false,
     }
 }
 

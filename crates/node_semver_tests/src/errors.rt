@@ -1,4 +1,3 @@
-use crate::checks::is_print;
 use crate::questions::{Question, each};
 use node_semver::{Range, SemverError, SemverErrorKind, Version};
 use std::alloc::Global;
@@ -31,23 +30,19 @@ fn plain_kind(name: &str) -> Option<SemverErrorKind> {
 
 // The texts of the Rust crate's kinds; the last one is our own.
 const KINDS: [&str; 9] = [
-    "MaxLengthError; Semver string can't be longer than 256 characters.",
-    "IncompleteInput; Incomplete input to semver parser.",
-    "ParseIntError 18446744073709551616; \
+    "kind; MaxLengthError; Semver string can't be longer than 256 characters.",
+    "kind; IncompleteInput; Incomplete input to semver parser.",
+    "kind; ParseIntError 18446744073709551616; \
         Failed to parse an integer component of a semver string: number too large to fit in target type",
-    "ParseIntError 1x; \
+    "kind; ParseIntError 1x; \
         Failed to parse an integer component of a semver string: invalid digit found in string",
-    "MaxIntError 9007199254740992; \
+    "kind; MaxIntError 9007199254740992; \
         Integer component of semver string is larger than JavaScript's Number.MAX_SAFE_INTEGER: 9007199254740992",
-    "Context version; Failed to parse version.",
-    "NoValidRanges; No valid ranges could be parsed",
-    "Other; An unspecified error occurred.",
-    "OutOfMemory; Out of memory.",
+    "kind; Context version; Failed to parse version.",
+    "kind; NoValidRanges; No valid ranges could be parsed",
+    "kind; Other; An unspecified error occurred.",
+    "kind; OutOfMemory; Out of memory.",
 ];
-
-pub(crate) fn kind_print(alloc: Global, name: &str) -> Option<String> {
-    kind(name)?.to_string(alloc).ok()
-}
 
 // Of these no two are equal but the first and the last: what is told of too many digits does not name them.
 const DIFFERENT: [&str; 10] = [
@@ -98,35 +93,24 @@ pub(crate) fn error_of(alloc: Global, call: &str, text: &str) -> Option<SemverEr
     }
 }
 
-fn error_print(alloc: Global, call: &str, text: &str) -> Option<String> {
-    let error = error_of(alloc, call, text)?;
-    error.to_string(alloc).ok()
-}
-
-pub(crate) fn error_prints(alloc: Global, row: &str) -> Option<bool> {
-    let (call, rest) = row.split_once("; ")?;
-    let (text, wanted) = rest.split_once("; ")?;
-    Some(is_print(error_print(alloc, call, text), wanted))
-}
-
 // A call, a text that it refuses, and what the error prints. `$` is one more than the greatest number of a text.
 const REFUSALS: [&str; 7] = [
-    "version; {257*1}; Semver string can't be longer than 256 characters.",
-    "version; 18446744073709551616.0.0; \
+    "version error; {257*1}; Semver string can't be longer than 256 characters.",
+    "version error; 18446744073709551616.0.0; \
         Failed to parse an integer component of a semver string: number too large to fit in target type",
-    "version; 1.2.$; \
+    "version error; 1.2.$; \
         Integer component of semver string is larger than JavaScript's Number.MAX_SAFE_INTEGER: $",
-    "version; 1.2.9007199254740992; \
+    "version error; 1.2.9007199254740992; \
         Integer component of semver string is larger than JavaScript's Number.MAX_SAFE_INTEGER: 9007199254740992",
-    "version; 1.2; Failed to parse version.",
-    "version; 1.2.3 ; An unspecified error occurred.",
-    "range; foo; No valid ranges could be parsed",
+    "version error; 1.2; Failed to parse version.",
+    "version error; 1.2.3 ; An unspecified error occurred.",
+    "range error; foo; No valid ranges could be parsed",
 ];
 
 #[test]
 fn each_kind_and_each_refusal_has_its_text(rt: HostRuntime) {
-    each(&rt, Question::KindPrint, &KINDS);
-    each(&rt, Question::ErrorPrint, &REFUSALS);
+    each(&rt, Question::PrintsInOneWay, &KINDS);
+    each(&rt, Question::PrintsInOneWay, &REFUSALS);
 }
 
 // Each error differs from the others in its text, its place or its kind.

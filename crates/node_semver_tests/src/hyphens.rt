@@ -1,5 +1,7 @@
+use crate::questions::{Question, each};
+
 // npm's "Hyphen Ranges".
-pub(crate) const HYPHENS: [&str; 37] = [
+const HYPHENS: [&str; 37] = [
     // Missing numbers of the left side are 0.
     "1.2.3 - 2; 1.2.3 2.9.9; 1.2.2 1.2.3-a",
     "1.2.3-rc.1 - 2; 1.2.3-rc.1 1.2.3-rc.2 2.9.9; 1.2.3-rc.0 1.2.4-rc.1",
@@ -42,3 +44,8 @@ pub(crate) const HYPHENS: [&str; 37] = [
     "1 - 2.3.4.5; 1.0.0; 0.9.9 2.0.0",
     "1 - >=1.5; 1.5.0; 1.4.9 2.0.0",
 ];
+
+#[test]
+fn hyphen_ranges(rt: HostRuntime) {
+    each(&rt, Question::Admits, &HYPHENS);
+}

@@ -2,8 +2,6 @@
 #![tactic(auto)]
 
 #[cfg(test)]
-mod admitted;
-#[cfg(test)]
 mod alternatives;
 #[cfg(test)]
 mod bytes;

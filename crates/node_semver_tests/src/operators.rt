@@ -1,5 +1,7 @@
+use crate::questions::{Question, each};
+
 // npm's "Ranges".
-pub(crate) const OPERATORS: [&str; 55] = [
+const OPERATORS: [&str; 55] = [
     // A missing number is 0, and so is an x.
     ">=1.2.3; 1.2.3 9.0.0; 1.2.2 1.2.3-a 1.2.4-a",
     ">=1.2.3-rc.4; 1.2.3-rc.4 1.2.3-rc.5 1.2.3; 1.2.3-rc.3 1.2.4-rc.5",
@@ -62,3 +64,8 @@ pub(crate) const OPERATORS: [&str; 55] = [
     ">1.0.0-a <1.0.0-a.0; ; 1.0.0-a 1.0.0-a.0 1.0.0",
     ">=1.0.0-001 <1.0.0-1a; 1.0.0-1 1.0.0-2 1.0.0-18446744073709551616; 1.0.0-0 1.0.0-1a",
 ];
+
+#[test]
+fn operators(rt: HostRuntime) {
+    each(&rt, Question::Admits, &OPERATORS);
+}

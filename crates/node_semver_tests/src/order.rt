@@ -4,12 +4,20 @@ use std::alloc::Global;
 use std::cmp::Ordering;
 use std::hash::{DefaultHasher, Hash, Hasher};
 
-// What `cmp` answers, where `partial_cmp`, `==` and `<` agree with it.
+fn hash_of(version: &Version) -> u64 {
+    let mut state = DefaultHasher::new();
+    version.hash(&mut state);
+    state.finish()
+}
+
+// What `cmp` answers, where `partial_cmp`, `==` and `<` agree with it, and where equal versions hash alike and others
+// do not.
 fn agreed(v: &Version, w: &Version) -> Option<Ordering> {
     let ordering = v.cmp(w);
     let agree = v.partial_cmp(w) == Some(ordering)
         && (v == w) == ordering.is_eq()
-        && (v < w) == ordering.is_lt();
+        && (v < w) == ordering.is_lt()
+        && (hash_of(v) == hash_of(w)) == ordering.is_eq();
     if agree { Some(ordering) } else { None }
 }
 
@@ -67,21 +75,6 @@ fn orders_by_the_triple_and_then_by_identifiers(rt: HostRuntime) {
     each(&rt, Question::IsBelow, &BELOW);
 }
 
-fn hash_of(version: &Version) -> u64 {
-    let mut state = DefaultHasher::new();
-    version.hash(&mut state);
-    state.finish()
-}
-
-// Whether they are equal and hash alike, and nothing where only one of both is so.
-fn are_same(alloc: Global, text: &str, other: &str) -> Option<bool> {
-    let v = Version::parse(alloc, text).ok()?;
-    let w = Version::parse(alloc, other).ok()?;
-    let equal = agreed(&v, &w) == Some(Ordering::Equal);
-    let alike = hash_of(&v) == hash_of(&w);
-    if equal == alike { Some(equal) } else { None }
-}
-
 // SemVer 2.0.0, section 10: a version, and whether it is that of `1.0.0-rc.1+7`.
 const SAME: [&str; 5] = [
     "1.0.0-rc.1+7; same",
@@ -93,7 +86,7 @@ const SAME: [&str; 5] = [
 
 pub(crate) fn is_same(alloc: Global, row: &str) -> Option<bool> {
     let (text, wanted) = row.split_once("; ")?;
-    Some(are_same(alloc, "1.0.0-rc.1+7", text)? == (wanted == "same"))
+    Some(compared(alloc, "1.0.0-rc.1+7", text)?.is_eq() == (wanted == "same"))
 }
 
 #[test]

@@ -1,9 +1,10 @@
 use crate::checks::range_answer;
+use crate::questions::{Question, each};
 use node_semver::{Identifier, Version};
 use std::alloc::Global;
 
 // npm's "Prerelease Tags": a prerelease is admitted where one with its triple stands at an end.
-pub(crate) const PRERELEASE_TAGS: [&str; 7] = [
+const PRERELEASE_TAGS: [&str; 7] = [
     ">1.2.3-alpha.3; 1.2.3-alpha.7 3.4.5; 3.4.5-alpha.9",
     ">=1.2.3-rc.4 <2.0.0; 1.2.3-rc.5 1.9.0; 1.2.4-rc.6 2.0.0-0",
     ">=1.2.3-a >=1.2.3-b; 1.2.3-c; 1.2.3-a",
@@ -12,6 +13,11 @@ pub(crate) const PRERELEASE_TAGS: [&str; 7] = [
     ">=1.0.0 <2.0.0-b; 2.0.0-a 1.5.0; 1.0.0-a 1.5.0-a 2.0.0-b",
     "<2.0.0-b 1.9 - 2; 2.0.0-a 1.9.0; 1.9.0-a 2.0.0",
 ];
+
+#[test]
+fn prerelease_tags(rt: HostRuntime) {
+    each(&rt, Question::Admits, &PRERELEASE_TAGS);
+}
 
 enum Tag {
     Word(&'static str),

@@ -1,7 +1,7 @@
-use crate::checks::is_print;
+use crate::checks::{is_print, range};
 use crate::errors::{error_of, kind};
 use crate::questions::{Question, each};
-use node_semver::{Identifier, Range, Version};
+use node_semver::{Identifier, Version};
 use std::alloc::Global;
 use std::fmt::Display;
 
@@ -37,12 +37,7 @@ fn number_prints(alloc: Global, text: &str, print: &str) -> Option<bool> {
 }
 
 fn range_prints(alloc: Global, text: &str, print: &str) -> Option<bool> {
-    let range = Range::parse(alloc, text).ok()?;
-    Some(is_one_way(alloc, &range, print))
-}
-
-fn any_prints(alloc: Global, print: &str) -> Option<bool> {
-    let range = Range::any(alloc).ok()?;
+    let range = range(alloc, text)?;
     Some(is_one_way(alloc, &range, print))
 }
 
@@ -66,7 +61,6 @@ pub(crate) fn prints_in_one_way(alloc: Global, row: &str) -> Option<bool> {
         "number" => number_prints(alloc, text, print),
         "word" => word_prints(alloc, text, print),
         "range" => range_prints(alloc, text, print),
-        "any" => any_prints(alloc, print),
         "version error" => error_prints(alloc, "version", text, print),
         "range error" => error_prints(alloc, "range", text, print),
         "kind" => kind_prints(alloc, text, print),
@@ -87,7 +81,7 @@ const PRINTS: [&str; 15] = [
     "word; ; ",
     "range; <1.0.0; <1.0.0",
     "range; 1||2; >=1.0.0 <2.0.0-0||>=2.0.0 <3.0.0-0",
-    "any; ; *",
+    "range; any; *",
     "version error; 1.2; Failed to parse version.",
     "version error; 1.2.3 ; An unspecified error occurred.",
     "range error; foo; No valid ranges could be parsed",

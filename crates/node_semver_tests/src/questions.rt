@@ -1,6 +1,6 @@
 use crate::checks::{NO_RANGE, admits, is_print};
 use crate::clones::copies_version;
-use crate::errors::{copies_error, error_prints, kind_print};
+use crate::errors::copies_error;
 use crate::limits::least_print;
 use crate::long_texts::answers_longer;
 use crate::order::{is_below, is_same};
@@ -27,10 +27,6 @@ pub(crate) enum Question {
     Shape,
     // A range text, and the print of its least version.
     LeastPrint,
-    // A kind of error, and its print.
-    KindPrint,
-    // A call, a text that it refuses, and what the error prints.
-    ErrorPrint,
     // What is printed, its text, and its print.
     PrintsInOneWay,
     // A version text, and a text that an equal version is read from and that both print.
@@ -55,7 +51,6 @@ fn print(alloc: Global, question: Question, text: &str) -> Option<String> {
         Question::VersionPrint => version_print(alloc, text),
         Question::Shape => shape_of_text(alloc, text),
         Question::LeastPrint => least_print(alloc, text),
-        Question::KindPrint => kind_print(alloc, text),
         _ => None,
     }
 }
@@ -69,7 +64,6 @@ fn is_answered(alloc: Global, question: Question, row: &str) -> Option<bool> {
     match question {
         Question::Admits => admits(alloc, row),
         Question::IsRefused => Some(is_print(range_print(alloc, row), NO_RANGE)),
-        Question::ErrorPrint => error_prints(alloc, row),
         Question::PrintsInOneWay => prints_in_one_way(alloc, row),
         Question::ReadsBack => reads_back(alloc, row),
         Question::CopiesVersion => copies_version(alloc, row),

@@ -3,7 +3,7 @@ use node_semver::{Comparisons, Range, Version};
 use std::alloc::Global;
 
 // Each of these ranges has one word in another order, or sets that touch, overlap or lie in one another.
-pub(crate) const RELEASES: [&str; 8] = [
+const RELEASES: [&str; 8] = [
     "1 || 3 || 5; 1.9.9 3.0.0 5.1.0; 0.9.9 2.0.0 4.5.6 6.0.0",
     "5 || 1 || 3; 1.9.9 3.0.0 5.1.0; 0.9.9 2.0.0 4.5.6 6.0.0",
     "1 || 1.5 - 3 || 2; 1.0.0 2.9.9 3.9.9; 0.9.9 4.0.0",
@@ -15,12 +15,18 @@ pub(crate) const RELEASES: [&str; 8] = [
 ];
 
 // Where no end opens a triple, and where two sets do.
-pub(crate) const PRERELEASES: [&str; 3] = [
+const PRERELEASES: [&str; 3] = [
     "1 || >=2.0.0-0; 2.0.0-a; 1.5.0-a 2.0.1-a",
     ">=1.2.3-rc.4 <1.2.3-rc.6 || <2.0.0; 1.2.3-rc.5 1.2.3; 1.2.3-rc.3 1.2.3-rc.7 1.2.4-rc.5 2.0.0-a",
     ">=3.0.0-b || >=1.0.0-a <1.0.0-c || >=1.0.0-e <2.0.0-b; \
         1.0.0-b 1.0.0-f 2.0.0-a 3.0.0-c; 1.0.0-d 3.0.0-a 2.0.0-c 1.5.0-a",
 ];
+
+#[test]
+fn finds_releases_and_prereleases_among_joined_sets(rt: HostRuntime) {
+    each(&rt, Question::Admits, &RELEASES);
+    each(&rt, Question::Admits, &PRERELEASES);
+}
 
 // What is answered with a count is what is answered without, of a release and of a prerelease.
 const COUNTED: [&str; 7] = [

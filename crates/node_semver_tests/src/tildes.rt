@@ -1,5 +1,7 @@
+use crate::questions::{Question, each};
+
 // npm's "Tilde Ranges".
-pub(crate) const TILDES: [&str; 23] = [
+const TILDES: [&str; 23] = [
     // The last number that is written may rise, or the minor.
     "~1.2.3; 1.2.3 1.2.9; 1.2.2 1.3.0 1.3.0-0 1.2.4-a",
     "~0.2.3; 0.2.3 0.2.9; 0.2.2 0.3.0",
@@ -27,3 +29,8 @@ pub(crate) const TILDES: [&str; 23] = [
     "~>1.x.3 2; 2.0.0; 1.0.3 3.0.0",
     "~>x 2; 2.0.0; 1.0.0 3.0.0",
 ];
+
+#[test]
+fn tilde_ranges(rt: HostRuntime) {
+    each(&rt, Question::Admits, &TILDES);
+}

@@ -2,27 +2,21 @@ use crate::checks::holds;
 use node_semver::{Range, SemverError, Version};
 use std::alloc::Global;
 
-// What an error tells: its kind, its byte offset, its line and its column.
-fn told(alloc: Global, error: &SemverError) -> Option<String> {
+// What an error of this text tells, with a span to match: its kind, its byte offset, its line and its column.
+fn told(alloc: Global, error: &SemverError, text: &str) -> Option<String> {
+    if !holds(error, text) {
+        return None;
+    }
     let (kind, offset) = (error.kind(), error.offset());
     let (line, column) = error.location();
     format!(in alloc; "{kind:?} at {offset} ({line}, {column})").ok()
-}
-
-// The same of an error of this text, with a span to match.
-fn told_of(alloc: Global, error: &SemverError, text: &str) -> Option<String> {
-    if holds(error, text) {
-        told(alloc, error)
-    } else {
-        None
-    }
 }
 
 // The print of a version, or what the error of its text tells.
 pub(crate) fn version_print(alloc: Global, text: &str) -> Option<String> {
     match Version::parse(alloc, text) {
         Ok(version) => version.to_string(alloc).ok(),
-        Err(error) => told_of(alloc, &error, text),
+        Err(error) => told(alloc, &error, text),
     }
 }
 
@@ -30,6 +24,6 @@ pub(crate) fn version_print(alloc: Global, text: &str) -> Option<String> {
 pub(crate) fn range_print(alloc: Global, text: &str) -> Option<String> {
     match Range::parse(alloc, text) {
         Ok(range) => range.to_string(alloc).ok(),
-        Err(error) => told_of(alloc, &error, text),
+        Err(error) => told(alloc, &error, text),
     }
 }

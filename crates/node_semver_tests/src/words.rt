@@ -1,5 +1,7 @@
+use crate::questions::{Question, each};
+
 // npm's "Range Grammar" in loose mode.
-pub(crate) const WORDS: [&str; 36] = [
+const WORDS: [&str; 36] = [
     // Spaces and tabs stand between words, and after an operator or a `v`.
     "  >=1.2.3 ; 1.2.3; 1.2.2",
     "<\t2.0.0\t>1.0.0; 1.9.9; 2.0.0 1.0.0",
@@ -41,3 +43,8 @@ pub(crate) const WORDS: [&str; 36] = [
     ">=1.0.0-18446744073709551616; 1.0.0-18446744073709551616 1.0.0-2a; 1.0.0-18446744073709551615",
     "=1.2.3-a.b.c; 1.2.3-a.b.c 1.2.3-a.b.c+d; 1.2.3-a.b 1.2.3-a.b.d 1.2.3-a.b.c.d",
 ];
+
+#[test]
+fn words(rt: HostRuntime) {
+    each(&rt, Question::Admits, &WORDS);
+}

@@ -1,5 +1,7 @@
+use crate::questions::{Question, each};
+
 // npm's "X-Ranges".
-pub(crate) const X_RANGES: [&str; 24] = [
+const X_RANGES: [&str; 24] = [
     // A version alone asks for that version, whatever its build.
     "1.2.3; 1.2.3 1.2.3+b; 1.2.2 1.2.4 1.2.3-a",
     "v1.2.3; 1.2.3; 1.2.4",
@@ -28,3 +30,8 @@ pub(crate) const X_RANGES: [&str; 24] = [
     "x.1.2; 0.0.0 9.9.9; 1.0.0-a 0.1.2-a",
     "*.1; 0.0.0 9.9.9; 1.0.0-a",
 ];
+
+#[test]
+fn x_ranges(rt: HostRuntime) {
+    each(&rt, Question::Admits, &X_RANGES);
+}

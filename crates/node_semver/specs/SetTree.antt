@@ -43,9 +43,8 @@ InFormula (both one other) cut = InFormula one cut × InFormula other cut
 InFormula (without one other) cut = InFormula one cut × ¬ InFormula other cut
 
 -- the sets of a tree in their order: those that its text writes, and none where it is refused; those that its sides
--- have
--- in common; or what the left side has and the right one has not. There are none where the left side has none, whatever
--- the right one has
+-- have in common; or what the left side has and the right one has not. There are none where the left side has none,
+-- whatever the right one has
 abbrev pub AreSetsOfTree : Formula → List (Ends VersionValue) → Type 0
 AreSetsOfTree (of_text t) sets = AreSetsOfText t sets
 AreSetsOfTree (both one other) sets =
@@ -65,8 +64,7 @@ HasOneListOfSets tree = (one other : List (Ends VersionValue)) → AreSetsOfTree
     → one ≡ other
 
 -- the sets of both sides admit a version, a prerelease too, where a set of each has it inside, and an end of one of
--- these
--- two opens its triple
+-- these two opens its triple
 abbrev pub AdmitInPairs : Formula → Formula → VersionValue → Type 0
 AdmitInPairs one other v = (sets ones others : List (Ends VersionValue)) → AreSetsOfTree (both one other) sets
     → AreSetsOfTree one ones → AreSetsOfTree other others → RangeAdmits sets v ↔ PairAdmits ones others v

@@ -88,8 +88,7 @@ impl Range {
     /// `>=1.0.0+a >=1.0.0+b` is `>=1.0.0+b`.
     ///
     /// The print of what was read is read as an equal range, where no set is unbounded at both sides and no number of
-    /// an
-    /// end is above `MAX_SAFE_INTEGER`.
+    /// an end is above `MAX_SAFE_INTEGER`.
     ///
     /// # Errors
     ///
@@ -101,8 +100,7 @@ impl Range {
     /// # Memory
     ///
     /// Takes the identifiers of the ends, one for each `-0`, and a list of the sets where the text has `||`. A word
-    /// that
-    /// is thrown away takes none. An error holds a copy of the text.
+    /// that is thrown away takes none. An error holds a copy of the text.
     ///
     /// # Examples
     ///

@@ -15,8 +15,7 @@ use std::marker::Model;
 /// A version: a triple of numbers, a prerelease and a build.
 ///
 /// The fields are public, and any values may stand in them: an identifier may hold any text, and is compared and
-/// printed
-/// as it stands.
+/// printed as it stands.
 ///
 /// Versions are equal, are ordered and hash by the triple and the prerelease alone: the build is not looked at.
 ///

@@ -30,8 +30,8 @@ pub enum MemberError {
 
 /// The range that a JSON string holds.
 ///
-/// What is wrong with a range is wrong with all of its text, so its place is always line 0 and column 0. That of a version
-/// is where its text goes wrong: read it by `Version::from_json`, and tell it in the same way.
+/// What is wrong with a range is wrong with all of its text, so its place is always line 0 and column 0. That of a
+/// version is where its text goes wrong: read it by `Version::from_json`, and tell it in the same way.
 pub fn range_of_member(alloc: Global, member: &Value) -> Result<Range, MemberError>
     ensures other { (result ≡ Err NotAString) ↔ (as_str (view member.now) ≡ None) }
     ensures means { IfSome (as_str (view member.now)) (λ text.

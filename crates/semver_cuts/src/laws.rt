@@ -29,8 +29,7 @@ pub fn cuts_stand_in_order<T: Ord>()
 /// and none in both.
 ///
 /// Nothing is common just where no cut lies in a span of each list, and nothing is left just where each cut of the
-/// first
-/// list lies in a span of the second.
+/// first list lies in a span of the second.
 pub fn common_and_rest_part_the_cuts<T: Ord>()
     ensures common { (ones others : List (Ends T)) (cut : Cut T) → IsInSome T.cmp (common_spans T.cmp ones others) cut
         ↔ IsInSome T.cmp ones cut × IsInSome T.cmp others cut }

@@ -1,6 +1,7 @@
 -- The first line of some bytes.
 use Rattle.std.proofs.Common.{◌≡◌, ◌⊎◌, ℕ, zero, suc, ◌+◌, ◌<◌, ◌==◌, true, false, ap, inl, inr, refl, ◌∙◌, sym}
-use Rattle.std.proofs.Common.{◌≢◌, List, [], ◌∷◌, ◌++◌, length, take, drop, add-one, arith, Option, None, Some, IfSome, eqb-true, MatchOption}
+use Rattle.std.proofs.Common.{◌≢◌, List, [], ◌∷◌, ◌++◌, length, take, drop, add-one, arith, Option, None, Some, IfSome}
+use Rattle.std.proofs.Common.{eqb-true, MatchOption}
 use Rattle.std.proofs.lemmas.Slice.Eq.{strip_prefix_is}
 use Rattle.std.proofs.lemmas.Bool.Decides.{Decides-eqb}
 use Rattle.std.specs.Prelude.{nat_eq}

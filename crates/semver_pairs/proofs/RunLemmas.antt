@@ -1,5 +1,6 @@
 -- One read after the other, up to the end.
-use Rattle.std.proofs.Common.{◌≡◌, ◌≢◌, ℕ, ◌+◌, ◌≤◌, List, [], ◌∷◌, ◌++◌, length, take, drop, Bool, true, false, if◌then◌else◌, Option, None, Some, IfSome, codes}
+use Rattle.std.proofs.Common.{◌≡◌, ◌≢◌, ℕ, ◌+◌, ◌≤◌, List, [], ◌∷◌, ◌++◌, length, take, drop, Bool, true, false}
+use Rattle.std.proofs.Common.{if◌then◌else◌, Option, None, Some, IfSome, codes}
 use Rattle.std.proofs.Common.{refl, subst, sym, ◌∙◌, append-nil, arith, length-append}
 use Rattle.std.specs.Io.KnownBytes.{Appends, Consumes, Keeps}
 use Rattle.std.proofs.KnownBytes.{Consumes-kept, Consumes-nil, Consumes-trans}
@@ -8,7 +9,8 @@ use Rattle.node_semver.specs.ErrorLocation.{newline}
 use Rattle.semver_pairs.specs.declared.open_pair.OpenPair.{OpenPair}
 use Rattle.semver_pairs.specs.Output.{AreAnswers, Exchanges, IsOutput, IsOutputBeforeEnd, IsOutputPrefix}
 use Rattle.semver_pairs.specs.Pairs.{Pair, lone, pairs_read}
-use Rattle.semver_pairs.specs.Private.Answering.{AnswersAll, AnswersAllSome, AnswersPast, AnswersRangeSome, AnswersSome, Moves}
+use Rattle.semver_pairs.specs.Private.Answering.{AnswersAll, AnswersAllSome, AnswersPast, AnswersRangeSome, AnswersSome}
+use Rattle.semver_pairs.specs.Private.Answering.{Moves}
 use Rattle.semver_pairs.specs.Private.OpenPair.{IsOpen, open_bytes}
 use Rattle.semver_pairs.specs.Private.Splitting.{HasNoNewline}
 use Rattle.semver_pairs.proofs.MoveLemmas.{last_pair, past_trans}

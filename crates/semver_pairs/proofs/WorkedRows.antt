@@ -7,7 +7,9 @@ use Rattle.node_semver.specs.Error.{context}
 use Rattle.node_semver.specs.Fault.{IsFault}
 use Rattle.node_semver.specs.IdentifierValue.{alphanumeric, numeric}
 use Rattle.node_semver.specs.Meaning.{TextAdmits}
-use Rattle.node_semver.specs.Private.Reading.{rest_of, skip_one, skip_plus, read_build, read_extras, prefix_of, list_rest, list_prefix, read_version, read_number, read_triple, read_dot, read_prerelease, read_unmarked}
+use Rattle.node_semver.specs.Private.Reading.{rest_of, skip_one, skip_plus, read_build, read_extras, prefix_of}
+use Rattle.node_semver.specs.Private.Reading.{list_rest, list_prefix, read_version, read_number, read_triple, read_dot}
+use Rattle.node_semver.specs.Private.Reading.{read_prerelease, read_unmarked}
 use Rattle.node_semver.specs.Version.{VersionValue, least_of, release}
 use Rattle.node_semver.proofs.Versions.FaultLemmas.{fault-computed, version-no_fault}
 use Rattle.node_semver.proofs.Versions.OneReading.{read-version}

@@ -1,6 +1,5 @@
 -- Worked examples: which end stands where several sets of the other text touch one cut, in what one text has and
--- another
--- has not; and what it is to have all cuts of another text.
+-- another has not; and what it is to have all cuts of another text.
 use Rattle.std.proofs.Common.{◌≡◌, ◌≢◌, ◌↔◌, ◌∙◌, ℕ, List, [], ◌∷◌, ◌++◌, ap, arith, codes, inl, inr, refl, subst}
 use Rattle.std.specs.Fmt.{digits}
 use Rattle.std.specs.List.{AllByRecursion}

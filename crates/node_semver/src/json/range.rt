@@ -16,8 +16,7 @@ impl Range {
     /// The JSON string of the range's print.
     ///
     /// [`Range::from_json`] reads it as an equal range, if no set of the range is unbounded at both sides, and no
-    /// major,
-    /// minor or patch of an end is above `MAX_SAFE_INTEGER`.
+    /// major, minor or patch of an end is above `MAX_SAFE_INTEGER`.
     ///
     /// # Errors
     ///

@@ -101,8 +101,7 @@ impl Range {
     /// Whether every cut of `other` is a cut of `self`.
     ///
     /// `a.allows_all(b)` is true exactly where `b.difference(a)` is `None`. A set of `other` may have some of its cuts
-    /// in
-    /// one set of `self` and some in another, where these touch or overlap.
+    /// in one set of `self` and some in another, where these touch or overlap.
     ///
     /// It speaks of cuts. A prerelease that `other` admits may still not satisfy `self`: `>=1.0.0-0` has all cuts of
     /// `^1.2.3-rc.4`, and does not admit `1.2.3-rc.4`, since no end of it is a prerelease of that triple. And `1 || 2`

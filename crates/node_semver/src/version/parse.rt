@@ -17,9 +17,8 @@ impl Version {
     /// Reads a version text.
     ///
     /// A text is a version in one way, or it has one fault, the first one from the left. It is read in npm's loose
-    /// form:
-    /// it may begin with a `v` or `V` and blanks, numbers and identifiers may have leading zeros, and the `-` of a
-    /// prerelease may be left out. No blank may follow. An identifier of digits above the greatest `u64` is a text.
+    /// form: it may begin with a `v` or `V` and blanks, numbers and identifiers may have leading zeros, and the `-` of
+    /// a prerelease may be left out. No blank may follow. An identifier of digits above the greatest `u64` is a text.
     ///
     /// The print of what was read is read as the same version, where it has at most `MAX_LENGTH` bytes.
     ///

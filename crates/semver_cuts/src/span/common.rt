@@ -49,8 +49,7 @@ impl<T: Ord> Span<T> {
     /// # Examples
     ///
     /// `Before(1)` up to `Before(9)` less `Before(3)` up to `Before(5)` is `Before(1)` up to `Before(3)` and
-    /// `Before(5)`
-    /// up to `Before(9)`. `Before(3)` up to `Before(5)` less `Before(1)` up to `Before(9)` is nothing.
+    /// `Before(5)` up to `Before(9)`. `Before(3)` up to `Before(5)` less `Before(1)` up to `Before(9)` is nothing.
     pub fn rest<'a>(
         &'a self,
         other: &'a Span<T>,

@@ -22,8 +22,7 @@ impl Range {
     ///
     /// So `a.least_beyond(b)` is `None` exactly where each version that satisfies a satisfies b. Where
     /// [`Range::allows_all`] speaks of cuts, this speaks of the versions admitted. `1 || 2` lacks cuts of `1 - 2`,
-    /// those
-    /// from `2.0.0-0` up to `2.0.0`, and admits each version that `1 - 2` does. `>=1.0.0-0` has all cuts of
+    /// those from `2.0.0-0` up to `2.0.0`, and admits each version that `1 - 2` does. `>=1.0.0-0` has all cuts of
     /// `^1.2.3-rc.4`, and does not admit `1.2.3-rc.4`. The answer has no build.
     ///
     /// # Errors

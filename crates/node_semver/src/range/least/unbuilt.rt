@@ -195,8 +195,7 @@ impl<'a> Unbuilt<'a> {
 }
 
 // The order of prereleases and releases, by their identifiers and whether a 0 stands after them. No list lies between
-// one
-// and that with a 0 more, so the identifiers decide, but where one list is the other with a 0 more.
+// one and that with a 0 more, so the identifiers decide, but where one list is the other with a 0 more.
 fn are_identifiers_below(
     one: &[Identifier],
     zero: bool,

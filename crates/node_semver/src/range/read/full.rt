@@ -1,7 +1,6 @@
 //! A text that is a full version, with a `^`, a `~` or nothing before it: nine of ten ranges are one. It is read as
-//! three
-//! numbers, and its range is built at once, each kind in a function of its own, which writes into the place of the
-//! answer.
+//! three numbers, and its range is built at once, each kind in a function of its own, which writes into the place of
+//! the answer.
 ghost use Rattle.std.specs.Prelude.{◌≡◌, ◌∷◌, [], ℕ, IfSome, List};
 ghost use Rattle.semver_cuts.specs.Ends.{IsCutBelow};
 ghost use Rattle.semver_cuts.specs.declared.cut.Cut.TheVariants.{Before};

@@ -20,7 +20,7 @@ pub(crate) use full::{FullLead, caret_range, exact_range, read_full, tilde_range
 use pieces::next_piece;
 use semver_cuts::Span;
 use sets::read_sets;
-use std::alloc::{AllocError, Global};
+use std::alloc::Global;
 
 // A text of one alternative, without a list of sets. Few texts have bars.
 //

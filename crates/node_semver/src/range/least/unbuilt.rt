@@ -84,7 +84,7 @@ impl<'a> Unbuilt<'a> {
         match upper {
             Cut::Start => false,
             Cut::Before(end) => self.is_below(&Unbuilt::at_end(end)),
-            Cut::After(end) => !Unbuilt::at_end(end).is_below(self),
+            Cut::After(end) => !self.is_above(end),
             Cut::End => true,
         }
     }

@@ -76,7 +76,8 @@ module _ {T : Type 0} {cmp : T → T → Ordering} (o : IsTotalOrder cmp) where
   -- the end with the lowest place is the first of the list
   first-placed : (end : Ends T → Cut T) (cut : Cut T) (n : ℕ) (spans : List (Ends T)) (p : PlacedSpan T)
       → IsAmong (placed_from n spans) p → end p.span ≡ cut
-      → ((q : PlacedSpan T) → IsAmong (placed_from n spans) q → cut_cmp cmp (end q.span) cut ≡ Equal → p.place ≤ q.place)
+      → ((q : PlacedSpan T) → IsAmong (placed_from n spans) q → cut_cmp cmp (end q.span) cut
+      ≡ Equal → p.place ≤ q.place)
       → IsFirstAt cmp end spans cut
   first-placed end cut n [] p is at least = elim is [ ]
   first-placed end cut n (span ∷ spans) p (inl same) at least = record {

@@ -183,7 +183,10 @@ module _ {T : Type 0} {cmp : T → T → Ordering} (o : IsTotalOrder cmp) (In : 
                       below-at_most o cut upper next.span.upper h.upper higher;
                 }))
                 (⊎_elim
-                (λ h. inl (record { lower = at_most_trans o lower next.span.lower cut run.ahead.0 h.lower; upper = h.upper }))
+                (λ h. inl (record {
+                  lower = at_most_trans o lower next.span.lower cut run.ahead.0 h.lower;
+                  upper = h.upper;
+                }))
                 (λ h. inr h)) is),
           );
         }

@@ -1,11 +1,12 @@
 -- Merged spans kept as places in a list: those of a sort are such places, and each names its span.
-use Rattle.std.proofs.Common.{◌≡◌, ◌≢◌, ℕ, zero, suc, ◌+◌, ◌<◌, List, [], ◌∷◌, ◌++◌, Bool, true, false, if◌then◌else◌}
-use Rattle.std.proofs.Common.{Ordering, drop, get_or, length, map, refl, sym, ap, subst, ◌∙◌, inl, arith, length-append}
+use Rattle.std.proofs.Common.{◌≡◌, ◌≢◌, ℕ, zero, suc, ◌+◌, ◌<◌, ◌≤◌, List, [], ◌∷◌, ◌++◌, Bool, true, false}
+use Rattle.std.proofs.Common.{if◌then◌else◌, Ordering, drop, get_or, length, map, refl, sym, ap, subst, ◌∙◌, inl}
+use Rattle.std.proofs.Common.{arith, length-append}
 use Rattle.std.specs.List.{AllByRecursion}
 use Rattle.std.specs.List.Sorted.{IsPermutation, IsSorted}
 use Rattle.std.specs.Ordering.{is_lt}
 use Rattle.std.specs.Cmp.{IsTotalOrder}
-use Rattle.std.proofs.lemmas.List.{append_assoc, drop-map, drop_more, get_or_at, length-map}
+use Rattle.std.proofs.lemmas.List.{append-nil, append_assoc, drop-map, drop_all, drop_more, get_or_at, length-map}
 use Rattle.semver_cuts.specs.declared.cut.Cut.{Cut}
 use Rattle.semver_cuts.specs.declared.cut.Cut.TheVariants.{Start, End}
 use Rattle.semver_cuts.specs.Cut.{cut_cmp}
@@ -103,6 +104,14 @@ module _ {T : Type 0} (cmp : T → T → Ordering) (spans : List (Ends T)) where
   some-map [] some = absurd (some refl)
   some-map (pair ∷ pairs) some = refl
 
+  -- what has been taken when no pair is left
+  pub taken-all : (pairs : List (ℕ × ℕ)) → pairs ≢ [] → (k : ℕ) (items : List (Ends T)) → length pairs ≤ k
+      → items ++ map (span_of_places spans) (drop k pairs) ≡ map (span_of_places spans) pairs
+      → items ≡ merged_spans spans pairs
+  taken-all pairs some k items done e =
+      sym (append-nil items) ∙ ap (λ l. items ++ map (span_of_places spans) l) (sym (drop_all k pairs done))
+      ∙ e ∙ sym (some-map pairs some)
+
   if-some : (b : Bool) (ps qs : List (ℕ × ℕ)) → ps ≢ [] → qs ≢ [] → (if b then ps else qs) ≢ []
   if-some true ps qs p q = p
   if-some false ps qs p q = q
@@ -175,10 +184,13 @@ module _ {T : Type 0} (cmp : T → T → Ordering) where
   within-at spans (p ∷ pairs) (suc k) d within low = within-at spans pairs k d within.1 (omega arith)
 
   -- how many merged spans there are
+  pub none-merged : (spans : List (Ends T)) (pairs : List (ℕ × ℕ)) → length pairs ≡ 0 → merged_spans spans pairs ≡ spans
+  none-merged spans [] e = refl
+  none-merged spans (p ∷ pairs) e = absurd (omega arith)
+
   pub merged-length_none : (spans : List (Ends T)) (pairs : List (ℕ × ℕ)) → length pairs ≡ 0
       → length (merged_spans spans pairs) ≡ length spans
-  merged-length_none spans [] e = refl
-  merged-length_none spans (p ∷ pairs) e = absurd (omega arith)
+  merged-length_none spans pairs e = ap length (none-merged spans pairs e)
 
   pub merged-length_some : (spans : List (Ends T)) (pairs : List (ℕ × ℕ)) → ¬ (length pairs ≡ 0)
       → length (merged_spans spans pairs) ≡ length pairs

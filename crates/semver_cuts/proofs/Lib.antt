@@ -13,6 +13,8 @@ pub mod Walks
 pub mod Kept
 pub mod MeetingPairs
 pub mod Meeting
+pub mod TakenEnds
+pub mod Turns
 pub mod Starts
 pub mod StartsCounted
 pub mod MergedLists

@@ -153,7 +153,8 @@ module _ {T : Type 0} {cmp : T → T → Ordering} (o : IsTotalOrder cmp) where
         ]
 
     along-each : (P : ℕ × ℕ → Type 0) (ones others : List (PlacedSpan T))
-        → ((one other : PlacedSpan T) → IsAmong ones one → IsAmong others other → P (places_by swapped one.place other.place))
+        → ((one other : PlacedSpan T) → IsAmong ones one → IsAmong others other
+        → P (places_by swapped one.place other.place))
         → AllByRecursion P (pairs_along cmp swapped ones others)
     along-each P [] others each = tt
     along-each P (one ∷ ones) others each =

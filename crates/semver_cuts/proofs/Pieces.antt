@@ -131,7 +131,8 @@ module _ {T : Type 0} {cmp : T → T → Ordering} (o : IsTotalOrder cmp) (other
     kept cut is = parts-found.all cut is.0.lower is.0.upper (not-behind cut is.1)
 
     each-piece : (some : List (Ends T)) → AreRising cmp some
-        → AllByRecursion (λ (s : Ends T). (cut : Cut T) → IsInSpan cmp s cut → IsInSome cmp (pieces_of cmp one joined) cut) some
+        → AllByRecursion (λ (s : Ends T). (cut : Cut T) → IsInSpan cmp s cut
+        → IsInSome cmp (pieces_of cmp one joined) cut) some
         → AllByRecursion (λ (s : Ends T). ¬ (IsInSome cmp (pieces_of cmp one joined) s.upper)) some
         → AllByRecursion (HasGapBelow o (pieces_of cmp one joined)) some
         → AllByRecursion (λ (s : Ends T). IsPieceLower cmp others one s.lower) some

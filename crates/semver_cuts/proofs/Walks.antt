@@ -10,7 +10,7 @@ use Rattle.semver_cuts.specs.Common.{AreApart, IsInSome, IsWithin}
 use Rattle.semver_cuts.specs.Ends.{Ends, IsCutAtMost, IsCutBelow, IsInSpan, span_between}
 use Rattle.semver_cuts.specs.Joined.{AreJoined, AreMerged, AreRising}
 use Rattle.semver_cuts.specs.Places.{span_at}
-use Rattle.semver_cuts.specs.Sharing.{CoversAll, ShareCut}
+use Rattle.semver_cuts.specs.Sharing.{CoversAll, HaveCommonCut, ShareCut}
 use Rattle.semver_cuts.specs.Lemmas.Apart.{apart-above, apart-behind, rising-behind}
 use Rattle.semver_cuts.specs.Lemmas.Ends.{at_most-or-below, at_most_refl, at_most_trans, below-at_most}
 use Rattle.semver_cuts.specs.Lemmas.Ends.{below-not-at_most, below_trans}
@@ -257,4 +257,19 @@ module _ {T : Type 0} (cmp : T → T → Ordering) where
       (subst (λ xs. IsTrue r ↔ CoversAll cmp (one ∷ []) xs) (sym (one-list others other m f)) (
         λ true. (covers-one one other).0 (law.0 true),
         λ covers. law.1 ((covers-one one other).1 covers),
+      ))
+
+  pub shares-lone : (ones others : List (Ends T)) (one other : Ends T) (r : Bool) → length ones ≡ 1
+      → one ≡ get_or ones 0 one
+      → length others ≡ 1 → other ≡ get_or others 0 other → IsTrue r ↔ HaveCommonCut cmp one other
+      → IsTrue r ↔ ShareCut cmp ones others
+  shares-lone ones others one other r l e m f law =
+      subst (λ xs. IsTrue r ↔ ShareCut cmp xs others) (sym (one-list ones one l e))
+      (subst (λ xs. IsTrue r ↔ ShareCut cmp (one ∷ []) xs) (sym (one-list others other m f)) (
+        λ true. let shared = law.0 true in (shared.0, inl shared.1, inl shared.2),
+        λ shared. law.1 (
+          shared.0,
+          ⊎_elim (λ inside. inside) (λ never. absurd never) shared.1,
+          ⊎_elim (λ inside. inside) (λ never. absurd never) shared.2,
+        ),
       ))

@@ -1,12 +1,14 @@
 //! What the spans of a list are joined to, kept as places in the list.
 ghost use Rattle.std.specs.Prelude.{◌≡◌, ◌↔◌, ◌∷◌, [], IfOk, IsTrue};
+ghost use Rattle.std.specs.Ordering.{is_lt, nat_cmp, ordering_then};
+ghost use Rattle.semver_cuts.specs.Cut.{cut_cmp};
 ghost use Rattle.semver_cuts.specs.Common.{AreApart};
 ghost use Rattle.semver_cuts.specs.Joined.{AreMerged, AreRising};
 ghost use Rattle.semver_cuts.specs.Places.{IsPlacesOf};
 ghost use Rattle.semver_cuts.specs.Private.Joining.{places_in_order};
 
-use crate::Span;
 use crate::algebra::placed::{Placed, in_order};
+use crate::{Cut, Span};
 use std::alloc::{AllocError, Global};
 use std::marker::Model;
 
@@ -147,20 +149,30 @@ fn places_in_order<T: Ord>(
         return Ok(Vec::new(alloc));
     };
     let mut pairs = Vec::with_capacity(alloc, order.len())?;
-    let (mut begun, mut place) = (first.place(), first.place());
+    let mut begun = first.place();
+    let mut place = begun;
     let (_, mut upper) = first.ends();
     for next in later {
         let ends = next.ends();
+        let found = next.place();
         if upper < ends.0 {
             pairs.push((begun, place))?;
-            (begun, place) = (next.place(), next.place());
+            (begun, place) = (found, found);
             upper = ends.1;
-        } else if upper.cmp(ends.1).then(next.place().cmp(&place)).is_lt() {
+        } else if ends_later(upper, place, ends.1, found) {
             upper = ends.1;
-            place = next.place();
+            place = found;
         }
     }
     pairs.push((begun, place))?;
     pairs.shrink_to_fit();
     Ok(pairs)
+}
+
+// Whether the second end stands above the first, or at the same cut and in an earlier span of the list.
+#[inline(always)]
+fn ends_later<T: Ord>(upper: &Cut<T>, place: usize, end: &Cut<T>, found: usize) -> bool
+    ensures { result ≡ is_lt (ordering_then (cut_cmp T.cmp upper.now end.now) (nat_cmp found place)) }
+{
+    upper.cmp(end).then(found.cmp(&place)).is_lt()
 }

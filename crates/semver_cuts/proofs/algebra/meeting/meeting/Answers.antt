@@ -13,7 +13,8 @@ returns g c =
     ≡ pairs_along g.T.Ord.cmp false order other_order
     ++ pairs_along g.T.Ord.cmp true other_order order = search rules in
     are-meeting g.met.T.Ord.total c.args.ones.now c.args.others.now order other_order
-    c.in_ok-order.ensures.same c.in_ok-other_order.ensures.same c.in_ok-order.ensures.sorted c.in_ok-other_order.ensures.sorted
+    c.in_ok-order.ensures.same c.in_ok-other_order.ensures.same c.in_ok-order.ensures.sorted
+    c.in_ok-other_order.ensures.sorted
     c.sort_unstable.new.self.items c.dedup.new.self.items
     (subst (λ l. IsPermutation l c.sort_unstable.new.self.items) found c.sort_unstable.ensures.permutation)
     c.sort_unstable.ensures.sorted (dedup_is same_pair _ _ c.dedup.ensures.filtered)

@@ -1,19 +1,21 @@
-use Rattle.std.proofs.Common.{arith, sym, ◌∙◌}
+use Rattle.std.proofs.Common.{◌≤◌, arith, refl, subst, sym, ◌∙◌}
 use mathlib.Core.Bool.{true≢false}
 use Rattle.semver_cuts.specs.Ends.{span_between}
 use Rattle.semver_cuts.specs.Lemmas.Ends.{at_most-from_le, at_most-from_not_lt, below-from_lt, below-from_not_le}
 use Rattle.semver_cuts.proofs.Walks.{covers-joined, covers-left_over, covers-missed_above, covers-missed_below}
-use Rattle.semver_cuts.proofs.Walks.{covers-past, covers-within}
+use Rattle.semver_cuts.proofs.Walks.{covers-ended, covers-past, covers-within}
 use Rattle.semver_cuts.proofs.algebra.walks.covers_along.Goals as goal
 use Rattle.semver_cuts.proofs.algebra.walks.covers_along.Goals.{then-lt, else-lt}
 
 pub returns-then-place-count : goal.returns-then-place-count
 returns-then-place-count g c = (
   λ false. absurd (true≢false (sym false)),
-  λ covers. absurd (covers-left_over g.met.T.Ord.total c.args.ones.now.merged c.args.others.now.merged c.loop-other_place.place
+  λ covers. absurd (covers-left_over g.met.T.Ord.total c.args.ones.now.merged c.args.others.now.merged
+      c.loop-other_place.place
       c.loop-other_place.other_place (omega arith) (omega arith) c.len-other_count.ensures.joined.merged
       c.loop-other_place.invariant.left
-      ((covers-joined g.T.Ord.cmp c.args.ones.now.list c.args.others.now.list c.args.ones.now.merged c.args.others.now.merged
+      ((covers-joined g.T.Ord.cmp c.args.ones.now.list c.args.others.now.list c.args.ones.now.merged
+      c.args.others.now.merged
       c.len-count.ensures.joined c.len-other_count.ensures.joined).1 covers)),
 )
 
@@ -73,3 +75,21 @@ loop-other_place-preserved g c =
             c.loop-other_place.invariant.left
       ];
     }
+
+pub loop-other_place-init : goal.loop-other_place-init
+loop-other_place-init g c = record {
+  place = omega arith;
+  other_place = omega arith;
+  left = (λ covers. covers, λ covers. covers);
+}
+
+pub returns : goal.returns
+returns g c = (
+  λ true. (covers-joined g.T.Ord.cmp c.args.ones.now.list c.args.others.now.list c.args.ones.now.merged
+      c.args.others.now.merged c.len-count.ensures.joined c.len-other_count.ensures.joined).0
+      (covers-ended g.met.T.Ord.total c.args.ones.now.merged c.args.others.now.merged c.loop-other_place.place
+      c.loop-other_place.other_place
+      (subst (λ n. n ≤ c.loop-other_place.other_place) c.len-other_count.ensures.length
+      c.loop-other_place-test.false) c.loop-other_place.invariant.left),
+  λ covers. refl,
+)

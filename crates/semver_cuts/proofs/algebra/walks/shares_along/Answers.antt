@@ -12,7 +12,8 @@ loop-place-preserved-then-le g c =
       place = c.loop-place.invariant.place;
       other_place = omega arith;
       left = share-past_other g.met.T.Ord.total c.args.ones.now.merged c.args.others.now.merged
-          c.len-count.ensures.joined.merged c.len-other_count.ensures.joined.merged c.loop-place.place c.loop-place.other_place
+          c.len-count.ensures.joined.merged c.len-other_count.ensures.joined.merged c.loop-place.place
+          c.loop-place.other_place
           one other c.ends.ensures c.ends-in-loop-place.ensures
           (at_most-from_le g.T.Ord.cmp other.upper one.lower
           (sym c.le.ensures ∙ c.if-le.true)) c.loop-place.invariant.left;
@@ -26,7 +27,8 @@ loop-place-preserved g c =
       place = omega arith;
       other_place = c.loop-place.invariant.other_place;
       left = share-past_one g.met.T.Ord.total c.args.ones.now.merged c.args.others.now.merged
-          c.len-count.ensures.joined.merged c.len-other_count.ensures.joined.merged c.loop-place.place c.loop-place.other_place
+          c.len-count.ensures.joined.merged c.len-other_count.ensures.joined.merged c.loop-place.place
+          c.loop-place.other_place
           one other c.ends.ensures c.ends-in-loop-place.ensures
           (at_most-from_le g.T.Ord.cmp one.upper other.lower (sym c.le-else-le.ensures ∙ c.if-le-2.true))
           c.loop-place.invariant.left;
@@ -37,7 +39,8 @@ returns-else-le-2 g c =
     let one = span_between c.ends.result.0.now c.ends.result.1.now in
     let other = span_between c.ends-in-loop-place.result.0.now c.ends-in-loop-place.result.1.now in
     let shared = share-found g.met.T.Ord.total c.args.ones.now.merged c.args.others.now.merged
-    c.len-count.ensures.joined.merged c.len-other_count.ensures.joined.merged c.loop-place.place c.loop-place.other_place
+    c.len-count.ensures.joined.merged c.len-other_count.ensures.joined.merged c.loop-place.place
+    c.loop-place.other_place
     one other c.ends.ensures c.ends-in-loop-place.ensures
     (below-from_not_le g.met.T.Ord.total other.upper one.lower (sym c.le.ensures ∙ c.if-le.false))
     (below-from_not_le g.met.T.Ord.total one.upper other.lower (sym c.le-else-le.ensures ∙ c.if-le-2.false))
@@ -46,3 +49,10 @@ returns-else-le-2 g c =
           c.args.others.now.merged c.len-count.ensures.joined c.len-other_count.ensures.joined).0 shared,
       λ some. refl,
     )
+
+pub loop-place-init : goal.loop-place-init
+loop-place-init g c = record {
+  place = omega arith;
+  other_place = omega arith;
+  left = (λ shared. shared, λ shared. shared);
+}

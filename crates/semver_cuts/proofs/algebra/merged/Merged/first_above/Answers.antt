@@ -16,7 +16,8 @@ loop-low-preserved-then-le g c =
     record {
       ordered = omega arith;
       within = omega arith;
-      below = halved_below g.met.T.Ord.total spans c.len-high.ensures.joined.merged.rising c.len-high.ensures.joined.merged.apart c.args.cut.now middle span within
+      below = halved_below g.met.T.Ord.total spans c.len-high.ensures.joined.merged.rising
+          c.len-high.ensures.joined.merged.apart c.args.cut.now middle span within
           c.ends.ensures (at_most-from_le g.T.Ord.cmp c.ends.result.1.now c.args.cut.now (sym c.if-le.ensures));
       above = c.loop-low.invariant.above;
     }
@@ -31,7 +32,8 @@ loop-low-preserved g c =
       ordered = omega arith;
       within = omega arith;
       below = c.loop-low.invariant.below;
-      above = halved_above g.met.T.Ord.total spans c.len-high.ensures.joined.merged.rising c.len-high.ensures.joined.merged.apart c.args.cut.now middle span within
+      above = halved_above g.met.T.Ord.total spans c.len-high.ensures.joined.merged.rising
+          c.len-high.ensures.joined.merged.apart c.args.cut.now middle span within
           c.ends.ensures (below-from_not_le g.met.T.Ord.total c.ends.result.1.now c.args.cut.now (sym c.if-le.ensures));
     }
 

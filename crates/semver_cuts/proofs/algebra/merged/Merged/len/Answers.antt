@@ -14,7 +14,8 @@ returns-then-is_empty-clause-starts g c =
     subst (λ m. length spans ≡ count_of_starts g.T.Ord.cmp m.list) c.self.view_is
     (sym (merged-length_none g.T.Ord.cmp spans places
     (eqb-true (length places) 0 (sym c.is_empty.ensures ∙ c.if-is_empty.true)))
-    ∙ starts-counted g.met.T.Ord.total spans (merged_spans spans places) c.self.invariant.rising c.self.invariant.joined)
+    ∙ starts-counted g.met.T.Ord.total spans (merged_spans spans places)
+    c.self.invariant.rising c.self.invariant.joined)
 
 pub returns-else-is_empty-clause-starts : goal.returns-else-is_empty-clause-starts
 returns-else-is_empty-clause-starts g c =
@@ -23,4 +24,5 @@ returns-else-is_empty-clause-starts g c =
     subst (λ m. length places ≡ count_of_starts g.T.Ord.cmp m.list) c.self.view_is
     (sym (merged-length_some g.T.Ord.cmp spans places
     (λ z. true≢false (sym (ap (λ (n : ℕ). n == 0) z) ∙ sym c.is_empty.ensures ∙ c.if-is_empty.false)))
-    ∙ starts-counted g.met.T.Ord.total spans (merged_spans spans places) c.self.invariant.rising c.self.invariant.joined)
+    ∙ starts-counted g.met.T.Ord.total spans (merged_spans spans places)
+    c.self.invariant.rising c.self.invariant.joined)

@@ -1,6 +1,7 @@
 ghost use Rattle.std.specs.Prelude.{map};
 ghost use Rattle.semver_cuts.specs.Ends.{span_between};
 
+use crate::spans::are_before;
 use semver_cuts::algebra::{Gather, Merged, Places, are_merged};
 use semver_cuts::{Cut, Span, covers, join};
 use std::alloc::{AllocError, Global};
@@ -31,8 +32,59 @@ fn spans_of(alloc: Global, pairs: &[(u64, u64)]) -> Result<Vec<Span<u64>>, Alloc
     Ok(spans)
 }
 
+// What is gathered of two lists: what they have in common, or what the first has and the second has not.
+#[derive(Clone, Copy)]
+enum Operation {
+    Common,
+    Rest,
+}
+
+fn gathered<'a>(
+    alloc: Global,
+    operation: Operation,
+    ones: &'a [Span<u64>],
+    others: &'a [Span<u64>],
+) -> Result<Taken<'a>, AllocError> {
+    let mut taken = Taken {
+        ends: Vec::new(alloc),
+    };
+    let places = Places::of(alloc, others)?;
+    let merged = Merged::with(others, &places);
+    match operation {
+        Operation::Common => merged.common_with(alloc, ones, &mut taken),
+        Operation::Rest => merged.rest_of(ones, &mut taken),
+    }?;
+    Ok(taken)
+}
+
+// Whether these are the cuts before the two numbers of each pair.
+fn are_ends(taken: &[(&Cut<u64>, &Cut<u64>)], pairs: &[(u64, u64)]) -> bool {
+    if taken.len() != pairs.len() {
+        return false;
+    }
+    for (ends, pair) in taken.iter().zip(pairs.iter()) {
+        if !are_before(*ends, pair) {
+            return false;
+        }
+    }
+    true
+}
+
+// Numbers, two for each span of a list.
+type Pairs = &'static [(u64, u64)];
+
+// Two lists, and what is gathered of them.
+type Row = (Pairs, Pairs, Pairs);
+
+fn gathers(alloc: Global, operation: Operation, row: &Row) -> Result<bool, AllocError> {
+    let ones = spans_of(alloc, row.0)?;
+    let others = spans_of(alloc, row.1)?;
+    let taken = gathered(alloc, operation, &ones, &others)?;
+    Ok(are_ends(&taken.ends, row.2))
+}
+
 // Two lists, and what they have in common.
-const ROWS: &[(&[(u64, u64)], &[(u64, u64)], &[(u64, u64)])] = &[
+const ROWS: &[Row] = &[
     (&[(0, 1), (3, 5)], &[(0, 4)], &[(0, 1), (3, 4)]),
     (&[(0, 1), (3, 5)], &[(1, 3)], &[]),
     (
@@ -51,19 +103,33 @@ const ROWS: &[(&[(u64, u64)], &[(u64, u64)], &[(u64, u64)])] = &[
 
 #[test]
 fn hands_over_what_two_lists_have_in_common(rt: HostRuntime) {
-    for (ones, others, common) in ROWS {
-        let ones = spans_of(rt.alloc(), ones).expect(&rt, "memory");
-        let others = spans_of(rt.alloc(), others).expect(&rt, "memory");
-        let mut taken = Taken {
-            ends: Vec::new(rt.alloc()),
-        };
-        let places = Places::of(rt.alloc(), &others).expect(&rt, "memory");
-        let merged = Merged::with(&others, &places);
-        assert!(rt; merged.common_with(rt.alloc(), &ones, &mut taken).is_ok());
-        assert!(rt; taken.ends.len() == common.len());
-        for ((lower, upper), (low, high)) in taken.ends.iter().zip(common.iter()) {
-            assert!(rt; **lower == Cut::Before(*low) && **upper == Cut::Before(*high));
-        }
+    for row in ROWS {
+        assert!(rt; gathers(rt.alloc(), Operation::Common, row).unwrap_or(false));
+    }
+}
+
+// Two lists, and what the first has and the second has not: others that fall, overlap, touch, ascend apart, and none.
+const REST_ROWS: &[Row] = &[
+    (&[(1, 9)], &[(5, 6), (2, 3)], &[(1, 2), (3, 5), (6, 9)]),
+    (
+        &[(1, 9)],
+        &[(5, 7), (6, 8), (2, 3)],
+        &[(1, 2), (3, 5), (8, 9)],
+    ),
+    (&[(1, 9)], &[(0, 5), (5, 9)], &[]),
+    (
+        &[(5, 9), (0, 4)],
+        &[(1, 2), (3, 6)],
+        &[(6, 9), (0, 1), (2, 3)],
+    ),
+    (&[(3, 5)], &[(0, 3), (5, 9)], &[(3, 5)]),
+    (&[(3, 5)], &[], &[(3, 5)]),
+];
+
+#[test]
+fn hands_over_what_one_list_has_and_another_has_not(rt: HostRuntime) {
+    for row in REST_ROWS {
+        assert!(rt; gathers(rt.alloc(), Operation::Rest, row).unwrap_or(false));
     }
 }
 
@@ -84,88 +150,41 @@ fn long_list(alloc: Global, step: u64, width: u64) -> Result<Vec<Span<u64>>, All
 // Descending, ascending and neither; apart, touching, overlapping and nested.
 const LONG_ROWS: &[(u64, u64)] = &[(12, 0), (12, 1), (1, 3), (5, 0), (5, 7), (0, 2), (3, 10)];
 
-#[test]
-fn hands_over_what_long_lists_have_in_common(rt: HostRuntime) {
-    for (step, width) in LONG_ROWS {
-        for (other_step, other_width) in LONG_ROWS {
-            let ones = long_list(rt.alloc(), *step, *width).expect(&rt, "memory");
-            let others = long_list(rt.alloc(), *other_step, *other_width).expect(&rt, "memory");
-            let mut taken = Taken {
-                ends: Vec::new(rt.alloc()),
-            };
-            let places = Places::of(rt.alloc(), &others).expect(&rt, "memory");
-            let merged = Merged::with(&others, &places);
-            assert!(rt; merged.common_with(rt.alloc(), &ones, &mut taken).is_ok());
-            let mut count = 0usize;
-            for one in &ones {
-                for other in &others {
-                    if let Some((lower, upper)) = one.common(other) {
-                        let found = taken.ends.get(count);
-                        assert!(rt;
-                            found.is_some_and(|ends| *ends.0 == *lower && *ends.1 == *upper)
-                        );
-                        count = count.saturating_add(1);
-                    }
+// Whether these are the ends of what each of the ones has in common with each of the others.
+fn are_common(taken: &[(&Cut<u64>, &Cut<u64>)], ones: &[Span<u64>], others: &[Span<u64>]) -> bool {
+    let mut taken = taken.iter();
+    for one in ones {
+        for other in others {
+            if let Some((lower, upper)) = one.common(other) {
+                match taken.next() {
+                    Some(ends) if *ends.0 == *lower && *ends.1 == *upper => {}
+                    _ => return false,
                 }
             }
-            assert!(rt; taken.ends.len() == count);
         }
     }
+    taken.next().is_none()
 }
 
-// Two lists, and what the first has and the second has not: others that fall, overlap, touch, ascend apart, and none.
-const REST_ROWS: &[(&[(u64, u64)], &[(u64, u64)], &[(u64, u64)])] = &[
-    (&[(1, 9)], &[(5, 6), (2, 3)], &[(1, 2), (3, 5), (6, 9)]),
-    (
-        &[(1, 9)],
-        &[(5, 7), (6, 8), (2, 3)],
-        &[(1, 2), (3, 5), (8, 9)],
-    ),
-    (&[(1, 9)], &[(0, 5), (5, 9)], &[]),
-    (
-        &[(5, 9), (0, 4)],
-        &[(1, 2), (3, 6)],
-        &[(6, 9), (0, 1), (2, 3)],
-    ),
-    (&[(3, 5)], &[(0, 3), (5, 9)], &[(3, 5)]),
-    (&[(3, 5)], &[], &[(3, 5)]),
-];
-
-#[test]
-fn hands_over_what_one_list_has_and_another_has_not(rt: HostRuntime) {
-    for (ones, others, rest) in REST_ROWS {
-        let ones = spans_of(rt.alloc(), ones).expect(&rt, "memory");
-        let others = spans_of(rt.alloc(), others).expect(&rt, "memory");
-        let mut taken = Taken {
-            ends: Vec::new(rt.alloc()),
-        };
-        let places = Places::of(rt.alloc(), &others).expect(&rt, "memory");
-        let merged = Merged::with(&others, &places);
-        assert!(rt; merged.rest_of(&ones, &mut taken).is_ok());
-        assert!(rt; taken.ends.len() == rest.len());
-        for ((lower, upper), (low, high)) in taken.ends.iter().zip(rest.iter()) {
-            assert!(rt; **lower == Cut::Before(*low) && **upper == Cut::Before(*high));
-        }
-    }
+fn gathers_long(alloc: Global, one: &(u64, u64), other: &(u64, u64)) -> Result<bool, AllocError> {
+    let ones = long_list(alloc, one.0, one.1)?;
+    let others = long_list(alloc, other.0, other.1)?;
+    let taken = gathered(alloc, Operation::Common, &ones, &others)?;
+    Ok(are_common(&taken.ends, &ones, &others))
 }
 
 #[test]
-fn asks_whether_lists_share(rt: HostRuntime) {
-    for (ones, others, common) in ROWS {
-        let ones = spans_of(rt.alloc(), ones).expect(&rt, "memory");
-        let others = spans_of(rt.alloc(), others).expect(&rt, "memory");
-        let places = Places::of(rt.alloc(), &ones).expect(&rt, "memory");
-        let other_places = Places::of(rt.alloc(), &others).expect(&rt, "memory");
-        let one = Merged::with(&ones, &places);
-        let other = Merged::with(&others, &other_places);
-        assert!(rt; one.share_cut(&other) == !common.is_empty());
-        assert!(rt; other.share_cut(&one) == !common.is_empty());
+fn hands_over_what_long_lists_have_in_common(rt: HostRuntime) {
+    for one in LONG_ROWS {
+        for other in LONG_ROWS {
+            assert!(rt; gathers_long(rt.alloc(), one, other).unwrap_or(false));
+        }
     }
 }
 
 // Lists, and what they are joined to: spans that touch, overlap, fall, repeat and nest, one list merged as it stands,
 // and none.
-const JOIN_ROWS: &[(&[(u64, u64)], &[(u64, u64)])] = &[
+const JOIN_ROWS: &[(Pairs, Pairs)] = &[
     (&[(1, 2), (2, 3)], &[(1, 3)]),
     (&[(2, 5), (0, 1), (4, 7)], &[(0, 1), (2, 7)]),
     (&[(5, 6), (3, 4), (1, 2)], &[(1, 2), (3, 4), (5, 6)]),
@@ -180,34 +199,112 @@ fn has_ends(merged: &Merged<'_, '_, u64>, joined: &[(u64, u64)]) -> bool {
     if merged.len() != joined.len() {
         return false;
     }
-    for (number, (low, high)) in joined.iter().enumerate() {
-        let (lower, upper) = merged.ends(number);
-        if *lower != Cut::Before(*low) || *upper != Cut::Before(*high) {
+    for (number, pair) in joined.iter().enumerate() {
+        if !are_before(merged.ends(number), pair) {
             return false;
         }
     }
     true
 }
 
+fn merges(alloc: Global, spans: &[Span<u64>], pairs: &[(u64, u64)]) -> Result<bool, AllocError> {
+    let places = Places::of(alloc, spans)?;
+    let copy = places.clone()?;
+    Ok(
+        has_ends(&Merged::with(spans, &places), pairs)
+            && has_ends(&Merged::with(spans, &copy), pairs),
+    )
+}
+
+fn joins(alloc: Global, spans: Vec<Span<u64>>, pairs: &[(u64, u64)]) -> Result<bool, AllocError> {
+    let joined = join(alloc, spans)?;
+    let expected = spans_of(alloc, pairs)?;
+    Ok(joined == expected && are_merged(&joined))
+}
+
+fn joins_row(
+    alloc: Global,
+    pairs: &[(u64, u64)],
+    joined: &[(u64, u64)],
+) -> Result<bool, AllocError> {
+    let spans = spans_of(alloc, pairs)?;
+    Ok(merges(alloc, &spans, joined)? && joins(alloc, spans, joined)?)
+}
+
 #[test]
 fn joins_spans_and_keeps_their_places(rt: HostRuntime) {
     for (pairs, joined) in JOIN_ROWS {
-        let spans = spans_of(rt.alloc(), pairs).expect(&rt, "memory");
-        let list: &[Span<u64>] = &spans;
-        let places = Places::of(rt.alloc(), list).expect(&rt, "memory");
-        let copy = places.clone().expect(&rt, "memory");
-        assert!(rt; has_ends(&Merged::with(list, &places), joined));
-        assert!(rt; has_ends(&Merged::with(list, &copy), joined));
-        let spans = join(rt.alloc(), spans).expect(&rt, "memory");
-        let expected = spans_of(rt.alloc(), joined).expect(&rt, "memory");
-        assert!(rt; spans == expected);
-        assert!(rt; are_merged(&spans));
+        assert!(rt; joins_row(rt.alloc(), pairs, joined).unwrap_or(false));
+    }
+}
+
+// What is asked of two lists: whether they share a cut, or whether the first has all cuts of the second.
+#[derive(Clone, Copy)]
+enum Asked {
+    Share,
+    Cover,
+}
+
+fn merged_answer(
+    asked: Asked,
+    one: &Merged<'_, '_, u64>,
+    other: &Merged<'_, '_, u64>,
+    wanted: bool,
+) -> bool {
+    match asked {
+        Asked::Share => one.share_cut(other) == wanted && other.share_cut(one) == wanted,
+        Asked::Cover => one.covers(other) == wanted,
+    }
+}
+
+// Lists that are merged as they stand may be asked at once whether the first covers the second.
+fn stand_covered(asked: Asked, ones: &[Span<u64>], others: &[Span<u64>], wanted: bool) -> bool {
+    if matches!(asked, Asked::Cover) && are_merged(ones) && are_merged(others) {
+        covers(ones, others) == wanted
+    } else {
+        true
+    }
+}
+
+fn spans_answer(
+    alloc: Global,
+    asked: Asked,
+    ones: &[Span<u64>],
+    others: &[Span<u64>],
+    wanted: bool,
+) -> Result<bool, AllocError> {
+    let places = Places::of(alloc, ones)?;
+    let other_places = Places::of(alloc, others)?;
+    let one = Merged::with(ones, &places);
+    let other = Merged::with(others, &other_places);
+    Ok(merged_answer(asked, &one, &other, wanted) && stand_covered(asked, ones, others, wanted))
+}
+
+// Whether two lists by their numbers answer so.
+fn answer(
+    alloc: Global,
+    asked: Asked,
+    ones: &[(u64, u64)],
+    others: &[(u64, u64)],
+    wanted: bool,
+) -> Result<bool, AllocError> {
+    let ones = spans_of(alloc, ones)?;
+    let others = spans_of(alloc, others)?;
+    spans_answer(alloc, asked, &ones, &others, wanted)
+}
+
+#[test]
+fn asks_whether_lists_share(rt: HostRuntime) {
+    for (ones, others, common) in ROWS {
+        assert!(rt;
+            answer(rt.alloc(), Asked::Share, ones, others, !common.is_empty()).unwrap_or(false)
+        );
     }
 }
 
 // Two lists, and whether the first has all cuts of the second: not where a gap lies between, however far its ends
 // reach.
-const COVER_ROWS: &[(&[(u64, u64)], &[(u64, u64)], bool)] = &[
+const COVER_ROWS: &[(Pairs, Pairs, bool)] = &[
     (&[(1, 5), (7, 9)], &[(2, 5), (8, 9)], true),
     (&[(1, 5), (7, 9)], &[(2, 6)], false),
     (&[(1, 5), (7, 9)], &[(4, 8)], false),
@@ -226,17 +323,6 @@ const COVER_ROWS: &[(&[(u64, u64)], &[(u64, u64)], bool)] = &[
 #[test]
 fn asks_of_merged_lists_whether_they_cover(rt: HostRuntime) {
     for (ones, others, covered) in COVER_ROWS {
-        let ones = spans_of(rt.alloc(), ones).expect(&rt, "memory");
-        let others = spans_of(rt.alloc(), others).expect(&rt, "memory");
-        let ones: &[Span<u64>] = &ones;
-        let others: &[Span<u64>] = &others;
-        let places = Places::of(rt.alloc(), ones).expect(&rt, "memory");
-        let other_places = Places::of(rt.alloc(), others).expect(&rt, "memory");
-        let one = Merged::with(ones, &places);
-        let other = Merged::with(others, &other_places);
-        assert!(rt; one.covers(&other) == *covered);
-        if are_merged(ones) && are_merged(others) {
-            assert!(rt; covers(ones, others) == *covered);
-        }
+        assert!(rt; answer(rt.alloc(), Asked::Cover, ones, others, *covered).unwrap_or(false));
     }
 }

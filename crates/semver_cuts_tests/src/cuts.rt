@@ -2,36 +2,43 @@ use semver_cuts::Cut;
 use std::cmp::Ordering;
 use std::hash::{DefaultHasher, Hash, Hasher};
 
+// The cut at a place of the line of the cuts of 3 and 5, which has six places, the lowest first.
+pub(crate) fn cut_at(place: usize) -> Cut<u64> {
+    match place {
+        0 => Cut::Start,
+        1 => Cut::Before(3),
+        2 => Cut::After(3),
+        3 => Cut::Before(5),
+        4 => Cut::After(5),
+        _ => Cut::End,
+    }
+}
+
 fn ordering_of<T: Ord>(first: &T, second: &T) -> Ordering {
     first.cmp(second)
 }
 
-// The cuts of 3 and 5, lowest first.
+// Whether each way to compare them says the same as the order of their places.
+fn are_ordered(first: &Cut<u64>, second: &Cut<u64>, wanted: Ordering) -> bool {
+    first.cmp(second) == wanted
+        && ordering_of(first, second) == wanted
+        && (first < second) == wanted.is_lt()
+        && (first == second) == wanted.is_eq()
+}
+
 #[test]
 fn orders_the_cuts_of_numbers(rt: HostRuntime) {
-    let line: [Cut<u64>; 6] = [
-        Cut::Start,
-        Cut::Before(3),
-        Cut::After(3),
-        Cut::Before(5),
-        Cut::After(5),
-        Cut::End,
-    ];
-    for (i, first) in line.iter().enumerate() {
-        for (j, second) in line.iter().enumerate() {
-            assert_eq!(rt; first.cmp(second), i.cmp(&j), "{first:?} and {second:?}");
-            assert_eq!(rt;
-                ordering_of(first, second),
-                i.cmp(&j),
-                "{first:?} and {second:?}"
+    for i in 0..6usize {
+        for j in 0..6usize {
+            assert!(rt;
+                are_ordered(&cut_at(i), &cut_at(j), i.cmp(&j)),
+                "{i} and {j}"
             );
-            assert_eq!(rt; first < second, i < j, "{first:?} < {second:?}");
-            assert_eq!(rt; first == second, i == j, "{first:?} == {second:?}");
         }
     }
 }
 
-fn hash_of<T: Hash>(value: &T) -> u64 {
+pub(crate) fn hash_of<T: Hash>(value: &T) -> u64 {
     let mut hasher = DefaultHasher::new();
     value.hash(&mut hasher);
     hasher.finish()
@@ -39,12 +46,10 @@ fn hash_of<T: Hash>(value: &T) -> u64 {
 
 #[test]
 fn hashes_equal_cuts_alike(rt: HostRuntime) {
-    let line: [Cut<u64>; 4] = [Cut::Start, Cut::Before(3), Cut::After(3), Cut::End];
-    let again: [Cut<u64>; 4] = [Cut::Start, Cut::Before(3), Cut::After(3), Cut::End];
-    for (i, first) in line.iter().enumerate() {
-        for (j, second) in again.iter().enumerate() {
-            let alike = hash_of(first) == hash_of(second);
-            assert_eq!(rt; alike, i == j, "{first:?} and {second:?}");
+    for i in 0..6usize {
+        for j in 0..6usize {
+            let alike = hash_of(&cut_at(i)) == hash_of(&cut_at(j));
+            assert!(rt; alike == (i == j), "{i} and {j}");
         }
     }
 }

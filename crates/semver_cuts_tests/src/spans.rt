@@ -1,70 +1,69 @@
+use crate::cuts::{cut_at, hash_of};
 use semver_cuts::{Cut, Span};
-use std::hash::{DefaultHasher, Hash, Hasher};
 
-// The cuts of 3 and 5, lowest first.
-fn line() -> [Cut<u64>; 6] {
-    [
-        Cut::Start,
-        Cut::Before(3),
-        Cut::After(3),
-        Cut::Before(5),
-        Cut::After(5),
-        Cut::End,
-    ]
+// Whether the span lies between these two places of the line of cuts.
+fn has_ends(span: &Span<u64>, i: usize, j: usize) -> bool {
+    *span.lower() == cut_at(i) && *span.upper() == cut_at(j)
 }
 
-// The cut at a place of that line.
-fn cut_at(place: usize) -> Cut<u64> {
-    match place {
-        0 => Cut::Start,
-        1 => Cut::Before(3),
-        2 => Cut::After(3),
-        3 => Cut::Before(5),
-        4 => Cut::After(5),
-        _ => Cut::End,
+// The span between two places of the line, if there is one.
+fn span_at(i: usize, j: usize) -> Option<Span<u64>> {
+    Span::new(cut_at(i), cut_at(j))
+}
+
+// Whether there is a span just where the first place is the lower one, with these ends.
+fn is_made(i: usize, j: usize) -> bool {
+    match span_at(i, j) {
+        Some(span) => i < j && has_ends(&span, i, j),
+        None => i >= j,
     }
-}
-
-// The spans between two of them, each at one of 36 places.
-fn span_at(place: usize) -> Option<Span<u64>> {
-    Span::new(cut_at(place / 6), cut_at(place % 6))
-}
-
-fn hash_of<T: Hash>(value: &T) -> u64 {
-    let mut hasher = DefaultHasher::new();
-    value.hash(&mut hasher);
-    hasher.finish()
 }
 
 #[test]
 fn makes_a_span_where_a_cut_lies_between(rt: HostRuntime) {
-    for (i, lower) in line().iter().enumerate() {
-        for (j, upper) in line().iter().enumerate() {
-            let span = Span::new(cut_at(i), cut_at(j));
-            assert_eq!(rt; span.is_some(), i < j, "{lower:?} to {upper:?}");
-            if let Some(span) = span {
-                assert_eq!(rt; span.lower(), lower, "{lower:?} to {upper:?}");
-                assert_eq!(rt; span.upper(), upper, "{lower:?} to {upper:?}");
-            }
+    for i in 0..6usize {
+        for j in 0..6usize {
+            assert!(rt; is_made(i, j), "{i} to {j}");
         }
     }
 }
 
+// Whether the span is the one between these two places.
+fn is_between(span: &Span<u64>, i: usize, j: usize) -> bool {
+    has_ends(span, i, j)
+        && match &span_at(i, j) {
+            Some(other) => span == other,
+            None => false,
+        }
+}
+
 #[test]
 fn makes_a_span_between_two_cuts(rt: HostRuntime) {
-    let cases = [
-        (Span::between(Cut::Start, Cut::End), 0usize, 5usize),
-        (Span::between(Cut::Before(3), Cut::After(3)), 1, 2),
-        (Span::between(Cut::After(3), Cut::Before(5)), 2, 3),
-    ];
-    for (span, i, j) in &cases {
-        assert_eq!(rt; span.lower(), &cut_at(*i), "{span:?}");
-        assert_eq!(rt; span.upper(), &cut_at(*j), "{span:?}");
-        assert_eq!(rt;
-            Some(span),
-            Span::new(cut_at(*i), cut_at(*j)).as_ref(),
-            "{span:?}"
-        );
+    let all = Span::between(Cut::Start, Cut::End);
+    assert!(rt; is_between(&all, 0, 5));
+    let at_three = Span::between(Cut::Before(3), Cut::After(3));
+    assert!(rt; is_between(&at_three, 1, 2));
+    let from_three_to_five = Span::between(Cut::After(3), Cut::Before(5));
+    assert!(rt; is_between(&from_three_to_five, 2, 3));
+}
+
+// Values, and of each the last place of the line that is below it.
+const VALUES: &[(u64, usize)] = &[(2, 0), (3, 1), (4, 2), (5, 3), (6, 4)];
+
+// Whether the span contains just the values between these two places.
+fn contains_just(span: &Span<u64>, i: usize, j: usize) -> bool {
+    for (value, place) in VALUES {
+        if span.contains(value) != (i <= *place && *place < j) {
+            return false;
+        }
+    }
+    true
+}
+
+fn contains_what_lies_between(i: usize, j: usize) -> bool {
+    match &span_at(i, j) {
+        Some(span) => contains_just(span, i, j),
+        None => false,
     }
 }
 
@@ -73,35 +72,54 @@ fn makes_a_span_between_two_cuts(rt: HostRuntime) {
 fn contains_the_values_between_its_ends(rt: HostRuntime) {
     for i in 0..6usize {
         for j in i + 1..6 {
-            let Some(span) = Span::new(cut_at(i), cut_at(j)) else {
-                continue;
-            };
-            // A value, and the last cut of the line that is at most the one before it.
-            for (value, place) in [(2u64, 0usize), (3, 1), (4, 2), (5, 3), (6, 4)] {
-                let inside = i <= place && place < j;
-                assert_eq!(rt; span.contains(&value), inside, "{value} in {span:?}");
-            }
+            assert!(rt; contains_what_lies_between(i, j), "{i} to {j}");
         }
+    }
+}
+
+// Whether these spans are equal and hash alike, or neither.
+fn are_the_same(one: &Span<u64>, other: &Span<u64>, same: bool) -> bool {
+    (one == other) == same && (one != other) == !same && (hash_of(one) == hash_of(other)) == same
+}
+
+// The places of each span between two of the line.
+const PLACES: &[(usize, usize)] = &[
+    (0, 1),
+    (0, 2),
+    (0, 3),
+    (0, 4),
+    (0, 5),
+    (1, 2),
+    (1, 3),
+    (1, 4),
+    (1, 5),
+    (2, 3),
+    (2, 4),
+    (2, 5),
+    (3, 4),
+    (3, 5),
+    (4, 5),
+];
+
+fn span_of_row(row: usize) -> Option<Span<u64>> {
+    let (i, j) = PLACES.get(row)?;
+    span_at(*i, *j)
+}
+
+fn are_the_same_by_row(row: usize, other_row: usize) -> bool {
+    match (span_of_row(row), span_of_row(other_row)) {
+        (Some(one), Some(other)) => are_the_same(&one, &other, row == other_row),
+        _ => false,
     }
 }
 
 #[test]
 fn equals_and_hashes_by_its_ends(rt: HostRuntime) {
-    for place in 0..36usize {
-        let Some(one) = span_at(place) else {
-            continue;
-        };
-        for other_place in 0..36usize {
-            let Some(other) = span_at(other_place) else {
-                continue;
-            };
-            let same = place == other_place;
-            assert_eq!(rt; one == other, same, "{one:?} and {other:?}");
-            assert_eq!(rt; one != other, !same, "{one:?} and {other:?}");
-            assert_eq!(rt;
-                hash_of(&one) == hash_of(&other),
-                same,
-                "{one:?} and {other:?}"
+    for row in 0..PLACES.len() {
+        for other_row in 0..PLACES.len() {
+            assert!(rt;
+                are_the_same_by_row(row, other_row),
+                "rows {row} and {other_row}"
             );
         }
     }
@@ -120,22 +138,41 @@ const PAIRS: &[(Pair, Pair, Option<Pair>, Option<Pair>, Option<Pair>)] = &[
     ((3, 5), (1, 3), None, Some((3, 5)), None),
 ];
 
+// Whether these are the cuts before two numbers.
+pub(crate) fn are_before(ends: (&Cut<u64>, &Cut<u64>), pair: &Pair) -> bool {
+    *ends.0 == Cut::Before(pair.0) && *ends.1 == Cut::Before(pair.1)
+}
+
 fn is_lent(ends: Option<(&Cut<u64>, &Cut<u64>)>, pair: &Option<Pair>) -> bool {
     match (ends, pair) {
-        (Some((lower, upper)), Some((low, high))) => *lower == Cut::Before(*low)
-            && *upper == Cut::Before(*high),
+        (Some(ends), Some(pair)) => are_before(ends, pair),
         (None, None) => true,
         _ => false,
     }
 }
 
+fn span_of(pair: &Pair) -> Option<Span<u64>> {
+    Span::new(Cut::Before(pair.0), Cut::Before(pair.1))
+}
+
+fn lends(
+    one: &Span<u64>,
+    other: &Span<u64>,
+    common: &Option<Pair>,
+    below: &Option<Pair>,
+    above: &Option<Pair>,
+) -> bool {
+    let rest = one.rest(other);
+    is_lent(one.common(other), common) && is_lent(rest.0, below) && is_lent(rest.1, above)
+}
+
 #[test]
 fn lends_what_two_spans_have_in_common_and_the_rest(rt: HostRuntime) {
-    for ((a, b), (c, d), common, below, above) in PAIRS {
-        let one = Span::new(Cut::Before(*a), Cut::Before(*b)).expect(&rt, "a span");
-        let other = Span::new(Cut::Before(*c), Cut::Before(*d)).expect(&rt, "a span");
-        assert!(rt; is_lent(one.common(&other), common));
-        let rest = one.rest(&other);
-        assert!(rt; is_lent(rest.0, below) && is_lent(rest.1, above));
+    for (one, other, common, below, above) in PAIRS {
+        let lent = match (span_of(one), span_of(other)) {
+            (Some(one), Some(other)) => lends(&one, &other, common, below, above),
+            _ => false,
+        };
+        assert!(rt; lent);
     }
 }

@@ -2,10 +2,9 @@ ghost use Rattle.std.specs.Prelude.{◌<◌};
 
 use semver_cuts::Stepped;
 use std::alloc::{AllocError, Global};
-use std::test::Fail;
 
 // A number of eight bits.
-#[derive(Clone, Copy, Debug, PartialEq, Eq, PartialOrd, Ord)]
+#[derive(Clone, Copy, PartialEq, Eq, PartialOrd, Ord)]
 struct Byte {
     number: u8,
 }
@@ -37,10 +36,13 @@ fn third<T: Stepped + Drop>(alloc: Global) -> Result<Option<T>, AllocError> {
 }
 
 #[test]
-fn steps_from_the_least_number(rt: HostRuntime) -> Result<(), Fail> {
-    let alloc = rt.alloc();
-    assert!(rt; third::<Byte>(alloc)? == Some(Byte { number: 2 }));
-    assert!(rt; Byte { number: 254 }.next(alloc)? == Some(Byte { number: 255 }));
-    assert!(rt; Byte { number: 255 }.next(alloc)?.is_none());
-    Ok(())
+fn steps_from_the_least_number(rt: HostRuntime) {
+    assert!(rt; matches!(third::<Byte>(rt.alloc()), Ok(Some(Byte { number: 2 }))));
+    assert!(rt;
+        matches!(
+            Byte { number: 254 }.next(rt.alloc()),
+            Ok(Some(Byte { number: 255 }))
+        )
+    );
+    assert!(rt; matches!(Byte { number: 255 }.next(rt.alloc()), Ok(None)));
 }

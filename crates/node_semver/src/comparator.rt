@@ -10,7 +10,7 @@ use semver_cuts::{Cut, Span};
 use std::marker::Model;
 
 // Where a comparator begins and ends: `>=1.2.3` from before 1.2.3 to the end. It may hold no cut, as `2 - 1`.
-#[derive(Debug, Drop)]
+#[derive(Drop)]
 pub(crate) struct Comparator {
     pub(crate) lower: Cut<End>,
     pub(crate) upper: Cut<End>,
@@ -26,7 +26,7 @@ impl Model for Comparator {
 }
 
 // Comparators merged into one as they come, and whether one came.
-#[derive(Debug, Drop)]
+#[derive(Drop)]
 pub(crate) struct Merged {
     found: bool,
     lower: Cut<End>,

@@ -53,7 +53,8 @@ pub(crate) fn begins_comparator(text: &[u8]) -> bool
 // there to be kept.
 #[inline(always)]
 pub(crate) fn skip_thrown_away(text: &[u8]) -> &[u8]
-    ensures { (comparators : List Comparator) → IsAlternative result.now comparators → IsAlternative text.now comparators }
+    ensures { (comparators : List Comparator) → IsAlternative result.now comparators
+        → IsAlternative text.now comparators }
 {
     if begins_clean(text) {
         return text;

@@ -150,7 +150,8 @@ above-second are =
     are.3.each in
     elim piece.lower [
       | inl own ↦ cc own
-      | inr inner ↦ not_first-ending inner.1.before inner.1.after inner.1.span inner.1.parts inner.1.end_of inner.1.earlier
+      | inr inner ↦ not_first-ending inner.1.before inner.1.after inner.1.span
+          inner.1.parts inner.1.end_of inner.1.earlier
     ]
 
 -- ---- an upper end: `<=3.0.0` less `2.0.0+a - 3.0.0 || 2.0.0+b - 2.5.0`
@@ -203,7 +204,8 @@ below-first =
       },
     ))
 
-pub below-print : GivesPrint (without (of_text (codes "<=3.0.0")) (of_text (codes "2.0.0+a - 3.0.0 || 2.0.0+b - 2.5.0")))
+pub below-print : GivesPrint (without (of_text (codes "<=3.0.0"))
+    (of_text (codes "2.0.0+a - 3.0.0 || 2.0.0+b - 2.5.0")))
     (codes "<2.0.0+a")
 unfolding sets_in digits
 below-print = (

@@ -42,8 +42,10 @@ module _ (P : VersionValue → Type 0) (sets others : List (Ends VersionValue)) 
   -- a cut that is not above the version, and no lower end of the sets nor upper end of the others lies between
   record IsLastCut (c : Cut VersionValue) : Type 0 where
     below : IsCutAtMost version_cmp c (Before w)
-    lowers : AllByRecursion (λ (s : Ends VersionValue). IsCutAtMost version_cmp s.lower (Before w) → IsCutAtMost version_cmp s.lower c) sets
-    uppers : AllByRecursion (λ (s : Ends VersionValue). IsCutAtMost version_cmp s.upper (Before w) → IsCutAtMost version_cmp s.upper c) others
+    lowers : AllByRecursion (λ (s : Ends VersionValue). IsCutAtMost version_cmp s.lower (Before w)
+        → IsCutAtMost version_cmp s.lower c) sets
+    uppers : AllByRecursion (λ (s : Ends VersionValue). IsCutAtMost version_cmp s.upper (Before w)
+        → IsCutAtMost version_cmp s.upper c) others
 
   -- a candidate that is one between them
   between : (c : Cut VersionValue) → IsLastCut c → (x : VersionValue) → P x → AskAlike x w
@@ -113,7 +115,8 @@ module _ (P : VersionValue → Type 0) (sets others : List (Ends VersionValue)) 
       let first = highest Tried (λ (s : Ends VersionValue). s.lower) w sets set.lower some.1.lower some.2.inside.lower
       (all-map (IsCandidateSet P) (λ (s : Ends VersionValue). Tried s.lower) sets
       (λ s candidates. candidates.lower) each) in
-      let last = highest Tried (λ (s : Ends VersionValue). s.upper) w others first.cut first.is first.highest.below ends in
+      let last = highest Tried (λ (s : Ends VersionValue). s.upper) w others first.cut first.is
+      first.highest.below ends in
       let c = last.cut in
       let cut : IsLastCut c = record {
         below = last.highest.below;

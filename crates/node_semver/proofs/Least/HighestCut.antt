@@ -179,8 +179,10 @@ module _ (c : Cut VersionValue) (x w : VersionValue) (alike : AskAlike x w)
 
   -- so what lies between is admitted by the one list and not by the other, as the version is
   pub beyond-between : (sets others : List (Ends VersionValue))
-      → AllByRecursion (λ (set : Ends VersionValue). IsCutAtMost version_cmp set.lower (Before w) → IsCutAtMost version_cmp set.lower c) sets
-      → AllByRecursion (λ (set : Ends VersionValue). IsCutAtMost version_cmp set.upper (Before w) → IsCutAtMost version_cmp set.upper c) others
+      → AllByRecursion (λ (set : Ends VersionValue). IsCutAtMost version_cmp set.lower (Before w)
+      → IsCutAtMost version_cmp set.lower c) sets
+      → AllByRecursion (λ (set : Ends VersionValue). IsCutAtMost version_cmp set.upper (Before w)
+      → IsCutAtMost version_cmp set.upper c) others
       → AdmitsBeyond sets others w → AdmitsBeyond sets others x
   beyond-between sets others lowers uppers beyond = record {
     admitted = any-along _ (λ (set : Ends VersionValue). SetAdmits set w)

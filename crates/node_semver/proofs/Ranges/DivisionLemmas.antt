@@ -19,7 +19,8 @@ use Rattle.node_semver.proofs.Words.WordLemmas.{HasWord, has-word, word-after_bl
 
 -- nothing is read of nothing
 word-of_nothing : read_word [] ≡ (None, [])
-unfolding read_word read_hyphen read_simple read_right read_partial read_components read_component read_lead rest_of skip_one
+unfolding read_word read_hyphen read_simple read_right read_partial read_components read_component
+    read_lead rest_of skip_one
 word-of_nothing = refl
 
 -- a first word, with another one after it

@@ -46,25 +46,10 @@ leading-read text first major (Ok x) found one two is = rw is (record {
 leading-read text first major (Err f) found one two is = rw is tt
 
 -- then the version has them
-leading-version : (text rest : List ℕ) (triple : ℕ × ℕ × ℕ) → IsLeadingTriple text triple rest
+pub leading-version : (text rest : List ℕ) (triple : ℕ × ℕ × ℕ) → IsLeadingTriple text triple rest
     → read_version text ≡ read_extended triple rest
 unfolding read_version read_unmarked
 leading-version text rest triple leading = rw (version-begins text leading.digit, leading.read) refl
-
-pub begun-version : (text rest : List ℕ) (triple : ℕ × ℕ × ℕ) → IsBegun text triple rest → length rest < length text
-    → read_version text ≡ read_extended triple rest
-begun-version text rest triple (inl (leading, short)) less = leading-version text rest triple leading
-begun-version text rest triple (inr same) less =
-    let size : length rest ≡ length text = ap length same in
-    absurd (omega arith)
-
--- and the text is no longer than a version's
-pub begun-short : (text rest : List ℕ) (triple : ℕ × ℕ × ℕ) → IsBegun text triple rest → length rest < length text
-    → length text ≤ MAX_LENGTH
-begun-short text rest triple (inl (leading, short)) less = short
-begun-short text rest triple (inr same) less =
-    let size : length rest ≡ length text = ap length same in
-    absurd (omega arith)
 
 -- and nothing else, where nothing follows
 pub leading-whole : (text rest : List ℕ) (triple : ℕ × ℕ × ℕ) → length text ≤ MAX_LENGTH

@@ -176,7 +176,8 @@ none-partial b text solid none =
 -- so there is no comparator
 pub none-begins : (text : List ℕ) → BeginsWithNo is_blank text → (0 < length text → BeginsNone (get_or text 0 0))
     → None ≡ comparator_at text
-unfolding read_hyphen read_simple read_lead read_partial read_right read_components read_component read_number rest_of skip_one
+unfolding read_hyphen read_simple read_lead read_partial read_right read_components read_component
+    read_number rest_of skip_one
 none-begins [] solid none = refl
 none-begins (b ∷ text) solid none =
     let begins = none (omega arith) in

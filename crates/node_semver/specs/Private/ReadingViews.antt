@@ -97,6 +97,6 @@ pub record IsLeadingTriple (text : List ℕ) (triple : ℕ × ℕ × ℕ) (rest 
   pub digit : BeginsWith is_digit text
   pub read : read_triple text ≡ Ok (triple, rest)
 
--- the same of a text that is no longer than a version's, or the whole text where the triple is not read yet
+-- the same of a text that is no longer than a version's
 abbrev pub IsBegun : List ℕ → ℕ × ℕ × ℕ → List ℕ → Type 0
-IsBegun text triple rest = (IsLeadingTriple text triple rest × (length text ≤ MAX_LENGTH)) ⊎ (rest ≡ text)
+IsBegun text triple rest = IsLeadingTriple text triple rest × (length text ≤ MAX_LENGTH)

@@ -114,7 +114,8 @@ fn identifier_of(alloc: Global, text: &[u8]) -> Result<Identifier, AllocError>
 #[inline(always)]
 fn read_next_identifier(text: &[u8]) -> Option<(&[u8], &[u8])>
     ensures next { IfSome result (λ parts. IsNextIdentifier text.now parts.0.now parts.1.now) }
-    ensures none { IfNone result (BeginsWithNo Characters.is_identifier_character text.now → Reading.goes_on text.now ≡ false) }
+    ensures none { IfNone result (BeginsWithNo Characters.is_identifier_character text.now
+        → Reading.goes_on text.now ≡ false) }
 {
     let Some((b'.', next)) = text.split_first() else {
         return None;

@@ -1,4 +1,4 @@
-ghost use Rattle.std.specs.Prelude.{◌≡◌, ◌<◌, IfOk, IfSome, IsOk, [], length};
+ghost use Rattle.std.specs.Prelude.{◌≡◌, IfOk, IfSome, IsOk, []};
 ghost use Rattle.node_semver.specs.Characters.{is_blank, is_version_mark};
 ghost use Rattle.node_semver.specs.Private.Reading as Reading;
 ghost use Rattle.node_semver.specs.Private.ReadingViews.{Gives, IsBegun, IsLeadingTriple, IsPlainOk, dot_seen};
@@ -138,8 +138,7 @@ pub(crate) fn read_after_triple<'a>(
     triple: (u64, u64, u64),
     rest: &'a [u8],
 ) -> Result<(Version, &'a [u8]), Fault>
-    requires begun { IsBegun text.now triple rest.now }
-    requires read { length rest.now < length text.now }
+    requires { IsBegun text.now triple rest.now }
     ensures read { Gives version_seen result (Reading.read_version text.now) }
     ensures plain { IsPlainOk result (Reading.read_version text.now) }
 {

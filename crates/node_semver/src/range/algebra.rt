@@ -51,7 +51,8 @@ impl Range {
     /// - `>1.0.0-a` with `<1.0.0-a.0` is `>1.0.0-a <1.0.0-a.0`, which has a cut and no version.
     pub fn intersect(&self, alloc: Global, other: &Range) -> Result<Option<Range>, AllocError>
         ensures sets { IfOk result (λ answer. sets_of_answer answer ≡ common_spans version_cmp self.now other.now) }
-        ensures cuts { IfOk result (λ answer. (cut : Cut VersionValue) → IsInSome version_cmp (sets_of_answer answer) cut
+        ensures cuts { IfOk result (λ answer. (cut : Cut VersionValue)
+            → IsInSome version_cmp (sets_of_answer answer) cut
             ↔ (IsInSome version_cmp self.now cut × IsInSome version_cmp other.now cut)) }
         ensures none { IfOk result (λ answer. IsNone answer ↔ ¬ ShareCut version_cmp self.now other.now) }
         ensures some { IfOk result (λ answer. IsSome answer ↔ ShareCut version_cmp self.now other.now) }

@@ -42,7 +42,8 @@ impl Model for Searched {
 
     ghost view = { λ s. s.sets.items };
 
-    ghost invariant = { λ s. IsPlacesOf version_cmp s.sets.items s.places × AreOpeningsOf s.sets.items s.openings.items };
+    ghost invariant = { λ s. IsPlacesOf version_cmp s.sets.items s.places
+        × AreOpeningsOf s.sets.items s.openings.items };
 }
 
 impl Searched {

@@ -1,4 +1,4 @@
-ghost use Rattle.std.specs.Prelude.{◌≡◌, ◌⊎◌, ◌≤◌, ◌<◌, [], IfOk, IfErr, IsOk, length};
+ghost use Rattle.std.specs.Prelude.{◌≡◌, ◌⊎◌, ◌≤◌, [], IfOk, IfErr, IfSome, IsOk, length};
 ghost use Rattle.node_semver.specs.Error.{IsOutOfMemory, kind_of};
 ghost use Rattle.node_semver.specs.Fault.{IsFaultOf};
 ghost use Rattle.node_semver.specs.Private.ReadingViews.{IsBegun, IsErrorOf, IsMemoryOr, kind_in};
@@ -61,7 +61,7 @@ impl Version {
     {
         match whole_triple(text.as_bytes()) {
             Ok((major, minor, patch)) => Ok(Version::new(alloc, major, minor, patch)),
-            Err((triple, rest)) => version_in_parts(alloc, text, triple, rest),
+            Err(begun) => version_in_parts(alloc, text, begun),
         }
     }
 }
@@ -69,45 +69,42 @@ impl Version {
 // The numbers of `1.2.3`, which is the whole text and no longer than a version's; else what is read of it: three
 // numbers and the rest, or nothing yet.
 #[inline(always)]
-fn whole_triple(text: &[u8]) -> Result<(u64, u64, u64), ((u64, u64, u64), &[u8])>
+fn whole_triple(text: &[u8]) -> Result<(u64, u64, u64), Option<((u64, u64, u64), &[u8])>>
     ensures whole { IfOk result (λ t. IsVersionText text.now (release t.0 t.1 t.2)) }
-    ensures begun { IfErr result (λ begun. IsBegun text.now begun.0 begun.1.now) }
+    ensures begun { IfErr result (λ begun. IfSome begun (λ t. IsBegun text.now t.0 t.1.now)) }
 {
     if text.len() > MAX_LENGTH {
-        return Err(((0, 0, 0), text));
+        return Err(None);
     }
     match parse::read_leading_triple(text) {
         Some((triple, [])) => Ok(triple),
-        Some(begun) => Err(begun),
-        None => Err(((0, 0, 0), text)),
+        begun => Err(begun),
     }
 }
 
 // The version that any text is, of which the triple may be read already.
-//
-// What is out of line is called through a function that is not, so that the place of its answer is cleared where it is
-// called, and nowhere else; so also below.
 #[inline(always)]
 fn version_in_parts(
     alloc: Global,
     text: &str,
-    triple: (u64, u64, u64),
-    rest: &[u8],
+    begun: Option<((u64, u64, u64), &[u8])>,
 ) -> Result<Version, SemverError>
-    requires { IsBegun text.now triple rest.now }
+    requires { IfSome begun (λ t. IsBegun text.now t.0 t.1.now) }
     ensures found { IfOk result (λ v. IsVersionText text.now v) }
     ensures fault { IfErr result (λ e. IsOutOfMemory e ⊎ IsFaultOf text.now e) }
     ensures plain { (v : VersionValue) → IsVersionText text.now v → v.pre_release ≡ []
         → v.build ≡ [] → IsOk result }
 {
-    if rest.len() < text.len() {
-        after_triple(alloc, text, triple, rest)
-    } else {
-        from_start(alloc, text)
+    match begun {
+        Some((triple, rest)) => after_triple(alloc, text, triple, rest),
+        None => from_start(alloc, text),
     }
 }
 
-// The same of a text whose triple is read.
+// The version of a text whose triple is read.
+//
+// What is out of line is called through a function that is not, so that the place of its answer is cleared where it is
+// called, and nowhere else; so also below.
 #[inline(always)]
 fn after_triple(
     alloc: Global,
@@ -115,8 +112,7 @@ fn after_triple(
     triple: (u64, u64, u64),
     rest: &[u8],
 ) -> Result<Version, SemverError>
-    requires begun { IsBegun text.now triple rest.now }
-    requires read { length rest.now < length text.now }
+    requires { IsBegun text.now triple rest.now }
     ensures found { IfOk result (λ v. IsVersionText text.now v) }
     ensures fault { IfErr result (λ e. IsOutOfMemory e ⊎ IsFaultOf text.now e) }
     ensures plain { (v : VersionValue) → IsVersionText text.now v → v.pre_release ≡ []
@@ -134,8 +130,7 @@ fn version_after_triple(
     patch: u64,
     rest: &[u8],
 ) -> Result<Version, SemverError>
-    requires begun { IsBegun text.now (major, minor, patch) rest.now }
-    requires read { length rest.now < length text.now }
+    requires { IsBegun text.now (major, minor, patch) rest.now }
     ensures found { IfOk result (λ v. IsVersionText text.now v) }
     ensures fault { IfErr result (λ e. IsOutOfMemory e ⊎ IsFaultOf text.now e) }
     ensures plain { (v : VersionValue) → IsVersionText text.now v → v.pre_release ≡ []
@@ -154,8 +149,7 @@ fn whole_after_triple<'a>(
     triple: (u64, u64, u64),
     rest: &'a [u8],
 ) -> Result<Version, Fault>
-    requires begun { IsBegun text.now triple rest.now }
-    requires read { length rest.now < length text.now }
+    requires { IsBegun text.now triple rest.now }
     ensures found { IfOk result (λ v. IsVersionText text.now v) }
     ensures fault { IfErr result (IsMemoryOr text.now) }
     ensures plain { (v : VersionValue) → IsVersionText text.now v → v.pre_release ≡ []

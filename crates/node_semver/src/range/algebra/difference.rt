@@ -44,7 +44,8 @@ impl Range {
     /// - `>=1.2.3` less `>1.0.0` is `None`.
     pub fn difference(&self, alloc: Global, other: &Range) -> Result<Option<Range>, AllocError>
         ensures sets { IfOk result (λ answer. AreRestSpans version_cmp self.now other.now (sets_of_answer answer)) }
-        ensures cuts { IfOk result (λ answer. (cut : Cut VersionValue) → IsInSome version_cmp (sets_of_answer answer) cut
+        ensures cuts { IfOk result (λ answer. (cut : Cut VersionValue)
+            → IsInSome version_cmp (sets_of_answer answer) cut
             ↔ (IsInSome version_cmp self.now cut × ¬ IsInSome version_cmp other.now cut)) }
         ensures none { IfOk result (λ answer. IsNone answer ↔ ((cut : Cut VersionValue) →
             ¬ (IsInSome version_cmp self.now cut × ¬ IsInSome version_cmp other.now cut))) }

@@ -45,7 +45,8 @@ fn merge_leading<'a>(
 ) -> Result<&'a [u8], AllocError>
     ensures rest { IfOk result (λ rest. rest.now
         ≡ rest_of is_blank (leading_or_none (read_right text.now) text.now).1) }
-    ensures merged { OnOk result (IsOneMerged merged.old (leading_or_none (read_right text.now) text.now).0 merged.new) }
+    ensures merged { OnOk result (IsOneMerged merged.old (leading_or_none (read_right text.now) text.now).0
+        merged.new) }
 {
     match skip_some_blanks(text) {
         Some(_) => merge_leading_hyphen(alloc, text, merged),
@@ -62,7 +63,8 @@ fn merge_leading_hyphen<'a>(
 ) -> Result<&'a [u8], AllocError>
     ensures rest { IfOk result (λ rest. rest.now
         ≡ rest_of is_blank (leading_or_none (read_right text.now) text.now).1) }
-    ensures merged { OnOk result (IsOneMerged merged.old (leading_or_none (read_right text.now) text.now).0 merged.new) }
+    ensures merged { OnOk result (IsOneMerged merged.old (leading_or_none (read_right text.now) text.now).0
+        merged.new) }
 {
     let (ends, rest) = skip_leading_hyphen(text);
     keep(alloc, merged, ends)?;

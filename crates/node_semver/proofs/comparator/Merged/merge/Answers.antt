@@ -5,7 +5,8 @@ use Rattle.node_semver.proofs.comparator.Merged.merge.Goals as goal
 
 pub returns : goal.returns
 returns c = λ comparators merged.
-    merged-push c.self.inside.found c.self.inside.lower c.self.inside.upper c.keep_greatest.new.kept c.keep_least.new.kept
+    merged-push c.self.inside.found c.self.inside.lower c.self.inside.upper
+    c.keep_greatest.new.kept c.keep_least.new.kept
     c.args.later c.self.invariant (rw (← c.later.view_is) c.keep_greatest.ensures)
     (rw (← c.later.view_is) c.keep_least.ensures)
     comparators (subst (IsMerged comparators) (sym c.self.view_is) merged)

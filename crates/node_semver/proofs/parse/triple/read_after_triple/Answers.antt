@@ -1,16 +1,16 @@
 use Rattle.std.proofs.Common.{subst, sym}
 use Rattle.node_semver.specs.Private.ReadingViews.{Gives, IsPlainOk, version_seen}
-use Rattle.node_semver.proofs.Versions.LeadingTriple.{begun-version}
+use Rattle.node_semver.proofs.Versions.LeadingTriple.{leading-version}
 use Rattle.node_semver.proofs.parse.triple.read_after_triple.Goals as goal
 
 pub returns-clause-read : goal.returns-clause-read
 returns-clause-read c =
     subst (Gives version_seen c.read_extended.result)
-    (sym (begun-version c.args.text.now c.args.rest.now c.args.triple c.requires.begun c.requires.read))
+    (sym (leading-version c.args.text.now c.args.rest.now c.args.triple c.requires.0))
     c.read_extended.ensures.read
 
 pub returns-clause-plain : goal.returns-clause-plain
 returns-clause-plain c =
     subst (IsPlainOk c.read_extended.result)
-    (sym (begun-version c.args.text.now c.args.rest.now c.args.triple c.requires.begun c.requires.read))
+    (sym (leading-version c.args.text.now c.args.rest.now c.args.triple c.requires.0))
     c.read_extended.ensures.plain

@@ -12,7 +12,8 @@ returns-in-Start c =
     candidate-least set c.least_of_triple.result c.if_inside.result
     (start-candidate set c.least_of_triple.result (sym c.lower.ensures ∙ c.in-Start.is)
     (subst (λ u. IsLeastOfTriple u 0 0 0 [] c.least_of_triple.result) c.upper-upper.ensures c.least_of_triple.ensures))
-    (subst (λ u. IsInsideOrNone u c.least_of_triple.result c.if_inside.result) c.upper-upper.ensures c.if_inside.ensures)
+    (subst (λ u. IsInsideOrNone u c.least_of_triple.result c.if_inside.result)
+    c.upper-upper.ensures c.if_inside.ensures)
 
 pub returns-in-Before : goal.returns-in-Before
 returns-in-Before c =
@@ -26,7 +27,8 @@ returns-in-After c =
     candidate-least set c.after_end.result c.if_inside-in-After.result
     (zero-candidate set c.in-After.end c.after_end.result (sym c.lower.ensures ∙ c.in-After.is)
     (c.is_prerelease.ensures.0 c.if-is_prerelease.true) c.after_end.ensures)
-    (subst (λ u. IsInsideOrNone u c.after_end.result c.if_inside-in-After.result) c.upper-upper.ensures c.if_inside-in-After.ensures)
+    (subst (λ u. IsInsideOrNone u c.after_end.result c.if_inside-in-After.result)
+    c.upper-upper.ensures c.if_inside-in-After.ensures)
 
 pub returns-in-After-2 : goal.returns-in-After-2
 returns-in-After-2 c =

@@ -8,14 +8,16 @@ use Rattle.node_semver.proofs.range.searched.is_in_opened.Goals as goal
 
 pub returns-then-has_inside-clause-inside : goal.returns-then-has_inside-clause-inside
 returns-then-has_inside-clause-inside g c = (
-  λ h. opening-inside (g.V.Asked.asked c.args.version.now) c.args.sets.now c.args.openings.now c.openings.opening-index _ _ _
+  λ h. opening-inside (g.V.Asked.asked c.args.version.now) c.args.sets.now c.args.openings.now
+      c.openings.opening-index _ _ _
       c.openings-test.true c.requires c.index-sets-opening.is (c.has_inside.ensures.inside.0 c.if-has_inside.true),
   λ some. refl,
 )
 
 pub openings-preserved : goal.openings-preserved
 openings-preserved g c = record {
-  none = opening-outside (g.V.Asked.asked c.args.version.now) c.args.sets.now c.args.openings.now c.openings.opening-index _ _ _
+  none = opening-outside (g.V.Asked.asked c.args.version.now) c.args.sets.now c.args.openings.now
+      c.openings.opening-index _ _ _
       c.openings-test.true c.requires c.index-sets-opening.is c.openings.invariant.none
       (λ inside. cc (c.if-has_inside.false, c.has_inside.ensures.inside.1 inside));
   short = omega arith;

@@ -61,7 +61,8 @@ loop-low-preserved g c =
       above = begun_above version_total (Before
           (g.V.Asked.asked c.args.version.now)) spans c.len-high.ensures.joined.merged middle span within
           c.ends.ensures
-          ((not-begun version_total (Before (g.V.Asked.asked c.args.version.now)) c.is_begun.result span.lower c.is_begun.ensures.begun).0
+          ((not-begun version_total (Before (g.V.Asked.asked c.args.version.now)) c.is_begun.result
+          span.lower c.is_begun.ensures.begun).0
           (ap not c.if-is_begun.false));
       steps = λ digits fits.
           subst (λ n. IsLeft c.args.comparisons.now n digits (middle - low)) (sym c.is_begun.ensures.counted)
@@ -98,7 +99,8 @@ returns-clause-inside g c =
     let above = subst (λ k. AllByRecursion (λ s. IsCutBelow version_cmp
     (Before (g.V.Asked.asked c.args.version.now)) s.lower) (drop k spans)) end
     c.loop-low.invariant.above in
-    let inside = last_begun version_total cut spans c.len-high.ensures.joined.merged place span within c.ends-2.ensures begun above in
+    let inside = last_begun version_total cut spans c.len-high.ensures.joined.merged place span within
+    c.ends-2.ensures begun above in
     let not_begun = not-begun version_total cut c.is_begun-2.result span.upper c.is_begun-2.ensures.begun in
     let cuts = c.len-high.ensures.joined.cuts cut in
     (λ h. cuts.0 (inside.1 (not_begun.0 h)), λ is. not_begun.1 (inside.0 (cuts.1 is)))

@@ -1,18 +1,15 @@
 use Rattle.std.proofs.Common.{arith, inr}
-use Rattle.node_semver.proofs.Versions.LeadingTriple.{begun-short}
 use Rattle.node_semver.proofs.Versions.VersionParse.{left-no_version, plain-read, whole-fault, whole-found, whole-left}
 use Rattle.node_semver.proofs.version.parse.whole_after_triple.Goals as goal
 
 pub returns-in-Ok-default-empty-clause-found : goal.returns-in-Ok-default-empty-clause-found
 returns-in-Ok-default-empty-clause-found c =
-    let short = begun-short c.args.text.now c.args.rest.now c.args.triple c.requires.begun c.requires.read in
-    whole-found c.args.text.now c.in-Ok-default-empty.found c.in-Ok-default-empty.field-0-1.now short
+    whole-found c.args.text.now c.in-Ok-default-empty.found c.in-Ok-default-empty.field-0-1.now c.requires.1
     c.in-Ok-default-empty.ensures.read (omega arith)
 
 pub returns-in-Ok-clause-fault : goal.returns-in-Ok-clause-fault
 returns-in-Ok-clause-fault c =
-    let short = begun-short c.args.text.now c.args.rest.now c.args.triple c.requires.begun c.requires.read in
-    inr (whole-left c.args.text.now c.in-Ok.field-0-0 c.in-Ok.rest.now short c.in-Ok.ensures.read (omega arith))
+    inr (whole-left c.args.text.now c.in-Ok.field-0-0 c.in-Ok.rest.now c.requires.1 c.in-Ok.ensures.read (omega arith))
 
 pub returns-in-Ok-clause-plain : goal.returns-in-Ok-clause-plain
 returns-in-Ok-clause-plain c =
@@ -21,8 +18,7 @@ returns-in-Ok-clause-plain c =
 
 pub returns-in-Err-clause-fault : goal.returns-in-Err-clause-fault
 returns-in-Err-clause-fault c =
-    let short = begun-short c.args.text.now c.args.rest.now c.args.triple c.requires.begun c.requires.read in
-    whole-fault c.args.text.now c.in-Err.fault short c.in-Err.ensures.read
+    whole-fault c.args.text.now c.in-Err.fault c.requires.1 c.in-Err.ensures.read
 
 pub returns-in-Err-clause-plain : goal.returns-in-Err-clause-plain
 returns-in-Err-clause-plain c =

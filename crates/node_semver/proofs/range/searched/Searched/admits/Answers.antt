@@ -18,7 +18,8 @@ returns-then-not-is_prerelease-clause-answer g c =
     let sets : List (Ends VersionValue) = c.args.self.now in
     let release : ¬ IsPrerelease v = λ pre. cc (c.if-not-is_prerelease.true, c.is_prerelease.ensures.1 pre) in
     let admits = release-admits v release sets in
-    let inside = subst (λ (l : List (Ends VersionValue)). IsTrue c.is_in_some.result ↔ IsInSome version_cmp l (Before v))
+    let inside = subst (λ (l : List (Ends VersionValue)). IsTrue c.is_in_some.result
+    ↔ IsInSome version_cmp l (Before v))
     c.merged.ensures c.is_in_some.ensures.inside in
     (λ h. admits.0 (inside.0 h), λ is. inside.1 (admits.1 is))
 

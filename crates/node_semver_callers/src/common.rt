@@ -26,7 +26,7 @@ pub fn shared_range(alloc: Global, one: &str, other: &str) -> Result<Option<Rang
 #[cfg(test)]
 mod tests {
     use super::shared_range;
-    use node_semver::Range;
+    use crate::checks::is_found;
     use std::alloc::Global;
 
     #[test]
@@ -37,17 +37,6 @@ mod tests {
     }
 
     fn is_shared(alloc: Global, one: &str, other: &str, print: Option<&str>) -> bool {
-        match &shared_range(alloc, one, other) {
-            Ok(Some(shared)) => prints(alloc, shared, print),
-            Ok(None) => print.is_none(),
-            Err(_) => false,
-        }
-    }
-
-    fn prints(alloc: Global, range: &Range, text: Option<&str>) -> bool {
-        match &range.to_string(alloc) {
-            Ok(print) => text == Some(print.as_str()),
-            Err(_) => false,
-        }
+        is_found(alloc, &shared_range(alloc, one, other), print)
     }
 }

@@ -25,7 +25,7 @@ pub fn least_allowed(alloc: Global, asked: &str) -> Result<Option<Version>, Fail
 #[cfg(test)]
 mod tests {
     use super::least_allowed;
-    use node_semver::Version;
+    use crate::checks::is_found;
     use std::alloc::Global;
 
     #[test]
@@ -35,17 +35,6 @@ mod tests {
     }
 
     fn is_least(alloc: Global, asked: &str, print: Option<&str>) -> bool {
-        match &least_allowed(alloc, asked) {
-            Ok(Some(least)) => prints(alloc, least, print),
-            Ok(None) => print.is_none(),
-            Err(_) => false,
-        }
-    }
-
-    fn prints(alloc: Global, version: &Version, text: Option<&str>) -> bool {
-        match &version.to_string(alloc) {
-            Ok(print) => text == Some(print.as_str()),
-            Err(_) => false,
-        }
+        is_found(alloc, &least_allowed(alloc, asked), print)
     }
 }

@@ -1,5 +1,6 @@
 //! Callers of `node_semver`, a task a file, each proved from the contracts of the calls that it makes. Take what you
-//! need: copy the file, its files in `specs/` and `proofs/`, and [`Failure`] where the file names it.
+//! need: copy the file, its files in `specs/` and `proofs/`, and [`Failure`] where the file names it; with a test,
+//! `checks` where the test names it.
 //!
 //! | task | caller |
 //! |---|---|
@@ -12,6 +13,8 @@
 #![tactic(auto)]
 
 pub mod advisory;
+#[cfg(test)]
+mod checks;
 pub mod common;
 mod failure;
 pub mod least;

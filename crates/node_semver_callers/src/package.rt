@@ -54,7 +54,8 @@ pub fn range_of_member(alloc: Global, member: &Value) -> Result<Range, MemberErr
 
 #[cfg(test)]
 mod tests {
-    use super::{MemberError, range_of_member};
+    use super::range_of_member;
+    use crate::checks::prints;
     use serde_json::Value;
     use std::alloc::Global;
 
@@ -83,13 +84,6 @@ mod tests {
         match &range_of_member(alloc, member) {
             Ok(_) => text.is_none(),
             Err(error) => prints(alloc, error, text),
-        }
-    }
-
-    fn prints(alloc: Global, error: &MemberError, text: Option<&str>) -> bool {
-        match &error.to_string(alloc) {
-            Ok(print) => text == Some(print.as_str()),
-            Err(_) => false,
         }
     }
 }

@@ -35,7 +35,7 @@ fn leaf(alloc: Global, text: &str) -> Result<Box<SetTree>, AllocError>
 #[cfg(test)]
 mod tests {
     use super::unhit_range;
-    use node_semver::Range;
+    use crate::checks::is_found;
     use std::alloc::Global;
 
     #[test]
@@ -46,17 +46,6 @@ mod tests {
     }
 
     fn is_unhit(alloc: Global, texts: (&str, &str, &str), print: Option<&str>) -> bool {
-        match &unhit_range(alloc, texts.0, texts.1, texts.2) {
-            Ok(Some(unhit)) => prints(alloc, unhit, print),
-            Ok(None) => print.is_none(),
-            Err(_) => false,
-        }
-    }
-
-    fn prints(alloc: Global, range: &Range, text: Option<&str>) -> bool {
-        match &range.to_string(alloc) {
-            Ok(print) => text == Some(print.as_str()),
-            Err(_) => false,
-        }
+        is_found(alloc, &unhit_range(alloc, texts.0, texts.1, texts.2), print)
     }
 }

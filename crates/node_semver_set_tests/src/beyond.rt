@@ -1,4 +1,5 @@
 use crate::checks::is_print;
+use crate::pairs::range;
 use crate::questions::{Question, each};
 use node_semver::{Range, Version, max_satisfying};
 use std::alloc::Global;
@@ -40,53 +41,49 @@ const GREATEST: [&str; 7] = [
 
 #[test]
 fn the_least_version_beyond_a_range(rt: HostRuntime) {
-    each(&rt, Question::IsLeastBeyond, &BEYOND);
+    each(&rt, Question::LeastBeyond, &BEYOND);
 }
 
 #[test]
 fn the_greatest_version_of_a_list(rt: HostRuntime) {
-    each(&rt, Question::IsGreatest, &GREATEST);
+    each(&rt, Question::Greatest, &GREATEST);
 }
 
 // What is answered is admitted by the one and not by the other.
-fn least_beyond(alloc: Global, one: &Range, other: &Range, least: &str) -> Option<bool> {
-    match one.least_beyond(alloc, other).ok()? {
-        Some(version) => Some(
-            one.satisfies(&version)
-                && !other.satisfies(&version)
-                && is_print(version.to_string(alloc).ok(), least),
-        ),
-        None => Some(least.is_empty()),
+pub(crate) fn is_least_beyond(alloc: Global, one: &Range, other: &Range, least: &str) -> bool {
+    match &one.least_beyond(alloc, other) {
+        Ok(Some(version)) => {
+            one.satisfies(version)
+                && !other.satisfies(version)
+                && is_print(version.to_string(alloc).ok(), least)
+        }
+        Ok(None) => least.is_empty(),
+        Err(_) => false,
     }
 }
 
-pub(crate) fn is_least_beyond(alloc: Global, row: &str) -> Option<bool> {
-    let (one, row) = row.split_once("; ")?;
-    let (other, least) = row.split_once("; ")?;
-    let one = Range::parse(alloc, one).ok()?;
-    let other = Range::parse(alloc, other).ok()?;
-    least_beyond(alloc, &one, &other, least)
+fn add_version(alloc: Global, versions: &mut Vec<Version>, text: &str) -> Option<()> {
+    versions.push(Version::parse(alloc, text).ok()?).ok()
 }
 
 fn read_versions(alloc: Global, texts: &str) -> Option<Vec<Version>> {
     let mut versions = Vec::new(alloc);
     for text in texts.split_whitespace() {
-        versions.push(Version::parse(alloc, text).ok()?).ok()?;
+        add_version(alloc, &mut versions, text)?;
     }
     Some(versions)
 }
 
-fn greatest_is(alloc: Global, versions: &[Version], range: &str, greatest: &str) -> Option<bool> {
-    let range = Range::parse(alloc, range).ok()?;
-    match max_satisfying(versions, &range) {
-        Some(version) => Some(is_print(version.to_string(alloc).ok(), greatest)),
-        None => Some(greatest.is_empty()),
+fn greatest_is(alloc: Global, versions: &[Version], range: &Range, greatest: &str) -> bool {
+    match max_satisfying(versions, range) {
+        Some(version) => is_print(version.to_string(alloc).ok(), greatest),
+        None => greatest.is_empty(),
     }
 }
 
-pub(crate) fn is_greatest(alloc: Global, row: &str) -> Option<bool> {
-    let (versions, row) = row.split_once("; ")?;
-    let (range, greatest) = row.split_once("; ")?;
-    let versions = read_versions(alloc, versions)?;
-    greatest_is(alloc, &versions, range, greatest)
+pub(crate) fn is_greatest(alloc: Global, versions: &str, text: &str, greatest: &str) -> bool {
+    match (&read_versions(alloc, versions), &range(alloc, text)) {
+        (Some(versions), Some(range)) => greatest_is(alloc, versions, range, greatest),
+        _ => false,
+    }
 }

@@ -1,22 +1,15 @@
-use crate::checks::is_print;
-use crate::pairs::range;
+use crate::checks::{is_print, version_print};
 use crate::questions::{Question, each};
 use node_semver::{JsonError, Range, Version};
 use serde_json::Value;
-use std::alloc::Global;
-
-fn string(alloc: Global, text: &str) -> Option<Value> {
-    Some(Value::String(String::from_str(alloc, text).ok()?))
-}
+use std::alloc::{AllocError, Global};
 
 // The text of a JSON string.
-fn text_of(alloc: Global, value: &Value) -> Option<String> {
-    String::from_str(alloc, value.as_str()?).ok()
-}
-
-pub(crate) fn version_text(alloc: Global, version: &Version) -> Option<String> {
-    let value = version.to_json(alloc).ok()?;
-    text_of(alloc, &value)
+pub(crate) fn text_of(alloc: Global, written: Result<Value, AllocError>) -> Option<String> {
+    match &written {
+        Ok(value) => String::from_str(alloc, value.as_str()?).ok(),
+        Err(_) => None,
+    }
 }
 
 // What an error tells, and its print.
@@ -31,69 +24,69 @@ fn told(alloc: Global, error: &JsonError) -> Option<String> {
 }
 
 // What is read of a value, by its print, or what the error tells.
-fn version_print(alloc: Global, value: &Value) -> Option<String> {
-    match Version::from_json(alloc, value) {
+fn version_read(alloc: Global, value: &Value) -> Option<String> {
+    match &Version::from_json(alloc, value) {
         Ok(version) => version.to_string(alloc).ok(),
-        Err(error) => told(alloc, &error),
+        Err(error) => told(alloc, error),
     }
 }
 
-fn range_print(alloc: Global, value: &Value) -> Option<String> {
-    match Range::from_json(alloc, value) {
+fn range_read(alloc: Global, value: &Value) -> Option<String> {
+    match &Range::from_json(alloc, value) {
         Ok(range) => range.to_string(alloc).ok(),
-        Err(error) => told(alloc, &error),
+        Err(error) => told(alloc, error),
+    }
+}
+
+fn of_value(alloc: Global, question: Question, value: &Value) -> Option<String> {
+    match question {
+        Question::VersionOf | Question::VersionOfMember => version_read(alloc, value),
+        _ => range_read(alloc, value),
     }
 }
 
 // The same of a JSON string.
-pub(crate) fn version_of(alloc: Global, text: &str) -> Option<String> {
-    let value = string(alloc, text)?;
-    version_print(alloc, &value)
+pub(crate) fn of_string(alloc: Global, question: Question, text: &str) -> Option<String> {
+    let value = Value::String(String::from_str(alloc, text).ok()?);
+    of_value(alloc, question, &value)
 }
 
-pub(crate) fn range_of(alloc: Global, text: &str) -> Option<String> {
-    let value = string(alloc, text)?;
-    range_print(alloc, &value)
+// The same of the package's member at a pointer.
+pub(crate) fn of_member(alloc: Global, question: Question, pointer: &str) -> Option<String> {
+    match &Value::from_str(alloc, PACKAGE) {
+        Ok(package) => of_value(alloc, question, package.pointer(pointer)?),
+        Err(_) => None,
+    }
 }
 
-fn written_version(alloc: Global, text: &str) -> Option<String> {
-    let version = Version::parse(alloc, text).ok()?;
-    version_text(alloc, &version)
-}
-
-pub(crate) fn written_range(alloc: Global, text: &str) -> Option<String> {
-    let range = range(alloc, text)?;
-    let value = range.to_json(alloc).ok()?;
-    text_of(alloc, &value)
-}
-
-// A version, and the string that it is written as and read of again.
+// A version, and the string that it is written as.
 const VERSIONS: [&str; 2] = [
     "1.2.34-abc.213+2; 1.2.34-abc.213+2",
     "v 01.2.3alpha.001; 1.2.3-alpha.1",
 ];
 
-pub(crate) fn version_is_written(alloc: Global, row: &str) -> Option<bool> {
-    let (text, written) = row.split_once("; ")?;
-    Some(
-        is_print(written_version(alloc, text), written)
-            && is_print(version_of(alloc, written), written),
-    )
-}
+// A string that was written, and what is read of it.
+const VERSIONS_READ: [&str; 3] = [
+    "1.2.34-abc.213+2; 1.2.34-abc.213+2",
+    "1.2.3-alpha.1; 1.2.3-alpha.1",
+    "1.2.3-4; 1.2.3-4",
+];
 
 fn made_version(alloc: Global) -> Option<String> {
-    let version = Version::with_pre_release(alloc, 1, 2, 3, 4).ok()?;
-    version_text(alloc, &version)
+    match &Version::with_pre_release(alloc, 1, 2, 3, 4) {
+        Ok(version) => text_of(alloc, version.to_json(alloc)),
+        Err(_) => None,
+    }
 }
 
 #[test]
 fn writes_and_reads_versions(rt: HostRuntime) {
-    each(&rt, Question::VersionIsWritten, &VERSIONS);
+    each(&rt, Question::WrittenVersion, &VERSIONS);
+    each(&rt, Question::VersionOf, &VERSIONS_READ);
     assert!(rt; is_print(made_version(rt.alloc()), "1.2.3-4"));
-    assert!(rt; is_print(version_of(rt.alloc(), "1.2.3-4"), "1.2.3-4"));
 }
 
-// A range, and the string that it is written as and read of again.
+// A range, and the string that it is written as. What is read of its text is the same.
 const RANGES: [&str; 4] = [
     "^1.2.3; >=1.2.3 <2.0.0-0",
     "<1.2.3; <1.2.3",
@@ -101,53 +94,25 @@ const RANGES: [&str; 4] = [
     ">1.2.3+a <=2.0.0+b; >1.2.3+a <=2.0.0+b",
 ];
 
-// It is read of its own text too.
-pub(crate) fn range_is_written(alloc: Global, row: &str) -> Option<bool> {
-    let (text, written) = row.split_once("; ")?;
-    Some(
-        is_print(written_range(alloc, text), written)
-            && is_print(range_of(alloc, written), written)
-            && is_print(range_of(alloc, text), written),
-    )
-}
+// A string that was written, and what is read of it. The text of the range of all cuts is read as another range. A
+// major above the greatest number of a text is printed, and no text has it.
+const RANGES_READ: [&str; 6] = [
+    ">=1.2.3 <2.0.0-0; >=1.2.3 <2.0.0-0",
+    "<1.2.3; <1.2.3",
+    "1.2.3-rc||>=5.0.0; 1.2.3-rc||>=5.0.0",
+    ">1.2.3+a <=2.0.0+b; >1.2.3+a <=2.0.0+b",
+    "*; >=0.0.0",
+    ">=9007199254740992.0.0; NoValidRanges at 0: No valid ranges could be parsed",
+];
 
-// Whether a string is refused as a range.
-fn is_refused(alloc: Global, text: &str) -> bool {
-    match string(alloc, text) {
-        Some(value) => Range::from_json(alloc, &value).is_err(),
-        None => false,
-    }
-}
+const RANGES_WRITTEN: [&str; 2] = ["any; *", ">9007199254740991; >=9007199254740992.0.0"];
 
-// The text of the range of all cuts is read as another range. A major above the greatest number of a text is printed,
-// and no text has it.
 #[test]
 fn writes_and_reads_ranges(rt: HostRuntime) {
-    each(&rt, Question::RangeIsWritten, &RANGES);
-    assert!(rt; is_print(written_range(rt.alloc(), "any"), "*"));
-    assert!(rt; is_print(range_of(rt.alloc(), "*"), ">=0.0.0"));
-    let (greatest, print) = (">9007199254740991", ">=9007199254740992.0.0");
-    assert!(rt; is_print(written_range(rt.alloc(), greatest), print));
-    assert!(rt; is_refused(rt.alloc(), print));
-}
-
-// Values that are no strings.
-const NO_STRINGS: [&str; 6] = ["null", "true", "1", "1.5", "[\"1\"]", "{\"version\":\"1\"}"];
-
-fn is_no_string(alloc: Global, text: &str) -> Option<bool> {
-    let value = Value::from_str(alloc, text).ok()?;
-    let wanted = "NotAString: expected a string";
-    Some(
-        is_print(version_print(alloc, &value), wanted)
-            && is_print(range_print(alloc, &value), wanted),
-    )
-}
-
-#[test]
-fn refuses_what_is_no_string(rt: HostRuntime) {
-    for text in &NO_STRINGS {
-        assert!(rt; is_no_string(rt.alloc(), text) == Some(true), "{text}");
-    }
+    each(&rt, Question::WrittenRange, &RANGES);
+    each(&rt, Question::WrittenRange, &RANGES_WRITTEN);
+    each(&rt, Question::RangeOf, &RANGES);
+    each(&rt, Question::RangeOf, &RANGES_READ);
 }
 
 const REFUSED_VERSIONS: [&str; 1] = ["1.2; Context(\"version\") at 3: Failed to parse version."];
@@ -170,40 +135,38 @@ const PACKAGE: &str = "{
     \"lodash\": \"~4.17\",
     \"semver\": \"6.3.1 || >=7.5\"
   },
-  \"engines\": { \"node\": \">= 14.17 <21\" }
+  \"engines\": { \"node\": \">= 14.17 <21\" },
+  \"config\": [null, true, 1, 1.5, [\"1\"], {\"version\":\"1\"}]
 }";
 
-// A member of the package, a name in it, and the print of its range.
-const MEMBERS: [&str; 4] = [
-    "dependencies; chalk; >=4.1.2 <5.0.0-0",
-    "dependencies; lodash; >=4.17.0 <4.18.0-0",
-    "dependencies; semver; 6.3.1||>=7.5.0",
-    "engines; node; >=14.17.0 <21.0.0",
+const PACKAGE_VERSION: [&str; 1] = ["/version; 1.2.3-rc.4"];
+
+// A member of the package, and the print of its range.
+const PACKAGE_RANGES: [&str; 4] = [
+    "/dependencies/chalk; >=4.1.2 <5.0.0-0",
+    "/dependencies/lodash; >=4.17.0 <4.18.0-0",
+    "/dependencies/semver; 6.3.1||>=7.5.0",
+    "/engines/node; >=14.17.0 <21.0.0",
 ];
-
-fn member_is(alloc: Global, package: &Value, row: &str) -> Option<bool> {
-    let (member, row) = row.split_once("; ")?;
-    let (name, wanted) = row.split_once("; ")?;
-    let range = package.get(member)?.get(name)?;
-    Some(is_print(range_print(alloc, range), wanted))
-}
-
-fn members_are(alloc: Global, package: &Value) -> bool {
-    for row in &MEMBERS {
-        if member_is(alloc, package, row) != Some(true) {
-            return false;
-        }
-    }
-    true
-}
-
-fn package_is_read(alloc: Global) -> Option<bool> {
-    let package = Value::from_str(alloc, PACKAGE).ok()?;
-    let version = version_print(alloc, package.get("version")?);
-    Some(is_print(version, "1.2.3-rc.4") && members_are(alloc, &package))
-}
 
 #[test]
 fn reads_a_package(rt: HostRuntime) {
-    assert!(rt; package_is_read(rt.alloc()) == Some(true));
+    each(&rt, Question::VersionOfMember, &PACKAGE_VERSION);
+    each(&rt, Question::RangeOfMember, &PACKAGE_RANGES);
+}
+
+// Members that are no strings.
+const NO_STRINGS: [&str; 6] = [
+    "/config/0; NotAString: expected a string",
+    "/config/1; NotAString: expected a string",
+    "/config/2; NotAString: expected a string",
+    "/config/3; NotAString: expected a string",
+    "/config/4; NotAString: expected a string",
+    "/config/5; NotAString: expected a string",
+];
+
+#[test]
+fn refuses_what_is_no_string(rt: HostRuntime) {
+    each(&rt, Question::VersionOfMember, &NO_STRINGS);
+    each(&rt, Question::RangeOfMember, &NO_STRINGS);
 }

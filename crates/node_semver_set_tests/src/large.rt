@@ -1,9 +1,4 @@
-use crate::checks::is_print;
-use crate::json::version_text;
-use crate::least::{least_of, next_of};
 use crate::questions::{Question, each};
-use node_semver::{Range, Version};
-use std::alloc::Global;
 
 // Where memory is left, no call answers that there is none: each of these takes much of it. `{1000*#.1.0||}0.0.9`
 // stands for `0.1.0||1.1.0||` and so on, up to `999.1.0||`, and an end.
@@ -40,7 +35,7 @@ const JOINED: [&str; 2] = [
 #[test]
 fn answers_of_a_thousand_sets(rt: HostRuntime) {
     each(&rt, Question::Print, &SETS);
-    each(&rt, Question::CopyPrint, &SETS);
+    each(&rt, Question::Copy, &SETS);
     each(&rt, Question::WrittenRange, &SETS);
     each(&rt, Question::RangeOf, &SETS);
     each(&rt, Question::LeafPrint, &SETS);
@@ -50,37 +45,25 @@ fn answers_of_a_thousand_sets(rt: HostRuntime) {
     each(&rt, Question::Joins, &JOINED);
 }
 
-// A version of 1,001 identifiers, one of an identifier of 1,000 bytes, and one with 1,001 in its build, each with what
-// is next after it.
+// The least version of each of these: one of 1,001 identifiers, one of an identifier of 1,000 bytes, and one with 1,001
+// in its build. A range text may be longer than any version text.
 const VERSIONS: [&str; 3] = [
+    "1.2.3-{500*a.1.}b; 1.2.3-{500*a.1.}b",
+    "1.2.3-{1000*c}; 1.2.3-{1000*c}",
+    "1.2.3-a+{500*x.7.}y; 1.2.3-a+{500*x.7.}y",
+];
+
+// What is next after it.
+const NEXT: [&str; 3] = [
     "1.2.3-{500*a.1.}b; 1.2.3-{500*a.1.}b.0",
     "1.2.3-{1000*c}; 1.2.3-{1000*c}.0",
     "1.2.3-a+{500*x.7.}y; 1.2.3-a.0",
 ];
 
-// The least version of a range text, which may be longer than any version text.
-fn version_of(alloc: Global, text: &str) -> Option<Version> {
-    let range = Range::parse(alloc, text).ok()?;
-    range.min_version(alloc).ok()?
-}
-
-fn copied(alloc: Global, version: &Version) -> Option<String> {
-    let copy = version.clone().ok()?;
-    copy.to_string(alloc).ok()
-}
-
-pub(crate) fn is_whole(alloc: Global, row: &str) -> Option<bool> {
-    let (text, wanted) = row.split_once("; ")?;
-    let version = version_of(alloc, text)?;
-    Some(
-        is_print(least_of(alloc, text), text)
-            && is_print(copied(alloc, &version), text)
-            && is_print(version_text(alloc, &version), text)
-            && is_print(next_of(alloc, &version), wanted),
-    )
-}
-
 #[test]
 fn copies_writes_and_steps_from_long_versions(rt: HostRuntime) {
-    each(&rt, Question::IsWhole, &VERSIONS);
+    each(&rt, Question::Least, &VERSIONS);
+    each(&rt, Question::LeastCopy, &VERSIONS);
+    each(&rt, Question::LeastWritten, &VERSIONS);
+    each(&rt, Question::LeastNext, &NEXT);
 }

@@ -1,27 +1,34 @@
-use crate::checks::is_print;
-use crate::pairs::range;
+use crate::checks::{is_print, version_print};
+use crate::json::text_of;
 use crate::questions::{Question, each};
 use node_semver::{Identifier, Range, Version};
 use semver_cuts::Stepped;
 use std::alloc::{AllocError, Global};
 
 // The print of the least version, which has to satisfy the range.
-fn told(alloc: Global, range: &Range, least: &Option<Version>) -> Option<String> {
-    match least {
-        Some(version) if range.satisfies(version) => version.to_string(alloc).ok(),
-        Some(_) => None,
-        None => String::from_str(alloc, "None").ok(),
+pub(crate) fn least_print(alloc: Global, range: &Range) -> Option<String> {
+    match &range.min_version(alloc) {
+        Ok(Some(least)) if range.satisfies(least) => least.to_string(alloc).ok(),
+        Ok(None) => String::from_str(alloc, "None").ok(),
+        _ => None,
     }
 }
 
-fn least_print(alloc: Global, range: &Range) -> Option<String> {
-    let least = range.min_version(alloc).ok()?;
-    told(alloc, range, &least)
+// What is asked of the least version.
+pub(crate) fn of_least(alloc: Global, question: Question, range: &Range) -> Option<String> {
+    match &range.min_version(alloc) {
+        Ok(Some(least)) => of_version(alloc, question, least),
+        _ => None,
+    }
 }
 
-pub(crate) fn least_of(alloc: Global, text: &str) -> Option<String> {
-    let range = range(alloc, text)?;
-    least_print(alloc, &range)
+pub(crate) fn of_version(alloc: Global, question: Question, version: &Version) -> Option<String> {
+    match question {
+        Question::WrittenVersion | Question::LeastWritten => text_of(alloc, version.to_json(alloc)),
+        Question::LeastCopy => version_print(alloc, version.clone()),
+        Question::Next | Question::LeastNext => next_print(alloc, version),
+        _ => None,
+    }
 }
 
 // The least version that a range admits.
@@ -83,19 +90,11 @@ fn next_after<T: Stepped>(alloc: Global, value: &T) -> Result<Option<T>, AllocEr
 }
 
 // The print of the version that is next.
-pub(crate) fn next_of(alloc: Global, version: &Version) -> Option<String> {
-    let next = next_after(alloc, version).ok()??;
-    next.to_string(alloc).ok()
-}
-
-pub(crate) fn next_print(alloc: Global, text: &str) -> Option<String> {
-    let version = Version::parse(alloc, text).ok()?;
-    next_of(alloc, &version)
-}
-
-fn least_version(alloc: Global) -> Option<String> {
-    let least = Version::least(alloc).ok()?;
-    least.to_string(alloc).ok()
+fn next_print(alloc: Global, version: &Version) -> Option<String> {
+    match &next_after(alloc, version) {
+        Ok(Some(next)) => next.to_string(alloc).ok(),
+        _ => None,
+    }
 }
 
 // A version, and the one that is next.
@@ -107,20 +106,27 @@ const NEXT: [&str; 3] = [
 
 #[test]
 fn steps_from_version_to_version(rt: HostRuntime) {
-    assert!(rt; is_print(least_version(rt.alloc()), "0.0.0-0"));
+    let least = version_print(rt.alloc(), Version::least(rt.alloc()));
+    assert!(rt; is_print(least, "0.0.0-0"));
     each(&rt, Question::Next, &NEXT);
+}
+
+fn has_next(alloc: Global, version: &Version) -> Option<bool> {
+    match &next_after(alloc, version) {
+        Ok(next) => Some(next.is_some()),
+        Err(_) => None,
+    }
 }
 
 // Whether a version has a next one: `1.2.0` with the greatest patch, and with an identifier more.
 fn last_has_next(alloc: Global) -> Option<bool> {
-    let last = Version::new(alloc, 1, 2, u64::MAX);
-    Some(next_after(alloc, &last).ok()?.is_some())
+    has_next(alloc, &Version::new(alloc, 1, 2, u64::MAX))
 }
 
 fn last_prerelease_has_next(alloc: Global) -> Option<bool> {
     let mut last = Version::new(alloc, 1, 2, u64::MAX);
     last.pre_release.push(Identifier::Numeric(u64::MAX)).ok()?;
-    Some(next_after(alloc, &last).ok()?.is_some())
+    has_next(alloc, &last)
 }
 
 #[test]

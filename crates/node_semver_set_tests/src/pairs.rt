@@ -1,4 +1,7 @@
-use crate::checks::print_of;
+use crate::algebra::{answers, made_admits};
+use crate::beyond::is_least_beyond;
+use crate::checks::is_yes;
+use crate::questions::Question;
 use crate::range_equality::agreed;
 use node_semver::Range;
 use std::alloc::{AllocError, Global};
@@ -19,7 +22,7 @@ pub(crate) enum Made {
     Rest,
 }
 
-fn make(
+pub(crate) fn make(
     alloc: Global,
     made: Made,
     one: &Range,
@@ -31,26 +34,8 @@ fn make(
     }
 }
 
-pub(crate) fn made_of(alloc: Global, asked: Made, one: &str, other: &str) -> Option<Option<Range>> {
-    let one = range(alloc, one)?;
-    let other = range(alloc, other)?;
-    make(alloc, asked, &one, &other).ok()
-}
-
-pub(crate) fn made_print(alloc: Global, asked: Made, one: &str, other: &str) -> Option<String> {
-    print_of(alloc, made_of(alloc, asked, one, other)?)
-}
-
-// What is asked of two ranges.
-#[derive(Clone, Copy)]
-pub(crate) enum Asked {
-    Any,
-    All,
-    Equal,
-}
-
 // Whether one range allows any of another, and nothing where both ways do not agree.
-fn any(one: &Range, other: &Range) -> Option<bool> {
+pub(crate) fn any(one: &Range, other: &Range) -> Option<bool> {
     let answer = one.allows_any(other);
     if other.allows_any(one) == answer {
         Some(answer)
@@ -63,24 +48,41 @@ fn any(one: &Range, other: &Range) -> Option<bool> {
 // denies it.
 fn covers(alloc: Global, one: &Range, other: &Range) -> Option<bool> {
     let answer = one.allows_all(other);
-    let left = other.difference(alloc, one).ok()?;
-    if left.is_none() == answer {
-        Some(answer)
-    } else {
-        None
+    match &other.difference(alloc, one) {
+        Ok(left) if left.is_none() == answer => Some(answer),
+        _ => None,
     }
 }
 
-fn answer(alloc: Global, asked: Asked, one: &Range, other: &Range) -> Option<bool> {
-    match asked {
-        Asked::Any => any(one, other),
-        Asked::All => covers(alloc, one, other),
-        Asked::Equal => agreed(one, other),
+fn answer(alloc: Global, question: Question, one: &Range, other: &Range) -> Option<bool> {
+    match question {
+        Question::AllowsAny => any(one, other),
+        Question::AllowsAll => covers(alloc, one, other),
+        Question::Equals => agreed(one, other),
+        _ => None,
     }
 }
 
-pub(crate) fn answer_of(alloc: Global, asked: Asked, one: &str, other: &str) -> Option<bool> {
-    let one = range(alloc, one)?;
-    let other = range(alloc, other)?;
-    answer(alloc, asked, &one, &other)
+fn of_ranges(alloc: Global, question: Question, one: &Range, other: &Range, wanted: &str) -> bool {
+    match question {
+        Question::Answers => answers(alloc, one, other, wanted),
+        Question::LeastBeyond => is_least_beyond(alloc, one, other, wanted),
+        Question::CommonAdmits => made_admits(alloc, Made::Common, one, other, wanted),
+        Question::RestAdmits => made_admits(alloc, Made::Rest, one, other, wanted),
+        _ => answer(alloc, question, one, other) == Some(is_yes(wanted)),
+    }
+}
+
+// The same of two range texts.
+pub(crate) fn of_texts(
+    alloc: Global,
+    question: Question,
+    one: &str,
+    other: &str,
+    wanted: &str,
+) -> bool {
+    match (&range(alloc, one), &range(alloc, other)) {
+        (Some(one), Some(other)) => of_ranges(alloc, question, one, other, wanted),
+        _ => false,
+    }
 }

@@ -1,89 +1,118 @@
-use crate::algebra::{allows, answers};
-use crate::beyond::{is_greatest, is_least_beyond};
+use crate::algebra::admits;
+use crate::beyond::is_greatest;
 use crate::checks::is_print;
-use crate::json::{range_is_written, range_of, version_is_written, version_of, written_range};
-use crate::large::is_whole;
-use crate::least::{least_of, next_print};
-use crate::pairs::Asked;
-use crate::range_equality::{copy_print, equals, print};
+use crate::json::{of_member, of_string, text_of};
+use crate::least::{least_print, of_least, of_version};
+use crate::pairs::{of_texts, range};
+use crate::range_equality::copy_print;
 use crate::spread::spread;
 use crate::trees::{joins, leaf_print};
+use node_semver::{Range, Version};
 use std::alloc::{AllocGlobal, Global};
 use std::process::Abort;
 
-// What is asked of each row of a table: a row's parts stand between `; `.
+// What is asked of each row of a table: a row's parts stand between `; `. A range text may be `any`, the range of all
+// cuts.
 #[derive(Clone, Copy)]
 pub(crate) enum Question {
     // Two range texts, what they have in common, and what the first has and the second has not.
     Answers,
-    // A range text, and the range texts of which it allows any, and of which none, with `, ` between.
+    // The same by trees.
+    Joins,
+    // Two range texts, and whether the first allows any of the second.
     AllowsAny,
-    // A range text, and the range texts of which it allows all, and of which not, with `, ` between.
+    // Two range texts, and whether the first allows all of the second.
     AllowsAll,
     // Two range texts, and whether the ranges are equal.
     Equals,
-    // Two range texts, what they have in common, and what the first has and the second has not, by trees.
-    Joins,
     // Two range texts, and the least version that the first admits and the second does not.
-    IsLeastBeyond,
+    LeastBeyond,
+    // Two range texts, and a version that what they have in common admits.
+    CommonAdmits,
+    // Two range texts, and a version that what the first has and the second has not admits.
+    RestAdmits,
+    // A range text, a version, and whether the range admits it.
+    Admits,
     // Versions with blanks between, a range text, and the greatest of the versions that it admits.
-    IsGreatest,
-    // A version text, and the JSON string that it is written as and read of again.
-    VersionIsWritten,
-    // A range text, and the JSON string that it is written as and read of again.
-    RangeIsWritten,
-    // A version that may be longer than a version text, and what is next after it.
-    IsWhole,
+    Greatest,
     // A range text, and its print.
     Print,
     // A range text, and the print of a copy.
-    CopyPrint,
+    Copy,
     // A range text, and the JSON string that it is written as.
     WrittenRange,
-    // The text of a JSON string, and the print of its range, or what its error tells.
-    RangeOf,
-    // The text of a JSON string, and the print of its version, or what its error tells.
-    VersionOf,
     // A range text, and the print of the range that a tree makes of it.
     LeafPrint,
     // A range text, and its least version.
     Least,
+    // A range text, and the print of a copy of its least version.
+    LeastCopy,
+    // A range text, and the JSON string that its least version is written as.
+    LeastWritten,
+    // A range text, and the version that is next after its least version.
+    LeastNext,
+    // A version text, and the JSON string that it is written as.
+    WrittenVersion,
     // A version text, and the version that is next.
     Next,
+    // The text of a JSON string, and the print of its range, or what its error tells.
+    RangeOf,
+    // The text of a JSON string, and the print of its version, or what its error tells.
+    VersionOf,
+    // A pointer, and the print of the range or the version of the package's member, or what its error tells.
+    RangeOfMember,
+    VersionOfMember,
+}
+
+fn of_range(alloc: Global, question: Question, range: &Range) -> Option<String> {
+    match question {
+        Question::Print => range.to_string(alloc).ok(),
+        Question::Copy => copy_print(alloc, range),
+        Question::WrittenRange => text_of(alloc, range.to_json(alloc)),
+        Question::Least => least_print(alloc, range),
+        _ => of_least(alloc, question, range),
+    }
+}
+
+fn of_range_text(alloc: Global, question: Question, text: &str) -> Option<String> {
+    match &range(alloc, text) {
+        Some(range) => of_range(alloc, question, range),
+        None => None,
+    }
+}
+
+fn of_version_text(alloc: Global, question: Question, text: &str) -> Option<String> {
+    match &Version::parse(alloc, text) {
+        Ok(version) => of_version(alloc, question, version),
+        Err(_) => None,
+    }
 }
 
 fn text_print(alloc: Global, question: Question, text: &str) -> Option<String> {
     match question {
-        Question::Print => print(alloc, text),
-        Question::CopyPrint => copy_print(alloc, text),
-        Question::WrittenRange => written_range(alloc, text),
-        Question::RangeOf => range_of(alloc, text),
-        Question::VersionOf => version_of(alloc, text),
         Question::LeafPrint => leaf_print(alloc, text),
-        Question::Least => least_of(alloc, text),
-        Question::Next => next_print(alloc, text),
-        _ => None,
+        Question::WrittenVersion | Question::Next => of_version_text(alloc, question, text),
+        Question::RangeOf | Question::VersionOf => of_string(alloc, question, text),
+        Question::RangeOfMember | Question::VersionOfMember => of_member(alloc, question, text),
+        _ => of_range_text(alloc, question, text),
     }
 }
 
-fn prints(alloc: Global, question: Question, row: &str) -> Option<bool> {
-    let (text, wanted) = row.split_once("; ")?;
-    Some(is_print(text_print(alloc, question, text), wanted))
+fn of_two(alloc: Global, question: Question, one: &str, other: &str, wanted: &str) -> bool {
+    match question {
+        Question::Joins => joins(alloc, one, other, wanted),
+        Question::Admits => admits(alloc, one, other, wanted),
+        Question::Greatest => is_greatest(alloc, one, other, wanted),
+        _ => of_texts(alloc, question, one, other, wanted),
+    }
 }
 
+// A row has two parts, or three and more.
 fn is_answered(alloc: Global, question: Question, row: &str) -> Option<bool> {
-    match question {
-        Question::Answers => answers(alloc, row),
-        Question::AllowsAny => allows(alloc, Asked::Any, row),
-        Question::AllowsAll => allows(alloc, Asked::All, row),
-        Question::Equals => equals(alloc, row),
-        Question::Joins => joins(alloc, row),
-        Question::IsLeastBeyond => is_least_beyond(alloc, row),
-        Question::IsGreatest => is_greatest(alloc, row),
-        Question::VersionIsWritten => version_is_written(alloc, row),
-        Question::RangeIsWritten => range_is_written(alloc, row),
-        Question::IsWhole => is_whole(alloc, row),
-        _ => prints(alloc, question, row),
+    let (one, row) = row.split_once("; ")?;
+    match row.split_once("; ") {
+        Some((other, wanted)) => Some(of_two(alloc, question, one, other, wanted)),
+        None => Some(is_print(text_print(alloc, question, one), row)),
     }
 }
 

@@ -1,4 +1,3 @@
-use crate::pairs::{Asked, answer_of, range};
 use crate::questions::{Question, each};
 use node_semver::Range;
 use std::alloc::Global;
@@ -19,12 +18,6 @@ pub(crate) fn agreed(one: &Range, other: &Range) -> Option<bool> {
     } else {
         None
     }
-}
-
-pub(crate) fn equals(alloc: Global, row: &str) -> Option<bool> {
-    let (text, row) = row.split_once("; ")?;
-    let (other, wanted) = row.split_once("; ")?;
-    Some(answer_of(alloc, Asked::Equal, text, other)? == (wanted == "equal"))
 }
 
 // The same sets in the same order. A build of an end does not count. `any` equals itself alone: `*` is `>=0.0.0`, which
@@ -61,15 +54,12 @@ fn equal_ranges_have_equal_sets_in_one_order(rt: HostRuntime) {
     each(&rt, Question::Equals, &ROWS);
 }
 
-pub(crate) fn print(alloc: Global, text: &str) -> Option<String> {
-    let range = range(alloc, text)?;
-    range.to_string(alloc).ok()
-}
-
-pub(crate) fn copy_print(alloc: Global, text: &str) -> Option<String> {
-    let range = range(alloc, text)?;
-    let copy = range.clone().ok()?;
-    copy.to_string(alloc).ok()
+pub(crate) fn copy_print(alloc: Global, range: &Range) -> Option<String> {
+    let copy: Result<_, _> = range.clone();
+    match &copy {
+        Ok(copy) => copy.to_string(alloc).ok(),
+        Err(_) => None,
+    }
 }
 
 // A copy prints as what was copied, its builds too.
@@ -82,5 +72,5 @@ const COPIED: [&str; 4] = [
 
 #[test]
 fn copies_ranges(rt: HostRuntime) {
-    each(&rt, Question::CopyPrint, &COPIED);
+    each(&rt, Question::Copy, &COPIED);
 }

@@ -1,13 +1,21 @@
 use std::alloc::{AllocError, Global};
 
+// What a sign of a piece stands for.
+fn number(sign: char, step: u64, times: u64) -> Option<u64> {
+    match sign {
+        '#' => Some(step),
+        '@' => Some(step.wrapping_add(1)),
+        '$' => Some(times.wrapping_sub(step)),
+        _ => None,
+    }
+}
+
 // A piece that comes so many times, at one of these.
 fn add_piece(whole: &mut String, piece: &str, step: u64, times: u64) -> Result<(), AllocError> {
-    for character in piece.chars() {
-        match character {
-            '#' => write!(whole, "{step}")?,
-            '@' => write!(whole, "{}", step.wrapping_add(1))?,
-            '$' => write!(whole, "{}", times.wrapping_sub(step))?,
-            _ => whole.push(character)?,
+    for sign in piece.chars() {
+        match number(sign, step, times) {
+            Some(number) => write!(whole, "{number}")?,
+            None => whole.push(sign)?,
         }
     }
     Ok(())
@@ -20,12 +28,20 @@ fn add_pieces(whole: &mut String, piece: &str, times: u64) -> Result<(), AllocEr
     Ok(())
 }
 
+fn add_repeated(whole: &mut String, repeated: &str) -> Option<()> {
+    let (times, piece) = repeated.split_once('*')?;
+    add_pieces(whole, piece, times.parse::<u64>().ok()?).ok()
+}
+
 // `a{3*bc` adds `abcbcbc`.
 fn add_part(whole: &mut String, part: &str) -> Option<()> {
-    let (text, repeat) = part.split_once('{').unwrap_or((part, "0*"));
-    let (times, piece) = repeat.split_once('*')?;
-    whole.push_str(text).ok()?;
-    add_pieces(whole, piece, times.parse::<u64>().ok()?).ok()
+    match part.split_once('{') {
+        Some((text, repeated)) => {
+            whole.push_str(text).ok()?;
+            add_repeated(whole, repeated)
+        }
+        None => whole.push_str(part).ok(),
+    }
 }
 
 // What a row stands for: `a{3*bc}d` for `abcbcbcd`. In what comes several times `#` stands for 0 and then 1, 2 and so

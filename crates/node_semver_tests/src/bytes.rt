@@ -16,35 +16,48 @@ const BYTES: [&str; 8] = [
 ];
 
 // The byte as the identifier of a version, of a version in a range, and inside an identifier.
-fn identifier_is(alloc: Global, byte: char, is_read: bool) -> Option<bool> {
-    let text = format!(in alloc; ">=1.2.3-{byte}").ok()?;
-    let version = text.strip_prefix(">=")?;
-    let (wanted, of_range) = if is_read {
-        (version, text.as_str())
-    } else {
-        ("Other at 5 (0, 5)", NO_RANGE)
+fn identifier_is(alloc: Global, byte: char, is_read: bool) -> bool {
+    match format!(in alloc; ">=1.2.3-{byte}") {
+        Ok(text) => version_is(alloc, &text, is_read),
+        Err(_) => false,
+    }
+}
+
+fn version_is(alloc: Global, text: &str, is_read: bool) -> bool {
+    let Some(version) = text.strip_prefix(">=") else {
+        return false;
     };
-    Some(
-        is_print(version_print(alloc, version), wanted)
-            && is_print(range_print(alloc, &text), of_range),
-    )
+    if is_read {
+        is_print(version_print(alloc, version), version) && is_print(range_print(alloc, text), text)
+    } else {
+        is_print(version_print(alloc, version), "Other at 5 (0, 5)")
+            && is_print(range_print(alloc, text), NO_RANGE)
+    }
 }
 
 // The byte as a word: `>=` and a digit, an x or a star.
-fn word_is(alloc: Global, byte: char, mark: char) -> Option<bool> {
-    let number = format!(in alloc; ">={byte}.0.0").ok()?;
-    let text = number.strip_suffix(".0.0")?;
+fn word_is(alloc: Global, byte: char, mark: char) -> bool {
+    match format!(in alloc; ">={byte}.0.0") {
+        Ok(number) => number_is(alloc, &number, mark),
+        Err(_) => false,
+    }
+}
+
+fn number_is(alloc: Global, number: &str, mark: char) -> bool {
+    let Some(text) = number.strip_suffix(".0.0") else {
+        return false;
+    };
     let wanted = match mark {
-        'd' => number.as_str(),
+        'd' => number,
         'x' | '*' => ">=0.0.0",
         _ => NO_RANGE,
     };
-    Some(is_print(range_print(alloc, text), wanted))
+    is_print(range_print(alloc, text), wanted)
 }
 
 fn is_marked(alloc: Global, byte: char, mark: char) -> bool {
     let is_read = matches!(mark, 'd' | 'x' | 'i');
-    identifier_is(alloc, byte, is_read) == Some(true) && word_is(alloc, byte, mark) == Some(true)
+    identifier_is(alloc, byte, is_read) && word_is(alloc, byte, mark)
 }
 
 #[test]

@@ -1,8 +1,8 @@
-use crate::spread::spread;
-use node_semver::{Range, SemverError, Version};
+use node_semver::{Identifier, Range, SemverError, Version};
 use std::alloc::Global;
 
-// What is looked at gives a plain value, and is let go where it was made: so each of these is short to prove.
+// What is looked at gives a plain value, and is let go where it was made. `let .. else` and `match` stand in place of
+// `?`, which is two more calls. So each of these is short to prove.
 
 // The print is this text.
 pub(crate) fn is_print(print: Option<String>, text: &str) -> bool {
@@ -12,20 +12,15 @@ pub(crate) fn is_print(print: Option<String>, text: &str) -> bool {
     }
 }
 
-// What both calls answer, and nothing where they do not agree.
-pub(crate) fn answer(range: &Range, version: &Version) -> Option<bool> {
-    let answer = range.satisfies(version);
-    if version.satisfies(range) == answer {
-        Some(answer)
-    } else {
-        None
-    }
+// Both calls answer so.
+fn answer(range: &Range, version: &Version, wanted: bool) -> bool {
+    range.satisfies(version) == wanted && version.satisfies(range) == wanted
 }
 
-fn answer_of_text(alloc: Global, range: &Range, version: &str) -> Option<bool> {
+fn answer_text(alloc: Global, range: &Range, version: &str, wanted: bool) -> bool {
     match Version::parse(alloc, version) {
-        Ok(version) => answer(range, &version),
-        Err(_) => None,
+        Ok(version) => answer(range, &version, wanted),
+        Err(_) => false,
     }
 }
 
@@ -38,11 +33,24 @@ pub(crate) fn range(alloc: Global, text: &str) -> Option<Range> {
     }
 }
 
-// What the range of a text answers, which may be written short.
-pub(crate) fn range_answer(alloc: Global, text: &str, version: &Version) -> Option<bool> {
-    let text = spread(alloc, text)?;
-    match Range::parse(alloc, &text) {
-        Ok(range) => answer(&range, version),
+// The range of a text answers so.
+pub(crate) fn range_answers(alloc: Global, text: &str, version: &Version, wanted: bool) -> bool {
+    match Range::parse(alloc, text) {
+        Ok(range) => answer(&range, version, wanted),
+        Err(_) => false,
+    }
+}
+
+pub(crate) fn word_identifier(alloc: Global, word: &str) -> Option<Identifier> {
+    match String::from_str(alloc, word) {
+        Ok(word) => Some(Identifier::AlphaNumeric(word)),
+        Err(_) => None,
+    }
+}
+
+pub(crate) fn number_identifier(digits: &str) -> Option<Identifier> {
+    match digits.parse::<u64>() {
+        Ok(number) => Some(Identifier::Numeric(number)),
         Err(_) => None,
     }
 }
@@ -50,7 +58,7 @@ pub(crate) fn range_answer(alloc: Global, text: &str, version: &Version) -> Opti
 // The range answers so of each of these versions, with blanks between.
 fn answers_each(alloc: Global, range: &Range, versions: &str, wanted: bool) -> bool {
     for version in versions.split_whitespace() {
-        if answer_of_text(alloc, range, version) != Some(wanted) {
+        if !answer_text(alloc, range, version, wanted) {
             return false;
         }
     }
@@ -68,10 +76,14 @@ fn text_answers(alloc: Global, text: &str, admitted: &str, turned_away: &str) ->
 }
 
 // A range text, the versions that it admits, and those that it turns away.
-pub(crate) fn admits(alloc: Global, row: &str) -> Option<bool> {
-    let (text, versions) = row.split_once("; ")?;
-    let (admitted, turned_away) = versions.split_once("; ")?;
-    Some(text_answers(alloc, text, admitted, turned_away))
+pub(crate) fn admits(alloc: Global, row: &str) -> bool {
+    let Some((text, versions)) = row.split_once("; ") else {
+        return false;
+    };
+    let Some((admitted, turned_away)) = versions.split_once("; ") else {
+        return false;
+    };
+    text_answers(alloc, text, admitted, turned_away)
 }
 
 // Whether the error holds this text, and tells an empty span that begins at its byte offset.

@@ -20,18 +20,24 @@ fn copies_each(identifiers: &[Identifier]) -> bool {
 }
 
 fn copied_print(alloc: Global, version: &Version) -> Option<String> {
-    let copy = version.clone().ok()?;
-    copy.to_string(alloc).ok()
+    match version.clone() {
+        Ok(copy) => copy.to_string(alloc).ok(),
+        Err(_) => None,
+    }
 }
 
 // A copy prints as what was copied, its build too.
-pub(crate) fn copies_version(alloc: Global, text: &str) -> Option<bool> {
-    let version = Version::parse(alloc, text).ok()?;
-    Some(
-        copies_each(&version.pre_release)
-            && copies_each(&version.build)
-            && is_print(copied_print(alloc, &version), text),
-    )
+fn is_copied(alloc: Global, version: &Version, text: &str) -> bool {
+    copies_each(&version.pre_release)
+        && copies_each(&version.build)
+        && is_print(copied_print(alloc, version), text)
+}
+
+pub(crate) fn copies_version(alloc: Global, text: &str) -> bool {
+    match Version::parse(alloc, text) {
+        Ok(version) => is_copied(alloc, &version, text),
+        Err(_) => false,
+    }
 }
 
 const VERSIONS: [&str; 4] = ["1.2.3", "1.2.3-rc.4", "1.2.3+b.7", "1.2.3-rc.4+b.7"];

@@ -1,29 +1,28 @@
-use crate::questions::{Question, each};
+use crate::questions::{PairQuestion, Question, each, each_pair};
 use node_semver::{Range, SemverError, SemverErrorKind, Version};
 use std::alloc::Global;
 
 // A kind by its name and what it holds: of digits that make no `u64`, what std's `parse` says of them.
 pub(crate) fn kind(name: &str) -> Option<SemverErrorKind> {
-    match name.split_once(' ') {
-        Some(("ParseIntError", digits)) => Some(SemverErrorKind::ParseIntError(
-            digits.parse::<u64>().err()?,
-        )),
-        Some(("MaxIntError", number)) => {
-            Some(SemverErrorKind::MaxIntError(number.parse::<u64>().ok()?))
-        }
-        Some(("Context", "version")) => Some(SemverErrorKind::Context("version")),
-        Some(("Context", "range")) => Some(SemverErrorKind::Context("range")),
-        _ => plain_kind(name),
-    }
-}
-
-fn plain_kind(name: &str) -> Option<SemverErrorKind> {
     match name {
+        "Context version" => Some(SemverErrorKind::Context("version")),
+        "Context range" => Some(SemverErrorKind::Context("range")),
         "MaxLengthError" => Some(SemverErrorKind::MaxLengthError),
         "IncompleteInput" => Some(SemverErrorKind::IncompleteInput),
         "NoValidRanges" => Some(SemverErrorKind::NoValidRanges),
         "Other" => Some(SemverErrorKind::Other),
         "OutOfMemory" => Some(SemverErrorKind::OutOfMemory),
+        _ => kind_of_digits(name),
+    }
+}
+
+fn kind_of_digits(name: &str) -> Option<SemverErrorKind> {
+    let Some((name, digits)) = name.split_once(' ') else {
+        return None;
+    };
+    match (name, digits.parse::<u64>()) {
+        ("MaxIntError", Ok(number)) => Some(SemverErrorKind::MaxIntError(number)),
+        ("ParseIntError", Err(error)) => Some(SemverErrorKind::ParseIntError(error)),
         _ => None,
     }
 }
@@ -58,30 +57,31 @@ const DIFFERENT: [&str; 10] = [
     "ParseIntError 99999999999999999999",
 ];
 
-// Whether two kinds are equal, and nothing where a kind is not equal to its copy or both ways do not agree.
-fn kinds_equal(name: &str, other: &str) -> Option<bool> {
-    let kind = self::kind(name)?;
-    let other = self::kind(other)?;
-    let copy = kind.clone().ok()?;
-    let equal = kind == other;
-    if copy == kind && (other == kind) == equal {
-        Some(equal)
-    } else {
-        None
+fn equals_its_copy(kind: &SemverErrorKind) -> bool {
+    match kind.clone() {
+        Ok(copy) => copy == *kind,
+        Err(_) => false,
     }
+}
+
+// Both ways two kinds are equal, or not, and the first one is equal to its copy.
+fn kinds_compare(kind: &SemverErrorKind, other: &SemverErrorKind, equal: bool) -> bool {
+    (kind == other) == equal && (other == kind) == equal && equals_its_copy(kind)
+}
+
+pub(crate) fn names_compare(name: &str, other: &str, equal: bool) -> bool {
+    let Some(kind) = self::kind(name) else {
+        return false;
+    };
+    let Some(other) = self::kind(other) else {
+        return false;
+    };
+    kinds_compare(&kind, &other, equal)
 }
 
 #[test]
 fn equal_kinds_hold_equal_values(rt: HostRuntime) {
-    for (i, name) in DIFFERENT.iter().enumerate() {
-        for (j, other) in DIFFERENT.iter().enumerate() {
-            let wanted = i % 9 == j % 9;
-            assert!(rt;
-                kinds_equal(name, other) == Some(wanted),
-                "{name} and {other}"
-            );
-        }
-    }
+    each_pair(&rt, PairQuestion::Kinds, &DIFFERENT);
 }
 
 // The error of a text that is refused, by the call that refuses it.
@@ -127,33 +127,43 @@ const REFUSED: [&str; 10] = [
     "version; 1.2.9007199254740993",
 ];
 
-// Whether two errors are equal, and nothing where both ways do not agree, or the spans are not equal as the offsets
-// are.
-fn agreed(error: &SemverError, other: &SemverError) -> Option<bool> {
-    let equal = error == other;
+// Both ways two errors are equal, or not, and the spans are equal as the offsets are.
+fn errors_compare(error: &SemverError, other: &SemverError, equal: bool) -> bool {
     let spans_equal = error.span() == other.span();
-    if (other == error) == equal && spans_equal == (error.offset() == other.offset()) {
-        Some(equal)
-    } else {
-        None
-    }
+    (error == other) == equal
+        && (other == error) == equal
+        && spans_equal == (error.offset() == other.offset())
 }
 
 fn row_error(alloc: Global, row: &str) -> Option<SemverError> {
-    let (call, text) = row.split_once("; ")?;
-    error_of(alloc, call, text)
+    match row.split_once("; ") {
+        Some((call, text)) => error_of(alloc, call, text),
+        None => None,
+    }
 }
 
-fn errors_equal(alloc: Global, row: &str, other: &str) -> Option<bool> {
-    let error = row_error(alloc, row)?;
-    let other = row_error(alloc, other)?;
-    agreed(&error, &other)
+pub(crate) fn rows_compare(alloc: Global, row: &str, other: &str, equal: bool) -> bool {
+    let Some(error) = row_error(alloc, row) else {
+        return false;
+    };
+    let Some(other) = row_error(alloc, other) else {
+        return false;
+    };
+    errors_compare(&error, &other, equal)
 }
 
-pub(crate) fn copies_error(alloc: Global, row: &str) -> Option<bool> {
-    let error = row_error(alloc, row)?;
-    let copy = error.clone().ok()?;
-    agreed(&error, &copy)
+fn is_copied(error: &SemverError) -> bool {
+    match error.clone() {
+        Ok(copy) => errors_compare(error, &copy, true),
+        Err(_) => false,
+    }
+}
+
+pub(crate) fn copies_error(alloc: Global, row: &str) -> bool {
+    match row_error(alloc, row) {
+        Some(error) => is_copied(&error),
+        None => false,
+    }
 }
 
 // A copy of an error holds the whole text, however long it is.
@@ -161,14 +171,7 @@ const LONG: [&str; 1] = ["version; 1.2.3-{1000*\u{161}abc}"];
 
 #[test]
 fn equal_errors_have_one_text_one_place_and_one_kind(rt: HostRuntime) {
-    for (i, row) in REFUSED.iter().enumerate() {
-        for (j, other) in REFUSED.iter().enumerate() {
-            assert!(rt;
-                errors_equal(rt.alloc(), row, other) == Some(i == j),
-                "{row} and {other}"
-            );
-        }
-    }
+    each_pair(&rt, PairQuestion::Errors, &REFUSED);
     each(&rt, Question::CopiesError, &REFUSED);
     each(&rt, Question::CopiesError, &LONG);
 }

@@ -1,5 +1,6 @@
-use crate::checks::range_answer;
+use crate::checks::range_answers;
 use crate::questions::{Question, each};
+use crate::spread::spread;
 use node_semver::{MAX_LENGTH, MAX_SAFE_INTEGER, Range, Version};
 use std::alloc::Global;
 
@@ -110,24 +111,37 @@ fn greatest_numbers(rt: HostRuntime) {
     each(&rt, Question::LeastPrint, &LEAST);
 }
 
-fn beyond_answer(alloc: Global, text: &str, numbers: [u64; 3]) -> Option<bool> {
+fn beyond_answers(alloc: Global, text: &str, numbers: [u64; 3], wanted: bool) -> bool {
     let [major, minor, patch] = numbers;
-    let version = Version::new(alloc, major, minor, patch);
-    range_answer(alloc, text, &version)
+    match spread(alloc, text) {
+        Some(text) => {
+            let version = Version::new(alloc, major, minor, patch);
+            range_answers(alloc, &text, &version, wanted)
+        }
+        None => false,
+    }
 }
 
 #[test]
 fn ends_beyond_the_greatest_number(rt: HostRuntime) {
     for (text, numbers, wanted) in &BEYOND {
         assert!(rt;
-            beyond_answer(rt.alloc(), text, *numbers) == Some(*wanted),
+            beyond_answers(rt.alloc(), text, *numbers, *wanted),
             "{text}"
         );
     }
 }
 
+fn print_of_least(alloc: Global, range: &Range) -> Option<String> {
+    match range.min_version(alloc) {
+        Ok(Some(least)) => least.to_string(alloc).ok(),
+        _ => None,
+    }
+}
+
 pub(crate) fn least_print(alloc: Global, text: &str) -> Option<String> {
-    let range = Range::parse(alloc, text).ok()?;
-    let least = range.min_version(alloc).ok()??;
-    least.to_string(alloc).ok()
+    match Range::parse(alloc, text) {
+        Ok(range) => print_of_least(alloc, &range),
+        Err(_) => None,
+    }
 }

@@ -1,4 +1,4 @@
-use crate::questions::{Question, each};
+use crate::questions::{PairQuestion, Question, each, each_pair};
 use node_semver::Version;
 use std::alloc::Global;
 use std::cmp::Ordering;
@@ -10,21 +10,23 @@ fn hash_of(version: &Version) -> u64 {
     state.finish()
 }
 
-// What `cmp` answers, where `partial_cmp`, `==` and `<` agree with it, and where equal versions hash alike and others
-// do not.
-fn agreed(v: &Version, w: &Version) -> Option<Ordering> {
-    let ordering = v.cmp(w);
-    let agree = v.partial_cmp(w) == Some(ordering)
-        && (v == w) == ordering.is_eq()
-        && (v < w) == ordering.is_lt()
-        && (hash_of(v) == hash_of(w)) == ordering.is_eq();
-    if agree { Some(ordering) } else { None }
+// `cmp` answers so, `partial_cmp`, `==` and `<` agree with it, and equal versions hash alike and others do not.
+fn versions_compare(v: &Version, w: &Version, wanted: Ordering) -> bool {
+    v.cmp(w) == wanted
+        && v.partial_cmp(w) == Some(wanted)
+        && (v == w) == wanted.is_eq()
+        && (v < w) == wanted.is_lt()
+        && (hash_of(v) == hash_of(w)) == wanted.is_eq()
 }
 
-fn compared(alloc: Global, text: &str, other: &str) -> Option<Ordering> {
-    let v = Version::parse(alloc, text).ok()?;
-    let w = Version::parse(alloc, other).ok()?;
-    agreed(&v, &w)
+pub(crate) fn texts_compare(alloc: Global, text: &str, other: &str, wanted: Ordering) -> bool {
+    let Ok(v) = Version::parse(alloc, text) else {
+        return false;
+    };
+    let Ok(w) = Version::parse(alloc, other) else {
+        return false;
+    };
+    versions_compare(&v, &w, wanted)
 }
 
 // SemVer 2.0.0, section 11.4.
@@ -41,14 +43,7 @@ const CHAIN: [&str; 8] = [
 
 #[test]
 fn orders_the_standards_chain(rt: HostRuntime) {
-    for (i, text) in CHAIN.iter().enumerate() {
-        for (j, other) in CHAIN.iter().enumerate() {
-            assert!(rt;
-                compared(rt.alloc(), text, other) == Some(i.cmp(&j)),
-                "{text} and {other}"
-            );
-        }
-    }
+    each_pair(&rt, PairQuestion::Order, &CHAIN);
 }
 
 // Numbers come first, by size, and a number is below each text.
@@ -62,12 +57,14 @@ const BELOW: [&str; 7] = [
     "1.0.0-Beta; 1.0.0-alpha",
 ];
 
-pub(crate) fn is_below(alloc: Global, row: &str) -> Option<bool> {
-    let (below, above) = row.split_once("; ")?;
-    Some(
-        compared(alloc, below, above) == Some(Ordering::Less)
-            && compared(alloc, above, below) == Some(Ordering::Greater),
-    )
+pub(crate) fn is_below(alloc: Global, row: &str) -> bool {
+    match row.split_once("; ") {
+        Some((below, above)) => {
+            texts_compare(alloc, below, above, Ordering::Less)
+                && texts_compare(alloc, above, below, Ordering::Greater)
+        }
+        None => false,
+    }
 }
 
 #[test]
@@ -75,7 +72,7 @@ fn orders_by_the_triple_and_then_by_identifiers(rt: HostRuntime) {
     each(&rt, Question::IsBelow, &BELOW);
 }
 
-// SemVer 2.0.0, section 10: a version, and whether it is that of `1.0.0-rc.1+7`.
+// SemVer 2.0.0, section 10: a version, and whether it is that of `1.0.0-rc.1+7`, or else above it.
 const SAME: [&str; 5] = [
     "1.0.0-rc.1+7; same",
     "1.0.0-rc.1; same",
@@ -84,9 +81,12 @@ const SAME: [&str; 5] = [
     "1.0.0+7; another",
 ];
 
-pub(crate) fn is_same(alloc: Global, row: &str) -> Option<bool> {
-    let (text, wanted) = row.split_once("; ")?;
-    Some(compared(alloc, "1.0.0-rc.1+7", text)?.is_eq() == (wanted == "same"))
+pub(crate) fn is_same(alloc: Global, row: &str) -> bool {
+    match row.split_once("; ") {
+        Some((text, "same")) => texts_compare(alloc, "1.0.0-rc.1+7", text, Ordering::Equal),
+        Some((text, _)) => texts_compare(alloc, "1.0.0-rc.1+7", text, Ordering::Less),
+        None => false,
+    }
 }
 
 #[test]

@@ -1,7 +1,7 @@
-use crate::checks::{is_print, range};
+use crate::checks::{is_print, number_identifier, range, word_identifier};
 use crate::errors::{error_of, kind};
 use crate::questions::{Question, each};
-use node_semver::{Identifier, Version};
+use node_semver::Version;
 use std::alloc::Global;
 use std::fmt::Display;
 
@@ -14,58 +14,62 @@ fn is_one_way(alloc: Global, value: &impl Display, text: &str) -> bool {
         && is_print(format!(in alloc; "{value:#}").ok(), text)
 }
 
-fn version_prints(alloc: Global, text: &str, print: &str) -> Option<bool> {
-    let version = Version::parse(alloc, text).ok()?;
-    Some(is_one_way(alloc, &version, print))
+fn is_printed(alloc: Global, value: Option<impl Display + Drop>, text: &str) -> bool {
+    match value {
+        Some(value) => is_one_way(alloc, &value, text),
+        None => false,
+    }
 }
 
 // With the greatest patch, which no text has.
-fn greatest_prints(alloc: Global, text: &str, print: &str) -> Option<bool> {
-    let mut version = Version::parse(alloc, text).ok()?;
-    version.patch = u64::MAX;
-    Some(is_one_way(alloc, &version, print))
-}
-
-fn word_prints(alloc: Global, text: &str, print: &str) -> Option<bool> {
-    let word = Identifier::AlphaNumeric(String::from_str(alloc, text).ok()?);
-    Some(is_one_way(alloc, &word, print))
-}
-
-fn number_prints(alloc: Global, text: &str, print: &str) -> Option<bool> {
-    let number = text.parse::<u64>().ok()?;
-    Some(is_one_way(alloc, &Identifier::Numeric(number), print))
-}
-
-fn range_prints(alloc: Global, text: &str, print: &str) -> Option<bool> {
-    let range = range(alloc, text)?;
-    Some(is_one_way(alloc, &range, print))
-}
-
-fn kind_prints(alloc: Global, name: &str, print: &str) -> Option<bool> {
-    let kind = kind(name)?;
-    Some(is_one_way(alloc, &kind, print))
+fn greatest(alloc: Global, text: &str) -> Option<Version> {
+    match Version::parse(alloc, text) {
+        Ok(mut version) => {
+            version.patch = u64::MAX;
+            Some(version)
+        }
+        Err(_) => None,
+    }
 }
 
 // An error prints as its kind.
-fn error_prints(alloc: Global, call: &str, text: &str, print: &str) -> Option<bool> {
-    let error = error_of(alloc, call, text)?;
-    Some(is_one_way(alloc, &error, print) && is_one_way(alloc, error.kind(), print))
+fn error_prints(alloc: Global, call: &str, text: &str, print: &str) -> bool {
+    match error_of(alloc, call, text) {
+        Some(error) => {
+            is_one_way(alloc, &error, print) && is_one_way(alloc, error.kind(), print)
+        }
+        None => false,
+    }
 }
 
-pub(crate) fn prints_in_one_way(alloc: Global, row: &str) -> Option<bool> {
-    let (value, rest) = row.split_once("; ")?;
-    let (text, print) = rest.split_once("; ")?;
+fn fault_prints(alloc: Global, value: &str, text: &str, print: &str) -> bool {
     match value {
-        "version" => version_prints(alloc, text, print),
-        "greatest" => greatest_prints(alloc, text, print),
-        "number" => number_prints(alloc, text, print),
-        "word" => word_prints(alloc, text, print),
-        "range" => range_prints(alloc, text, print),
         "version error" => error_prints(alloc, "version", text, print),
         "range error" => error_prints(alloc, "range", text, print),
-        "kind" => kind_prints(alloc, text, print),
-        _ => None,
+        "kind" => is_printed(alloc, kind(text), print),
+        _ => false,
     }
+}
+
+fn value_prints(alloc: Global, value: &str, text: &str, print: &str) -> bool {
+    match value {
+        "version" => is_printed(alloc, Version::parse(alloc, text).ok(), print),
+        "greatest" => is_printed(alloc, greatest(alloc, text), print),
+        "number" => is_printed(alloc, number_identifier(text), print),
+        "word" => is_printed(alloc, word_identifier(alloc, text), print),
+        "range" => is_printed(alloc, range(alloc, text), print),
+        _ => fault_prints(alloc, value, text, print),
+    }
+}
+
+pub(crate) fn prints_in_one_way(alloc: Global, row: &str) -> bool {
+    let Some((value, rest)) = row.split_once("; ") else {
+        return false;
+    };
+    let Some((text, print)) = rest.split_once("; ") else {
+        return false;
+    };
+    value_prints(alloc, value, text, print)
 }
 
 // What is printed, its text, and its print.

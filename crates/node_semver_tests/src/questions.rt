@@ -1,10 +1,11 @@
 use crate::checks::{NO_RANGE, admits, is_print};
 use crate::clones::copies_version;
-use crate::errors::copies_error;
+use crate::errors::{copies_error, names_compare, rows_compare};
 use crate::limits::least_print;
 use crate::long_texts::answers_longer;
-use crate::order::{is_below, is_same};
+use crate::order::{is_below, is_same, texts_compare};
 use crate::prints::prints_in_one_way;
+use crate::readme::asks_wanted;
 use crate::search::counts;
 use crate::spread::spread;
 use crate::told::{range_print, version_print};
@@ -39,10 +40,23 @@ pub(crate) enum Question {
     AnswersLonger,
     // Two version texts, the lower one first.
     IsBelow,
-    // A version text, and whether it is the version of `1.0.0-rc.1+7`.
+    // A version text, and whether it is the version of `1.0.0-rc.1+7`, or else above it.
     IsSame,
     // A range text and a version text.
     Counts,
+    // A range text, a version text, and whether that version satisfies the range.
+    AsksWanted,
+}
+
+// What is asked of each two rows of a table.
+#[derive(Clone, Copy)]
+pub(crate) enum PairQuestion {
+    // Names of kinds: the first and the tenth are equal.
+    Kinds,
+    // Calls, and texts that they refuse: no two are equal.
+    Errors,
+    // Version texts: they ascend.
+    Order,
 }
 
 fn print(alloc: Global, question: Question, text: &str) -> Option<String> {
@@ -55,15 +69,17 @@ fn print(alloc: Global, question: Question, text: &str) -> Option<String> {
     }
 }
 
-fn prints(alloc: Global, question: Question, row: &str) -> Option<bool> {
-    let (text, wanted) = row.split_once("; ")?;
-    Some(is_print(print(alloc, question, text), wanted))
+fn prints(alloc: Global, question: Question, row: &str) -> bool {
+    match row.split_once("; ") {
+        Some((text, wanted)) => is_print(print(alloc, question, text), wanted),
+        None => false,
+    }
 }
 
-fn is_answered(alloc: Global, question: Question, row: &str) -> Option<bool> {
+fn is_answered(alloc: Global, question: Question, row: &str) -> bool {
     match question {
         Question::Admits => admits(alloc, row),
-        Question::IsRefused => Some(is_print(range_print(alloc, row), NO_RANGE)),
+        Question::IsRefused => is_print(range_print(alloc, row), NO_RANGE),
         Question::PrintsInOneWay => prints_in_one_way(alloc, row),
         Question::ReadsBack => reads_back(alloc, row),
         Question::CopiesVersion => copies_version(alloc, row),
@@ -72,13 +88,14 @@ fn is_answered(alloc: Global, question: Question, row: &str) -> Option<bool> {
         Question::IsBelow => is_below(alloc, row),
         Question::IsSame => is_same(alloc, row),
         Question::Counts => counts(alloc, row),
+        Question::AsksWanted => asks_wanted(alloc, row),
         _ => prints(alloc, question, row),
     }
 }
 
 fn is_so(alloc: Global, question: Question, row: &str) -> bool {
     match spread(alloc, row) {
-        Some(row) => is_answered(alloc, question, &row) == Some(true),
+        Some(row) => is_answered(alloc, question, &row),
         None => false,
     }
 }
@@ -86,5 +103,31 @@ fn is_so(alloc: Global, question: Question, row: &str) -> bool {
 pub(crate) fn each(rt: &(impl Abort + AllocGlobal), question: Question, rows: &[&str]) {
     for row in rows {
         assert!(rt; is_so(rt.alloc(), question, row), "{row}");
+    }
+}
+
+fn is_pair_so(
+    alloc: Global,
+    question: PairQuestion,
+    row: (usize, &str),
+    other: (usize, &str),
+) -> bool {
+    let (i, row) = row;
+    let (j, other) = other;
+    match question {
+        PairQuestion::Kinds => names_compare(row, other, i % 9 == j % 9),
+        PairQuestion::Errors => rows_compare(alloc, row, other, i == j),
+        PairQuestion::Order => texts_compare(alloc, row, other, i.cmp(&j)),
+    }
+}
+
+pub(crate) fn each_pair(rt: &(impl Abort + AllocGlobal), question: PairQuestion, rows: &[&str]) {
+    for (i, row) in rows.iter().enumerate() {
+        for (j, other) in rows.iter().enumerate() {
+            assert!(rt;
+                is_pair_so(rt.alloc(), question, (i, row), (j, other)),
+                "{row} and {other}"
+            );
+        }
     }
 }

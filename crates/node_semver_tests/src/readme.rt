@@ -3,6 +3,7 @@
 ghost use Rattle.std.specs.Prelude.{◌↔◌, IfOk, IsTrue};
 ghost use Rattle.node_semver.specs.Meaning.{TextAdmits};
 
+use crate::questions::{Question, each};
 use node_semver::{Range, SemverError, SemverErrorKind, Version};
 use std::alloc::Global;
 use std::test::Fail;
@@ -32,19 +33,33 @@ pub fn is_wanted(alloc: Global, text: &str, version: &Version) -> Result<bool, S
     Ok(range.satisfies(version))
 }
 
-fn text_is_wanted(alloc: Global, text: &str, version: &str) -> Option<bool> {
-    let version = Version::parse(alloc, version).ok()?;
-    is_wanted(alloc, text, &version).ok()
+fn text_is_wanted(alloc: Global, text: &str, version: &str, wanted: bool) -> bool {
+    let Ok(version) = Version::parse(alloc, version) else {
+        return false;
+    };
+    match is_wanted(alloc, text, &version) {
+        Ok(answer) => answer == wanted,
+        Err(_) => false,
+    }
 }
+
+pub(crate) fn asks_wanted(alloc: Global, row: &str) -> bool {
+    let Some((text, rest)) = row.split_once("; ") else {
+        return false;
+    };
+    match rest.split_once("; ") {
+        Some((version, wanted)) => text_is_wanted(alloc, text, version, wanted == "yes"),
+        None => false,
+    }
+}
+
+const WANTED: [&str; 3] = [
+    "^1.2.3-rc.4 || >=3; 1.9.0; yes",
+    "^1.2.3-rc.4 || >=3; 3.0.0; yes",
+    "^1.2.3-rc.4 || >=3; 1.2.4-rc.6; no",
+];
 
 #[test]
 fn asks_what_a_text_admits(rt: HostRuntime) {
-    for (text, version, wanted) in [
-        ("^1.2.3-rc.4 || >=3", "1.9.0", true),
-        ("^1.2.3-rc.4 || >=3", "3.0.0", true),
-        ("^1.2.3-rc.4 || >=3", "1.2.4-rc.6", false),
-    ] {
-        let answer = text_is_wanted(rt.alloc(), text, version);
-        assert!(rt; answer == Some(wanted), "{text} and {version}");
-    }
+    each(&rt, Question::AsksWanted, &WANTED);
 }

@@ -45,11 +45,21 @@ fn answers_alike(range: &Range, version: &Version) -> bool {
     counted == range.satisfies(version)
 }
 
-pub(crate) fn counts(alloc: Global, row: &str) -> Option<bool> {
-    let (text, version) = row.split_once("; ")?;
-    let range = Range::parse(alloc, text).ok()?;
-    let version = Version::parse(alloc, version).ok()?;
-    Some(answers_alike(&range, &version))
+fn range_counts(alloc: Global, range: &Range, version: &str) -> bool {
+    match Version::parse(alloc, version) {
+        Ok(version) => answers_alike(range, &version),
+        Err(_) => false,
+    }
+}
+
+pub(crate) fn counts(alloc: Global, row: &str) -> bool {
+    let Some((text, version)) = row.split_once("; ") else {
+        return false;
+    };
+    match Range::parse(alloc, text) {
+        Ok(range) => range_counts(alloc, &range, version),
+        Err(_) => false,
+    }
 }
 
 #[test]

@@ -1,31 +1,51 @@
-use std::alloc::{AllocError, Global};
+use std::alloc::Global;
 
 // `#` stands for the greatest number of a text, `@` for one less and `$` for one more.
-fn add(whole: &mut String, text: &str) -> Result<(), AllocError> {
-    for character in text.chars() {
-        match character {
-            '@' => whole.push_str("9007199254740990")?,
-            '#' => whole.push_str("9007199254740991")?,
-            '$' => whole.push_str("9007199254740992")?,
-            _ => whole.push(character)?,
-        }
-    }
-    Ok(())
+fn add_character(whole: &mut String, character: char) -> bool {
+    let added = match character {
+        '@' => whole.push_str("9007199254740990"),
+        '#' => whole.push_str("9007199254740991"),
+        '$' => whole.push_str("9007199254740992"),
+        _ => whole.push(character),
+    };
+    added.is_ok()
 }
 
-fn add_pieces(whole: &mut String, piece: &str, times: usize) -> Result<(), AllocError> {
-    for _ in 0..times {
-        whole.push_str(piece)?;
+fn add(whole: &mut String, text: &str) -> bool {
+    for character in text.chars() {
+        if !add_character(whole, character) {
+            return false;
+        }
     }
-    Ok(())
+    true
+}
+
+fn add_pieces(whole: &mut String, piece: &str, times: usize) -> bool {
+    for _ in 0..times {
+        if whole.push_str(piece).is_err() {
+            return false;
+        }
+    }
+    true
+}
+
+// `3*bc` adds `bcbcbc`.
+fn add_repeat(whole: &mut String, repeat: &str) -> bool {
+    let Some((times, piece)) = repeat.split_once('*') else {
+        return false;
+    };
+    match times.parse::<usize>() {
+        Ok(times) => add_pieces(whole, piece, times),
+        Err(_) => false,
+    }
 }
 
 // `a{3*bc` adds `abcbcbc`.
-fn add_part(whole: &mut String, part: &str) -> Option<()> {
-    let (text, repeat) = part.split_once('{').unwrap_or((part, "0*"));
-    let (times, piece) = repeat.split_once('*')?;
-    add(whole, text).ok()?;
-    add_pieces(whole, piece, times.parse::<usize>().ok()?).ok()
+fn add_part(whole: &mut String, part: &str) -> bool {
+    match part.split_once('{') {
+        Some((text, repeat)) => add(whole, text) && add_repeat(whole, repeat),
+        None => add(whole, part),
+    }
 }
 
 // What a row stands for, where it is written short: `a{3*bc}d` for `abcbcbcd`, and marks outside braces for the numbers
@@ -33,7 +53,9 @@ fn add_part(whole: &mut String, part: &str) -> Option<()> {
 pub(crate) fn spread(alloc: Global, row: &str) -> Option<String> {
     let mut whole = String::new(alloc);
     for part in row.split('}') {
-        add_part(&mut whole, part)?;
+        if !add_part(&mut whole, part) {
+            return None;
+        }
     }
     Some(whole)
 }

@@ -1,35 +1,54 @@
 use crate::checks::is_print;
+use crate::order::texts_compare;
 use crate::questions::{Question, each};
 use crate::told::version_print;
 use node_semver::{Identifier, Version};
-use std::alloc::{AllocError, Global};
+use std::alloc::Global;
+use std::cmp::Ordering;
 
-// `-alpha,=1` of the mark `-` and `alpha.1`: a `=` stands before a number
-fn write_list(text: &mut String, mark: &str, identifiers: &[Identifier]) -> Result<(), AllocError> {
+// `-alpha` of the mark `-` and the word `alpha`, and `-=1` of the number 1
+fn write_identifier(text: &mut String, mark: &str, identifier: &Identifier) -> bool {
+    if matches!(identifier, Identifier::Numeric(_)) {
+        write!(text, "{mark}={identifier}").is_ok()
+    } else {
+        write!(text, "{mark}{identifier}").is_ok()
+    }
+}
+
+// `-alpha,=1` of the mark `-` and `alpha.1`
+fn write_list(text: &mut String, mark: &str, identifiers: &[Identifier]) -> bool {
     let mut mark = mark;
     for identifier in identifiers {
-        text.push_str(mark)?;
-        if matches!(identifier, Identifier::Numeric(_)) {
-            text.push_str("=")?;
+        if !write_identifier(text, mark, identifier) {
+            return false;
         }
-        write!(text, "{identifier}")?;
         mark = ",";
     }
-    Ok(())
+    true
+}
+
+fn write_lists(text: &mut String, version: &Version) -> bool {
+    write_list(text, "-", &version.pre_release) && write_list(text, "+", &version.build)
 }
 
 // `1.2.3-alpha,=1+=5` of `1.2.3-alpha.1+5`
-fn shape(alloc: Global, version: &Version) -> Result<String, AllocError> {
+fn shape(alloc: Global, version: &Version) -> Option<String> {
     let (major, minor, patch) = (version.major, version.minor, version.patch);
-    let mut text = format!(in alloc; "{major}.{minor}.{patch}")?;
-    write_list(&mut text, "-", &version.pre_release)?;
-    write_list(&mut text, "+", &version.build)?;
-    Ok(text)
+    let Ok(mut text) = format!(in alloc; "{major}.{minor}.{patch}") else {
+        return None;
+    };
+    if write_lists(&mut text, version) {
+        Some(text)
+    } else {
+        None
+    }
 }
 
 pub(crate) fn shape_of_text(alloc: Global, text: &str) -> Option<String> {
-    let version = Version::parse(alloc, text).ok()?;
-    shape(alloc, &version).ok()
+    match Version::parse(alloc, text) {
+        Ok(version) => shape(alloc, &version),
+        Err(_) => None,
+    }
 }
 
 // SemVer 2.0.0, sections 2, 9 and 10, and npm's loose form: a mark, blanks, leading zeros, no hyphen.
@@ -71,20 +90,14 @@ fn reads_versions(rt: HostRuntime) {
     each(&rt, Question::Shape, &LONG);
 }
 
-fn are_equal(alloc: Global, text: &str, other: &str) -> Option<bool> {
-    let version = Version::parse(alloc, text).ok()?;
-    let other = Version::parse(alloc, other).ok()?;
-    Some(version == other)
-}
-
 // Each text prints as the other, and an equal version is read from that.
-pub(crate) fn reads_back(alloc: Global, row: &str) -> Option<bool> {
-    let (text, print) = row.split_once("; ")?;
-    Some(
-        is_print(version_print(alloc, text), print)
-            && is_print(version_print(alloc, print), print)
-            && are_equal(alloc, print, text) == Some(true),
-    )
+pub(crate) fn reads_back(alloc: Global, row: &str) -> bool {
+    let Some((text, print)) = row.split_once("; ") else {
+        return false;
+    };
+    is_print(version_print(alloc, text), print)
+        && is_print(version_print(alloc, print), print)
+        && texts_compare(alloc, print, text, Ordering::Equal)
 }
 
 // A text, and its print.
@@ -119,7 +132,9 @@ fn release_print(alloc: Global) -> Option<String> {
 }
 
 fn prerelease_print(alloc: Global) -> Option<String> {
-    let prerelease = Version::with_pre_release(alloc, 1, 2, 3, 4).ok()?;
+    let Ok(prerelease) = Version::with_pre_release(alloc, 1, 2, 3, 4) else {
+        return None;
+    };
     if prerelease.is_prerelease() {
         prerelease.to_string(alloc).ok()
     } else {
@@ -127,11 +142,20 @@ fn prerelease_print(alloc: Global) -> Option<String> {
     }
 }
 
-// Whether `1.2.3-0` is below `1.2.3-4`, and that below `1.2.3`.
-fn ascend(alloc: Global) -> Option<bool> {
-    let low = Version::with_pre_release(alloc, 1, 2, 3, 0).ok()?;
-    let high = Version::with_pre_release(alloc, 1, 2, 3, 4).ok()?;
-    Some(low < high && high < Version::new(alloc, 1, 2, 3))
+// The version of `1.2.3` with this prerelease is below the other.
+fn is_below(alloc: Global, prerelease: u64, other: &Version) -> bool {
+    match Version::with_pre_release(alloc, 1, 2, 3, prerelease) {
+        Ok(version) => version < *other,
+        Err(_) => false,
+    }
+}
+
+// `1.2.3-0` is below `1.2.3-4`, and that below `1.2.3`.
+fn ascend(alloc: Global) -> bool {
+    match Version::with_pre_release(alloc, 1, 2, 3, 4) {
+        Ok(high) => is_below(alloc, 0, &high) && high < Version::new(alloc, 1, 2, 3),
+        Err(_) => false,
+    }
 }
 
 // The Rust crate `node-semver` 2.2.0 makes them by `From`.
@@ -139,5 +163,5 @@ fn ascend(alloc: Global) -> Option<bool> {
 fn makes_versions_of_numbers(rt: HostRuntime) {
     assert!(rt; is_print(release_print(rt.alloc()), "1.2.3"));
     assert!(rt; is_print(prerelease_print(rt.alloc()), "1.2.3-4"));
-    assert!(rt; ascend(rt.alloc()) == Some(true));
+    assert!(rt; ascend(rt.alloc()));
 }

@@ -119,18 +119,29 @@ fn print_of_tree(alloc: Global, tree: &SetTree) -> Result<String, AllocError> {
 
 /// The call of this name, which begins with the type, and of these words.
 pub(crate) fn call_of(alloc: Global, name: &str, words: &[String]) -> Result<Call, Fault> {
-    let one = words.first().map_or("", |word| word.as_str());
-    let other = words.get(1).map_or("", |word| word.as_str());
     match name {
-        "Version::parse" => Ok(Call::ReadVersion(String::from_str(alloc, one)?)),
-        "Range::parse" => Ok(Call::ReadRange(String::from_str(alloc, one)?)),
-        "Range::satisfies, read anew" => read_and_ask(alloc, one, other),
         "Range::any" => Ok(Call::Any),
         "join" => Ok(Call::Join),
         "Version::with_pre_release" => Ok(Call::WithPreRelease),
         "SetTree::evaluate" => Ok(Call::Evaluate(tree_of(alloc, words)?)),
-        _ => call_of_value(alloc, name, one, other),
+        _ => call_of_value(alloc, name, word_at(words, 0), word_at(words, 1)),
     }
+}
+
+/// The word at a place, or the empty one.
+fn word_at(words: &[String], place: usize) -> &str {
+    match words.get(place) {
+        Some(word) => word.as_str(),
+        None => "",
+    }
+}
+
+fn call_of_text(alloc: Global, name: &str, text: &str) -> Result<Call, Fault> {
+    let text = String::from_str(alloc, text)?;
+    Ok(match name {
+        "Version::parse" => Call::ReadVersion(text),
+        _ => Call::ReadRange(text),
+    })
 }
 
 fn read_and_ask(alloc: Global, text: &str, version: &str) -> Result<Call, Fault> {
@@ -141,6 +152,8 @@ fn read_and_ask(alloc: Global, text: &str, version: &str) -> Result<Call, Fault>
 /// The same for calls whose arguments are read of texts. Each kind of them is read in one place.
 fn call_of_value(alloc: Global, name: &str, one: &str, other: &str) -> Result<Call, Fault> {
     match name {
+        "Version::parse" | "Range::parse" => call_of_text(alloc, name, one),
+        "Range::satisfies, read anew" => read_and_ask(alloc, one, other),
         "Identifier::clone" => copy_of_identifier(alloc, one),
         "SemverError::clone" => copy_of_error(alloc, one),
         "Version::clone" | "Version::to_json" => call_of_version(alloc, name, one),

@@ -13,10 +13,11 @@ mod question;
 mod requests;
 mod trees;
 
+use answer::Answer;
 use call::{Call, call_of};
 use fault::Fault;
 use requests::{MANY, granted};
-use std::alloc::{AllocError, AllocGlobal, Global};
+use std::alloc::AllocGlobal;
 use std::env;
 use std::env::Env;
 use std::process::ExitCode;
@@ -44,12 +45,34 @@ fn words_of(rt: &(impl Env + AllocGlobal)) -> Result<Vec<String>, Fault> {
     Ok(words)
 }
 
-/// Makes the call of these words. It is lent from there on, since each `?` of a function that owns one lets it go.
+/// Makes the call of these words.
 fn made_of(rt: &(impl Print + AllocGlobal), words: &[String]) -> Result<bool, Fault> {
-    let [_, count, name, arguments @ ..] = words else {
-        return Err(Fault::Words);
-    };
-    let count = count.parse::<usize>().map_err(|_| Fault::Words)?;
+    match words {
+        [_, count, name, arguments @ ..] => made_after(rt, count, name, arguments),
+        _ => Err(Fault::Words),
+    }
+}
+
+/// Makes the call after so many requests.
+fn made_after(
+    rt: &(impl Print + AllocGlobal),
+    count: &str,
+    name: &str,
+    arguments: &[String],
+) -> Result<bool, Fault> {
+    match count.parse::<usize>() {
+        Ok(count) => made_by_name(rt, count, name, arguments),
+        Err(_) => Err(Fault::Words),
+    }
+}
+
+/// Makes the call of this name. It is lent from there on, since each `?` of a function that owns one lets it go.
+fn made_by_name(
+    rt: &(impl Print + AllocGlobal),
+    count: usize,
+    name: &str,
+    arguments: &[String],
+) -> Result<bool, Fault> {
     let call = call_of(rt.alloc(), name, arguments)?;
     is_unchanged(rt, count, &call)
 }
@@ -63,24 +86,24 @@ fn is_unchanged(rt: &(impl Print + AllocGlobal), count: usize, call: &Call) -> R
 
 /// Makes the call twice, and writes what it answered.
 fn write_answers(rt: &(impl Print + AllocGlobal), count: usize, call: &Call) -> Result<(), Fault> {
-    let (before, first, after) = first_answer(rt.alloc(), count, call)?;
-    let second = second_answer(rt.alloc(), call)?;
+    let before = granted(rt.alloc(), count);
+    let first = call.answer(rt.alloc());
+    let after = granted(rt.alloc(), MANY);
+    let second = call.answer(rt.alloc());
+    write_lines(rt, before, &first, after, &second)
+}
+
+/// Writes the requests that were granted before the call, its answer, the requests that were granted after it, and the
+/// answer of the call once more.
+fn write_lines(
+    rt: &(impl Print + AllocGlobal),
+    before: usize,
+    first: &Answer,
+    after: usize,
+    second: &Answer,
+) -> Result<(), Fault> {
+    let first = first.print(rt.alloc())?;
+    let second = second.print(rt.alloc())?;
     println!(rt; "{before}\n{first}\n{after}\n{second}")?;
     Ok(())
-}
-
-/// The requests that were granted before the call, its answer, and the requests that were granted after it.
-fn first_answer(
-    alloc: Global,
-    count: usize,
-    call: &Call,
-) -> Result<(usize, String, usize), AllocError> {
-    let before = granted(alloc, count);
-    let answer = call.answer(alloc);
-    let after = granted(alloc, MANY);
-    Ok((before, answer.print(alloc)?, after))
-}
-
-fn second_answer(alloc: Global, call: &Call) -> Result<String, AllocError> {
-    call.answer(alloc).print(alloc)
 }

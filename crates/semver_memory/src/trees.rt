@@ -7,27 +7,31 @@ use std::alloc::{AllocError, Global};
 pub(crate) fn tree_of(alloc: Global, words: &[String]) -> Result<SetTree, Fault> {
     let mut trees = Vec::new(alloc);
     for word in words {
-        let tree = match word.as_str() {
-            "Both" => {
-                let (one, other) = sides(alloc, &mut trees)?;
-                SetTree::Both(one, other)
-            }
-            "Without" => {
-                let (one, other) = sides(alloc, &mut trees)?;
-                SetTree::Without(one, other)
-            }
-            text => SetTree::Text(String::from_str(alloc, text)?),
-        };
+        let tree = tree_of_word(alloc, word.as_str(), &mut trees)?;
         trees.push(tree)?;
     }
     trees.pop().ok_or(Fault::Words)
 }
 
-/// The last two trees.
-fn sides(alloc: Global, trees: &mut Vec<SetTree>) -> Result<(Box<SetTree>, Box<SetTree>), Fault> {
-    let other = trees.pop().ok_or(Fault::Words)?;
-    let one = trees.pop().ok_or(Fault::Words)?;
-    Ok((Box::new(alloc, one)?, Box::new(alloc, other)?))
+/// The tree that a word ends.
+fn tree_of_word(alloc: Global, word: &str, trees: &mut Vec<SetTree>) -> Result<SetTree, Fault> {
+    match word {
+        "Both" => {
+            let other = side(alloc, trees)?;
+            Ok(SetTree::Both(side(alloc, trees)?, other))
+        }
+        "Without" => {
+            let other = side(alloc, trees)?;
+            Ok(SetTree::Without(side(alloc, trees)?, other))
+        }
+        text => Ok(SetTree::Text(String::from_str(alloc, text)?)),
+    }
+}
+
+/// The last tree.
+fn side(alloc: Global, trees: &mut Vec<SetTree>) -> Result<Box<SetTree>, Fault> {
+    let tree = trees.pop().ok_or(Fault::Words)?;
+    Ok(Box::new(alloc, tree)?)
 }
 
 /// Appends the words of a tree.

@@ -9,8 +9,8 @@ use Rattle.node_semver.specs.ErrorLocation.{newline}
 use Rattle.semver_pairs.specs.declared.open_pair.OpenPair.{OpenPair}
 use Rattle.semver_pairs.specs.Output.{AreAnswers, Exchanges, IsOutput, IsOutputBeforeEnd, IsOutputPrefix}
 use Rattle.semver_pairs.specs.Pairs.{Pair, lone, pairs_read}
-use Rattle.semver_pairs.specs.Private.Answering.{AnswersAll, AnswersAllSome, AnswersPast, AnswersRangeSome, AnswersSome}
-use Rattle.semver_pairs.specs.Private.Answering.{Moves}
+use Rattle.semver_pairs.specs.Private.Answering.{AnswersAll, AnswersAllSome, AnswersFrom, AnswersPast, AnswersRange}
+use Rattle.semver_pairs.specs.Private.Answering.{AnswersRangeSome, AnswersSome, Moves}
 use Rattle.semver_pairs.specs.Private.OpenPair.{IsOpen, open_bytes}
 use Rattle.semver_pairs.specs.Private.Splitting.{HasNoNewline}
 use Rattle.semver_pairs.proofs.MoveLemmas.{last_pair, past_trans}
@@ -92,6 +92,26 @@ last_written_part bytes old now new waiting all part = record {
     moves = moves-trans old now new [] all.added waiting [] (drop part.0 waiting ++ []) all.moves
         (moves-part now new waiting [] part.0 part.1);
   };
+}
+
+-- the lines that were answered are these, and none waited
+pub range_at : (given range given_version version rest : List ℕ) (old new : Option (List ℕ)) (waiting left : List ℕ)
+    → given ≡ range → given_version ≡ version → waiting ≡ []
+    → AnswersRange given given_version [] rest old new waiting left → AnswersRange range version [] rest old new [] left
+range_at given range given_version version rest old new waiting left is version_is none answers = record {
+  added = answers.added;
+  answers = subst (λ (l : List ℕ). AnswersFrom l version [] rest answers.added) is
+      (subst (λ (l : List ℕ). AnswersFrom given l [] rest answers.added) version_is answers.answers);
+  moves = subst (λ (l : List ℕ). Moves old new l answers.added left) none answers.moves;
+}
+
+pub range_some_at : (given range given_version version : List ℕ) (old new : Option (List ℕ)) (waiting : List ℕ)
+    → given ≡ range → given_version ≡ version → waiting ≡ []
+    → AnswersRangeSome given given_version [] old new waiting → AnswersRangeSome range version [] old new []
+range_some_at given range given_version version old new waiting is version_is none some = record {
+  rest = some.rest;
+  left = some.left;
+  past = range_at given range given_version version some.rest old new waiting some.left is version_is none some.past;
 }
 
 pub ruleset last_steps = (
@@ -245,12 +265,12 @@ run_end_part Ended r0 r1 r2 c0 c1 c2 kept count so_far taken ended some =
     }
 
 -- so many reads gave at least as many bytes
-pub run_least : (r0 r1 c0 c1 : Option (List ℕ)) (kept : OpenPair) (count : ℕ) → RunSoFar r0 r1 c0 c1 kept count
-    → IfSome r0 (λ bytes. count ≤ length bytes)
-run_least None r1 c0 c1 kept count so_far = tt
-run_least (Some all) None c0 c1 kept count so_far = absurd so_far.taken
-run_least (Some all) (Some rest) c0 c1 kept count so_far =
-    let least = so_far.least in rw (so_far.taken, length-append) (omega arith)
+pub run_least : (r0 r1 c0 c1 : Option (List ℕ)) (kept : OpenPair) (count least : ℕ)
+    → RunSoFar r0 r1 c0 c1 kept count → least ≤ count → IfSome r0 (λ bytes. least ≤ length bytes)
+run_least None r1 c0 c1 kept count least so_far enough = tt
+run_least (Some all) None c0 c1 kept count least so_far enough = absurd so_far.taken
+run_least (Some all) (Some rest) c0 c1 kept count least so_far enough =
+    let read = so_far.least in rw (so_far.taken, length-append) (omega arith)
 
 pub ruleset run_steps = (
   run_none,

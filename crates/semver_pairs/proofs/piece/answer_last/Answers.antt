@@ -2,7 +2,7 @@ use Rattle.std.proofs.Common.{◌≡◌, true}
 use Rattle.semver_pairs.proofs.OutputLemmas.{on_err-of}
 use Rattle.semver_pairs.proofs.MoveLemmas.{last_pair}
 use Rattle.semver_pairs.proofs.RunLemmas.{last_lone, last_lone_part, last_none, last_pair_part}
-use Rattle.semver_pairs.proofs.RunLemmas.{last_written, last_written_part}
+use Rattle.semver_pairs.proofs.RunLemmas.{last_written, last_written_part, range_at, range_some_at}
 use Rattle.semver_pairs.proofs.piece.answer_last.Goals as goal
 
 pub returns-in_err-put-clause-part : goal.returns-in_err-put-clause-part
@@ -35,7 +35,8 @@ returns-then-not-has_version-clause-answers g c =
 
 pub returns-in_err-answer_range-clause-part : goal.returns-in_err-answer_range-clause-part
 returns-in_err-answer_range-clause-part g c =
-    let part = rw (c.range.ensures, c.version.ensures, c.requires.written) at c.in_err-answer_range.ensures.part in
+    let part = range_some_at _ _ _ _ _ _ _ c.range.ensures c.version.ensures c.requires.written
+    c.in_err-answer_range.ensures.part in
     let some = last_pair_part c.args.kept.now _ _ _ c.requires.lines
     (c.has_version.ensures.0 c.if-not-has_version.false) part in
     on_err-of _ some
@@ -43,7 +44,8 @@ returns-in_err-answer_range-clause-part g c =
 pub returns-in_err-flush-2-clause-part : goal.returns-in_err-flush-2-clause-part
 returns-in_err-flush-2-clause-part g c =
     let whole = c.has_version.ensures.0 c.if-not-has_version.false in
-    let answers = rw (c.range.ensures, c.version.ensures, c.requires.written) at c.in_ok-answer_range.ensures.answers in
+    let answers = range_at _ _ _ _ _ _ _ _ _ c.range.ensures c.version.ensures c.requires.written
+    c.in_ok-answer_range.ensures.answers in
     let all = last_pair c.args.kept.now _ _ _ _ _ c.requires.lines whole.0 whole.1 answers in
     let some = last_written_part _ _ _ _ _ all c.in_err-flush-2.ensures.part in
     on_err-of _ some
@@ -51,7 +53,8 @@ returns-in_err-flush-2-clause-part g c =
 pub returns-clause-answers : goal.returns-clause-answers
 returns-clause-answers g c =
     let whole = c.has_version.ensures.0 c.if-not-has_version.false in
-    let answers = rw (c.range.ensures, c.version.ensures, c.requires.written) at c.in_ok-answer_range.ensures.answers in
+    let answers = range_at _ _ _ _ _ _ _ _ _ c.range.ensures c.version.ensures c.requires.written
+    c.in_ok-answer_range.ensures.answers in
     let all = last_pair c.args.kept.now _ _ _ _ _ c.requires.lines whole.0 whole.1 answers in
     last_written _ _ _ _ _ all c.in_ok-flush-2.ensures.all
 

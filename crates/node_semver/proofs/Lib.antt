@@ -1,14 +1,14 @@
 -- Lemmas, by subject. Each subject has a list of its files in reading order. The other folders hold the proofs of
--- functions, by module.
--- ---- texts: characters, prefixes, numbers, identifiers and extras
+-- functions, by module. Lemmas of texts, words and merging stand in `semver_sets`.
+-- ---- texts: the longest prefix that is read
 pub mod Texts
--- ---- versions: what is read, faults, order and steps
+-- ---- versions: what is answered, faults and steps
 pub mod Versions
--- ---- words of a range text: partials, kinds of word, and what they write
+-- ---- words of a range text: what holds of each
 pub mod Words
--- ---- range texts: alternatives, division, meaning
+-- ---- range texts: one word, one set, and what is answered
 pub mod Ranges
--- ---- sets: merging, set algebra, trees
+-- ---- sets: set algebra, trees
 pub mod Sets
 -- ---- the least version of a range, the least beyond another, and the greatest of a list
 pub mod Least
@@ -16,5 +16,3 @@ pub mod Least
 pub mod Prints
 -- ---- worked examples, which compute, and what computes them
 pub mod Examples
--- ---- counts that only proofs read
-pub mod EmptyStruct

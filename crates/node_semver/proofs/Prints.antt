@@ -1,4 +1,3 @@
-pub mod LineText
 pub mod PrintReading
 pub mod WordPrintReading
 pub mod SetPrintReading

@@ -1,11 +1,5 @@
-pub mod PieceLemmas
-pub mod DivisionLemmas
-pub mod AlternativeLemmas
-pub mod MeaningLemmas
 pub mod Decisions
-pub mod RangeReading
 pub mod RangeAnswers
-pub mod RangeBounds
 pub mod OnlyWord
 pub mod OnlySet
 pub mod FullRange

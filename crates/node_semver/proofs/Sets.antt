@@ -1,11 +1,3 @@
-pub mod SomeElement
-pub mod Searching
-pub mod OpeningOrder
-pub mod Openings
-pub mod Merging
-pub mod Convex
-pub mod AlternativeSets
-pub mod SetLemmas
 pub mod TextCuts
 pub mod RangeEquality
 pub mod RangeAlgebra
@@ -14,4 +6,3 @@ pub mod TreeSets
 pub mod TreeAnswers
 pub mod RestUnique
 pub mod TreeUnique
-pub mod MergedSpans

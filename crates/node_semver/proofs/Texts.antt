@@ -1,12 +1,1 @@
-pub mod ByteTable
-pub mod Characters
-pub mod Prefixes
-pub mod Places
-pub mod CleanEnds
-pub mod Marks
-pub mod Digits
-pub mod NumberReading
-pub mod IdentifierReading
-pub mod ListReading
-pub mod ExtrasReading
 pub mod LongestReading

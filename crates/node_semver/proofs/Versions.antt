@@ -1,10 +1,7 @@
-pub mod VersionReading
-pub mod OneReading
-pub mod LeadingTriple
 pub mod VersionAnswers
 pub mod VersionParse
 pub mod FaultReading
 pub mod FaultLemmas
-pub mod Prereleases
+pub mod LargeNumbers
 pub mod VersionSteps
 pub mod ZeroLists

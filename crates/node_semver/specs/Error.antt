@@ -1,5 +1,6 @@
 -- What a contract sees of an error: the text that was parsed, where its fault is, and the kind of the fault.
-use Rattle.std.specs.Prelude.{◌≡◌, ℕ, List, [], string_bytes}
+use Rattle.std.specs.Prelude.{◌≡◌, ℕ, List, [], Result, Ok, Err, string_bytes}
+use Rattle.semver_sets.specs.Version.{VersionValue}
 use Rattle.node_semver.specs.declared.error.kind.SemverErrorKind.{SemverErrorKind}
 use Rattle.node_semver.specs.declared.error.kind.SemverErrorKind.TheVariants.{MaxLengthError, IncompleteInput}
 use Rattle.node_semver.specs.declared.error.kind.SemverErrorKind.TheVariants.{ParseIntError, MaxIntError, Context}
@@ -49,3 +50,8 @@ IsRefusalAt text kind offset e = refusal_of e ≡ record { input = text; offset 
 -- e says that memory was refused: no text, offset 0
 abbrev pub IsOutOfMemory : SemverError → Type 0
 IsOutOfMemory e = IsRefusalAt [] out_of_memory 0 e
+
+-- the answer is this version, or want of memory
+abbrev pub IsReadAs : VersionValue → Result VersionValue SemverError → Type 0
+IsReadAs v (Ok w) = w ≡ v
+IsReadAs v (Err e) = IsOutOfMemory e

@@ -3,14 +3,14 @@
 use Rattle.std.specs.Prelude.{◌≡◌, ℕ, ◌^◌, ◌-◌, ◌==◌, ◌<◌, ◌≤◌, nat_lt, if◌then◌else◌}
 use Rattle.std.specs.Prelude.{false, List, [], ◌∷◌, ◌++◌, length, codes}
 use Rattle.std.specs.List.{AllByRecursion}
-use Rattle.node_semver.specs.declared.TheConstants.{MAX_LENGTH, MAX_SAFE_INTEGER}
-use Rattle.node_semver.specs.Characters.{AreAll, BeginsWith, BeginsWithNo, dot}
-use Rattle.node_semver.specs.Characters.{is_blank, is_digit, is_version_mark, mark_of}
+use Rattle.semver_sets.specs.declared.TheConstants.{MAX_LENGTH, MAX_SAFE_INTEGER}
+use Rattle.semver_sets.specs.Characters.{AreAll, BeginsWith, BeginsWithNo, dot}
+use Rattle.semver_sets.specs.Characters.{is_blank, is_digit, is_version_mark, mark_of}
 use Rattle.node_semver.specs.Error.{IsRefusalAt, Kind, context, max_int, max_length, other, parse_int}
 use Rattle.node_semver.specs.declared.error.SemverError.{SemverError}
-use Rattle.node_semver.specs.NumberText.{IsNumberText, number_of}
-use Rattle.node_semver.specs.Version.{VersionValue}
-use Rattle.node_semver.specs.VersionText.{IsVersionText}
+use Rattle.semver_sets.specs.NumberText.{IsNumberText, number_of}
+use Rattle.semver_sets.specs.Version.{VersionValue}
+use Rattle.semver_sets.specs.VersionText.{IsVersionText}
 
 -- each text with a dot after it: `1.22.` of `1` and `22`
 abbrev pub with_dots : List (List ℕ) → List ℕ

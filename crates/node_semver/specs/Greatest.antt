@@ -4,9 +4,9 @@
 use Rattle.std.specs.Prelude.{◌≡◌, List, ◌∷◌, ◌++◌}
 use Rattle.std.specs.List.{AllByRecursion}
 use Rattle.semver_cuts.specs.Ends.{Ends}
-use Rattle.node_semver.specs.Meaning.{RangeAdmits}
-use Rattle.node_semver.specs.Order.{IsBelow, IsSame}
-use Rattle.node_semver.specs.Version.{VersionValue}
+use Rattle.semver_sets.specs.Meaning.{RangeAdmits}
+use Rattle.semver_sets.specs.Order.{IsBelow, IsSame}
+use Rattle.semver_sets.specs.Version.{VersionValue}
 
 -- the version stands in the list and the range admits it, no admitted one of the list has higher precedence, and none
 -- before it has the same

@@ -1,37 +1,14 @@
--- What the contracts of this crate say, in reading order. These files are what a reader has to trust.
+-- What the contracts of this crate say beside what `semver_sets` defines, in reading order. These files are what a
+-- reader has to trust.
 
--- ---- characters, numbers and identifiers, as they are written
-pub mod Characters
-pub mod NumberText
-pub mod IdentifierValue
-pub mod IdentifierText
--- ---- versions: their text, and what is wrong with a text that is none
-pub mod Version
-pub mod VersionText
+-- ---- errors, and what is wrong with a text that is no version
 pub mod Error
 pub mod Fault
--- ---- versions: order, print, hash
-pub mod Order
-pub mod Comparison
+-- ---- versions: the least one and the next
 pub mod VersionSteps
-pub mod Print
-pub mod Hash
--- ---- ranges: words, alternatives, and what they mean
-pub mod Comparator
-pub mod PartialText
-pub mod Operators
-pub mod TildeRanges
-pub mod CaretRanges
-pub mod HyphenRanges
-pub mod Division
-pub mod Meaning
-pub mod Merging
-pub mod RangeSets
-pub mod Searching
+-- ---- ranges: the least and the greatest version, and set algebra
 pub mod Least
 pub mod Greatest
-pub mod RangePrint
-pub mod RangeEquality
 pub mod RangeAlgebra
 -- ---- trees of ranges
 pub mod SetTree
@@ -49,8 +26,6 @@ pub mod ErrorEquality
 -- ---- laws over texts alone
 pub mod VersionLaws
 pub mod RangeLaws
--- ---- how values of the program are seen
-pub mod Identifier
 -- ---- no contract of a public call names what follows: what private functions compute, and lemmas
 pub mod Private
 pub mod Lemmas

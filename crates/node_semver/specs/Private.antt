@@ -1,11 +1,9 @@
-pub mod EndViews
-pub mod Reading
-pub mod ReadingViews
-pub mod WordReading
-pub mod WordViews
-pub mod PieceReading
-pub mod RangeViews
+-- What private functions are said to compute.
+
+-- faults, and what is answered to a text
+pub mod FaultViews
+pub mod AnswerViews
+-- the least and the greatest version
 pub mod LeastViews
 pub mod BeyondViews
 pub mod GreatestViews
-pub mod SearchViews

@@ -1,8 +1,8 @@
 -- What two ranges have in common, and what one has and the other has not, in words of versions.
 use Rattle.std.specs.Prelude.{List, [], ◌∷◌, Option, Some, None}
 use Rattle.semver_cuts.specs.Ends.{Ends}
-use Rattle.node_semver.specs.Meaning.{Admit, AnyByRecursion}
-use Rattle.node_semver.specs.Version.{VersionValue}
+use Rattle.semver_sets.specs.Meaning.{Admit, AnyByRecursion}
+use Rattle.semver_sets.specs.Version.{VersionValue}
 
 -- the sets of an answer: those of its range, and none where it has none
 abbrev pub sets_of_answer : Option (List (Ends VersionValue)) → List (Ends VersionValue)

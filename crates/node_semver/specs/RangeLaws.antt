@@ -1,9 +1,9 @@
 -- The laws of range texts: what makes "the words of a text" and "the partial of a text" well said.
 use Rattle.std.specs.Prelude.{◌≡◌, ℕ, List, Option}
-use Rattle.node_semver.specs.Comparator.{Comparator}
-use Rattle.node_semver.specs.Division.{IsSimpleText, IsWritten}
-use Rattle.node_semver.specs.HyphenRanges.{IsHyphenText}
-use Rattle.node_semver.specs.PartialText.{IsPartialText, Partial}
+use Rattle.semver_sets.specs.Comparator.{Comparator}
+use Rattle.semver_sets.specs.Division.{IsSimpleText, IsWritten}
+use Rattle.semver_sets.specs.HyphenRanges.{IsHyphenText}
+use Rattle.semver_sets.specs.PartialText.{IsPartialText, Partial}
 
 -- the text is written in some way
 abbrev pub HasWriting : List ℕ → Type 0

@@ -5,16 +5,16 @@ use Rattle.std.specs.List.{AllByRecursion}
 use Rattle.semver_cuts.specs.declared.cut.Cut.{Cut}
 use Rattle.semver_cuts.specs.declared.cut.Cut.TheVariants.{Start, Before, After, End}
 use Rattle.semver_cuts.specs.Ends.{Ends}
-use Rattle.node_semver.specs.declared.TheConstants.{MAX_LENGTH, MAX_SAFE_INTEGER}
+use Rattle.semver_sets.specs.declared.TheConstants.{MAX_LENGTH, MAX_SAFE_INTEGER}
 use Rattle.node_semver.specs.declared.error.SemverError.{SemverError}
 use Rattle.node_semver.specs.Error.{IsOutOfMemory}
-use Rattle.node_semver.specs.Meaning.{IsRefused}
-use Rattle.node_semver.specs.Merging.{AreSetsOfText}
-use Rattle.node_semver.specs.Print.{version_text}
-use Rattle.node_semver.specs.RangeEquality.{AreSameCuts}
-use Rattle.node_semver.specs.RangePrint.{range_text}
-use Rattle.node_semver.specs.Version.{VersionValue}
-use Rattle.node_semver.specs.VersionText.{IsVersionText}
+use Rattle.semver_sets.specs.Meaning.{IsRefused}
+use Rattle.semver_sets.specs.Merging.{AreSetsOfText}
+use Rattle.semver_sets.specs.Print.{version_text}
+use Rattle.semver_sets.specs.RangeEquality.{AreSameCuts}
+use Rattle.semver_sets.specs.RangePrint.{range_text}
+use Rattle.semver_sets.specs.Version.{VersionValue}
+use Rattle.semver_sets.specs.VersionText.{IsVersionText}
 
 -- ---- versions
 

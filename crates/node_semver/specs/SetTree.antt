@@ -9,13 +9,13 @@ use Rattle.semver_cuts.specs.Common.{IsInEvery}
 use Rattle.semver_cuts.specs.CommonSpans.{common_spans}
 use Rattle.semver_cuts.specs.Ends.{Ends}
 use Rattle.semver_cuts.specs.Rest.{AreRestSpans}
-use Rattle.node_semver.specs.Comparator.{Comparator}
-use Rattle.node_semver.specs.Comparison.{version_cmp}
-use Rattle.node_semver.specs.Division.{IsWritten}
-use Rattle.node_semver.specs.Meaning.{AnyByRecursion, RangeAdmits}
-use Rattle.node_semver.specs.Merging.{AreSetsOfText}
+use Rattle.semver_sets.specs.Comparator.{Comparator}
+use Rattle.semver_sets.specs.Comparison.{version_cmp}
+use Rattle.semver_sets.specs.Division.{IsWritten}
+use Rattle.semver_sets.specs.Meaning.{AnyByRecursion, RangeAdmits}
+use Rattle.semver_sets.specs.Merging.{AreSetsOfText}
 use Rattle.node_semver.specs.RangeAlgebra.{PairAdmits}
-use Rattle.node_semver.specs.Version.{VersionValue}
+use Rattle.semver_sets.specs.Version.{VersionValue}
 use Rattle.node_semver.specs.declared.tree.SetTree.{SetTree}
 use Rattle.node_semver.specs.declared.tree.SetTree.TheVariants.{Text, Both', Without'}
 

@@ -2,8 +2,8 @@
 use Rattle.std.specs.Prelude.{◌≡◌, ◌⊎◌, ℕ, List}
 use Rattle.node_semver.specs.Error.{Kind}
 use Rattle.node_semver.specs.Fault.{IsFault}
-use Rattle.node_semver.specs.Version.{VersionValue}
-use Rattle.node_semver.specs.VersionText.{IsVersionText}
+use Rattle.semver_sets.specs.Version.{VersionValue}
+use Rattle.semver_sets.specs.VersionText.{IsVersionText}
 
 -- the text is no two versions
 abbrev pub HasOneReading : List ℕ → Type 0

@@ -1,11 +1,11 @@
 //! The laws of versions and ranges. Each function here does nothing: its contract is the law.
 ghost use Rattle.std.specs.Prelude.{◌≡◌, ℕ, List};
 ghost use Rattle.semver_cuts.specs.Ends.{Ends};
-ghost use Rattle.node_semver.specs.declared.TheConstants.{MAX_LENGTH, MAX_SAFE_INTEGER};
-ghost use Rattle.node_semver.specs.Comparator.{Comparator};
-ghost use Rattle.node_semver.specs.Merging.{AdmitsTheSame, HasOneMerging, HasOneSet, IsSetOf, LosesNothing};
+ghost use Rattle.semver_sets.specs.declared.TheConstants.{MAX_LENGTH, MAX_SAFE_INTEGER};
+ghost use Rattle.semver_sets.specs.Comparator.{Comparator};
+ghost use Rattle.semver_sets.specs.Merging.{AdmitsTheSame, HasOneMerging, HasOneSet, IsSetOf, LosesNothing};
 ghost use Rattle.node_semver.specs.SetTree.{AdmitInPairs, Formula, HasOneListOfSets};
-ghost use Rattle.node_semver.specs.Version.{VersionValue};
+ghost use Rattle.semver_sets.specs.Version.{VersionValue};
 ghost use Rattle.node_semver.specs.VersionLaws.{HasOneFault, HasOneReading, IsNeverBoth, IsReadOrFaulty};
 ghost use Rattle.node_semver.specs.RangeLaws.{HasWriting, IsOneHyphenRange, IsOnePartial, IsOneSimpleWord};
 ghost use Rattle.node_semver.specs.RangeLaws.{IsWrittenOneWay};

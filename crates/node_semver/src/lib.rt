@@ -35,41 +35,16 @@
 //! `node_semver_callers` has a proved caller for each of several tasks.
 #![tactic(auto)]
 
-mod comparator;
-mod comparisons;
-mod end;
 mod error;
-mod identifier;
 mod json;
 pub mod laws;
-mod line;
-mod parse;
 mod range;
-mod set;
 mod tree;
 mod version;
-mod word;
 
-pub use comparisons::Comparisons;
 pub use error::{SemverError, SemverErrorKind, SourceSpan};
-pub use identifier::Identifier;
 pub use json::JsonError;
 pub use range::{Range, max_satisfying};
+pub use semver_sets::{Comparisons, Identifier, MAX_LENGTH, MAX_SAFE_INTEGER};
 pub use tree::SetTree;
 pub use version::Version;
-
-/// The greatest major, minor or patch of a text: 2 to the 53rd power, less one.
-///
-/// In the Rust crate `node-semver` 2.2.0 it lacks its last digit.
-///
-/// # Source
-///
-/// JavaScript's `Number.MAX_SAFE_INTEGER`.
-pub const MAX_SAFE_INTEGER: u64 = 9007199254740991;
-
-/// The greatest length of a version text, in bytes. A range text has no limit.
-///
-/// # Source
-///
-/// The Rust crate `node-semver` 2.2.0.
-pub const MAX_LENGTH: usize = 256;

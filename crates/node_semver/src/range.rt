@@ -1,29 +1,26 @@
 //! Ranges: which versions a text asks for.
 ghost use Rattle.std.specs.Prelude.{◌≡◌, ◌↔◌, ◌∷◌, [], IfOk, IsTrue};
-ghost use Rattle.node_semver.specs.Meaning.{RangeAdmits};
-ghost use Rattle.node_semver.specs.Merging.{all_cuts};
+ghost use Rattle.semver_sets.specs.Meaning.{RangeAdmits};
+ghost use Rattle.semver_sets.specs.Merging.{all_cuts};
 ghost use Rattle.node_semver.specs.RangeAnswer.{IsRangeAnswer};
-ghost use Rattle.node_semver.specs.RangeSets.{IsRangeSet, IsRangeValue};
-ghost use Rattle.node_semver.specs.Searching.{IsShortSearch};
+ghost use Rattle.semver_sets.specs.RangeSets.{IsRangeSet, IsRangeValue};
+ghost use Rattle.semver_sets.specs.Searching.{IsShortSearch};
 
 mod algebra;
 mod equality;
 mod greatest;
 mod least;
-mod opened;
 mod print;
 mod read;
-mod searched;
-mod sets;
 
-use crate::end::End;
 use crate::{Comparisons, SemverError, Version};
 pub use equality::ranges_are_equal_where_their_cuts_are;
 pub use greatest::max_satisfying;
 use read::{FullLead, caret_range, exact_range, read_full, read_range, tilde_range};
-use searched::Searched;
 use semver_cuts::{Cut, Span};
-use sets::Sets;
+use semver_sets::end::End;
+use semver_sets::set_list::Sets;
+use semver_sets::set_list::searched::Searched;
 use std::alloc::{AllocError, Global};
 use std::marker::Model;
 
@@ -71,8 +68,8 @@ impl Drop for Range {
 impl Model for Range {
     ghost use Rattle.std.specs.Prelude.{List};
     ghost use Rattle.semver_cuts.specs.Ends.{Ends};
-    ghost use Rattle.node_semver.specs.RangeSets.{IsRangeValue, sets_seen};
-    ghost use Rattle.node_semver.specs.Version.{VersionValue};
+    ghost use Rattle.semver_sets.specs.RangeSets.{IsRangeValue, sets_seen};
+    ghost use Rattle.semver_sets.specs.Version.{VersionValue};
 
     ghost Value = { List (Ends VersionValue) };
 
@@ -135,7 +132,7 @@ impl Range {
     /// # Source
     ///
     /// The Rust crate `node-semver` 2.2.0.
-    #[tactic(auto, using(crate::proofs::Ranges::RangeBounds::all_cuts_bounded))]
+    #[tactic(auto, using(semver_sets::proofs::Ranges::RangeBounds::all_cuts_bounded))]
     pub fn any(_alloc: Global) -> Result<Range, AllocError>
         ensures all { IfOk result (λ r. r ≡ all_cuts ∷ []) }
         ensures holds { IfOk result IsRangeValue }

@@ -5,13 +5,13 @@ ghost use Rattle.semver_cuts.specs.declared.cut.Cut.TheVariants.{Before};
 ghost use Rattle.semver_cuts.specs.Common.{IsInSome};
 ghost use Rattle.semver_cuts.specs.CommonSpans.{common_spans};
 ghost use Rattle.semver_cuts.specs.Rest.{AreRestSpans};
-ghost use Rattle.node_semver.specs.Comparison.{version_cmp};
-ghost use Rattle.node_semver.specs.Meaning.{RangeAdmits};
-ghost use Rattle.node_semver.specs.Merging.{AreSetsOfText};
+ghost use Rattle.semver_sets.specs.Comparison.{version_cmp};
+ghost use Rattle.semver_sets.specs.Meaning.{RangeAdmits};
+ghost use Rattle.semver_sets.specs.Merging.{AreSetsOfText};
 ghost use Rattle.node_semver.specs.RangeAlgebra.{sets_of_answer};
-ghost use Rattle.node_semver.specs.RangeSets.{IsRangeValue};
+ghost use Rattle.semver_sets.specs.RangeSets.{IsRangeValue};
 ghost use Rattle.node_semver.specs.SetTree.{AreSetsOfTree, InFormula, formula_of};
-ghost use Rattle.node_semver.specs.Version.{IsPrerelease, VersionValue};
+ghost use Rattle.semver_sets.specs.Version.{IsPrerelease, VersionValue};
 
 use crate::{Range, SemverErrorKind};
 use std::alloc::{AllocError, Global};

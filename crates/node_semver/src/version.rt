@@ -1,11 +1,13 @@
 ghost use Rattle.std.specs.Prelude.{◌≡◌, ◌↔◌, IfOk, IsTrue};
-ghost use Rattle.node_semver.specs.Version.{IsPrerelease, release, with_pre_release};
+ghost use Rattle.semver_sets.specs.Version.{IsPrerelease, release, with_pre_release};
 
+mod asked;
 mod copy;
 pub(crate) mod display;
 mod hash;
 pub(crate) mod order;
 mod parse;
+mod read;
 mod stepped;
 
 use crate::Identifier;
@@ -32,8 +34,8 @@ pub struct Version {
 }
 
 impl Model for Version {
-    ghost use Rattle.node_semver.specs.Version.{VersionValue};
-    ghost use Rattle.node_semver.specs.Identifier.{values_of};
+    ghost use Rattle.semver_sets.specs.Version.{VersionValue};
+    ghost use Rattle.semver_sets.specs.Identifier.{values_of};
 
     ghost Value = { VersionValue };
 

@@ -1,6 +1,6 @@
 -- What is asked of one thing is asked of another that admits the same versions.
 use Rattle.std.proofs.Common.{◌↔◌, ℕ, List, Bool}
-use Rattle.node_semver.specs.Version.{VersionValue}
+use Rattle.semver_sets.specs.Version.{VersionValue}
 use Rattle.node_semver_c.specs.Pair.{IsAsked, answered, refused}
 use Rattle.node_semver_c.specs.declared.status.Fault.{Fault}
 

@@ -8,14 +8,14 @@ use Rattle.semver_cuts.specs.Ends.{Ends}
 use Rattle.semver_cuts.specs.Rest.{AreRestSpans}
 use Rattle.semver_cuts.specs.Sharing.{ShareCut}
 use Rattle.node_semver.specs.declared.error.SemverError.{SemverError}
-use Rattle.node_semver.specs.Comparison.{version_cmp}
+use Rattle.semver_sets.specs.Comparison.{version_cmp}
 use Rattle.node_semver.specs.Error.{refusal_of}
 use Rattle.node_semver.specs.Least.{AdmitsNone, AdmitsNoneBeyond, HasBuildOfFirst, IsAdmittedBy}
 use Rattle.node_semver.specs.Least.{IsLeastAdmitted, IsLeastBeyond}
-use Rattle.node_semver.specs.Meaning.{RangeAdmits}
+use Rattle.semver_sets.specs.Meaning.{RangeAdmits}
 use Rattle.node_semver.specs.RangeAlgebra.{PairAdmits, sets_of_answer}
-use Rattle.node_semver.specs.RangeSets.{IsRangeValue}
-use Rattle.node_semver.specs.Version.{IsPrerelease, VersionValue}
+use Rattle.semver_sets.specs.RangeSets.{IsRangeValue}
+use Rattle.semver_sets.specs.Version.{IsPrerelease, VersionValue}
 use Rattle.node_semver_c.specs.declared.status.Fault.{Fault}
 use Rattle.node_semver_c.specs.declared.status.TheConstants.{OK, NONE, OUT_OF_MEMORY}
 use Rattle.node_semver_c.specs.Status.{IsKept, IsRefusalTold}

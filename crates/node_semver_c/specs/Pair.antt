@@ -4,9 +4,9 @@ use Rattle.semver_cuts.specs.Ends.{Ends}
 use Rattle.node_semver.specs.declared.error.SemverError.{SemverError}
 use Rattle.node_semver.specs.Error.{IsOutOfMemory, IsRefusalAt, no_valid_ranges, refusal_of}
 use Rattle.node_semver.specs.Fault.{IsFaultOf}
-use Rattle.node_semver.specs.Meaning.{IsRefused, RangeAdmits, TextAdmits}
-use Rattle.node_semver.specs.Version.{VersionValue}
-use Rattle.node_semver.specs.VersionText.{IsVersionText}
+use Rattle.semver_sets.specs.Meaning.{IsRefused, RangeAdmits, TextAdmits}
+use Rattle.semver_sets.specs.Version.{VersionValue}
+use Rattle.semver_sets.specs.VersionText.{IsVersionText}
 use Rattle.node_semver_c.specs.declared.status.Fault.{Fault}
 use Rattle.node_semver_c.specs.declared.status.TheConstants.{OK}
 use Rattle.node_semver_c.specs.Status.{IsRefusalTold}

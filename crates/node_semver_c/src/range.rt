@@ -3,12 +3,12 @@ ghost use Rattle.std.specs.Prelude.{◌≡◌, ◌≢◌, ◌↔◌, List, [], I
 ghost use Rattle.semver_cuts.specs.CommonSpans.{common_spans};
 ghost use Rattle.semver_cuts.specs.Ends.{Ends};
 ghost use Rattle.semver_cuts.specs.Sharing.{CoversAll, ShareCut};
-ghost use Rattle.node_semver.specs.Comparison.{version_cmp};
-ghost use Rattle.node_semver.specs.Meaning.{RangeAdmits};
+ghost use Rattle.semver_sets.specs.Comparison.{version_cmp};
+ghost use Rattle.semver_sets.specs.Meaning.{RangeAdmits};
 ghost use Rattle.node_semver.specs.RangeAnswer.{IsRangeAnswer};
-ghost use Rattle.node_semver.specs.RangeEquality.{AreSameCuts, are_same_cuts};
-ghost use Rattle.node_semver.specs.RangePrint.{range_text};
-ghost use Rattle.node_semver.specs.Version.{VersionValue};
+ghost use Rattle.semver_sets.specs.RangeEquality.{AreSameCuts, are_same_cuts};
+ghost use Rattle.semver_sets.specs.RangePrint.{range_text};
+ghost use Rattle.semver_sets.specs.Version.{VersionValue};
 ghost use Rattle.node_semver_c.specs.Answers.{IsSomeTold};
 ghost use Rattle.node_semver_c.specs.Compared.{range_hash};
 ghost use Rattle.node_semver_c.specs.Printed.{IsPrinted};

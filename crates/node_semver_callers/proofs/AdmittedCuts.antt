@@ -4,12 +4,12 @@ use Rattle.semver_cuts.specs.declared.cut.Cut.TheVariants.{Before}
 use Rattle.semver_cuts.specs.Common.{IsInEvery, IsInSome}
 use Rattle.semver_cuts.specs.Ends.{Ends}
 use Rattle.semver_cuts.specs.Lemmas.Lists.{any-map}
-use Rattle.node_semver.specs.Comparator.{Comparator}
-use Rattle.node_semver.specs.Comparison.{version_cmp}
-use Rattle.node_semver.specs.Meaning.{Admit, RangeAdmits, TextAdmits}
+use Rattle.semver_sets.specs.Comparator.{Comparator}
+use Rattle.semver_sets.specs.Comparison.{version_cmp}
+use Rattle.semver_sets.specs.Meaning.{Admit, RangeAdmits, TextAdmits}
 use Rattle.node_semver.specs.RangeAlgebra.{sets_of_answer}
 use Rattle.node_semver.specs.SetTree.{Formula, InFormula, TextHasCut, both, of_text, without}
-use Rattle.node_semver.specs.Version.{IsPrerelease, VersionValue}
+use Rattle.semver_sets.specs.Version.{IsPrerelease, VersionValue}
 
 -- what a range admits lies in one of its sets
 pub admitted-inside : (sets : List (Ends VersionValue)) (v : VersionValue) → RangeAdmits sets v

@@ -1,8 +1,8 @@
 -- One version more of a list of which a range text hits some.
 use Rattle.std.proofs.Common.{◌≡◌, ◌<◌, ◌+◌, ℕ, List, [], ◌∷◌, ◌++◌, get_or, length, map, take}
 use Rattle.std.proofs.lemmas.List.{map-append, take_more}
-use Rattle.node_semver.specs.Meaning.{TextAdmits}
-use Rattle.node_semver.specs.Version.{VersionValue}
+use Rattle.semver_sets.specs.Meaning.{TextAdmits}
+use Rattle.semver_sets.specs.Version.{VersionValue}
 use Rattle.node_semver_callers.specs.Hits.{AreHits, hit, none, spared}
 
 module _ (text : List ℕ) (v : VersionValue) where

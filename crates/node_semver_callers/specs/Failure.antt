@@ -1,7 +1,7 @@
 -- Why there is no answer to a range text.
 use Rattle.std.specs.Prelude.{◌⊎◌, ℕ, List}
 use Rattle.node_semver.specs.Error.{IsOutOfMemory, IsRefusalAt, no_valid_ranges}
-use Rattle.node_semver.specs.Meaning.{IsRefused}
+use Rattle.semver_sets.specs.Meaning.{IsRefused}
 use Rattle.node_semver_callers.specs.declared.failure.Failure.{Failure}
 use Rattle.node_semver_callers.specs.declared.failure.Failure.TheVariants.{Memory, Refused}
 

@@ -2,7 +2,7 @@
 use Rattle.std.specs.Prelude.{◌≡◌, ◌⊎◌, ℕ, List}
 use Rattle.node_semver.specs.Error.{IsOutOfMemory, IsRefusalAt, no_valid_ranges, refusal_of}
 use Rattle.node_semver.specs.ErrorLocation.{column_at, lines_before}
-use Rattle.node_semver.specs.Meaning.{IsRefused}
+use Rattle.semver_sets.specs.Meaning.{IsRefused}
 use Rattle.node_semver_callers.specs.declared.package.MemberError.{MemberError}
 use Rattle.node_semver_callers.specs.declared.package.MemberError.TheVariants.{NotAString, Refused}
 

@@ -1,9 +1,9 @@
 //! What two dependents have in common: one range for both, if there is one.
 
 ghost use Rattle.std.specs.Prelude.{◌⊎◌, ◌↔◌, IfErr, IfOk, IsNone};
-ghost use Rattle.node_semver.specs.Meaning.{RangeAdmits, TextAdmits};
+ghost use Rattle.semver_sets.specs.Meaning.{RangeAdmits, TextAdmits};
 ghost use Rattle.node_semver.specs.RangeAlgebra.{sets_of_answer};
-ghost use Rattle.node_semver.specs.Version.{IsPrerelease, VersionValue};
+ghost use Rattle.semver_sets.specs.Version.{IsPrerelease, VersionValue};
 ghost use Rattle.node_semver_callers.specs.Failure.{IsFailureOf};
 
 use crate::Failure;

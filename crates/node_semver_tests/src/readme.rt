@@ -1,7 +1,7 @@
 //! The example of the README, and a caller that is proved by the contracts of the calls.
 
 ghost use Rattle.std.specs.Prelude.{◌↔◌, IfOk, IsTrue};
-ghost use Rattle.node_semver.specs.Meaning.{TextAdmits};
+ghost use Rattle.semver_sets.specs.Meaning.{TextAdmits};
 
 use crate::questions::{Question, each};
 use node_semver::{Range, SemverError, SemverErrorKind, Version};

@@ -1,8 +1,8 @@
 -- The answer to a range line and a version line.
 use Rattle.std.specs.Prelude.{◌⊎◌, ℕ, List, IsUtf8, codes}
-use Rattle.node_semver.specs.Meaning.{IsRefused, TextAdmits}
-use Rattle.node_semver.specs.Version.{VersionValue}
-use Rattle.node_semver.specs.VersionText.{IsVersionText}
+use Rattle.semver_sets.specs.Meaning.{IsRefused, TextAdmits}
+use Rattle.semver_sets.specs.Version.{VersionValue}
+use Rattle.semver_sets.specs.VersionText.{IsVersionText}
 
 -- a line that is not UTF-8, or is refused as a range text
 abbrev pub IsBadRange : List ℕ → Type 0

@@ -6,13 +6,13 @@ use Rattle.std.specs.Fmt.{digits}
 use Rattle.std.specs.List.{AllByRecursion, list_any}
 use Rattle.semver_cuts.specs.CommonSpans.{common_spans}
 use Rattle.semver_cuts.specs.Ends.{Ends}
-use Rattle.node_semver.specs.Comparator.{at_least, below, from_up_to}
-use Rattle.node_semver.specs.Comparison.{version_cmp}
-use Rattle.node_semver.specs.Meaning.{Admit, AnyByRecursion}
+use Rattle.semver_sets.specs.Comparator.{at_least, below, from_up_to}
+use Rattle.semver_sets.specs.Comparison.{version_cmp}
+use Rattle.semver_sets.specs.Meaning.{Admit, AnyByRecursion}
 use Rattle.node_semver.specs.RangeAlgebra.{PairAdmits}
-use Rattle.node_semver.specs.RangePrint.{range_text}
+use Rattle.semver_sets.specs.RangePrint.{range_text}
 use Rattle.node_semver.specs.SetTree.{AreSetsOfTree, Formula, both, of_text}
-use Rattle.node_semver.specs.Version.{VersionValue, release}
+use Rattle.semver_sets.specs.Version.{VersionValue, release}
 use Rattle.node_semver.proofs.Examples.RangeComputing.{admit, admit-iff, any-iff}
 use Rattle.node_semver.proofs.Examples.SetComputing.{Sets, merged-by, sets_in}
 use Rattle.node_semver.proofs.Examples.WordExamples.{prerelease}

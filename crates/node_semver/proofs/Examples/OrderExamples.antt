@@ -1,11 +1,11 @@
 -- Examples of the order, computed from its definitions: SemVer 2.0.0, sections 10 and 11.
 use Rattle.std.proofs.Common.{◌≡◌, ℕ, List, [], ◌∷◌, codes, refl}
 use Rattle.std.specs.declared.cmp.Ordering.TheVariants.{Less, Equal, Greater}
-use Rattle.node_semver.specs.IdentifierValue.{IdentifierValue, numeric, alphanumeric}
-use Rattle.node_semver.specs.Version.{VersionValue, release}
-use Rattle.node_semver.specs.Order.{IsBelow, IsSame}
-use Rattle.node_semver.specs.Comparison.{version_cmp}
-use Rattle.node_semver.specs.Lemmas.Order.{version_cmp-means}
+use Rattle.semver_sets.specs.IdentifierValue.{IdentifierValue, numeric, alphanumeric}
+use Rattle.semver_sets.specs.Version.{VersionValue, release}
+use Rattle.semver_sets.specs.Order.{IsBelow, IsSame}
+use Rattle.semver_sets.specs.Comparison.{version_cmp}
+use Rattle.semver_sets.specs.Lemmas.Order.{version_cmp-means}
 
 -- `1.0.0` with these prerelease identifiers
 abbrev one : List IdentifierValue → VersionValue

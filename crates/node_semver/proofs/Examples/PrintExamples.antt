@@ -1,9 +1,9 @@
 -- Examples of the print, computed from its definition.
 use Rattle.std.proofs.Common.{◌≡◌, [], ◌∷◌, codes, refl}
 use Rattle.std.specs.Fmt.{digits}
-use Rattle.node_semver.specs.IdentifierValue.{numeric, alphanumeric}
-use Rattle.node_semver.specs.Version.{VersionValue, release}
-use Rattle.node_semver.specs.Print.{version_text}
+use Rattle.semver_sets.specs.IdentifierValue.{numeric, alphanumeric}
+use Rattle.semver_sets.specs.Version.{VersionValue, release}
+use Rattle.semver_sets.specs.Print.{version_text}
 
 abbrev full : VersionValue
 full = record (release 1 2 34) { pre_release = alphanumeric (codes "abc") ∷ numeric 213 ∷ []; build = numeric 2 ∷ [] }

@@ -10,24 +10,24 @@ use Rattle.semver_cuts.specs.declared.cut.Cut.TheVariants.{Start, Before, After,
 use Rattle.semver_cuts.specs.Cut.{cut_cmp}
 use Rattle.semver_cuts.specs.Ends.{IsInSpan}
 use Rattle.semver_cuts.specs.Lemmas.Ends.{at_most-below, at_most-from_le, below-from_lt, le-from_at_most, lt-from_below}
-use Rattle.node_semver.specs.Characters.{is_blank}
-use Rattle.node_semver.specs.Comparator.{Comparator}
-use Rattle.node_semver.specs.Division.{IsAlternative, IsWritten}
-use Rattle.node_semver.specs.Meaning.{Admit, AnyByRecursion, GiveSet, HasOpenEnd, IsInside, IsRefused, Opens}
-use Rattle.node_semver.specs.Meaning.{TextAdmits}
-use Rattle.node_semver.specs.Comparison.{version_cmp}
-use Rattle.node_semver.specs.Lemmas.Order.{version_total}
-use Rattle.node_semver.specs.Private.PieceReading.{piece_at}
-use Rattle.node_semver.specs.Private.Reading.{list_prefix, list_rest, prefix_of, read_build, read_extras, read_number}
-use Rattle.node_semver.specs.Private.Reading.{read_prerelease, rest_of, skip_one, skip_plus}
-use Rattle.node_semver.specs.Version.{HasSameTriple, IsPrerelease, VersionValue}
-use Rattle.node_semver.specs.Private.WordReading.{leading_or_none, read_component, read_components, read_hyphen}
-use Rattle.node_semver.specs.Private.WordReading.{read_lead, read_operator, read_partial, read_right, read_simple}
-use Rattle.node_semver.specs.Private.WordReading.{read_word}
-use Rattle.node_semver.proofs.Ranges.AlternativeLemmas.{AreLeft, left-more, reads-start, written-unique}
-use Rattle.node_semver.proofs.Ranges.DivisionLemmas.{Completes, completes-end, completes-leading, completes-more}
-use Rattle.node_semver.specs.Private.WordViews.{listed}
-use Rattle.node_semver.proofs.Ranges.MeaningLemmas.{AdmitSome, NoneGive, none-from_refused, refused-from_none}
+use Rattle.semver_sets.specs.Characters.{is_blank}
+use Rattle.semver_sets.specs.Comparator.{Comparator}
+use Rattle.semver_sets.specs.Division.{IsAlternative, IsWritten}
+use Rattle.semver_sets.specs.Meaning.{Admit, AnyByRecursion, GiveSet, HasOpenEnd, IsInside, IsRefused, Opens}
+use Rattle.semver_sets.specs.Meaning.{TextAdmits}
+use Rattle.semver_sets.specs.Comparison.{version_cmp}
+use Rattle.semver_sets.specs.Lemmas.Order.{version_total}
+use Rattle.semver_sets.specs.Private.PieceReading.{piece_at}
+use Rattle.semver_sets.specs.Private.Reading.{list_prefix, list_rest, prefix_of, read_build, read_extras, read_number}
+use Rattle.semver_sets.specs.Private.Reading.{read_prerelease, rest_of, skip_one, skip_plus}
+use Rattle.semver_sets.specs.Version.{HasSameTriple, IsPrerelease, VersionValue}
+use Rattle.semver_sets.specs.Private.WordReading.{leading_or_none, read_component, read_components, read_hyphen}
+use Rattle.semver_sets.specs.Private.WordReading.{read_lead, read_operator, read_partial, read_right, read_simple}
+use Rattle.semver_sets.specs.Private.WordReading.{read_word}
+use Rattle.semver_sets.proofs.Ranges.AlternativeLemmas.{AreLeft, left-more, reads-start, written-unique}
+use Rattle.semver_sets.proofs.Ranges.DivisionLemmas.{Completes, completes-end, completes-leading, completes-more}
+use Rattle.semver_sets.specs.Private.WordViews.{listed}
+use Rattle.semver_sets.proofs.Ranges.MeaningLemmas.{AdmitSome, NoneGive, none-from_refused, refused-from_none}
 
 -- ---- the comparators of an alternative
 

@@ -1,10 +1,10 @@
 -- Worked examples: what some texts mean, on both sides. Each is computed over the definitions.
 use Rattle.std.proofs.Common.{◌≡◌, ℕ, List, [], ◌∷◌, ◌++◌, Some, refl, codes}
 use Rattle.semver_cuts.specs.declared.cut.Cut.TheVariants.{Before, After}
-use Rattle.node_semver.specs.Comparator.{above, at_least, below, exactly, from_up_to, with_major}
-use Rattle.node_semver.specs.IdentifierValue.{IdentifierValue, alphanumeric, numeric}
-use Rattle.node_semver.specs.Meaning.{IsRefused, TextAdmits}
-use Rattle.node_semver.specs.Version.{VersionValue, least_of, release}
+use Rattle.semver_sets.specs.Comparator.{above, at_least, below, exactly, from_up_to, with_major}
+use Rattle.semver_sets.specs.IdentifierValue.{IdentifierValue, alphanumeric, numeric}
+use Rattle.semver_sets.specs.Meaning.{IsRefused, TextAdmits}
+use Rattle.semver_sets.specs.Version.{VersionValue, least_of, release}
 use Rattle.node_semver.proofs.Examples.RangeComputing.{accepted-by, admits-by, alternatives_in, refused-by}
 use Rattle.node_semver.proofs.Examples.RangeComputing.{turns_away-by, written-by}
 

@@ -1,12 +1,12 @@
 -- Worked examples: how many spans the sets of a text are joined to, and how many comparisons a search takes at most.
 use Rattle.std.proofs.Common.{◌≡◌, ◌≤◌, ◌+◌, ◌*◌, ℕ, List, [], ◌∷◌, Some, arith, codes, refl}
 use Rattle.semver_cuts.specs.Starts.{count_of_starts}
-use Rattle.node_semver.specs.Comparator.{at_least, below, from_up_to, with_major}
-use Rattle.node_semver.specs.Comparison.{version_cmp}
-use Rattle.node_semver.specs.IdentifierValue.{alphanumeric, numeric}
-use Rattle.node_semver.specs.Merging.{AreSetsOfText}
-use Rattle.node_semver.specs.Searching.{HasDigits, IsShortSearch, count_of_opening}
-use Rattle.node_semver.specs.Version.{IsPrerelease, VersionValue, least_of, release}
+use Rattle.semver_sets.specs.Comparator.{at_least, below, from_up_to, with_major}
+use Rattle.semver_sets.specs.Comparison.{version_cmp}
+use Rattle.semver_sets.specs.IdentifierValue.{alphanumeric, numeric}
+use Rattle.semver_sets.specs.Merging.{AreSetsOfText}
+use Rattle.semver_sets.specs.Searching.{HasDigits, IsShortSearch, count_of_opening}
+use Rattle.semver_sets.specs.Version.{IsPrerelease, VersionValue, least_of, release}
 use Rattle.node_semver.proofs.Examples.SetComputing.{Sets, merged-by, sets_in}
 
 -- ---- releases: the binary digits of how many spans there are, and one more

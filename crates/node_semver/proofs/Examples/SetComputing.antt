@@ -10,11 +10,11 @@ use Rattle.semver_cuts.specs.Cut.{cut_cmp}
 use Rattle.semver_cuts.specs.Ends.{Ends, IsCutAtMost, IsCutBelow, span_between}
 use Rattle.semver_cuts.specs.Merging.{IsChosenEnd, IsFirstLeastUpper, IsLastGreatestLower}
 use Rattle.semver_cuts.specs.Lemmas.Ends.{at_most-from_le, below-from_lt, le-from_at_most, lt-from_below}
-use Rattle.node_semver.specs.Comparator.{Comparator}
-use Rattle.node_semver.specs.Comparison.{version_cmp}
-use Rattle.node_semver.specs.Merging.{AreSetsOf, AreSetsOfText, no_more, none, one_more}
-use Rattle.node_semver.specs.RangePrint.{range_text}
-use Rattle.node_semver.specs.Version.{VersionValue}
+use Rattle.semver_sets.specs.Comparator.{Comparator}
+use Rattle.semver_sets.specs.Comparison.{version_cmp}
+use Rattle.semver_sets.specs.Merging.{AreSetsOf, AreSetsOfText, no_more, none, one_more}
+use Rattle.semver_sets.specs.RangePrint.{range_text}
+use Rattle.semver_sets.specs.Version.{VersionValue}
 use Rattle.node_semver.proofs.Examples.RangeComputing.{all-iff, alternatives_in, are_crossed, first-same, gives-by}
 use Rattle.node_semver.proofs.Examples.RangeComputing.{lies_in, none-by, written-by}
 

@@ -4,11 +4,11 @@ use Rattle.std.proofs.lemmas.Bool.{and_from, and_parts}
 use Rattle.std.specs.List.{list_all}
 use Rattle.semver_cuts.specs.declared.cut.Cut.{Cut}
 use Rattle.semver_cuts.specs.declared.cut.Cut.TheVariants.{Before}
-use Rattle.node_semver.specs.Comparator.{Comparator, at_least, below, with_major}
-use Rattle.node_semver.specs.Meaning.{AnyByRecursion}
+use Rattle.semver_sets.specs.Comparator.{Comparator, at_least, below, with_major}
+use Rattle.semver_sets.specs.Meaning.{AnyByRecursion}
 use Rattle.node_semver.specs.SetTree.{Formula, InFormula, TextHasCut, both, of_text, without}
-use Rattle.node_semver.specs.Version.{VersionValue, least_of, release}
-use Rattle.node_semver.proofs.Ranges.AlternativeLemmas.{written-unique}
+use Rattle.semver_sets.specs.Version.{VersionValue, least_of, release}
+use Rattle.semver_sets.proofs.Ranges.AlternativeLemmas.{written-unique}
 use Rattle.node_semver.proofs.Examples.RangeComputing.{Holds, all-iff, alternatives_in, any-iff, elements-iff}
 use Rattle.node_semver.proofs.Examples.RangeComputing.{has_elements, holds, holds-iff, lies_in, lies_in_some}
 use Rattle.node_semver.proofs.Examples.RangeComputing.{refused-by, written-by}

@@ -6,12 +6,12 @@ use Rattle.semver_cuts.specs.declared.cut.Cut.TheVariants.{Start, Before, After,
 use Rattle.semver_cuts.specs.Ends.{Ends, IsCutAtMost}
 use Rattle.semver_cuts.specs.Lemmas.Ends.{at_most-below, at_most-or-below, at_most_refl, at_most_trans}
 use Rattle.semver_cuts.specs.Lemmas.Ends.{below-not-at_most}
-use Rattle.node_semver.specs.Comparison.{version_cmp}
+use Rattle.semver_sets.specs.Comparison.{version_cmp}
 use Rattle.node_semver.specs.Least.{AdmitsBeyond}
-use Rattle.node_semver.specs.Meaning.{AnyByRecursion, HasOpenEnd, Opens, SetAdmits}
-use Rattle.node_semver.specs.Version.{HasSameTriple, IsPrerelease, VersionValue}
-use Rattle.node_semver.specs.Lemmas.Order.{version_total}
-use Rattle.node_semver.proofs.Sets.Convex.{triple-back}
+use Rattle.semver_sets.specs.Meaning.{AnyByRecursion, HasOpenEnd, Opens, SetAdmits}
+use Rattle.semver_sets.specs.Version.{HasSameTriple, IsPrerelease, VersionValue}
+use Rattle.semver_sets.specs.Lemmas.Order.{version_total}
+use Rattle.semver_sets.proofs.Sets.Convex.{triple-back}
 
 -- ---- lists
 

@@ -8,12 +8,12 @@ use Rattle.std.specs.List.{AllByRecursion}
 use Rattle.std.specs.Prelude.{Result}
 use Rattle.semver_cuts.specs.declared.cut.Cut.TheVariants.{Before}
 use Rattle.semver_cuts.specs.Ends.{Ends}
-use Rattle.node_semver.specs.Comparison.{version_cmp}
+use Rattle.semver_sets.specs.Comparison.{version_cmp}
 use Rattle.node_semver.specs.Least.{AdmitsNone, HasBuildOfFirst, IsLeastAdmitted}
-use Rattle.node_semver.specs.Meaning.{RangeAdmits, SetAdmits}
-use Rattle.node_semver.specs.RangeSets.{IsRangeSet}
-use Rattle.node_semver.specs.Version.{VersionValue}
-use Rattle.node_semver.specs.Lemmas.Order.{Less-version, version-Less, version_total}
+use Rattle.semver_sets.specs.Meaning.{RangeAdmits, SetAdmits}
+use Rattle.semver_sets.specs.RangeSets.{IsRangeSet}
+use Rattle.semver_sets.specs.Version.{VersionValue}
+use Rattle.semver_sets.specs.Lemmas.Order.{Less-version, version-Less, version_total}
 use Rattle.node_semver.specs.Private.LeastViews.{IsLeastInSet, IsLeastOfSet, IsLeastOfSets, IsLesser}
 use Rattle.node_semver.proofs.Least.LeastLemmas.{at-least, before-least}
 

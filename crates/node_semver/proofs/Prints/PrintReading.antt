@@ -6,24 +6,24 @@ use Rattle.std.proofs.lemmas.Fmt.{decimal_nonempty, digits_decimal, digits_value
 use Rattle.std.specs.Fmt.{decimal}
 use Rattle.std.specs.List.{AllByRecursion, join_with_byte, list_all}
 use Rattle.std.specs.Prelude.{◌&&◌, nat_lt}
-use Rattle.node_semver.specs.declared.TheConstants.{MAX_LENGTH, MAX_SAFE_INTEGER}
-use Rattle.node_semver.specs.Characters.{AreAll, BeginsWith, BeginsWithNo, dot, hyphen, is_digit}
-use Rattle.node_semver.specs.Characters.{is_identifier_character, is_version_mark, mark_of, plus}
-use Rattle.node_semver.specs.IdentifierText.{IsBuildText, IsIdentifierList, IsIdentifierText, IsPrereleaseText}
-use Rattle.node_semver.specs.IdentifierText.{identifier_of, parts_of}
-use Rattle.node_semver.specs.IdentifierValue.{IdentifierValue, numeric}
-use Rattle.node_semver.specs.NumberText.{IsNumberText, number_of}
-use Rattle.node_semver.specs.Print.{identifier_text, marked_text, version_text}
-use Rattle.node_semver.specs.RangeSets.{IsReadIdentifier}
+use Rattle.semver_sets.specs.declared.TheConstants.{MAX_LENGTH, MAX_SAFE_INTEGER}
+use Rattle.semver_sets.specs.Characters.{AreAll, BeginsWith, BeginsWithNo, dot, hyphen, is_digit}
+use Rattle.semver_sets.specs.Characters.{is_identifier_character, is_version_mark, mark_of, plus}
+use Rattle.semver_sets.specs.IdentifierText.{IsBuildText, IsIdentifierList, IsIdentifierText, IsPrereleaseText}
+use Rattle.semver_sets.specs.IdentifierText.{identifier_of, parts_of}
+use Rattle.semver_sets.specs.IdentifierValue.{IdentifierValue, numeric}
+use Rattle.semver_sets.specs.NumberText.{IsNumberText, number_of}
+use Rattle.semver_sets.specs.Print.{identifier_text, marked_text, version_text}
+use Rattle.semver_sets.specs.RangeSets.{IsReadIdentifier}
 use Rattle.node_semver.specs.ReadingBack.{HasText, HasTextNumbers, VersionReadsBack}
-use Rattle.node_semver.specs.Version.{VersionValue}
-use Rattle.node_semver.specs.VersionText.{IsMarked, IsUnmarkedVersion, IsVersionText}
-use Rattle.node_semver.proofs.Texts.Digits.{digits-numerals}
-use Rattle.node_semver.proofs.Texts.ListReading.{parts-alone, parts-before}
+use Rattle.semver_sets.specs.Version.{VersionValue}
+use Rattle.semver_sets.specs.VersionText.{IsMarked, IsUnmarkedVersion, IsVersionText}
+use Rattle.semver_sets.proofs.Texts.Digits.{digits-numerals}
+use Rattle.semver_sets.proofs.Texts.ListReading.{parts-alone, parts-before}
 use Rattle.node_semver.proofs.Texts.LongestReading.{digit-character}
-use Rattle.node_semver.proofs.Words.PartialBounds.{build-read, prerelease-read}
-use Rattle.node_semver.proofs.Texts.Prefixes.{begins-append}
-use Rattle.node_semver.proofs.Texts.Characters.{digit-no_version_mark}
+use Rattle.semver_sets.proofs.Words.PartialBounds.{build-read, prerelease-read}
+use Rattle.semver_sets.proofs.Texts.Prefixes.{begins-append}
+use Rattle.semver_sets.proofs.Texts.Characters.{digit-no_version_mark}
 
 -- ---- numbers
 

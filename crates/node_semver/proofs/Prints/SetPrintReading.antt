@@ -8,23 +8,23 @@ use Rattle.semver_cuts.specs.declared.cut.Cut.TheVariants.{Start, Before, After,
 use Rattle.semver_cuts.specs.Ends.{AreSameEnds, Ends, HoldsCut, IsCutBelow, span_between}
 use Rattle.semver_cuts.specs.Lemmas.TwoSpans.{holds-below}
 use Rattle.semver_cuts.specs.Lemmas.CutOrder.{cut_total}
-use Rattle.node_semver.specs.Characters.{BeginsWith}
-use Rattle.node_semver.specs.Comparator.{Comparator, above, at_least, at_most, below, exactly}
-use Rattle.node_semver.specs.Comparison.{version_cmp}
-use Rattle.node_semver.specs.Division.{IsAlternative, IsCleanEnd}
-use Rattle.node_semver.specs.Lemmas.Order.{version_total}
-use Rattle.node_semver.specs.Merging.{IsSetOf}
-use Rattle.node_semver.specs.Operators.{greater, greater_or_equal, less, less_or_equal}
-use Rattle.node_semver.specs.Print.{version_text}
-use Rattle.node_semver.specs.RangePrint.{both_text, ends_text, lower_text, set_text, upper_text}
-use Rattle.node_semver.specs.RangeSets.{IsRangeSet, IsReadCut, IsReadVersion}
+use Rattle.semver_sets.specs.Characters.{BeginsWith}
+use Rattle.semver_sets.specs.Comparator.{Comparator, above, at_least, at_most, below, exactly}
+use Rattle.semver_sets.specs.Comparison.{version_cmp}
+use Rattle.semver_sets.specs.Division.{IsAlternative, IsCleanEnd}
+use Rattle.semver_sets.specs.Lemmas.Order.{version_total}
+use Rattle.semver_sets.specs.Merging.{IsSetOf}
+use Rattle.semver_sets.specs.Operators.{greater, greater_or_equal, less, less_or_equal}
+use Rattle.semver_sets.specs.Print.{version_text}
+use Rattle.semver_sets.specs.RangePrint.{both_text, ends_text, lower_text, set_text, upper_text}
+use Rattle.semver_sets.specs.RangeSets.{IsRangeSet, IsReadCut, IsReadVersion}
 use Rattle.node_semver.specs.ReadingBack.{HasTextNumbers, IsPlainlyBounded, IsTextCut, IsUnbounded}
-use Rattle.node_semver.specs.Version.{VersionValue}
-use Rattle.node_semver.specs.Private.WordReading.{is_solid}
-use Rattle.node_semver.proofs.Texts.IdentifierReading.{pick-false, pick-true}
-use Rattle.node_semver.proofs.Sets.Merging.{set-one, set-push}
+use Rattle.semver_sets.specs.Version.{VersionValue}
+use Rattle.semver_sets.specs.Private.WordReading.{is_solid}
+use Rattle.semver_sets.proofs.Texts.IdentifierReading.{pick-false, pick-true}
+use Rattle.semver_sets.proofs.Sets.Merging.{set-one, set-push}
 use Rattle.node_semver.proofs.Words.NoBars.{HasNoBar, none-append}
-use Rattle.node_semver.proofs.Texts.Prefixes.{begins-append}
+use Rattle.semver_sets.proofs.Texts.Prefixes.{begins-append}
 use Rattle.node_semver.proofs.Prints.PrintReading.{IsTextVersion}
 use Rattle.node_semver.proofs.Prints.WordPrintReading.{IsPrintedWord, operator-word, solid-begins, version-word}
 

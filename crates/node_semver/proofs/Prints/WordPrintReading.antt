@@ -3,25 +3,25 @@ use Rattle.std.proofs.Common.{◌≡◌, ◌∙◌, ℕ, true, false, List, [], 
 use Rattle.std.proofs.Common.{subst, inl, inr}
 use Rattle.std.proofs.lemmas.Bool.{cases_Bool, eqb-true}
 use Rattle.std.specs.Prelude.{◌==◌}
-use Rattle.node_semver.specs.Characters.{BeginsWith, BeginsWithNo, is_blank, is_digit, is_partial_mark}
-use Rattle.node_semver.specs.Comparator.{Comparator, exactly}
-use Rattle.node_semver.specs.Division.{IsCleanEnd, IsSimpleText, IsWord, NoneAt, by_operator, plain, simple}
-use Rattle.node_semver.specs.HyphenRanges.{IsHyphenText}
-use Rattle.node_semver.specs.Operators.{Operator, equal, greater, greater_or_equal, less, less_or_equal}
-use Rattle.node_semver.specs.Operators.{operator_comparator, operator_text}
-use Rattle.node_semver.specs.PartialText.{IsPartialText, IsUnmarkedPartial, Partial, three}
-use Rattle.node_semver.specs.Print.{version_text}
-use Rattle.node_semver.specs.Version.{VersionValue}
-use Rattle.node_semver.specs.Private.WordReading.{Lead, is_solid, operator, read_hyphen, read_lead, read_partial}
-use Rattle.node_semver.specs.Private.WordReading.{with_left}
-use Rattle.node_semver.proofs.Words.HyphenReading.{left-ends, right-none}
-use Rattle.node_semver.proofs.Words.LeadReading.{lead-not_partial, lead-operator}
+use Rattle.semver_sets.specs.Characters.{BeginsWith, BeginsWithNo, is_blank, is_digit, is_partial_mark}
+use Rattle.semver_sets.specs.Comparator.{Comparator, exactly}
+use Rattle.semver_sets.specs.Division.{IsCleanEnd, IsSimpleText, IsWord, NoneAt, by_operator, plain, simple}
+use Rattle.semver_sets.specs.HyphenRanges.{IsHyphenText}
+use Rattle.semver_sets.specs.Operators.{Operator, equal, greater, greater_or_equal, less, less_or_equal}
+use Rattle.semver_sets.specs.Operators.{operator_comparator, operator_text}
+use Rattle.semver_sets.specs.PartialText.{IsPartialText, IsUnmarkedPartial, Partial, three}
+use Rattle.semver_sets.specs.Print.{version_text}
+use Rattle.semver_sets.specs.Version.{VersionValue}
+use Rattle.semver_sets.specs.Private.WordReading.{Lead, is_solid, operator, read_hyphen, read_lead, read_partial}
+use Rattle.semver_sets.specs.Private.WordReading.{with_left}
+use Rattle.semver_sets.proofs.Words.HyphenReading.{left-ends, right-none}
+use Rattle.semver_sets.proofs.Words.LeadReading.{lead-not_partial, lead-operator}
 use Rattle.node_semver.proofs.Words.NoBars.{HasNoBar, simple-none}
-use Rattle.node_semver.proofs.Words.PartialReading.{partial-again}
-use Rattle.node_semver.proofs.Texts.Prefixes.{begins-append}
+use Rattle.semver_sets.proofs.Words.PartialReading.{partial-again}
+use Rattle.semver_sets.proofs.Texts.Prefixes.{begins-append}
 use Rattle.node_semver.proofs.Prints.PrintReading.{IsTextVersion, print-begins, three-printed, unmarked}
-use Rattle.node_semver.proofs.Words.WordLemmas.{hyphen-with_left, no-hyphen, right-no_blank}
-use Rattle.node_semver.proofs.Texts.Characters.{digit-no_blank}
+use Rattle.semver_sets.proofs.Words.WordLemmas.{hyphen-with_left, no-hyphen, right-no_blank}
+use Rattle.semver_sets.proofs.Texts.Characters.{digit-no_blank}
 
 -- ---- the print of a version as a partial
 

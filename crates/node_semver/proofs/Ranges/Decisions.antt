@@ -7,14 +7,14 @@ use Rattle.semver_cuts.specs.Cut.{cut_cmp}
 use Rattle.semver_cuts.specs.Ends.{Ends, HoldsCut}
 use Rattle.semver_cuts.specs.Lemmas.Ends.{below-from_lt, lt-from_below}
 use Rattle.semver_cuts.specs.Lemmas.TwoSpans.{holds-below}
-use Rattle.node_semver.specs.Comparator.{Comparator}
-use Rattle.node_semver.specs.Comparison.{version_cmp}
-use Rattle.node_semver.specs.Lemmas.Order.{version_total}
-use Rattle.node_semver.specs.Meaning.{GiveSet, IsRefused, TextAdmits}
-use Rattle.node_semver.specs.Version.{VersionValue}
-use Rattle.node_semver.proofs.Ranges.AlternativeLemmas.{written-exists}
-use Rattle.node_semver.proofs.Ranges.MeaningLemmas.{refused-from_none, none-from_refused}
-use Rattle.node_semver.proofs.Sets.Merging.{merged-gives, one-set}
+use Rattle.semver_sets.specs.Comparator.{Comparator}
+use Rattle.semver_sets.specs.Comparison.{version_cmp}
+use Rattle.semver_sets.specs.Lemmas.Order.{version_total}
+use Rattle.semver_sets.specs.Meaning.{GiveSet, IsRefused, TextAdmits}
+use Rattle.semver_sets.specs.Version.{VersionValue}
+use Rattle.semver_sets.proofs.Ranges.AlternativeLemmas.{written-exists}
+use Rattle.semver_sets.proofs.Ranges.MeaningLemmas.{refused-from_none, none-from_refused}
+use Rattle.semver_sets.proofs.Sets.Merging.{merged-gives, one-set}
 use Rattle.node_semver.proofs.Examples.RangeComputing.{admits-by, some_admits, turns_away-by}
 
 -- it is so, or it isn't

@@ -4,18 +4,19 @@ use Rattle.std.proofs.Common.{◌∙◌, inl, inr, subst}
 use Rattle.std.proofs.lemmas.Bool.{cases_Bool, eqb-true}
 use Rattle.std.specs.Prelude.{◌==◌}
 use Rattle.semver_cuts.specs.Ends.{Ends}
-use Rattle.node_semver.specs.Characters.{BeginsWith, caret, greater_sign, is_digit, tilde}
-use Rattle.node_semver.specs.Comparator.{Comparator, from_up_to}
-use Rattle.node_semver.specs.Merging.{AreSetsOfText}
-use Rattle.node_semver.specs.RangeSets.{IsRangeValue}
-use Rattle.node_semver.specs.Version.{VersionValue, least_of, release}
-use Rattle.node_semver.specs.Private.RangeViews.{IsFull, IsFullText, IsReadRange, full_comparator, listed_set}
-use Rattle.node_semver.specs.Private.Reading.{rest_of}
-use Rattle.node_semver.specs.Private.WordReading.{Lead, caret_lead, no_lead, read_lead, tilde_lead}
-use Rattle.node_semver.proofs.Words.LeadReading.{lead-none}
+use Rattle.semver_sets.specs.Characters.{BeginsWith, caret, greater_sign, is_digit, tilde}
+use Rattle.semver_sets.specs.Comparator.{Comparator, from_up_to}
+use Rattle.semver_sets.specs.Merging.{AreSetsOfText}
+use Rattle.semver_sets.specs.RangeSets.{IsRangeValue}
+use Rattle.semver_sets.specs.Version.{VersionValue, least_of, release}
+use Rattle.semver_sets.specs.Private.RangeViews.{IsFull, IsFullText, full_comparator, listed_set}
+use Rattle.node_semver.specs.Private.AnswerViews.{IsReadRange}
+use Rattle.semver_sets.specs.Private.Reading.{rest_of}
+use Rattle.semver_sets.specs.Private.WordReading.{Lead, caret_lead, no_lead, read_lead, tilde_lead}
+use Rattle.semver_sets.proofs.Words.LeadReading.{lead-none}
 use Rattle.node_semver.proofs.Ranges.OnlySet.{only-between, only-value}
 use Rattle.node_semver.proofs.Ranges.OnlyWord.{only-word}
-use Rattle.node_semver.proofs.Texts.Characters.{digit-no_blank}
+use Rattle.semver_sets.proofs.Texts.Characters.{digit-no_blank}
 
 -- ---- texts
 

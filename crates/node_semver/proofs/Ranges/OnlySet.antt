@@ -2,17 +2,17 @@
 use Rattle.std.proofs.Common.{◌≡◌, ℕ, List, [], ◌∷◌, refl, sym, subst}
 use Rattle.semver_cuts.specs.Ends.{Ends, HoldsCut}
 use Rattle.semver_cuts.specs.Lemmas.TwoSpans.{holds-below}
-use Rattle.node_semver.specs.Comparator.{Comparator}
-use Rattle.node_semver.specs.Comparison.{version_cmp}
-use Rattle.node_semver.specs.Division.{IsWritten}
-use Rattle.node_semver.specs.Lemmas.Order.{version_total}
-use Rattle.node_semver.specs.Meaning.{GiveSet}
-use Rattle.node_semver.specs.Merging.{AreSetsOfText, IsSetOf, none, one_more}
-use Rattle.node_semver.specs.Version.{VersionValue}
-use Rattle.node_semver.specs.RangeSets.{IsRangeValue}
-use Rattle.node_semver.proofs.Sets.Merging.{set-one}
-use Rattle.node_semver.proofs.Ranges.RangeBounds.{text-bounded}
-use Rattle.node_semver.specs.Private.RangeViews.{IsOnlyComparator}
+use Rattle.semver_sets.specs.Comparator.{Comparator}
+use Rattle.semver_sets.specs.Comparison.{version_cmp}
+use Rattle.semver_sets.specs.Division.{IsWritten}
+use Rattle.semver_sets.specs.Lemmas.Order.{version_total}
+use Rattle.semver_sets.specs.Meaning.{GiveSet}
+use Rattle.semver_sets.specs.Merging.{AreSetsOfText, IsSetOf, none, one_more}
+use Rattle.semver_sets.specs.Version.{VersionValue}
+use Rattle.semver_sets.specs.RangeSets.{IsRangeValue}
+use Rattle.semver_sets.proofs.Sets.Merging.{set-one}
+use Rattle.semver_sets.proofs.Ranges.RangeBounds.{text-bounded}
+use Rattle.semver_sets.specs.Private.RangeViews.{IsOnlyComparator}
 
 -- one comparator gives a set where a cut lies in it
 one-gives : (c : Comparator) → HoldsCut version_cmp c → GiveSet (c ∷ [])

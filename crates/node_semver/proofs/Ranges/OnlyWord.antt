@@ -3,21 +3,21 @@ use Rattle.std.proofs.Common.{◌≡◌, ℕ, List, [], ◌∷◌, Option, Some,
 use Rattle.std.proofs.Common.{append-nil}
 use Rattle.std.proofs.lemmas.Bool.{cases_Bool}
 use Rattle.std.specs.Prelude.{IfSome}
-use Rattle.node_semver.specs.Characters.{is_blank}
-use Rattle.node_semver.specs.Comparator.{Comparator}
-use Rattle.node_semver.specs.Division.{IsSimpleText, IsWord, NoneAt, simple}
-use Rattle.node_semver.specs.HyphenRanges.{IsHyphenText}
-use Rattle.node_semver.specs.PartialText.{Partial}
-use Rattle.node_semver.specs.Private.RangeViews.{IsOnlyComparator}
-use Rattle.node_semver.specs.Private.WordReading.{Lead, lead_comparator, no_lead, read_hyphen, read_lead, read_partial}
-use Rattle.node_semver.specs.Private.WordReading.{read_right, read_simple, with_left}
-use Rattle.node_semver.proofs.Words.HyphenReading.{left-ends, right-none}
-use Rattle.node_semver.proofs.Words.LeadReading.{lead-not_partial, lead-plain}
+use Rattle.semver_sets.specs.Characters.{is_blank}
+use Rattle.semver_sets.specs.Comparator.{Comparator}
+use Rattle.semver_sets.specs.Division.{IsSimpleText, IsWord, NoneAt, simple}
+use Rattle.semver_sets.specs.HyphenRanges.{IsHyphenText}
+use Rattle.semver_sets.specs.PartialText.{Partial}
+use Rattle.semver_sets.specs.Private.RangeViews.{IsOnlyComparator}
+use Rattle.semver_sets.specs.Private.WordReading.{Lead, lead_comparator, no_lead, read_hyphen, read_lead, read_partial}
+use Rattle.semver_sets.specs.Private.WordReading.{read_right, read_simple, with_left}
+use Rattle.semver_sets.proofs.Words.HyphenReading.{left-ends, right-none}
+use Rattle.semver_sets.proofs.Words.LeadReading.{lead-not_partial, lead-plain}
 use Rattle.node_semver.proofs.Words.NoBars.{simple-no_bars}
 use Rattle.node_semver.proofs.Words.SimpleHolds.{simple-below}
-use Rattle.node_semver.proofs.Words.SimpleReading.{TakesSimple, simple-takes}
-use Rattle.node_semver.proofs.Words.WordLemmas.{blank-lead, hyphen-with_left, no-hyphen, right-no_blank}
-use Rattle.node_semver.proofs.Words.WordViews.{lead-cases}
+use Rattle.semver_sets.proofs.Words.SimpleReading.{TakesSimple, simple-takes}
+use Rattle.semver_sets.proofs.Words.WordLemmas.{blank-lead, hyphen-with_left, no-hyphen, right-no_blank}
+use Rattle.semver_sets.proofs.Words.WordViews.{lead-cases}
 
 -- ---- no hyphen range
 

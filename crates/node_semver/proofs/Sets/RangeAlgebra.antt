@@ -14,13 +14,13 @@ use Rattle.semver_cuts.specs.Lemmas.CommonSpans.{common_spans-cuts, common_spans
 use Rattle.semver_cuts.specs.Rest.{AreRestSpans}
 use Rattle.semver_cuts.specs.Lemmas.Rest.{rest_spans-cuts}
 use Rattle.semver_cuts.specs.Lemmas.Lists.{any-map}
-use Rattle.node_semver.specs.Comparison.{version_cmp}
-use Rattle.node_semver.specs.Lemmas.Order.{version_total}
-use Rattle.node_semver.specs.Meaning.{Admit, AnyByRecursion, RangeAdmits, SetAdmits}
-use Rattle.node_semver.specs.Merging.{IsSetOf}
+use Rattle.semver_sets.specs.Comparison.{version_cmp}
+use Rattle.semver_sets.specs.Lemmas.Order.{version_total}
+use Rattle.semver_sets.specs.Meaning.{Admit, AnyByRecursion, RangeAdmits, SetAdmits}
+use Rattle.semver_sets.specs.Merging.{IsSetOf}
 use Rattle.node_semver.specs.RangeAlgebra.{PairAdmits}
-use Rattle.node_semver.specs.Version.{IsPrerelease, VersionValue}
-use Rattle.node_semver.proofs.Sets.Merging.{merged-admits, set-one, set-push}
+use Rattle.semver_sets.specs.Version.{IsPrerelease, VersionValue}
+use Rattle.semver_sets.proofs.Sets.Merging.{merged-admits, set-one, set-push}
 
 -- ---- releases
 

@@ -4,15 +4,15 @@ use Rattle.semver_cuts.specs.declared.cut.Cut.{Cut}
 use Rattle.semver_cuts.specs.Common.{IsInEvery, IsInSome}
 use Rattle.semver_cuts.specs.Ends.{Ends}
 use Rattle.semver_cuts.specs.Lemmas.Merging.{in_every-between}
-use Rattle.node_semver.specs.Comparator.{Comparator}
-use Rattle.node_semver.specs.Comparison.{version_cmp}
-use Rattle.node_semver.specs.Meaning.{AnyByRecursion, IsRefused}
-use Rattle.node_semver.specs.Merging.{AreSetsOf, AreSetsOfText, no_more, none, one_more}
+use Rattle.semver_sets.specs.Comparator.{Comparator}
+use Rattle.semver_sets.specs.Comparison.{version_cmp}
+use Rattle.semver_sets.specs.Meaning.{AnyByRecursion, IsRefused}
+use Rattle.semver_sets.specs.Merging.{AreSetsOf, AreSetsOfText, no_more, none, one_more}
 use Rattle.node_semver.specs.SetTree.{TextHasCut}
-use Rattle.node_semver.specs.Version.{VersionValue}
-use Rattle.node_semver.specs.Lemmas.Order.{version_total}
-use Rattle.node_semver.proofs.Ranges.AlternativeLemmas.{written-unique}
-use Rattle.node_semver.proofs.Ranges.MeaningLemmas.{NoneGive, none-from_refused}
+use Rattle.semver_sets.specs.Version.{VersionValue}
+use Rattle.semver_sets.specs.Lemmas.Order.{version_total}
+use Rattle.semver_sets.proofs.Ranges.AlternativeLemmas.{written-unique}
+use Rattle.semver_sets.proofs.Ranges.MeaningLemmas.{NoneGive, none-from_refused}
 
 -- the alternative is not empty, and the cut lies in all of its comparators
 abbrev pub HasCutSome : Cut VersionValue → List Comparator → Type 0

@@ -4,11 +4,11 @@ use Rattle.std.specs.Prelude.{IfOk, IfSome, IsNone}
 use Rattle.semver_cuts.specs.declared.cut.Cut.{Cut}
 use Rattle.semver_cuts.specs.declared.cut.Cut.TheVariants.{Before}
 use Rattle.semver_cuts.specs.Ends.{Ends}
-use Rattle.node_semver.specs.Meaning.{RangeAdmits}
+use Rattle.semver_sets.specs.Meaning.{RangeAdmits}
 use Rattle.node_semver.specs.RangeAlgebra.{sets_of_answer}
-use Rattle.node_semver.specs.RangeSets.{IsRangeValue}
+use Rattle.semver_sets.specs.RangeSets.{IsRangeValue}
 use Rattle.node_semver.specs.SetTree.{Formula, InFormula}
-use Rattle.node_semver.specs.Version.{IsPrerelease, VersionValue}
+use Rattle.semver_sets.specs.Version.{IsPrerelease, VersionValue}
 use Rattle.node_semver.proofs.Sets.AlgebraBounds.{none-exactly}
 use Rattle.node_semver.proofs.Sets.RangeAlgebra.{release-admitted}
 use Rattle.node_semver.proofs.Sets.TreeSets.{HasSetsOf, HaveCutsOf, tree-cuts}

@@ -5,26 +5,26 @@ use Rattle.std.proofs.lemmas.Bool.{cases_Bool}
 use Rattle.std.proofs.lemmas.List.{length-append}
 use Rattle.std.specs.Prelude.{◌==◌, nat_le}
 use Rattle.std.specs.List.{AllByRecursion}
-use Rattle.node_semver.specs.declared.TheConstants.{MAX_SAFE_INTEGER}
-use Rattle.node_semver.specs.Characters.{AreAll, BeginsWith, BeginsWithNo, hyphen, is_blank, is_digit}
-use Rattle.node_semver.specs.Characters.{is_identifier_character, is_version_mark, plus, dot}
-use Rattle.node_semver.specs.IdentifierText.{IsBuildText, IsExtrasText, IsIdentifierList, IsIdentifierText}
-use Rattle.node_semver.specs.IdentifierText.{IsPrereleaseText, parts_of}
-use Rattle.node_semver.specs.IdentifierValue.{IdentifierValue}
-use Rattle.node_semver.specs.NumberText.{IsNumberText, number_of}
-use Rattle.node_semver.specs.Version.{VersionValue}
-use Rattle.node_semver.specs.VersionText.{IsMarked, IsUnmarkedVersion}
-use Rattle.node_semver.specs.Private.Reading.{rest_of, skip_one, skip_plus, begins, read_build, read_extras, prefix_of}
-use Rattle.node_semver.specs.Private.Reading.{goes_on, list_rest, read_list_or, read_version, read_number, read_triple}
-use Rattle.node_semver.specs.Private.Reading.{read_prerelease, read_unmarked, version_of}
-use Rattle.node_semver.proofs.Texts.Prefixes.{begins-append, prefix_of-rest_of, rest_of-all, with-begins}
-use Rattle.node_semver.proofs.Texts.ExtrasReading.{build-takes, read_build-other, read_build-plus, read_list_or-none}
-use Rattle.node_semver.proofs.Texts.ExtrasReading.{read_list_or-some, prerelease-again, prerelease-listed}
-use Rattle.node_semver.proofs.Texts.ExtrasReading.{prerelease-takes, read_prerelease-hyphen, read_prerelease-other}
-use Rattle.node_semver.proofs.Texts.IdentifierReading.{GoOn, begins-first, goes_on-character, list-through, list-whole}
-use Rattle.node_semver.proofs.Texts.IdentifierReading.{parts-shape}
-use Rattle.node_semver.proofs.Texts.NumberReading.{answer, bind-ok, number-again, ok-value, dot-again}
-use Rattle.node_semver.proofs.Versions.VersionReading.{numbers-takes, regroup, version-follows}
+use Rattle.semver_sets.specs.declared.TheConstants.{MAX_SAFE_INTEGER}
+use Rattle.semver_sets.specs.Characters.{AreAll, BeginsWith, BeginsWithNo, hyphen, is_blank, is_digit}
+use Rattle.semver_sets.specs.Characters.{is_identifier_character, is_version_mark, plus, dot}
+use Rattle.semver_sets.specs.IdentifierText.{IsBuildText, IsExtrasText, IsIdentifierList, IsIdentifierText}
+use Rattle.semver_sets.specs.IdentifierText.{IsPrereleaseText, parts_of}
+use Rattle.semver_sets.specs.IdentifierValue.{IdentifierValue}
+use Rattle.semver_sets.specs.NumberText.{IsNumberText, number_of}
+use Rattle.semver_sets.specs.Version.{VersionValue}
+use Rattle.semver_sets.specs.VersionText.{IsMarked, IsUnmarkedVersion}
+use Rattle.semver_sets.specs.Private.Reading.{rest_of, skip_one, skip_plus, begins, read_build, read_extras, prefix_of}
+use Rattle.semver_sets.specs.Private.Reading.{goes_on, list_rest, read_list_or, read_version, read_number, read_triple}
+use Rattle.semver_sets.specs.Private.Reading.{read_prerelease, read_unmarked, version_of}
+use Rattle.semver_sets.proofs.Texts.Prefixes.{begins-append, prefix_of-rest_of, rest_of-all, with-begins}
+use Rattle.semver_sets.proofs.Texts.ExtrasReading.{build-takes, read_build-other, read_build-plus, read_list_or-none}
+use Rattle.semver_sets.proofs.Texts.ExtrasReading.{read_list_or-some, prerelease-again, prerelease-listed}
+use Rattle.semver_sets.proofs.Texts.ExtrasReading.{prerelease-takes, read_prerelease-hyphen, read_prerelease-other}
+use Rattle.semver_sets.proofs.Texts.IdentifierReading.{GoOn, begins-first, goes_on-character, list-through, list-whole}
+use Rattle.semver_sets.proofs.Texts.IdentifierReading.{parts-shape}
+use Rattle.semver_sets.proofs.Texts.NumberReading.{answer, bind-ok, number-again, ok-value, dot-again}
+use Rattle.semver_sets.proofs.Versions.VersionReading.{numbers-takes, regroup, version-follows}
 
 -- a rest is no longer than the whole
 pub rest-short : (text taken rest : List ℕ) → text ≡ taken ++ rest → length rest ≤ length text

@@ -6,25 +6,26 @@ use Rattle.std.proofs.lemmas.List.{length-append}
 use Rattle.std.proofs.Math.Seq.{drop-append_seam}
 use Rattle.std.specs.Prelude.{Result, ◌==◌, codes, nat_le}
 use Rattle.std.specs.List.{AllByRecursion}
-use Rattle.node_semver.specs.declared.TheConstants.{MAX_LENGTH, MAX_SAFE_INTEGER}
-use Rattle.node_semver.specs.Characters.{BeginsWithNo, dot, is_blank, is_digit, is_version_mark, mark_of}
+use Rattle.semver_sets.specs.declared.TheConstants.{MAX_LENGTH, MAX_SAFE_INTEGER}
+use Rattle.semver_sets.specs.Characters.{BeginsWithNo, dot, is_blank, is_digit, is_version_mark, mark_of}
 use Rattle.node_semver.specs.Error.{Kind, context, other}
 use Rattle.node_semver.specs.Fault.{IsAllDigits, IsFault, HasPrefix, large_number, left_over, no_number, no_dot}
 use Rattle.node_semver.specs.Fault.{too_large, with_dots}
-use Rattle.node_semver.specs.NumberText.{IsNumberText, number_of}
-use Rattle.node_semver.specs.Version.{VersionValue}
-use Rattle.node_semver.specs.VersionText.{IsVersionText}
-use Rattle.node_semver.specs.Private.Reading.{◌>>=◌, rest_of, skip_one, begins, prefix_of, read_version, read_number}
-use Rattle.node_semver.specs.Private.Reading.{read_triple, read_dot, read_unmarked}
-use Rattle.node_semver.specs.declared.parse.fault.Fault.{Fault}
-use Rattle.node_semver.specs.declared.parse.fault.Fault.TheVariants.{Missing, TooLarge}
-use Rattle.node_semver.specs.Private.ReadingViews.{kind_in, left_of}
-use Rattle.node_semver.proofs.Texts.Prefixes.{rest_of-no, begins-with, begins-with_no, prefix_of-rest_of}
-use Rattle.node_semver.proofs.Texts.Prefixes.{prefix_of-again, prefix_of-all, prefix_of-begins}
+use Rattle.semver_sets.specs.NumberText.{IsNumberText, number_of}
+use Rattle.semver_sets.specs.Version.{VersionValue}
+use Rattle.semver_sets.specs.VersionText.{IsVersionText}
+use Rattle.semver_sets.specs.Private.Reading.{◌>>=◌, rest_of, skip_one, begins, prefix_of, read_version, read_number}
+use Rattle.semver_sets.specs.Private.Reading.{read_triple, read_dot, read_unmarked}
+use Rattle.semver_sets.specs.declared.parse.fault.Fault.{Fault}
+use Rattle.semver_sets.specs.declared.parse.fault.Fault.TheVariants.{Missing, TooLarge}
+use Rattle.semver_sets.specs.Private.ReadingViews.{left_of}
+use Rattle.node_semver.specs.Private.FaultViews.{kind_in}
+use Rattle.semver_sets.proofs.Texts.Prefixes.{rest_of-no, begins-with, begins-with_no, prefix_of-rest_of}
+use Rattle.semver_sets.proofs.Texts.Prefixes.{prefix_of-again, prefix_of-all, prefix_of-begins}
 use Rattle.node_semver.proofs.Texts.LongestReading.{version-longest, version-no_digit}
-use Rattle.node_semver.proofs.Texts.NumberReading.{number-takes, dot-takes, refusal}
-use Rattle.node_semver.proofs.Texts.Marks.{mark-skip}
-use Rattle.node_semver.proofs.Versions.VersionReading.{version-takes}
+use Rattle.semver_sets.proofs.Texts.NumberReading.{number-takes, dot-takes, refusal}
+use Rattle.semver_sets.proofs.Texts.Marks.{mark-skip}
+use Rattle.semver_sets.proofs.Versions.VersionReading.{version-takes}
 
 -- a chain that gave a fault
 pub bind-err : {A B : Type 0} (r : Result A Fault) (f : A → Result B Fault) (e : Fault) → (r >>= f) ≡ Err e

@@ -3,24 +3,25 @@ use Rattle.std.proofs.Common.{◌≡◌, ◌-◌, ◌<◌, ◌≤◌, ◌^◌, �
 use Rattle.std.proofs.Common.{inl, inr, subst, arith, take, drop}
 use Rattle.std.proofs.lemmas.Bool.{cases_Bool}
 use Rattle.std.specs.Prelude.{IfSome, IsOk, None, Option, Result, Some, codes, nat_lt}
-use Rattle.node_semver.proofs.Texts.IdentifierReading.{pick-false, pick-true}
-use Rattle.node_semver.proofs.Texts.Places.{to-end}
-use Rattle.node_semver.proofs.Texts.Prefixes.{begins-append}
-use Rattle.node_semver.specs.declared.TheConstants.{MAX_LENGTH}
+use Rattle.semver_sets.proofs.Texts.IdentifierReading.{pick-false, pick-true}
+use Rattle.semver_sets.proofs.Texts.Places.{to-end}
+use Rattle.semver_sets.proofs.Texts.Prefixes.{begins-append}
+use Rattle.semver_sets.specs.declared.TheConstants.{MAX_LENGTH}
 use Rattle.node_semver.specs.Error.{Kind, context, max_int, max_length, other, parse_int}
-use Rattle.node_semver.specs.Characters.{BeginsWith, is_digit}
+use Rattle.semver_sets.specs.Characters.{BeginsWith, is_digit}
 use Rattle.node_semver.specs.Fault.{IsFault, large_number, left_over, no_number, no_dot, too_large, too_long}
-use Rattle.node_semver.specs.NumberText.{number_of}
-use Rattle.node_semver.specs.Private.Reading.{Read, prefix_of, read_version}
-use Rattle.node_semver.specs.Private.ReadingViews.{IsMemoryOr, IsPlainOk, IsWantOfMemory, kind_in}
-use Rattle.node_semver.specs.declared.parse.fault.Fault.TheVariants.{TooLarge}
-use Rattle.node_semver.specs.Version.{VersionValue, release}
-use Rattle.node_semver.specs.Private.RangeViews.{IsFullText}
-use Rattle.node_semver.specs.VersionText.{IsVersionText}
-use Rattle.node_semver.specs.declared.parse.fault.Fault.{Fault}
+use Rattle.semver_sets.specs.NumberText.{number_of}
+use Rattle.semver_sets.specs.Private.Reading.{Read, prefix_of, read_version}
+use Rattle.semver_sets.specs.Private.ReadingViews.{IsPlainOk, IsWantOfMemory}
+use Rattle.node_semver.specs.Private.FaultViews.{IsMemoryOr, kind_in}
+use Rattle.semver_sets.specs.declared.parse.fault.Fault.TheVariants.{TooLarge}
+use Rattle.semver_sets.specs.Version.{VersionValue, release}
+use Rattle.semver_sets.specs.Private.RangeViews.{IsFullText}
+use Rattle.semver_sets.specs.VersionText.{IsVersionText}
+use Rattle.semver_sets.specs.declared.parse.fault.Fault.{Fault}
 use Rattle.node_semver.proofs.Versions.FaultReading.{behind-there, fault-takes, left-takes}
-use Rattle.node_semver.proofs.Texts.NumberReading.{ok-value}
-use Rattle.node_semver.proofs.Versions.OneReading.{read-version, version-read}
+use Rattle.semver_sets.proofs.Texts.NumberReading.{ok-value}
+use Rattle.semver_sets.proofs.Versions.OneReading.{read-version, version-read}
 
 -- nothing is left
 pub whole-found : (text : List ℕ) (v : VersionValue) (rest : List ℕ) → length text ≤ MAX_LENGTH

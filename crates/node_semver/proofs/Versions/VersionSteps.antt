@@ -6,17 +6,17 @@ use Rattle.std.specs.Cmp.Lexicographic.{slice_cmp}
 use Rattle.std.specs.List.{AllByRecursion}
 use Rattle.std.proofs.lemmas.Cmp.{ranked}
 use Rattle.semver_cuts.specs.Steps.{IsLeast, IsNext}
-use Rattle.node_semver.specs.Comparison.{identifier_cmp, version_cmp}
-use Rattle.node_semver.specs.Identifier.{value_of, values_of}
-use Rattle.node_semver.specs.IdentifierValue.{IdentifierValue, alphanumeric, numeric}
-use Rattle.node_semver.specs.Order.{IsBelow, IsListBelow, IsIdentifierBelow, before_release, by_identifiers, by_major}
-use Rattle.node_semver.specs.Order.{by_minor, by_patch}
-use Rattle.node_semver.specs.Version.{HasSameTriple, IsPrerelease, VersionValue, least_of}
+use Rattle.semver_sets.specs.Comparison.{identifier_cmp, version_cmp}
+use Rattle.semver_sets.specs.Identifier.{value_of, values_of}
+use Rattle.semver_sets.specs.IdentifierValue.{IdentifierValue, alphanumeric, numeric}
+use Rattle.semver_sets.specs.Order.{IsBelow, IsListBelow, IsIdentifierBelow, before_release, by_identifiers, by_major}
+use Rattle.semver_sets.specs.Order.{by_minor, by_patch}
+use Rattle.semver_sets.specs.Version.{HasSameTriple, IsPrerelease, VersionValue, least_of}
 use Rattle.node_semver.specs.VersionSteps.{IsIdentifier, IsVersion, next_by, next_version, with_zero}
-use Rattle.node_semver.specs.declared.identifier.Identifier.{Identifier}
-use Rattle.node_semver.specs.Lemmas.Order.{Greater-turned, Less-version, identifier-Less, identifier_total, list-Less}
-use Rattle.node_semver.specs.Lemmas.Order.{version-Less}
-use Rattle.node_semver.proofs.Sets.Convex.{major≤, minor≤, patch≤, prerelease-below, triple-between}
+use Rattle.semver_sets.specs.declared.identifier.Identifier.{Identifier}
+use Rattle.semver_sets.specs.Lemmas.Order.{Greater-turned, Less-version, identifier-Less, identifier_total, list-Less}
+use Rattle.semver_sets.specs.Lemmas.Order.{version-Less}
+use Rattle.semver_sets.proofs.Sets.Convex.{major≤, minor≤, patch≤, prerelease-below, triple-between}
 
 -- ---- lists of identifiers
 

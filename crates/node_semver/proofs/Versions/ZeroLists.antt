@@ -7,12 +7,12 @@ use Rattle.std.specs.Cmp.Lexicographic.{lists_total, slice_cmp}
 use Rattle.std.specs.Cmp.Derive.Mapped.{lex_map}
 use Rattle.std.specs.FinMap.{slice_cmp-IsAntisymmetric}
 use Rattle.std.proofs.lemmas.List.{map-append}
-use Rattle.node_semver.specs.Comparison.{identifier_cmp, prerelease_cmp}
-use Rattle.node_semver.specs.Identifier.{value_of, values_of}
-use Rattle.node_semver.specs.IdentifierValue.{IdentifierValue, numeric}
+use Rattle.semver_sets.specs.Comparison.{identifier_cmp, prerelease_cmp}
+use Rattle.semver_sets.specs.Identifier.{value_of, values_of}
+use Rattle.semver_sets.specs.IdentifierValue.{IdentifierValue, numeric}
 use Rattle.node_semver.specs.Private.LeastViews.{with_zeros}
-use Rattle.node_semver.specs.declared.identifier.Identifier.{Identifier}
-use Rattle.node_semver.specs.Lemmas.Order.{Greater-turned, identifier-IsAntisymmetric, identifier_total}
+use Rattle.semver_sets.specs.declared.identifier.Identifier.{Identifier}
+use Rattle.semver_sets.specs.Lemmas.Order.{Greater-turned, identifier-IsAntisymmetric, identifier_total}
 use Rattle.node_semver.proofs.Versions.VersionSteps.{none-before_zero, zero-above}
 
 -- lists with identifiers, identifier by identifier

@@ -1,9 +1,9 @@
 -- The text of identifiers in the pieces in which it is written.
 use Rattle.std.proofs.Common.{◌≡◌, ℕ, List, [], ◌∷◌, ◌++◌, map, refl, ap, append-nil, flat_map}
 use Rattle.std.specs.List.{join_with_byte}
-use Rattle.node_semver.specs.Identifier.{value_of, values_of}
-use Rattle.node_semver.specs.Print.{identifier_text, marked_text}
-use Rattle.node_semver.specs.declared.identifier.Identifier.{Identifier}
+use Rattle.semver_sets.specs.Identifier.{value_of, values_of}
+use Rattle.semver_sets.specs.Print.{identifier_text, marked_text}
+use Rattle.semver_sets.specs.declared.identifier.Identifier.{Identifier}
 
 -- an identifier after a dot
 abbrev pub dotted_text : Identifier → List ℕ

@@ -1,8 +1,8 @@
 -- The text of ranges in the pieces in which it is written.
 use Rattle.std.proofs.Common.{◌≡◌, ℕ, List, [], ◌∷◌, ◌++◌, codes, refl, ap, append-nil, flat_map}
 use Rattle.semver_cuts.specs.Ends.{Ends}
-use Rattle.node_semver.specs.RangePrint.{range_text, set_text}
-use Rattle.node_semver.specs.Version.{VersionValue}
+use Rattle.semver_sets.specs.RangePrint.{range_text, set_text}
+use Rattle.semver_sets.specs.Version.{VersionValue}
 
 -- a set after `||`
 abbrev pub barred_text : Ends VersionValue → List ℕ

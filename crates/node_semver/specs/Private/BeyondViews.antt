@@ -5,11 +5,11 @@ use Rattle.std.specs.declared.cmp.Ordering.TheVariants.{Less}
 use Rattle.semver_cuts.specs.declared.cut.Cut.{Cut}
 use Rattle.semver_cuts.specs.declared.cut.Cut.TheVariants.{Start, Before, After, End}
 use Rattle.semver_cuts.specs.Ends.{Ends, IsCutBelow}
-use Rattle.node_semver.specs.Comparison.{version_cmp}
-use Rattle.node_semver.specs.IdentifierValue.{IdentifierValue}
+use Rattle.semver_sets.specs.Comparison.{version_cmp}
+use Rattle.semver_sets.specs.IdentifierValue.{IdentifierValue}
 use Rattle.node_semver.specs.Least.{AdmitsBeyond, AdmitsNoneBeyond, IsLeastBeyond}
-use Rattle.node_semver.specs.Meaning.{Opens, SetAdmits}
-use Rattle.node_semver.specs.Version.{VersionValue, least_of, release, without_build}
+use Rattle.semver_sets.specs.Meaning.{Opens, SetAdmits}
+use Rattle.semver_sets.specs.Version.{VersionValue, least_of, release, without_build}
 use Rattle.node_semver.specs.VersionSteps.{with_zero}
 
 -- ---- candidates

@@ -6,7 +6,7 @@ ghost use Rattle.serde_json.specs.View.{view};
 ghost use Rattle.node_semver.specs.declared.json.JsonError.TheVariants.{NotAString};
 ghost use Rattle.node_semver.specs.Json.{PassesOn};
 ghost use Rattle.node_semver.specs.RangeAnswer.{IsRangeAnswer};
-ghost use Rattle.node_semver.specs.RangePrint.{range_text};
+ghost use Rattle.semver_sets.specs.RangePrint.{range_text};
 
 use crate::{JsonError, Range};
 use serde_json::Value;

@@ -5,7 +5,7 @@ ghost use Rattle.serde_json.specs.Find.{as_str};
 ghost use Rattle.serde_json.specs.View.{view};
 ghost use Rattle.node_semver.specs.declared.json.JsonError.TheVariants.{NotAString};
 ghost use Rattle.node_semver.specs.Json.{IsVersionAnswer, PassesOn};
-ghost use Rattle.node_semver.specs.Print.{version_text};
+ghost use Rattle.semver_sets.specs.Print.{version_text};
 
 use crate::{JsonError, Version};
 use serde_json::Value;

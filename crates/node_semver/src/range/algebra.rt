@@ -7,18 +7,17 @@ ghost use Rattle.semver_cuts.specs.CommonSpans.{common_spans};
 ghost use Rattle.semver_cuts.specs.Ends.{Ends};
 ghost use Rattle.semver_cuts.specs.Rest.{AreRestSpans};
 ghost use Rattle.semver_cuts.specs.Sharing.{CoversAll, ShareCut};
-ghost use Rattle.node_semver.specs.Comparison.{version_cmp};
-ghost use Rattle.node_semver.specs.Meaning.{RangeAdmits};
+ghost use Rattle.semver_sets.specs.Comparison.{version_cmp};
+ghost use Rattle.semver_sets.specs.Meaning.{RangeAdmits};
 ghost use Rattle.node_semver.specs.RangeAlgebra.{PairAdmits, sets_of_answer};
-ghost use Rattle.node_semver.specs.RangeSets.{IsRangeValue};
-ghost use Rattle.node_semver.specs.Version.{IsPrerelease, VersionValue};
+ghost use Rattle.semver_sets.specs.RangeSets.{IsRangeValue};
+ghost use Rattle.semver_sets.specs.Version.{IsPrerelease, VersionValue};
 
-pub(crate) mod copy;
+mod copy;
 mod difference;
 mod gathered;
 
 use crate::Range;
-pub(crate) use copy::copies_of;
 use gathered::Gathered;
 use std::alloc::{AllocError, Global};
 

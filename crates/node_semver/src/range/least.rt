@@ -1,20 +1,20 @@
 //! The least version that a range admits.
 ghost use Rattle.std.specs.Prelude.{◌≡◌, ◌↔◌, Some, IsFalse, IsTrue, IfOk, IfSome, IsNone};
 ghost use Rattle.std.specs.List.{AllByRecursion};
-ghost use Rattle.node_semver.specs.Identifier.{values_of};
+ghost use Rattle.semver_sets.specs.Identifier.{values_of};
 ghost use Rattle.node_semver.specs.Least.{AdmitsNone, HasBuildOfFirst, IsLeastAdmitted};
 ghost use Rattle.node_semver.specs.Private.LeastViews.{IsKept, IsLeastOfSet, IsLeastOfSets, IsLeastOfTriple, IsLesser};
-ghost use Rattle.node_semver.specs.RangeSets.{IsRangeSet};
-ghost use Rattle.node_semver.specs.Version.{release};
+ghost use Rattle.semver_sets.specs.RangeSets.{IsRangeSet};
+ghost use Rattle.semver_sets.specs.Version.{release};
 
 mod beyond;
 mod candidates;
 mod unbuilt;
 
-use crate::end::{End, Extras, Lent};
-use crate::set::opens;
 use crate::{Identifier, Range, Version};
 use semver_cuts::{Cut, Span};
+use semver_sets::end::{End, Lent};
+use semver_sets::set::opens;
 use std::alloc::{AllocError, Global};
 use unbuilt::Unbuilt;
 
@@ -65,20 +65,10 @@ fn plain_beginning(sets: &[Span<End>]) -> Option<&End>
 {
     match sets {
         [set] => match set.lower() {
-            Cut::Before(end) if has_no_extras(end) => Some(end),
+            Cut::Before(end) if end.has_no_extras() => Some(end),
             _ => None,
         },
         _ => None,
-    }
-}
-
-#[inline(always)]
-fn has_no_extras(end: &End) -> bool
-    ensures { IsTrue result → end.now ≡ release end.now.major end.now.minor end.now.patch }
-{
-    match &end.extras {
-        Extras::Nothing => true,
-        Extras::Zero | Extras::Lists(_) => false,
     }
 }
 

@@ -2,18 +2,16 @@
 
 ghost use Rattle.std.specs.Prelude.{◌++◌, Some, flat_map};
 ghost use Rattle.std.specs.Fmt.{WritesOnOk};
-ghost use Rattle.node_semver.specs.Print.{version_text};
-ghost use Rattle.node_semver.specs.RangePrint.{lower_text, range_text, set_text, upper_text};
+ghost use Rattle.semver_sets.specs.Print.{version_text};
+ghost use Rattle.semver_sets.specs.RangePrint.{lower_text, range_text, set_text, upper_text};
 ghost use Rattle.node_semver.specs.Lemmas.RangePrint.{barred_text};
 
-mod line;
-
 use crate::Range;
-use crate::end::{End, Zero};
-use crate::line::ROOM;
 use crate::version::display::write_version;
-use line::line_of;
 use semver_cuts::{Cut, Span};
+use semver_sets::end::{End, Zero};
+use semver_sets::line::ROOM;
+use semver_sets::line::set::line_of;
 use std::fmt;
 
 /// The sets in their order, with `||` and no blank between. Each prints as a text that asks for it:

@@ -1,25 +1,16 @@
-//! How a range text is read: alternative after alternative, each by its words.
-ghost use Rattle.std.specs.Prelude.{◌≡◌, ◌∷◌, [], IfErr, IfOk, IsErr};
+//! How a range text is read: as the one set of a text without bars, and else alternative after alternative.
+ghost use Rattle.std.specs.Prelude.{IfErr, IsErr};
 ghost use Rattle.node_semver.specs.Error.{IsOutOfMemory};
-ghost use Rattle.node_semver.specs.Meaning.{IsRefused};
-ghost use Rattle.node_semver.specs.Merging.{AreSetsOfText};
-ghost use Rattle.node_semver.specs.Private.RangeViews.{IsReadRange};
-ghost use Rattle.node_semver.specs.declared.range.read.Unread.TheVariants.{Refused};
+ghost use Rattle.semver_sets.specs.Meaning.{IsRefused};
+ghost use Rattle.node_semver.specs.Private.AnswerViews.{IsReadRange};
+ghost use Rattle.semver_sets.specs.declared.read.Unread.TheVariants.{Refused};
 
-mod alternative;
 mod full;
-mod pieces;
-mod sets;
 
-use crate::end::End;
 use crate::range::Range;
-use crate::word::skip_thrown_away;
 use crate::{SemverError, SemverErrorKind};
-use alternative::read_set;
 pub(crate) use full::{FullLead, caret_range, exact_range, read_full, tilde_range};
-use pieces::next_piece;
-use semver_cuts::Span;
-use sets::read_sets;
+use semver_sets::read::{Unread, read_only_set, read_sets};
 use std::alloc::Global;
 
 // A text of one alternative, without a list of sets. Few texts have bars.
@@ -42,38 +33,6 @@ fn range_of_words(alloc: Global, text: &str) -> Result<Range, SemverError>
         Err(Unread::WithBars) => with_bars(alloc, text),
         Err(Unread::Refused) => refused(alloc, text),
         Err(Unread::OutOfMemory) => no_memory(alloc),
-    }
-}
-
-// Why a text is not read as one set.
-#[derive(Clone, Copy)]
-enum Unread {
-    // It has bars.
-    WithBars,
-    // No word gives a comparator, or no cut is common to those that they give.
-    Refused,
-    // Nothing is wrong: memory was refused.
-    OutOfMemory,
-}
-
-// The set of a text without bars. Where no word can begin a comparator, nothing is set up to read one.
-#[inline(always)]
-fn read_only_set(alloc: Global, text: &[u8]) -> Result<Span<End>, Unread>
-    ensures set { IfOk result (λ set. AreSetsOfText text.now (set ∷ [])) }
-    ensures refused { IfErr result (λ unread. unread ≡ Refused → IsRefused text.now) }
-{
-    let (piece, left) = next_piece(text);
-    if left.is_some() {
-        return Err(Unread::WithBars);
-    }
-    let words = skip_thrown_away(piece);
-    if words.is_empty() {
-        return Err(Unread::Refused);
-    }
-    match read_set(alloc, words) {
-        Ok(Some(set)) => Ok(set),
-        Ok(None) => Err(Unread::Refused),
-        Err(_) => Err(Unread::OutOfMemory),
     }
 }
 

@@ -1,10 +1,10 @@
 //! Copies of versions.
 
 ghost use Rattle.std.specs.Prelude.{◌≡◌, [], IfOk, IsOk, MatchResult};
-ghost use Rattle.node_semver.specs.Version.{IsPlain};
+ghost use Rattle.semver_sets.specs.Version.{IsPlain};
 
 use crate::Version;
-use crate::identifier::copy::copies_of;
+use semver_sets::identifier::copy::copies_of;
 use std::alloc::AllocError;
 
 /// A copy has all five fields, the build too.

@@ -2,13 +2,13 @@
 
 ghost use Rattle.std.specs.Prelude.{◌∷◌, ◌++◌, Some, decimal, flat_map};
 ghost use Rattle.std.specs.Fmt.{WritesOnOk};
-ghost use Rattle.node_semver.specs.Characters.{dot};
-ghost use Rattle.node_semver.specs.Identifier.{values_of};
-ghost use Rattle.node_semver.specs.Print.{version_text};
+ghost use Rattle.semver_sets.specs.Characters.{dot};
+ghost use Rattle.semver_sets.specs.Identifier.{values_of};
+ghost use Rattle.semver_sets.specs.Print.{version_text};
 ghost use Rattle.node_semver.specs.Lemmas.Print.{dotted_text, led_text};
 
-use crate::line::{ROOM, triple_text};
 use crate::{Identifier, Version};
+use semver_sets::line::{ROOM, triple_text};
 use std::fmt;
 
 /// Major, minor and patch with dots between, `-` and the prerelease, `+` and the build, identifiers joined by dots.

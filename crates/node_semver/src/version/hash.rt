@@ -1,7 +1,7 @@
 //! What versions feed a hasher.
 
-ghost use Rattle.node_semver.specs.Hash.{version_writes};
-ghost use Rattle.node_semver.specs.Lemmas.Hash.{version_alike};
+ghost use Rattle.semver_sets.specs.Hash.{version_writes};
+ghost use Rattle.semver_sets.specs.Lemmas.Hash.{version_alike};
 
 use crate::Version;
 use std::hash::{Hash, Hasher};

@@ -3,12 +3,12 @@
 ghost use Rattle.std.specs.Prelude.{◌≡◌, ◌↔◌, Some, IfSome, IsTrue, refl};
 ghost use Rattle.std.specs.Cmp.{eq_by_cmp_equiv, partial_equiv_from_equiv, po};
 ghost use Rattle.std.specs.Ordering.{eq_by_cmp};
-ghost use Rattle.node_semver.specs.Identifier.{values_of};
-ghost use Rattle.node_semver.specs.Order.{IsSame, OrderMeans};
-ghost use Rattle.node_semver.specs.Comparison.{prerelease_cmp, version_cmp};
-ghost use Rattle.node_semver.specs.Lemmas.Order.{version_total};
+ghost use Rattle.semver_sets.specs.Order.{IsSame, OrderMeans};
+ghost use Rattle.semver_sets.specs.Comparison.{version_cmp};
+ghost use Rattle.semver_sets.specs.Lemmas.Order.{version_total};
 
-use crate::{Identifier, Version};
+use crate::Version;
+use semver_sets::identifier::order::cmp_prereleases;
 use std::cmp::Ordering;
 
 /// Two versions are equal where their triples and their prereleases are: `v == w` is true exactly where `v.cmp(w)`
@@ -33,7 +33,7 @@ impl PartialEq for Version {
     ghost laws = { partial_equiv_from_equiv (eq_by_cmp_equiv version_total) };
 
     #[inline]
-    #[tactic(auto, using(crate::specs::Lemmas::Order::version_same))]
+    #[tactic(auto, using(semver_sets::specs::Lemmas::Order::version_same))]
     fn eq(&self, other: &Version) -> bool
         ensures answer { result ≡ eq_by_cmp version_cmp self.now other.now }
         ensures same { IsTrue result ↔ IsSame self.now other.now }
@@ -89,7 +89,7 @@ impl Ord for Version {
     ghost matches_eq = { λ v w. refl };
 
     #[inline]
-    #[tactic(auto, using(crate::specs::Lemmas::Order::version_order))]
+    #[tactic(auto, using(semver_sets::specs::Lemmas::Order::version_order))]
     fn cmp(&self, other: &Version) -> Ordering
         ensures answer { result ≡ version_cmp self.now other.now }
         ensures order { OrderMeans self.now other.now result }
@@ -104,18 +104,5 @@ impl Ord for Version {
             return self.patch.cmp(&other.patch);
         }
         cmp_prereleases(&self.pre_release, &other.pre_release)
-    }
-}
-
-// A release, which has no identifiers, is above each prerelease.
-#[inline]
-pub(crate) fn cmp_prereleases(a: &[Identifier], b: &[Identifier]) -> Ordering
-    ensures { result ≡ prerelease_cmp (values_of a.now) (values_of b.now) }
-{
-    match (a.is_empty(), b.is_empty()) {
-        (true, true) => Ordering::Equal,
-        (true, false) => Ordering::Greater,
-        (false, true) => Ordering::Less,
-        (false, false) => a.cmp(b),
     }
 }

@@ -1,16 +1,19 @@
 ghost use Rattle.std.specs.Prelude.{◌≡◌, ◌⊎◌, ◌≤◌, [], IfOk, IfErr, IfSome, IsOk, length};
 ghost use Rattle.node_semver.specs.Error.{IsOutOfMemory, kind_of};
 ghost use Rattle.node_semver.specs.Fault.{IsFaultOf};
-ghost use Rattle.node_semver.specs.Private.ReadingViews.{IsBegun, IsErrorOf, IsMemoryOr, kind_in};
-ghost use Rattle.node_semver.specs.Print.{version_text};
+ghost use Rattle.semver_sets.specs.Private.ReadingViews.{IsBegun};
+ghost use Rattle.node_semver.specs.Private.FaultViews.{IsErrorOf, IsMemoryOr, kind_in};
+ghost use Rattle.semver_sets.specs.Print.{version_text};
 ghost use Rattle.node_semver.specs.ReadingBack.{HasText, VersionReadsBack};
-ghost use Rattle.node_semver.specs.declared.TheConstants.{MAX_LENGTH};
-ghost use Rattle.node_semver.specs.Version.{VersionValue, release};
-ghost use Rattle.node_semver.specs.declared.parse.fault.Fault.TheVariants.{TooLarge};
-ghost use Rattle.node_semver.specs.VersionText.{IsReadAs, IsVersionText};
+ghost use Rattle.semver_sets.specs.declared.TheConstants.{MAX_LENGTH};
+ghost use Rattle.semver_sets.specs.Version.{VersionValue, release};
+ghost use Rattle.semver_sets.specs.declared.parse.fault.Fault.TheVariants.{TooLarge};
+ghost use Rattle.semver_sets.specs.VersionText.{IsVersionText};
+ghost use Rattle.node_semver.specs.Error.{IsReadAs};
 
-use crate::parse::{self, Fault};
+use crate::version::read::{large_kind, read_after_triple, read_version};
 use crate::{MAX_LENGTH, SemverError, SemverErrorKind, Version};
+use semver_sets::parse::{Fault, read_leading_triple};
 use std::alloc::Global;
 
 impl Version {
@@ -76,7 +79,7 @@ fn whole_triple(text: &[u8]) -> Result<(u64, u64, u64), Option<((u64, u64, u64),
     if text.len() > MAX_LENGTH {
         return Err(None);
     }
-    match parse::read_leading_triple(text) {
+    match read_leading_triple(text) {
         Some((triple, [])) => Ok(triple),
         begun => Err(begun),
     }
@@ -155,7 +158,7 @@ fn whole_after_triple<'a>(
     ensures plain { (v : VersionValue) → IsVersionText text.now v → v.pre_release ≡ []
         → v.build ≡ [] → IsOk result }
 {
-    match parse::read_after_triple(alloc, text, triple, rest) {
+    match read_after_triple(alloc, text, triple, rest) {
         Ok((found, [])) => Ok(found),
         Ok((_, rest)) => Err(Fault::LeftOver(rest.len())),
         Err(fault) => Err(fault),
@@ -197,7 +200,7 @@ fn whole(alloc: Global, text: &[u8]) -> Result<Version, Fault>
         // Told at the last byte.
         return Err(Fault::TooLong(1));
     }
-    match parse::read_version(alloc, text) {
+    match read_version(alloc, text) {
         Ok((version, [])) => Ok(version),
         Ok((_, rest)) => Err(Fault::LeftOver(rest.len())),
         Err(fault) => Err(fault),
@@ -245,5 +248,5 @@ fn large_kind_at(text: &[u8], left: usize) -> SemverErrorKind
     requires { IsMemoryOr text.now (TooLarge left) }
     ensures { kind_of result ≡ kind_in text.now (TooLarge left) }
 {
-    parse::large_kind(&text[text.len().saturating_sub(left)..])
+    large_kind(&text[text.len().saturating_sub(left)..])
 }

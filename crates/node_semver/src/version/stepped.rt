@@ -2,15 +2,15 @@
 
 ghost use Rattle.std.specs.Prelude.{◌≡◌, ◌↔◌, IfOk, IfSome, IsNone};
 ghost use Rattle.semver_cuts.specs.Steps.{IsLeast, IsNext};
-ghost use Rattle.node_semver.specs.Comparison.{version_cmp};
-ghost use Rattle.node_semver.specs.Identifier.{value_of, values_of};
-ghost use Rattle.node_semver.specs.Version.{least_of};
+ghost use Rattle.semver_sets.specs.Comparison.{version_cmp};
+ghost use Rattle.semver_sets.specs.Identifier.{value_of, values_of};
+ghost use Rattle.semver_sets.specs.Version.{least_of};
 ghost use Rattle.node_semver.specs.VersionSteps.{HasGreatestPatch, IsIdentifier, IsVersion, next_version};
 ghost use Rattle.std.specs.List.{AllByRecursion};
 
-use crate::identifier::copy::copies_with_zero;
 use crate::{Identifier, Version};
 use semver_cuts::Stepped;
+use semver_sets::identifier::copy::copies_with_zero;
 use std::alloc::{AllocError, Global};
 
 /// Versions of any 64-bit numbers and any identifiers, from the least one, `0.0.0-0`.

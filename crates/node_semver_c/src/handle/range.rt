@@ -1,7 +1,7 @@
 //! Handles of ranges.
 ghost use Rattle.std.specs.Prelude.{◌≡◌, ◌≢◌, ℕ, List, IfOk, Option, Some, None};
 ghost use Rattle.semver_cuts.specs.Ends.{Ends};
-ghost use Rattle.node_semver.specs.Version.{VersionValue};
+ghost use Rattle.semver_sets.specs.Version.{VersionValue};
 
 use super::Opaque;
 use crate::loose::Loose;

@@ -1,6 +1,6 @@
 //! Handles of versions.
 ghost use Rattle.std.specs.Prelude.{◌≡◌, ◌≢◌, ℕ, IfOk, Option, Some, None};
-ghost use Rattle.node_semver.specs.Version.{VersionValue};
+ghost use Rattle.semver_sets.specs.Version.{VersionValue};
 
 use super::Opaque;
 use crate::loose::Loose;

@@ -3,8 +3,8 @@ use Rattle.std.specs.Prelude.{◌≡◌, ◌↔◌, ℕ, List, [], ◌∷◌, �
 use Rattle.std.specs.Io.KnownBytes.{Appends}
 use Rattle.std.specs.Str.Lines.{strip_carriage_return}
 use Rattle.node_semver.specs.ErrorLocation.{newline}
-use Rattle.node_semver.specs.Meaning.{TextAdmits}
-use Rattle.node_semver.specs.Version.{VersionValue}
+use Rattle.semver_sets.specs.Meaning.{TextAdmits}
+use Rattle.semver_sets.specs.Version.{VersionValue}
 use Rattle.semver_pairs.specs.Answer.{IsAnswer, IsGoodRange}
 use Rattle.semver_pairs.specs.Output.{AreAnswers}
 use Rattle.semver_pairs.specs.Pairs.{pairs_read}

@@ -1,4 +1,4 @@
-use Rattle.node_semver.proofs.Ranges.AlternativeLemmas.{written-exists, written-unique}
+use Rattle.semver_sets.proofs.Ranges.AlternativeLemmas.{written-exists, written-unique}
 use Rattle.node_semver.proofs.laws.every_range_text_is_written_one_way.Goals as goal
 
 pub returns : goal.returns

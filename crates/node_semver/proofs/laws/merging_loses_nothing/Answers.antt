@@ -1,4 +1,4 @@
-use Rattle.node_semver.proofs.Sets.Merging.{loses-nothing, merged-admits}
+use Rattle.semver_sets.proofs.Sets.Merging.{loses-nothing, merged-admits}
 use Rattle.node_semver.proofs.laws.merging_loses_nothing.Goals as goal
 
 pub returns : goal.returns

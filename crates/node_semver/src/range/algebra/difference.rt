@@ -6,11 +6,11 @@ ghost use Rattle.semver_cuts.specs.Common.{IsInSome};
 ghost use Rattle.semver_cuts.specs.CommonSpans.{common_spans};
 ghost use Rattle.semver_cuts.specs.Rest.{AreRestSpans};
 ghost use Rattle.semver_cuts.specs.Sharing.{CoversAll};
-ghost use Rattle.node_semver.specs.Comparison.{version_cmp};
-ghost use Rattle.node_semver.specs.Meaning.{RangeAdmits};
+ghost use Rattle.semver_sets.specs.Comparison.{version_cmp};
+ghost use Rattle.semver_sets.specs.Meaning.{RangeAdmits};
 ghost use Rattle.node_semver.specs.RangeAlgebra.{sets_of_answer};
-ghost use Rattle.node_semver.specs.RangeSets.{IsRangeValue};
-ghost use Rattle.node_semver.specs.Version.{IsPrerelease, VersionValue};
+ghost use Rattle.semver_sets.specs.RangeSets.{IsRangeValue};
+ghost use Rattle.semver_sets.specs.Version.{IsPrerelease, VersionValue};
 
 use crate::Range;
 use crate::range::algebra::gathered::Gathered;

@@ -3,17 +3,17 @@
 ghost use Rattle.std.specs.Prelude.{◌≡◌, ◌≢◌, ◌++◌, ◌∷◌, [], IfOk, IfSome, List, OnOk};
 ghost use Rattle.std.specs.List.{AllByRecursion};
 ghost use Rattle.semver_cuts.specs.Ends.{Ends, IsCutBelow, span_between};
-ghost use Rattle.node_semver.specs.Comparison.{version_cmp};
+ghost use Rattle.semver_sets.specs.Comparison.{version_cmp};
 ghost use Rattle.node_semver.specs.RangeAlgebra.{sets_of_answer};
-ghost use Rattle.node_semver.specs.RangeSets.{IsRangeSet, IsRangeValue};
-ghost use Rattle.node_semver.specs.Private.RangeViews.{found_seen, some_found_seen};
-ghost use Rattle.node_semver.specs.Version.{VersionValue};
+ghost use Rattle.semver_sets.specs.RangeSets.{IsRangeSet, IsRangeValue};
+ghost use Rattle.node_semver.specs.Private.AnswerViews.{found_seen, some_found_seen};
+ghost use Rattle.semver_sets.specs.Version.{VersionValue};
 
 use crate::Range;
-use crate::end::End;
-use crate::range::algebra::copy::copy_of;
 use semver_cuts::algebra::Gather;
 use semver_cuts::{Cut, Span};
+use semver_sets::end::End;
+use semver_sets::set_list::copy::copy_of;
 use std::alloc::{AllocError, Global};
 use std::marker::Model;
 

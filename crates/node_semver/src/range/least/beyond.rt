@@ -6,15 +6,15 @@ ghost use Rattle.node_semver.specs.Least.{AdmitsBeyond, AdmitsNoneBeyond, IsAdmi
 ghost use Rattle.node_semver.specs.Private.BeyondViews.{AreSetsTried, AreUppersTried, IsBelowBest, IsCutTrial};
 ghost use Rattle.node_semver.specs.Private.BeyondViews.{IsLeastBeyondOrNone, IsLeastOpened, IsOpenTrial, IsSetTrial};
 ghost use Rattle.node_semver.specs.Private.BeyondViews.{IsShut, IsTrial};
-ghost use Rattle.node_semver.specs.RangeSets.{IsRangeSet, IsReadCut, IsReadVersion};
-ghost use Rattle.node_semver.specs.Version.{release};
+ghost use Rattle.semver_sets.specs.RangeSets.{IsRangeSet, IsReadCut, IsReadVersion};
+ghost use Rattle.semver_sets.specs.Version.{release};
 
-use crate::end::End;
 use crate::range::least::candidates::Release;
 use crate::range::least::unbuilt::Unbuilt;
-use crate::set::{Asked, admits};
 use crate::{Comparisons, Range, Version};
 use semver_cuts::{Cut, Span};
+use semver_sets::end::End;
+use semver_sets::set::{Asked, admits};
 use std::alloc::{AllocError, Global};
 
 impl Range {

@@ -1,13 +1,13 @@
 //! Versions at which the least one beyond another range may be, asked of sets before they are built.
 ghost use Rattle.std.specs.Prelude.{◌≡◌, ◌↔◌, IsTrue};
 ghost use Rattle.std.specs.declared.cmp.Ordering.TheVariants.{Less};
-ghost use Rattle.node_semver.specs.Comparison.{prerelease_cmp, version_cmp};
+ghost use Rattle.semver_sets.specs.Comparison.{prerelease_cmp, version_cmp};
 ghost use Rattle.node_semver.specs.Private.BeyondViews.{IsBelowBest};
-ghost use Rattle.node_semver.specs.Version.{least_of, release, without_build};
+ghost use Rattle.semver_sets.specs.Version.{least_of, release, without_build};
 
-use crate::end::{End, Lent};
 use crate::range::least::unbuilt::Unbuilt;
-use crate::set::Asked;
+use semver_sets::end::{End, Lent};
+use semver_sets::set::Asked;
 use std::cmp::Ordering;
 
 impl<'a> Unbuilt<'a> {

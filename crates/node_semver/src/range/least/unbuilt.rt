@@ -3,17 +3,17 @@ ghost use Rattle.std.specs.Prelude.{◌≡◌, ◌↔◌, ◌++◌, [], ◌∷�
 ghost use Rattle.std.specs.declared.cmp.Ordering.TheVariants.{Less};
 ghost use Rattle.semver_cuts.specs.Ends.{IsCutBelow};
 ghost use Rattle.semver_cuts.specs.declared.cut.Cut.TheVariants.{Before};
-ghost use Rattle.node_semver.specs.Comparison.{prerelease_cmp, version_cmp};
-ghost use Rattle.node_semver.specs.Identifier.{value_of, values_of};
-ghost use Rattle.node_semver.specs.IdentifierValue.{numeric};
+ghost use Rattle.semver_sets.specs.Comparison.{prerelease_cmp, version_cmp};
+ghost use Rattle.semver_sets.specs.Identifier.{value_of, values_of};
+ghost use Rattle.semver_sets.specs.IdentifierValue.{numeric};
 ghost use Rattle.node_semver.specs.Private.LeastViews.{IsInsideOrNone, with_zeros};
-ghost use Rattle.node_semver.specs.Version.{release};
+ghost use Rattle.semver_sets.specs.Version.{release};
 
-use crate::end::{End, Lent, Zero};
-use crate::identifier::copy::{copies_of, copies_with_zero};
-use crate::version::order::cmp_prereleases;
 use crate::{Identifier, Version};
 use semver_cuts::Cut;
+use semver_sets::end::{End, Lent, Zero};
+use semver_sets::identifier::copy::{copies_of, copies_with_zero};
+use semver_sets::identifier::order::cmp_prereleases;
 use std::alloc::{AllocError, Global};
 use std::marker::Model;
 
@@ -29,10 +29,10 @@ pub(crate) struct Unbuilt<'a> {
 }
 
 impl<'a> Model for Unbuilt<'a> {
-    ghost use Rattle.node_semver.specs.Identifier.{values_of};
-    ghost use Rattle.node_semver.specs.Private.EndViews.{lent_seen};
+    ghost use Rattle.semver_sets.specs.Identifier.{values_of};
+    ghost use Rattle.semver_sets.specs.Private.EndViews.{lent_seen};
     ghost use Rattle.node_semver.specs.Private.LeastViews.{with_zeros};
-    ghost use Rattle.node_semver.specs.Version.{VersionValue};
+    ghost use Rattle.semver_sets.specs.Version.{VersionValue};
 
     ghost Value = { VersionValue };
 

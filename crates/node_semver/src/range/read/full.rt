@@ -4,17 +4,18 @@
 ghost use Rattle.std.specs.Prelude.{◌≡◌, ◌∷◌, [], ℕ, IfSome, List};
 ghost use Rattle.semver_cuts.specs.Ends.{IsCutBelow};
 ghost use Rattle.semver_cuts.specs.declared.cut.Cut.TheVariants.{Before};
-ghost use Rattle.node_semver.specs.Comparator as Comparators;
-ghost use Rattle.node_semver.specs.Comparison.{version_cmp};
-ghost use Rattle.node_semver.specs.RangeSets.{IsRangeValue};
-ghost use Rattle.node_semver.specs.Version as Versions;
-ghost use Rattle.node_semver.specs.Private.RangeViews.{IsFull, full_comparator, full_lead_seen, listed_set};
-ghost use Rattle.node_semver.specs.Private.WordReading as Reading;
+ghost use Rattle.semver_sets.specs.Comparator as Comparators;
+ghost use Rattle.semver_sets.specs.Comparison.{version_cmp};
+ghost use Rattle.semver_sets.specs.RangeSets.{IsRangeValue};
+ghost use Rattle.semver_sets.specs.Version as Versions;
+ghost use Rattle.semver_sets.specs.Private.RangeViews.{IsFull, full_comparator, listed_set};
+ghost use Rattle.node_semver.specs.Private.AnswerViews.{full_lead_seen};
+ghost use Rattle.semver_sets.specs.Private.WordReading as Reading;
 
-use crate::end::End;
-use crate::parse::read_full_triple;
 use crate::range::Range;
 use semver_cuts::{Cut, Span};
+use semver_sets::end::End;
+use semver_sets::parse::read_full_triple;
 
 // What stands before the version.
 #[derive(Clone, Copy)]

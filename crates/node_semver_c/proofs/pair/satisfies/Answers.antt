@@ -1,5 +1,5 @@
 use Rattle.std.proofs.Common.{subst}
-use Rattle.node_semver.specs.Meaning.{RangeAdmits, TextAdmits}
+use Rattle.semver_sets.specs.Meaning.{RangeAdmits, TextAdmits}
 use Rattle.node_semver.specs.RangeAnswer.{IsRangeAnswer}
 use Rattle.node_semver_c.specs.Pair.{asked, range_refused}
 use Rattle.node_semver_c.proofs.Asked.{asked_as}

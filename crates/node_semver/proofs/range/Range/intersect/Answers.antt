@@ -4,10 +4,10 @@ use Rattle.semver_cuts.specs.Common.{IsInSome}
 use Rattle.semver_cuts.specs.CommonSpans.{common_spans}
 use Rattle.semver_cuts.specs.Lemmas.CommonSpans.{common_spans-cuts}
 use Rattle.semver_cuts.specs.Lemmas.Rest.{common_rest-disjoint, common_rest-together}
-use Rattle.node_semver.specs.Lemmas.Order.{version_total}
-use Rattle.node_semver.specs.Comparison.{version_cmp}
+use Rattle.semver_sets.specs.Lemmas.Order.{version_total}
+use Rattle.semver_sets.specs.Comparison.{version_cmp}
 use Rattle.node_semver.specs.RangeAlgebra.{sets_of_answer}
-use Rattle.node_semver.specs.RangeSets.{IsRangeSet, IsRangeValue}
+use Rattle.semver_sets.specs.RangeSets.{IsRangeSet, IsRangeValue}
 use Rattle.node_semver.proofs.Sets.AlgebraBounds.{common-bounded, none-exactly, some-exactly}
 use Rattle.node_semver.proofs.Sets.RangeAlgebra.{common-admits, common-releases}
 use Rattle.node_semver.proofs.range.Range.intersect.Goals as goal

@@ -1,5 +1,5 @@
 use Rattle.std.proofs.Common.{Ok}
-use Rattle.node_semver.specs.Private.WordReading.{caret_lead, no_lead, tilde_lead}
+use Rattle.semver_sets.specs.Private.WordReading.{caret_lead, no_lead, tilde_lead}
 use Rattle.node_semver.proofs.Ranges.FullRange.{full-read}
 use Rattle.node_semver.proofs.Ranges.RangeAnswers.{read-answer}
 use Rattle.node_semver.proofs.range.Range.parse.Goals as goal

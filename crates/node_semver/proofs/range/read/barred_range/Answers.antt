@@ -1,10 +1,10 @@
 use Rattle.std.proofs.Common.{◌∙◌, List, ℕ, subst, sym}
 use Rattle.std.proofs.lemmas.Bool.{eqb-true}
-use Rattle.node_semver.specs.Merging.{AreSetsOfText}
-use Rattle.node_semver.proofs.Sets.Merging.{no-items}
-use Rattle.node_semver.proofs.Ranges.RangeBounds.{text-bounded}
-use Rattle.node_semver.proofs.Ranges.RangeReading.{some-items}
-use Rattle.node_semver.proofs.Sets.SetLemmas.{refused-from_empty}
+use Rattle.semver_sets.specs.Merging.{AreSetsOfText}
+use Rattle.semver_sets.proofs.Sets.Merging.{no-items}
+use Rattle.semver_sets.proofs.Ranges.RangeBounds.{text-bounded}
+use Rattle.semver_sets.proofs.Ranges.RangeReading.{some-items}
+use Rattle.semver_sets.proofs.Sets.SetLemmas.{refused-from_empty}
 use Rattle.node_semver.proofs.range.read.barred_range.Goals as goal
 
 pub refused-requires : goal.refused-requires

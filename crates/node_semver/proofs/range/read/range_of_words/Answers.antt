@@ -1,6 +1,6 @@
 use Rattle.std.proofs.Common.{[], ◌∷◌, subst, sym}
-use Rattle.node_semver.specs.Merging.{AreSetsOfText}
-use Rattle.node_semver.proofs.Ranges.RangeReading.{one-value}
+use Rattle.semver_sets.specs.Merging.{AreSetsOfText}
+use Rattle.semver_sets.proofs.Ranges.RangeReading.{one-value}
 use Rattle.node_semver.proofs.range.read.range_of_words.Goals as goal
 
 pub of_set-requires : goal.of_set-requires

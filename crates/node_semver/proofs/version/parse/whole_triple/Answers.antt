@@ -1,4 +1,4 @@
-use Rattle.node_semver.proofs.Versions.LeadingTriple.{leading-whole}
+use Rattle.semver_sets.proofs.Versions.LeadingTriple.{leading-whole}
 use Rattle.node_semver.proofs.version.parse.whole_triple.Goals as goal
 
 pub returns-in-Some-default-empty-clause-whole : goal.returns-in-Some-default-empty-clause-whole

@@ -1,6 +1,6 @@
 use Rattle.std.proofs.Common.{take}
 use Rattle.std.specs.List.{AllByRecursion}
-use Rattle.node_semver.specs.Identifier.{values_of}
+use Rattle.semver_sets.specs.Identifier.{values_of}
 use Rattle.node_semver.specs.VersionSteps.{IsIdentifier}
 use Rattle.node_semver.proofs.version.stepped.known_identifiers.Given as goal
 

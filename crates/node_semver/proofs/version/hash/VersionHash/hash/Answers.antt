@@ -1,8 +1,8 @@
 use Rattle.std.proofs.Common.{rules, ap, ◌∙◌}
 use Rattle.std.specs.Hash.{fed_along}
-use Rattle.node_semver.specs.Identifier.{values_of}
-use Rattle.node_semver.specs.Hash.{version_writes}
-use Rattle.node_semver.specs.Lemmas.Hash.{version_writes-fields}
+use Rattle.semver_sets.specs.Identifier.{values_of}
+use Rattle.semver_sets.specs.Hash.{version_writes}
+use Rattle.semver_sets.specs.Lemmas.Hash.{version_writes-fields}
 use Rattle.node_semver.proofs.version.hash.VersionHash.hash.Goals as goal
 
 pub returns : goal.returns

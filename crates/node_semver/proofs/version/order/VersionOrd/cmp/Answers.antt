@@ -1,5 +1,5 @@
 use Rattle.std.proofs.Common.{rules}
-use Rattle.node_semver.specs.Lemmas.Order.{version_order}
+use Rattle.semver_sets.specs.Lemmas.Order.{version_order}
 use Rattle.node_semver.proofs.version.order.VersionOrd.cmp.Goals as goal
 
 pub returns-clause-order : goal.returns-clause-order

@@ -1,8 +1,8 @@
 use Rattle.std.proofs.Common.{◌≡◌, IfOk, Ok, Err, subst, sym}
 use Rattle.std.specs.Prelude.{Result}
 use Rattle.semver_cuts.specs.Steps.{IsLeast}
-use Rattle.node_semver.specs.Comparison.{version_cmp}
-use Rattle.node_semver.specs.Version.{VersionValue, least_of}
+use Rattle.semver_sets.specs.Comparison.{version_cmp}
+use Rattle.semver_sets.specs.Version.{VersionValue, least_of}
 use Rattle.node_semver.specs.VersionSteps.{IsVersion}
 use Rattle.node_semver.proofs.Versions.VersionSteps.{first-least}
 use Rattle.node_semver.proofs.version.stepped.VersionStepped.least.Goals as goal

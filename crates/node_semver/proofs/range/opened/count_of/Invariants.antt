@@ -1,5 +1,0 @@
-use Rattle.std.proofs.Common.{◌≤◌, ◌*◌}
-use Rattle.node_semver.proofs.range.opened.count_of.Given as goal
-
-abbrev pub invariant-sets : goal.invariant-sets
-invariant-sets l = l.count ≤ 2 * l.set-index

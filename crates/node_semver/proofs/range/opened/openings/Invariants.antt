@@ -1,6 +1,0 @@
-use Rattle.std.proofs.Common.{◌≡◌, ◌++◌, drop}
-use Rattle.node_semver.specs.Private.SearchViews.{openings_from}
-use Rattle.node_semver.proofs.range.opened.openings.Given as goal
-
-abbrev pub invariant-sets : goal.invariant-sets
-invariant-sets l = l.openings.items ++ openings_from l.place (drop l.place l.sets) ≡ openings_from 0 l.sets

@@ -1,0 +1,16 @@
+-- Lemmas, by subject, which `node_semver` cites too. Each subject has a list of its files in reading order. The other
+-- folders hold the proofs of functions, by module.
+-- ---- texts: characters, prefixes, numbers, identifiers and extras
+pub mod Texts
+-- ---- versions: what is read, and their prereleases
+pub mod Versions
+-- ---- words of a range text: partials, kinds of word, and what they write
+pub mod Words
+-- ---- range texts: alternatives, division, meaning
+pub mod Ranges
+-- ---- sets: merging, triples that are opened, search
+pub mod Sets
+-- ---- prints
+pub mod Prints
+-- ---- counts that only proofs read
+pub mod EmptyStruct

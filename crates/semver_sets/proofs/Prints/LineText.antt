@@ -1,0 +1,31 @@
+-- What stands in a line from a place on, where nothing lies past its end.
+use Rattle.std.proofs.Common.{◌≡◌, ◌∙◌, ◌≤◌, ℕ, List, ◌++◌, Option, Some, None, IfSome, append-nil, ap, codes, drop}
+use Rattle.std.proofs.Common.{if◌then◌else◌, length, sym, true}
+use Rattle.std.proofs.lemmas.List.{drop_all}
+use Rattle.std.specs.Ordering.{eq_by_cmp}
+use Rattle.semver_cuts.specs.declared.cut.Cut.TheVariants.{Before, After, End}
+use Rattle.semver_cuts.specs.Ends.{Ends}
+use Rattle.semver_sets.specs.Comparison.{version_cmp}
+use Rattle.semver_sets.specs.Print.{version_text}
+use Rattle.semver_sets.specs.RangePrint.{both_text, ends_text, set_text}
+use Rattle.semver_sets.specs.Version.{VersionValue}
+
+pub whole_text : (line text : List ℕ) → length line ≤ 176 → text ++ drop 176 line ≡ text
+whole_text line text short = ap (λ (l : List ℕ). text ++ l) (drop_all 176 line short) ∙ append-nil text
+
+-- the same of a text that may not have been put
+pub whole_if_put : (put : Option ℕ) (line new text wanted : List ℕ) → length line ≤ 176 → text ≡ wanted
+    → IfSome put (λ start. drop start new ≡ text ++ drop 176 line) → IfSome put (λ start. drop start new ≡ wanted)
+whole_if_put None line new text wanted short same h = h
+whole_if_put (Some start) line new text wanted short same h = h ∙ whole_text line text short ∙ same
+
+-- a set of one version
+pub alone_text : (set : Ends VersionValue) (low high : VersionValue) → set.lower ≡ Before low → set.upper ≡ After high
+    → eq_by_cmp version_cmp low high ≡ true → version_text low ≡ set_text set
+alone_text set low high p q e = sym ((λ i. ends_text (p i) (q i))
+    ∙ ap (λ b. if b then version_text low else both_text (Before low) (After high)) e)
+
+-- and one that is open above
+pub at_least_text : (set : Ends VersionValue) (low : VersionValue) → set.lower ≡ Before low → set.upper ≡ End
+    → codes ">=" ++ version_text low ≡ set_text set
+at_least_text set low p q = sym (λ i. ends_text (p i) (q i))

@@ -1,0 +1,324 @@
+-- Range texts: each is divided at `||` in exactly one way.
+use Rattle.std.proofs.Common.{◌≡◌, ◌+◌, ◌-◌, ◌<◌, ◌≤◌, ℕ, zero, suc, true, false, List, [], ◌∷◌, ◌++◌, length, get_or}
+use Rattle.std.proofs.Common.{take, drop, Option, Some, None, append_assoc, length-append, arith, refl, sym, ap, subst}
+use Rattle.std.proofs.Common.{◌∙◌, inl, inr}
+use Rattle.std.specs.Borrow.{Bor}
+use Rattle.std.specs.Option.{is_some}
+use Rattle.std.specs.Prelude.{◌⊎◌, ◌==◌, ◌&&◌}
+use Rattle.std.proofs.lemmas.Bool.{and_parts, cases_Bool, eqb-true}
+use Rattle.std.proofs.lemmas.List.{append-nil, drop_all, get_or-drop, take_all}
+use Rattle.memchr.specs.Find.{Nowhere, Passes, is_byte}
+use Rattle.semver_sets.specs.Characters.{bar}
+use Rattle.semver_sets.specs.Division.{EndsInBar, HasBars, HasFirstPiece, IsPieces}
+use Rattle.semver_sets.specs.Private.PieceReading.{Piece, bars_after, behind, piece_at, some_seen}
+use Rattle.semver_sets.proofs.Texts.Places.{at-place, take-more}
+
+-- ---- `||`
+
+-- a text begins with it, or doesn't
+bars-cases : (text : List ℕ) → (bars_after text ≡ None) ⊎ ((after : List ℕ) × (bars_after text ≡ Some after))
+bars-cases [] = inl refl
+bars-cases (b ∷ []) = inl refl
+bars-cases (b ∷ c ∷ rest) = elim (cases_Bool ((b == bar) && (c == bar))) [
+  | inl bars ↦ inr (rest, rw bars refl)
+  | inr none ↦ inl (rw none refl)
+]
+
+-- where it does, it is two bars and what follows
+bars-are : (text after : List ℕ) → bars_after text ≡ Some after → text ≡ bar ∷ bar ∷ after
+bars-are [] after h = cc h
+bars-are (b ∷ []) after h = cc h
+bars-are (b ∷ c ∷ rest) after h = elim (cases_Bool ((b == bar) && (c == bar))) [
+  | inl bars ↦
+      let parts = and_parts (b == bar) (c == bar) bars in
+      let first : b ≡ bar = eqb-true b bar parts.0 in
+      let second : c ≡ bar = eqb-true c bar parts.1 in
+      let same : Some rest ≡ Some after = rw bars at h in
+      let others : rest ≡ after = cc same in
+      cc (first, second, others)
+  | inr none ↦ cc (rw none at h)
+]
+
+-- ---- the first piece
+
+-- one character more where the text does not begin with `||`
+piece-step : (b : ℕ) (rest : List ℕ) → bars_after (b ∷ rest) ≡ None
+    → piece_at (b ∷ rest) ≡ (b ∷ (piece_at rest).0, (piece_at rest).1)
+unfolding piece_at
+piece-step b rest none = rw none refl
+
+-- nothing where it does
+piece-stop : (text after : List ℕ) → bars_after text ≡ Some after → piece_at text ≡ ([], Some after)
+unfolding piece_at
+piece-stop [] after h = cc h
+piece-stop (b ∷ rest) after h = rw h refl
+
+-- and nothing of the empty text
+piece-of_nothing : piece_at [] ≡ ([], None)
+unfolding piece_at
+piece-of_nothing = refl
+
+-- what follows a piece, with its `||`
+abbrev after_piece : Option (List ℕ) → List ℕ
+after_piece None = []
+after_piece (Some rest) = bar ∷ bar ∷ rest
+
+-- a piece of a text, as it is read
+record IsRead (text : List ℕ) (p : Piece) : Type 0 where
+  whole : text ≡ p.0 ++ after_piece p.1
+  no_bars : ¬ HasBars p.0
+  ends_in_none : (rest : List ℕ) → p.1 ≡ Some rest → ¬ EndsInBar p.0
+
+-- the empty text has no bar
+none-of_nothing : (before end : List ℕ) → [] ≡ before ++ (bar ∷ end) → ⊥
+none-of_nothing [] end e = cc e
+none-of_nothing (b ∷ before) end e = cc e
+
+read-nothing : IsRead [] ([], None)
+read-nothing = record {
+  whole = refl;
+  no_bars = λ bars. none-of_nothing bars.0 (bar ∷ bars.1) bars.2;
+  ends_in_none = λ rest h. cc h;
+}
+
+read-bars : (text after : List ℕ) → bars_after text ≡ Some after → IsRead text ([], Some after)
+read-bars text after h = record {
+  whole = bars-are text after h;
+  no_bars = λ bars. none-of_nothing bars.0 (bar ∷ bars.1) bars.2;
+  ends_in_none = λ rest same end. none-of_nothing end.0 [] end.1;
+}
+
+-- a text that does not begin with `||` does not begin with two bars
+no-two : (b : ℕ) (rest more : List ℕ) → bars_after (b ∷ rest) ≡ None → b ≡ bar → rest ≡ bar ∷ more → ⊥
+no-two b rest more none first second =
+    let bars : b ∷ rest ≡ bar ∷ bar ∷ more = cc (first, second) in
+    let some : bars_after (b ∷ rest) ≡ Some more = ap bars_after bars in
+    cc (none, some)
+
+-- so a character before a piece without `||` makes none
+no-bars-step : (b : ℕ) (rest piece end before after : List ℕ) → bars_after (b ∷ rest) ≡ None → rest ≡ piece ++ end
+    → ¬ HasBars piece → b ∷ piece ≡ before ++ (bar ∷ bar ∷ after) → ⊥
+no-bars-step b rest piece end [] after none whole free e =
+    let first : b ≡ bar = cc e in
+    let others : piece ≡ bar ∷ after = cc e in
+    no-two b rest (after ++ end) none first (whole ∙ ap (λ (l : List ℕ). l ++ end) others)
+no-bars-step b rest piece end (c ∷ before) after none whole free e =
+    let others : piece ≡ before ++ (bar ∷ bar ∷ after) = cc e in
+    free (before, after, others)
+
+-- and a character before a piece that does not end in a bar is none at its end
+ends-step : (b : ℕ) (rest piece left before : List ℕ) → bars_after (b ∷ rest) ≡ None
+    → rest ≡ piece ++ (bar ∷ bar ∷ left) → ¬ EndsInBar piece → b ∷ piece ≡ before ++ (bar ∷ []) → ⊥
+ends-step b rest piece left [] none whole free e =
+    let first : b ≡ bar = cc e in
+    let others : piece ≡ [] = cc e in
+    no-two b rest (bar ∷ left) none first (whole ∙ ap (λ (l : List ℕ). l ++ (bar ∷ bar ∷ left)) others)
+ends-step b rest piece left (c ∷ before) none whole free e =
+    let others : piece ≡ before ++ (bar ∷ []) = cc e in
+    free (before, others)
+
+read-step : (b : ℕ) (rest : List ℕ) (p : Piece) → bars_after (b ∷ rest) ≡ None → IsRead rest p
+    → IsRead (b ∷ rest) (b ∷ p.0, p.1)
+read-step b rest p none read = record {
+  whole = ap (λ (l : List ℕ). b ∷ l) read.whole;
+  no_bars = λ bars.
+      no-bars-step b rest p.0 (after_piece p.1) bars.0 bars.1 none read.whole read.no_bars bars.2;
+  ends_in_none = λ left same end.
+      ends-step b rest p.0 left end.0 none (read.whole ∙ ap (λ (o : Option (List ℕ)). p.0 ++ after_piece o) same)
+      (read.ends_in_none left same) end.1;
+}
+
+-- what is read is such a piece
+is-read : (text : List ℕ) → IsRead text (piece_at text)
+is-read [] = subst (IsRead []) (sym piece-of_nothing) read-nothing
+is-read (b ∷ rest) = elim (bars-cases (b ∷ rest)) [
+  | inl none ↦ subst (IsRead (b ∷ rest)) (sym (piece-step b rest none))
+      (read-step b rest (piece_at rest) none (is-read rest))
+  | inr some ↦ subst (IsRead (b ∷ rest)) (sym (piece-stop (b ∷ rest) some.0 some.1))
+      (read-bars (b ∷ rest) some.0 some.1)
+]
+
+-- a piece with more after it
+pub piece-first : (text piece rest : List ℕ) → piece_at text ≡ (piece, Some rest) → HasFirstPiece text piece rest
+piece-first text piece rest same =
+    let read : IsRead text (piece, Some rest) = subst (IsRead text) same (is-read text) in
+    record { whole = read.whole; no_bars = read.no_bars; ends_in_none = read.ends_in_none rest refl }
+
+-- the last piece
+pub piece-last : (text piece : List ℕ) → piece_at text ≡ (piece, None) → IsPieces text (piece ∷ [])
+piece-last text piece same =
+    let read : IsRead text (piece, None) = subst (IsRead text) same (is-read text) in
+    let whole : text ≡ piece = read.whole ∙ append-nil piece in
+    (whole, subst (λ (l : List ℕ). ¬ HasBars l) (sym whole) read.no_bars)
+
+-- what follows a piece is shorter than the text
+pub piece-shorter : (text piece rest : List ℕ) → HasFirstPiece text piece rest → length rest < length text
+piece-shorter text piece rest first =
+    let whole : length text ≡ length (piece ++ (bar ∷ bar ∷ rest)) = ap length first.whole in
+    omega (arith, length-append piece (bar ∷ bar ∷ rest))
+
+-- ---- all pieces
+
+-- a piece before the pieces of the rest
+pub before-more : (text piece rest : List ℕ) (pieces : List (List ℕ)) → HasFirstPiece text piece rest
+    → IsPieces rest pieces → IsPieces text (piece ∷ pieces)
+before-more text piece rest [] first d = absurd d
+before-more text piece rest (next ∷ pieces) first d = (rest, first, d)
+
+pieces-step : (text piece : List ℕ) (left : Option (List ℕ)) → piece_at text ≡ (piece, left)
+    → ((t : List ℕ) → length t < length text → (pieces : List (List ℕ)) × IsPieces t pieces)
+    → (pieces : List (List ℕ)) × IsPieces text pieces
+pieces-step text piece None read smaller = (piece ∷ [], piece-last text piece read)
+pieces-step text piece (Some rest) read smaller =
+    let first = piece-first text piece rest read in
+    let more = smaller rest (piece-shorter text piece rest first) in
+    (piece ∷ more.0, before-more text piece rest more.0 first more.1)
+
+pieces-below : (n : ℕ) (text : List ℕ) → length text < n → (pieces : List (List ℕ)) × IsPieces text pieces
+pieces-below zero text h = absurd (omega arith)
+pieces-below (suc n) text h =
+    pieces-step text (piece_at text).0 (piece_at text).1 refl (λ t lt. pieces-below n t (omega arith))
+
+-- each text is divided
+pub pieces-exist : (text : List ℕ) → (pieces : List (List ℕ)) × IsPieces text pieces
+pieces-exist text = pieces-below (suc (length text)) text (omega arith)
+
+-- `||` does not stand at the start of a piece with a bar after it
+no-bars-before : (b : ℕ) (piece others after : List ℕ) → ¬ HasBars (b ∷ piece) → ¬ EndsInBar (b ∷ piece)
+    → b ∷ (piece ++ (bar ∷ others)) ≡ bar ∷ bar ∷ after → ⊥
+no-bars-before b [] others after free ends e =
+    let first : b ≡ bar = cc e in
+    ends ([], ap (λ (x : ℕ). x ∷ []) first)
+no-bars-before b (c ∷ piece) others after free ends e =
+    let first : b ≡ bar = cc e in
+    let second : c ≡ bar = cc e in
+    free ([], piece, cc (first, second))
+
+-- what stands in a text, or at its end, stands there with a character before it
+more-bars : (b : ℕ) (text : List ℕ) → HasBars text → HasBars (b ∷ text)
+more-bars b text bars = (b ∷ bars.0, bars.1, ap (λ (l : List ℕ). b ∷ l) bars.2)
+
+more-ends : (b : ℕ) (text : List ℕ) → EndsInBar text → EndsInBar (b ∷ text)
+more-ends b text ends = (b ∷ ends.0, ap (λ (l : List ℕ). b ∷ l) ends.1)
+
+-- a character before a piece
+piece-more : (b : ℕ) (rest piece : List ℕ) (left : Option (List ℕ)) → bars_after (b ∷ rest) ≡ None
+    → piece_at rest ≡ (piece, left) → piece_at (b ∷ rest) ≡ (b ∷ piece, left)
+piece-more b rest piece left none read =
+    piece-step b rest none ∙ ap (λ (p : Piece). (b ∷ p.0, p.1)) read
+
+-- a first piece is the piece that is read
+first-again : (piece others : List ℕ) → ¬ HasBars piece → ¬ EndsInBar piece
+    → piece_at (piece ++ (bar ∷ bar ∷ others)) ≡ (piece, Some others)
+first-again [] others free ends = piece-stop (bar ∷ bar ∷ others) others refl
+first-again (b ∷ piece) others free ends = elim (bars-cases (b ∷ (piece ++ (bar ∷ bar ∷ others)))) [
+  | inl none ↦ piece-more b (piece ++ (bar ∷ bar ∷ others)) piece (Some others) none
+      (first-again piece others (λ bars. free (more-bars b piece bars)) (λ e. ends (more-ends b piece e)))
+  | inr some ↦ absurd (no-bars-before b piece (bar ∷ others) some.0 free ends (bars-are _ some.0 some.1))
+]
+
+-- and so is a last one
+last-again : (text : List ℕ) → ¬ HasBars text → piece_at text ≡ (text, None)
+last-again [] free = piece-of_nothing
+last-again (b ∷ rest) free = elim (bars-cases (b ∷ rest)) [
+  | inl none ↦ piece-more b rest rest None none (last-again rest (λ bars. free (more-bars b rest bars)))
+  | inr some ↦ absurd (free ([], some.0, bars-are _ some.0 some.1))
+]
+
+-- so the first piece of a division is the one that is read
+first-is : (text piece others : List ℕ) → HasFirstPiece text piece others → piece_at text ≡ (piece, Some others)
+first-is text piece others first =
+    ap piece_at first.whole ∙ first-again piece others first.no_bars first.ends_in_none
+
+-- a text has one division
+pub pieces-unique : (text : List ℕ) (one other : List (List ℕ)) → IsPieces text one → IsPieces text other → one ≡ other
+pieces-unique text [] other d e = absurd d
+pieces-unique text (p ∷ one) [] d e = absurd e
+pieces-unique text (p ∷ []) (q ∷ []) d e = ap (λ (l : List ℕ). l ∷ []) (sym d.0 ∙ e.0)
+pieces-unique text (p ∷ []) (q ∷ m ∷ other) d e =
+    let same : ◌≡◌ {A = Piece} (text, None) (q, Some e.0) = sym (last-again text d.1) ∙ first-is text q e.0 e.1 in
+    let left : None ≡ Some e.0 = ap (λ (r : Piece). r.1) same in
+    cc left
+pieces-unique text (p ∷ n ∷ one) (q ∷ []) d e =
+    let same : ◌≡◌ {A = Piece} (text, None) (p, Some d.0) = sym (last-again text e.1) ∙ first-is text p d.0 d.1 in
+    let left : None ≡ Some d.0 = ap (λ (r : Piece). r.1) same in
+    cc left
+pieces-unique text (p ∷ n ∷ one) (q ∷ m ∷ other) d e =
+    let same : ◌≡◌ {A = Piece} (p, Some d.0) (q, Some e.0) = sym (first-is text p d.0 d.1) ∙ first-is text q e.0 e.1 in
+    let first : p ≡ q = ap (λ (r : Piece). r.0) same in
+    let left : Some d.0 ≡ Some e.0 = ap (λ (r : Piece). r.1) same in
+    let rest : d.0 ≡ e.0 = cc left in
+    let others : n ∷ one ≡ m ∷ other = pieces-unique e.0 (n ∷ one) (m ∷ other)
+    (subst (λ (l : List ℕ). IsPieces l (n ∷ one)) rest d.2) e.2 in
+    ap (λ (l : List ℕ). l ∷ n ∷ one) first ∙ ap (λ (l : List (List ℕ)). q ∷ l) others
+
+-- ---- the first piece, from place to place
+
+-- A loop has gone over the first i characters, and no `||` stands at one of them.
+abbrev pub Passed : List ℕ → ℕ → Type 0
+Passed text i = piece_at text ≡ behind (take i text) (piece_at (drop i text))
+
+-- one character more
+pub seen-step : (text : List ℕ) (i : ℕ) (after : Option (Bor (List ℕ))) → i < length text → is_some after ≡ false
+    → some_seen after ≡ bars_after (drop i text) → Passed text i → Passed text (i + 1)
+seen-step text i (Some r) h none seen passed = cc none
+seen-step text i None h none seen passed =
+    let here = at-place text i h in
+    let more = drop (i + 1) text in
+    let b = get_or text i 0 in
+    let read : piece_at (drop i text) ≡ (b ∷ (piece_at more).0, (piece_at more).1) =
+    ap piece_at here ∙ piece-step b more (sym (seen ∙ ap bars_after here)) in
+    passed ∙ ap (behind (take i text)) read
+    ∙ ap (λ (l : List ℕ). (l, (piece_at more).1)) (sym (append_assoc (take i text) (b ∷ []) (piece_at more).0))
+    ∙ ap (λ (l : List ℕ). (l ++ (piece_at more).0, (piece_at more).1)) (sym (take-more text i h))
+
+-- where `||` stands, the piece ends
+pub seen-stop : (text : List ℕ) (i : ℕ) (after : Option (Bor (List ℕ))) → i < length text → is_some after ≡ true
+    → some_seen after ≡ bars_after (drop i text) → Passed text i → (take i text, some_seen after) ≡ piece_at text
+seen-stop text i None h some seen passed = cc some
+seen-stop text i (Some r) h some seen passed =
+    let read = piece-stop (drop i text) r.now (sym seen) in
+    ap (λ (l : List ℕ). (l, Some r.now)) (sym (append-nil (take i text))) ∙ ap (behind (take i text)) (sym read)
+    ∙ sym passed
+
+-- and so it does at the end of the text
+pub passed-end : (text : List ℕ) (i : ℕ) → length text ≤ i → Passed text i → (text, None) ≡ piece_at text
+passed-end text i h passed =
+    let read : piece_at (drop i text) ≡ ([], None) = ap piece_at (drop_all i text h) ∙ piece-of_nothing in
+    ap (λ (l : List ℕ). (l, None)) (sym (take_all i text h) ∙ sym (append-nil (take i text)))
+    ∙ ap (behind (take i text)) (sym read) ∙ sym passed
+
+-- ---- the first piece, from bar to bar
+
+no-bars-here : (b : ℕ) (rest : List ℕ) → (b == bar) ≡ false → bars_after (b ∷ rest) ≡ None
+no-bars-here b [] h = refl
+no-bars-here b (c ∷ rest) h = rw h refl
+
+-- characters that are no bars
+pub pass-free : (text : List ℕ) (i n : ℕ) → i + n ≤ length text
+    → ((k : ℕ) → i ≤ k → k < i + n → (get_or text k 0 == bar) ≡ false) → Passed text i → Passed text (i + n)
+pass-free text i zero h free passed = subst (Passed text) (omega arith) passed
+pass-free text i (suc n) h free passed =
+    let before : Passed text (i + n) = pass-free text i n (omega arith)
+    (λ k low high. free k low (omega arith)) passed in
+    let none : bars_after (drop (i + n) text) ≡ None =
+    ap bars_after (at-place text (i + n) (omega arith))
+    ∙ no-bars-here (get_or text (i + n) 0) (drop (i + n + 1) text) (free (i + n) (omega arith) (omega arith)) in
+    let after : Passed text (i + n + 1) = seen-step text (i + n) None (omega arith) refl (sym none) before in
+    subst (Passed text) (omega arith) after
+
+free-from : (text hay : List ℕ) (i n : ℕ) → hay ≡ drop i text → Nowhere (Passes (is_byte bar) hay) 0 n
+    → (k : ℕ) → i ≤ k → k < i + n → (get_or text k 0 == bar) ≡ false
+free-from text hay i n same none k low high =
+    let here : get_or hay (k - i) 0 ≡ get_or text k 0 =
+    ap (λ (l : List ℕ). get_or l (k - i) 0) same ∙ get_or-drop i text (k - i) 0
+    ∙ ap (λ (m : ℕ). get_or text m 0) (omega arith) in
+    elim (cases_Bool (get_or text k 0 == bar)) [
+      | inl is ↦ absurd (none (k - i) (omega arith) (omega arith) (ap (λ (b : ℕ). b == bar) here ∙ is))
+      | inr other ↦ other
+    ]
+
+-- up to the first bar of what is left
+pub pass-to_bar : (text hay : List ℕ) (i n : ℕ) → hay ≡ drop i text → i + n ≤ length text
+    → Nowhere (Passes (is_byte bar) hay) 0 n → Passed text i → Passed text (i + n)
+pass-to_bar text hay i n same h none passed = pass-free text i n h (free-from text hay i n same none) passed

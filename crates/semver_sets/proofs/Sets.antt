@@ -1,0 +1,9 @@
+pub mod SomeElement
+pub mod Searching
+pub mod OpeningOrder
+pub mod Openings
+pub mod Merging
+pub mod Convex
+pub mod AlternativeSets
+pub mod SetLemmas
+pub mod MergedSpans

@@ -1,0 +1,193 @@
+-- Openings in the order of their triples: those of one triple stand together.
+use Rattle.std.proofs.Common.{◌≡◌, ℕ, zero, suc, ◌≤◌, ◌&&◌, Bool, true, false, List, [], ◌∷◌, ◌++◌, length, take, drop}
+use Rattle.std.proofs.Common.{get_or, arith, sym, ap, ◌∙◌, refl}
+use Rattle.std.specs.Prelude.{filter, not}
+use Rattle.std.specs.List.{AllByRecursion, AllWithin}
+use Rattle.std.specs.List.Sorted.{IsPartitionedBy, IsPartitionPoint, IsSortedByKey, IsNonDecreasingBy, ties}
+use Rattle.std.specs.Cmp.{IsTotalOrder, nat_cmp_total, on_total, then_total, unsigned_ties}
+use Rattle.std.specs.Ordering.{is_eq, is_le, is_lt, nat_cmp, ordering_index, ordering_reverse, ordering_then}
+use Rattle.std.specs.declared.cmp.Ordering.{Ordering}
+use Rattle.std.specs.declared.cmp.Ordering.TheVariants.{Less, Equal, Greater}
+use Rattle.std.proofs.lemmas.List.{append-nil, take-append-drop}
+use Rattle.std.proofs.lemmas.List.Elements.{filter-append}
+use Rattle.std.proofs.lemmas.List.Sorted.{searchable_from_sorted}
+use Rattle.semver_sets.specs.Version.{VersionValue}
+use Rattle.semver_sets.specs.Private.SearchViews.{is_opening_of, same_triples, triple_cmp, triple_of}
+use Rattle.semver_sets.specs.declared.set_list.opened.Opening.{Opening}
+use Rattle.semver_sets.specs.declared.set_list.opened.Triple.{Triple}
+
+-- ---- triples
+
+pub triple_total : IsTotalOrder triple_cmp
+triple_total =
+    then_total (on_total (λ (t : Triple). t.major) nat_cmp_total)
+    (then_total (on_total (λ (t : Triple). t.minor) nat_cmp_total) (on_total (λ (t : Triple). t.patch) nat_cmp_total))
+
+equal-then : (r s u : Ordering) → ((is_eq r && is_eq s) && is_eq u) ≡ is_eq (ordering_then r (ordering_then s u))
+equal-then Less s u = refl
+equal-then Greater s u = refl
+equal-then Equal Less u = refl
+equal-then Equal Greater u = refl
+equal-then Equal Equal u = refl
+
+pub same-equal : (t u : Triple) → same_triples t u ≡ is_eq (triple_cmp t u)
+same-equal t u =
+    let a = unsigned_ties t.major u.major in
+    let b = unsigned_ties t.minor u.minor in
+    let c = unsigned_ties t.patch u.patch in
+    (λ i. (a i && b i) && c i)
+    ∙ equal-then (nat_cmp t.major u.major) (nat_cmp t.minor u.minor) (nat_cmp t.patch u.patch)
+
+tied : (r : Ordering) → (not (is_lt (ordering_reverse r)) && not (is_lt r)) ≡ is_eq r
+tied Less = refl
+tied Equal = refl
+tied Greater = refl
+
+pub ties-same : (v : VersionValue) (place : ℕ) (o : Opening)
+    → ties (λ x y. is_lt (triple_cmp x.triple y.triple))
+    (record { triple = triple_of v; place = place }) o ≡ is_opening_of v o
+ties-same v place o =
+    ap (λ r. not (is_lt r) && not (is_lt (triple_cmp o.triple (triple_of v))))
+    (triple_total.antisymm (triple_of v) o.triple)
+    ∙ tied (triple_cmp o.triple (triple_of v)) ∙ sym (same-equal o.triple (triple_of v))
+
+-- ---- lists
+
+module _ {X : Type 0} (P : X → Type 0) where
+  taken : (xs : List X) (i : ℕ) → i ≤ length xs → AllWithin P xs 0 i → AllByRecursion P (take i xs)
+  taken [] zero most w = tt
+  taken [] (suc i) most w = tt
+  taken (x ∷ xs) zero most w = tt
+  taken (x ∷ xs) (suc i) most w =
+      (w 0 x (omega arith) (omega arith), taken xs i (omega arith) (λ k d l h. w (suc k) d (omega arith) (omega arith)))
+
+  left : (xs : List X) (i : ℕ) → AllWithin P xs i (length xs) → AllByRecursion P (drop i xs)
+  left [] zero w = tt
+  left [] (suc i) w = tt
+  left (x ∷ xs) zero w =
+      (w 0 x (omega arith) (omega arith), left xs zero (λ k d l h. w (suc k) d (omega arith) (omega arith)))
+  left (x ∷ xs) (suc i) w = left xs i (λ k d l h. w (suc k) d (omega arith) (omega arith))
+
+  all-taken : (xs : List X) (i : ℕ) → AllByRecursion P xs → AllByRecursion P (take i xs)
+  all-taken [] zero all = tt
+  all-taken [] (suc i) all = tt
+  all-taken (x ∷ xs) zero all = tt
+  all-taken (x ∷ xs) (suc i) all = (all.0, all-taken xs i all.1)
+
+module _ {X : Type 0} (p : X → Bool) where
+  filter-none : (xs : List X) → AllByRecursion (λ x. p x ≡ false) xs → filter p xs ≡ []
+  filter-none [] all = refl
+  filter-none (x ∷ xs) all = simp all.0 (filter-none xs all.1)
+
+  filter-whole : (xs : List X) → AllByRecursion (λ x. p x ≡ true) xs → filter p xs ≡ xs
+  filter-whole [] all = refl
+  filter-whole (x ∷ xs) all = simp all.0 (ap (λ (l : List X). x ∷ l) (filter-whole xs all.1))
+
+  pub filter-alike : (q : X → Bool) → ((x : X) → p x ≡ q x) → (xs : List X) → filter p xs ≡ filter q xs
+  filter-alike q same xs = λ i. filter (λ x. same x i) xs
+
+-- without the first elements none that passes comes after one that fails either
+pub parted-drop : {X : Type 0} (p : X → Bool) (i : ℕ) (xs : List X) → IsPartitionedBy p xs
+    → IsPartitionedBy p (drop i xs)
+parted-drop p zero [] h = h
+parted-drop p zero (x ∷ xs) h = h
+parted-drop p (suc i) [] h = h
+parted-drop p (suc i) (x ∷ xs) h =
+    parted-drop p i xs (λ a b d below within e. h (suc a) (suc b) d (omega arith) (omega arith) e)
+
+-- ---- those of one triple
+
+module _ (t : Triple) where
+  abbrev pub is_below : Opening → Bool
+  is_below o = is_lt (triple_cmp o.triple t)
+
+  abbrev pub is_at_most : Opening → Bool
+  is_at_most o = is_le (triple_cmp o.triple t)
+
+  abbrev is_same : Opening → Bool
+  is_same o = same_triples o.triple t
+
+  below-before : (r s : Ordering) → ordering_index r ≤ ordering_index s → is_lt s ≡ true → is_lt r ≡ true
+  below-before Less s h e = refl
+  below-before Equal Less h e = absurd (omega arith)
+  below-before Equal Equal h e = absurd (cc e)
+  below-before Equal Greater h e = absurd (cc e)
+  below-before Greater Less h e = absurd (omega arith)
+  below-before Greater Equal h e = absurd (cc e)
+  below-before Greater Greater h e = absurd (cc e)
+
+  at_most-before : (r s : Ordering) → ordering_index r ≤ ordering_index s → is_le s ≡ true → is_le r ≡ true
+  at_most-before Less s h e = refl
+  at_most-before Equal s h e = refl
+  at_most-before Greater Less h e = absurd (omega arith)
+  at_most-before Greater Equal h e = absurd (omega arith)
+  at_most-before Greater Greater h e = absurd (cc e)
+
+  module _ (xs : List Opening) (sorted : IsSortedByKey (λ (o : Opening). o.triple) triple_cmp xs) where
+    rises : IsNonDecreasingBy (λ (o : Opening). ordering_index (triple_cmp o.triple t)) xs
+    rises = searchable_from_sorted triple_total (λ (o : Opening). o.triple) xs t sorted
+
+    pub parted-below : IsPartitionedBy is_below xs
+    parted-below i j d most within e =
+        below-before (triple_cmp (get_or xs i d).triple t) (triple_cmp (get_or xs j d).triple t)
+        (rises i j d most within) e
+
+    pub parted-at_most : IsPartitionedBy is_at_most xs
+    parted-at_most i j d most within e =
+        at_most-before (triple_cmp (get_or xs i d).triple t) (triple_cmp (get_or xs j d).triple t)
+        (rises i j d most within) e
+
+  not-below : (r : Ordering) → is_lt r ≡ true → is_eq r ≡ false
+  not-below Less e = refl
+  not-below Equal e = absurd (cc e)
+  not-below Greater e = absurd (cc e)
+
+  not-above : (r : Ordering) → is_le r ≡ false → is_eq r ≡ false
+  not-above Less e = absurd (cc e)
+  not-above Equal e = absurd (cc e)
+  not-above Greater e = refl
+
+  between : (r : Ordering) → is_lt r ≡ false → is_le r ≡ true → is_eq r ≡ true
+  between Less e f = absurd (cc e)
+  between Equal e f = refl
+  between Greater e f = absurd (cc f)
+
+  alike : (o : Opening) → is_same o ≡ is_eq (triple_cmp o.triple t)
+  alike o = same-equal o.triple t
+
+  none-of : (xs : List Opening) → AllByRecursion (λ o. is_below o ≡ true) xs → filter is_same xs ≡ []
+  none-of [] all = refl
+  none-of (o ∷ xs) all = simp (alike o ∙ not-below (triple_cmp o.triple t) all.0) (none-of xs all.1)
+
+  none-above : (xs : List Opening) → AllByRecursion (λ o. is_at_most o ≡ false) xs → filter is_same xs ≡ []
+  none-above [] all = refl
+  none-above (o ∷ xs) all = simp (alike o ∙ not-above (triple_cmp o.triple t) all.0) (none-above xs all.1)
+
+  all-of : (xs : List Opening) → AllByRecursion (λ o. is_below o ≡ false) xs
+      → AllByRecursion (λ o. is_at_most o ≡ true) xs
+      → filter is_same xs ≡ xs
+  all-of [] low high = refl
+  all-of (o ∷ xs) low high =
+      simp (alike o ∙ between (triple_cmp o.triple t) low.0 high.0)
+      (ap (λ (l : List Opening). o ∷ l) (all-of xs low.1 high.1))
+
+  module _ (xs : List Opening) (i j : ℕ) (most : i ≤ length xs) (more : j ≤ length (drop i xs))
+      (first : IsPartitionPoint (λ o. is_below o ≡ true) (λ o. is_below o ≡ false) xs i)
+      (second : IsPartitionPoint (λ o. is_at_most o ≡ true) (λ o. is_at_most o ≡ false) (drop i xs) j) where
+    -- from the first that is not below to the last that is not above
+    pub found-openings : take j (drop i xs) ≡ filter is_same xs
+    found-openings =
+        let others : List Opening = drop i xs in
+        let low = taken (λ o. is_below o ≡ true) xs i most first.0 in
+        let from = left (λ o. is_below o ≡ false) xs i first.1 in
+        let high = taken (λ o. is_at_most o ≡ true) others j more second.0 in
+        let past = left (λ o. is_at_most o ≡ false) others j second.1 in
+        let here = all-of (take j others) (all-taken (λ o. is_below o ≡ false) others j from) high in
+        let whole = ap (filter is_same) (take-append-drop i xs) in
+        let rest = ap (filter is_same) (take-append-drop j others) in
+        sym (sym whole ∙ filter-append is_same (take i xs) others
+        ∙ ap (λ (l : List Opening). l ++ filter is_same others) (none-of (take i xs) low)
+        ∙ sym rest ∙ filter-append is_same (take j others) (drop j others)
+        ∙ ap (λ (l : List Opening). l ++ filter is_same (drop j others)) here
+        ∙ ap (λ (l : List Opening). take j others ++ l) (none-above (drop j others) past)
+        ∙ append-nil (take j others))

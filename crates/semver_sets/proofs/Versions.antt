@@ -1,0 +1,4 @@
+pub mod VersionReading
+pub mod OneReading
+pub mod LeadingTriple
+pub mod Prereleases

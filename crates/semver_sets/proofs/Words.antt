@@ -1,0 +1,11 @@
+pub mod PartialViews
+pub mod ComponentReading
+pub mod DottedReading
+pub mod PartialReading
+pub mod PartialBounds
+pub mod LeadReading
+pub mod SimpleReading
+pub mod HyphenReading
+pub mod WordViews
+pub mod WordLemmas
+pub mod WordBounds

@@ -1,0 +1,178 @@
+-- Components with dots between them: what is read is an unmarked partial, and an unmarked partial is read.
+use Rattle.std.proofs.Common.{◌≡◌, ℕ, List, [], ◌∷◌, ◌++◌, Option, Some, None, refl, sym, ap, ◌∙◌, inl, inr, subst}
+use Rattle.std.proofs.Common.{append_assoc}
+use Rattle.std.proofs.lemmas.Bool.{cases_Bool, eqb-true}
+use Rattle.std.proofs.lemmas.Option.{same_Some}
+use Rattle.std.specs.Prelude.{◌==◌}
+use Rattle.semver_sets.specs.Characters.{BeginsWithNo, dot, is_digit}
+use Rattle.semver_sets.specs.Division.{IsCleanEnd}
+use Rattle.semver_sets.specs.PartialText.{IsComponentText, IsUnmarkedPartial, Partial, one, plain_partial, three, two}
+use Rattle.semver_sets.specs.Private.Reading.{read_extras}
+use Rattle.semver_sets.specs.Private.WordReading.{Component, ReadPartial, read_component, read_components}
+use Rattle.semver_sets.specs.Private.WordReading.{read_from_minor, read_from_patch, with_extras, with_first}
+use Rattle.semver_sets.specs.Private.WordReading.{with_second, with_third}
+use Rattle.semver_sets.proofs.Texts.CleanEnds.{clean-no_dot}
+use Rattle.semver_sets.proofs.Words.ComponentReading.{component-again, component-takes}
+use Rattle.semver_sets.proofs.Texts.ExtrasReading.{extras-again, extras-takes}
+use Rattle.semver_sets.proofs.Texts.Prefixes.{no-append}
+use Rattle.semver_sets.proofs.Versions.VersionReading.{clean-ends_extras, clean-no_digit, prefix_of-no, regroup}
+
+-- one to three components, at the start of a text
+pub record TakesComponents (text : List ℕ) (p : Partial) (rest : List ℕ) : Type 0 where
+  pub taken : List ℕ
+  pub whole : text ≡ taken ++ rest
+  pub read : IsUnmarkedPartial p taken
+
+-- an answer: a partial and the rest
+abbrev pub read_as : Partial → List ℕ → ReadPartial
+read_as p rest = Some (p, rest)
+
+-- in one answer stand one partial and one rest
+pub same-read : (p q : Partial) (text rest : List ℕ) → read_as p text ≡ read_as q rest → (p ≡ q) × (text ≡ rest)
+same-read p q text rest h =
+    let e = same_Some (p, text) (q, rest) h in
+    (ap (λ (r : Partial × List ℕ). r.0) e, ap (λ (r : Partial × List ℕ). r.1) e)
+
+-- a partial that ends after its first component
+one-taken : (taken text : List ℕ) (major : Option ℕ) (p : Partial) (rest : List ℕ) → IsComponentText taken major
+    → read_as (plain_partial major None None) text ≡ read_as p rest → TakesComponents (taken ++ text) p rest
+one-taken taken text major p rest first h =
+    let e = same-read (plain_partial major None None) p text rest h in
+    record {
+      taken = taken;
+      whole = ap (λ (l : List ℕ). taken ++ l) e.1;
+      read = one major (sym e.0) first;
+    }
+
+-- and one that ends after its second
+two-taken : (first second text : List ℕ) (major minor : Option ℕ) (p : Partial) (rest : List ℕ)
+    → IsComponentText first major
+    → IsComponentText second minor → read_as (plain_partial major minor None) text ≡ read_as p rest
+    → TakesComponents (first ++ (dot ∷ (second ++ text))) p rest
+two-taken first second text major minor p rest one_read two_read h =
+    let e = same-read (plain_partial major minor None) p text rest h in
+    record {
+      taken = first ++ (dot ∷ second);
+      whole = ap (λ (l : List ℕ). first ++ (dot ∷ (second ++ l))) e.1 ∙ sym (append_assoc first (dot ∷ second) rest);
+      read = two major minor (sym e.0) (record {
+        first = first;
+        second = second;
+        whole = refl;
+        major_text = one_read;
+        minor_text = two_read;
+      });
+    }
+
+-- a third component and extras
+third-taken : (first second text : List ℕ) (major minor : Option ℕ) (read : Component) (p : Partial) (rest : List ℕ)
+    → IsComponentText first major → IsComponentText second minor → read_component text ≡ read
+    → with_third major minor read ≡ Some (p, rest) → TakesComponents (first ++ (dot ∷ (second ++ (dot ∷ text)))) p rest
+third-taken first second text major minor None p rest one_read two_read r h = cc h
+third-taken first second text major minor (Some c) p rest one_read two_read r h =
+    let e = same-read (with_extras major minor c.0 (read_extras c.1).0) p (read_extras c.1).1 rest h in
+    let t = component-takes text c.0 c.1 r in
+    let x = extras-takes c.1 in
+    let split : c.1 ≡ x.taken ++ rest = x.whole ∙ ap (λ (l : List ℕ). x.taken ++ l) e.1 in
+    let taken = first ++ (dot ∷ (second ++ (dot ∷ (t.taken ++ x.taken)))) in
+    record {
+      taken = taken;
+      whole = ap (λ (l : List ℕ). first ++ (dot ∷ (second ++ (dot ∷ l))))
+          (t.whole ∙ ap (λ (l : List ℕ). t.taken ++ l) split)
+          ∙ regroup first second t.taken x.taken rest;
+      read = subst (λ (q : Partial). IsUnmarkedPartial q taken) e.0 (three (record {
+        first = first;
+        second = second;
+        third = t.taken;
+        extras = x.taken;
+        whole = refl;
+        major_text = one_read;
+        minor_text = two_read;
+        patch_text = t.read;
+        digits_end = λ some. prefix_of-no is_digit x.taken rest
+            (subst (λ (l : List ℕ). BeginsWithNo is_digit l) split (t.ends some));
+        extras_text = x.extras;
+      }));
+    }
+
+-- what follows a second component
+from_patch-taken : (first second text : List ℕ) (major minor : Option ℕ) (p : Partial) (rest : List ℕ)
+    → IsComponentText first major → IsComponentText second minor → read_from_patch major minor text ≡ Some (p, rest)
+    → TakesComponents (first ++ (dot ∷ (second ++ text))) p rest
+from_patch-taken first second [] major minor p rest one_read two_read h =
+    two-taken first second [] major minor p rest one_read two_read h
+from_patch-taken first second (b ∷ text) major minor p rest one_read two_read h = elim (cases_Bool (b == dot)) [
+  | inr other ↦ two-taken first second (b ∷ text) major minor p rest one_read two_read (rw other at h)
+  | inl here ↦
+      subst (λ (c : ℕ). TakesComponents (first ++ (dot ∷ (second ++ (c ∷ text)))) p rest) (sym (eqb-true b dot here))
+      (third-taken first second text major minor (read_component text) p rest one_read two_read refl (rw here at h))
+]
+
+-- a second component and what follows it
+second-taken : (first text : List ℕ) (major : Option ℕ) (read : Component) (p : Partial) (rest : List ℕ)
+    → IsComponentText first major → read_component text ≡ read → with_second major read ≡ Some (p, rest)
+    → TakesComponents (first ++ (dot ∷ text)) p rest
+second-taken first text major None p rest one_read r h = cc h
+second-taken first text major (Some c) p rest one_read r h =
+    let t = component-takes text c.0 c.1 r in
+    subst (λ (l : List ℕ). TakesComponents (first ++ (dot ∷ l)) p rest) (sym t.whole)
+    (from_patch-taken first t.taken c.1 major c.0 p rest one_read t.read h)
+
+-- what follows a first component
+from_minor-taken : (first text : List ℕ) (major : Option ℕ) (p : Partial) (rest : List ℕ) → IsComponentText first major
+    → read_from_minor major text ≡ Some (p, rest) → TakesComponents (first ++ text) p rest
+from_minor-taken first [] major p rest one_read h = one-taken first [] major p rest one_read h
+from_minor-taken first (b ∷ text) major p rest one_read h = elim (cases_Bool (b == dot)) [
+  | inr other ↦ one-taken first (b ∷ text) major p rest one_read (rw other at h)
+  | inl here ↦ subst (λ (c : ℕ). TakesComponents (first ++ (c ∷ text)) p rest) (sym (eqb-true b dot here))
+      (second-taken first text major (read_component text) p rest one_read refl (rw here at h))
+]
+
+-- a first component and what follows it
+first-taken : (text : List ℕ) (read : Component) (p : Partial) (rest : List ℕ) → read_component text ≡ read
+    → with_first read ≡ Some (p, rest) → TakesComponents text p rest
+first-taken text None p rest r h = cc h
+first-taken text (Some c) p rest r h =
+    let t = component-takes text c.0 c.1 r in
+    subst (λ (l : List ℕ). TakesComponents l p rest) (sym t.whole) (from_minor-taken t.taken c.1 c.0 p rest t.read h)
+
+-- what is read is an unmarked partial
+pub components-takes : (text : List ℕ) (p : Partial) (rest : List ℕ) → read_components text ≡ Some (p, rest)
+    → TakesComponents text p rest
+unfolding read_components
+components-takes text p rest h = first-taken text (read_component text) p rest refl h
+
+-- after a component that no dot follows nothing more of a partial stands
+from_patch-ends : (major minor : Option ℕ) (rest : List ℕ) → BeginsWithNo (λ b. b == dot) rest
+    → read_from_patch major minor rest ≡ Some (plain_partial major minor None, rest)
+from_patch-ends major minor [] h = refl
+from_patch-ends major minor (b ∷ rest) h = rw h refl
+
+-- the same after a first component
+from_minor-ends : (major : Option ℕ) (rest : List ℕ) → BeginsWithNo (λ b. b == dot) rest
+    → read_from_minor major rest ≡ Some (plain_partial major None None, rest)
+from_minor-ends major [] h = refl
+from_minor-ends major (b ∷ rest) h = rw h refl
+
+-- components are read
+pub components-again : (text rest : List ℕ) (p : Partial) → IsUnmarkedPartial p text → IsCleanEnd rest
+    → read_components (text ++ rest) ≡ Some (p, rest)
+unfolding read_components
+components-again text rest p (one major says h) clean =
+    let c1 = component-again text rest major h (λ some. clean-no_digit rest clean) in
+    rw (c1, says) (from_minor-ends major rest (clean-no_dot rest clean))
+components-again text rest p (two major minor says h) clean =
+    let whole : text ++ rest ≡ h.first ++ (dot ∷ (h.second ++ rest)) =
+    ap (λ (l : List ℕ). l ++ rest) h.whole ∙ append_assoc h.first (dot ∷ h.second) rest in
+    let c1 = component-again h.first (dot ∷ (h.second ++ rest)) major h.major_text (λ some. refl) in
+    let c2 = component-again h.second rest minor h.minor_text (λ some. clean-no_digit rest clean) in
+    rw (whole, c1, c2, says) (from_patch-ends major minor rest (clean-no_dot rest clean))
+components-again text rest p (three h) clean =
+    let whole : text ++ rest ≡ h.first ++ (dot ∷ (h.second ++ (dot ∷ (h.third ++ (h.extras ++ rest))))) =
+    ap (λ (l : List ℕ). l ++ rest) h.whole ∙ sym (regroup h.first h.second h.third h.extras rest) in
+    let after_second = dot ∷ (h.third ++ (h.extras ++ rest)) in
+    let c1 = component-again h.first (dot ∷ (h.second ++ after_second)) p.major h.major_text (λ some. refl) in
+    let c2 = component-again h.second after_second p.minor h.minor_text (λ some. refl) in
+    let c3 = component-again h.third (h.extras ++ rest) p.patch h.patch_text
+    (λ some. no-append is_digit h.extras rest (h.digits_end some) (clean-no_digit rest clean)) in
+    let x = extras-again h.extras rest p.pre_release p.build h.extras_text (clean-ends_extras rest clean) in
+    rw (whole, c1, c2, c3, x) refl

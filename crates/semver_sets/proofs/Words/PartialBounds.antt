@@ -1,0 +1,102 @@
+-- What a partial that is read holds, and the versions that are made of one.
+use Rattle.std.proofs.Common.{◌≤◌, ◌+◌, ℕ, List, [], ◌∷◌, Option, Some, None, arith, refl, sym, subst}
+use Rattle.std.specs.Prelude.{map, unwrap_or}
+use Rattle.std.specs.List.{AllByRecursion}
+use Rattle.semver_sets.specs.declared.TheConstants.{MAX_SAFE_INTEGER}
+use Rattle.semver_sets.specs.IdentifierText.{IsBuildText, IsIdentifierText, IsPrereleaseText, identifier_of}
+use Rattle.semver_sets.specs.IdentifierValue.{IdentifierValue, numeric}
+use Rattle.semver_sets.specs.PartialText.{IsComponentText, IsLed, IsPartialText, IsUnmarkedPartial, Partial, one}
+use Rattle.semver_sets.specs.PartialText.{plain_partial, three, two, zeroed}
+use Rattle.semver_sets.specs.RangeSets.{IsReadIdentifier, IsReadVersion}
+use Rattle.semver_sets.specs.Version.{VersionValue, least_of, release, without_build}
+
+-- ---- partials
+
+-- a component is at most the limit
+abbrev pub IsReadComponent : Option ℕ → Type 0
+IsReadComponent None = Unit {0}
+IsReadComponent (Some number) = number ≤ MAX_SAFE_INTEGER
+
+-- what a partial that is read holds
+pub record IsReadPartial (p : Partial) : Type 0 where
+  pub major : IsReadComponent p.major
+  pub minor : IsReadComponent p.minor
+  pub patch : IsReadComponent p.patch
+  pub pre_release : AllByRecursion IsReadIdentifier p.pre_release
+  pub build : AllByRecursion IsReadIdentifier p.build
+
+component-read : (text : List ℕ) (component : Option ℕ) → IsComponentText text component → IsReadComponent component
+component-read text None is = tt
+component-read text (Some number) is = is.limit
+
+values-read : (parts : List (List ℕ)) → AllByRecursion IsIdentifierText parts
+    → AllByRecursion IsReadIdentifier (map identifier_of parts)
+values-read [] all = tt
+values-read (part ∷ parts) all = ((part, all.0, refl), values-read parts all.1)
+
+pub prerelease-read : (text : List ℕ) (identifiers : List IdentifierValue) → IsPrereleaseText text identifiers
+    → AllByRecursion IsReadIdentifier identifiers
+prerelease-read text [] is = tt
+prerelease-read text (i ∷ identifiers) is =
+    subst (AllByRecursion IsReadIdentifier) (sym is.2.values) (values-read _ is.2.parts)
+
+pub build-read : (text : List ℕ) (identifiers : List IdentifierValue) → IsBuildText text identifiers
+    → AllByRecursion IsReadIdentifier identifiers
+build-read text [] is = tt
+build-read text (i ∷ identifiers) is =
+    subst (AllByRecursion IsReadIdentifier) (sym is.2.values) (values-read _ is.2.parts)
+
+plain_partial-read : (major minor patch : Option ℕ) → IsReadComponent major → IsReadComponent minor
+    → IsReadComponent patch
+    → IsReadPartial (plain_partial major minor patch)
+plain_partial-read major minor patch a b c = record { major = a; minor = b; patch = c; pre_release = tt; build = tt }
+
+unmarked-read : (text : List ℕ) (p : Partial) → IsUnmarkedPartial p text → IsReadPartial p
+unmarked-read text p (one major same is) =
+    subst IsReadPartial (sym same) (plain_partial-read major None None (component-read text major is) tt tt)
+unmarked-read text p (two major minor same is) =
+    subst IsReadPartial (sym same) (plain_partial-read major minor None (component-read is.first major is.major_text)
+    (component-read is.second minor is.minor_text) tt)
+unmarked-read text p (three is) = record {
+  major = component-read is.first p.major is.major_text;
+  minor = component-read is.second p.minor is.minor_text;
+  patch = component-read is.third p.patch is.patch_text;
+  pre_release = prerelease-read is.extras_text.prefix p.pre_release is.extras_text.first;
+  build = build-read is.extras_text.rest p.build is.extras_text.second;
+}
+
+pub partial-read : (text : List ℕ) (p : Partial) → IsPartialText text p → IsReadPartial p
+partial-read text p is = unmarked-read is.unmarked p is.read
+
+pub led-read : (lead text : List ℕ) (p : Partial) → IsLed lead text p → IsReadPartial p
+led-read lead text p is = partial-read is.operand p is.read
+
+-- ---- versions
+
+pub or-zero : (component : Option ℕ) → IsReadComponent component → unwrap_or component 0 ≤ MAX_SAFE_INTEGER + 1
+or-zero None is = omega arith
+or-zero (Some number) is = omega arith
+
+pub zeroed-read : (p : Partial) → IsReadPartial p → IsReadVersion (zeroed p)
+zeroed-read p is = record {
+  major = or-zero p.major is.major;
+  minor = or-zero p.minor is.minor;
+  patch = or-zero p.patch is.patch;
+  pre_release = is.pre_release;
+  build = is.build;
+}
+
+pub without_build-read : (v : VersionValue) → IsReadVersion v → IsReadVersion (without_build v)
+without_build-read v is =
+    record { major = is.major; minor = is.minor; patch = is.patch; pre_release = is.pre_release; build = tt }
+
+pub release-read : (m n p : ℕ) → m ≤ MAX_SAFE_INTEGER + 1 → n ≤ MAX_SAFE_INTEGER + 1 → p ≤ MAX_SAFE_INTEGER + 1
+    → IsReadVersion (release m n p)
+release-read m n p a b c = record { major = a; minor = b; patch = c; pre_release = tt; build = tt }
+
+zero-read : IsReadIdentifier (numeric 0)
+zero-read = (48 ∷ [], (refl, refl), refl)
+
+pub least-read : (m n p : ℕ) → m ≤ MAX_SAFE_INTEGER + 1 → n ≤ MAX_SAFE_INTEGER + 1 → p ≤ MAX_SAFE_INTEGER + 1
+    → IsReadVersion (least_of m n p)
+least-read m n p a b c = record { major = a; minor = b; patch = c; pre_release = (zero-read, tt); build = tt }

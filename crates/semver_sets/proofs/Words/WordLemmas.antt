@@ -1,0 +1,188 @@
+-- The word with which a text begins: what is read is such a word, and such a word is read.
+use Rattle.std.proofs.Common.{◌≡◌, ◌⊎◌, ℕ, true, List, [], ◌∷◌, ◌++◌, Option, Some, None, refl, sym, ap, subst, ◌∙◌}
+use Rattle.std.proofs.Common.{inl, inr}
+use Rattle.std.proofs.lemmas.Bool.{cases_Bool, eqb-true, or_cases}
+use Rattle.std.specs.Prelude.{◌==◌}
+use Rattle.semver_sets.specs.Characters.{BeginsWithNo, is_blank}
+use Rattle.semver_sets.specs.Comparator.{Comparator}
+use Rattle.semver_sets.specs.Division.{IsCleanEnd, IsSimpleText, IsWord, NoneAt, hyphen_range, simple, thrown_away}
+use Rattle.semver_sets.specs.HyphenRanges.{IsHyphenText, hyphen_comparator}
+use Rattle.semver_sets.specs.PartialText.{Partial}
+use Rattle.semver_sets.specs.Private.Reading.{prefix_of, rest_of}
+use Rattle.semver_sets.specs.Private.WordReading.{ReadPartial, Word, is_solid, no_lead, or_else, or_thrown_away}
+use Rattle.semver_sets.specs.Private.WordReading.{read_hyphen, read_lead, read_operator, read_partial, read_right}
+use Rattle.semver_sets.specs.Private.WordReading.{read_simple, read_word, said, up_to_clean, with_left}
+use Rattle.semver_sets.proofs.Words.HyphenReading.{hyphen-again, hyphen-takes}
+use Rattle.semver_sets.proofs.Words.LeadReading.{lead-none}
+use Rattle.semver_sets.proofs.Words.PartialReading.{partial-unblanked}
+use Rattle.semver_sets.proofs.Texts.Prefixes.{prefix_of-all, prefix_of-rest_of, rest_of-again, rest_of-no}
+use Rattle.semver_sets.proofs.Texts.Prefixes.{with_no-begins}
+use Rattle.semver_sets.proofs.Words.SimpleReading.{simple-again, simple-takes}
+
+-- what begins with no solid character is the end or begins with a blank
+clean-from_no_solid : (text : List ℕ) → BeginsWithNo is_solid text → IsCleanEnd text
+clean-from_no_solid [] h = tt
+clean-from_no_solid (b ∷ rest) h = elim (cases_Bool (is_blank b)) [
+  | inl blank ↦ blank
+  | inr solid ↦ cc (rw solid at h)
+]
+
+no_solid-from_clean : (text : List ℕ) → IsCleanEnd text → BeginsWithNo is_solid text
+no_solid-from_clean [] h = tt
+no_solid-from_clean (b ∷ rest) h = rw h refl
+
+-- ---- no prefix is a word of a kind exactly where none is read
+
+pub no-hyphen : (text : List ℕ) → read_hyphen text ≡ None → NoneAt IsHyphenText text
+no-hyphen text none prefix rest c whole clean read = cc (none, whole, hyphen-again prefix rest c read clean)
+
+no-simple : (text : List ℕ) → read_simple text ≡ None → NoneAt IsSimpleText text
+no-simple text none prefix rest c whole clean read = cc (none, whole, simple-again prefix rest c read clean)
+
+hyphen-none : (text : List ℕ) (found : Option Word) → read_hyphen text ≡ found → NoneAt IsHyphenText text → found ≡ None
+hyphen-none text None r none = refl
+hyphen-none text (Some w) r none =
+    let t = hyphen-takes text w.0 w.1 r in
+    absurd (none t.taken w.1 w.0 t.whole t.clean t.read)
+
+simple-unread : (text : List ℕ) (found : Option Word) → read_simple text ≡ found → NoneAt IsSimpleText text
+    → found ≡ None
+simple-unread text None r none = refl
+simple-unread text (Some w) r none =
+    let t = simple-takes text w.0 w.1 r in
+    absurd (none t.taken w.1 w.0 t.whole t.clean t.read)
+
+-- ---- one word
+
+-- the word with which a text begins, and the rest
+pub record HasWord (text : List ℕ) (comparator : Option Comparator) (rest : List ℕ) : Type 0 where
+  pub word : List ℕ
+  pub whole : text ≡ word ++ rest
+  pub is_word : IsWord word rest comparator
+  pub clean : IsCleanEnd rest
+
+word-takes : (text : List ℕ) (hyphen simple_word : Option Word) → read_hyphen text ≡ hyphen
+    → read_simple text ≡ simple_word
+    → HasWord text (or_thrown_away (or_else hyphen simple_word) text).0
+    (or_thrown_away (or_else hyphen simple_word) text).1
+word-takes text (Some w) s r q =
+    let t = hyphen-takes text w.0 w.1 r in
+    record { word = t.taken; whole = t.whole; is_word = hyphen_range t.read t.clean; clean = t.clean }
+word-takes text None (Some w) r q =
+    let t = simple-takes text w.0 w.1 q in
+    record {
+      word = t.taken;
+      whole = t.whole;
+      is_word = simple (subst (NoneAt IsHyphenText) t.whole (no-hyphen text r)) t.read t.clean;
+      clean = t.clean;
+    }
+word-takes text None None r q =
+    let clean = clean-from_no_solid (rest_of is_solid text) (rest_of-no is_solid text) in
+    let whole = sym (prefix_of-rest_of is_solid text) in
+    record {
+      word = prefix_of is_solid text;
+      whole = whole;
+      is_word = thrown_away (subst (NoneAt IsHyphenText) whole (no-hyphen text r))
+          (subst (NoneAt IsSimpleText) whole (no-simple text q))
+          (prefix_of-all is_solid text) clean refl;
+      clean = clean;
+    }
+
+-- what is read is a word
+pub word-is : (text : List ℕ) → HasWord text (read_word text).0 (read_word text).1
+unfolding read_word
+word-is text = word-takes text (read_hyphen text) (read_simple text) refl refl
+
+-- and a word is what is read
+pub word-again : (word rest : List ℕ) (comparator : Option Comparator) → IsWord word rest comparator
+    → read_word (word ++ rest) ≡ (comparator, rest)
+unfolding read_word
+word-again word rest comparator (hyphen_range read clean) = rw (hyphen-again word rest comparator read clean) refl
+word-again word rest comparator (simple none read clean) =
+    rw (
+      hyphen-none (word ++ rest) (read_hyphen (word ++ rest)) refl none,
+      simple-again word rest comparator read clean,
+    ) refl
+word-again word rest comparator (thrown_away none nothing solid clean nil) =
+    rw (
+      hyphen-none (word ++ rest) (read_hyphen (word ++ rest)) refl none,
+      simple-unread (word ++ rest) (read_simple (word ++ rest)) refl nothing,
+      rest_of-again is_solid word rest solid (no_solid-from_clean rest clean),
+      nil,
+    ) refl
+
+-- a word that was read
+pub has-word : (text : List ℕ) (c : Option Comparator) (rest : List ℕ) → read_word text ≡ (c, rest)
+    → HasWord text c rest
+has-word text c rest read = subst (λ (w : Word). HasWord text w.0 w.1) read (word-is text)
+
+-- ---- a text that begins with blanks
+
+-- where a text begins with no blank, no hyphen range without a left side does
+pub right-no_blank : (text : List ℕ) → BeginsWithNo is_blank text → read_right text ≡ None
+unfolding read_right
+right-no_blank text h = rw (with_no-begins is_blank text h) refl
+
+pub hyphen-with_left : (text : List ℕ) → read_right text ≡ None → read_hyphen text ≡ with_left (read_partial text)
+unfolding read_hyphen
+hyphen-with_left text none = rw none refl
+
+simple-of_partial : (text : List ℕ) (r : ReadPartial) → read_lead text ≡ (no_lead, text) → read_partial text ≡ r
+    → read_simple text ≡ said no_lead (up_to_clean r)
+unfolding read_simple
+simple-of_partial text r lead read = rw (lead, read) refl
+
+-- a blank leads nothing
+pub blank-lead : (b : ℕ) (rest : List ℕ) → is_blank b ≡ true → read_lead (b ∷ rest) ≡ (no_lead, b ∷ rest)
+unfolding read_lead read_operator
+blank-lead b rest blank = elim (or_cases (b == 32) (b == 9) blank) [
+  | inl space ↦ rw (eqb-true b 32 space) refl
+  | inr tab ↦ rw (eqb-true b 9 tab) refl
+]
+
+blank-thrown : (b : ℕ) (rest : List ℕ) → is_blank b ≡ true → rest_of is_solid (b ∷ rest) ≡ b ∷ rest
+unfolding rest_of
+blank-thrown b rest blank = rw blank refl
+
+word-from : (text : List ℕ) (hyphen simple_word : Option Word) → read_hyphen text ≡ hyphen
+    → read_simple text ≡ simple_word
+    → read_word text ≡ or_thrown_away (or_else hyphen simple_word) text
+unfolding read_word
+word-from text hyphen simple_word h g = rw (h, g) refl
+
+-- a text that begins with this partial, and with nothing before it
+word-of_partial : (text : List ℕ) (p : ReadPartial) (found : Option Word) → read_right text ≡ None
+    → read_lead text ≡ (no_lead, text) → read_partial text ≡ p
+    → or_else (with_left p) (said no_lead (up_to_clean p)) ≡ found → read_word text ≡ or_thrown_away found text
+word-of_partial text p found right lead read is =
+    let hyphen : read_hyphen text ≡ with_left p = hyphen-with_left text right ∙ ap with_left read in
+    word-from text (with_left p) (said no_lead (up_to_clean p)) hyphen (simple-of_partial text p lead read)
+    ∙ ap (λ (w : Option Word). or_thrown_away w text) is
+
+-- where the word that begins with a blank is read, it is the one after its blanks; else the empty word is thrown away
+blank-word : (b : ℕ) (rest : List ℕ) (p : ReadPartial) (found : Option Word) → is_blank b ≡ true
+    → read_right (b ∷ rest) ≡ None → read_partial (b ∷ rest) ≡ p
+    → or_else (with_left p) (said no_lead (up_to_clean p)) ≡ found
+    → (read_word (b ∷ rest) ≡ (None, b ∷ rest)) ⊎ (read_word (b ∷ rest) ≡ read_word (rest_of is_blank (b ∷ rest)))
+blank-word b rest p None blank right read is =
+    inl (word-of_partial (b ∷ rest) p None right (blank-lead b rest blank) read is
+    ∙ ap (λ (l : List ℕ). (None, l)) (blank-thrown b rest blank))
+blank-word b rest None (Some w) blank right read is = cc is
+blank-word b rest (Some r) (Some w) blank right read is =
+    let others = rest_of is_blank (b ∷ rest) in
+    let there : read_partial others ≡ Some r = partial-unblanked (b ∷ rest) r read in
+    let none : read_right others ≡ None = right-no_blank others (rest_of-no is_blank (b ∷ rest)) in
+    inr (
+    word-of_partial (b ∷ rest) (Some r) (Some w) right (blank-lead b rest blank) read is
+    ∙ sym (word-of_partial others (Some r) (Some w) none (lead-none others r there) there is)
+    )
+
+pub word-after_blanks : (b : ℕ) (rest : List ℕ) → is_blank b ≡ true → read_right (b ∷ rest) ≡ None
+    → (read_word (b ∷ rest) ≡ (None, b ∷ rest)) ⊎ (read_word (b ∷ rest) ≡ read_word (rest_of is_blank (b ∷ rest)))
+word-after_blanks b rest blank right = blank-word b rest (read_partial (b ∷ rest)) _ blank right refl refl
+
+-- a hyphen range without a left side is the word that begins with its blanks
+pub word-leading : (text : List ℕ) (r : Partial × List ℕ) → read_right text ≡ Some r
+    → read_word text ≡ (Some (hyphen_comparator None r.0), r.1)
+unfolding read_word read_hyphen
+word-leading text r right = rw right refl

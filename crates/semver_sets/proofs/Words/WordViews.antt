@@ -1,0 +1,184 @@
+-- Words, as the readers see them.
+use Rattle.std.proofs.Common.{◌≡◌, ◌≢◌, ◌⊎◌, ◌<◌, ◌≤◌, ℕ, arith, get_or, length, true, false, List, [], ◌∷◌, Option}
+use Rattle.std.proofs.Common.{Some, None, refl, sym, ap, ◌∙◌, inl, inr}
+use Rattle.std.proofs.lemmas.Bool.{and_parts, cases_Bool, eqb-true, leb-true, ne_eqb}
+use Rattle.std.specs.Prelude.{◌==◌}
+use Rattle.semver_sets.specs.Characters.{BeginsWithNo, caret, is_blank, is_digit, tilde}
+use Rattle.semver_sets.specs.Operators.{Operator as SpecOperator}
+use Rattle.semver_sets.specs.PartialText.{Partial}
+use Rattle.semver_sets.specs.Private.Reading.{begins, read_number, rest_of, skip_one}
+use Rattle.semver_sets.specs.Private.WordReading.{Lead, Word, caret_lead, is_clean, lead_comparator, no_lead, operator}
+use Rattle.semver_sets.specs.Private.WordReading.{or_else, read_component, read_components, read_hyphen, read_lead}
+use Rattle.semver_sets.specs.Private.WordReading.{read_operator, read_partial, read_right, read_simple, said}
+use Rattle.semver_sets.specs.Private.WordReading.{said_hyphen, tilde_greater_lead, tilde_lead, up_to_clean, with_left}
+use Rattle.semver_sets.specs.Private.WordViews.{lead_seen}
+use Rattle.semver_sets.specs.declared.word.lead.Lead.{Lead as CodeLead}
+use Rattle.semver_sets.specs.declared.word.lead.Lead.TheVariants.{Caret, Operator, Plain, Tilde, TildeGreater}
+use Rattle.semver_sets.proofs.Words.LeadReading.{lead-not_partial, lead-plain}
+use Rattle.semver_sets.proofs.Texts.Prefixes.{with_no-begins}
+
+-- ---- leads
+
+-- neither a caret nor a tilde begins an operator
+operator-first : (b : ℕ) (text rest : List ℕ) (o : SpecOperator) → Some (o, rest) ≡ read_operator (b ∷ text)
+    → ((b == caret) ≡ false) × ((b == tilde) ≡ false)
+unfolding read_operator
+operator-first b text rest o h = (
+  elim (cases_Bool (b == caret)) [ inl here ↦ cc (rw (eqb-true b caret here) at h) | inr other ↦ other ],
+  elim (cases_Bool (b == tilde)) [ inl here ↦ cc (rw (eqb-true b tilde here) at h) | inr other ↦ other ],
+)
+
+-- an operator is a lead
+pub lead-operator : (text rest : List ℕ) (o : SpecOperator) → Some (o, rest) ≡ read_operator text
+    → (operator o, rest_of is_blank rest) ≡ read_lead text
+unfolding read_lead
+lead-operator [] rest o h = unfold read_operator in cc h
+lead-operator (b ∷ text) rest o h =
+    let first = operator-first b text rest o h in
+    rw (first.0, first.1, ← h) refl
+
+-- a lead, or none
+pub lead-cases : (l : Lead) → (l ≡ no_lead) ⊎ (l ≡ no_lead → ⊥)
+lead-cases no_lead = inl refl
+lead-cases (operator o) = inr (λ h. cc h)
+lead-cases tilde_lead = inr (λ h. cc h)
+lead-cases tilde_greater_lead = inr (λ h. cc h)
+lead-cases caret_lead = inr (λ h. cc h)
+
+-- the plain one of the code
+pub plain-seen : (l : CodeLead) → lead_seen l ≡ no_lead → l ≡ Plain
+plain-seen Plain h = refl
+plain-seen (Operator o) h = cc h
+plain-seen Tilde h = cc h
+plain-seen TildeGreater h = cc h
+plain-seen Caret h = cc h
+
+-- ---- hyphens
+
+-- no right side where no blank stands first
+right-none : (text : List ℕ) → begins is_blank text ≡ false → read_right text ≡ None
+unfolding read_right
+right-none text h = rw h refl
+
+-- a hyphen has a left side where no blank stands first
+hyphen-left : (text : List ℕ) → BeginsWithNo is_blank text → read_hyphen text ≡ with_left (read_partial text)
+unfolding read_hyphen
+hyphen-left text h = rw (right-none text (with_no-begins is_blank text h)) refl
+
+-- no blank stands first where there is no clean end
+unclean-blank : (text : List ℕ) → is_clean text ≡ false → begins is_blank text ≡ false
+unclean-blank [] h = refl
+unclean-blank (b ∷ rest) h = h
+
+-- ---- words
+
+-- a text without a first byte
+pub no-bytes : (text : List ℕ) → length text < 1 → text ≡ []
+no-bytes [] h = refl
+no-bytes (b ∷ rest) h = absurd (omega arith)
+
+-- a hyphen range, or else a lead and a partial
+abbrev pub comparator_at : List ℕ → Option Word
+comparator_at text = or_else (read_hyphen text) (read_simple text)
+
+-- after no lead, and after one
+at-plain : (text operand : List ℕ) → BeginsWithNo is_blank text → (no_lead, operand) ≡ read_lead text
+    → comparator_at text
+    ≡ or_else (with_left (read_partial operand)) (said no_lead (up_to_clean (read_partial operand)))
+unfolding read_simple
+at-plain text operand solid led =
+    let plain : (read_lead text).0 ≡ no_lead = ap (λ (x : Lead × List ℕ). x.0) (sym led) in
+    let same : operand ≡ text = ap (λ (x : Lead × List ℕ). x.1) led ∙ lead-plain text plain in
+    rw (hyphen-left text solid, ← led, same) refl
+
+at-led : (text operand : List ℕ) (l : Lead) → BeginsWithNo is_blank text → (l, operand) ≡ read_lead text
+    → (l ≡ no_lead → ⊥) → comparator_at text ≡ said l (up_to_clean (read_partial operand))
+unfolding read_simple
+at-led text operand l solid led some =
+    let lead : (read_lead text).0 ≡ l = ap (λ (x : Lead × List ℕ). x.0) (sym led) in
+    rw (hyphen-left text solid, lead-not_partial text (λ none. some (sym lead ∙ none)), ← led) refl
+
+-- where no partial follows, and where no clean end follows the partial
+pub none-missing : (text operand : List ℕ) (l : Lead) → BeginsWithNo is_blank text → (l, operand) ≡ read_lead text
+    → None ≡ read_partial operand → None ≡ comparator_at text
+none-missing text operand l solid led none = elim (lead-cases l) [
+  | inl plain ↦
+      let here : (no_lead, operand) ≡ read_lead text = rw plain at led in
+      rw (at-plain text operand solid here, ← none) refl
+  | inr some ↦ rw (at-led text operand l solid led some, ← none) refl
+]
+
+pub none-unclean : (text operand rest : List ℕ) (l : Lead) (p : Partial) → BeginsWithNo is_blank text
+    → (l, operand) ≡ read_lead text → Some (p, rest) ≡ read_partial operand → is_clean rest ≡ false
+    → None ≡ comparator_at text
+none-unclean text operand rest l p solid led read unclean = elim (lead-cases l) [
+  | inl plain ↦
+      let here : (no_lead, operand) ≡ read_lead text = rw plain at led in
+      rw (at-plain text operand solid here, ← read, unclean, right-none rest (unclean-blank rest unclean)) refl
+  | inr some ↦ rw (at-led text operand l solid led some, ← read, unclean) refl
+]
+
+-- a plain partial before a clean end
+pub word-plain : (text operand rest : List ℕ) (p : Partial) → BeginsWithNo is_blank text
+    → (no_lead, operand) ≡ read_lead text → Some (p, rest) ≡ read_partial operand → is_clean rest ≡ true
+    → or_else (said_hyphen (Some p) (read_right rest)) (Some (lead_comparator no_lead p, rest)) ≡ comparator_at text
+word-plain text operand rest p solid led read clean = rw (at-plain text operand solid led, ← read, clean) refl
+
+-- a partial after a lead, or at the end of the text
+pub word-led : (text operand rest : List ℕ) (l : Lead) (p : Partial) → BeginsWithNo is_blank text
+    → (l, operand) ≡ read_lead text → Some (p, rest) ≡ read_partial operand → is_clean rest ≡ true
+    → (l ≡ no_lead → rest ≡ []) → Some (lead_comparator l p, rest) ≡ comparator_at text
+word-led text operand rest l p solid led read clean end = elim (lead-cases l) [
+  | inl plain ↦
+      let here : (no_lead, operand) ≡ read_lead text = rw plain at led in
+      let none : read_right rest ≡ None = right-none rest (rw (end plain) refl) in
+      rw (plain, at-plain text operand solid here, ← read, clean, none) refl
+  | inr some ↦ rw (at-led text operand l solid led some, ← read, clean) refl
+]
+
+-- ---- first bytes
+
+-- a byte with which no comparator begins
+pub record BeginsNone (b : ℕ) : Type 0 where
+  pub digit : (b < 48) ⊎ (57 < b)
+  pub operator : (b < 60) ⊎ (62 < b)
+  pub caret : b ≢ 94
+  pub tilde : b ≢ 126
+  pub mark : b ≢ 118
+  pub x : (b ≢ 120) × (b ≢ 88) × (b ≢ 42)
+
+not-digit : (b : ℕ) → (b < 48) ⊎ (57 < b) → is_digit b ≡ false
+not-digit b out = elim (cases_Bool (is_digit b)) [
+  | inr none ↦ none
+  | inl digit ↦
+      let parts = and_parts _ _ digit in
+      let low : 48 ≤ b = leb-true 48 b parts.0 in
+      let high : b ≤ 57 = leb-true b 57 parts.1 in
+      absurd (elim out [ inl less ↦ omega arith | inr more ↦ omega arith ])
+]
+
+-- there is no lead
+none-led : (b : ℕ) (text : List ℕ) → BeginsNone b → (no_lead, b ∷ text) ≡ read_lead (b ∷ text)
+unfolding read_lead read_operator
+none-led b text none =
+    let less : b ≢ 60 = elim none.operator [ inl l ↦ omega arith | inr g ↦ omega arith ] in
+    let equals : b ≢ 61 = elim none.operator [ inl l ↦ omega arith | inr g ↦ omega arith ] in
+    let greater : b ≢ 62 = elim none.operator [ inl l ↦ omega arith | inr g ↦ omega arith ] in
+    rw (ne_eqb b 94 none.caret, ne_eqb b 126 none.tilde, ne_eqb b 62 greater, ne_eqb b 61 equals, ne_eqb b 60 less) refl
+
+-- and no partial
+none-partial : (b : ℕ) (text : List ℕ) → is_blank b ≡ false → BeginsNone b → None ≡ read_partial (b ∷ text)
+unfolding read_partial read_components read_component read_number rest_of skip_one
+none-partial b text solid none =
+    let x = none.x in
+    rw (ne_eqb b 118 none.mark, solid, ne_eqb b 120 x.0, ne_eqb b 88 x.1, ne_eqb b 42 x.2, not-digit b none.digit) refl
+
+-- so there is no comparator
+pub none-begins : (text : List ℕ) → BeginsWithNo is_blank text → (0 < length text → BeginsNone (get_or text 0 0))
+    → None ≡ comparator_at text
+unfolding read_hyphen read_simple read_lead read_partial read_right read_components read_component
+    read_number rest_of skip_one
+none-begins [] solid none = refl
+none-begins (b ∷ text) solid none =
+    let begins = none (omega arith) in
+    none-missing (b ∷ text) (b ∷ text) no_lead solid (none-led b text begins) (none-partial b text solid begins)

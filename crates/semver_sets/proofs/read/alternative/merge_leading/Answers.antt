@@ -1,0 +1,24 @@
+use Rattle.std.proofs.Common.{◌≡◌, ℕ, List, None, false, refl, sym, subst}
+use Rattle.std.proofs.lemmas.List.{append-nil}
+use Rattle.semver_sets.specs.Characters.{is_blank}
+use Rattle.semver_sets.specs.Comparator.{Comparator}
+use Rattle.semver_sets.specs.Private.RangeViews.{IsMerged}
+use Rattle.semver_sets.specs.Private.Reading.{begins}
+use Rattle.semver_sets.specs.Private.WordReading.{leading_or_none, read_right}
+use Rattle.semver_sets.proofs.Texts.Prefixes.{begins-with_no, rest_of-none}
+use Rattle.semver_sets.proofs.read.alternative.merge_leading.Goals as goal
+
+-- no hyphen without a left side stands where no blank does
+no-leading : (text : List ℕ) → begins is_blank text ≡ false → leading_or_none (read_right text) text ≡ (None, text)
+unfolding read_right
+no-leading text none = rw none refl
+
+pub returns-in-None-clause-rest : goal.returns-in-None-clause-rest
+returns-in-None-clause-rest c =
+    let text = c.args.text.now in
+    rw (no-leading text c.in-None.ensures.none)
+    (sym (rest_of-none is_blank text (begins-with_no is_blank text c.in-None.ensures.none)))
+
+pub returns-in-None-clause-merged : goal.returns-in-None-clause-merged
+returns-in-None-clause-merged c = rw (no-leading c.args.text.now c.in-None.ensures.none) (λ comparators merged.
+    subst (λ (l : List Comparator). IsMerged l c.args.merged.now) (sym (append-nil comparators)) merged)

@@ -1,0 +1,16 @@
+use Rattle.std.proofs.Common.{◌≡◌, List, [], ◌∷◌, ap, subst, sym}
+use Rattle.semver_cuts.specs.Ends.{Ends}
+use Rattle.semver_sets.specs.RangeSets.{sets_seen}
+use Rattle.semver_sets.specs.Searching.{IsShortSearch}
+use Rattle.semver_sets.specs.Version.{VersionValue}
+use Rattle.semver_sets.proofs.Sets.Openings.{only-short}
+use Rattle.semver_sets.proofs.set_list.Sets.admits.Goals as goal
+
+pub returns-in-One-clause-short : goal.returns-in-One-clause-short
+returns-in-One-clause-short g c =
+    let v = g.V.Asked.asked c.args.version.now in
+    let one : sets_seen c.args.self.now ≡ c.in-One.set ∷ [] = ap sets_seen c.in-One.is in
+    subst (λ (l : List (Ends VersionValue)). IsShortSearch l v c.args.comparisons.now
+    c.admits.new.comparisons) (sym one)
+    (only-short c.in-One.set v c.args.comparisons.now c.admits.new.comparisons c.admits.ensures.short
+    c.admits.ensures.unopened)

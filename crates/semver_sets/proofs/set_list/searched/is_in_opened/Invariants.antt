@@ -1,0 +1,11 @@
+use Rattle.std.proofs.Common.{◌+◌, ◌*◌, ◌≤◌, take}
+use Rattle.semver_cuts.specs.Places.{span_at}
+use Rattle.semver_sets.specs.Meaning.{AnyByRecursion, IsInside}
+use Rattle.semver_sets.proofs.set_list.searched.is_in_opened.Given as goal
+
+abbrev pub invariant-openings : goal.invariant-openings
+invariant-openings g l = record {
+  none : ¬ AnyByRecursion (λ o. IsInside (g.V.Asked.asked l.version) (span_at l.sets o.place))
+      (take l.opening-index l.openings);
+  short : l.comparisons ≤ l.fn.comparisons + 2 * l.opening-index;
+}

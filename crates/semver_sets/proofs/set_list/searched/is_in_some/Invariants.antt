@@ -1,0 +1,22 @@
+use Rattle.std.proofs.Common.{ℕ, ◌-◌, ◌<◌, ◌≤◌, ◌^◌, drop, length, take}
+use Rattle.std.specs.List.{AllByRecursion}
+use Rattle.semver_cuts.specs.declared.cut.Cut.TheVariants.{Before}
+use Rattle.semver_cuts.specs.Ends.{IsCutAtMost, IsCutBelow}
+use Rattle.semver_sets.specs.Comparison.{version_cmp}
+use Rattle.semver_sets.proofs.Sets.Searching.{IsLeft}
+use Rattle.semver_sets.proofs.set_list.searched.is_in_some.Given as goal
+
+abbrev pub invariant-loop-low : goal.invariant-loop-low
+invariant-loop-low g l = record {
+  ordered : l.low ≤ l.high;
+  within : l.high ≤ length l.spans.merged;
+  below : AllByRecursion (λ s. IsCutAtMost version_cmp s.lower (Before (g.V.Asked.asked l.version)))
+      (take l.low l.spans.merged);
+  above : AllByRecursion (λ s. IsCutBelow version_cmp (Before (g.V.Asked.asked l.version)) s.lower)
+      (drop l.high l.spans.merged);
+  steps : (digits : ℕ) → length l.spans.merged < 2 ^ digits
+      → IsLeft l.fn.comparisons l.comparisons digits (l.high - l.low);
+}
+
+abbrev pub decreases-loop-low : goal.decreases-loop-low
+decreases-loop-low g l = l.high - l.low

@@ -1,0 +1,51 @@
+use Rattle.std.proofs.Common.{◌≡◌, ◌<◌, ℕ, Bool, false, List, [], ◌∷◌, None, length, arith, ap, sym, subst, ◌∙◌}
+use Rattle.std.specs.Prelude.{◌==◌}
+use Rattle.semver_sets.specs.Characters.{BeginsWithNo, is_blank}
+use Rattle.semver_sets.specs.Comparator.{Comparator}
+use Rattle.semver_sets.specs.Division.{IsAlternative}
+use Rattle.semver_sets.specs.Private.Reading.{rest_of}
+use Rattle.semver_sets.specs.Private.WordReading.{is_solid, or_else, or_thrown_away, read_hyphen, read_simple}
+use Rattle.semver_sets.specs.Private.WordReading.{read_word}
+use Rattle.semver_sets.proofs.Ranges.DivisionLemmas.{completes-more, completes-nothing, next-shorter}
+use Rattle.semver_sets.proofs.Texts.Prefixes.{rest_of-no}
+use Rattle.semver_sets.proofs.word.skip_thrown_away.Goals as goal
+
+-- a word that begins no comparator
+thrown : (text : List ℕ) → None ≡ or_else (read_hyphen text) (read_simple text)
+    → read_word text ≡ (None, rest_of is_solid text)
+unfolding read_word
+thrown text none = ap (λ w. or_thrown_away w text) (sym none)
+
+-- what the words after it write, the text writes
+later-writes : (text behind : List ℕ) → read_word text ≡ (None, behind) → (comparators : List Comparator)
+    → IsAlternative (rest_of is_blank behind) comparators → IsAlternative text comparators
+later-writes text behind read comparators a =
+    let more = completes-more text [] text None behind (completes-nothing text) read in
+    let all = more.whole a.words a.divided in
+    record { words = all.0; divided = all.1; kept = a.kept ∙ sym all.2 }
+
+some-from_not_empty : (xs : List ℕ) (r : Bool) → r ≡ (length xs == 0) → r ≡ false → 0 < length xs
+some-from_not_empty [] r e f = cc (e, f)
+some-from_not_empty (x ∷ xs) r e f = omega arith
+
+pub words-smaller : goal.words-smaller
+words-smaller c =
+    let rest = c.words.rest.now in
+    let some : 0 < length rest = some-from_not_empty rest c.is_empty.result c.is_empty.ensures c.words-test.true in
+    let read = thrown rest (c.begins_comparator.ensures c.if-not-begins_comparator.true) in
+    let shorter = next-shorter rest None (rest_of is_solid rest) read some in
+    let same = c.skip_blanks-rest.ensures ∙ ap (rest_of is_blank) c.skip_solid.ensures in
+    subst (λ (l : List ℕ). length l < length rest) (sym same) shorter
+
+pub words-preserved : goal.words-preserved
+words-preserved c =
+    let rest = c.words.rest.now in
+    let read = thrown rest (c.begins_comparator.ensures c.if-not-begins_comparator.true) in
+    let same = c.skip_blanks-rest.ensures ∙ ap (rest_of is_blank) c.skip_solid.ensures in
+    record {
+      solid = subst (λ (l : List ℕ). BeginsWithNo is_blank l) (sym c.skip_blanks-rest.ensures)
+          (rest_of-no is_blank c.skip_solid.result.now);
+      later = λ comparators a. c.words.invariant.later comparators
+          (later-writes rest (rest_of is_solid rest) read comparators
+          (subst (λ (l : List ℕ). IsAlternative l comparators) same a));
+    }

@@ -1,0 +1,21 @@
+-- What identifiers, versions and ranges feed a hasher: the build is left out, as equality does not look at it.
+use Rattle.std.specs.Prelude.{List, ◌++◌}
+use Rattle.std.specs.Hash as fed
+use Rattle.std.specs.Hash.{HashWrites}
+use Rattle.semver_cuts.specs.Ends.{Ends}
+use Rattle.semver_cuts.specs.Hash.{span_writes}
+use Rattle.semver_sets.specs.IdentifierValue.{IdentifierValue, numeric, alphanumeric}
+use Rattle.semver_sets.specs.Version.{VersionValue}
+
+-- 0 and the number, or 1 and the text
+abbrev pub identifier_writes : IdentifierValue → HashWrites
+identifier_writes (numeric n) = fed.u8 0 ++ fed.u64 n
+identifier_writes (alphanumeric t) = fed.u8 1 ++ fed.str t
+
+-- major, minor, patch and the prerelease
+abbrev pub version_writes : VersionValue → HashWrites
+version_writes v = fed.u64 v.major ++ fed.u64 v.minor ++ fed.u64 v.patch ++ fed.slice identifier_writes v.pre_release
+
+-- how many sets, and then each by its two ends
+abbrev pub range_writes : List (Ends VersionValue) → HashWrites
+range_writes = fed.slice (span_writes version_writes)

@@ -1,0 +1,48 @@
+-- Identifiers and lists of them, as they are written: SemVer 2.0.0, sections 9 and 10.
+use Rattle.std.specs.Prelude.{◌≡◌, ◌⊎◌, ℕ, ◌^◌, ◌==◌, ◌&&◌, nat_lt, if◌then◌else◌, List, [], ◌∷◌, ◌++◌, map}
+use Rattle.std.specs.List.{AllByRecursion, list_all, slice_split}
+use Rattle.semver_sets.specs.Characters.{AreAll, BeginsWith, BeginsWithNo, hyphen}
+use Rattle.semver_sets.specs.Characters.{is_digit, is_identifier_character, plus, dot}
+use Rattle.semver_sets.specs.IdentifierValue.{IdentifierValue, alphanumeric, numeric}
+use Rattle.semver_sets.specs.NumberText.{number_of}
+
+-- Digits that write a number of 64 bits are that number; every other text stands for itself: `001` is 1, `1a` is a
+-- text.
+abbrev pub identifier_of : List ℕ → IdentifierValue
+identifier_of text =
+    if list_all is_digit text && nat_lt (number_of text) (2 ^ 64) then numeric (number_of text)
+    else alphanumeric text
+
+-- the texts between the dots: `alpha` and `1` of `alpha.1`
+abbrev pub parts_of : List ℕ → List (List ℕ)
+parts_of text = slice_split (λ b. b == dot) text
+
+-- one or more identifier characters
+abbrev pub IsIdentifierText : List ℕ → Type 0
+IsIdentifierText text = BeginsWith is_identifier_character text × AreAll is_identifier_character text
+
+-- identifiers with dots between them: `alpha.1`
+pub record IsIdentifierList (text : List ℕ) (identifiers : List IdentifierValue) : Type 0 where
+  pub parts : AllByRecursion IsIdentifierText (parts_of text)
+  pub values : identifiers ≡ map identifier_of (parts_of text)
+
+-- Nothing, or a list of identifiers after a hyphen, which may be left out where the list doesn't begin with one:
+-- `-alpha.1`, `beta`, `--`
+abbrev pub IsPrereleaseText : List ℕ → List IdentifierValue → Type 0
+IsPrereleaseText text [] = text ≡ []
+IsPrereleaseText text (i ∷ is) = (list : List ℕ)
+    × ((text ≡ hyphen ∷ list) ⊎ ((text ≡ list) × BeginsWithNo (λ b. b == hyphen) list))
+    × IsIdentifierList list (i ∷ is)
+
+-- nothing, or `+` and a list of identifiers: `+build.5`
+abbrev pub IsBuildText : List ℕ → List IdentifierValue → Type 0
+IsBuildText text [] = text ≡ []
+IsBuildText text (i ∷ is) = (list : List ℕ) × (text ≡ plus ∷ list) × IsIdentifierList list (i ∷ is)
+
+-- what may follow a triple, a prerelease and a build: `-alpha.1+build.5`
+pub record IsExtrasText (text : List ℕ) (prerelease build : List IdentifierValue) : Type 0 where
+  pub prefix : List ℕ
+  pub rest : List ℕ
+  pub whole : text ≡ prefix ++ rest
+  pub first : IsPrereleaseText prefix prerelease
+  pub second : IsBuildText rest build

@@ -1,0 +1,46 @@
+-- Equal identifiers, equal versions and equal ranges are fed alike.
+use Rattle.std.proofs.Common.{◌≡◌, ◌++◌, ℕ, true, List, ap, sym}
+use Rattle.std.specs.Hash as fed
+use Rattle.std.specs.Hash.{items_Alike}
+use Rattle.std.specs.Ordering.{eq_by_cmp}
+use Rattle.std.specs.Cmp.{Equal-is}
+use Rattle.semver_cuts.specs.Ends.{Ends}
+use Rattle.semver_cuts.specs.Lemmas.Hash.{span_alike}
+use Rattle.semver_sets.specs.IdentifierValue.{IdentifierValue}
+use Rattle.semver_sets.specs.Version.{VersionValue}
+use Rattle.semver_sets.specs.Comparison.{identifier_cmp, version_cmp}
+use Rattle.semver_sets.specs.Lemmas.Order.{identifier-IsAntisymmetric, Equal-version}
+use Rattle.semver_sets.specs.Hash.{identifier_writes, range_writes, version_writes}
+use Rattle.semver_sets.specs.RangeEquality.{are_same_cuts}
+use Rattle.semver_sets.specs.Identifier.{value_of, values_of}
+use Rattle.semver_sets.specs.declared.identifier.Identifier.{Identifier}
+use Rattle.std.specs.Cmp.Derive.Mapped.{items_map}
+
+pub identifier_alike : (a b : IdentifierValue) → eq_by_cmp identifier_cmp a b ≡ true
+    → identifier_writes a ≡ identifier_writes b
+identifier_alike a b e = ap identifier_writes (identifier-IsAntisymmetric a b ((Equal-is (identifier_cmp a b)).0 e))
+
+pub version_alike : (v w : VersionValue) → eq_by_cmp version_cmp v w ≡ true → version_writes v ≡ version_writes w
+version_alike v w e = let s = Equal-version v w ((Equal-is (version_cmp v w)).0 e) in
+    λ i. fed.u64 (s.triple.major i) ++ fed.u64 (s.triple.minor i) ++ fed.u64 (s.triple.patch i)
+    ++ fed.slice identifier_writes (s.pre_release i)
+
+pub range_alike : (one other : List (Ends VersionValue)) → are_same_cuts one other ≡ true
+    → range_writes one ≡ range_writes other
+range_alike = (items_Alike (record { fed = span_alike version_cmp version_alike })).fed
+
+-- the identifiers of a version, one by one
+pub version_writes-fields : (major minor patch : ℕ) (identifiers : List Identifier) (build : List IdentifierValue)
+    → fed.u64 major ++ fed.u64 minor ++ fed.u64 patch
+    ++ fed.slice (λ (x : Identifier). identifier_writes (value_of x)) identifiers
+    ≡ version_writes (record {
+      major = major;
+      minor = minor;
+      patch = patch;
+      pre_release =
+          values_of identifiers;
+      build = build;
+    })
+version_writes-fields major minor patch identifiers build =
+    ap (λ r. fed.u64 major ++ fed.u64 minor ++ fed.u64 patch ++ r)
+    (sym (items_map value_of identifier_writes identifiers))

@@ -1,0 +1,16 @@
+-- Numbers of a version, as they are written.
+use Rattle.std.specs.Prelude.{◌≡◌, ℕ, ◌≤◌, List}
+use Rattle.std.specs.Str.Parse.{digits_value}
+use Rattle.semver_sets.specs.declared.TheConstants.{MAX_SAFE_INTEGER}
+use Rattle.semver_sets.specs.Characters.{AreAll, BeginsWith, is_digit}
+
+-- the number that a text of digits writes, leading zeros or not: 7 for `007`
+abbrev pub number_of : List ℕ → ℕ
+number_of digits = digits_value 10 digits
+
+-- one or more digits, which write a number of at most MAX_SAFE_INTEGER: `12`, `012`
+pub record IsNumberText (text : List ℕ) (number : ℕ) : Type 0 where
+  pub some : BeginsWith is_digit text
+  pub digits : AreAll is_digit text
+  pub value : number ≡ number_of text
+  pub limit : number ≤ MAX_SAFE_INTEGER

@@ -1,0 +1,65 @@
+-- Partials, as they are written: npm's "X-Ranges" and "Range Grammar".
+use Rattle.std.specs.Prelude.{◌≡◌, ℕ, true, List, [], ◌∷◌, ◌++◌, Option, Some, None, unwrap_or}
+use Rattle.semver_sets.specs.Characters.{AreAll, dot, is_blank, is_partial_mark, is_x}
+use Rattle.semver_sets.specs.IdentifierValue.{IdentifierValue}
+use Rattle.semver_sets.specs.NumberText.{IsNumberText}
+use Rattle.semver_sets.specs.Version.{VersionValue}
+use Rattle.semver_sets.specs.VersionText.{HasThreeParts, IsMarked}
+
+-- A version of which components may be absent. An x counts as absent, as one that isn't written does: `1`, `1.x`,
+-- `1.2.x-beta`
+pub record Partial : Type 0 where
+  pub major : Option ℕ
+  pub minor : Option ℕ
+  pub patch : Option ℕ
+  pub pre_release : List IdentifierValue
+  pub build : List IdentifierValue
+
+-- components without extras
+abbrev pub plain_partial : Option ℕ → Option ℕ → Option ℕ → Partial
+plain_partial major minor patch = record { major = major; minor = minor; patch = patch; pre_release = []; build = [] }
+
+-- a component: a number, or an x, which is an absent one
+abbrev pub IsComponentText : List ℕ → Option ℕ → Type 0
+IsComponentText text (Some number) = IsNumberText text number
+IsComponentText text None = (b : ℕ) × (text ≡ b ∷ []) × (is_x b ≡ true)
+
+-- two components with a dot between them: `1.2`, `1.x`
+pub record HasTwoParts (text : List ℕ) (major minor : Option ℕ) : Type 0 where
+  pub first : List ℕ
+  pub second : List ℕ
+  pub whole : text ≡ first ++ (dot ∷ second)
+  pub major_text : IsComponentText first major
+  pub minor_text : IsComponentText second minor
+
+-- one, two or three components with dots between them; extras can follow the third alone
+pub data IsUnmarkedPartial (p : Partial) (text : List ℕ) : Type 0 where
+  -- `1`, `x`
+  one : (major : Option ℕ) → p ≡ plain_partial major None None → IsComponentText text major → IsUnmarkedPartial p text
+  -- `1.2`, `1.x`
+  two : (major minor : Option ℕ) → p ≡ plain_partial major minor None → HasTwoParts text major minor
+      → IsUnmarkedPartial p text
+  -- `1.2.3-beta+5`, `1.2.x3`
+  three : HasThreeParts IsComponentText text p.major p.minor p.patch p.pre_release p.build → IsUnmarkedPartial p text
+
+-- a `v` or none, blanks or none, and components: `v 1.2.x`
+abbrev pub IsPartialText : List ℕ → Partial → Type 0
+IsPartialText text p = IsMarked is_partial_mark (IsUnmarkedPartial p) text
+
+-- the version with the numbers of a partial, 0 for each absent one, and its extras: `1.2.0-beta` of `1.2.x-beta`
+abbrev pub zeroed : Partial → VersionValue
+zeroed p = record {
+  major = unwrap_or p.major 0;
+  minor = unwrap_or p.minor 0;
+  patch = unwrap_or p.patch 0;
+  pre_release = p.pre_release;
+  build = p.build;
+}
+
+-- an operator of a word, blanks or none, and a partial: `>= v1.2`
+pub record IsLed (lead text : List ℕ) (p : Partial) : Type 0 where
+  pub blanks : List ℕ
+  pub operand : List ℕ
+  pub whole : text ≡ lead ++ (blanks ++ operand)
+  pub blank : AreAll is_blank blanks
+  pub read : IsPartialText operand p

@@ -1,0 +1,35 @@
+-- What is seen of what stands after the triple of an end, and of identifiers that it lends.
+use Rattle.std.specs.Prelude.{List, [], ◌∷◌}
+use Rattle.semver_cuts.specs.declared.cut.Cut.{Cut}
+use Rattle.semver_cuts.specs.declared.cut.Cut.TheVariants.{After, Before, End, Start}
+use Rattle.semver_sets.specs.Identifier.{values_of}
+use Rattle.semver_sets.specs.IdentifierValue.{IdentifierValue, numeric}
+use Rattle.semver_sets.specs.declared.end.lent.Lent.{Lent}
+use Rattle.semver_sets.specs.declared.end.lent.Lent.TheVariants.{List as ListLent, Zero as ZeroLent}
+use Rattle.semver_sets.specs.declared.end.Extras.{Extras}
+use Rattle.semver_sets.specs.declared.end.Extras.TheVariants.{Lists, Nothing, Zero}
+use Rattle.semver_sets.specs.Version.{HasSameTriple, VersionValue}
+
+-- the prerelease
+abbrev pub prerelease_seen : Extras → List IdentifierValue
+prerelease_seen Nothing = []
+prerelease_seen Zero = numeric 0 ∷ []
+prerelease_seen (Lists lists) = values_of lists.value.pre_release.items
+
+-- the build
+abbrev pub build_seen : Extras → List IdentifierValue
+build_seen Nothing = []
+build_seen Zero = []
+build_seen (Lists lists) = values_of lists.value.build.items
+
+-- the identifiers that are lent
+abbrev pub lent_seen : Lent → List IdentifierValue
+lent_seen (ListLent identifiers) = values_of identifiers.now
+lent_seen ZeroLent = numeric 0 ∷ []
+
+-- the cut stands at a version of the same triple
+abbrev pub IsAtTriple : Cut VersionValue → VersionValue → Type 0
+IsAtTriple (Before v) w = HasSameTriple v w
+IsAtTriple (After v) w = HasSameTriple v w
+IsAtTriple Start w = ⊥
+IsAtTriple End w = ⊥

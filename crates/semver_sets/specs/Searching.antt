@@ -1,0 +1,48 @@
+-- How many comparisons a search in a range takes: for a release by halving among the sets joined to spans that are
+-- apart, for a prerelease in the sets with an end that opens its triple.
+use Rattle.std.specs.Prelude.{ℕ, ◌+◌, ◌*◌, ◌^◌, ◌<◌, ◌≤◌, ◌==◌, ◌&&◌, ◌||◌, Bool, true, false, List, [], ◌∷◌, count_by}
+use Rattle.semver_cuts.specs.declared.cut.Cut.{Cut}
+use Rattle.semver_cuts.specs.declared.cut.Cut.TheVariants.{Start, Before, After, End}
+use Rattle.semver_cuts.specs.Ends.{Ends}
+use Rattle.semver_cuts.specs.Starts.{count_of_starts}
+use Rattle.semver_sets.specs.Comparison.{version_cmp}
+use Rattle.semver_sets.specs.IdentifierValue.{IdentifierValue}
+use Rattle.semver_sets.specs.Version.{IsPrerelease, VersionValue}
+
+-- ---- the tests of what `Meaning` says of ends
+
+abbrev pub has_identifiers : List IdentifierValue → Bool
+has_identifiers [] = false
+has_identifiers (first ∷ others) = true
+
+-- the test of `HasSameTriple`
+abbrev pub has_same_triple : VersionValue → VersionValue → Bool
+has_same_triple v w = (v.major == w.major) && (v.minor == w.minor) && (v.patch == w.patch)
+
+-- the test of `Opens`
+abbrev pub opens : Cut VersionValue → VersionValue → Bool
+opens Start v = false
+opens (Before p) v = has_identifiers p.pre_release && has_same_triple p v
+opens (After p) v = has_identifiers p.pre_release && has_same_triple p v
+opens End v = false
+
+-- the test of `HasOpenEnd`
+abbrev pub has_open_end : VersionValue → Ends VersionValue → Bool
+has_open_end v set = opens set.lower v || opens set.upper v
+
+-- ---- counts
+
+-- how many of the sets have an end that opens the version's triple
+abbrev pub count_of_opening : VersionValue → List (Ends VersionValue) → ℕ
+count_of_opening v sets = count_by (has_open_end v) sets
+
+-- the number has at most that many binary digits: 5 has 3
+abbrev pub HasDigits : ℕ → ℕ → Type 0
+HasDigits number digits = number < 2 ^ digits
+
+-- for a release at most the binary digits of how many spans the sets are joined to, and one more; for a prerelease two
+-- for each set with an end that opens its triple
+pub record IsShortSearch (sets : List (Ends VersionValue)) (v : VersionValue) (before after : ℕ) : Type 0 where
+  pub release : ¬ IsPrerelease v → (digits : ℕ) → HasDigits (count_of_starts version_cmp sets) digits
+      → after ≤ before + digits + 1
+  pub prerelease : IsPrerelease v → after ≤ before + 2 * count_of_opening v sets

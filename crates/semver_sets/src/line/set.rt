@@ -1,0 +1,82 @@
+//! The text of a set in one array, written from its end, where its ends have no lists.
+ghost use Rattle.std.specs.Prelude.{◌≡◌, ◌+◌, ◌≤◌, ◌∷◌, ◌++◌, IfSome, codes, drop};
+ghost use Rattle.semver_sets.specs.Print.{version_text};
+ghost use Rattle.semver_sets.specs.RangePrint.{set_text};
+ghost use Rattle.semver_sets.specs.declared.line.TheConstants.{ROOM, VERSION_ROOM};
+
+use crate::end::{End, Extras};
+use crate::line::{ROOM, put_byte, put_number, put_triple};
+use semver_cuts::{Cut, Span};
+use std::str;
+
+/// The set's text, written into the array.
+///
+/// `None` where it is not like `>=1.2.3 <2.0.0-0`, `1.2.3` or `>=1.2.3`, or an end has a build or a prerelease other
+/// than 0.
+#[inline]
+pub fn line_of<'a>(line: &'a mut [u8; ROOM], set: &Span<End>) -> Option<&'a str>
+    ensures { IfSome result (λ text. text.now ≡ set_text set.now) }
+{
+    let start = put_set(line, set)?;
+    str::from_utf8(&line[start..]).ok()
+}
+
+// Puts the set's text at the end of the line, and says where it begins.
+#[inline]
+fn put_set(line: &mut [u8; ROOM], set: &Span<End>) -> Option<usize>
+    ensures place { IfSome result (λ start. start ≤ ROOM) }
+    ensures text { IfSome result (λ start. drop start line.new ≡ set_text set.now) }
+{
+    match (set.lower(), set.upper()) {
+        (Cut::Before(low), Cut::Before(high)) => {
+            let at = put_below(line, high)?;
+            let at = put_byte(line, at, b' ');
+            put_at_least(line, at, low)
+        }
+        (Cut::Before(low), Cut::After(high)) if low == high => put_version(line, ROOM, low),
+        (Cut::Before(low), Cut::End) => put_at_least(line, ROOM, low),
+        _ => None,
+    }
+}
+
+// `>=1.2.3`
+#[inline]
+fn put_at_least(line: &mut [u8; ROOM], end: usize, version: &End) -> Option<usize>
+    requires { (VERSION_ROOM + 2 ≤ end) × (end ≤ ROOM) }
+    ensures place { IfSome result (λ start. start ≤ end) }
+    ensures text { IfSome result (λ start.
+        drop start line.new ≡ codes ">=" ++ (version_text version.now ++ drop end line.old)) }
+{
+    let at = put_version(line, end, version)?;
+    let at = put_byte(line, at, b'=');
+    Some(put_byte(line, at, b'>'))
+}
+
+// `<2.0.0-0`, at the end of the line
+#[inline]
+fn put_below(line: &mut [u8; ROOM], version: &End) -> Option<usize>
+    ensures place { IfSome result (λ start. (ROOM ≤ start + VERSION_ROOM + 1) × (start ≤ ROOM)) }
+    ensures text { IfSome result (λ start. drop start line.new ≡ codes "<" ++ version_text version.now) }
+{
+    let at = put_version(line, ROOM, version)?;
+    Some(put_byte(line, at, b'<'))
+}
+
+// `1.2.3` and `1.2.3-0`
+#[inline]
+fn put_version(line: &mut [u8; ROOM], end: usize, version: &End) -> Option<usize>
+    requires { (VERSION_ROOM ≤ end) × (end ≤ ROOM) }
+    ensures place { IfSome result (λ start. (start ≤ end) × (end ≤ start + VERSION_ROOM)) }
+    ensures text { IfSome result (λ start. drop start line.new ≡ version_text version.now ++ drop end line.old) }
+{
+    let triple = (version.major, version.minor, version.patch);
+    match &version.extras {
+        Extras::Nothing => Some(put_triple(line, end, triple)),
+        Extras::Zero => {
+            let at = put_number(line, end, 0);
+            let at = put_byte(line, at, b'-');
+            Some(put_triple(line, at, triple))
+        }
+        Extras::Lists(_) => None,
+    }
+}

@@ -1,0 +1,66 @@
+ghost use Rattle.std.specs.Prelude.{◌≡◌, length};
+ghost use Rattle.semver_sets.specs.Characters as Characters;
+ghost use Rattle.semver_sets.specs.Private.Reading as Reading;
+ghost use Rattle.semver_sets.specs.Private.ReadingViews.{seen};
+ghost use Rattle.semver_sets.specs.declared.parse.fault.Fault.TheVariants.{Missing, TooLarge};
+
+use crate::MAX_SAFE_INTEGER;
+use crate::parse::Fault;
+use crate::parse::skip::split;
+
+// `0` to `9`
+#[inline(always)]
+pub(crate) fn is_digit(byte: u8) -> bool
+    ensures { result ≡ Characters.is_digit byte }
+{
+    byte.is_ascii_digit()
+}
+
+// 12 and `.3` of `12.3`: all the digits that stand together
+#[inline(always)]
+#[tactic(auto, unfolding(crate::specs::Private::Reading::prefix_of, crate::specs::Private::Reading::rest_of, crate::specs::Private::Reading::read_number))]
+pub(crate) fn read_number(text: &[u8]) -> Result<(u64, &[u8]), Fault>
+    ensures { seen result ≡ Reading.read_number text.now }
+{
+    let Some((first, others)) = text.split_first() else {
+        return Err(missing(text));
+    };
+    if !is_digit(*first) {
+        return Err(missing(text));
+    }
+    let mut value = u64::from(*first - b'0');
+    let mut rest = others;
+    'digits: while let Some((byte, others)) = rest.split_first()
+        && is_digit(*byte)
+    {
+        value = value * 10 + u64::from(*byte - b'0');
+        if value > MAX_SAFE_INTEGER {
+            return Err(too_large(text));
+        }
+        rest = others;
+    }
+    Ok((value, rest))
+}
+
+// A number or a dot must stand here.
+#[inline(always)]
+pub(crate) fn missing(text: &[u8]) -> Fault
+    ensures { result ≡ Missing (length text.now) }
+{
+    Fault::Missing(text.len())
+}
+
+// The digits at the start write a number that is too large.
+#[inline(always)]
+fn too_large(text: &[u8]) -> Fault
+    ensures { result ≡ TooLarge (length text.now) }
+{
+    Fault::TooLarge(text.len())
+}
+
+/// All the digits at the start: `12` of `12.3`.
+pub fn leading_digits(text: &[u8]) -> &[u8]
+    ensures { result.now ≡ Reading.prefix_of Characters.is_digit text.now }
+{
+    split(text, is_digit).0
+}

@@ -1,0 +1,160 @@
+//! Partials: versions of which components may be absent. Nothing is built: a partial keeps the text of its extras,
+//! which is gone over once to see where the word ends, and read where the word's versions are built.
+//!
+//! What is `#[inline(always)]` keeps numbers and shapes in registers on the way through the readers of words.
+ghost use Rattle.std.specs.Prelude.{◌≡◌, IfSome};
+ghost use Rattle.semver_sets.specs.Characters.{is_blank, is_partial_mark};
+ghost use Rattle.semver_sets.specs.Private.Reading.{read_extras, rest_of, skip_one};
+ghost use Rattle.semver_sets.specs.Private.WordReading as Reading;
+ghost use Rattle.semver_sets.specs.Private.WordViews.{IsComponentSound, IsSound, component_seen, component_value};
+ghost use Rattle.semver_sets.specs.Private.WordViews.{has_major, has_minor, has_patch, partial_seen, read_partial_seen};
+
+use crate::parse::extras::skip_extras;
+use crate::parse::number::{is_digit, read_number};
+use crate::parse::skip::{skip_blanks, skip_one};
+
+// Which components of a partial are numbers.
+#[derive(Clone, Copy)]
+pub(crate) enum Shape {
+    // `1.2.3`
+    Full,
+    // `1.2`, `1.2.x`
+    MajorMinor,
+    // `1.x.3`
+    MajorPatch,
+    // `1`, `1.x`, `1.x.x`
+    Major,
+    // `x.2.3`
+    MinorPatch,
+    // `x.2`, `x.2.x`
+    Minor,
+    // `x.x.3`
+    Patch,
+    // `x`, `x.x`, `x.x.x`
+    Nothing,
+}
+
+// `1.2.x` of `1.2.x-alpha <2`: the numbers, each 0 where it is absent, and the text that begins with the extras.
+#[derive(Clone, Copy)]
+pub(crate) struct Partial<'a> {
+    pub(crate) major: u64,
+    pub(crate) minor: u64,
+    pub(crate) patch: u64,
+    pub(crate) shape: Shape,
+    pub(crate) extras: &'a [u8],
+}
+
+// A number, or 0 where it is absent.
+#[derive(Clone, Copy)]
+pub(crate) struct Component {
+    number: u64,
+    is_number: bool,
+}
+
+const ABSENT: Component = Component {
+    number: 0,
+    is_number: false,
+};
+
+// `1` and `.2` of `1.2`, an absent one and `.2` of `x.2`
+#[inline(always)]
+#[tactic(auto, unfolding(crate::specs::Private::WordReading::read_component))]
+fn read_component(text: &[u8]) -> Option<(Component, &[u8])>
+    ensures read { component_seen result ≡ Reading.read_component text.now }
+    ensures sound { IfSome result (λ r. IsComponentSound r.0) }
+{
+    match text {
+        [first, ..] if is_digit(*first) => {
+            let (number, rest) = read_number(text).ok()?;
+            let component = Component {
+                number,
+                is_number: true,
+            };
+            Some((component, rest))
+        }
+        [b'x' | b'X' | b'*', rest @ ..] => Some((ABSENT, rest)),
+        _ => None,
+    }
+}
+
+#[inline(always)]
+fn shape_of(major: bool, minor: bool, patch: bool) -> Shape
+    ensures major { has_major result ≡ major }
+    ensures minor { has_minor result ≡ minor }
+    ensures patch { has_patch result ≡ patch }
+{
+    match (major, minor, patch) {
+        (true, true, true) => Shape::Full,
+        (true, true, false) => Shape::MajorMinor,
+        (true, false, true) => Shape::MajorPatch,
+        (true, false, false) => Shape::Major,
+        (false, true, true) => Shape::MinorPatch,
+        (false, true, false) => Shape::Minor,
+        (false, false, true) => Shape::Patch,
+        (false, false, false) => Shape::Nothing,
+    }
+}
+
+#[inline(always)]
+fn partial_of(major: Component, minor: Component, patch: Component, extras: &[u8]) -> Partial
+    ensures seen { partial_seen result ≡ Reading.with_extras (component_value major) (component_value minor)
+        (component_value patch) (read_extras extras.now).0 }
+    ensures sound { IsComponentSound major → IsComponentSound minor → IsComponentSound patch → IsSound result }
+{
+    Partial {
+        major: major.number,
+        minor: minor.number,
+        patch: patch.number,
+        shape: shape_of(major.is_number, minor.is_number, patch.is_number),
+        extras,
+    }
+}
+
+// The text without its `v`, where it begins with one.
+#[inline(always)]
+fn skip_partial_mark(text: &[u8]) -> &[u8]
+    ensures { result.now ≡ skip_one is_partial_mark text.now }
+{
+    skip_one(text, |byte| byte == b'v')
+}
+
+// `1.2` of `v 1.2`. Most texts have neither a mark nor blanks, and begin with a digit.
+#[inline(always)]
+#[tactic(auto, unfolding(crate::specs::Private::Reading::skip_one))]
+fn skip_to_components(text: &[u8]) -> &[u8]
+    ensures { result.now ≡ rest_of is_blank (skip_one is_partial_mark text.now) }
+{
+    match text {
+        [first, ..] if is_digit(*first) => text,
+        _ => skip_blanks(skip_partial_mark(text)),
+    }
+}
+
+// `v 1.2.x` and ` <2` of `v 1.2.x-alpha <2`
+#[inline(always)]
+#[tactic(auto, unfolding(crate::specs::Private::WordReading::read_partial))]
+pub(crate) fn read_partial(text: &[u8]) -> Option<(Partial, &[u8])>
+    ensures read { read_partial_seen result ≡ Reading.read_partial text.now }
+    ensures sound { IfSome result (λ r. IsSound r.0) }
+{
+    read_components(skip_to_components(text))
+}
+
+// `1.2.x` and ` <2` of `1.2.x-alpha <2`
+#[inline(always)]
+fn read_components(text: &[u8]) -> Option<(Partial, &[u8])>
+    ensures read { read_partial_seen result ≡ Reading.read_components text.now }
+    ensures sound { IfSome result (λ r. IsSound r.0) }
+{
+    let none = &text[..0];
+    let (major, rest) = read_component(text)?;
+    let [b'.', rest @ ..] = rest else {
+        return Some((partial_of(major, ABSENT, ABSENT, none), rest));
+    };
+    let (minor, rest) = read_component(rest)?;
+    let [b'.', rest @ ..] = rest else {
+        return Some((partial_of(major, minor, ABSENT, none), rest));
+    };
+    let (patch, extras) = read_component(rest)?;
+    Some((partial_of(major, minor, patch, extras), skip_extras(extras)))
+}

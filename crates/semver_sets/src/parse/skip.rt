@@ -1,0 +1,98 @@
+//! What stands at the start of a text and is gone over: runs of bytes that pass a test, and marks of one byte.
+//!
+//! What is `#[inline(always)]` takes a test that is then part of the loop.
+ghost use Rattle.std.specs.Prelude.{◌≡◌, ℕ, Bool, false, IfSome, IfNone, IsTrue};
+ghost use Rattle.semver_sets.specs.Characters as Characters;
+ghost use Rattle.semver_sets.specs.Private.Reading as Reading;
+ghost use Rattle.semver_sets.specs.Private.ReadingViews.{IsTest};
+ghost use Rattle.semver_sets.specs.Private.WordReading as WordReading;
+
+use memchr::memchr2;
+
+// The longest prefix whose bytes all pass, and the rest.
+#[inline(always)]
+pub(crate) fn split<F: Fn(u8) -> bool>(text: &[u8], passes: F) -> (&[u8], &[u8])
+    requires { F.IsAlwaysCallable passes }
+    ensures prefix { (test : ℕ → Bool) → IsTest (F.post passes) test → result.0.now ≡ Reading.prefix_of test text.now }
+    ensures rest { (test : ℕ → Bool) → IsTest (F.post passes) test → result.1.now ≡ Reading.rest_of test text.now }
+{
+    'run: for i in 0..text.len() {
+        if !passes(text[i]) {
+            return (&text[..i], &text[i..]);
+        }
+    }
+    (text, &text[text.len()..])
+}
+
+// The rest from the first byte on that does not pass.
+#[inline(always)]
+pub(crate) fn skip_while<F: Fn(u8) -> bool>(text: &[u8], passes: F) -> &[u8]
+    requires { F.IsAlwaysCallable passes }
+    ensures { (test : ℕ → Bool) → IsTest (F.post passes) test → result.now ≡ Reading.rest_of test text.now }
+{
+    split(text, passes).1
+}
+
+// The rest without the first byte, where that passes.
+#[inline(always)]
+#[tactic(auto, unfolding(crate::specs::Private::Reading::skip_one))]
+pub(crate) fn skip_one<F: Fn(u8) -> bool>(text: &[u8], passes: F) -> &[u8]
+    requires { F.IsAlwaysCallable passes }
+    ensures { (test : ℕ → Bool) → IsTest (F.post passes) test → result.now ≡ Reading.skip_one test text.now }
+{
+    match text {
+        [first, rest @ ..] if passes(*first) => rest,
+        _ => text,
+    }
+}
+
+// A space or a tab.
+#[inline(always)]
+pub(crate) fn is_blank(byte: u8) -> bool
+    ensures { result ≡ Characters.is_blank byte }
+{
+    byte == b' ' || byte == b'\t'
+}
+
+// `1.2` of ` 1.2`
+#[inline(always)]
+pub(crate) fn skip_blanks(text: &[u8]) -> &[u8]
+    ensures { result.now ≡ Reading.rest_of Characters.is_blank text.now }
+{
+    skip_while(text, is_blank)
+}
+
+// The text without the blanks with which it begins, where it begins with one.
+#[inline(always)]
+pub(crate) fn skip_some_blanks(text: &[u8]) -> Option<&[u8]>
+    ensures some { IfSome result (λ rest. IsTrue (Reading.begins Characters.is_blank text.now)
+        × (rest.now ≡ Reading.rest_of Characters.is_blank text.now)) }
+    ensures none { IfNone result (Reading.begins Characters.is_blank text.now ≡ false) }
+{
+    match text {
+        [first, ..] if is_blank(*first) => Some(skip_blanks(text)),
+        _ => None,
+    }
+}
+
+// Whether a word may end before this text.
+#[inline(always)]
+pub(crate) fn begins_clean(text: &[u8]) -> bool
+    ensures { result ≡ WordReading.is_clean text.now }
+{
+    match text {
+        [] => true,
+        [first, ..] => is_blank(*first),
+    }
+}
+
+// ` <2` of `foo <2`
+#[inline]
+pub(crate) fn skip_solid(text: &[u8]) -> &[u8]
+    ensures { result.now ≡ Reading.rest_of WordReading.is_solid text.now }
+{
+    match memchr2(b' ', b'\t', text) {
+        Some(end) => &text[end..],
+        None => &text[text.len()..],
+    }
+}

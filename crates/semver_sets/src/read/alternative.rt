@@ -1,0 +1,130 @@
+//! One alternative of a range text: its words, merged as they are read.
+ghost use Rattle.std.specs.Prelude.{◌≡◌, IfOk, None, OnOk};
+ghost use Rattle.semver_sets.specs.Characters.{BeginsWithNo, is_blank};
+ghost use Rattle.semver_sets.specs.Private.RangeViews.{IsMergedAlternative, IsOneMerged, IsSetOfAlternative};
+ghost use Rattle.semver_sets.specs.Private.Reading.{rest_of};
+ghost use Rattle.semver_sets.specs.Private.WordReading as Reading;
+ghost use Rattle.semver_sets.specs.Private.WordReading.{leading_or_none, read_right};
+ghost use Rattle.semver_sets.specs.Private.WordViews.{ends_seen, word_seen};
+
+use crate::comparator::Merged;
+use crate::end::End;
+use crate::parse::{skip_blanks, skip_solid, skip_some_blanks};
+use crate::word::{WordEnds, begins_comparator, nothing, read_leading_hyphen, read_word};
+use semver_cuts::Span;
+use std::alloc::{AllocError, Global};
+
+// The set of an alternative, if it gives one.
+#[inline(always)]
+pub(crate) fn read_set(alloc: Global, text: &[u8]) -> Result<Option<Span<End>>, AllocError>
+    ensures { IfOk result (λ set. IsSetOfAlternative text.now set) }
+{
+    let mut merged = Merged::new();
+    merge_words(alloc, text, &mut merged)?;
+    Ok(merged.into_set())
+}
+
+// The comparators of an alternative, merged into one.
+fn merge_words(alloc: Global, text: &[u8], merged: &mut Merged) -> Result<(), AllocError>
+    requires { merged.old ≡ None }
+    ensures { OnOk result (IsMergedAlternative text.now merged.new) }
+{
+    let mut rest = merge_leading(alloc, text, merged)?;
+    while !rest.is_empty() {
+        rest = merge_next(alloc, rest, merged)?;
+    }
+    Ok(())
+}
+
+// The text without a hyphen that it begins with, whose comparator is merged. Few texts begin with a blank.
+#[inline(always)]
+fn merge_leading<'a>(
+    alloc: Global,
+    text: &'a [u8],
+    merged: &mut Merged,
+) -> Result<&'a [u8], AllocError>
+    ensures rest { IfOk result (λ rest. rest.now
+        ≡ rest_of is_blank (leading_or_none (read_right text.now) text.now).1) }
+    ensures merged { OnOk result (IsOneMerged merged.old (leading_or_none (read_right text.now) text.now).0
+        merged.new) }
+{
+    match skip_some_blanks(text) {
+        Some(_) => merge_leading_hyphen(alloc, text, merged),
+        None => Ok(text),
+    }
+}
+
+// The same of any text.
+#[inline(never)]
+fn merge_leading_hyphen<'a>(
+    alloc: Global,
+    text: &'a [u8],
+    merged: &mut Merged,
+) -> Result<&'a [u8], AllocError>
+    ensures rest { IfOk result (λ rest. rest.now
+        ≡ rest_of is_blank (leading_or_none (read_right text.now) text.now).1) }
+    ensures merged { OnOk result (IsOneMerged merged.old (leading_or_none (read_right text.now) text.now).0
+        merged.new) }
+{
+    let (ends, rest) = skip_leading_hyphen(text);
+    keep(alloc, merged, ends)?;
+    Ok(skip_blanks(rest))
+}
+
+// The text without its first word, whose comparator is merged, and without the blanks behind that. Where the first byte
+// begins no comparator, nothing is set up to read one.
+#[inline(always)]
+#[tactic(auto, unfolding(crate::specs::Private::WordReading::read_word))]
+fn merge_next<'a>(
+    alloc: Global,
+    text: &'a [u8],
+    merged: &mut Merged,
+) -> Result<&'a [u8], AllocError>
+    requires { BeginsWithNo is_blank text.now }
+    ensures rest { IfOk result (λ rest. rest.now ≡ rest_of is_blank (Reading.read_word text.now).1) }
+    ensures merged { OnOk result (IsOneMerged merged.old (Reading.read_word text.now).0 merged.new) }
+{
+    if begins_comparator(text) {
+        merge_word(alloc, text, merged)
+    } else {
+        Ok(skip_blanks(skip_solid(text)))
+    }
+}
+
+// The same of any word.
+#[inline(never)]
+fn merge_word<'a>(
+    alloc: Global,
+    text: &'a [u8],
+    merged: &mut Merged,
+) -> Result<&'a [u8], AllocError>
+    requires { BeginsWithNo is_blank text.now }
+    ensures rest { IfOk result (λ rest. rest.now ≡ rest_of is_blank (Reading.read_word text.now).1) }
+    ensures merged { OnOk result (IsOneMerged merged.old (Reading.read_word text.now).0 merged.new) }
+{
+    let (ends, rest) = read_word(text);
+    keep(alloc, merged, ends)?;
+    Ok(skip_blanks(rest))
+}
+
+// One comparator more, where a word writes one.
+#[inline(always)]
+fn keep(alloc: Global, merged: &mut Merged, ends: WordEnds) -> Result<(), AllocError>
+    ensures { OnOk result (IsOneMerged merged.old (ends_seen ends.entry) merged.new) }
+{
+    if !ends.is_nothing() {
+        merged.merge(ends.comparator(alloc)?);
+    }
+    Ok(())
+}
+
+// A hyphen without a left side, with which a text may begin: ` - 3`
+#[inline(always)]
+fn skip_leading_hyphen(text: &[u8]) -> (WordEnds, &[u8])
+    ensures { word_seen result ≡ leading_or_none (read_right text.now) text.now }
+{
+    match read_leading_hyphen(text) {
+        Some(word) => word,
+        None => (nothing(), text),
+    }
+}

@@ -1,0 +1,47 @@
+//! The sets of a range text: one for each alternative that gives one.
+ghost use Rattle.std.specs.Prelude.{IfOk, OnOk};
+ghost use Rattle.semver_sets.specs.Merging.{AreSetsOfText};
+ghost use Rattle.semver_sets.specs.Private.RangeViews.{IsOneMore};
+
+use crate::end::End;
+use crate::parse::skip_blanks;
+use crate::read::alternative::read_set;
+use crate::read::pieces::next_piece;
+use semver_cuts::Span;
+use std::alloc::{AllocError, Global};
+
+/// The sets of a text, in the order of its alternatives: one for each that gives one.
+///
+/// # Errors
+///
+/// `AllocError` where memory is refused.
+///
+/// # Memory
+///
+/// Takes the list, and the identifiers of the ends.
+pub fn read_sets(alloc: Global, text: &[u8]) -> Result<Vec<Span<End>>, AllocError>
+    ensures { IfOk result (λ sets. AreSetsOfText text.now sets.items) }
+{
+    let mut sets = Vec::new(alloc);
+    let (piece, mut left) = next_piece(text);
+    add_set(alloc, &mut sets, piece)?;
+    while let Some(rest) = left {
+        let (piece, others) = next_piece(rest);
+        add_set(alloc, &mut sets, skip_blanks(piece))?;
+        left = others;
+    }
+    Ok(sets)
+}
+
+// One set more, where an alternative gives one.
+fn add_set(alloc: Global, sets: &mut Vec<Span<End>>, text: &[u8]) -> Result<(), AllocError>
+    ensures { OnOk result (IsOneMore text.now sets.old.items sets.new.items) }
+{
+    match read_set(alloc, text)? {
+        Some(set) => {
+            sets.push(set)?;
+            Ok(())
+        }
+        None => Ok(()),
+    }
+}

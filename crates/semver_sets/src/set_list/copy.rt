@@ -1,0 +1,50 @@
+//! Copies of sets, and of the cuts at their ends.
+ghost use Rattle.std.specs.Prelude.{◌≡◌, IfOk};
+ghost use Rattle.std.specs.List.{AllByRecursion};
+ghost use Rattle.semver_cuts.specs.Ends.{IsCutBelow, span_between};
+ghost use Rattle.semver_sets.specs.Comparison.{version_cmp};
+ghost use Rattle.semver_sets.specs.RangeSets.{IsRangeSet};
+
+use crate::end::End;
+use semver_cuts::{Cut, Span};
+use std::alloc::AllocError;
+
+pub(crate) fn copies_of(sets: &Vec<Span<End>>) -> Result<Vec<Span<End>>, AllocError>
+    requires { AllByRecursion IsRangeSet sets.now.items }
+    ensures { IfOk result (λ copies. copies.items ≡ sets.now.items) }
+{
+    let mut copies = Vec::with_capacity(*sets.allocator(), sets.len())?;
+    'sets: for set in sets {
+        copies.push(copy_of(set.lower(), set.upper())?)?;
+    }
+    Ok(copies)
+}
+
+/// The set between copies of two cuts.
+///
+/// # Errors
+///
+/// `AllocError` where memory is refused.
+///
+/// # Memory
+///
+/// Takes the identifiers of the ends.
+#[inline]
+pub fn copy_of(lower: &Cut<End>, upper: &Cut<End>) -> Result<Span<End>, AllocError>
+    requires { IsCutBelow version_cmp lower.now upper.now }
+    ensures { IfOk result (λ set. set ≡ span_between lower.now upper.now) }
+{
+    Ok(Span::between(copy_of_cut(lower)?, copy_of_cut(upper)?))
+}
+
+#[inline]
+pub(crate) fn copy_of_cut(cut: &Cut<End>) -> Result<Cut<End>, AllocError>
+    ensures { IfOk result (λ copy. copy ≡ cut.now) }
+{
+    match cut {
+        Cut::Start => Ok(Cut::Start),
+        Cut::Before(end) => Ok(Cut::Before(end.copy()?)),
+        Cut::After(end) => Ok(Cut::After(end.copy()?)),
+        Cut::End => Ok(Cut::End),
+    }
+}

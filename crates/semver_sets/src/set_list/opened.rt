@@ -1,0 +1,133 @@
+//! Which sets of a range open which triples.
+ghost use Rattle.std.specs.Prelude.{◌≡◌, ◌≤◌, ◌*◌, ◌++◌, ◌↔◌, IfOk, OnOk, IsTrue, filter, length};
+ghost use Rattle.std.specs.List.Sorted.{IsSortedByKey};
+ghost use Rattle.semver_sets.specs.Private.SearchViews.{AreOpeningsOf, opened_triple, openings_of, other_than};
+ghost use Rattle.semver_sets.specs.Private.SearchViews.{same_triples, triple_at, triple_cmp};
+
+use crate::end::End;
+use semver_cuts::{Cut, Span};
+use std::alloc::{AllocError, Global};
+
+// A major, a minor and a patch, in this order.
+#[derive(Clone, Copy, Debug, PartialEq, Eq, PartialOrd, Ord)]
+pub(crate) struct Triple {
+    pub(crate) major: u64,
+    pub(crate) minor: u64,
+    pub(crate) patch: u64,
+}
+
+// A triple that an end of a set opens, and the place of the set.
+#[derive(Clone, Copy, Debug)]
+pub(crate) struct Opening {
+    pub(crate) triple: Triple,
+    pub(crate) place: usize,
+}
+
+// For each triple that an end of a set opens, the places of the sets that open it. Where no end opens one, it takes no
+// memory.
+pub(crate) fn openings(alloc: Global, sets: &[Span<End>]) -> Result<Vec<Opening>, AllocError>
+    ensures { IfOk result (λ openings. AreOpeningsOf sets.now openings.items) }
+{
+    let count = count_of(sets);
+    let mut openings = Vec::with_capacity(alloc, count)?;
+    'sets: for (place, set) in sets.iter().enumerate() {
+        add_openings(&mut openings, place, set)?;
+    }
+    openings.sort_by_key(|opening| opening.triple)?;
+    Ok(openings)
+}
+
+// How many there are.
+fn count_of(sets: &[Span<End>]) -> usize {
+    let mut count = 0;
+    'sets: for set in sets {
+        let (lower, upper) = triples_of(set);
+        if lower.is_some() {
+            count += 1;
+        }
+        if upper.is_some() {
+            count += 1;
+        }
+    }
+    count
+}
+
+// Those of the set at a place.
+#[inline]
+fn add_openings(
+    openings: &mut Vec<Opening>,
+    place: usize,
+    set: &Span<End>,
+) -> Result<(), AllocError>
+    ensures { OnOk result (openings.new.items ≡ openings.old.items ++ openings_of place set.now) }
+{
+    let (lower, upper) = triples_of(set);
+    if let Some(triple) = lower {
+        openings.push(Opening { triple, place })?;
+    }
+    if let Some(triple) = upper {
+        openings.push(Opening { triple, place })?;
+    }
+    Ok(())
+}
+
+// The triple that the set's lower end opens, and that of its upper end if it is another.
+#[inline]
+fn triples_of(set: &Span<End>) -> (Option<Triple>, Option<Triple>)
+    ensures lower { result.0 ≡ triple_at set.now.lower }
+    ensures upper { result.1 ≡ other_than (triple_at set.now.lower) (triple_at set.now.upper) }
+{
+    let lower = triple_at(set.lower());
+    let upper = triple_at(set.upper());
+    let other = match (lower, upper) {
+        (Some(lower), Some(upper)) if is_same(lower, upper) => None,
+        _ => upper,
+    };
+    (lower, other)
+}
+
+// The triple that the end opens.
+#[inline]
+fn triple_at(cut: &Cut<End>) -> Option<Triple>
+    ensures { result ≡ triple_at cut.now }
+{
+    match cut {
+        Cut::Before(end) | Cut::After(end) => opened_triple(end),
+        Cut::Start | Cut::End => None,
+    }
+}
+
+// The triple of a prerelease.
+#[inline]
+fn opened_triple(end: &End) -> Option<Triple>
+    ensures { result ≡ opened_triple end.now }
+{
+    if end.is_prerelease() {
+        Some(Triple {
+            major: end.major,
+            minor: end.minor,
+            patch: end.patch,
+        })
+    } else {
+        None
+    }
+}
+
+#[inline(always)]
+fn is_same(one: Triple, other: Triple) -> bool
+    ensures { result ≡ same_triples one other }
+{
+    one.major == other.major && one.minor == other.minor && one.patch == other.patch
+}
+
+// Those of a triple, found by halving.
+#[inline]
+pub(crate) fn openings_at(openings: &[Opening], triple: Triple) -> &[Opening]
+    requires { IsSortedByKey (λ o. o.triple) triple_cmp openings.now }
+    ensures { result.now ≡ filter (λ o. same_triples o.triple triple) openings.now }
+{
+    let begin = openings.partition_point(|opening| opening.triple < triple);
+    let others = &openings[begin..];
+    let end = others.partition_point(|opening| opening.triple <= triple);
+    &others[..end]
+}

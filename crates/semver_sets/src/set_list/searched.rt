@@ -1,0 +1,179 @@
+//! Sets with what finds a version among them.
+ghost use Rattle.std.specs.Prelude.{◌≡◌, ◌↔◌, ℕ, ◌+◌, ◌*◌, ◌≤◌, ◌<◌, IfOk, IsTrue, length};
+ghost use Rattle.std.specs.List.{AllByRecursion};
+ghost use Rattle.semver_cuts.specs.declared.cut.Cut.TheVariants.{Before};
+ghost use Rattle.semver_cuts.specs.Common.{IsInSome};
+ghost use Rattle.semver_cuts.specs.Places.{IsPlacesOf, span_at};
+ghost use Rattle.semver_cuts.specs.Starts.{count_of_starts};
+ghost use Rattle.semver_sets.specs.Comparison.{version_cmp};
+ghost use Rattle.semver_sets.specs.Meaning.{AnyByRecursion, IsInside, RangeAdmits};
+ghost use Rattle.semver_sets.specs.RangeSets.{IsRangeSet};
+ghost use Rattle.semver_sets.specs.Searching.{HasDigits, IsShortSearch};
+ghost use Rattle.semver_sets.specs.Private.SearchViews.{AreOpeningsOf};
+
+use crate::Comparisons;
+use crate::end::End;
+use crate::set::{Asked, has_inside, is_begun};
+use crate::set_list::copy::copies_of;
+use crate::set_list::opened::{Opening, Triple, openings, openings_at};
+use semver_cuts::Span;
+use semver_cuts::algebra::{Merged, Places};
+use std::alloc::{AllocError, Global};
+use std::marker::Model;
+
+/// A list of sets with what finds a version among them: the places of what they are joined to, none where they stand
+/// apart, and which of them open which triples.
+///
+/// A contract sees the list.
+#[derive(Debug, Drop)]
+pub struct Searched {
+    sets: Vec<Span<End>>,
+    places: Places,
+    openings: Vec<Opening>,
+}
+
+impl Model for Searched {
+    ghost use Rattle.std.specs.Prelude.{List};
+    ghost use Rattle.semver_cuts.specs.Ends.{Ends};
+    ghost use Rattle.semver_cuts.specs.Places.{IsPlacesOf};
+    ghost use Rattle.semver_sets.specs.Comparison.{version_cmp};
+    ghost use Rattle.semver_sets.specs.Private.SearchViews.{AreOpeningsOf};
+    ghost use Rattle.semver_sets.specs.Version.{VersionValue};
+
+    ghost Value = { List (Ends VersionValue) };
+
+    ghost view = { λ s. s.sets.items };
+
+    ghost invariant = { λ s. IsPlacesOf version_cmp s.sets.items s.places
+        × AreOpeningsOf s.sets.items s.openings.items };
+}
+
+impl Searched {
+    /// The list with what finds a version in it.
+    ///
+    /// # Errors
+    ///
+    /// `AllocError` where memory is refused.
+    ///
+    /// # Memory
+    ///
+    /// Takes the places and the triples that are opened.
+    pub fn of(alloc: Global, sets: Vec<Span<End>>) -> Result<Searched, AllocError>
+        ensures { IfOk result (λ searched. searched ≡ sets.items) }
+    {
+        let places = Places::of(alloc, &sets)?;
+        let openings = openings(alloc, &sets)?;
+        Ok(Searched {
+            sets,
+            places,
+            openings,
+        })
+    }
+
+    #[inline(always)]
+    pub(crate) fn as_slice(&self) -> &[Span<End>]
+        ensures { result.now ≡ self.now }
+    {
+        &self.sets
+    }
+
+    // The list with what its sets are joined to.
+    #[inline(always)]
+    pub(crate) fn merged(&self) -> Merged<'_, '_, End>
+        ensures { result.list ≡ self.now }
+    {
+        Merged::with(&self.sets, &self.places)
+    }
+
+    /// A copy of the list, and of what finds a version in it.
+    ///
+    /// # Errors
+    ///
+    /// `AllocError` where memory is refused.
+    ///
+    /// # Memory
+    ///
+    /// Takes as much as the list does.
+    pub fn copy(&self) -> Result<Searched, AllocError>
+        requires { AllByRecursion IsRangeSet self.now }
+        ensures { IfOk result (λ copy. copy ≡ self.now) }
+    {
+        let sets = copies_of(&self.sets)?;
+        let places = self.places.clone()?;
+        let openings = Vec::from_slice(*self.openings.allocator(), &self.openings)?;
+        Ok(Searched {
+            sets,
+            places,
+            openings,
+        })
+    }
+
+    // Whether one of the sets admits a version: a release is looked for among the merged spans, and a prerelease in the
+    // sets with an end that opens its triple.
+    #[inline(never)]
+    pub(crate) fn admits<V: Asked>(&self, version: &V, comparisons: &mut Comparisons) -> bool
+        ensures answer { IsTrue result ↔ RangeAdmits self.now (V.asked version.now) }
+        ensures short { IsShortSearch self.now (V.asked version.now) comparisons.old comparisons.new }
+    {
+        if !version.is_prerelease() {
+            return is_in_some(&self.merged(), version, comparisons);
+        }
+        let (major, minor, patch) = version.triple();
+        let triple = Triple {
+            major,
+            minor,
+            patch,
+        };
+        let openings = openings_at(&self.openings, triple);
+        is_in_opened(&self.sets, openings, version, comparisons)
+    }
+}
+
+// Whether a version lies in one of the spans, found by halving: among the merged spans it lies in the last that begins
+// before it, or in none.
+fn is_in_some<V: Asked>(
+    spans: &Merged<'_, '_, End>,
+    version: &V,
+    comparisons: &mut Comparisons,
+) -> bool
+    ensures inside { IsTrue result ↔ IsInSome version_cmp spans.now.list (Before (V.asked version.now)) }
+    ensures short { (digits : ℕ) → HasDigits (count_of_starts version_cmp spans.now.list) digits →
+        comparisons.new ≤ comparisons.old + digits + 1 }
+{
+    let mut low = 0;
+    let mut high = spans.len();
+    while low < high {
+        let middle = low + (high - low) / 2;
+        let (lower, _) = spans.ends(middle);
+        if is_begun(lower, version, comparisons) {
+            low = middle + 1;
+        } else {
+            high = middle;
+        }
+    }
+    if low == 0 {
+        return false;
+    }
+    let (_, upper) = spans.ends(low - 1);
+    !is_begun(upper, version, comparisons)
+}
+
+// Whether a version lies in a set at one of the places.
+fn is_in_opened<V: Asked>(
+    sets: &[Span<End>],
+    openings: &[Opening],
+    version: &V,
+    comparisons: &mut Comparisons,
+) -> bool
+    requires { AllByRecursion (λ o. o.place < length sets.now) openings.now }
+    ensures inside { IsTrue result
+        ↔ AnyByRecursion (λ o. IsInside (V.asked version.now) (span_at sets.now o.place)) openings.now }
+    ensures short { comparisons.new ≤ comparisons.old + 2 * length openings.now }
+{
+    'openings: for opening in openings {
+        if has_inside(&sets[opening.place], version, comparisons) {
+            return true;
+        }
+    }
+    false
+}

@@ -1,0 +1,107 @@
+//! The words of a range text, and the comparator that each of them writes.
+ghost use Rattle.std.specs.Prelude.{◌≡◌, List, None, Some, false};
+ghost use Rattle.semver_sets.specs.Comparator.{Comparator};
+ghost use Rattle.semver_sets.specs.Division.{IsAlternative};
+ghost use Rattle.semver_sets.specs.Characters.{BeginsWithNo, is_blank};
+ghost use Rattle.semver_sets.specs.Private.WordReading as Reading;
+ghost use Rattle.semver_sets.specs.Private.WordViews.{IsSound, ends_seen, partial_seen, some_word_seen, word_seen};
+
+mod caret;
+mod ends;
+mod hyphen;
+mod lead;
+mod operator;
+mod plain;
+mod tilde;
+
+use crate::parse::{Partial, begins_clean, read_partial, skip_blanks, skip_solid};
+pub(crate) use ends::{WordEnds, nothing};
+pub(crate) use hyphen::read_leading_hyphen;
+use hyphen::{hyphen_ends, read_right};
+use lead::{Lead, lead_ends, read_lead};
+use plain::plain_ends;
+
+// `>=1.2.3` of `>=1.2.3 <2`, or nothing of `foo`, and the rest
+#[inline(always)]
+#[tactic(auto, unfolding(crate::specs::Private::WordReading::read_word))]
+pub(crate) fn read_word(text: &[u8]) -> (WordEnds, &[u8])
+    requires { BeginsWithNo is_blank text.now }
+    ensures { word_seen result ≡ Reading.read_word text.now }
+{
+    match some_comparator(text) {
+        Some(word) => word,
+        None => (nothing(), skip_solid(text)),
+    }
+}
+
+// Whether the first byte can begin a comparator.
+#[inline(always)]
+pub(crate) fn begins_comparator(text: &[u8]) -> bool
+    requires { BeginsWithNo is_blank text.now }
+    ensures { result ≡ false → None ≡ Reading.or_else (Reading.read_hyphen text.now) (Reading.read_simple text.now) }
+{
+    match text {
+        [
+            b'0'..=b'9' | b'<'..=b'>' | b'^' | b'~' | b'v' | b'x' | b'X' | b'*',
+            ..
+        ] => true,
+        _ => false,
+    }
+}
+
+// The text without its first words, as long as their first bytes begin no comparator. What is merged later is not yet
+// there to be kept.
+#[inline(always)]
+pub(crate) fn skip_thrown_away(text: &[u8]) -> &[u8]
+    ensures { (comparators : List Comparator) → IsAlternative result.now comparators
+        → IsAlternative text.now comparators }
+{
+    if begins_clean(text) {
+        return text;
+    }
+    let mut rest = text;
+    'words: while !rest.is_empty() && !begins_comparator(rest) {
+        rest = skip_blanks(skip_solid(rest));
+    }
+    rest
+}
+
+// The same as `read_comparator`, whose place is then cleared where it is called, and nowhere else.
+#[inline(always)]
+fn some_comparator(text: &[u8]) -> Option<(WordEnds, &[u8])>
+    requires { BeginsWithNo is_blank text.now }
+    ensures { some_word_seen result ≡ Reading.or_else (Reading.read_hyphen text.now) (Reading.read_simple text.now) }
+{
+    read_comparator(text)
+}
+
+// A word that is not thrown away: its ends, or nothing where it writes no comparator.
+#[inline(always)]
+fn read_comparator(text: &[u8]) -> Option<(WordEnds, &[u8])>
+    requires { BeginsWithNo is_blank text.now }
+    ensures { some_word_seen result ≡ Reading.or_else (Reading.read_hyphen text.now) (Reading.read_simple text.now) }
+{
+    let (lead, operand) = read_lead(text);
+    let (partial, rest) = read_partial(operand)?;
+    if !begins_clean(rest) {
+        return None;
+    }
+    match (lead, rest) {
+        (Lead::Plain, [_, ..]) => Some(plain_or_hyphen(partial, rest)),
+        _ => Some((lead_ends(lead, partial), rest)),
+    }
+}
+
+// A plain partial before a blank: alone, or the left side of a hyphen.
+#[inline(always)]
+fn plain_or_hyphen<'a>(partial: Partial<'a>, text: &'a [u8]) -> (WordEnds<'a>, &'a [u8])
+    requires { IsSound partial }
+    ensures { Some (word_seen result) ≡ Reading.or_else
+        (Reading.said_hyphen (Some (partial_seen partial.entry)) (Reading.read_right text.now))
+        (Some (Reading.lead_comparator Reading.no_lead (partial_seen partial.entry), text.now)) }
+{
+    match read_right(text) {
+        Some((right, rest)) => (hyphen_ends(partial, right), rest),
+        None => (plain_ends(partial), text),
+    }
+}

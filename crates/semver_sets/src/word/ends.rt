@@ -1,0 +1,369 @@
+//! The ends of a comparator as its word writes them. Their versions are built only where they are kept.
+//!
+//! All is flat: one form, two triples and what stands after them. What is `#[inline(always)]` hands numbers on, and is
+//! gone once a word is read.
+ghost use Rattle.std.specs.Prelude.{◌≡◌, ◌↔◌, ◌≤◌, ◌+◌, IfOk, IfSome, IsTrue, None, Some};
+ghost use Rattle.semver_sets.specs.Comparator as Comparators;
+ghost use Rattle.semver_sets.specs.PartialText as PartialText;
+ghost use Rattle.semver_sets.specs.Version as Versions;
+ghost use Rattle.semver_sets.specs.Private.WordViews.{IsSound, ends_seen, from_through, partial_seen, written_seen};
+
+use crate::MAX_SAFE_INTEGER;
+use crate::comparator::Comparator;
+use crate::end::End;
+use crate::parse::{Partial, begins_clean, read_extras, read_prerelease};
+use semver_cuts::Cut;
+use std::alloc::{AllocError, Global};
+
+// A version as it is written: a triple, and the text that begins with its extras.
+#[derive(Clone, Copy)]
+pub(crate) struct WrittenVersion<'a> {
+    pub(crate) major: u64,
+    pub(crate) minor: u64,
+    pub(crate) patch: u64,
+    extras: &'a [u8],
+}
+
+// What stands at the two ends. A form of one version has it as the lower one.
+#[derive(Clone, Copy)]
+enum Form {
+    // no comparator
+    Nothing,
+    // `>=1.2.3`
+    AtLeast,
+    // `>1.2.3`
+    Above,
+    // `<1.2.3`
+    Below,
+    // `<1.2.3-0`, of the triple
+    BelowLeast,
+    // `<=1.2.3`
+    AtMost,
+    // `<=1.2.3-0`, of the triple
+    AtMostLeast,
+    // `>=1.2.3 <=1.2.3`
+    Exactly,
+    // the same without the build
+    Equal,
+    // `>=1.2.3 <2.0.0-0`, of the upper triple
+    UpTo,
+    // the same, the lower one without its build
+    BareUpTo,
+    // `>=1.2.3 <=2.0.0`
+    Through,
+}
+
+// The ends of a comparator, or none.
+#[derive(Clone, Copy)]
+pub(crate) struct WordEnds<'a> {
+    form: Form,
+    lower: WrittenVersion<'a>,
+    upper: WrittenVersion<'a>,
+}
+
+// `1.2.3`
+#[inline(always)]
+#[tactic(auto, using(crate::proofs::Texts::ExtrasReading::no_extras))]
+pub(crate) fn release(major: u64, minor: u64, patch: u64) -> WrittenVersion<'static>
+    ensures { written_seen result ≡ Versions.release major minor patch }
+{
+    WrittenVersion {
+        major,
+        minor,
+        patch,
+        extras: b"",
+    }
+}
+
+// The numbers of a partial, 0 for each absent one, and its extras.
+#[inline(always)]
+pub(crate) fn zeroed(partial: Partial) -> WrittenVersion
+    requires { IsSound partial }
+    ensures { written_seen result ≡ PartialText.zeroed (partial_seen partial.entry) }
+{
+    WrittenVersion {
+        major: partial.major,
+        minor: partial.minor,
+        patch: partial.patch,
+        extras: partial.extras,
+    }
+}
+
+// The number that follows this one.
+#[inline(always)]
+pub(crate) fn next(number: u64) -> u64
+    requires { number ≤ MAX_SAFE_INTEGER }
+    ensures { result ≡ number + 1 }
+{
+    number + 1
+}
+
+#[inline(always)]
+fn of_one<'a>(form: Form, version: WrittenVersion<'a>) -> WordEnds<'a>
+    ensures form { result.form ≡ form }
+    ensures lower { written_seen result.lower ≡ written_seen version.entry }
+{
+    WordEnds {
+        form,
+        lower: version,
+        upper: version,
+    }
+}
+
+// no comparator
+#[inline(always)]
+pub(crate) fn nothing() -> WordEnds<'static>
+    ensures { ends_seen result ≡ None }
+{
+    of_one(Form::Nothing, release(0, 0, 0))
+}
+
+// `>=1.2.3`
+#[inline(always)]
+pub(crate) fn at_least<'a>(version: WrittenVersion<'a>) -> WordEnds<'a>
+    ensures { ends_seen result ≡ Some (Comparators.at_least (written_seen version.entry)) }
+{
+    of_one(Form::AtLeast, version)
+}
+
+// `>1.2.3`
+#[inline(always)]
+pub(crate) fn above<'a>(version: WrittenVersion<'a>) -> WordEnds<'a>
+    ensures { ends_seen result ≡ Some (Comparators.above (written_seen version.entry)) }
+{
+    of_one(Form::Above, version)
+}
+
+// `<1.2.3`
+#[inline(always)]
+pub(crate) fn below<'a>(version: WrittenVersion<'a>) -> WordEnds<'a>
+    ensures { ends_seen result ≡ Some (Comparators.below (written_seen version.entry)) }
+{
+    of_one(Form::Below, version)
+}
+
+// `<1.2.3-0`
+#[inline(always)]
+pub(crate) fn below_least(major: u64, minor: u64, patch: u64) -> WordEnds<'static>
+    ensures { ends_seen result ≡ Some (Comparators.below (Versions.least_of major minor patch)) }
+{
+    of_one(Form::BelowLeast, release(major, minor, patch))
+}
+
+// `<=1.2.3`
+#[inline(always)]
+pub(crate) fn at_most<'a>(version: WrittenVersion<'a>) -> WordEnds<'a>
+    ensures { ends_seen result ≡ Some (Comparators.at_most (written_seen version.entry)) }
+{
+    of_one(Form::AtMost, version)
+}
+
+// `<=1.2.3-0`
+#[inline(always)]
+pub(crate) fn at_most_least(major: u64, minor: u64, patch: u64) -> WordEnds<'static>
+    ensures { ends_seen result ≡ Some (Comparators.at_most (Versions.least_of major minor patch)) }
+{
+    of_one(Form::AtMostLeast, release(major, minor, patch))
+}
+
+// `>=1.2.3+5 <=1.2.3+5`
+#[inline(always)]
+pub(crate) fn exactly<'a>(version: WrittenVersion<'a>) -> WordEnds<'a>
+    ensures { ends_seen result ≡ Some (Comparators.exactly (written_seen version.entry)) }
+{
+    of_one(Form::Exactly, version)
+}
+
+// `>=1.2.3 <=1.2.3` of `1.2.3+5`
+#[inline(always)]
+pub(crate) fn equal<'a>(version: WrittenVersion<'a>) -> WordEnds<'a>
+    ensures { ends_seen result ≡ Some (Comparators.exactly (Versions.without_build (written_seen version.entry))) }
+{
+    of_one(Form::Equal, version)
+}
+
+// `>=1.2.3+5 <2.0.0-0`
+#[inline(always)]
+pub(crate) fn up_to<'a>(
+    lower: WrittenVersion<'a>,
+    major: u64,
+    minor: u64,
+    patch: u64,
+) -> WordEnds<'a>
+    ensures { ends_seen result
+        ≡ Some (Comparators.from_up_to (written_seen lower.entry) (Versions.least_of major minor patch)) }
+{
+    WordEnds {
+        form: Form::UpTo,
+        lower,
+        upper: release(major, minor, patch),
+    }
+}
+
+// `>=1.2.3 <2.0.0-0` of `1.2.3+5`
+#[inline(always)]
+pub(crate) fn bare_up_to<'a>(
+    lower: WrittenVersion<'a>,
+    major: u64,
+    minor: u64,
+    patch: u64,
+) -> WordEnds<'a>
+    ensures { ends_seen result ≡ Some (Comparators.from_up_to (Versions.without_build (written_seen lower.entry))
+        (Versions.least_of major minor patch)) }
+{
+    WordEnds {
+        form: Form::BareUpTo,
+        lower,
+        upper: release(major, minor, patch),
+    }
+}
+
+// `>=1.2.3 <=2.0.0`
+#[inline(always)]
+pub(crate) fn through<'a>(lower: WrittenVersion<'a>, upper: WrittenVersion<'a>) -> WordEnds<'a>
+    ensures { ends_seen result ≡ Some (from_through (written_seen lower.entry) (written_seen upper.entry)) }
+{
+    WordEnds {
+        form: Form::Through,
+        lower,
+        upper,
+    }
+}
+
+// All with this major: `>=1.0.0 <2.0.0-0`
+#[inline(always)]
+pub(crate) fn with_major(major: u64) -> WordEnds<'static>
+    requires { major ≤ MAX_SAFE_INTEGER }
+    ensures { ends_seen result ≡ Some (Comparators.with_major major) }
+{
+    up_to(release(major, 0, 0), next(major), 0, 0)
+}
+
+// All with this major and this minor: `>=1.2.0 <1.3.0-0`
+#[inline(always)]
+pub(crate) fn with_minor(major: u64, minor: u64) -> WordEnds<'static>
+    requires { minor ≤ MAX_SAFE_INTEGER }
+    ensures { ends_seen result ≡ Some (Comparators.with_minor major minor) }
+{
+    up_to(release(major, minor, 0), major, next(minor), 0)
+}
+
+impl<'a> WordEnds<'a> {
+    #[inline(always)]
+    pub(crate) fn is_nothing(&self) -> bool
+        ensures { IsTrue result ↔ (ends_seen self.now ≡ None) }
+    {
+        match self.form {
+            Form::Nothing => true,
+            _ => false,
+        }
+    }
+
+    // The comparator, of ends that are built. Takes memory for extras alone.
+    #[inline(always)]
+    pub(crate) fn comparator(self, alloc: Global) -> Result<Comparator, AllocError>
+        requires { ¬ (ends_seen self ≡ None) }
+        ensures { IfOk result (λ c. ends_seen self.entry ≡ Some c) }
+    {
+        let lower = self.lower_cut(alloc)?;
+        let upper = self.upper_cut(alloc)?;
+        Ok(Comparator { lower, upper })
+    }
+
+    #[inline(always)]
+    fn lower_cut(&self, alloc: Global) -> Result<Cut<End>, AllocError>
+        ensures { IfOk result (λ cut. IfSome (ends_seen self.now) (λ c. c.lower ≡ cut)) }
+    {
+        match self.form {
+            Form::AtLeast | Form::Exactly | Form::UpTo | Form::Through => {
+                Ok(Cut::Before(self.lower.end(alloc)?))
+            }
+            Form::Equal | Form::BareUpTo => Ok(Cut::Before(self.lower.bare_end(alloc)?)),
+            Form::Above => Ok(Cut::After(self.lower.end(alloc)?)),
+            Form::Nothing | Form::Below | Form::BelowLeast | Form::AtMost | Form::AtMostLeast => {
+                Ok(Cut::Start)
+            }
+        }
+    }
+
+    #[inline(always)]
+    fn upper_cut(&self, alloc: Global) -> Result<Cut<End>, AllocError>
+        ensures { IfOk result (λ cut. IfSome (ends_seen self.now) (λ c. c.upper ≡ cut)) }
+    {
+        match self.form {
+            Form::UpTo | Form::BareUpTo => Ok(Cut::Before(self.upper.least_end())),
+            Form::Exactly => Ok(Cut::After(self.lower.end(alloc)?)),
+            Form::Equal => Ok(Cut::After(self.lower.bare_end(alloc)?)),
+            Form::Through => Ok(Cut::After(self.upper.end(alloc)?)),
+            Form::Below => Ok(Cut::Before(self.lower.end(alloc)?)),
+            Form::BelowLeast => Ok(Cut::Before(self.lower.least_end())),
+            Form::AtMost => Ok(Cut::After(self.lower.end(alloc)?)),
+            Form::AtMostLeast => Ok(Cut::After(self.lower.least_end())),
+            Form::Nothing | Form::AtLeast | Form::Above => Ok(Cut::End),
+        }
+    }
+}
+
+impl<'a> WrittenVersion<'a> {
+    // The version that is written. Most have no extras.
+    #[inline(always)]
+    #[tactic(auto, using(crate::proofs::Words::PartialViews::clean_extras))]
+    fn end(&self, alloc: Global) -> Result<End, AllocError>
+        ensures { IfOk result (λ e. e ≡ written_seen self.now) }
+    {
+        if begins_clean(self.extras) {
+            Ok(End::release(self.major, self.minor, self.patch))
+        } else {
+            self.end_with_extras(alloc)
+        }
+    }
+
+    // The same without its build.
+    #[inline(always)]
+    #[tactic(auto, using(crate::proofs::Words::PartialViews::clean_extras))]
+    fn bare_end(&self, alloc: Global) -> Result<End, AllocError>
+        ensures { IfOk result (λ e. e ≡ Versions.without_build (written_seen self.now)) }
+    {
+        if begins_clean(self.extras) {
+            Ok(End::release(self.major, self.minor, self.patch))
+        } else {
+            self.end_with_prerelease(alloc)
+        }
+    }
+
+    // The least version with this triple: `1.2.3-0`
+    #[inline(always)]
+    fn least_end(&self) -> End
+        ensures { result ≡ Versions.least_of self.now.major self.now.minor self.now.patch }
+    {
+        End::least(self.major, self.minor, self.patch)
+    }
+
+    #[inline(never)]
+    #[tactic(auto, unfolding(crate::specs::Private::Reading::read_extras))]
+    fn end_with_extras(&self, alloc: Global) -> Result<End, AllocError>
+        ensures { IfOk result (λ e. e ≡ written_seen self.now) }
+    {
+        let ((pre_release, build), _) = read_extras(alloc, self.extras)?;
+        End::with_extras(
+            alloc,
+            (self.major, self.minor, self.patch),
+            pre_release,
+            build,
+        )
+    }
+
+    #[inline(never)]
+    #[tactic(auto, unfolding(crate::specs::Private::Reading::read_extras))]
+    fn end_with_prerelease(&self, alloc: Global) -> Result<End, AllocError>
+        ensures { IfOk result (λ e. e ≡ Versions.without_build (written_seen self.now)) }
+    {
+        let (pre_release, _) = read_prerelease(alloc, self.extras)?;
+        End::with_extras(
+            alloc,
+            (self.major, self.minor, self.patch),
+            pre_release,
+            Vec::new(alloc),
+        )
+    }
+}

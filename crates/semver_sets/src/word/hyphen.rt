@@ -1,0 +1,154 @@
+//! `1.2 - 3`, and ` - 3` at the start of a range text
+ghost use Rattle.std.specs.Prelude.{◌≡◌, ◌∷◌, IfSome, Some, None};
+ghost use Rattle.semver_sets.specs.Characters.{hyphen};
+ghost use Rattle.semver_sets.specs.HyphenRanges as HyphenRanges;
+ghost use Rattle.semver_cuts.specs.declared.cut.Cut.TheVariants.{Before};
+ghost use Rattle.semver_sets.specs.PartialText as PartialText;
+ghost use Rattle.semver_sets.specs.Version as Versions;
+ghost use Rattle.semver_sets.specs.Private.WordReading as Reading;
+ghost use Rattle.semver_sets.specs.Private.WordViews.{IsSound, ends_seen, partial_seen, read_partial_seen};
+ghost use Rattle.semver_sets.specs.Private.WordViews.{right_end_seen, some_word_seen};
+
+use crate::parse::{Partial, Shape, begins_clean, read_partial, skip_some_blanks};
+use crate::word::ends::{
+    WordEnds, WrittenVersion, at_most, below_least, next, release, through, up_to, zeroed,
+};
+
+// `3` and ` <5` of ` - 3 <5`: the right side of a hyphen with its blanks, up to a clean end
+#[inline(always)]
+#[tactic(auto, unfolding(crate::specs::Private::WordReading::read_right))]
+pub(crate) fn read_right(text: &[u8]) -> Option<(Partial, &[u8])>
+    ensures read { read_partial_seen result ≡ Reading.read_right text.now }
+    ensures sound { IfSome result (λ r. IsSound r.0) }
+{
+    let [b'-', rest @ ..] = skip_some_blanks(text)? else {
+        return None;
+    };
+    right_operand(rest)
+}
+
+// The same as `read_right_operand`, whose place is then cleared where a hyphen stands, and nowhere else.
+#[inline(always)]
+fn right_operand(text: &[u8]) -> Option<(Partial, &[u8])>
+    ensures read { read_partial_seen result ≡ Reading.right_at (hyphen ∷ text.now) }
+    ensures sound { IfSome result (λ r. IsSound r.0) }
+{
+    read_right_operand(text)
+}
+
+// `3` and ` <5` of ` 3 <5`, behind the hyphen
+#[inline(never)]
+fn read_right_operand(text: &[u8]) -> Option<(Partial, &[u8])>
+    ensures read { read_partial_seen result ≡ Reading.right_at (hyphen ∷ text.now) }
+    ensures sound { IfSome result (λ r. IsSound r.0) }
+{
+    let (partial, rest) = read_partial(skip_some_blanks(text)?)?;
+    if begins_clean(rest) {
+        Some((partial, rest))
+    } else {
+        None
+    }
+}
+
+// ` - 3` at the start of a range text: a hyphen without a left side. Few texts begin with a blank.
+#[inline(always)]
+#[tactic(auto, unfolding(crate::specs::Private::WordReading::read_right))]
+pub(crate) fn read_leading_hyphen(text: &[u8]) -> Option<(WordEnds, &[u8])>
+    ensures { some_word_seen result ≡ Reading.said_hyphen None (Reading.read_right text.now) }
+{
+    skip_some_blanks(text)?;
+    right_alone(text)
+}
+
+// The same as `read_right_alone`, whose place is then cleared where a text begins with a blank, and nowhere else.
+#[inline(always)]
+fn right_alone(text: &[u8]) -> Option<(WordEnds, &[u8])>
+    ensures { some_word_seen result ≡ Reading.said_hyphen None (Reading.read_right text.now) }
+{
+    read_right_alone(text)
+}
+
+#[inline(never)]
+fn read_right_alone(text: &[u8]) -> Option<(WordEnds, &[u8])>
+    ensures { some_word_seen result ≡ Reading.said_hyphen None (Reading.read_right text.now) }
+{
+    let (right, rest) = read_right(text)?;
+    Some((below_right(right), rest))
+}
+
+// `1.2 - 3` is `>=1.2.0 <4.0.0-0`.
+#[inline(always)]
+pub(crate) fn hyphen_ends<'a>(left: Partial<'a>, right: Partial<'a>) -> WordEnds<'a>
+    requires left { IsSound left }
+    requires right { IsSound right }
+    ensures { ends_seen result
+        ≡ Some (HyphenRanges.hyphen_comparator (Some (partial_seen left.entry)) (partial_seen right.entry)) }
+{
+    let upper = right_end(right);
+    if upper.is_held {
+        through(zeroed(left), upper.version)
+    } else {
+        up_to(
+            zeroed(left),
+            upper.version.major,
+            upper.version.minor,
+            upper.version.patch,
+        )
+    }
+}
+
+// ` - 3` is `<4.0.0-0`.
+#[inline(always)]
+fn below_right(right: Partial) -> WordEnds
+    requires { IsSound right }
+    ensures { ends_seen result ≡ Some (HyphenRanges.hyphen_comparator None (partial_seen right.entry)) }
+{
+    let upper = right_end(right);
+    if upper.is_held {
+        at_most(upper.version)
+    } else {
+        below_least(
+            upper.version.major,
+            upper.version.minor,
+            upper.version.patch,
+        )
+    }
+}
+
+// Where a hyphen range ends: at a version that it holds, or below the least one with a triple.
+#[derive(Clone, Copy)]
+struct RightEnd<'a> {
+    is_held: bool,
+    version: WrittenVersion<'a>,
+}
+
+// ` - 3` ends at `<4.0.0-0`, ` - 3.4` at `<3.5.0-0`, ` - 3.4.5` at `<=3.4.5`, ` - *` at `<0.0.0-0`.
+#[inline(always)]
+fn right_end(partial: Partial) -> RightEnd
+    requires { IsSound partial }
+    ensures { let p = partial_seen partial.entry in
+        right_end_seen result ≡ HyphenRanges.right_row p.major p.minor p.patch (PartialText.zeroed p) }
+{
+    let Partial { major, minor, .. } = partial;
+    match partial.shape {
+        Shape::Nothing => below_triple(0, 0, 0),
+        Shape::Major => below_triple(next(major), 0, 0),
+        Shape::MajorMinor => below_triple(major, next(minor), 0),
+        Shape::Full | Shape::MajorPatch | Shape::MinorPatch | Shape::Minor | Shape::Patch => {
+            RightEnd {
+                is_held: true,
+                version: zeroed(partial),
+            }
+        }
+    }
+}
+
+#[inline(always)]
+fn below_triple(major: u64, minor: u64, patch: u64) -> RightEnd<'static>
+    ensures { right_end_seen result ≡ Before (Versions.least_of major minor patch) }
+{
+    RightEnd {
+        is_held: false,
+        version: release(major, minor, patch),
+    }
+}

@@ -1,12 +1,8 @@
 -- Lemmas, by subject. Each subject has a list of its files in reading order. The other folders hold the proofs of
 -- functions, by module. Lemmas of texts, words and merging stand in `semver_sets`.
--- ---- texts: the longest prefix that is read
-pub mod Texts
 -- ---- versions: what is answered, faults and steps
 pub mod Versions
--- ---- words of a range text: what holds of each
-pub mod Words
--- ---- range texts: one word, one set, and what is answered
+-- ---- range texts: what is answered
 pub mod Ranges
 -- ---- sets: set algebra, trees
 pub mod Sets
@@ -14,5 +10,5 @@ pub mod Sets
 pub mod Least
 -- ---- prints, and reading them back
 pub mod Prints
--- ---- worked examples, which compute, and what computes them
+-- ---- worked examples, which compute
 pub mod Examples

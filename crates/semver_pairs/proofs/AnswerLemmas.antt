@@ -7,7 +7,7 @@ use Rattle.node_semver.specs.ErrorLocation.{newline}
 use Rattle.semver_sets.specs.Meaning.{TextAdmits}
 use Rattle.semver_sets.specs.Version.{VersionValue}
 use Rattle.semver_sets.specs.VersionText.{IsVersionText}
-use Rattle.node_semver.proofs.Ranges.Decisions.{Decided, admits_or_not, refused_or_not}
+use Rattle.semver_sets.proofs.Ranges.Decisions.{Decided, admits_or_not, refused_or_not}
 use Rattle.node_semver.proofs.Versions.FaultLemmas.{read_or_faulty, version-no_fault}
 use Rattle.semver_sets.proofs.Versions.OneReading.{one_reading}
 use Rattle.semver_pairs.specs.Answer.{IsAnswer, IsBadRange, IsBadVersion, IsGoodRange, IsGoodVersion}

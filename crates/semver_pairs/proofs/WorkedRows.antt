@@ -13,8 +13,8 @@ use Rattle.semver_sets.specs.Private.Reading.{read_prerelease, read_unmarked}
 use Rattle.semver_sets.specs.Version.{VersionValue, least_of, release}
 use Rattle.node_semver.proofs.Versions.FaultLemmas.{fault-computed, version-no_fault}
 use Rattle.semver_sets.proofs.Versions.OneReading.{read-version}
-use Rattle.node_semver.proofs.Examples.RangeComputing.{accepted-by, admits-by, alternatives_in, written-by}
-use Rattle.node_semver.proofs.Examples.RangeExamples.{no_word-refused}
+use Rattle.semver_sets.proofs.Examples.RangeComputing.{accepted-by, admits-by, alternatives_in, written-by}
+use Rattle.semver_sets.proofs.Examples.RangeExamples.{no_word-refused}
 use Rattle.semver_pairs.specs.Answer.{admitted, bad_range, bad_version, IsBadVersion, IsGoodRange, IsGoodVersion}
 use Rattle.semver_pairs.specs.Lines.{divided}
 use Rattle.semver_pairs.specs.Output.{IsOutput, IsOutputPrefix}

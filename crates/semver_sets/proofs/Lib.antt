@@ -1,6 +1,6 @@
 -- Lemmas, by subject, which `node_semver` cites too. Each subject has a list of its files in reading order. The other
 -- folders hold the proofs of functions, by module.
--- ---- texts: characters, prefixes, numbers, identifiers and extras
+-- ---- texts: characters, prefixes, numbers, identifiers and extras, and lines that are written
 pub mod Texts
 -- ---- versions: what is read, and their prereleases
 pub mod Versions
@@ -10,7 +10,7 @@ pub mod Words
 pub mod Ranges
 -- ---- sets: merging, triples that are opened, search
 pub mod Sets
--- ---- prints
-pub mod Prints
+-- ---- worked examples, which compute, and what computes them
+pub mod Examples
 -- ---- counts that only proofs read
 pub mod EmptyStruct

@@ -2,5 +2,8 @@ pub mod PieceLemmas
 pub mod DivisionLemmas
 pub mod AlternativeLemmas
 pub mod MeaningLemmas
+pub mod Decisions
 pub mod RangeReading
 pub mod RangeBounds
+pub mod OnlyWord
+pub mod OnlySet

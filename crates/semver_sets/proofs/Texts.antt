@@ -9,3 +9,5 @@ pub mod NumberReading
 pub mod IdentifierReading
 pub mod ListReading
 pub mod ExtrasReading
+pub mod LongestReading
+pub mod LineText

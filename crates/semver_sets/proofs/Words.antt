@@ -5,7 +5,9 @@ pub mod PartialReading
 pub mod PartialBounds
 pub mod LeadReading
 pub mod SimpleReading
+pub mod SimpleHolds
 pub mod HyphenReading
 pub mod WordViews
 pub mod WordLemmas
 pub mod WordBounds
+pub mod NoBars

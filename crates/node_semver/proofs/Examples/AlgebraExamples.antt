@@ -13,9 +13,9 @@ use Rattle.node_semver.specs.RangeAlgebra.{PairAdmits}
 use Rattle.semver_sets.specs.RangePrint.{range_text}
 use Rattle.node_semver.specs.SetTree.{AreSetsOfTree, Formula, both, of_text}
 use Rattle.semver_sets.specs.Version.{VersionValue, release}
-use Rattle.node_semver.proofs.Examples.RangeComputing.{admit, admit-iff, any-iff}
-use Rattle.node_semver.proofs.Examples.SetComputing.{Sets, merged-by, sets_in}
-use Rattle.node_semver.proofs.Examples.WordExamples.{prerelease}
+use Rattle.semver_sets.proofs.Examples.RangeComputing.{admit, admit-iff, any-iff}
+use Rattle.semver_sets.proofs.Examples.SetComputing.{Sets, merged-by, sets_in}
+use Rattle.semver_sets.proofs.Examples.WordExamples.{prerelease}
 
 -- ---- tables
 

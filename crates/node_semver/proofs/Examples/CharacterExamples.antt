@@ -13,7 +13,7 @@ use Rattle.semver_sets.specs.Private.Reading.{read_version}
 use Rattle.semver_sets.specs.Version.{VersionValue, release}
 use Rattle.semver_sets.specs.VersionText.{IsVersionText}
 use Rattle.node_semver.proofs.Examples.FaultExamples.{computed, is-computed}
-use Rattle.node_semver.proofs.Examples.RangeComputing.{AreComputed, AreWritten, all-written, alternatives_in}
+use Rattle.semver_sets.proofs.Examples.RangeComputing.{AreComputed, AreWritten, all-written, alternatives_in}
 use Rattle.semver_sets.proofs.Versions.OneReading.{read-version}
 
 -- so many numbers from the first one on: 3 of 5 are 5, 6 and 7

@@ -19,8 +19,8 @@ use Rattle.semver_sets.specs.Lemmas.Order.{version_total}
 use Rattle.node_semver.specs.SetTree.{of_text, without}
 use Rattle.semver_sets.specs.Version.{VersionValue, least_of, release}
 use Rattle.node_semver.proofs.Examples.AlgebraExamples.{GivesPrint}
-use Rattle.node_semver.proofs.Examples.SetComputing.{Sets, merged-by, sets_in}
-use Rattle.node_semver.proofs.Examples.SetExamples.{from_to}
+use Rattle.semver_sets.proofs.Examples.SetComputing.{Sets, merged-by, sets_in}
+use Rattle.semver_sets.proofs.Examples.SetExamples.{from_to}
 
 -- ---- one piece
 

@@ -20,7 +20,7 @@ use Rattle.semver_sets.specs.Version.{VersionValue}
 use Rattle.semver_sets.specs.VersionText.{IsMarked, IsUnmarkedVersion, IsVersionText}
 use Rattle.semver_sets.proofs.Texts.Digits.{digits-numerals}
 use Rattle.semver_sets.proofs.Texts.ListReading.{parts-alone, parts-before}
-use Rattle.node_semver.proofs.Texts.LongestReading.{digit-character}
+use Rattle.semver_sets.proofs.Texts.LongestReading.{digit-character}
 use Rattle.semver_sets.proofs.Words.PartialBounds.{build-read, prerelease-read}
 use Rattle.semver_sets.proofs.Texts.Prefixes.{begins-append}
 use Rattle.semver_sets.proofs.Texts.Characters.{digit-no_version_mark}

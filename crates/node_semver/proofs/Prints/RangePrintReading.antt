@@ -15,7 +15,7 @@ use Rattle.semver_sets.specs.RangeSets.{IsRangeSet, IsRangeValue}
 use Rattle.node_semver.specs.ReadingBack.{IsPlainlyBounded, IsReadAsEqual, IsReadAsRange, RangeReadsBack}
 use Rattle.semver_sets.specs.Version.{VersionValue}
 use Rattle.semver_sets.proofs.Sets.Merging.{merged-gives}
-use Rattle.node_semver.proofs.Words.NoBars.{no_bars-of_none, no_end-of_none}
+use Rattle.semver_sets.proofs.Words.NoBars.{no_bars-of_none, no_end-of_none}
 use Rattle.semver_sets.proofs.Sets.SetLemmas.{empty-from_refused, one-merging}
 use Rattle.node_semver.proofs.Prints.SetPrintReading.{IsReadAlike, set-read}
 use Rattle.node_semver.proofs.Prints.WordPrintReading.{solid-begins}

@@ -23,7 +23,7 @@ use Rattle.semver_sets.specs.Version.{VersionValue}
 use Rattle.semver_sets.specs.Private.WordReading.{is_solid}
 use Rattle.semver_sets.proofs.Texts.IdentifierReading.{pick-false, pick-true}
 use Rattle.semver_sets.proofs.Sets.Merging.{set-one, set-push}
-use Rattle.node_semver.proofs.Words.NoBars.{HasNoBar, none-append}
+use Rattle.semver_sets.proofs.Words.NoBars.{HasNoBar, none-append}
 use Rattle.semver_sets.proofs.Texts.Prefixes.{begins-append}
 use Rattle.node_semver.proofs.Prints.PrintReading.{IsTextVersion}
 use Rattle.node_semver.proofs.Prints.WordPrintReading.{IsPrintedWord, operator-word, solid-begins, version-word}

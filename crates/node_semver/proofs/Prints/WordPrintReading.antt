@@ -16,7 +16,7 @@ use Rattle.semver_sets.specs.Private.WordReading.{Lead, is_solid, operator, read
 use Rattle.semver_sets.specs.Private.WordReading.{with_left}
 use Rattle.semver_sets.proofs.Words.HyphenReading.{left-ends, right-none}
 use Rattle.semver_sets.proofs.Words.LeadReading.{lead-not_partial, lead-operator}
-use Rattle.node_semver.proofs.Words.NoBars.{HasNoBar, simple-none}
+use Rattle.semver_sets.proofs.Words.NoBars.{HasNoBar, simple-none}
 use Rattle.semver_sets.proofs.Words.PartialReading.{partial-again}
 use Rattle.semver_sets.proofs.Texts.Prefixes.{begins-append}
 use Rattle.node_semver.proofs.Prints.PrintReading.{IsTextVersion, print-begins, three-printed, unmarked}

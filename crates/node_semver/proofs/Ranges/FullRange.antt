@@ -14,8 +14,8 @@ use Rattle.node_semver.specs.Private.AnswerViews.{IsReadRange}
 use Rattle.semver_sets.specs.Private.Reading.{rest_of}
 use Rattle.semver_sets.specs.Private.WordReading.{Lead, caret_lead, no_lead, read_lead, tilde_lead}
 use Rattle.semver_sets.proofs.Words.LeadReading.{lead-none}
-use Rattle.node_semver.proofs.Ranges.OnlySet.{only-between, only-value}
-use Rattle.node_semver.proofs.Ranges.OnlyWord.{only-word}
+use Rattle.semver_sets.proofs.Ranges.OnlySet.{only-between, only-value}
+use Rattle.semver_sets.proofs.Ranges.OnlyWord.{only-word}
 use Rattle.semver_sets.proofs.Texts.Characters.{digit-no_blank}
 
 -- ---- texts

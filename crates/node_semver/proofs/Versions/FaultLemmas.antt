@@ -23,7 +23,7 @@ use Rattle.node_semver.proofs.Versions.FaultReading.{missing_at}
 use Rattle.semver_sets.proofs.Texts.Prefixes.{begins-append, rest_of-again, prefix_of-again, no-append, with-begins}
 use Rattle.semver_sets.proofs.Texts.Prefixes.{with_no-begins}
 use Rattle.semver_sets.proofs.Texts.IdentifierReading.{pick-false, pick-true}
-use Rattle.node_semver.proofs.Texts.LongestReading.{version-longest}
+use Rattle.semver_sets.proofs.Texts.LongestReading.{version-longest}
 use Rattle.semver_sets.proofs.Texts.NumberReading.{number-again, dot-again}
 use Rattle.semver_sets.proofs.Texts.Marks.{skip_one-mark}
 use Rattle.semver_sets.proofs.Versions.OneReading.{read-version, version-read}

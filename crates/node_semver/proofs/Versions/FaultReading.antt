@@ -22,7 +22,7 @@ use Rattle.semver_sets.specs.Private.ReadingViews.{left_of}
 use Rattle.node_semver.specs.Private.FaultViews.{kind_in}
 use Rattle.semver_sets.proofs.Texts.Prefixes.{rest_of-no, begins-with, begins-with_no, prefix_of-rest_of}
 use Rattle.semver_sets.proofs.Texts.Prefixes.{prefix_of-again, prefix_of-all, prefix_of-begins}
-use Rattle.node_semver.proofs.Texts.LongestReading.{version-longest, version-no_digit}
+use Rattle.semver_sets.proofs.Texts.LongestReading.{version-longest, version-no_digit}
 use Rattle.semver_sets.proofs.Texts.NumberReading.{number-takes, dot-takes, refusal}
 use Rattle.semver_sets.proofs.Texts.Marks.{mark-skip}
 use Rattle.semver_sets.proofs.Versions.VersionReading.{version-takes}

@@ -1,5 +1,5 @@
 use Rattle.std.proofs.Common.{◌∙◌, ◌∷◌, ◌++◌, ℕ, List, ap, arith, decimal}
-use Rattle.semver_sets.proofs.Prints.LineText.{whole_text}
+use Rattle.semver_sets.proofs.Texts.LineText.{whole_text}
 use Rattle.semver_sets.proofs.line.put_triple_last.Goals as goal
 
 pub returns-clause-text : goal.returns-clause-text

@@ -1,5 +1,5 @@
 use Rattle.std.proofs.Common.{arith, rules}
-use Rattle.semver_sets.proofs.Prints.LineText.{alone_text, at_least_text, whole_if_put}
+use Rattle.semver_sets.proofs.Texts.LineText.{alone_text, at_least_text, whole_if_put}
 use Rattle.semver_sets.proofs.line.set.put_set.Goals as goal
 
 pub returns-in-Before-After-clause-text : goal.returns-in-Before-After-clause-text

@@ -15,7 +15,7 @@ use Rattle.semver_sets.specs.Version.{VersionValue}
 use Rattle.semver_sets.proofs.Ranges.AlternativeLemmas.{written-exists}
 use Rattle.semver_sets.proofs.Ranges.MeaningLemmas.{refused-from_none, none-from_refused}
 use Rattle.semver_sets.proofs.Sets.Merging.{merged-gives, one-set}
-use Rattle.node_semver.proofs.Examples.RangeComputing.{admits-by, some_admits, turns_away-by}
+use Rattle.semver_sets.proofs.Examples.RangeComputing.{admits-by, some_admits, turns_away-by}
 
 -- it is so, or it isn't
 abbrev pub Decided : Type 0 → Type 0

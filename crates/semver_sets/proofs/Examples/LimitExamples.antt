@@ -9,7 +9,7 @@ use Rattle.semver_sets.specs.Comparator.{from_up_to, with_major, with_minor}
 use Rattle.semver_sets.specs.Merging.{AreSetsOfText}
 use Rattle.semver_sets.specs.RangeSets.{IsReadVersion}
 use Rattle.semver_sets.specs.Version.{VersionValue, least_of, release}
-use Rattle.node_semver.proofs.Examples.SetComputing.{merged-by, sets_in}
+use Rattle.semver_sets.proofs.Examples.SetComputing.{merged-by, sets_in}
 
 -- the greatest number that a text may write, as it is written
 abbrev greatest : List ℕ

@@ -5,7 +5,7 @@ use Rattle.semver_sets.specs.Comparator.{Comparator, above, at_least, at_most, b
 use Rattle.semver_sets.specs.Comparator.{with_minor}
 use Rattle.semver_sets.specs.IdentifierValue.{alphanumeric}
 use Rattle.semver_sets.specs.Version.{VersionValue, least_of, release, with_pre_release}
-use Rattle.node_semver.proofs.Examples.RangeComputing.{AreComputed, AreWritten, all-written, alternatives_in}
+use Rattle.semver_sets.proofs.Examples.RangeComputing.{AreComputed, AreWritten, all-written, alternatives_in}
 
 -- `1.2.3-a`
 abbrev pub prerelease : ℕ → ℕ → ℕ → List ℕ → VersionValue

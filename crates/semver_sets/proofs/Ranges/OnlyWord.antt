@@ -13,8 +13,8 @@ use Rattle.semver_sets.specs.Private.WordReading.{Lead, lead_comparator, no_lead
 use Rattle.semver_sets.specs.Private.WordReading.{read_right, read_simple, with_left}
 use Rattle.semver_sets.proofs.Words.HyphenReading.{left-ends, right-none}
 use Rattle.semver_sets.proofs.Words.LeadReading.{lead-not_partial, lead-plain}
-use Rattle.node_semver.proofs.Words.NoBars.{simple-no_bars}
-use Rattle.node_semver.proofs.Words.SimpleHolds.{simple-below}
+use Rattle.semver_sets.proofs.Words.NoBars.{simple-no_bars}
+use Rattle.semver_sets.proofs.Words.SimpleHolds.{simple-below}
 use Rattle.semver_sets.proofs.Words.SimpleReading.{TakesSimple, simple-takes}
 use Rattle.semver_sets.proofs.Words.WordLemmas.{blank-lead, hyphen-with_left, no-hyphen, right-no_blank}
 use Rattle.semver_sets.proofs.Words.WordViews.{lead-cases}

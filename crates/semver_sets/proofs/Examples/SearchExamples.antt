@@ -7,7 +7,7 @@ use Rattle.semver_sets.specs.IdentifierValue.{alphanumeric, numeric}
 use Rattle.semver_sets.specs.Merging.{AreSetsOfText}
 use Rattle.semver_sets.specs.Searching.{HasDigits, IsShortSearch, count_of_opening}
 use Rattle.semver_sets.specs.Version.{IsPrerelease, VersionValue, least_of, release}
-use Rattle.node_semver.proofs.Examples.SetComputing.{Sets, merged-by, sets_in}
+use Rattle.semver_sets.proofs.Examples.SetComputing.{Sets, merged-by, sets_in}
 
 -- ---- releases: the binary digits of how many spans there are, and one more
 

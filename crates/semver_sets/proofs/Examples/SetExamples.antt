@@ -8,7 +8,7 @@ use Rattle.semver_sets.specs.Merging.{all_cuts}
 use Rattle.semver_sets.specs.RangeEquality.{are_same_cuts}
 use Rattle.semver_sets.specs.RangePrint.{range_text}
 use Rattle.semver_sets.specs.Version.{VersionValue, least_of, release}
-use Rattle.node_semver.proofs.Examples.SetComputing.{AreComputed, AreMerged, Row, all-merged, sets_in}
+use Rattle.semver_sets.proofs.Examples.SetComputing.{AreComputed, AreMerged, Row, all-merged, sets_in}
 
 -- `1.2.3-rc`
 abbrev candidate : ℕ → ℕ → ℕ → VersionValue

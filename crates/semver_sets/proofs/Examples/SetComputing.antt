@@ -15,8 +15,8 @@ use Rattle.semver_sets.specs.Comparison.{version_cmp}
 use Rattle.semver_sets.specs.Merging.{AreSetsOf, AreSetsOfText, no_more, none, one_more}
 use Rattle.semver_sets.specs.RangePrint.{range_text}
 use Rattle.semver_sets.specs.Version.{VersionValue}
-use Rattle.node_semver.proofs.Examples.RangeComputing.{all-iff, alternatives_in, are_crossed, first-same, gives-by}
-use Rattle.node_semver.proofs.Examples.RangeComputing.{lies_in, none-by, written-by}
+use Rattle.semver_sets.proofs.Examples.RangeComputing.{all-iff, alternatives_in, are_crossed, first-same, gives-by}
+use Rattle.semver_sets.proofs.Examples.RangeComputing.{lies_in, none-by, written-by}
 
 -- ---- an end of the comparators
 

@@ -5,8 +5,8 @@ use Rattle.semver_sets.specs.Comparator.{above, at_least, below, exactly, from_u
 use Rattle.semver_sets.specs.IdentifierValue.{IdentifierValue, alphanumeric, numeric}
 use Rattle.semver_sets.specs.Meaning.{IsRefused, TextAdmits}
 use Rattle.semver_sets.specs.Version.{VersionValue, least_of, release}
-use Rattle.node_semver.proofs.Examples.RangeComputing.{accepted-by, admits-by, alternatives_in, refused-by}
-use Rattle.node_semver.proofs.Examples.RangeComputing.{turns_away-by, written-by}
+use Rattle.semver_sets.proofs.Examples.RangeComputing.{accepted-by, admits-by, alternatives_in, refused-by}
+use Rattle.semver_sets.proofs.Examples.RangeComputing.{turns_away-by, written-by}
 
 -- `1.2.3-rc.4` is `prerelease 1 2 3 (text "rc" ∷ numeric 4 ∷ [])`
 abbrev prerelease : ℕ → ℕ → ℕ → List IdentifierValue → VersionValue

@@ -1,2 +1,0 @@
-pub mod SimpleHolds
-pub mod NoBars

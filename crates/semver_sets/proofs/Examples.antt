@@ -1,0 +1,9 @@
+mod OrderExamples
+mod PrintExamples
+pub mod WordExamples
+pub mod RangeComputing
+pub mod RangeExamples
+pub mod SetComputing
+pub mod SetExamples
+pub mod LimitExamples
+mod SearchExamples

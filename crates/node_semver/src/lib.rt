@@ -5,8 +5,9 @@
 //! of them, and two ranges what they have in common and what one has alone; a [`SetTree`] nests such questions.
 //!
 //! Each public call has a contract, and is proved to return an answer that meets it. The definitions that contracts
-//! name stand in `specs/`, and `docs/PROMISES.md` lists the clauses. [`laws`] has what follows from the definitions
-//! alone. A call that may take memory is passed the allocator, or holds it, and want of memory is an answer.
+//! name stand in `specs/`, here and in `semver_sets`, which reads texts as sets, and `docs/PROMISES.md` lists the
+//! clauses. [`laws`] has what follows from the definitions alone. A call that may take memory is passed the allocator,
+//! or holds it, and want of memory is an answer.
 //!
 //! # Examples
 //!

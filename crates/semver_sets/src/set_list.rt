@@ -17,7 +17,7 @@ use crate::set_list::searched::Searched;
 use semver_cuts::Span;
 use semver_cuts::algebra::Merged;
 
-/// The sets of a range, at least one.
+/// The sets of a range, at least one. A contract sees the list of them, `sets_seen`.
 ///
 /// Most ranges have one, which takes no list.
 #[derive(Debug, Drop)]

@@ -6,11 +6,11 @@ use Rattle.std.specs.List.{AllByRecursion}
 use Rattle.semver_sets.specs.declared.TheConstants.{MAX_LENGTH, MAX_SAFE_INTEGER}
 use Rattle.semver_sets.specs.Characters.{AreAll, BeginsWith, BeginsWithNo, dot}
 use Rattle.semver_sets.specs.Characters.{is_blank, is_digit, is_version_mark, mark_of}
-use Rattle.node_semver.specs.Error.{IsRefusalAt, Kind, context, max_int, max_length, other, parse_int}
-use Rattle.node_semver.specs.declared.error.SemverError.{SemverError}
 use Rattle.semver_sets.specs.NumberText.{IsNumberText, number_of}
 use Rattle.semver_sets.specs.Version.{VersionValue}
 use Rattle.semver_sets.specs.VersionText.{IsVersionText}
+use Rattle.node_semver.specs.Error.{IsRefusalAt, Kind, context, max_int, max_length, other, parse_int}
+use Rattle.node_semver.specs.declared.error.SemverError.{SemverError}
 
 -- each text with a dot after it: `1.22.` of `1` and `22`
 abbrev pub with_dots : List (List ℕ) → List ℕ

@@ -3,16 +3,16 @@ use Rattle.std.specs.Prelude.{◌≡◌, ◌⊎◌, ℕ, ◌≤◌, List, [], le
 use Rattle.std.specs.Prelude.{None, Result, Ok, Err, IfErr, IfOk, IsOk}
 use Rattle.std.specs.declared.num.ParseIntError.{ParseIntError as IntFault}
 use Rattle.semver_sets.specs.declared.TheConstants.{MAX_LENGTH}
+use Rattle.semver_sets.specs.Print.{version_text}
+use Rattle.semver_sets.specs.Version.{VersionValue}
+use Rattle.semver_sets.specs.VersionText.{IsVersionText}
 use Rattle.node_semver.specs.declared.error.SemverError.{SemverError}
 use Rattle.node_semver.specs.declared.json.JsonError.{JsonError}
 use Rattle.node_semver.specs.declared.json.JsonError.TheVariants.{NotAString, Semver}
 use Rattle.node_semver.specs.Error.{IsOutOfMemory, Refusal}
 use Rattle.node_semver.specs.ErrorEquality.{error_value}
 use Rattle.node_semver.specs.Fault.{IsFaultOf}
-use Rattle.semver_sets.specs.Print.{version_text}
 use Rattle.node_semver.specs.ReadingBack.{HasText, VersionReadsBack}
-use Rattle.semver_sets.specs.Version.{VersionValue}
-use Rattle.semver_sets.specs.VersionText.{IsVersionText}
 use Rattle.node_semver.specs.Error.{IsReadAs}
 
 -- what `Version::parse` answers to a text, by the facts that it promises

@@ -2,14 +2,14 @@
 use Rattle.std.specs.Prelude.{◌≡◌, ◌⊎◌, ◌↔◌, ℕ, List, Result, IfErr, IfOk, OnOk}
 use Rattle.std.specs.List.{AllByRecursion}
 use Rattle.semver_cuts.specs.Ends.{Ends}
-use Rattle.node_semver.specs.declared.error.SemverError.{SemverError}
-use Rattle.node_semver.specs.Error.{IsOutOfMemory, IsRefusalAt, no_valid_ranges}
 use Rattle.semver_sets.specs.Meaning.{IsRefused, RangeAdmits, TextAdmits}
 use Rattle.semver_sets.specs.Merging.{AreSetsOfText}
 use Rattle.semver_sets.specs.RangePrint.{range_text}
 use Rattle.semver_sets.specs.RangeSets.{IsRangeValue}
-use Rattle.node_semver.specs.ReadingBack.{IsPlainlyBounded, IsReadAsRange, RangeReadsBack}
 use Rattle.semver_sets.specs.Version.{VersionValue}
+use Rattle.node_semver.specs.declared.error.SemverError.{SemverError}
+use Rattle.node_semver.specs.Error.{IsOutOfMemory, IsRefusalAt, no_valid_ranges}
+use Rattle.node_semver.specs.ReadingBack.{IsPlainlyBounded, IsReadAsRange, RangeReadsBack}
 
 -- want of memory aside, the text is refused exactly where no alternative has a comparator and a cut common to all its
 -- comparators; otherwise a version satisfies the answer exactly where the text admits it

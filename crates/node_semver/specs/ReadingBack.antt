@@ -6,8 +6,6 @@ use Rattle.semver_cuts.specs.declared.cut.Cut.{Cut}
 use Rattle.semver_cuts.specs.declared.cut.Cut.TheVariants.{Start, Before, After, End}
 use Rattle.semver_cuts.specs.Ends.{Ends}
 use Rattle.semver_sets.specs.declared.TheConstants.{MAX_LENGTH, MAX_SAFE_INTEGER}
-use Rattle.node_semver.specs.declared.error.SemverError.{SemverError}
-use Rattle.node_semver.specs.Error.{IsOutOfMemory}
 use Rattle.semver_sets.specs.Meaning.{IsRefused}
 use Rattle.semver_sets.specs.Merging.{AreSetsOfText}
 use Rattle.semver_sets.specs.Print.{version_text}
@@ -15,6 +13,8 @@ use Rattle.semver_sets.specs.RangeEquality.{AreSameCuts}
 use Rattle.semver_sets.specs.RangePrint.{range_text}
 use Rattle.semver_sets.specs.Version.{VersionValue}
 use Rattle.semver_sets.specs.VersionText.{IsVersionText}
+use Rattle.node_semver.specs.declared.error.SemverError.{SemverError}
+use Rattle.node_semver.specs.Error.{IsOutOfMemory}
 
 -- ---- versions
 

@@ -14,8 +14,8 @@ use Rattle.semver_sets.specs.Comparison.{version_cmp}
 use Rattle.semver_sets.specs.Division.{IsWritten}
 use Rattle.semver_sets.specs.Meaning.{AnyByRecursion, RangeAdmits}
 use Rattle.semver_sets.specs.Merging.{AreSetsOfText}
-use Rattle.node_semver.specs.RangeAlgebra.{PairAdmits}
 use Rattle.semver_sets.specs.Version.{VersionValue}
+use Rattle.node_semver.specs.RangeAlgebra.{PairAdmits}
 use Rattle.node_semver.specs.declared.tree.SetTree.{SetTree}
 use Rattle.node_semver.specs.declared.tree.SetTree.TheVariants.{Text, Both', Without'}
 

@@ -1,9 +1,9 @@
 -- The laws of version texts: what makes "the version of a text" and "the fault of a text" well said.
 use Rattle.std.specs.Prelude.{◌≡◌, ◌⊎◌, ℕ, List}
-use Rattle.node_semver.specs.Error.{Kind}
-use Rattle.node_semver.specs.Fault.{IsFault}
 use Rattle.semver_sets.specs.Version.{VersionValue}
 use Rattle.semver_sets.specs.VersionText.{IsVersionText}
+use Rattle.node_semver.specs.Error.{Kind}
+use Rattle.node_semver.specs.Fault.{IsFault}
 
 -- the text is no two versions
 abbrev pub HasOneReading : List ℕ → Type 0

@@ -2,9 +2,9 @@
 ghost use Rattle.std.specs.Prelude.{◌≡◌, ◌↔◌, ◌∷◌, [], IfOk, IsTrue};
 ghost use Rattle.semver_sets.specs.Meaning.{RangeAdmits};
 ghost use Rattle.semver_sets.specs.Merging.{all_cuts};
-ghost use Rattle.node_semver.specs.RangeAnswer.{IsRangeAnswer};
 ghost use Rattle.semver_sets.specs.RangeSets.{IsRangeSet, IsRangeValue};
 ghost use Rattle.semver_sets.specs.Searching.{IsShortSearch};
+ghost use Rattle.node_semver.specs.RangeAnswer.{IsRangeAnswer};
 
 mod algebra;
 mod equality;

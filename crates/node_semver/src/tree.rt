@@ -8,10 +8,10 @@ ghost use Rattle.semver_cuts.specs.Rest.{AreRestSpans};
 ghost use Rattle.semver_sets.specs.Comparison.{version_cmp};
 ghost use Rattle.semver_sets.specs.Meaning.{RangeAdmits};
 ghost use Rattle.semver_sets.specs.Merging.{AreSetsOfText};
-ghost use Rattle.node_semver.specs.RangeAlgebra.{sets_of_answer};
 ghost use Rattle.semver_sets.specs.RangeSets.{IsRangeValue};
-ghost use Rattle.node_semver.specs.SetTree.{AreSetsOfTree, InFormula, formula_of};
 ghost use Rattle.semver_sets.specs.Version.{IsPrerelease, VersionValue};
+ghost use Rattle.node_semver.specs.RangeAlgebra.{sets_of_answer};
+ghost use Rattle.node_semver.specs.SetTree.{AreSetsOfTree, InFormula, formula_of};
 
 use crate::{Range, SemverErrorKind};
 use std::alloc::{AllocError, Global};

@@ -1,8 +1,8 @@
 -- What is asked of one thing is asked of another that admits the same versions.
 use Rattle.std.proofs.Common.{◌↔◌, ℕ, List, Bool}
-use Rattle.semver_sets.specs.Version.{VersionValue}
 use Rattle.node_semver_c.specs.Pair.{IsAsked, answered, refused}
 use Rattle.node_semver_c.specs.declared.status.Fault.{Fault}
+use Rattle.semver_sets.specs.Version.{VersionValue}
 
 pub asked_as : (One Other : VersionValue → Type 0) (text : List ℕ) (status : ℕ) (answer : Bool) (fault : Fault)
     → ((v : VersionValue) → One v ↔ Other v) → IsAsked One text status answer fault

@@ -3,17 +3,17 @@ use Rattle.std.proofs.Common.{◌≡◌, suc, ◌+◌, ◌<◌, ◌∙◌, ℕ, 
 use Rattle.std.proofs.Common.{refl, sym, ap, subst, inl, inr, Less, append_assoc, arith}
 use Rattle.std.proofs.lemmas.List.{take_more, length-take-le}
 use Rattle.std.specs.Cmp.{alike_right}
+use Rattle.node_semver_c.specs.Greatest.{IsGreater, IsGreatestOrNone, values}
+use Rattle.node_semver_c.specs.declared.handle.version.VersionRef.{VersionRef}
 use Rattle.semver_cuts.specs.Ends.{Ends}
 use Rattle.semver_cuts.specs.Lemmas.Lists.{all-append}
 use Rattle.semver_sets.specs.Comparison.{version_cmp}
-use Rattle.node_semver.specs.Greatest.{AdmitsNoneIn, IsGreatestAdmitted}
 use Rattle.semver_sets.specs.Meaning.{RangeAdmits}
 use Rattle.semver_sets.specs.Order.{IsBelow, IsSame}
 use Rattle.semver_sets.specs.Version.{VersionValue}
 use Rattle.semver_sets.specs.Lemmas.Order.{Less-version, version-Equal, version-Less, version_total}
+use Rattle.node_semver.specs.Greatest.{AdmitsNoneIn, IsGreatestAdmitted}
 use Rattle.node_semver.proofs.Least.HighestCut.{all-map}
-use Rattle.node_semver_c.specs.Greatest.{IsGreater, IsGreatestOrNone, values}
-use Rattle.node_semver_c.specs.declared.handle.version.VersionRef.{VersionRef}
 
 module _ (sets : List (Ends VersionValue)) where
   -- no admitted version is above this one

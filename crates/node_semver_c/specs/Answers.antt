@@ -1,24 +1,24 @@
 -- What the exports answer, by the clauses of the calls of `node_semver` that they make.
 use Rattle.std.specs.Prelude.{◌≡◌, ◌⊎◌, ◌↔◌, ℕ, List, []}
 use Rattle.std.specs.Prelude.{Option, Some, None, IfSome, IsNone, IsSome, Result, MatchResult}
+use Rattle.node_semver_c.specs.declared.status.Fault.{Fault}
+use Rattle.node_semver_c.specs.declared.status.TheConstants.{OK, NONE, OUT_OF_MEMORY}
+use Rattle.node_semver_c.specs.Status.{IsKept, IsRefusalTold}
 use Rattle.semver_cuts.specs.declared.cut.Cut.{Cut}
 use Rattle.semver_cuts.specs.Common.{IsInSome}
 use Rattle.semver_cuts.specs.CommonSpans.{common_spans}
 use Rattle.semver_cuts.specs.Ends.{Ends}
 use Rattle.semver_cuts.specs.Rest.{AreRestSpans}
 use Rattle.semver_cuts.specs.Sharing.{ShareCut}
-use Rattle.node_semver.specs.declared.error.SemverError.{SemverError}
 use Rattle.semver_sets.specs.Comparison.{version_cmp}
+use Rattle.semver_sets.specs.Meaning.{RangeAdmits}
+use Rattle.semver_sets.specs.RangeSets.{IsRangeValue}
+use Rattle.semver_sets.specs.Version.{IsPrerelease, VersionValue}
+use Rattle.node_semver.specs.declared.error.SemverError.{SemverError}
 use Rattle.node_semver.specs.Error.{refusal_of}
 use Rattle.node_semver.specs.Least.{AdmitsNone, AdmitsNoneBeyond, HasBuildOfFirst, IsAdmittedBy}
 use Rattle.node_semver.specs.Least.{IsLeastAdmitted, IsLeastBeyond}
-use Rattle.semver_sets.specs.Meaning.{RangeAdmits}
 use Rattle.node_semver.specs.RangeAlgebra.{PairAdmits, sets_of_answer}
-use Rattle.semver_sets.specs.RangeSets.{IsRangeValue}
-use Rattle.semver_sets.specs.Version.{IsPrerelease, VersionValue}
-use Rattle.node_semver_c.specs.declared.status.Fault.{Fault}
-use Rattle.node_semver_c.specs.declared.status.TheConstants.{OK, NONE, OUT_OF_MEMORY}
-use Rattle.node_semver_c.specs.Status.{IsKept, IsRefusalTold}
 
 -- ---- texts
 

@@ -1,12 +1,12 @@
 -- The greatest of the versions of an array that a range admits, by its place.
 use Rattle.std.specs.Prelude.{◌≡◌, ◌⊎◌, ℕ, List, [], ◌∷◌, length, Option, Some, None}
 use Rattle.std.specs.declared.cmp.Ordering.TheVariants.{Less}
+use Rattle.node_semver_c.specs.declared.handle.version.VersionRef.{VersionRef}
 use Rattle.semver_cuts.specs.Ends.{Ends}
 use Rattle.semver_sets.specs.Comparison.{version_cmp}
-use Rattle.node_semver.specs.Greatest.{AdmitsNoneIn, IsGreatestAdmitted}
 use Rattle.semver_sets.specs.Meaning.{RangeAdmits}
 use Rattle.semver_sets.specs.Version.{VersionValue}
-use Rattle.node_semver_c.specs.declared.handle.version.VersionRef.{VersionRef}
+use Rattle.node_semver.specs.Greatest.{AdmitsNoneIn, IsGreatestAdmitted}
 
 -- the versions that the handles are lent
 abbrev pub values : List VersionRef → List VersionValue

@@ -1,15 +1,15 @@
 -- What is told of a range text and a version text.
 use Rattle.std.specs.Prelude.{◌≡◌, ◌⊎◌, ◌↔◌, ℕ, List, Bool, IsTrue}
-use Rattle.semver_cuts.specs.Ends.{Ends}
-use Rattle.node_semver.specs.declared.error.SemverError.{SemverError}
-use Rattle.node_semver.specs.Error.{IsOutOfMemory, IsRefusalAt, no_valid_ranges, refusal_of}
-use Rattle.node_semver.specs.Fault.{IsFaultOf}
-use Rattle.semver_sets.specs.Meaning.{IsRefused, RangeAdmits, TextAdmits}
-use Rattle.semver_sets.specs.Version.{VersionValue}
-use Rattle.semver_sets.specs.VersionText.{IsVersionText}
 use Rattle.node_semver_c.specs.declared.status.Fault.{Fault}
 use Rattle.node_semver_c.specs.declared.status.TheConstants.{OK}
 use Rattle.node_semver_c.specs.Status.{IsRefusalTold}
+use Rattle.semver_cuts.specs.Ends.{Ends}
+use Rattle.semver_sets.specs.Meaning.{IsRefused, RangeAdmits, TextAdmits}
+use Rattle.semver_sets.specs.Version.{VersionValue}
+use Rattle.semver_sets.specs.VersionText.{IsVersionText}
+use Rattle.node_semver.specs.declared.error.SemverError.{SemverError}
+use Rattle.node_semver.specs.Error.{IsOutOfMemory, IsRefusalAt, no_valid_ranges, refusal_of}
+use Rattle.node_semver.specs.Fault.{IsFaultOf}
 
 -- status and fault tell some error of which this holds
 pub record IsErrorTold (Is : SemverError → Type 0) (status : ℕ) (fault : Fault) : Type 0 where

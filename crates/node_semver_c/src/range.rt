@@ -1,18 +1,18 @@
 //! Exports on ranges.
 ghost use Rattle.std.specs.Prelude.{◌≡◌, ◌≢◌, ◌↔◌, List, [], IsTrue, IsUtf8, None, true};
+ghost use Rattle.node_semver_c.specs.Answers.{IsSomeTold};
+ghost use Rattle.node_semver_c.specs.Compared.{range_hash};
+ghost use Rattle.node_semver_c.specs.Printed.{IsPrinted};
+ghost use Rattle.node_semver_c.specs.declared.status.TheConstants.{NOT_UTF8};
 ghost use Rattle.semver_cuts.specs.CommonSpans.{common_spans};
 ghost use Rattle.semver_cuts.specs.Ends.{Ends};
 ghost use Rattle.semver_cuts.specs.Sharing.{CoversAll, ShareCut};
 ghost use Rattle.semver_sets.specs.Comparison.{version_cmp};
 ghost use Rattle.semver_sets.specs.Meaning.{RangeAdmits};
-ghost use Rattle.node_semver.specs.RangeAnswer.{IsRangeAnswer};
 ghost use Rattle.semver_sets.specs.RangeEquality.{AreSameCuts, are_same_cuts};
 ghost use Rattle.semver_sets.specs.RangePrint.{range_text};
 ghost use Rattle.semver_sets.specs.Version.{VersionValue};
-ghost use Rattle.node_semver_c.specs.Answers.{IsSomeTold};
-ghost use Rattle.node_semver_c.specs.Compared.{range_hash};
-ghost use Rattle.node_semver_c.specs.Printed.{IsPrinted};
-ghost use Rattle.node_semver_c.specs.declared.status.TheConstants.{NOT_UTF8};
+ghost use Rattle.node_semver.specs.RangeAnswer.{IsRangeAnswer};
 
 use crate::handle::range::{RangeHandle, RangeRef};
 use crate::handle::version::VersionRef;

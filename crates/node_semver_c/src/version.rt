@@ -1,15 +1,15 @@
 //! Exports on versions.
 ghost use Rattle.std.specs.Prelude.{◌≡◌, ◌≢◌, ◌↔◌, IsTrue, IsUtf8, None, true};
 ghost use Rattle.std.specs.Ordering.{eq_by_cmp};
-ghost use Rattle.semver_sets.specs.Comparison.{version_cmp};
-ghost use Rattle.node_semver.specs.Json.{IsVersionAnswer};
-ghost use Rattle.semver_sets.specs.Order.{OrderMeans};
-ghost use Rattle.semver_sets.specs.Print.{version_text};
-ghost use Rattle.semver_sets.specs.Version.{IsPrerelease, VersionValue};
 ghost use Rattle.node_semver_c.specs.Answers.{IsSomeTold};
 ghost use Rattle.node_semver_c.specs.Compared.{sign_of, version_hash};
 ghost use Rattle.node_semver_c.specs.Printed.{IsPrinted};
 ghost use Rattle.node_semver_c.specs.declared.status.TheConstants.{NOT_UTF8};
+ghost use Rattle.semver_sets.specs.Comparison.{version_cmp};
+ghost use Rattle.semver_sets.specs.Order.{OrderMeans};
+ghost use Rattle.semver_sets.specs.Print.{version_text};
+ghost use Rattle.semver_sets.specs.Version.{IsPrerelease, VersionValue};
+ghost use Rattle.node_semver.specs.Json.{IsVersionAnswer};
 
 use crate::handle::version::{VersionHandle, VersionRef};
 use crate::status::{Fault, NOT_UTF8, keep_version, tell};

@@ -7,9 +7,9 @@ use Rattle.semver_cuts.specs.Lemmas.Lists.{any-map}
 use Rattle.semver_sets.specs.Comparator.{Comparator}
 use Rattle.semver_sets.specs.Comparison.{version_cmp}
 use Rattle.semver_sets.specs.Meaning.{Admit, RangeAdmits, TextAdmits}
+use Rattle.semver_sets.specs.Version.{IsPrerelease, VersionValue}
 use Rattle.node_semver.specs.RangeAlgebra.{sets_of_answer}
 use Rattle.node_semver.specs.SetTree.{Formula, InFormula, TextHasCut, both, of_text, without}
-use Rattle.semver_sets.specs.Version.{IsPrerelease, VersionValue}
 
 -- what a range admits lies in one of its sets
 pub admitted-inside : (sets : List (Ends VersionValue)) (v : VersionValue) → RangeAdmits sets v

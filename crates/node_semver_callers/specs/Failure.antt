@@ -1,9 +1,9 @@
 -- Why there is no answer to a range text.
 use Rattle.std.specs.Prelude.{◌⊎◌, ℕ, List}
-use Rattle.node_semver.specs.Error.{IsOutOfMemory, IsRefusalAt, no_valid_ranges}
-use Rattle.semver_sets.specs.Meaning.{IsRefused}
 use Rattle.node_semver_callers.specs.declared.failure.Failure.{Failure}
 use Rattle.node_semver_callers.specs.declared.failure.Failure.TheVariants.{Memory, Refused}
+use Rattle.semver_sets.specs.Meaning.{IsRefused}
+use Rattle.node_semver.specs.Error.{IsOutOfMemory, IsRefusalAt, no_valid_ranges}
 
 -- the text is refused and the failure has its refusal, or memory ran out
 abbrev pub IsFailureOf : List ℕ → Failure → Type 0

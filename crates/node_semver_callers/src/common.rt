@@ -1,10 +1,10 @@
 //! What two dependents have in common: one range for both, if there is one.
 
 ghost use Rattle.std.specs.Prelude.{◌⊎◌, ◌↔◌, IfErr, IfOk, IsNone};
-ghost use Rattle.semver_sets.specs.Meaning.{RangeAdmits, TextAdmits};
-ghost use Rattle.node_semver.specs.RangeAlgebra.{sets_of_answer};
-ghost use Rattle.semver_sets.specs.Version.{IsPrerelease, VersionValue};
 ghost use Rattle.node_semver_callers.specs.Failure.{IsFailureOf};
+ghost use Rattle.semver_sets.specs.Meaning.{RangeAdmits, TextAdmits};
+ghost use Rattle.semver_sets.specs.Version.{IsPrerelease, VersionValue};
+ghost use Rattle.node_semver.specs.RangeAlgebra.{sets_of_answer};
 
 use crate::Failure;
 use node_semver::Range;

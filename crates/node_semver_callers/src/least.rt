@@ -1,10 +1,10 @@
 //! The least version that a manifest allows: what to install to see whether it still works with it.
 
 ghost use Rattle.std.specs.Prelude.{◌↔◌, IfErr, IfOk, IfSome, IsNone};
+ghost use Rattle.node_semver_callers.specs.Failure.{IsFailureOf};
 ghost use Rattle.semver_sets.specs.Meaning.{TextAdmits};
 ghost use Rattle.semver_sets.specs.Order.{IsBelow};
 ghost use Rattle.semver_sets.specs.Version.{VersionValue};
-ghost use Rattle.node_semver_callers.specs.Failure.{IsFailureOf};
 
 use crate::Failure;
 use node_semver::{Range, Version};

@@ -1,11 +1,11 @@
 //! Does the version in a lock file still fit what the manifest asks for?
 
 ghost use Rattle.std.specs.Prelude.{◌⊎◌, ◌↔◌, IfErr, IfOk, IsTrue};
-ghost use Rattle.node_semver.specs.Error.{IsOutOfMemory, IsRefusalAt, no_valid_ranges};
-ghost use Rattle.node_semver.specs.Fault.{IsFaultOf};
 ghost use Rattle.semver_sets.specs.Meaning.{IsRefused, TextAdmits};
 ghost use Rattle.semver_sets.specs.Version.{VersionValue};
 ghost use Rattle.semver_sets.specs.VersionText.{IsVersionText};
+ghost use Rattle.node_semver.specs.Error.{IsOutOfMemory, IsRefusalAt, no_valid_ranges};
+ghost use Rattle.node_semver.specs.Fault.{IsFaultOf};
 
 use node_semver::{Range, SemverError, Version};
 use std::alloc::Global;

@@ -2,9 +2,9 @@
 
 ghost use Rattle.std.specs.Prelude.{◌≡◌, ◌↔◌, IfOk};
 ghost use Rattle.semver_sets.specs.Meaning.{RangeAdmits, TextAdmits};
+ghost use Rattle.semver_sets.specs.Version.{IsPrerelease, VersionValue};
 ghost use Rattle.node_semver.specs.RangeAlgebra.{sets_of_answer};
 ghost use Rattle.node_semver.specs.SetTree.{formula_of, of_text};
-ghost use Rattle.semver_sets.specs.Version.{IsPrerelease, VersionValue};
 
 use node_semver::{Range, SetTree};
 use std::alloc::{AllocError, Global};

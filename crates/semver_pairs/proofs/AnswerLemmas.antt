@@ -3,17 +3,17 @@ use Rattle.std.proofs.Common.{◌≡◌, ◌⊎◌, ℕ, List, [], ◌∷◌, �
 use Rattle.std.specs.Str.{is_utf8}
 use Rattle.std.proofs.lemmas.Bool.{cases_Bool}
 use Rattle.std.proofs.lemmas.Str.{IsUtf8-from_is_utf8, is_utf8-from_IsUtf8}
-use Rattle.node_semver.specs.ErrorLocation.{newline}
-use Rattle.semver_sets.specs.Meaning.{TextAdmits}
-use Rattle.semver_sets.specs.Version.{VersionValue}
-use Rattle.semver_sets.specs.VersionText.{IsVersionText}
-use Rattle.semver_sets.proofs.Ranges.Decisions.{Decided, admits_or_not, refused_or_not}
-use Rattle.node_semver.proofs.Versions.FaultLemmas.{read_or_faulty, version-no_fault}
-use Rattle.semver_sets.proofs.Versions.OneReading.{one_reading}
 use Rattle.semver_pairs.specs.Answer.{IsAnswer, IsBadRange, IsBadVersion, IsGoodRange, IsGoodVersion}
 use Rattle.semver_pairs.specs.Answer.{admitted, bad_range, bad_version, turned_away}
 use Rattle.semver_pairs.specs.Output.{HasAnswers, HasOneAnswer, IsPairAnswer}
 use Rattle.semver_pairs.specs.Pairs.{Pair, both, lone}
+use Rattle.semver_sets.specs.Meaning.{TextAdmits}
+use Rattle.semver_sets.specs.Version.{VersionValue}
+use Rattle.semver_sets.specs.VersionText.{IsVersionText}
+use Rattle.semver_sets.proofs.Ranges.Decisions.{Decided, admits_or_not, refused_or_not}
+use Rattle.semver_sets.proofs.Versions.OneReading.{one_reading}
+use Rattle.node_semver.specs.ErrorLocation.{newline}
+use Rattle.node_semver.proofs.Versions.FaultLemmas.{read_or_faulty, version-no_fault}
 
 -- ---- a line is bad or good, and not both
 

@@ -2,23 +2,23 @@
 use Rattle.std.proofs.Common.{◌≡◌, ℕ, [], ◌∷◌, codes, refl, inl, inr, true, false, Some, arith}
 use Rattle.std.specs.Str.{chars, is_utf8, IsUtf8}
 use Rattle.std.proofs.lemmas.Str.{is_utf8-from_IsUtf8}
+use Rattle.semver_pairs.specs.Answer.{admitted, bad_range, bad_version, IsBadVersion, IsGoodRange, IsGoodVersion}
+use Rattle.semver_pairs.specs.Lines.{divided}
+use Rattle.semver_pairs.specs.Output.{IsOutput, IsOutputPrefix}
+use Rattle.semver_pairs.specs.Pairs.{both, lone, lines_read, pairs_read}
 use Rattle.semver_sets.specs.Comparator.{from_up_to, with_major}
-use Rattle.node_semver.specs.Error.{context}
-use Rattle.node_semver.specs.Fault.{IsFault}
 use Rattle.semver_sets.specs.IdentifierValue.{alphanumeric, numeric}
 use Rattle.semver_sets.specs.Meaning.{TextAdmits}
 use Rattle.semver_sets.specs.Private.Reading.{rest_of, skip_one, skip_plus, read_build, read_extras, prefix_of}
 use Rattle.semver_sets.specs.Private.Reading.{list_rest, list_prefix, read_version, read_number, read_triple, read_dot}
 use Rattle.semver_sets.specs.Private.Reading.{read_prerelease, read_unmarked}
 use Rattle.semver_sets.specs.Version.{VersionValue, least_of, release}
-use Rattle.node_semver.proofs.Versions.FaultLemmas.{fault-computed, version-no_fault}
 use Rattle.semver_sets.proofs.Versions.OneReading.{read-version}
 use Rattle.semver_sets.proofs.Examples.RangeComputing.{accepted-by, admits-by, alternatives_in, written-by}
 use Rattle.semver_sets.proofs.Examples.RangeExamples.{no_word-refused}
-use Rattle.semver_pairs.specs.Answer.{admitted, bad_range, bad_version, IsBadVersion, IsGoodRange, IsGoodVersion}
-use Rattle.semver_pairs.specs.Lines.{divided}
-use Rattle.semver_pairs.specs.Output.{IsOutput, IsOutputPrefix}
-use Rattle.semver_pairs.specs.Pairs.{both, lone, lines_read, pairs_read}
+use Rattle.node_semver.specs.Error.{context}
+use Rattle.node_semver.specs.Fault.{IsFault}
+use Rattle.node_semver.proofs.Versions.FaultLemmas.{fault-computed, version-no_fault}
 
 -- ---- lines and pairs
 

@@ -3,14 +3,14 @@ ghost use Rattle.std.specs.Prelude.{◌≡◌, ◌↔◌, ℕ, List, [], false, 
 ghost use Rattle.std.specs.Prelude.{IfOk, IfErr, IfSome, IfNone, OnErr, IsErrOf, IsTrue};
 ghost use Rattle.std.specs.Str.{IsAscii};
 ghost use Rattle.std.specs.Str.Lines.{strip_carriage_return};
-ghost use Rattle.node_semver.specs.Error.{out_of_memory, refusal_of};
-ghost use Rattle.semver_sets.specs.Meaning.{RangeAdmits};
 ghost use Rattle.semver_pairs.specs.Answer.{IsBadRange};
 ghost use Rattle.semver_pairs.specs.GaugeValue.{HasFailed};
 ghost use Rattle.semver_pairs.specs.Pairs.{pairs_read};
 ghost use Rattle.semver_pairs.specs.Private.Answering.{AnswersPast, AnswersRange, AnswersRangeSome, AnswersSome};
 ghost use Rattle.semver_pairs.specs.Private.Answering.{IsAnswerLine, IsReadAs};
 ghost use Rattle.semver_pairs.specs.Private.Splitting.{BeginsWithPair, HasNoNewline};
+ghost use Rattle.semver_sets.specs.Meaning.{RangeAdmits};
+ghost use Rattle.node_semver.specs.Error.{out_of_memory, refusal_of};
 
 use crate::answers::Answers;
 use crate::gauge::Gauge;

@@ -9,13 +9,13 @@ use Rattle.semver_cuts.specs.Ends.{Ends}
 use Rattle.semver_sets.specs.Comparator.{at_least, below, from_up_to}
 use Rattle.semver_sets.specs.Comparison.{version_cmp}
 use Rattle.semver_sets.specs.Meaning.{Admit, AnyByRecursion}
-use Rattle.node_semver.specs.RangeAlgebra.{PairAdmits}
 use Rattle.semver_sets.specs.RangePrint.{range_text}
-use Rattle.node_semver.specs.SetTree.{AreSetsOfTree, Formula, both, of_text}
 use Rattle.semver_sets.specs.Version.{VersionValue, release}
 use Rattle.semver_sets.proofs.Examples.RangeComputing.{admit, admit-iff, any-iff}
 use Rattle.semver_sets.proofs.Examples.SetComputing.{Sets, merged-by, sets_in}
 use Rattle.semver_sets.proofs.Examples.WordExamples.{prerelease}
+use Rattle.node_semver.specs.RangeAlgebra.{PairAdmits}
+use Rattle.node_semver.specs.SetTree.{AreSetsOfTree, Formula, both, of_text}
 
 -- ---- tables
 

@@ -6,15 +6,15 @@ use Rattle.std.specs.List.{AllByRecursion, filter}
 use Rattle.semver_sets.specs.Characters.{is_blank, is_digit, is_identifier_character, is_partial_mark, is_version_mark}
 use Rattle.semver_sets.specs.Characters.{is_x}
 use Rattle.semver_sets.specs.Comparator.{Comparator, exactly}
-use Rattle.node_semver.specs.Error.{other}
-use Rattle.node_semver.specs.Fault.{IsFault}
 use Rattle.semver_sets.specs.IdentifierValue.{alphanumeric}
 use Rattle.semver_sets.specs.Private.Reading.{read_version}
 use Rattle.semver_sets.specs.Version.{VersionValue, release}
 use Rattle.semver_sets.specs.VersionText.{IsVersionText}
-use Rattle.node_semver.proofs.Examples.FaultExamples.{computed, is-computed}
 use Rattle.semver_sets.proofs.Examples.RangeComputing.{AreComputed, AreWritten, all-written, alternatives_in}
 use Rattle.semver_sets.proofs.Versions.OneReading.{read-version}
+use Rattle.node_semver.specs.Error.{other}
+use Rattle.node_semver.specs.Fault.{IsFault}
+use Rattle.node_semver.proofs.Examples.FaultExamples.{computed, is-computed}
 
 -- so many numbers from the first one on: 3 of 5 are 5, 6 and 7
 abbrev counted : ℕ → ℕ → List ℕ

@@ -1,16 +1,16 @@
 -- Worked examples: what the definitions of a version text and of a fault say of some texts.
 use Rattle.std.proofs.Common.{◌≡◌, ℕ, ◌-◌, List, [], ◌∷◌, length, refl, ap, arith, subst}
 use Rattle.std.specs.Prelude.{Option, Some, codes}
-use Rattle.node_semver.specs.Error.{Kind, context, max_int, max_length, other, parse_int}
-use Rattle.node_semver.specs.Fault.{IsFault, too_long}
 use Rattle.semver_sets.specs.IdentifierValue.{IdentifierValue, alphanumeric, numeric}
 use Rattle.semver_sets.specs.Private.Reading.{rest_of, skip_one, skip_plus, read_build, read_extras, prefix_of}
 use Rattle.semver_sets.specs.Private.Reading.{list_rest, list_prefix, read_version, read_number, read_triple, read_dot}
 use Rattle.semver_sets.specs.Private.Reading.{read_prerelease, read_unmarked}
 use Rattle.semver_sets.specs.Version.{VersionValue}
 use Rattle.semver_sets.specs.VersionText.{IsVersionText}
-use Rattle.node_semver.proofs.Versions.FaultLemmas.{fault-computed, fault_of}
 use Rattle.semver_sets.proofs.Versions.OneReading.{read-version}
+use Rattle.node_semver.specs.Error.{Kind, context, max_int, max_length, other, parse_int}
+use Rattle.node_semver.specs.Fault.{IsFault, too_long}
+use Rattle.node_semver.proofs.Versions.FaultLemmas.{fault-computed, fault_of}
 
 -- the fault of a text, computed
 unfoldable pub computed : List ℕ → Option (Kind × ℕ)

@@ -6,12 +6,12 @@ use Rattle.semver_cuts.specs.Ends.{Ends, IsCutAtMost, span_between}
 use Rattle.semver_sets.specs.Comparator.{at_least}
 use Rattle.semver_sets.specs.Comparison.{version_cmp}
 use Rattle.semver_sets.specs.IdentifierValue.{IdentifierValue, alphanumeric, numeric}
-use Rattle.node_semver.specs.Least.{AdmitsNone, HasBuildOfFirst, IsLeastAdmitted, build_at}
 use Rattle.semver_sets.specs.Meaning.{SetAdmits}
 use Rattle.semver_sets.specs.Order.{IsBelow, before_release}
 use Rattle.semver_sets.specs.Version.{VersionValue, least_of, release}
-use Rattle.node_semver.specs.VersionSteps.{HasGreatestPatch, next_version}
 use Rattle.semver_sets.specs.Lemmas.Order.{version-Less}
+use Rattle.node_semver.specs.Least.{AdmitsNone, HasBuildOfFirst, IsLeastAdmitted, build_at}
+use Rattle.node_semver.specs.VersionSteps.{HasGreatestPatch, next_version}
 use Rattle.node_semver.proofs.Least.LeastLemmas.{after-floor}
 use Rattle.node_semver.proofs.Versions.VersionSteps.{next-above, none-before_next}
 

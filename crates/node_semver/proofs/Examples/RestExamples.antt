@@ -14,13 +14,13 @@ use Rattle.semver_cuts.specs.Lemmas.Ends.{at_most_trans, at_most-or-below, below
 use Rattle.semver_sets.specs.Comparator.{above, at_least, at_most, below, with_major, with_minor}
 use Rattle.semver_sets.specs.Comparison.{version_cmp}
 use Rattle.semver_sets.specs.IdentifierValue.{alphanumeric}
-use Rattle.node_semver.specs.Least.{build_at}
 use Rattle.semver_sets.specs.Lemmas.Order.{version_total}
-use Rattle.node_semver.specs.SetTree.{of_text, without}
 use Rattle.semver_sets.specs.Version.{VersionValue, least_of, release}
-use Rattle.node_semver.proofs.Examples.AlgebraExamples.{GivesPrint}
 use Rattle.semver_sets.proofs.Examples.SetComputing.{Sets, merged-by, sets_in}
 use Rattle.semver_sets.proofs.Examples.SetExamples.{from_to}
+use Rattle.node_semver.specs.Least.{build_at}
+use Rattle.node_semver.specs.SetTree.{of_text, without}
+use Rattle.node_semver.proofs.Examples.AlgebraExamples.{GivesPrint}
 
 -- ---- one piece
 

@@ -6,13 +6,13 @@ use Rattle.semver_cuts.specs.declared.cut.Cut.{Cut}
 use Rattle.semver_cuts.specs.declared.cut.Cut.TheVariants.{Before}
 use Rattle.semver_sets.specs.Comparator.{Comparator, at_least, below, with_major}
 use Rattle.semver_sets.specs.Meaning.{AnyByRecursion}
-use Rattle.node_semver.specs.SetTree.{Formula, InFormula, TextHasCut, both, of_text, without}
 use Rattle.semver_sets.specs.Version.{VersionValue, least_of, release}
 use Rattle.semver_sets.proofs.Ranges.AlternativeLemmas.{written-unique}
 use Rattle.semver_sets.proofs.Examples.RangeComputing.{Holds, all-iff, alternatives_in, any-iff, elements-iff}
 use Rattle.semver_sets.proofs.Examples.RangeComputing.{has_elements, holds, holds-iff, lies_in, lies_in_some}
 use Rattle.semver_sets.proofs.Examples.RangeComputing.{refused-by, written-by}
 use Rattle.semver_sets.proofs.Examples.RangeExamples.{no_word}
+use Rattle.node_semver.specs.SetTree.{Formula, InFormula, TextHasCut, both, of_text, without}
 use Rattle.node_semver.proofs.Sets.TextCuts.{HasCutSome, refused-cut}
 
 -- ---- a test that computes

@@ -3,11 +3,11 @@ use Rattle.std.proofs.Common.{◌≡◌, ◌↔◌, ◌⊎◌, Bool, true, false
 use Rattle.std.proofs.lemmas.Bool.{cases_Bool}
 use Rattle.std.specs.List.{list_any}
 use Rattle.semver_cuts.specs.Ends.{Ends}
-use Rattle.node_semver.specs.Least.{AdmitsNoneBeyond, IsAdmittedBy}
 use Rattle.semver_sets.specs.Meaning.{RangeAdmits, SetAdmits}
 use Rattle.semver_sets.specs.Version.{VersionValue}
-use Rattle.node_semver.specs.Private.BeyondViews.{AreUppersTried, IsLeastBeyondOrNone}
 use Rattle.semver_sets.proofs.Examples.RangeComputing.{admit, admit-iff, any-iff}
+use Rattle.node_semver.specs.Least.{AdmitsNoneBeyond, IsAdmittedBy}
+use Rattle.node_semver.specs.Private.BeyondViews.{AreUppersTried, IsLeastBeyondOrNone}
 use Rattle.node_semver.proofs.Least.BeyondLemmas.{best-least}
 
 -- ---- a list of sets admits a version or does not

@@ -10,11 +10,11 @@ use Rattle.semver_sets.specs.Comparison.{version_cmp}
 use Rattle.semver_sets.specs.IdentifierValue.{IdentifierValue, numeric}
 use Rattle.semver_sets.specs.Meaning.{Opens}
 use Rattle.semver_sets.specs.Version.{HasSameTriple, IsPrerelease, VersionValue, least_of, release, without_build}
-use Rattle.node_semver.specs.VersionSteps.{with_zero}
 use Rattle.semver_sets.specs.Lemmas.Order.{Less-version, version-Equal, version_total}
+use Rattle.semver_sets.proofs.Sets.Convex.{by-value, from-cmp, prerelease-below, triple-back, triple-between}
+use Rattle.node_semver.specs.VersionSteps.{with_zero}
 use Rattle.node_semver.specs.Private.BeyondViews.{after_by, before_by, candidates_at}
 use Rattle.node_semver.proofs.Least.LeastLemmas.{IsFloor, after-floor, at-least, before-floor, same-floor, start-floor}
-use Rattle.semver_sets.proofs.Sets.Convex.{by-value, from-cmp, prerelease-below, triple-back, triple-between}
 use Rattle.node_semver.proofs.Versions.VersionSteps.{none-below_least, none-between_patches, none-between_zeros}
 use Rattle.node_semver.proofs.Versions.VersionSteps.{patch-above, prerelease-from_below, with_zero-above}
 

@@ -8,10 +8,10 @@ use Rattle.semver_cuts.specs.Ends.{Ends, IsCutAtMost, IsCutBelow}
 use Rattle.semver_cuts.specs.Lemmas.Ends.{at_most-below, at_most-or-below, at_most_trans}
 use Rattle.semver_sets.specs.Comparison.{version_cmp}
 use Rattle.semver_sets.specs.IdentifierValue.{IdentifierValue}
-use Rattle.node_semver.specs.Least.{AdmitsBeyond}
 use Rattle.semver_sets.specs.Meaning.{Opens, SetAdmits}
 use Rattle.semver_sets.specs.Version.{IsPrerelease, VersionValue}
 use Rattle.semver_sets.specs.Lemmas.Order.{Less-version, version-Less, version_total}
+use Rattle.node_semver.specs.Least.{AdmitsBeyond}
 use Rattle.node_semver.specs.Private.BeyondViews.{IsBest, IsCutTried, IsLeastBeyondOrNone, IsNotBelow, IsSetTried}
 use Rattle.node_semver.specs.Private.BeyondViews.{IsTried, candidates_at}
 use Rattle.node_semver.proofs.Least.BeyondCandidates.{least_of_triple, prerelease-candidate, release-candidate}

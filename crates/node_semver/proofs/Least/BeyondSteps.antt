@@ -9,11 +9,11 @@ use Rattle.semver_cuts.specs.Ends.{Ends}
 use Rattle.semver_cuts.specs.Lemmas.Lists.{all-append}
 use Rattle.semver_sets.specs.Comparison.{version_cmp}
 use Rattle.semver_sets.specs.IdentifierValue.{IdentifierValue}
-use Rattle.node_semver.specs.Least.{AdmitsBeyond}
 use Rattle.semver_sets.specs.Meaning.{SetAdmits}
 use Rattle.semver_sets.specs.Version.{IsPrerelease, VersionValue, least_of, release, without_build}
-use Rattle.node_semver.specs.VersionSteps.{with_zero}
 use Rattle.semver_sets.specs.Lemmas.Order.{version_total}
+use Rattle.node_semver.specs.Least.{AdmitsBeyond}
+use Rattle.node_semver.specs.VersionSteps.{with_zero}
 use Rattle.node_semver.specs.Private.BeyondViews.{AreSetsTried, AreUppersTried, IsBelowBest, IsCutTrial, IsCutTried}
 use Rattle.node_semver.specs.Private.BeyondViews.{IsLeastOpened, IsOpenTrial, IsSetTrial, IsSetTried, IsShut, IsStep}
 use Rattle.node_semver.specs.Private.BeyondViews.{IsTrial, IsTried, after_by, before_by, candidates_at}

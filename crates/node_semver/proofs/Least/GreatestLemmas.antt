@@ -7,11 +7,11 @@ use Rattle.std.specs.Option.{option_map}
 use Rattle.semver_cuts.specs.Ends.{Ends}
 use Rattle.semver_cuts.specs.Lemmas.Lists.{all-append}
 use Rattle.semver_sets.specs.Comparison.{version_cmp}
-use Rattle.node_semver.specs.Greatest.{AdmitsNoneIn, IsGreatestAdmitted}
 use Rattle.semver_sets.specs.Meaning.{RangeAdmits}
 use Rattle.semver_sets.specs.Order.{IsBelow, IsSame}
 use Rattle.semver_sets.specs.Version.{VersionValue}
 use Rattle.semver_sets.specs.Lemmas.Order.{Less-version, version-Equal, version-Less, version_total}
+use Rattle.node_semver.specs.Greatest.{AdmitsNoneIn, IsGreatestAdmitted}
 use Rattle.node_semver.specs.Private.GreatestViews.{IsGreater, IsGreatestOrNone}
 use Rattle.node_semver.proofs.Least.HighestCut.{all-map}
 

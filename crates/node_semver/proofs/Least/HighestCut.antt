@@ -7,11 +7,11 @@ use Rattle.semver_cuts.specs.Ends.{Ends, IsCutAtMost}
 use Rattle.semver_cuts.specs.Lemmas.Ends.{at_most-below, at_most-or-below, at_most_refl, at_most_trans}
 use Rattle.semver_cuts.specs.Lemmas.Ends.{below-not-at_most}
 use Rattle.semver_sets.specs.Comparison.{version_cmp}
-use Rattle.node_semver.specs.Least.{AdmitsBeyond}
 use Rattle.semver_sets.specs.Meaning.{AnyByRecursion, HasOpenEnd, Opens, SetAdmits}
 use Rattle.semver_sets.specs.Version.{HasSameTriple, IsPrerelease, VersionValue}
 use Rattle.semver_sets.specs.Lemmas.Order.{version_total}
 use Rattle.semver_sets.proofs.Sets.Convex.{triple-back}
+use Rattle.node_semver.specs.Least.{AdmitsBeyond}
 
 -- ---- lists
 

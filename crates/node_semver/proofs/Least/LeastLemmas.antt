@@ -9,14 +9,14 @@ use Rattle.semver_cuts.specs.Ends.{Ends, HoldsCut, IsCutAtMost, IsCutBelow}
 use Rattle.semver_cuts.specs.Lemmas.Ends.{at_most-below, at_most_trans}
 use Rattle.semver_sets.specs.Comparison.{version_cmp}
 use Rattle.semver_sets.specs.IdentifierValue.{IdentifierValue, numeric}
-use Rattle.node_semver.specs.Least.{build_at}
 use Rattle.semver_sets.specs.Meaning.{HasOpenEnd, Opens, SetAdmits}
 use Rattle.semver_sets.specs.Order.{IsBelow}
 use Rattle.semver_sets.specs.Version.{HasSameTriple, IsPrerelease, VersionValue, least_of, release}
-use Rattle.node_semver.specs.VersionSteps.{with_zero}
 use Rattle.semver_sets.specs.Lemmas.Order.{Greater-turned, Less-version, version-Equal, version-Less, version_total}
-use Rattle.node_semver.specs.Private.LeastViews.{IsInsideOrNone, IsLeastInSet, IsLeastOfSet, IsLeastOfTriple}
 use Rattle.semver_sets.proofs.Sets.Convex.{from-cmp, triple-between}
+use Rattle.node_semver.specs.Least.{build_at}
+use Rattle.node_semver.specs.VersionSteps.{with_zero}
+use Rattle.node_semver.specs.Private.LeastViews.{IsInsideOrNone, IsLeastInSet, IsLeastOfSet, IsLeastOfTriple}
 use Rattle.node_semver.proofs.Versions.VersionSteps.{none-below_first, none-between_patches, none-between_zeros}
 use Rattle.node_semver.proofs.Versions.VersionSteps.{patch-above, prerelease-from_below, with_zero-above}
 

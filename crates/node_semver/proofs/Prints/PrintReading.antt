@@ -15,7 +15,6 @@ use Rattle.semver_sets.specs.IdentifierValue.{IdentifierValue, numeric}
 use Rattle.semver_sets.specs.NumberText.{IsNumberText, number_of}
 use Rattle.semver_sets.specs.Print.{identifier_text, marked_text, version_text}
 use Rattle.semver_sets.specs.RangeSets.{IsReadIdentifier}
-use Rattle.node_semver.specs.ReadingBack.{HasText, HasTextNumbers, VersionReadsBack}
 use Rattle.semver_sets.specs.Version.{VersionValue}
 use Rattle.semver_sets.specs.VersionText.{IsMarked, IsUnmarkedVersion, IsVersionText}
 use Rattle.semver_sets.proofs.Texts.Digits.{digits-numerals}
@@ -24,6 +23,7 @@ use Rattle.semver_sets.proofs.Texts.LongestReading.{digit-character}
 use Rattle.semver_sets.proofs.Words.PartialBounds.{build-read, prerelease-read}
 use Rattle.semver_sets.proofs.Texts.Prefixes.{begins-append}
 use Rattle.semver_sets.proofs.Texts.Characters.{digit-no_version_mark}
+use Rattle.node_semver.specs.ReadingBack.{HasText, HasTextNumbers, VersionReadsBack}
 
 -- ---- numbers
 

@@ -5,18 +5,18 @@ use Rattle.std.specs.List.{AllByRecursion}
 use Rattle.semver_cuts.specs.Ends.{Ends}
 use Rattle.semver_sets.specs.Comparator.{Comparator}
 use Rattle.semver_sets.specs.Division.{AreLaterAlternatives, IsPieces, IsWritten}
-use Rattle.node_semver.specs.declared.error.SemverError.{SemverError}
-use Rattle.node_semver.specs.Error.{IsOutOfMemory, IsRefusalAt, no_valid_ranges}
 use Rattle.semver_sets.specs.Meaning.{IsRefused}
 use Rattle.semver_sets.specs.Merging.{AreSetsOf, AreSetsOfText, none, one_more}
 use Rattle.semver_sets.specs.RangeEquality.{AreSameCuts}
 use Rattle.semver_sets.specs.RangePrint.{range_text, set_text}
 use Rattle.semver_sets.specs.RangeSets.{IsRangeSet, IsRangeValue}
-use Rattle.node_semver.specs.ReadingBack.{IsPlainlyBounded, IsReadAsEqual, IsReadAsRange, RangeReadsBack}
 use Rattle.semver_sets.specs.Version.{VersionValue}
 use Rattle.semver_sets.proofs.Sets.Merging.{merged-gives}
 use Rattle.semver_sets.proofs.Words.NoBars.{no_bars-of_none, no_end-of_none}
 use Rattle.semver_sets.proofs.Sets.SetLemmas.{empty-from_refused, one-merging}
+use Rattle.node_semver.specs.declared.error.SemverError.{SemverError}
+use Rattle.node_semver.specs.Error.{IsOutOfMemory, IsRefusalAt, no_valid_ranges}
+use Rattle.node_semver.specs.ReadingBack.{IsPlainlyBounded, IsReadAsEqual, IsReadAsRange, RangeReadsBack}
 use Rattle.node_semver.proofs.Prints.SetPrintReading.{IsReadAlike, set-read}
 use Rattle.node_semver.proofs.Prints.WordPrintReading.{solid-begins}
 

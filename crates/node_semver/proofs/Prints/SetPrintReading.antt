@@ -18,13 +18,13 @@ use Rattle.semver_sets.specs.Operators.{greater, greater_or_equal, less, less_or
 use Rattle.semver_sets.specs.Print.{version_text}
 use Rattle.semver_sets.specs.RangePrint.{both_text, ends_text, lower_text, set_text, upper_text}
 use Rattle.semver_sets.specs.RangeSets.{IsRangeSet, IsReadCut, IsReadVersion}
-use Rattle.node_semver.specs.ReadingBack.{HasTextNumbers, IsPlainlyBounded, IsTextCut, IsUnbounded}
 use Rattle.semver_sets.specs.Version.{VersionValue}
 use Rattle.semver_sets.specs.Private.WordReading.{is_solid}
 use Rattle.semver_sets.proofs.Texts.IdentifierReading.{pick-false, pick-true}
 use Rattle.semver_sets.proofs.Sets.Merging.{set-one, set-push}
 use Rattle.semver_sets.proofs.Words.NoBars.{HasNoBar, none-append}
 use Rattle.semver_sets.proofs.Texts.Prefixes.{begins-append}
+use Rattle.node_semver.specs.ReadingBack.{HasTextNumbers, IsPlainlyBounded, IsTextCut, IsUnbounded}
 use Rattle.node_semver.proofs.Prints.PrintReading.{IsTextVersion}
 use Rattle.node_semver.proofs.Prints.WordPrintReading.{IsPrintedWord, operator-word, solid-begins, version-word}
 

@@ -19,9 +19,9 @@ use Rattle.semver_sets.proofs.Words.LeadReading.{lead-not_partial, lead-operator
 use Rattle.semver_sets.proofs.Words.NoBars.{HasNoBar, simple-none}
 use Rattle.semver_sets.proofs.Words.PartialReading.{partial-again}
 use Rattle.semver_sets.proofs.Texts.Prefixes.{begins-append}
-use Rattle.node_semver.proofs.Prints.PrintReading.{IsTextVersion, print-begins, three-printed, unmarked}
 use Rattle.semver_sets.proofs.Words.WordLemmas.{hyphen-with_left, no-hyphen, right-no_blank}
 use Rattle.semver_sets.proofs.Texts.Characters.{digit-no_blank}
+use Rattle.node_semver.proofs.Prints.PrintReading.{IsTextVersion, print-begins, three-printed, unmarked}
 
 -- ---- the print of a version as a partial
 

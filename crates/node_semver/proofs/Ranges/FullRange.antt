@@ -10,13 +10,13 @@ use Rattle.semver_sets.specs.Merging.{AreSetsOfText}
 use Rattle.semver_sets.specs.RangeSets.{IsRangeValue}
 use Rattle.semver_sets.specs.Version.{VersionValue, least_of, release}
 use Rattle.semver_sets.specs.Private.RangeViews.{IsFull, IsFullText, full_comparator, listed_set}
-use Rattle.node_semver.specs.Private.AnswerViews.{IsReadRange}
 use Rattle.semver_sets.specs.Private.Reading.{rest_of}
 use Rattle.semver_sets.specs.Private.WordReading.{Lead, caret_lead, no_lead, read_lead, tilde_lead}
 use Rattle.semver_sets.proofs.Words.LeadReading.{lead-none}
 use Rattle.semver_sets.proofs.Ranges.OnlySet.{only-between, only-value}
 use Rattle.semver_sets.proofs.Ranges.OnlyWord.{only-word}
 use Rattle.semver_sets.proofs.Texts.Characters.{digit-no_blank}
+use Rattle.node_semver.specs.Private.AnswerViews.{IsReadRange}
 
 -- ---- texts
 

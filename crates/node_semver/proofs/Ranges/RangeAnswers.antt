@@ -2,13 +2,13 @@
 use Rattle.std.proofs.Common.{ℕ, List, Ok, Err}
 use Rattle.std.specs.Prelude.{Result}
 use Rattle.semver_cuts.specs.Ends.{Ends}
-use Rattle.node_semver.specs.RangeAnswer.{IsRangeAnswer}
 use Rattle.semver_sets.specs.Version.{VersionValue}
+use Rattle.semver_sets.proofs.Ranges.RangeBounds.{text-bounded}
+use Rattle.semver_sets.proofs.Sets.SetLemmas.{empty-from_refused, text-admits}
+use Rattle.node_semver.specs.RangeAnswer.{IsRangeAnswer}
 use Rattle.node_semver.specs.Private.AnswerViews.{IsReadRange}
 use Rattle.node_semver.specs.declared.error.SemverError.{SemverError}
 use Rattle.node_semver.proofs.Prints.RangePrintReading.{print-read, range-reads_back}
-use Rattle.semver_sets.proofs.Ranges.RangeBounds.{text-bounded}
-use Rattle.semver_sets.proofs.Sets.SetLemmas.{empty-from_refused, text-admits}
 
 -- each fact that is promised of it
 pub read-answer : (text : List ℕ) (r : Result (List (Ends VersionValue)) SemverError) → IsReadRange text r

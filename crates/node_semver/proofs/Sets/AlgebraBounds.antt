@@ -11,9 +11,9 @@ use Rattle.semver_cuts.specs.Lemmas.CommonSpans.{common_spans-ends, common_spans
 use Rattle.semver_cuts.specs.Lemmas.Rest.{rest_spans-ends, rest_spans-hold}
 use Rattle.semver_sets.specs.Comparison.{version_cmp}
 use Rattle.semver_sets.specs.Lemmas.Order.{version_total}
-use Rattle.node_semver.specs.RangeAlgebra.{sets_of_answer}
 use Rattle.semver_sets.specs.RangeSets.{IsRangeSet, IsRangeValue, IsReadCut}
 use Rattle.semver_sets.specs.Version.{VersionValue}
+use Rattle.node_semver.specs.RangeAlgebra.{sets_of_answer}
 
 -- ---- the sets
 

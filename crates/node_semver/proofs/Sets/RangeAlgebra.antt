@@ -18,9 +18,9 @@ use Rattle.semver_sets.specs.Comparison.{version_cmp}
 use Rattle.semver_sets.specs.Lemmas.Order.{version_total}
 use Rattle.semver_sets.specs.Meaning.{Admit, AnyByRecursion, RangeAdmits, SetAdmits}
 use Rattle.semver_sets.specs.Merging.{IsSetOf}
-use Rattle.node_semver.specs.RangeAlgebra.{PairAdmits}
 use Rattle.semver_sets.specs.Version.{IsPrerelease, VersionValue}
 use Rattle.semver_sets.proofs.Sets.Merging.{merged-admits, set-one, set-push}
+use Rattle.node_semver.specs.RangeAlgebra.{PairAdmits}
 
 -- ---- releases
 

@@ -8,11 +8,11 @@ use Rattle.semver_sets.specs.Comparator.{Comparator}
 use Rattle.semver_sets.specs.Comparison.{version_cmp}
 use Rattle.semver_sets.specs.Meaning.{AnyByRecursion, IsRefused}
 use Rattle.semver_sets.specs.Merging.{AreSetsOf, AreSetsOfText, no_more, none, one_more}
-use Rattle.node_semver.specs.SetTree.{TextHasCut}
 use Rattle.semver_sets.specs.Version.{VersionValue}
 use Rattle.semver_sets.specs.Lemmas.Order.{version_total}
 use Rattle.semver_sets.proofs.Ranges.AlternativeLemmas.{written-unique}
 use Rattle.semver_sets.proofs.Ranges.MeaningLemmas.{NoneGive, none-from_refused}
+use Rattle.node_semver.specs.SetTree.{TextHasCut}
 
 -- the alternative is not empty, and the cut lies in all of its comparators
 abbrev pub HasCutSome : Cut VersionValue → List Comparator → Type 0

@@ -5,10 +5,10 @@ use Rattle.semver_cuts.specs.declared.cut.Cut.{Cut}
 use Rattle.semver_cuts.specs.declared.cut.Cut.TheVariants.{Before}
 use Rattle.semver_cuts.specs.Ends.{Ends}
 use Rattle.semver_sets.specs.Meaning.{RangeAdmits}
-use Rattle.node_semver.specs.RangeAlgebra.{sets_of_answer}
 use Rattle.semver_sets.specs.RangeSets.{IsRangeValue}
-use Rattle.node_semver.specs.SetTree.{Formula, InFormula}
 use Rattle.semver_sets.specs.Version.{IsPrerelease, VersionValue}
+use Rattle.node_semver.specs.RangeAlgebra.{sets_of_answer}
+use Rattle.node_semver.specs.SetTree.{Formula, InFormula}
 use Rattle.node_semver.proofs.Sets.AlgebraBounds.{none-exactly}
 use Rattle.node_semver.proofs.Sets.RangeAlgebra.{release-admitted}
 use Rattle.node_semver.proofs.Sets.TreeSets.{HasSetsOf, HaveCutsOf, tree-cuts}

@@ -5,12 +5,12 @@ use Rattle.semver_cuts.specs.Rest.{AreRestSpans}
 use Rattle.semver_sets.specs.Comparison.{version_cmp}
 use Rattle.semver_sets.specs.Lemmas.Order.{version_total}
 use Rattle.semver_sets.specs.Meaning.{RangeAdmits}
+use Rattle.semver_sets.specs.Version.{VersionValue}
+use Rattle.semver_sets.proofs.Sets.SetLemmas.{one-merging}
 use Rattle.node_semver.specs.RangeAlgebra.{PairAdmits}
 use Rattle.node_semver.specs.SetTree.{AdmitInPairs, AreSetsOfTree, Formula, HasOneListOfSets, both, of_text, without}
-use Rattle.semver_sets.specs.Version.{VersionValue}
 use Rattle.node_semver.proofs.Sets.RangeAlgebra.{common-admits}
 use Rattle.node_semver.proofs.Sets.RestUnique.{rest-unique}
-use Rattle.semver_sets.proofs.Sets.SetLemmas.{one-merging}
 use Rattle.node_semver.proofs.Sets.TreeSets.{Sets}
 
 -- no sets have nothing in common with any, and nothing is left of none

@@ -6,9 +6,6 @@ use Rattle.std.proofs.lemmas.List.{length-append}
 use Rattle.std.specs.Prelude.{Option, Some, None, Result, ◌==◌, if◌then◌else◌, nat_le}
 use Rattle.semver_sets.specs.declared.TheConstants.{MAX_LENGTH, MAX_SAFE_INTEGER}
 use Rattle.semver_sets.specs.Characters.{BeginsWithNo, dot, is_blank, is_digit, is_version_mark, mark_of}
-use Rattle.node_semver.specs.Error.{Kind, max_length, other}
-use Rattle.node_semver.specs.Fault.{IsAllDigits, IsFault, HasPrefix, large_number, left_over, no_number, no_dot}
-use Rattle.node_semver.specs.Fault.{too_large, too_long, with_dots}
 use Rattle.semver_sets.specs.NumberText.{number_of}
 use Rattle.semver_sets.specs.Version.{VersionValue}
 use Rattle.semver_sets.specs.VersionText.{IsMarked, IsUnmarkedVersion, IsVersionText}
@@ -17,9 +14,6 @@ use Rattle.semver_sets.specs.Private.Reading.{read_number, read_triple, read_dot
 use Rattle.semver_sets.specs.declared.parse.fault.Fault.{Fault}
 use Rattle.semver_sets.specs.declared.parse.fault.Fault.TheVariants.{TooLarge}
 use Rattle.semver_sets.specs.Private.ReadingViews.{left_of}
-use Rattle.node_semver.specs.Private.FaultViews.{kind_in}
-use Rattle.node_semver.proofs.Versions.FaultReading.{AreNumbers, digits-there, fault-takes, prefix-length, left-takes}
-use Rattle.node_semver.proofs.Versions.FaultReading.{missing_at}
 use Rattle.semver_sets.proofs.Texts.Prefixes.{begins-append, rest_of-again, prefix_of-again, no-append, with-begins}
 use Rattle.semver_sets.proofs.Texts.Prefixes.{with_no-begins}
 use Rattle.semver_sets.proofs.Texts.IdentifierReading.{pick-false, pick-true}
@@ -28,6 +22,12 @@ use Rattle.semver_sets.proofs.Texts.NumberReading.{number-again, dot-again}
 use Rattle.semver_sets.proofs.Texts.Marks.{skip_one-mark}
 use Rattle.semver_sets.proofs.Versions.OneReading.{read-version, version-read}
 use Rattle.semver_sets.proofs.Versions.VersionReading.{numbers-again, regroup, version-follows, version-takes}
+use Rattle.node_semver.specs.Error.{Kind, max_length, other}
+use Rattle.node_semver.specs.Fault.{IsAllDigits, IsFault, HasPrefix, large_number, left_over, no_number, no_dot}
+use Rattle.node_semver.specs.Fault.{too_large, too_long, with_dots}
+use Rattle.node_semver.specs.Private.FaultViews.{kind_in}
+use Rattle.node_semver.proofs.Versions.FaultReading.{AreNumbers, digits-there, fault-takes, prefix-length, left-takes}
+use Rattle.node_semver.proofs.Versions.FaultReading.{missing_at}
 
 -- The fault that a text of this length is told where this is left after a version
 abbrev left_told : ℕ → List ℕ → Option (Kind × ℕ)

@@ -8,9 +8,6 @@ use Rattle.std.specs.Prelude.{Result, ◌==◌, codes, nat_le}
 use Rattle.std.specs.List.{AllByRecursion}
 use Rattle.semver_sets.specs.declared.TheConstants.{MAX_LENGTH, MAX_SAFE_INTEGER}
 use Rattle.semver_sets.specs.Characters.{BeginsWithNo, dot, is_blank, is_digit, is_version_mark, mark_of}
-use Rattle.node_semver.specs.Error.{Kind, context, other}
-use Rattle.node_semver.specs.Fault.{IsAllDigits, IsFault, HasPrefix, large_number, left_over, no_number, no_dot}
-use Rattle.node_semver.specs.Fault.{too_large, with_dots}
 use Rattle.semver_sets.specs.NumberText.{IsNumberText, number_of}
 use Rattle.semver_sets.specs.Version.{VersionValue}
 use Rattle.semver_sets.specs.VersionText.{IsVersionText}
@@ -19,13 +16,16 @@ use Rattle.semver_sets.specs.Private.Reading.{read_triple, read_dot, read_unmark
 use Rattle.semver_sets.specs.declared.parse.fault.Fault.{Fault}
 use Rattle.semver_sets.specs.declared.parse.fault.Fault.TheVariants.{Missing, TooLarge}
 use Rattle.semver_sets.specs.Private.ReadingViews.{left_of}
-use Rattle.node_semver.specs.Private.FaultViews.{kind_in}
 use Rattle.semver_sets.proofs.Texts.Prefixes.{rest_of-no, begins-with, begins-with_no, prefix_of-rest_of}
 use Rattle.semver_sets.proofs.Texts.Prefixes.{prefix_of-again, prefix_of-all, prefix_of-begins}
 use Rattle.semver_sets.proofs.Texts.LongestReading.{version-longest, version-no_digit}
 use Rattle.semver_sets.proofs.Texts.NumberReading.{number-takes, dot-takes, refusal}
 use Rattle.semver_sets.proofs.Texts.Marks.{mark-skip}
 use Rattle.semver_sets.proofs.Versions.VersionReading.{version-takes}
+use Rattle.node_semver.specs.Error.{Kind, context, other}
+use Rattle.node_semver.specs.Fault.{IsAllDigits, IsFault, HasPrefix, large_number, left_over, no_number, no_dot}
+use Rattle.node_semver.specs.Fault.{too_large, with_dots}
+use Rattle.node_semver.specs.Private.FaultViews.{kind_in}
 
 -- a chain that gave a fault
 pub bind-err : {A B : Type 0} (r : Result A Fault) (f : A → Result B Fault) (e : Fault) → (r >>= f) ≡ Err e

@@ -1,18 +1,18 @@
 -- What is answered for a version text, by whether it is a version of the text or tells its fault.
 use Rattle.std.proofs.Common.{◌≡◌, ◌≤◌, ◌⊎◌, ℕ, List, length, Ok, Err, inl, inr}
 use Rattle.std.specs.Prelude.{IfErr, IfOk, Result}
-use Rattle.node_semver.specs.Error.{IsOutOfMemory}
-use Rattle.node_semver.specs.Fault.{IsFaultOf}
 use Rattle.semver_sets.specs.Print.{version_text}
-use Rattle.node_semver.specs.ReadingBack.{HasText, VersionReadsBack}
 use Rattle.semver_sets.specs.Version.{VersionValue}
 use Rattle.semver_sets.specs.VersionText.{IsVersionText}
-use Rattle.node_semver.specs.Error.{IsReadAs}
 use Rattle.semver_sets.specs.declared.TheConstants.{MAX_LENGTH}
+use Rattle.semver_sets.proofs.Versions.OneReading.{one_reading}
+use Rattle.node_semver.specs.Error.{IsOutOfMemory}
+use Rattle.node_semver.specs.Fault.{IsFaultOf}
+use Rattle.node_semver.specs.ReadingBack.{HasText, VersionReadsBack}
+use Rattle.node_semver.specs.Error.{IsReadAs}
 use Rattle.node_semver.specs.declared.error.SemverError.{SemverError}
 use Rattle.node_semver.proofs.Prints.PrintReading.{version-print_read, version-reads_back}
 use Rattle.node_semver.proofs.Versions.FaultLemmas.{version-no_fault}
-use Rattle.semver_sets.proofs.Versions.OneReading.{one_reading}
 
 -- no other version is the text
 pub only-answer : (text : List ℕ) (answer : Result VersionValue SemverError) → IfOk answer (λ v. IsVersionText text v)

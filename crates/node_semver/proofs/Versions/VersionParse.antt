@@ -7,21 +7,21 @@ use Rattle.semver_sets.proofs.Texts.IdentifierReading.{pick-false, pick-true}
 use Rattle.semver_sets.proofs.Texts.Places.{to-end}
 use Rattle.semver_sets.proofs.Texts.Prefixes.{begins-append}
 use Rattle.semver_sets.specs.declared.TheConstants.{MAX_LENGTH}
-use Rattle.node_semver.specs.Error.{Kind, context, max_int, max_length, other, parse_int}
 use Rattle.semver_sets.specs.Characters.{BeginsWith, is_digit}
-use Rattle.node_semver.specs.Fault.{IsFault, large_number, left_over, no_number, no_dot, too_large, too_long}
 use Rattle.semver_sets.specs.NumberText.{number_of}
 use Rattle.semver_sets.specs.Private.Reading.{Read, prefix_of, read_version}
 use Rattle.semver_sets.specs.Private.ReadingViews.{IsPlainOk, IsWantOfMemory}
-use Rattle.node_semver.specs.Private.FaultViews.{IsMemoryOr, kind_in}
 use Rattle.semver_sets.specs.declared.parse.fault.Fault.TheVariants.{TooLarge}
 use Rattle.semver_sets.specs.Version.{VersionValue, release}
 use Rattle.semver_sets.specs.Private.RangeViews.{IsFullText}
 use Rattle.semver_sets.specs.VersionText.{IsVersionText}
 use Rattle.semver_sets.specs.declared.parse.fault.Fault.{Fault}
-use Rattle.node_semver.proofs.Versions.FaultReading.{behind-there, fault-takes, left-takes}
 use Rattle.semver_sets.proofs.Texts.NumberReading.{ok-value}
 use Rattle.semver_sets.proofs.Versions.OneReading.{read-version, version-read}
+use Rattle.node_semver.specs.Error.{Kind, context, max_int, max_length, other, parse_int}
+use Rattle.node_semver.specs.Fault.{IsFault, large_number, left_over, no_number, no_dot, too_large, too_long}
+use Rattle.node_semver.specs.Private.FaultViews.{IsMemoryOr, kind_in}
+use Rattle.node_semver.proofs.Versions.FaultReading.{behind-there, fault-takes, left-takes}
 
 -- nothing is left
 pub whole-found : (text : List ℕ) (v : VersionValue) (rest : List ℕ) → length text ≤ MAX_LENGTH

@@ -12,11 +12,11 @@ use Rattle.semver_sets.specs.IdentifierValue.{IdentifierValue, alphanumeric, num
 use Rattle.semver_sets.specs.Order.{IsBelow, IsListBelow, IsIdentifierBelow, before_release, by_identifiers, by_major}
 use Rattle.semver_sets.specs.Order.{by_minor, by_patch}
 use Rattle.semver_sets.specs.Version.{HasSameTriple, IsPrerelease, VersionValue, least_of}
-use Rattle.node_semver.specs.VersionSteps.{IsIdentifier, IsVersion, next_by, next_version, with_zero}
 use Rattle.semver_sets.specs.declared.identifier.Identifier.{Identifier}
 use Rattle.semver_sets.specs.Lemmas.Order.{Greater-turned, Less-version, identifier-Less, identifier_total, list-Less}
 use Rattle.semver_sets.specs.Lemmas.Order.{version-Less}
 use Rattle.semver_sets.proofs.Sets.Convex.{major≤, minor≤, patch≤, prerelease-below, triple-between}
+use Rattle.node_semver.specs.VersionSteps.{IsIdentifier, IsVersion, next_by, next_version, with_zero}
 
 -- ---- lists of identifiers
 

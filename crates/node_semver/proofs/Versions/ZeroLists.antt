@@ -10,9 +10,9 @@ use Rattle.std.proofs.lemmas.List.{map-append}
 use Rattle.semver_sets.specs.Comparison.{identifier_cmp, prerelease_cmp}
 use Rattle.semver_sets.specs.Identifier.{value_of, values_of}
 use Rattle.semver_sets.specs.IdentifierValue.{IdentifierValue, numeric}
-use Rattle.node_semver.specs.Private.LeastViews.{with_zeros}
 use Rattle.semver_sets.specs.declared.identifier.Identifier.{Identifier}
 use Rattle.semver_sets.specs.Lemmas.Order.{Greater-turned, identifier-IsAntisymmetric, identifier_total}
+use Rattle.node_semver.specs.Private.LeastViews.{with_zeros}
 use Rattle.node_semver.proofs.Versions.VersionSteps.{none-before_zero, zero-above}
 
 -- lists with identifiers, identifier by identifier

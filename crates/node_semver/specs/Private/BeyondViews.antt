@@ -7,9 +7,9 @@ use Rattle.semver_cuts.specs.declared.cut.Cut.TheVariants.{Start, Before, After,
 use Rattle.semver_cuts.specs.Ends.{Ends, IsCutBelow}
 use Rattle.semver_sets.specs.Comparison.{version_cmp}
 use Rattle.semver_sets.specs.IdentifierValue.{IdentifierValue}
-use Rattle.node_semver.specs.Least.{AdmitsBeyond, AdmitsNoneBeyond, IsLeastBeyond}
 use Rattle.semver_sets.specs.Meaning.{Opens, SetAdmits}
 use Rattle.semver_sets.specs.Version.{VersionValue, least_of, release, without_build}
+use Rattle.node_semver.specs.Least.{AdmitsBeyond, AdmitsNoneBeyond, IsLeastBeyond}
 use Rattle.node_semver.specs.VersionSteps.{with_zero}
 
 -- ---- candidates

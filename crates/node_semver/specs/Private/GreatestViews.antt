@@ -3,9 +3,9 @@ use Rattle.std.specs.Prelude.{◌≡◌, ◌⊎◌, List, Option, Some, None}
 use Rattle.std.specs.declared.cmp.Ordering.TheVariants.{Less}
 use Rattle.semver_cuts.specs.Ends.{Ends}
 use Rattle.semver_sets.specs.Comparison.{version_cmp}
-use Rattle.node_semver.specs.Greatest.{AdmitsNoneIn, IsGreatestAdmitted}
 use Rattle.semver_sets.specs.Meaning.{RangeAdmits}
 use Rattle.semver_sets.specs.Version.{VersionValue}
+use Rattle.node_semver.specs.Greatest.{AdmitsNoneIn, IsGreatestAdmitted}
 
 -- the version is above the best so far, or there is none yet
 abbrev pub IsAbove : Option VersionValue → VersionValue → Type 0

@@ -6,9 +6,9 @@ use Rattle.semver_cuts.specs.declared.cut.Cut.TheVariants.{Before}
 use Rattle.semver_cuts.specs.Ends.{Ends, IsCutBelow}
 use Rattle.semver_sets.specs.Comparison.{version_cmp}
 use Rattle.semver_sets.specs.IdentifierValue.{IdentifierValue, numeric}
-use Rattle.node_semver.specs.Least.{AdmitsNone, HasBuildOfFirst, IsLeastAdmitted, build_at}
 use Rattle.semver_sets.specs.Meaning.{Opens, SetAdmits}
 use Rattle.semver_sets.specs.Version.{VersionValue, least_of, release}
+use Rattle.node_semver.specs.Least.{AdmitsNone, HasBuildOfFirst, IsLeastAdmitted, build_at}
 
 -- the identifiers, and a 0 after them where one is added
 abbrev pub with_zeros : List IdentifierValue → Bool → List IdentifierValue

@@ -3,10 +3,10 @@ ghost use Rattle.std.specs.Prelude.{◌≡◌, ◌↔◌, Err, IfOk, IfSome, Non
 ghost use Rattle.serde_json.specs.Data.{string};
 ghost use Rattle.serde_json.specs.Find.{as_str};
 ghost use Rattle.serde_json.specs.View.{view};
+ghost use Rattle.semver_sets.specs.RangePrint.{range_text};
 ghost use Rattle.node_semver.specs.declared.json.JsonError.TheVariants.{NotAString};
 ghost use Rattle.node_semver.specs.Json.{PassesOn};
 ghost use Rattle.node_semver.specs.RangeAnswer.{IsRangeAnswer};
-ghost use Rattle.semver_sets.specs.RangePrint.{range_text};
 
 use crate::{JsonError, Range};
 use serde_json::Value;

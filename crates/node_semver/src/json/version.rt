@@ -3,9 +3,9 @@ ghost use Rattle.std.specs.Prelude.{◌≡◌, ◌↔◌, Err, IfOk, IfSome, Non
 ghost use Rattle.serde_json.specs.Data.{string};
 ghost use Rattle.serde_json.specs.Find.{as_str};
 ghost use Rattle.serde_json.specs.View.{view};
+ghost use Rattle.semver_sets.specs.Print.{version_text};
 ghost use Rattle.node_semver.specs.declared.json.JsonError.TheVariants.{NotAString};
 ghost use Rattle.node_semver.specs.Json.{IsVersionAnswer, PassesOn};
-ghost use Rattle.semver_sets.specs.Print.{version_text};
 
 use crate::{JsonError, Version};
 use serde_json::Value;

@@ -1,9 +1,9 @@
 //! How a range text is read: as the one set of a text without bars, and else alternative after alternative.
 ghost use Rattle.std.specs.Prelude.{IfErr, IsErr};
-ghost use Rattle.node_semver.specs.Error.{IsOutOfMemory};
 ghost use Rattle.semver_sets.specs.Meaning.{IsRefused};
-ghost use Rattle.node_semver.specs.Private.AnswerViews.{IsReadRange};
 ghost use Rattle.semver_sets.specs.declared.read.Unread.TheVariants.{Refused};
+ghost use Rattle.node_semver.specs.Error.{IsOutOfMemory};
+ghost use Rattle.node_semver.specs.Private.AnswerViews.{IsReadRange};
 
 mod full;
 

@@ -1,14 +1,14 @@
 ghost use Rattle.std.specs.Prelude.{◌≡◌, ◌⊎◌, ◌≤◌, [], IfOk, IfErr, IfSome, IsOk, length};
-ghost use Rattle.node_semver.specs.Error.{IsOutOfMemory, kind_of};
-ghost use Rattle.node_semver.specs.Fault.{IsFaultOf};
 ghost use Rattle.semver_sets.specs.Private.ReadingViews.{IsBegun};
-ghost use Rattle.node_semver.specs.Private.FaultViews.{IsErrorOf, IsMemoryOr, kind_in};
 ghost use Rattle.semver_sets.specs.Print.{version_text};
-ghost use Rattle.node_semver.specs.ReadingBack.{HasText, VersionReadsBack};
 ghost use Rattle.semver_sets.specs.declared.TheConstants.{MAX_LENGTH};
 ghost use Rattle.semver_sets.specs.Version.{VersionValue, release};
 ghost use Rattle.semver_sets.specs.declared.parse.fault.Fault.TheVariants.{TooLarge};
 ghost use Rattle.semver_sets.specs.VersionText.{IsVersionText};
+ghost use Rattle.node_semver.specs.Error.{IsOutOfMemory, kind_of};
+ghost use Rattle.node_semver.specs.Fault.{IsFaultOf};
+ghost use Rattle.node_semver.specs.Private.FaultViews.{IsErrorOf, IsMemoryOr, kind_in};
+ghost use Rattle.node_semver.specs.ReadingBack.{HasText, VersionReadsBack};
 ghost use Rattle.node_semver.specs.Error.{IsReadAs};
 
 use crate::version::read::{large_kind, read_after_triple, read_version};

@@ -1,12 +1,12 @@
 //! Versions at the start of a text, and why a number of a text is too large.
 ghost use Rattle.std.specs.Prelude.{◌≡◌};
-ghost use Rattle.node_semver.specs.Error.{kind_of};
-ghost use Rattle.node_semver.specs.Fault as Told;
 ghost use Rattle.semver_sets.specs.Characters as Characters;
 ghost use Rattle.semver_sets.specs.Characters.{BeginsWith};
 ghost use Rattle.semver_sets.specs.NumberText.{number_of};
 ghost use Rattle.semver_sets.specs.Private.Reading as Reading;
 ghost use Rattle.semver_sets.specs.Private.ReadingViews.{Gives, IsBegun, IsPlainOk, version_seen};
+ghost use Rattle.node_semver.specs.Error.{kind_of};
+ghost use Rattle.node_semver.specs.Fault as Told;
 
 use crate::{SemverErrorKind, Version};
 use semver_sets::parse::{Fault, leading_digits, read_extras, read_major, read_minor_and_patch};

@@ -1,12 +1,12 @@
 //! Versions, from the least one, and from each to the next.
 
 ghost use Rattle.std.specs.Prelude.{◌≡◌, ◌↔◌, IfOk, IfSome, IsNone};
+ghost use Rattle.std.specs.List.{AllByRecursion};
 ghost use Rattle.semver_cuts.specs.Steps.{IsLeast, IsNext};
 ghost use Rattle.semver_sets.specs.Comparison.{version_cmp};
 ghost use Rattle.semver_sets.specs.Identifier.{value_of, values_of};
 ghost use Rattle.semver_sets.specs.Version.{least_of};
 ghost use Rattle.node_semver.specs.VersionSteps.{HasGreatestPatch, IsIdentifier, IsVersion, next_version};
-ghost use Rattle.std.specs.List.{AllByRecursion};
 
 use crate::{Identifier, Version};
 use semver_cuts::Stepped;

@@ -2,12 +2,12 @@
 use Rattle.std.specs.Prelude.{◌≡◌, ◌↔◌, ℕ, List, [], ◌∷◌, ◌++◌, Bool, true, Option}
 use Rattle.std.specs.Io.KnownBytes.{Appends}
 use Rattle.std.specs.Str.Lines.{strip_carriage_return}
-use Rattle.node_semver.specs.ErrorLocation.{newline}
-use Rattle.semver_sets.specs.Meaning.{TextAdmits}
-use Rattle.semver_sets.specs.Version.{VersionValue}
 use Rattle.semver_pairs.specs.Answer.{IsAnswer, IsGoodRange}
 use Rattle.semver_pairs.specs.Output.{AreAnswers}
 use Rattle.semver_pairs.specs.Pairs.{pairs_read}
+use Rattle.semver_sets.specs.Meaning.{TextAdmits}
+use Rattle.semver_sets.specs.Version.{VersionValue}
+use Rattle.node_semver.specs.ErrorLocation.{newline}
 
 -- the range line is a good one, and just the versions that its text admits are admitted
 abbrev pub IsReadAs : (line : List ℕ) → (Admits : VersionValue → Type 0) → Type 0

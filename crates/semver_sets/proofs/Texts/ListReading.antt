@@ -3,12 +3,12 @@ use Rattle.std.proofs.Common.{◌≡◌, ℕ, true, false, List, [], ◌∷◌, 
 use Rattle.std.proofs.lemmas.Bool.{and_parts}
 use Rattle.std.specs.Prelude.{◌==◌, length, map}
 use Rattle.std.specs.List.{list_all}
+use Rattle.std.proofs.lemmas.List.{map-append}
 use Rattle.semver_sets.specs.Characters.{AreAll, is_identifier_character, dot}
 use Rattle.semver_sets.specs.IdentifierText.{identifier_of, parts_of}
 use Rattle.semver_sets.specs.Identifier.{value_of, values_of}
 use Rattle.semver_sets.specs.IdentifierValue.{IdentifierValue}
 use Rattle.semver_sets.specs.declared.identifier.Identifier.{Identifier}
-use Rattle.std.proofs.lemmas.List.{map-append}
 use Rattle.semver_sets.specs.Private.ReadingViews.{IsNextIdentifier}
 use Rattle.semver_sets.specs.Private.Reading.{rest_of, begins, prefix_of, goes_on, list_rest, list_prefix, list_values}
 use Rattle.semver_sets.proofs.Texts.Prefixes.{prefix_of-rest_of, prefix_of-all, prefix_of-empty, prefix_of-some}

@@ -4,11 +4,11 @@ use Rattle.std.proofs.Common.{Ok, Err, Option, Some, None, refl, sym, ap, ◌∙
 use Rattle.std.specs.Borrow.{Bor}
 use Rattle.std.specs.Prelude.{◌==◌, Result}
 use Rattle.std.specs.Result.{result_ok}
+use Rattle.std.proofs.lemmas.Bool.{ne_eqb}
+use Rattle.std.proofs.lemmas.List.{take_all}
 use Rattle.semver_sets.specs.declared.TheConstants.{MAX_SAFE_INTEGER}
 use Rattle.semver_sets.specs.declared.parse.fault.Fault.{Fault}
 use Rattle.semver_sets.specs.Private.ReadingViews.{seen}
-use Rattle.std.proofs.lemmas.Bool.{ne_eqb}
-use Rattle.std.proofs.lemmas.List.{take_all}
 use Rattle.semver_sets.specs.Characters.{BeginsWith, BeginsWithNo, dot, is_blank, is_digit, is_partial_mark, is_x}
 use Rattle.semver_sets.specs.Division.{IsCleanEnd}
 use Rattle.semver_sets.specs.PartialText.{Partial, plain_partial}

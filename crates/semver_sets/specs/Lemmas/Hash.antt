@@ -4,6 +4,7 @@ use Rattle.std.specs.Hash as fed
 use Rattle.std.specs.Hash.{items_Alike}
 use Rattle.std.specs.Ordering.{eq_by_cmp}
 use Rattle.std.specs.Cmp.{Equal-is}
+use Rattle.std.specs.Cmp.Derive.Mapped.{items_map}
 use Rattle.semver_cuts.specs.Ends.{Ends}
 use Rattle.semver_cuts.specs.Lemmas.Hash.{span_alike}
 use Rattle.semver_sets.specs.IdentifierValue.{IdentifierValue}
@@ -14,7 +15,6 @@ use Rattle.semver_sets.specs.Hash.{identifier_writes, range_writes, version_writ
 use Rattle.semver_sets.specs.RangeEquality.{are_same_cuts}
 use Rattle.semver_sets.specs.Identifier.{value_of, values_of}
 use Rattle.semver_sets.specs.declared.identifier.Identifier.{Identifier}
-use Rattle.std.specs.Cmp.Derive.Mapped.{items_map}
 
 pub identifier_alike : (a b : IdentifierValue) → eq_by_cmp identifier_cmp a b ≡ true
     → identifier_writes a ≡ identifier_writes b

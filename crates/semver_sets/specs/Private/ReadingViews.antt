@@ -1,13 +1,13 @@
 -- What is seen of what the private readers answer.
 use Rattle.std.specs.Prelude.{◌≡◌, ◌<◌, ◌≤◌, ◌⊎◌, ℕ, Bool, true, List, [], ◌∷◌}
 use Rattle.std.specs.Prelude.{length, Result, Ok, Err, IsOk}
-use Rattle.semver_sets.specs.Version.{VersionValue}
-use Rattle.semver_sets.specs.declared.TheConstants.{MAX_LENGTH}
 use Rattle.std.specs.Borrow.{Bor}
-use Rattle.semver_sets.specs.Characters.{BeginsWith, is_digit, is_identifier_character, dot}
-use Rattle.semver_sets.specs.Private.Reading.{Read, rest_of, begins, prefix_of, read_triple}
 use Rattle.std.specs.declared.vec.Vec.{Vec}
 use Rattle.std.specs.declared.alloc.Global.{Global}
+use Rattle.semver_sets.specs.Version.{VersionValue}
+use Rattle.semver_sets.specs.declared.TheConstants.{MAX_LENGTH}
+use Rattle.semver_sets.specs.Characters.{BeginsWith, is_digit, is_identifier_character, dot}
+use Rattle.semver_sets.specs.Private.Reading.{Read, rest_of, begins, prefix_of, read_triple}
 use Rattle.semver_sets.specs.Identifier.{values_of}
 use Rattle.semver_sets.specs.IdentifierValue.{IdentifierValue}
 use Rattle.semver_sets.specs.declared.identifier.Identifier.{Identifier}

@@ -1,8 +1,8 @@
 //! `1.2 - 3`, and ` - 3` at the start of a range text
 ghost use Rattle.std.specs.Prelude.{◌≡◌, ◌∷◌, IfSome, Some, None};
+ghost use Rattle.semver_cuts.specs.declared.cut.Cut.TheVariants.{Before};
 ghost use Rattle.semver_sets.specs.Characters.{hyphen};
 ghost use Rattle.semver_sets.specs.HyphenRanges as HyphenRanges;
-ghost use Rattle.semver_cuts.specs.declared.cut.Cut.TheVariants.{Before};
 ghost use Rattle.semver_sets.specs.PartialText as PartialText;
 ghost use Rattle.semver_sets.specs.Version as Versions;
 ghost use Rattle.semver_sets.specs.Private.WordReading as Reading;

@@ -1,8 +1,8 @@
 use Rattle.std.proofs.Common.{rules, IfOk, sym, subst}
 use Rattle.semver_cuts.specs.Rest.{AreRestSpans}
 use Rattle.semver_sets.specs.Comparison.{version_cmp}
-use Rattle.node_semver.specs.RangeAlgebra.{sets_of_answer}
 use Rattle.semver_sets.specs.RangeSets.{IsRangeValue}
+use Rattle.node_semver.specs.RangeAlgebra.{sets_of_answer}
 use Rattle.node_semver.proofs.Sets.TreeSets.{rest-without_none}
 use Rattle.node_semver.proofs.tree.rest.Goals as goal
 

@@ -8,9 +8,9 @@ ghost use Rattle.semver_cuts.specs.Rest.{AreRestSpans};
 ghost use Rattle.semver_cuts.specs.Sharing.{CoversAll};
 ghost use Rattle.semver_sets.specs.Comparison.{version_cmp};
 ghost use Rattle.semver_sets.specs.Meaning.{RangeAdmits};
-ghost use Rattle.node_semver.specs.RangeAlgebra.{sets_of_answer};
 ghost use Rattle.semver_sets.specs.RangeSets.{IsRangeValue};
 ghost use Rattle.semver_sets.specs.Version.{IsPrerelease, VersionValue};
+ghost use Rattle.node_semver.specs.RangeAlgebra.{sets_of_answer};
 
 use crate::Range;
 use crate::range::algebra::gathered::Gathered;

@@ -4,10 +4,10 @@ ghost use Rattle.std.specs.Prelude.{◌≡◌, ◌≢◌, ◌++◌, ◌∷◌, [
 ghost use Rattle.std.specs.List.{AllByRecursion};
 ghost use Rattle.semver_cuts.specs.Ends.{Ends, IsCutBelow, span_between};
 ghost use Rattle.semver_sets.specs.Comparison.{version_cmp};
-ghost use Rattle.node_semver.specs.RangeAlgebra.{sets_of_answer};
 ghost use Rattle.semver_sets.specs.RangeSets.{IsRangeSet, IsRangeValue};
-ghost use Rattle.node_semver.specs.Private.AnswerViews.{found_seen, some_found_seen};
 ghost use Rattle.semver_sets.specs.Version.{VersionValue};
+ghost use Rattle.node_semver.specs.RangeAlgebra.{sets_of_answer};
+ghost use Rattle.node_semver.specs.Private.AnswerViews.{found_seen, some_found_seen};
 
 use crate::Range;
 use semver_cuts::algebra::Gather;

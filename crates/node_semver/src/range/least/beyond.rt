@@ -2,12 +2,12 @@
 ghost use Rattle.std.specs.Prelude.{◌≡◌, ◌↔◌, [], IfOk, IfSome, IsNone, IsTrue};
 ghost use Rattle.std.specs.List.{AllByRecursion};
 ghost use Rattle.semver_cuts.specs.declared.cut.Cut.TheVariants.{After, Before};
+ghost use Rattle.semver_sets.specs.RangeSets.{IsRangeSet, IsReadCut, IsReadVersion};
+ghost use Rattle.semver_sets.specs.Version.{release};
 ghost use Rattle.node_semver.specs.Least.{AdmitsBeyond, AdmitsNoneBeyond, IsAdmittedBy, IsLeastBeyond};
 ghost use Rattle.node_semver.specs.Private.BeyondViews.{AreSetsTried, AreUppersTried, IsBelowBest, IsCutTrial};
 ghost use Rattle.node_semver.specs.Private.BeyondViews.{IsLeastBeyondOrNone, IsLeastOpened, IsOpenTrial, IsSetTrial};
 ghost use Rattle.node_semver.specs.Private.BeyondViews.{IsShut, IsTrial};
-ghost use Rattle.semver_sets.specs.RangeSets.{IsRangeSet, IsReadCut, IsReadVersion};
-ghost use Rattle.semver_sets.specs.Version.{release};
 
 use crate::range::least::candidates::Release;
 use crate::range::least::unbuilt::Unbuilt;

@@ -2,8 +2,8 @@
 ghost use Rattle.std.specs.Prelude.{◌≡◌, ◌↔◌, IsTrue};
 ghost use Rattle.std.specs.declared.cmp.Ordering.TheVariants.{Less};
 ghost use Rattle.semver_sets.specs.Comparison.{prerelease_cmp, version_cmp};
-ghost use Rattle.node_semver.specs.Private.BeyondViews.{IsBelowBest};
 ghost use Rattle.semver_sets.specs.Version.{least_of, release, without_build};
+ghost use Rattle.node_semver.specs.Private.BeyondViews.{IsBelowBest};
 
 use crate::range::least::unbuilt::Unbuilt;
 use semver_sets::end::{End, Lent};

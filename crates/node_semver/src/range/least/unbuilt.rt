@@ -6,8 +6,8 @@ ghost use Rattle.semver_cuts.specs.declared.cut.Cut.TheVariants.{Before};
 ghost use Rattle.semver_sets.specs.Comparison.{prerelease_cmp, version_cmp};
 ghost use Rattle.semver_sets.specs.Identifier.{value_of, values_of};
 ghost use Rattle.semver_sets.specs.IdentifierValue.{numeric};
-ghost use Rattle.node_semver.specs.Private.LeastViews.{IsInsideOrNone, with_zeros};
 ghost use Rattle.semver_sets.specs.Version.{release};
+ghost use Rattle.node_semver.specs.Private.LeastViews.{IsInsideOrNone, with_zeros};
 
 use crate::{Identifier, Version};
 use semver_cuts::Cut;

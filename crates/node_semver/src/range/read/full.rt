@@ -9,8 +9,8 @@ ghost use Rattle.semver_sets.specs.Comparison.{version_cmp};
 ghost use Rattle.semver_sets.specs.RangeSets.{IsRangeValue};
 ghost use Rattle.semver_sets.specs.Version as Versions;
 ghost use Rattle.semver_sets.specs.Private.RangeViews.{IsFull, full_comparator, listed_set};
-ghost use Rattle.node_semver.specs.Private.AnswerViews.{full_lead_seen};
 ghost use Rattle.semver_sets.specs.Private.WordReading as Reading;
+ghost use Rattle.node_semver.specs.Private.AnswerViews.{full_lead_seen};
 
 use crate::range::Range;
 use semver_cuts::{Cut, Span};

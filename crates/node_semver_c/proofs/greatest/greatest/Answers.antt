@@ -1,9 +1,9 @@
 use Rattle.std.proofs.Common.{subst}
 use Rattle.std.specs.Option.{option_map}
-use Rattle.semver_sets.specs.Version.{VersionValue}
 use Rattle.node_semver_c.specs.Greatest.{IsGreater}
 use Rattle.node_semver_c.proofs.GreatestPlaces.{taken-place}
 use Rattle.node_semver_c.proofs.greatest.greatest.Goals as goal
+use Rattle.semver_sets.specs.Version.{VersionValue}
 
 pub versions-preserved : goal.versions-preserved
 versions-preserved c =

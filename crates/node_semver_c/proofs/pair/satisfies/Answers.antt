@@ -1,9 +1,9 @@
 use Rattle.std.proofs.Common.{subst}
-use Rattle.semver_sets.specs.Meaning.{RangeAdmits, TextAdmits}
-use Rattle.node_semver.specs.RangeAnswer.{IsRangeAnswer}
 use Rattle.node_semver_c.specs.Pair.{asked, range_refused}
 use Rattle.node_semver_c.proofs.Asked.{asked_as}
 use Rattle.node_semver_c.proofs.pair.satisfies.Goals as goal
+use Rattle.semver_sets.specs.Meaning.{RangeAdmits, TextAdmits}
+use Rattle.node_semver.specs.RangeAnswer.{IsRangeAnswer}
 
 pub returns-in-Ok : goal.returns-in-Ok
 returns-in-Ok c =

@@ -5,8 +5,8 @@ use Rattle.semver_cuts.specs.Lemmas.Rest.{common_rest-disjoint, common_rest-toge
 use Rattle.semver_cuts.specs.Lemmas.Rest.{rest_spans-cuts}
 use Rattle.semver_sets.specs.Comparison.{version_cmp}
 use Rattle.semver_sets.specs.Lemmas.Order.{version_total}
-use Rattle.node_semver.specs.RangeAlgebra.{sets_of_answer}
 use Rattle.semver_sets.specs.RangeSets.{IsRangeValue}
+use Rattle.node_semver.specs.RangeAlgebra.{sets_of_answer}
 use Rattle.node_semver.proofs.Sets.AlgebraBounds.{none-exactly, none-listed, rest-bounded}
 use Rattle.node_semver.proofs.Sets.RangeAlgebra.{rest-releases}
 use Rattle.node_semver.proofs.range.Range.difference.Goals as goal

@@ -6,8 +6,8 @@ use Rattle.semver_cuts.specs.Lemmas.CommonSpans.{common_spans-cuts}
 use Rattle.semver_cuts.specs.Lemmas.Rest.{common_rest-disjoint, common_rest-together}
 use Rattle.semver_sets.specs.Lemmas.Order.{version_total}
 use Rattle.semver_sets.specs.Comparison.{version_cmp}
-use Rattle.node_semver.specs.RangeAlgebra.{sets_of_answer}
 use Rattle.semver_sets.specs.RangeSets.{IsRangeSet, IsRangeValue}
+use Rattle.node_semver.specs.RangeAlgebra.{sets_of_answer}
 use Rattle.node_semver.proofs.Sets.AlgebraBounds.{common-bounded, none-exactly, some-exactly}
 use Rattle.node_semver.proofs.Sets.RangeAlgebra.{common-admits, common-releases}
 use Rattle.node_semver.proofs.range.Range.intersect.Goals as goal

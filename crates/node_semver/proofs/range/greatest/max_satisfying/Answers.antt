@@ -1,8 +1,8 @@
 use Rattle.std.proofs.Common.{List, subst}
 use Rattle.std.proofs.lemmas.List.{take_all}
 use Rattle.std.specs.Option.{option_map}
-use Rattle.node_semver.specs.Private.GreatestViews.{IsGreatestOrNone}
 use Rattle.semver_sets.specs.Version.{VersionValue}
+use Rattle.node_semver.specs.Private.GreatestViews.{IsGreatestOrNone}
 use Rattle.node_semver.proofs.Least.GreatestLemmas.{none-greatest, taken-greatest}
 use Rattle.node_semver.proofs.range.greatest.max_satisfying.Goals as goal
 

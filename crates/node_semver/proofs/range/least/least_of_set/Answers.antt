@@ -1,9 +1,9 @@
 use Rattle.std.proofs.Common.{[], ◌≡◌, ◌+◌, ◌∙◌, ap, sym, subst}
+use Rattle.semver_sets.specs.Private.EndViews.{build_seen}
+use Rattle.semver_sets.specs.Version.{VersionValue}
 use Rattle.node_semver.proofs.Least.LeastLemmas.{before-least, candidate-least, patch-candidate, start-candidate}
 use Rattle.node_semver.proofs.Least.LeastLemmas.{zero-candidate}
-use Rattle.semver_sets.specs.Private.EndViews.{build_seen}
 use Rattle.node_semver.specs.Private.LeastViews.{IsInsideOrNone, IsLeastInSet, IsLeastOfTriple}
-use Rattle.semver_sets.specs.Version.{VersionValue}
 use Rattle.node_semver.proofs.range.least.least_of_set.Goals as goal
 
 pub returns-in-Start : goal.returns-in-Start

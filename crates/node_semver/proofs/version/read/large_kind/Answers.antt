@@ -3,8 +3,8 @@ use Rattle.std.proofs.lemmas.Str.{IsUtf8-from_ascii}
 use Rattle.semver_sets.specs.Characters.{is_digit}
 use Rattle.semver_sets.specs.Private.Reading.{prefix_of}
 use Rattle.semver_sets.proofs.Texts.Characters.{ascii-digits}
-use Rattle.node_semver.proofs.Versions.LargeNumbers.{large-err, large-ok}
 use Rattle.semver_sets.proofs.Texts.Prefixes.{prefix_of-all, prefix_of-begins}
+use Rattle.node_semver.proofs.Versions.LargeNumbers.{large-err, large-ok}
 use Rattle.node_semver.proofs.version.read.large_kind.Goals as goal
 
 pub from_utf8_unchecked-digits-requires : goal.from_utf8_unchecked-digits-requires

@@ -1,6 +1,6 @@
+use Rattle.std.proofs.Common.{◌∙◌}
 use Rattle.semver_sets.proofs.Versions.LeadingTriple.{leading-read}
 use Rattle.semver_sets.proofs.Words.PartialViews.{read-ok}
-use Rattle.std.proofs.Common.{◌∙◌}
 use Rattle.semver_sets.proofs.parse.triple.read_leading_triple.Goals as goal
 
 pub returns : goal.returns

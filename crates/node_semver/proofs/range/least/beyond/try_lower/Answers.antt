@@ -1,6 +1,6 @@
 use Rattle.std.proofs.Common.{Some, refl, subst, sym}
-use Rattle.node_semver.specs.Private.BeyondViews.{IsTrial}
 use Rattle.semver_sets.specs.Version.{VersionValue, release}
+use Rattle.node_semver.specs.Private.BeyondViews.{IsTrial}
 use Rattle.node_semver.proofs.Least.BeyondSteps.{trial-found}
 use Rattle.node_semver.proofs.range.least.beyond.try_lower.Goals as goal
 

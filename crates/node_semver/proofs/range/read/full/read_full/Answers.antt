@@ -1,6 +1,6 @@
 use Rattle.std.proofs.Common.{arith}
-use Rattle.node_semver.proofs.Ranges.FullRange.{caret-full, plain-full, tilde-full}
 use Rattle.semver_sets.proofs.Words.PartialViews.{behind-first}
+use Rattle.node_semver.proofs.Ranges.FullRange.{caret-full, plain-full, tilde-full}
 use Rattle.node_semver.proofs.range.read.full.read_full.Goals as goal
 use Rattle.node_semver.proofs.range.read.full.read_full.Goals.{in-94, in-126, in_default}
 

@@ -12,6 +12,7 @@ mod greatest;
 mod least;
 mod print;
 mod read;
+mod sets;
 
 use crate::{Comparisons, SemverError, Version};
 pub use equality::ranges_are_equal_where_their_cuts_are;

@@ -11,10 +11,13 @@
 //!
 //! # Examples
 //!
-//! ```
+//! <!-- crates/node_semver_tests/src/readme.rt -->
+//!
+//! ```rust
 //! use node_semver::{Range, SemverErrorKind, Version};
 //! use std::test::Fail;
 //!
+//! #[test]
 //! fn reads_a_range_and_asks_it(rt: HostRuntime) -> Result<(), Fail> {
 //!     let alloc = rt.alloc();
 //!     let range = Range::parse(alloc, "^1.2.3-rc.4 || >=3")?;
@@ -36,6 +39,7 @@
 //! `node_semver_callers` has a proved caller for each of several tasks.
 #![tactic(auto)]
 
+mod comparisons;
 mod error;
 mod json;
 pub mod laws;
@@ -43,9 +47,10 @@ mod range;
 mod tree;
 mod version;
 
+pub use comparisons::Comparisons;
 pub use error::{SemverError, SemverErrorKind, SourceSpan};
 pub use json::JsonError;
 pub use range::{Range, max_satisfying};
-pub use semver_sets::{Comparisons, Identifier, MAX_LENGTH, MAX_SAFE_INTEGER};
+pub use semver_sets::{Identifier, MAX_LENGTH, MAX_SAFE_INTEGER};
 pub use tree::SetTree;
 pub use version::Version;

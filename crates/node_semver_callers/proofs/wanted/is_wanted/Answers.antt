@@ -1,5 +1,5 @@
--- The answer is what the range admits, and that is what its text admits.
-use Rattle.node_semver_tests.proofs.readme.is_wanted.Goals as goal
+-- The result is what the range admits, and that is what its text admits.
+use Rattle.node_semver_callers.proofs.wanted.is_wanted.Goals as goal
 
 pub returns : goal.returns
 returns c =

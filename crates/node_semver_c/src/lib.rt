@@ -1,4 +1,4 @@
-//! Exports of `node_semver` for C. `include/node_semver.h` declares them.
+//! Exports of `node_semver` for C. `bindings/c/include/node_semver.h` declares them.
 #![tactic(auto)]
 
 mod algebra;

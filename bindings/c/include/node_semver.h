@@ -1,3 +1,4 @@
+/* SPDX-License-Identifier: Apache-2.0 */
 /*
  * npm's versions and version ranges, in loose mode: a static library over the proved crate `node_semver`.
  *
@@ -29,6 +30,15 @@
 #ifdef __cplusplus
 extern "C" {
 #endif
+
+/* The version of this library, as the compiler sees it. */
+#define NODE_SEMVER_LIBRARY_VERSION_MAJOR 1
+#define NODE_SEMVER_LIBRARY_VERSION_MINOR 0
+#define NODE_SEMVER_LIBRARY_VERSION_PATCH 0
+#define NODE_SEMVER_LIBRARY_VERSION "1.0.0"
+
+/* The version of the library that the program is linked with, such as "1.0.0". Ends with a zero, and is never freed. */
+const char *node_semver_library_version(void);
 
 /* A version: three numbers, a prerelease and a build. */
 typedef struct node_semver_version {

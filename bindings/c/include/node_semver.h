@@ -112,8 +112,8 @@ uint64_t node_semver_version_patch(const node_semver_version *version);
 size_t node_semver_version_pre_release_count(const node_semver_version *version);
 size_t node_semver_version_build_count(const node_semver_version *version);
 
-/* The identifier at a place, from 0 and below the count: `rc` and `4` of `1.2.3-rc.4`. Answers as
- * node_semver_version_print. */
+/* Prints the identifier at a place, from 0: `rc` and `4` of `1.2.3-rc.4`. Returns as node_semver_version_print, and 0,
+ * with nothing written, for a place past the last identifier. */
 size_t node_semver_version_pre_release_print(const node_semver_version *version, size_t place, char *room, size_t size);
 size_t node_semver_version_build_print(const node_semver_version *version, size_t place, char *room, size_t size);
 

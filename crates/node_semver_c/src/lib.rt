@@ -5,6 +5,7 @@ mod algebra;
 mod greatest;
 mod handle;
 mod identifiers;
+pub mod laws;
 mod loose;
 mod pair;
 mod range;

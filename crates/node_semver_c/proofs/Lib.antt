@@ -1,5 +1,6 @@
 mod Alike
 mod Asked
+mod Examples
 mod Found
 mod GreatestPlaces
 mod Lent

@@ -1,3 +1,4 @@
+/* SPDX-License-Identifier: Apache-2.0 */
 /*
  * npm's versions and version ranges, in loose mode: a static library over the proved crate `node_semver`.
  *
@@ -29,6 +30,15 @@
 #ifdef __cplusplus
 extern "C" {
 #endif
+
+/* The version of this library, as the compiler sees it. */
+#define NODE_SEMVER_LIBRARY_VERSION_MAJOR 1
+#define NODE_SEMVER_LIBRARY_VERSION_MINOR 0
+#define NODE_SEMVER_LIBRARY_VERSION_PATCH 0
+#define NODE_SEMVER_LIBRARY_VERSION "1.0.0"
+
+/* The version of the library that the program is linked with, such as "1.0.0". Ends with a zero, and is never freed. */
+const char *node_semver_library_version(void);
 
 /* A version: three numbers, a prerelease and a build. */
 typedef struct node_semver_version {
@@ -102,8 +112,8 @@ uint64_t node_semver_version_patch(const node_semver_version *version);
 size_t node_semver_version_pre_release_count(const node_semver_version *version);
 size_t node_semver_version_build_count(const node_semver_version *version);
 
-/* The identifier at a place, from 0 and below the count: `rc` and `4` of `1.2.3-rc.4`. Answers as
- * node_semver_version_print. */
+/* Prints the identifier at a place, from 0: `rc` and `4` of `1.2.3-rc.4`. Returns as node_semver_version_print, and 0,
+ * with nothing written, for a place past the last identifier. */
 size_t node_semver_version_pre_release_print(const node_semver_version *version, size_t place, char *room, size_t size);
 size_t node_semver_version_build_print(const node_semver_version *version, size_t place, char *room, size_t size);
 

@@ -21,7 +21,8 @@ typedef struct {
     PyObject *error_type;
 } native_state;
 
-/* A `Version` and a `Range`: the handle is full from the moment the object exists until it is freed. */
+/* A `Version` and a `Range`: the handle is full from the moment the object exists until it is freed. A range keeps its
+ * print from the first `str` on, or NULL. */
 typedef struct {
     PyObject_HEAD
     node_semver_version handle;
@@ -30,6 +31,7 @@ typedef struct {
 typedef struct {
     PyObject_HEAD
     node_semver_range handle;
+    PyObject *text;
 } range_object;
 
 #define VERSION_OF(object) (&((version_object *)(object))->handle)
@@ -64,8 +66,8 @@ PyObject *only_argument(const char *name, PyObject *arguments, PyObject *keyword
 /* `copy.copy` and `copy.deepcopy` of a value that never changes: the value. */
 PyObject *same_object(PyObject *self, PyObject *ignored);
 
-/* What pickle stores: the type and the print. `again` is the print read back, or NULL with an exception; `is_same` tells
- * whether it equals the value. Takes the reference to `text`, which may be NULL with an exception. */
+/* What pickle stores: the type and the text. NULL with a ValueError if the text is not read as an equal value. Takes the
+ * reference to `text`, which may be NULL with an exception. */
 PyObject *reduced(PyObject *self, PyObject *text);
 
 /* ---- version.c ---- */

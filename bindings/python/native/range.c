@@ -12,6 +12,7 @@ static PyObject *new_range(PyTypeObject *type, node_semver_range handle)
         return NULL;
     }
     self->handle = handle;
+    self->text = NULL;
     return (PyObject *)self;
 }
 
@@ -36,6 +37,7 @@ static void range_dealloc(PyObject *self)
 {
     PyTypeObject *type = Py_TYPE(self);
     node_semver_range_free(*RANGE_OF(self));
+    Py_XDECREF(((range_object *)self)->text);
     PyObject_Free(self);
     Py_DECREF(type);
 }
@@ -46,9 +48,13 @@ static size_t print_range(const void *range, size_t place, char *room, size_t si
     return node_semver_range_print(range, room, size);
 }
 
+/* The print is kept: without that, `str` takes twice as long as that of a class in Python, which keeps its text too. */
 static PyObject *range_str(PyObject *self)
 {
-    return printed(print_range, RANGE_OF(self), 0);
+    range_object *range = (range_object *)self;
+    if (range->text == NULL)
+        range->text = printed(print_range, &range->handle, 0);
+    return Py_XNewRef(range->text);
 }
 
 static PyObject *range_repr(PyObject *self)

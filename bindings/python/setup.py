@@ -3,7 +3,7 @@
 
 NODE_SEMVER_LIBRARY names the static libraries to link, with `:` between, and NODE_SEMVER_INCLUDE the folder of
 node_semver.h. Without them they are those of ../c, which `make` builds where they are missing.
-NODE_SEMVER_REFUSE=1 makes the build of tests/test_memory.py, in which any allocation can be made to fail.
+NODE_SEMVER_REFUSE=1 makes the build of tests/refused, in which any allocation can be made to fail.
 """
 
 import os
@@ -19,7 +19,7 @@ C_PACKAGE = os.path.join(os.path.dirname(HERE), "c")
 ALLOCATORS = [
     "malloc", "realloc", "_PyObject_New", "PyMem_Malloc", "PyUnicode_FromStringAndSize", "PyUnicode_FromFormat",
     "PyTuple_New", "PyList_New", "PyList_Append", "PySequence_Tuple", "PyLong_FromUnsignedLongLong",
-    "PyLong_FromString", "PyObject_CallFunction", "PyObject_CallFunctionObjArgs", "Py_BuildValue",
+    "PyLong_FromString", "PyObject_CallFunction", "Py_BuildValue",
 ]  # fmt: skip
 
 
@@ -34,23 +34,33 @@ def libraries() -> list[str]:
     return [library]
 
 
+REFUSE = bool(os.environ.get("NODE_SEMVER_REFUSE"))
+
+
 def extension() -> Extension:
-    os.chdir(HERE)
     sources = sorted(glob("native/*.c"))
-    link = ["-Wl,--exclude-libs,ALL", "-Wl,--gc-sections"]
-    if os.environ.get("NODE_SEMVER_REFUSE"):
-        sources.append("tests/refuse.c")
+    link = ["-Wl,--exclude-libs,ALL"]
+    if REFUSE:
+        sources.append("tests/refused/refuse.c")
         link += ["-Wl,--wrap=" + name for name in ALLOCATORS + ["free"]]
+    linked = libraries()
     return Extension(
         "node_semver._native",
         sources,
-        depends=sorted(glob("native/*.h")),
+        depends=sorted(glob("native/*.h")) + linked,
         include_dirs=[os.environ.get("NODE_SEMVER_INCLUDE", os.path.join(C_PACKAGE, "include"))],
         extra_compile_args=["-std=c99", "-fvisibility=hidden", "-Wall", "-Wextra"],
         extra_link_args=link,
-        extra_objects=libraries(),
+        extra_objects=linked,
         py_limited_api=True,
     )
 
 
-setup(ext_modules=[extension()], options={"bdist_wheel": {"py_limited_api": "cp310"}})
+os.chdir(HERE)
+setup(
+    ext_modules=[extension()],
+    options={
+        "bdist_wheel": {"py_limited_api": "cp310"},
+        "build": {"build_base": "build/refused" if REFUSE else "build/released"},
+    },
+)

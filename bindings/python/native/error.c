@@ -14,7 +14,7 @@ void raise_wrong_type(const char *wanted, PyObject *value)
     PyObject *name = PyObject_GetAttrString((PyObject *)Py_TYPE(value), "__name__");
     if (name == NULL)
         return;
-    PyErr_Format(PyExc_TypeError, "%s, not %S", wanted, name);
+    PyErr_Format(PyExc_TypeError, "%s, not %U", wanted, name);
     Py_DECREF(name);
 }
 

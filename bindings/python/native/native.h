@@ -6,7 +6,6 @@
 #ifndef NATIVE_H
 #define NATIVE_H
 
-#define PY_SSIZE_T_CLEAN
 #ifndef Py_LIMITED_API
 #define Py_LIMITED_API 0x030A0000
 #endif

@@ -57,7 +57,7 @@ PyObject *same_object(PyObject *self, PyObject *ignored)
 static int reads_back(PyObject *self, PyObject *text)
 {
     int same;
-    PyObject *again = PyObject_CallFunctionObjArgs((PyObject *)Py_TYPE(self), text, NULL);
+    PyObject *again = PyObject_CallFunction((PyObject *)Py_TYPE(self), "(O)", text);
     if (again == NULL) {
         if (!PyErr_ExceptionMatches(PyExc_ValueError))
             return -1;
@@ -67,6 +67,16 @@ static int reads_back(PyObject *self, PyObject *text)
     same = PyObject_RichCompareBool(self, again, Py_EQ);
     Py_DECREF(again);
     return same;
+}
+
+/* The repr is made before the message: if it fails inside PyErr_Format, Python 3.10 raises a ValueError without text. */
+static void raise_not_read_back(PyObject *self)
+{
+    PyObject *repr = PyObject_Repr(self);
+    if (repr == NULL)
+        return;
+    PyErr_Format(PyExc_ValueError, "cannot pickle %U: its text is not read as the same value", repr);
+    Py_DECREF(repr);
 }
 
 PyObject *reduced(PyObject *self, PyObject *text)
@@ -79,7 +89,7 @@ PyObject *reduced(PyObject *self, PyObject *text)
     if (same == 1)
         result = Py_BuildValue("(O(O))", (PyObject *)Py_TYPE(self), text);
     else if (same == 0)
-        PyErr_Format(PyExc_ValueError, "cannot pickle %R: its text is not read as the same value", self);
+        raise_not_read_back(self);
     Py_DECREF(text);
     return result;
 }

@@ -6,7 +6,7 @@ import gc
 import pickle
 import sys
 import unittest
-from typing import Callable, List
+from typing import Callable, List, Union
 
 from node_semver import Range, SemverError, Version, satisfies
 
@@ -29,6 +29,7 @@ def refused(read: Callable[[], object]) -> None:
 
 
 VERSION, WANTED, OTHER = Version("1.2.3-rc.4+b"), Range("^1.2.3-rc.4 || >=3"), Range("<3.1.0")
+ASKED: List[Union[Version, str]] = [VERSION, "3.2.1-rc.4"]
 LONGEST = Version("1.2.3" + "a" * 251)
 
 WORKS: List[Callable[[], object]] = [
@@ -47,16 +48,16 @@ WORKS: List[Callable[[], object]] = [
     lambda: (WANTED == OTHER, VERSION < LONGEST),
     lambda: (WANTED.allows_any(OTHER), WANTED.allows_all(OTHER)),
     lambda: (WANTED.min_version(), WANTED.least_beyond(OTHER)),
-    lambda: WANTED.filter([VERSION, "3.2.1-rc.4"]),
-    lambda: WANTED.max_satisfying([VERSION, "3.2.1-rc.4"]),
-    lambda: WANTED.min_satisfying([VERSION, "3.2.1-rc.4"]),
+    lambda: WANTED.filter(ASKED),
+    lambda: WANTED.max_satisfying(ASKED),
+    lambda: WANTED.min_satisfying(ASKED),
     lambda: copy.deepcopy(VERSION),
     lambda: pickle.loads(pickle.dumps(WANTED)),
     lambda: refused(lambda: pickle.dumps(LONGEST)),
     lambda: refused(lambda: Version("1.2")),
     lambda: refused(lambda: Range("latest")),
-    lambda: refused(lambda: WANTED.filter([VERSION, "3.2.1", "no version"])),
-    lambda: refused(lambda: WANTED.max_satisfying(["3.2.1", VERSION, 1])),  # type: ignore[type-var]
+    lambda: refused(lambda: WANTED.filter(ASKED + ["no version"])),
+    lambda: refused(lambda: WANTED.max_satisfying([*ASKED, 1])),  # type: ignore[type-var]
     lambda: refused(lambda: WANTED & VERSION),  # type: ignore[operator]
     lambda: refused(lambda: WANTED.allows_any(VERSION)),  # type: ignore[arg-type]
     lambda: refused(lambda: VERSION < WANTED),  # type: ignore[operator]

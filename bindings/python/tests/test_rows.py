@@ -3,6 +3,7 @@
 
 import itertools
 import unittest
+from typing import Callable, List, Optional, Tuple
 
 from node_semver import Range, SemverError, Version, satisfies
 
@@ -67,7 +68,7 @@ MEMBERS = [
 ]
 
 
-def fault(error: SemverError) -> "tuple[str, int, int | None]":
+def fault(error: SemverError) -> Tuple[str, int, Optional[int]]:
     return error.kind, error.offset, error.number
 
 
@@ -98,7 +99,9 @@ class Rows(unittest.TestCase):
                 self.assertEqual(caught.exception.text, text)
 
     def test_refuses_what_is_no_utf_8(self) -> None:
-        for read in (Version, Range, lambda text: text in Range("1"), lambda text: satisfies(text, "1")):
+        reads: List[Callable[[str], object]] = [Version, Range]
+        reads += [lambda text: text in Range("1"), lambda text: satisfies(text, "1"), lambda text: satisfies("1", text)]
+        for read in reads:
             with self.assertRaises(UnicodeEncodeError):
                 read("\ud800")
 

@@ -134,7 +134,9 @@ class Unchanging(unittest.TestCase):
             with self.assertRaises(TypeError):
                 type("Child", (make,), {})
             with self.assertRaises(TypeError):
-                make.new = 1  # type: ignore[union-attr]
+                setattr(make, "new", 1)
+            with self.assertRaises(TypeError):
+                setattr(make, "__hash__", None)
         with self.assertRaises(TypeError):
             VERSION.__class__ = Range
 

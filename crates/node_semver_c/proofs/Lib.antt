@@ -3,5 +3,6 @@ mod Asked
 mod Examples
 mod Found
 mod GreatestPlaces
+mod Held
 mod Lent
 mod Values

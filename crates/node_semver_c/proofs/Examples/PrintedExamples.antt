@@ -1,5 +1,5 @@
 -- Worked examples: what is put into the caller's array.
-use Rattle.std.proofs.Common.{◌≡◌, ℕ, ◌<◌, ◌≤◌, List, [], ◌∷◌, refl, inl, inr, arith}
+use Rattle.std.proofs.Common.{◌≡◌, ℕ, List, [], ◌∷◌, refl, inl, inr, arith}
 use Rattle.node_semver_c.specs.Printed.{IsPrinted, IsPut}
 
 -- three bytes, put into an array of two: it stays as it was

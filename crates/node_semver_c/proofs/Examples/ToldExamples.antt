@@ -1,5 +1,5 @@
 -- Worked examples: what is told of a text that is refused.
-use Rattle.std.proofs.Common.{◌≡◌, ◌↔◌, ℕ, List, codes, refl, sym, subst}
+use Rattle.std.proofs.Common.{◌≡◌, ◌↔◌, ℕ, List, codes, sym, subst}
 use Rattle.std.specs.Prelude.{Option, None, Err}
 use Rattle.semver_sets.specs.Version.{VersionValue}
 use Rattle.node_semver.specs.Error.{IsOutOfMemory, IsRefusalAt, Kind, Refusal, context, max_int}

@@ -19,14 +19,20 @@ HAS_MYPY = importlib.util.find_spec("mypy") is not None
 
 @unittest.skipUnless(HAS_MYPY, "there is no mypy")
 class Typing(unittest.TestCase):
+    room: "tempfile.TemporaryDirectory[str]"
+
+    @classmethod
+    def setUpClass(cls) -> None:
+        cls.room = tempfile.TemporaryDirectory()
+        cls.addClassCleanup(cls.room.cleanup)
+
     def run_python(self, *words: str) -> "subprocess.CompletedProcess[str]":
-        """Runs a module of Python, which finds the installed package alone."""
-        with tempfile.TemporaryDirectory() as room:
-            places = {"MYPYPATH": os.path.dirname(PACKAGE), "PYTHONPATH": os.pathsep.join(sys.path)}
-            environment = {**os.environ, **places, "MYPY_CACHE_DIR": os.path.join(room, "cache")}
-            return subprocess.run(
-                [sys.executable, "-m", *words], cwd=room, env=environment, capture_output=True, text=True
-            )
+        """Runs a module of Python in an empty folder, so that it finds the installed package alone."""
+        places = {"MYPYPATH": os.path.dirname(PACKAGE), "PYTHONPATH": os.pathsep.join(sys.path)}
+        environment = {**os.environ, **places, "MYPY_CACHE_DIR": os.path.join(self.room.name, "cache")}
+        return subprocess.run(
+            [sys.executable, "-m", *words], cwd=self.room.name, env=environment, capture_output=True, text=True
+        )
 
     def accepts(self, *words: str) -> None:
         done = self.run_python(*words)

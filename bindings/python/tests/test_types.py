@@ -4,9 +4,12 @@
 import copy
 import gc
 import operator
+import os
 import pickle
+import subprocess
+import sys
 import unittest
-from typing import Any
+from typing import Any, Iterator, List
 
 import node_semver
 from node_semver import Range, Version, satisfies
@@ -169,6 +172,76 @@ class Unchanging(unittest.TestCase):
         for make, name in ((Version, "Version"), (Range, "Range")):
             self.assertEqual((make.__module__, make.__qualname__), ("node_semver", name))
             self.assertIs(getattr(node_semver, name), make)
+
+
+# The second value is freed when even the names of builtins are gone.
+AT_EXIT = """
+import os, sys
+from node_semver import Range, Version
+
+class Late:
+    def __init__(self):
+        self.held = os.write, Range, Version, Range("^1 || 3"), Version("1.2.3")
+    def __del__(self):
+        write, Range, Version, wanted, version = self.held
+        assert version in wanted and "3.1.0" in wanted and wanted.min_version() == Version("1.0.0")
+        assert f"{wanted & Range('1.5.0')}" == "1.5.0" and wanted.filter([version]) == [version]
+        write(2, b"done.")
+
+held = Late()
+sys.held = Late()
+"""
+
+
+class Surroundings(unittest.TestCase):
+    def run_program(self, program: str) -> "subprocess.CompletedProcess[str]":
+        environment = {**os.environ, "PYTHONPATH": os.pathsep.join(sys.path)}
+        return subprocess.run([sys.executable, "-c", program], env=environment, capture_output=True, text=True)
+
+    def test_values_are_used_while_python_ends(self) -> None:
+        done = self.run_program(AT_EXIT)
+        self.assertEqual((done.returncode, done.stderr), (0, "done.done."))
+
+    def test_values_outlive_the_module(self) -> None:
+        done = self.run_program(
+            "import gc, sys, node_semver as old\n"
+            "wanted, version = old.Range('^1'), old.Version('1.2.3')\n"
+            "del old\n"
+            "for name in [name for name in sys.modules if name.startswith('node_semver')]: del sys.modules[name]\n"
+            "gc.collect()\n"
+            "import node_semver as new\n"
+            "assert version in wanted and '1.5.0' in wanted and str(wanted.min_version()) == '1.0.0'\n"
+            "for wrong in (lambda: version in new.Range('^1'), lambda: new.Range('^1') & wanted,\n"
+            "              lambda: new.Range('^1').allows_any(wanted), lambda: new.Version('1.2.3') < version):\n"
+            "    try: wrong()\n"
+            "    except TypeError: continue\n"
+            "    raise AssertionError('values of two modules were mixed')\n"
+            "assert version != new.Version('1.2.3')\n"
+        )
+        self.assertEqual((done.returncode, done.stderr), (0, ""))
+
+    def test_what_an_iterable_raises_is_raised(self) -> None:
+        def versions() -> Iterator[Version]:
+            yield VERSION
+            raise KeyError("the iterable's own")
+
+        for name in METHODS_OF_VERSIONS:
+            with self.assertRaisesRegex(KeyError, "the iterable's own"):
+                getattr(RANGE, name)(versions())
+
+    def test_a_list_that_changes_while_it_is_read(self) -> None:
+        versions: List[Version] = []
+
+        def changing() -> Iterator[Version]:
+            for place in range(100):
+                versions.append(Version(f"1.2.{place}"))
+                yield versions[-1]
+                versions.clear()
+                gc.collect()
+
+        self.assertEqual(len(RANGE.filter(changing())), 100)
+        self.assertEqual(RANGE.max_satisfying(changing()), Version("1.2.99"))
+        self.assertEqual(RANGE.min_satisfying(changing()), Version("1.2.0"))
 
 
 if __name__ == "__main__":

@@ -7,8 +7,11 @@
 
 const native = require('./build/Release/node_semver.node');
 
-// The greatest length of a version text, as npm counts it, and of a range text that the native part keeps.
+// The greatest length of a version text, as npm counts it.
 const LONGEST_VERSION = 256;
+
+// How many ranges the native part keeps, at most `PLACES` of kept.c, and the greatest length of a text that is kept.
+const PLACES = 512;
 const LONGEST_KEPT = 128;
 
 const OPTIONS = new Set(['loose', 'includePrerelease']);
@@ -44,19 +47,44 @@ function identifier(text) {
     return /^[0-9]+$/.test(text) && number < Number.MAX_SAFE_INTEGER ? number : text;
 }
 
-const identifiers = (text, read) => Object.freeze(text === '' ? [] : text.split('.').map(read));
+const NONE = Object.freeze([]);
+const identifiers = (text, read) => Object.freeze(text.split('.').map(read));
 
-// The parts of a print: `1.2.3-rc.4+b` is `1.2.3-rc.4` with the build `b`.
-function divided(print) {
+// Puts the parts of a print on a version: `1.2.3-rc.4+b` is `1.2.3-rc.4` with the build `b`.
+function putParts(semVer, print) {
     const plus = print.indexOf('+');
     const version = plus < 0 ? print : print.slice(0, plus);
     const dash = version.indexOf('-');
-    return {
-        version,
-        triple: (dash < 0 ? version : version.slice(0, dash)).split('.').map(Number),
-        prerelease: identifiers(dash < 0 ? '' : version.slice(dash + 1), identifier),
-        build: identifiers(plus < 0 ? '' : print.slice(plus + 1), String),
-    };
+    const first = version.indexOf('.');
+    const second = version.indexOf('.', first + 1);
+    semVer.major = Number(version.slice(0, first));
+    semVer.minor = Number(version.slice(first + 1, second));
+    semVer.patch = Number(dash < 0 ? version.slice(second + 1) : version.slice(second + 1, dash));
+    semVer.prerelease = dash < 0 ? NONE : identifiers(version.slice(dash + 1), identifier);
+    semVer.build = plus < 0 ? NONE : identifiers(print.slice(plus + 1), String);
+    semVer.version = version;
+}
+
+// The texts whose ranges are kept, and the place of each; `texts` by places, of which the next to be used is the oldest.
+const kept = new Map();
+const texts = [];
+let next = 0;
+
+// The key of a range text: its place where it is kept, from now on if it was not, or the text itself.
+function keptKey(text) {
+    return kept.get(text) ?? (text.length > LONGEST_KEPT ? trimmedRange(text) : keep(text));
+}
+
+function keep(text) {
+    const place = next;
+    native.keep(place, trimmedRange(text));
+    if (texts.length > place) {
+        kept.delete(texts[place]);
+    }
+    texts[place] = text;
+    kept.set(text, place);
+    next = (place + 1) % PLACES;
+    return place;
 }
 
 let keyOfSemVer;
@@ -87,12 +115,8 @@ class SemVer {
                 ? `version is longer than ${LONGEST_VERSION} characters`
                 : `Invalid Version: ${version}`);
         }
-        const { version: text, triple, prerelease, build } = divided(print);
         this.raw = typeof version === 'string' ? version : print;
-        [this.major, this.minor, this.patch] = triple;
-        this.prerelease = prerelease;
-        this.build = build;
-        this.version = text;
+        putParts(this, print);
         Object.freeze(this);
     }
 
@@ -169,7 +193,8 @@ class Range {
     }
 
     test(version) {
-        return testKey(version, this.#key);
+        const key = testedKey(version);
+        return key !== null && native.satisfies(key, placeOf(this.#key));
     }
 
     intersects(range, options) {
@@ -191,18 +216,19 @@ function versionKey(version) {
 
 function rangeKey(range) {
     if (typeof range === 'string') {
-        return trimmedRange(range);
+        return keptKey(range);
     }
-    return range instanceof Range ? keyOfRange(range) : undefined;
+    return range instanceof Range ? placeOf(keyOfRange(range)) : undefined;
 }
 
-// npm: what is false as a condition satisfies no range, and what is no version throws.
-function testKey(version, wanted) {
-    if (!version) {
-        return false;
-    }
-    const key = versionKey(version);
-    return native.satisfies(key === undefined ? refuse(version) : key, wanted);
+// A place is asked for just before it is used: the next text that is kept may take it.
+function placeOf(key) {
+    return typeof key === 'string' ? keptKey(key) : key;
+}
+
+// The key of a version for `test`. npm: what is false as a condition satisfies no range, and what is no version throws.
+function testedKey(version) {
+    return version ? versionKey(version) ?? refuse(version) : null;
 }
 
 function refuse(version) {
@@ -307,21 +333,19 @@ const rsort = (list, options) => sorted(list, options, true);
 
 function satisfies(version, range, options) {
     check(options);
+    const key = versionKey(version);
     const wanted = rangeKey(range);
     if (wanted === undefined) {
         return false;
     }
-    const key = versionKey(version);
     if (key === undefined) {
-        return native.rangeText(wanted) !== null && testKey(version, wanted);
+        return native.rangeText(wanted) !== null && testedKey(version) !== null;
     }
     return native.satisfies(key, wanted);
 }
 
 function best(versions, range, options, isGreatest) {
-    check(options);
-    const wanted = rangeKey(range);
-    if (wanted === undefined || native.rangeText(wanted) === null) {
+    if (validRange(range, options) === null) {
         return null;
     }
     const list = [];
@@ -330,7 +354,7 @@ function best(versions, range, options, isGreatest) {
         list.push(version);
         keys.push(version ? versionKey(version) ?? refuse(version) : '');
     });
-    const place = native.best(keys, wanted, isGreatest);
+    const place = native.best(keys, rangeKey(range), isGreatest);
     return place < 0 ? null : list[place];
 }
 

@@ -1,7 +1,8 @@
 /* SPDX-License-Identifier: Apache-2.0 */
 /*
  * What the files of this folder share. `index.js` alone calls them, and gives them keys: what stands for a version or
- * for a range. A key is a JavaScript string, or an external that holds a version or a range that no text writes.
+ * for a range. A key is a JavaScript string, or an external that holds a version or a range that no text writes, or the
+ * number of a place where a range is kept.
  */
 #ifndef BINDING_H
 #define BINDING_H
@@ -28,7 +29,6 @@ struct version {
 struct range {
     node_semver_range handle;
     bool is_own;
-    struct place *place; /* where the range is kept, or NULL */
 };
 
 /* ---- text.c ---- */
@@ -60,20 +60,28 @@ node_semver_status get_version(napi_env env, napi_value key, struct version *ver
 void let_version_go(struct version *version);
 napi_value version_key(napi_env env, node_semver_version version);
 
+/* The key of a range may also be the number of a place where it is kept; an empty place is refused. */
 node_semver_status get_range(napi_env env, napi_value key, struct range *range);
+node_semver_status get_range_text(napi_env env, napi_value text, struct range *range);
+void let_range_go(struct range *range);
 napi_value range_key(napi_env env, node_semver_range range);
 
-/* An external for a range text: `range` is read from it once, and freed when JavaScript has no use of the external. */
+/* An external for a range, which is freed when JavaScript has no use of the external. */
 napi_value held_range(napi_env env, node_semver_range range);
 
 /* ---- kept.c ---- */
 
-/* Makes room for the ranges that are kept for this environment: each worker thread has its own. */
+#define PLACES 512u
+
+/* Makes the places of this environment. */
 bool begin_keeping(napi_env env);
 
-/* The range of a text: kept from an earlier call, or read now and kept if the text is short. */
-node_semver_status kept_range(napi_env env, const struct text *text, struct range *range);
-void let_range_go(struct range *range);
+/* The range at a place. It stays there until the next call of `keep`. */
+node_semver_status kept_range(napi_env env, uint32_t number, struct range *range);
+
+/* keep(number, text): puts the range of a text at a place, and frees what was there. Where the text is refused, returns
+ * false and leaves the place empty. */
+napi_value keep(napi_env env, napi_callback_info info);
 
 /* ---- order.c ---- */
 

@@ -63,21 +63,26 @@ static node_semver_status read_version(const struct text *text, node_semver_vers
     return node_semver_version_parse(text->bytes, text->length, version, &fault);
 }
 
+static node_semver_status get_held_version(napi_env env, napi_value key, struct version *version) {
+    const struct held *held = get_held(env, key, VERSION);
+    if (held == NULL) {
+        return THROWN;
+    }
+    *version = (struct version){.handle = held->version, .is_own = false};
+    return NODE_SEMVER_OK;
+}
+
 node_semver_status get_version(napi_env env, napi_value key, struct version *version) {
     struct text text;
     node_semver_status status = get_text(env, key, &text);
+    if (status == NODE_SEMVER_REFUSED) {
+        return get_held_version(env, key, version);
+    }
     if (status == NODE_SEMVER_OK) {
         version->is_own = true;
         status = read_version(&text, &version->handle);
-    } else if (status == NODE_SEMVER_REFUSED) {
-        const struct held *held = get_held(env, key, VERSION);
-        if (held == NULL) {
-            return THROWN;
-        }
-        *version = (struct version){.handle = held->version, .is_own = false};
-        return NODE_SEMVER_OK;
+        free_text(&text);
     }
-    free_text(&text);
     return status;
 }
 
@@ -87,21 +92,46 @@ void let_version_go(struct version *version) {
     }
 }
 
-node_semver_status get_range(napi_env env, napi_value key, struct range *range) {
+static node_semver_status read_range(const struct text *text, node_semver_range *range) {
+    node_semver_fault fault;
+    *range = (node_semver_range)NODE_SEMVER_EMPTY;
+    return node_semver_range_parse(text->bytes, text->length, range, &fault);
+}
+
+node_semver_status get_range_text(napi_env env, napi_value value, struct range *range) {
     struct text text;
-    node_semver_status status = get_text(env, key, &text);
+    node_semver_status status = get_text(env, value, &text);
     if (status == NODE_SEMVER_OK) {
-        status = kept_range(env, &text, range);
-    } else if (status == NODE_SEMVER_REFUSED) {
-        const struct held *held = get_held(env, key, RANGE);
-        if (held == NULL) {
-            return THROWN;
-        }
-        *range = (struct range){.handle = held->range, .is_own = false, .place = NULL};
-        return NODE_SEMVER_OK;
+        range->is_own = true;
+        status = read_range(&text, &range->handle);
+        free_text(&text);
     }
-    free_text(&text);
     return status;
+}
+
+static node_semver_status get_held_range(napi_env env, napi_value key, struct range *range) {
+    const struct held *held = get_held(env, key, RANGE);
+    if (held == NULL) {
+        return THROWN;
+    }
+    *range = (struct range){.handle = held->range, .is_own = false};
+    return NODE_SEMVER_OK;
+}
+
+node_semver_status get_range(napi_env env, napi_value key, struct range *range) {
+    uint32_t number;
+    napi_valuetype type = napi_undefined;
+    if (napi_get_value_uint32(env, key, &number) == napi_ok) {
+        return kept_range(env, number, range);
+    }
+    napi_typeof(env, key, &type);
+    return type == napi_string ? get_range_text(env, key, range) : get_held_range(env, key, range);
+}
+
+void let_range_go(struct range *range) {
+    if (range->is_own) {
+        node_semver_range_free(range->handle);
+    }
 }
 
 /* Takes the version. Its print is its key where the print can be read again: it may be longer than a version text may

@@ -41,21 +41,15 @@ static napi_value range_text(napi_env env, napi_callback_info info) {
 /* heldRange(text): an external for a long text, so that it is not read again at each call; null where it is refused. */
 static napi_value held_text(napi_env env, napi_callback_info info) {
     napi_value value;
-    struct text text;
-    node_semver_range range = NODE_SEMVER_EMPTY;
-    node_semver_fault fault;
+    struct range range;
     if (!get_arguments(env, info, 1, &value)) {
         return NULL;
     }
-    node_semver_status status = get_text(env, value, &text);
-    if (status == NODE_SEMVER_OK) {
-        status = node_semver_range_parse(text.bytes, text.length, &range, &fault);
-        free_text(&text);
-    }
+    node_semver_status status = get_range_text(env, value, &range);
     if (status == NODE_SEMVER_REFUSED) {
         return of_null(env);
     }
-    return status == NODE_SEMVER_OK ? held_range(env, range) : failed(env, status);
+    return status == NODE_SEMVER_OK ? held_range(env, range.handle) : failed(env, status);
 }
 
 typedef napi_value of_versions(napi_env env, const node_semver_version *one, const node_semver_version *other);
@@ -228,7 +222,7 @@ NAPI_MODULE_INIT() {
         FUNCTION("best", best),                FUNCTION("order", order),
         FUNCTION("allowsAny", allows_any),     FUNCTION("intersect", intersect),
         FUNCTION("difference", difference),    FUNCTION("leastBeyond", least_beyond),
-        FUNCTION("minVersion", min_version),
+        FUNCTION("minVersion", min_version),   FUNCTION("keep", keep),
     };
     if (!begin_keeping(env)) {
         return out_of_memory(env);

@@ -1,0 +1,137 @@
+// SPDX-License-Identifier: Apache-2.0
+// Where this package differs from npm's `semver`: the rows of the README's table, each with a predicate that says which
+// texts the row is about. `version` is asked of a version text, `range` of a range text as npm trims it. `calls` are the
+// functions that a row is about, where it is not about all.
+'use strict';
+
+const { createNpm } = require('./npm.js');
+
+const npm = createNpm();
+const LOOSE = { loose: true };
+
+const alternatives = (text) => text.split('||').map((alternative) => alternative.trim());
+const some = (test) => (text) => alternatives(text).some((alternative) => test(alternative));
+
+function npmRange(text) {
+    try {
+        return new npm.Range(text, LOOSE);
+    } catch {
+        return null;
+    }
+}
+
+const comparatorsOf = (alternative) => npmRange(alternative)?.set[0].filter(({ value }) => value !== '') ?? [];
+
+// Whether npm reads an alternative, and no version can satisfy all its comparators.
+function neverHolds(alternative) {
+    const comparators = comparatorsOf(alternative);
+    const lower = comparators.filter(({ operator }) => !operator.startsWith('<'));
+    const upper = comparators.filter(({ operator }) => !operator.startsWith('>'));
+    return comparators.some(({ value }) => value === '<0.0.0-0') || lower.some((one) => upper.some((other) => {
+        const order = npm.compare(one.semver, other.semver);
+        return order > 0 || (order === 0 && (one.operator === '>' || other.operator === '<'));
+    }));
+}
+
+// Whether npm reads a range of several alternatives as any version, since one of them is, and drops a prerelease.
+function isMadeAny(text) {
+    return text.includes('||') && npmRange(text)?.range === '' && alternatives(text).some((alternative) =>
+        comparatorsOf(alternative).some(({ semver }) => semver.prerelease.length > 0));
+}
+
+const PARTIAL = String.raw`v?\s*[\dxX*]+(?:\.[\dxX*]+(?:\.[\dxX*]+[-+.0-9A-Za-z]*)?)?`;
+const HYPHEN = new RegExp(`^${PARTIAL} - ${PARTIAL}$`);
+const COMPARING = ['compare', 'compareBuild', 'satisfies', 'sort', 'maxSatisfying', 'minSatisfying'];
+const RANGES = ['validRange', 'Range', 'minVersion', 'subset', 'intersects', 'print'];
+
+const rules = [
+    {
+        name: 'a V',
+        version: (text) => /^\s*V/.test(text),
+    },
+    {
+        name: 'more than one prefix',
+        version: (text) => /^\s*(?:[v=]\s*){2}|^\s*=|^v[^\S \t]/.test(text),
+        range: (text) => /v |[v=] ?=|v ?v|[<>] =|[~^]>? ?=/.test(text),
+    },
+    {
+        name: 'a tilde or a caret alone',
+        range: (text) => /[~^]>? (?![\dxX*v])/.test(text),
+    },
+    {
+        name: 'a patch is divided',
+        version: (text) => /^[^.]*\.[^.]*\.\d\d+\./.test(text),
+        range: (text) => /(^|[ |<>=~^v])[\dxX*]+\.[\dxX*]+\.\d\d+\./.test(text),
+    },
+    {
+        name: 'a hyphen with nothing after it',
+        version: (text) => /^[^-+]*[\d]-(?![0-9A-Za-z-])/.test(text),
+        range: (text) => /[\dxX*]-(?![0-9A-Za-z-])/.test(text),
+    },
+    {
+        name: 'zeros that lead in a build',
+        version: (text) => /\+.*(?<![0-9A-Za-z-])0\d/.test(text),
+    },
+    {
+        name: 'large numbers',
+        calls: [...COMPARING, ...RANGES],
+        version: (text) => /[-+.A-Za-z]\d{16}/.test(text),
+        range: (text) => /\d{16}/.test(text),
+    },
+    {
+        name: 'nothing between bars',
+        range: some((text) => text === ''),
+    },
+    {
+        name: 'at most a partial',
+        range: (text) => /<= ?v? ?\d+(\.(\d+|[xX*]))?(\.[xX*]\S*)?(?=$| |\|)/.test(text),
+    },
+    {
+        name: 'an operator before a star',
+        range: (text) => /(?<!>)[=] ?v?[xX*]|[<>~^] ?v?[xX*]|>= ?v?[xX*]\S*\d/.test(text),
+    },
+    {
+        name: 'a hyphen range beside a star',
+        range: (text) => / - v? ?[xX*]|(^| |\|)v? ?[xX*][^ ]* - /.test(text),
+    },
+    {
+        name: 'a hyphen range beside other words',
+        range: some((text) => / - /.test(text) && !HYPHEN.test(text)),
+    },
+    {
+        name: 'a patch without a minor',
+        range: (text) => /\d\.[xX*]\.\d/.test(text),
+    },
+    {
+        name: 'a prerelease of an x',
+        range: (text) => /\.[xX*][-+0-9A-Za-z]/.test(text),
+    },
+    {
+        name: 'comparators that never hold together',
+        calls: RANGES,
+        range: (text) => alternatives(text).every((alternative) => npmRange(alternative) === null || neverHolds(alternative)),
+    },
+    {
+        name: 'any version, or a prerelease',
+        range: isMadeAny,
+    },
+];
+
+const satisfies = (version, range) => npm.satisfies(version, range, LOOSE);
+
+// Rows about what a function returns, whatever the texts. The result here is checked by npm's own `satisfies`.
+const results = [
+    {
+        name: 'the least version',
+        call: 'minVersion',
+        covers: ({ r }, theirs, ours) => ours !== null && ours !== 'TypeError' && satisfies(ours, r)
+            && (theirs === null || npm.lt(ours, theirs)),
+    },
+    {
+        name: 'a subset that npm does not find',
+        call: 'subset',
+        covers: () => false,
+    },
+];
+
+module.exports = { rules, results, npm, LOOSE };

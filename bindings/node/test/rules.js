@@ -6,6 +6,8 @@
 
 const { createNpm } = require('./npm.js');
 
+const here = require('..');
+
 const npm = createNpm();
 const LOOSE = { loose: true };
 
@@ -22,12 +24,15 @@ function npmRange(text) {
 
 const comparatorsOf = (alternative) => npmRange(alternative)?.set[0].filter(({ value }) => value !== '') ?? [];
 
+// Whether an upper end is below 0.0.0, where `*` begins here.
+const isUnderAll = (operator, semver) => npm.compare(semver, '0.0.0') < (operator === '<' ? 1 : 0);
+
 // Whether npm reads an alternative, and no version can satisfy all its comparators.
 function neverHolds(alternative) {
     const comparators = comparatorsOf(alternative);
     const lower = comparators.filter(({ operator }) => !operator.startsWith('<'));
     const upper = comparators.filter(({ operator }) => !operator.startsWith('>'));
-    return comparators.some(({ value }) => value === '<0.0.0-0') || lower.some((one) => upper.some((other) => {
+    return upper.some(({ operator, semver }) => isUnderAll(operator, semver)) || lower.some((one) => upper.some((other) => {
         const order = npm.compare(one.semver, other.semver);
         return order > 0 || (order === 0 && (one.operator === '>' || other.operator === '<'));
     }));
@@ -41,8 +46,9 @@ function isMadeAny(text) {
 
 const PARTIAL = String.raw`v?\s*[\dxX*]+(?:\.[\dxX*]+(?:\.[\dxX*]+[-+.0-9A-Za-z]*)?)?`;
 const HYPHEN = new RegExp(`^${PARTIAL} - ${PARTIAL}$`);
-const COMPARING = ['compare', 'compareBuild', 'satisfies', 'sort', 'maxSatisfying', 'minSatisfying'];
-const RANGES = ['validRange', 'Range', 'minVersion', 'subset', 'intersects', 'print'];
+// The functions that show whether a range text is refused.
+const RANGES = ['validRange', 'raw', 'test', 'minVersion', 'subset', 'intersects'];
+
 
 const rules = [
     {
@@ -74,7 +80,6 @@ const rules = [
     },
     {
         name: 'large numbers',
-        calls: [...COMPARING, ...RANGES],
         version: (text) => /[-+.A-Za-z]\d{16}/.test(text),
         range: (text) => /\d{16}/.test(text),
     },
@@ -85,6 +90,10 @@ const rules = [
     {
         name: 'at most a partial',
         range: (text) => /<= ?v? ?\d+(\.(\d+|[xX*]))?(\.[xX*]\S*)?(?=$| |\|)/.test(text),
+    },
+    {
+        name: 'less than a major',
+        range: (text) => /< ?v? ?\d+(\.[xX*]\S*)?(?=$| |\|)/.test(text),
     },
     {
         name: 'an operator before a star',
@@ -128,10 +137,39 @@ const results = [
             && (theirs === null || npm.lt(ours, theirs)),
     },
     {
-        name: 'a subset that npm does not find',
+        name: 'a subset, which npm answers by its comparators',
         call: 'subset',
-        covers: () => false,
+        covers: ({ r, s }, theirs, ours) => (ours === true && theirs === false
+            ? !candidates(r, s).some((version) => satisfies(version, r) && !satisfies(version, s))
+            : ours === false && theirs === true && isWitness(here.leastBeyond(r, s).version, r, s)),
+    },
+    {
+        name: 'a prerelease that both ranges have inside',
+        call: 'intersects',
+        covers: ({ r, s }, theirs, ours) => ours === true && theirs === false
+            && exactPrereleases(r, s).some((version) => isInside(version, r) && isInside(version, s)),
     },
 ];
+
+const isWitness = (version, range, other) => satisfies(version, range) && !satisfies(version, other);
+
+// Whether the version satisfies all comparators of an alternative, prerelease or not.
+const isInside = (version, range) => npmRange(range).set.some((comparators) =>
+    comparators.every((comparator) => comparator.test(version)));
+
+const allComparators = (...ranges) => ranges.flatMap((range) => npmRange(range).set.flat())
+    .filter(({ value }) => value !== '');
+
+const exactPrereleases = (...ranges) => allComparators(...ranges)
+    .filter(({ operator, semver }) => operator === '' && semver.prerelease.length > 0)
+    .map(({ semver }) => semver.version);
+
+// The versions at the ends of two ranges and beside them.
+const candidates = (...ranges) => ['0.0.0', ...allComparators(...ranges).flatMap(({ semver }) => {
+    const { major, minor, patch, version } = semver;
+    const triple = `${major}.${minor}.${patch}`;
+    return [version, triple, `${triple}-0`, `${version}${version === triple ? '-0' : '.0'}`, `${triple}-zz`,
+        `${major}.${minor}.${patch + 1}`, `${major}.${minor}.${patch + 1}-0`];
+})];
 
 module.exports = { rules, results, npm, LOOSE };

@@ -297,7 +297,9 @@ const gte = (one, other, options) => compare(one, other, options) >= 0;
 const lt = (one, other, options) => compare(one, other, options) < 0;
 const lte = (one, other, options) => compare(one, other, options) <= 0;
 
-const operators = { '': eq, '=': eq, '==': eq, '!=': neq, '>': gt, '>=': gte, '<': lt, '<=': lte };
+const operators = new Map(Object.entries({
+    '': eq, '=': eq, '==': eq, '!=': neq, '>': gt, '>=': gte, '<': lt, '<=': lte,
+}));
 const textOf = (version) => (typeof version === 'object' ? version.version : version);
 
 function cmp(one, operator, other, options) {
@@ -305,10 +307,11 @@ function cmp(one, operator, other, options) {
     if (operator === '===' || operator === '!==') {
         return (textOf(one) === textOf(other)) === (operator === '===');
     }
-    if (!Object.hasOwn(operators, operator)) {
+    const call = operators.get(operator);
+    if (call === undefined) {
         throw new TypeError(`Invalid operator: ${operator}`);
     }
-    return operators[operator](one, other);
+    return call(one, other);
 }
 
 // Sorts in place, as npm does: builds too, equal versions in the order in which they stood, `undefined` last.

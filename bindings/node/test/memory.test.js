@@ -1,6 +1,7 @@
 // SPDX-License-Identifier: Apache-2.0
 // Memory that does not grow: each function in a loop, without a turn of the event loop where nothing waits for one. It
-// is run with `--expose-gc`.
+// is run with `--expose-gc`, and with `--max-semi-space-size=1` so that JavaScript's room for young objects keeps its
+// size.
 'use strict';
 
 const assert = require('node:assert');

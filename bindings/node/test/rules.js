@@ -121,6 +121,11 @@ const rules = [
         range: (text) => alternatives(text).every((alternative) => npmRange(alternative) === null || neverHolds(alternative)),
     },
     {
+        name: 'below 0.0.0',
+        range: some((text) => comparatorsOf(text).some(({ operator, semver }) =>
+            !operator.startsWith('>') && isUnderAll(operator, semver))),
+    },
+    {
         name: 'any version, or a prerelease',
         range: isMadeAny,
     },
@@ -144,10 +149,10 @@ const results = [
             : ours === false && theirs === true && isWitness(here.leastBeyond(r, s).version, r, s)),
     },
     {
-        name: 'a prerelease, or a place below 0.0.0, that both ranges have inside',
+        name: 'a prerelease that both ranges have inside',
         call: 'intersects',
-        covers: ({ r, s }, theirs, ours) => ours === true && theirs === false && (endsBelowAll(r) || endsBelowAll(s)
-            || exactPrereleases(r, s).some((version) => isInside(version, r) && isInside(version, s))),
+        covers: ({ r, s }, theirs, ours) => ours === true && theirs === false
+            && exactPrereleases(r, s).some((version) => isInside(version, r) && isInside(version, s)),
     },
 ];
 
@@ -159,9 +164,6 @@ const isInside = (version, range) => npmRange(range).set.some((comparators) =>
 
 const allComparators = (...ranges) => ranges.flatMap((range) => npmRange(range).set.flat())
     .filter(({ value }) => value !== '');
-
-const endsBelowAll = (range) => allComparators(range).some(({ operator, semver }) =>
-    operator.startsWith('<') && isUnderAll(operator, semver));
 
 const exactPrereleases = (...ranges) => allComparators(...ranges)
     .filter(({ operator, semver }) => operator === '' && semver.prerelease.length > 0)

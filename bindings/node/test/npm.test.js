@@ -4,6 +4,8 @@
 'use strict';
 
 const assert = require('node:assert');
+const fs = require('node:fs');
+const path = require('node:path');
 const { test } = require('node:test');
 const here = require('..');
 const { rules, results, npm, LOOSE } = require('./rules.js');
@@ -13,6 +15,12 @@ const PAIRS = Number(process.env.NPM_PAIRS ?? 100000);
 const SEED = Number(process.env.NPM_SEED ?? 1);
 const OPERATORS = ['', '=', '==', '===', '!=', '!==', '<', '<=', '>', '>='];
 const LIST = 6;
+
+// The table of the README, a row for each rule.
+const code = (value) => `\`${typeof value === 'string' ? `'${value.replaceAll('|', '\\|')}'` : value}\``;
+const row = ({ name, example: [call, ...texts], npm: theirs, here: ours, why }) =>
+    `| ${name} | \`${call}(${texts.map((text) => `'${text.replaceAll('|', '\\|')}'`).join(', ')})\` | ${code(theirs)} `
+    + `| ${code(ours)} | ${why} |`;
 
 const plain = (value) => value?.version ?? value ?? null;
 
@@ -48,6 +56,8 @@ const calls = {
     maxSatisfying: (semver, { list, r }) => semver.maxSatisfying(list, r, LOOSE),
     minSatisfying: (semver, { list, r }) => semver.minSatisfying(list, r, LOOSE),
     validRange: (semver, { r }) => semver.validRange(r, LOOSE) !== null,
+    // What npm makes of the print.
+    print: (semver, { v, r }) => npm.satisfies(v, semver.validRange(r, LOOSE), LOOSE),
     raw: (semver, { r }) => new semver.Range(r, LOOSE).raw,
     minVersion: (semver, { r }) => plain(semver.minVersion(r, LOOSE)),
     intersects: (semver, { r, s }) => semver.intersects(r, s, LOOSE),
@@ -122,5 +132,15 @@ test(`${PAIRS} pairs: each function returns what npm's returns, or a rule covers
     assert.ok(agreed > total * 0.8, 'most calls agree');
     if (PAIRS >= 10000) {
         [...rules, ...results].forEach(({ name }) => assert.ok(counts.has(name), `no text is under the rule: ${name}`));
+    }
+});
+
+test('each row of the table of the README is a rule, and its example is so', () => {
+    const readme = fs.readFileSync(path.join(__dirname, '../README.md'), 'utf8');
+    const table = readme.slice(readme.indexOf('| text | call | npm | here | why |')).split('\n\n')[0].split('\n').slice(2);
+    assert.deepStrictEqual(table, [...rules, ...results].map(row));
+    for (const { example: [call, ...texts], npm: theirs, here: ours } of [...rules, ...results]) {
+        assert.strictEqual(plain(npm[call](...texts, LOOSE)), theirs, `npm: ${call} ${texts}`);
+        assert.strictEqual(plain(here[call](...texts)), ours, `here: ${call} ${texts}`);
     }
 });

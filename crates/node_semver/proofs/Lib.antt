@@ -12,3 +12,5 @@ pub mod Least
 pub mod Prints
 -- ---- worked examples, which compute
 pub mod Examples
+-- ---- a count that only proofs read
+pub mod EmptyStruct

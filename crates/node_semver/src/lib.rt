@@ -36,6 +36,7 @@
 //! `node_semver_callers` has a proved caller for each of several tasks.
 #![tactic(auto)]
 
+mod comparisons;
 mod error;
 mod json;
 pub mod laws;
@@ -43,9 +44,10 @@ mod range;
 mod tree;
 mod version;
 
+pub use comparisons::Comparisons;
 pub use error::{SemverError, SemverErrorKind, SourceSpan};
 pub use json::JsonError;
 pub use range::{Range, max_satisfying};
-pub use semver_sets::{Comparisons, Identifier, MAX_LENGTH, MAX_SAFE_INTEGER};
+pub use semver_sets::{Identifier, MAX_LENGTH, MAX_SAFE_INTEGER};
 pub use tree::SetTree;
 pub use version::Version;

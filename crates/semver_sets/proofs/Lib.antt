@@ -12,5 +12,3 @@ pub mod Ranges
 pub mod Sets
 -- ---- worked examples, which compute, and what computes them
 pub mod Examples
--- ---- counts that only proofs read
-pub mod EmptyStruct

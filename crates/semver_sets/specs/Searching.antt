@@ -7,6 +7,7 @@ use Rattle.semver_cuts.specs.Ends.{Ends}
 use Rattle.semver_cuts.specs.Starts.{count_of_starts}
 use Rattle.semver_sets.specs.Comparison.{version_cmp}
 use Rattle.semver_sets.specs.IdentifierValue.{IdentifierValue}
+use Rattle.semver_sets.specs.Meaning.{RangeAdmits}
 use Rattle.semver_sets.specs.Version.{IsPrerelease, VersionValue}
 
 -- ---- the tests of what `Meaning` says of ends
@@ -40,9 +41,12 @@ count_of_opening v sets = count_by (has_open_end v) sets
 abbrev pub HasDigits : ℕ → ℕ → Type 0
 HasDigits number digits = number < 2 ^ digits
 
--- for a release at most the binary digits of how many spans the sets are joined to, and one more; for a prerelease two
--- for each set with an end that opens its triple
+-- the count never falls. For a release it grows by at most the binary digits of how many spans the sets are joined to,
+-- and one more; for a prerelease by at most two for each set with an end that opens its triple. A version that is
+-- admitted was compared at least twice: with a lower end and with an upper end
 pub record IsShortSearch (sets : List (Ends VersionValue)) (v : VersionValue) (before after : ℕ) : Type 0 where
+  pub adds : before ≤ after
   pub release : ¬ IsPrerelease v → (digits : ℕ) → HasDigits (count_of_starts version_cmp sets) digits
       → after ≤ before + digits + 1
   pub prerelease : IsPrerelease v → after ≤ before + 2 * count_of_opening v sets
+  pub admitted : RangeAdmits sets v → before + 2 ≤ after

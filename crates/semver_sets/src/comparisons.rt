@@ -1,51 +1,18 @@
-//! How many comparisons a search takes, counted by proofs alone.
-ghost use Rattle.std.specs.Prelude.{◌≡◌, ◌+◌};
+//! How many comparisons a search takes.
+ghost use Rattle.std.specs.Prelude.{◌≡◌, ◌+◌, ℕ};
 
-mod tally;
-
-use std::marker::Model;
-use tally::Tally;
-
-/// How often a version was compared with a cut. It takes no bytes, and a running program can't read it.
+/// A count of the comparisons of a version with a cut, which only grows.
 ///
-/// A contract sees a whole number, as that of `Range::satisfies_counted` of `node_semver`.
-///
-/// # Memory
-///
-/// Takes none.
-#[derive(Drop)]
-pub struct Comparisons {
-    tally: Tally,
-}
+/// A search receives a counter of a type that it doesn't know. So it can neither set the counter back nor make a second
+/// one of that type. A contract sees a number, `count`. `Comparisons` of `node_semver` is such a counter.
+pub trait Counts {
+    ghost count: { Self → ℕ };
 
-impl Model for Comparisons {
-    ghost use Rattle.std.specs.Prelude.{ℕ};
-
-    ghost Value = { ℕ };
-
-    ghost view = { λ c. c.tally.count };
-}
-
-impl Comparisons {
-    /// No comparisons yet.
+    /// Counts one more comparison.
     ///
     /// # Memory
     ///
-    /// Takes none.
-    #[inline(always)]
-    pub fn new() -> Comparisons
-        ensures { result ≡ 0 }
-    {
-        Comparisons {
-            tally: Tally::zero(),
-        }
-    }
-
-    // One more comparison.
-    #[inline(always)]
-    pub(crate) fn add_one(&mut self)
-        ensures { self.new ≡ self.old + 1 }
-    {
-        self.tally = self.tally.next();
-    }
+    /// Does not allocate.
+    fn add_one(&mut self)
+        ensures { count self.new ≡ count self.old + 1 };
 }

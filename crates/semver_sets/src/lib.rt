@@ -20,7 +20,7 @@ pub mod set;
 pub mod set_list;
 mod word;
 
-pub use comparisons::Comparisons;
+pub use comparisons::Counts;
 pub use identifier::Identifier;
 
 /// The greatest major, minor or patch of a text: 2 to the 53rd power, less one.

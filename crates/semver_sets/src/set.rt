@@ -7,7 +7,7 @@ ghost use Rattle.semver_sets.specs.Meaning.{HasOpenEnd, IsInside, Opens, SetAdmi
 ghost use Rattle.semver_sets.specs.Private.EndViews.{IsAtTriple};
 ghost use Rattle.semver_sets.specs.Version.{IsPrerelease, VersionValue, release};
 
-use crate::Comparisons;
+use crate::Counts;
 use crate::end::End;
 use semver_cuts::{Cut, Span};
 use std::cmp::Ordering;
@@ -38,11 +38,13 @@ pub trait Asked {
 /// A release has to lie inside it; a prerelease also needs an end that is a prerelease of its triple, and without one
 /// is not compared at all.
 #[inline(always)]
-pub fn admits<V: Asked>(set: &Span<End>, version: &V, comparisons: &mut Comparisons) -> bool
+pub fn admits<V: Asked, C: Counts>(set: &Span<End>, version: &V, comparisons: &mut C) -> bool
     ensures answer { IsTrue result ↔ SetAdmits set.now (V.asked version.now) }
-    ensures short { comparisons.new ≤ comparisons.old + 2 }
+    ensures adds { C.count comparisons.old ≤ C.count comparisons.new }
+    ensures short { C.count comparisons.new ≤ C.count comparisons.old + 2 }
+    ensures admitted { IsTrue result → C.count comparisons.old + 2 ≤ C.count comparisons.new }
     ensures unopened { IsPrerelease (V.asked version.now) → ¬ HasOpenEnd (V.asked version.now) set.now
-        → comparisons.new ≡ comparisons.old }
+        → C.count comparisons.new ≡ C.count comparisons.old }
 {
     if version.is_prerelease() {
         admits_prerelease(set, version, comparisons)
@@ -53,24 +55,28 @@ pub fn admits<V: Asked>(set: &Span<End>, version: &V, comparisons: &mut Comparis
 
 // The same of a prerelease.
 #[inline(never)]
-fn admits_prerelease<V: Asked>(set: &Span<End>, version: &V, comparisons: &mut Comparisons) -> bool
+fn admits_prerelease<V: Asked, C: Counts>(set: &Span<End>, version: &V, comparisons: &mut C) -> bool
     requires { IsPrerelease (V.asked version.now) }
     ensures answer { IsTrue result ↔ SetAdmits set.now (V.asked version.now) }
-    ensures short { comparisons.new ≤ comparisons.old + 2 }
-    ensures unopened { ¬ HasOpenEnd (V.asked version.now) set.now → comparisons.new ≡ comparisons.old }
+    ensures adds { C.count comparisons.old ≤ C.count comparisons.new }
+    ensures short { C.count comparisons.new ≤ C.count comparisons.old + 2 }
+    ensures admitted { IsTrue result → C.count comparisons.old + 2 ≤ C.count comparisons.new }
+    ensures unopened { ¬ HasOpenEnd (V.asked version.now) set.now → C.count comparisons.new ≡ C.count comparisons.old }
 {
     has_open_end(set, version) && has_inside(set, version, comparisons)
 }
 
 // Whether the version lies in the set.
 #[inline(always)]
-pub(crate) fn has_inside<V: Asked>(
+pub(crate) fn has_inside<V: Asked, C: Counts>(
     set: &Span<End>,
     version: &V,
-    comparisons: &mut Comparisons,
+    comparisons: &mut C,
 ) -> bool
     ensures inside { IsTrue result ↔ IsInside (V.asked version.now) set.now }
-    ensures short { comparisons.new ≤ comparisons.old + 2 }
+    ensures adds { C.count comparisons.old ≤ C.count comparisons.new }
+    ensures short { C.count comparisons.new ≤ C.count comparisons.old + 2 }
+    ensures admitted { IsTrue result → C.count comparisons.old + 2 ≤ C.count comparisons.new }
 {
     is_begun(set.lower(), version, comparisons) && !is_begun(set.upper(), version, comparisons)
 }
@@ -78,9 +84,13 @@ pub(crate) fn has_inside<V: Asked>(
 // Whether the cut is at most the one before the version. Each comparison of a version with a cut is this one, and is
 // counted.
 #[inline(always)]
-pub(crate) fn is_begun<V: Asked>(cut: &Cut<End>, version: &V, comparisons: &mut Comparisons) -> bool
+pub(crate) fn is_begun<V: Asked, C: Counts>(
+    cut: &Cut<End>,
+    version: &V,
+    comparisons: &mut C,
+) -> bool
     ensures begun { IsTrue result ↔ IsCutAtMost version_cmp cut.now (Before (V.asked version.now)) }
-    ensures counted { comparisons.new ≡ comparisons.old + 1 }
+    ensures counted { C.count comparisons.new ≡ C.count comparisons.old + 1 }
 {
     comparisons.add_one();
     is_at_most(cut, version)

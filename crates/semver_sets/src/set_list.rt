@@ -10,7 +10,7 @@ pub mod copy;
 mod opened;
 pub mod searched;
 
-use crate::Comparisons;
+use crate::Counts;
 use crate::end::End;
 use crate::set::{Asked, admits};
 use crate::set_list::searched::Searched;
@@ -75,9 +75,10 @@ impl Sets {
 
     /// Whether one of the sets admits a version, and how many comparisons that took.
     #[inline(always)]
-    pub fn admits<V: Asked>(&self, version: &V, comparisons: &mut Comparisons) -> bool
+    pub fn admits<V: Asked, C: Counts>(&self, version: &V, comparisons: &mut C) -> bool
         ensures answer { IsTrue result ↔ RangeAdmits (sets_seen self.now) (V.asked version.now) }
-        ensures short { IsShortSearch (sets_seen self.now) (V.asked version.now) comparisons.old comparisons.new }
+        ensures short { IsShortSearch (sets_seen self.now) (V.asked version.now) (C.count comparisons.old)
+            (C.count comparisons.new) }
     {
         match self {
             Sets::One(set) => admits(set, version, comparisons),

@@ -23,7 +23,7 @@ use Rattle.semver_cuts.specs.Starts.{count_of_starts}
 use Rattle.semver_cuts.specs.Lemmas.Ends.{cut_cmp-refl}
 use Rattle.semver_sets.specs.Comparison.{version_cmp}
 use Rattle.semver_sets.specs.IdentifierValue.{IdentifierValue}
-use Rattle.semver_sets.specs.Meaning.{HasOpenEnd, IsInside, Opens, RangeAdmits}
+use Rattle.semver_sets.specs.Meaning.{HasOpenEnd, IsInside, Opens, RangeAdmits, SetAdmits}
 use Rattle.semver_sets.specs.Lemmas.Order.{version_total}
 use Rattle.semver_sets.specs.Searching.{IsShortSearch, count_of_opening, has_identifiers, has_open_end, has_same_triple}
 use Rattle.semver_sets.specs.Searching.{opens}
@@ -465,10 +465,13 @@ opened-or_not v set before after false e short none =
     omega (arith, same)
 
 -- two comparisons, and none of a prerelease whose triple no end opens
-pub only-short : (set : Ends VersionValue) (v : VersionValue) (before after : ℕ) → after ≤ before + 2
-    → (IsPrerelease v → ¬ HasOpenEnd v set → after ≡ before) → IsShortSearch (set ∷ []) v before after
-only-short set v before after short none = record {
+pub only-short : (set : Ends VersionValue) (v : VersionValue) (before after : ℕ) → before ≤ after → after ≤ before + 2
+    → (IsPrerelease v → ¬ HasOpenEnd v set → after ≡ before) → (SetAdmits set v → before + 2 ≤ after)
+    → IsShortSearch (set ∷ []) v before after
+only-short set v before after adds short none admitted = record {
+  adds = adds;
   release = λ no digits fits.
       some-digit digits before after (subst (λ n. n < 2 ^ digits) (starts-once set) fits) short;
   prerelease = λ pre. opened-or_not v set before after (has_open_end v set) refl short (none pre);
+  admitted = λ is. elim is [ inl here ↦ admitted here | inr there ↦ absurd there ];
 }

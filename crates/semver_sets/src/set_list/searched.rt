@@ -11,7 +11,7 @@ ghost use Rattle.semver_sets.specs.RangeSets.{IsRangeSet};
 ghost use Rattle.semver_sets.specs.Searching.{HasDigits, IsShortSearch};
 ghost use Rattle.semver_sets.specs.Private.SearchViews.{AreOpeningsOf};
 
-use crate::Comparisons;
+use crate::Counts;
 use crate::end::End;
 use crate::set::{Asked, has_inside, is_begun};
 use crate::set_list::copy::copies_of;
@@ -111,9 +111,10 @@ impl Searched {
     // Whether one of the sets admits a version: a release is looked for among the merged spans, and a prerelease in the
     // sets with an end that opens its triple.
     #[inline(never)]
-    pub(crate) fn admits<V: Asked>(&self, version: &V, comparisons: &mut Comparisons) -> bool
+    pub(crate) fn admits<V: Asked, C: Counts>(&self, version: &V, comparisons: &mut C) -> bool
         ensures answer { IsTrue result ↔ RangeAdmits self.now (V.asked version.now) }
-        ensures short { IsShortSearch self.now (V.asked version.now) comparisons.old comparisons.new }
+        ensures short { IsShortSearch self.now (V.asked version.now) (C.count comparisons.old)
+            (C.count comparisons.new) }
     {
         if !version.is_prerelease() {
             return is_in_some(&self.merged(), version, comparisons);
@@ -131,14 +132,16 @@ impl Searched {
 
 // Whether a version lies in one of the spans, found by halving: among the merged spans it lies in the last that begins
 // before it, or in none.
-fn is_in_some<V: Asked>(
+fn is_in_some<V: Asked, C: Counts>(
     spans: &Merged<'_, '_, End>,
     version: &V,
-    comparisons: &mut Comparisons,
+    comparisons: &mut C,
 ) -> bool
     ensures inside { IsTrue result ↔ IsInSome version_cmp spans.now.list (Before (V.asked version.now)) }
+    ensures adds { C.count comparisons.old ≤ C.count comparisons.new }
     ensures short { (digits : ℕ) → HasDigits (count_of_starts version_cmp spans.now.list) digits →
-        comparisons.new ≤ comparisons.old + digits + 1 }
+        C.count comparisons.new ≤ C.count comparisons.old + digits + 1 }
+    ensures admitted { IsTrue result → C.count comparisons.old + 2 ≤ C.count comparisons.new }
 {
     let mut low = 0;
     let mut high = spans.len();
@@ -159,16 +162,18 @@ fn is_in_some<V: Asked>(
 }
 
 // Whether a version lies in a set at one of the places.
-fn is_in_opened<V: Asked>(
+fn is_in_opened<V: Asked, C: Counts>(
     sets: &[Span<End>],
     openings: &[Opening],
     version: &V,
-    comparisons: &mut Comparisons,
+    comparisons: &mut C,
 ) -> bool
     requires { AllByRecursion (λ o. o.place < length sets.now) openings.now }
     ensures inside { IsTrue result
         ↔ AnyByRecursion (λ o. IsInside (V.asked version.now) (span_at sets.now o.place)) openings.now }
-    ensures short { comparisons.new ≤ comparisons.old + 2 * length openings.now }
+    ensures adds { C.count comparisons.old ≤ C.count comparisons.new }
+    ensures short { C.count comparisons.new ≤ C.count comparisons.old + 2 * length openings.now }
+    ensures admitted { IsTrue result → C.count comparisons.old + 2 ≤ C.count comparisons.new }
 {
     'openings: for opening in openings {
         if has_inside(&sets[opening.place], version, comparisons) {

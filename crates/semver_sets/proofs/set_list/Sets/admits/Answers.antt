@@ -10,7 +10,9 @@ pub returns-in-One-clause-short : goal.returns-in-One-clause-short
 returns-in-One-clause-short g c =
     let v = g.V.Asked.asked c.args.version.now in
     let one : sets_seen c.args.self.now ≡ c.in-One.set ∷ [] = ap sets_seen c.in-One.is in
-    subst (λ (l : List (Ends VersionValue)). IsShortSearch l v c.args.comparisons.now
-    c.admits.new.comparisons) (sym one)
-    (only-short c.in-One.set v c.args.comparisons.now c.admits.new.comparisons c.admits.ensures.short
-    c.admits.ensures.unopened)
+    let count = g.C.Counts.count in
+    subst (λ (l : List (Ends VersionValue)). IsShortSearch l v (count c.args.comparisons.now)
+    (count c.admits.new.comparisons)) (sym one)
+    (only-short c.in-One.set v (count c.args.comparisons.now) (count c.admits.new.comparisons) c.admits.ensures.adds
+    c.admits.ensures.short c.admits.ensures.unopened
+    (λ is. c.admits.ensures.admitted (c.admits.ensures.answer.1 is)))

@@ -20,6 +20,7 @@ openings-preserved g c = record {
       c.openings.opening-index _ _ _
       c.openings-test.true c.requires c.index-sets-opening.is c.openings.invariant.none
       (λ inside. cc (c.if-has_inside.false, c.has_inside.ensures.inside.1 inside));
+  adds = omega arith;
   short = omega arith;
 }
 

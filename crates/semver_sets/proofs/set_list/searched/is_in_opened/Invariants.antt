@@ -7,5 +7,6 @@ abbrev pub invariant-openings : goal.invariant-openings
 invariant-openings g l = record {
   none : ¬ AnyByRecursion (λ o. IsInside (g.V.Asked.asked l.version) (span_at l.sets o.place))
       (take l.opening-index l.openings);
-  short : l.comparisons ≤ l.fn.comparisons + 2 * l.opening-index;
+  adds : g.C.Counts.count l.fn.comparisons ≤ g.C.Counts.count l.comparisons;
+  short : g.C.Counts.count l.comparisons ≤ g.C.Counts.count l.fn.comparisons + 2 * l.opening-index;
 }

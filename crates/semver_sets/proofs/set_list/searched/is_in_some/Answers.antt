@@ -21,7 +21,9 @@ loop-low-init g c =
       within = omega arith;
       below = tt;
       above = subst Above (sym (drop_all c.len-high.result spans (omega arith))) tt;
-      steps = λ digits fits. left-first c.args.comparisons.now digits (c.len-high.result - 0) (omega arith);
+      steps = λ digits fits. left-first (g.C.Counts.count c.args.comparisons.now) digits (c.len-high.result - 0) (omega arith);
+      adds = omega arith;
+      begun = λ some. absurd (omega arith);
     }
 
 pub loop-low-preserved-then-is_begun : goal.loop-low-preserved-then-is_begun
@@ -40,10 +42,12 @@ loop-low-preserved-then-is_begun g c =
           c.ends.ensures (c.is_begun.ensures.begun.0 c.if-is_begun.true);
       above = c.loop-low.invariant.above;
       steps = λ digits fits.
-          subst (λ n. IsLeft c.args.comparisons.now n digits (high - (middle + 1))) (sym c.is_begun.ensures.counted)
-          (left-step c.args.comparisons.now c.loop-low.comparisons digits (high - low) (high - (middle + 1))
+          subst (λ n. IsLeft (g.C.Counts.count c.args.comparisons.now) n digits (high - (middle + 1))) (sym c.is_begun.ensures.counted)
+          (left-step (g.C.Counts.count c.args.comparisons.now) (g.C.Counts.count c.loop-low.comparisons) digits (high - low) (high - (middle + 1))
           (omega arith)
           (omega arith) (c.loop-low.invariant.steps digits fits));
+      adds = omega arith;
+      begun = λ _. omega arith;
     }
 
 pub loop-low-preserved : goal.loop-low-preserved
@@ -65,9 +69,11 @@ loop-low-preserved g c =
           span.lower c.is_begun.ensures.begun).0
           (ap not c.if-is_begun.false));
       steps = λ digits fits.
-          subst (λ n. IsLeft c.args.comparisons.now n digits (middle - low)) (sym c.is_begun.ensures.counted)
-          (left-step c.args.comparisons.now c.loop-low.comparisons digits (high - low) (middle - low) (omega arith)
+          subst (λ n. IsLeft (g.C.Counts.count c.args.comparisons.now) n digits (middle - low)) (sym c.is_begun.ensures.counted)
+          (left-step (g.C.Counts.count c.args.comparisons.now) (g.C.Counts.count c.loop-low.comparisons) digits (high - low) (middle - low) (omega arith)
           (omega arith) (c.loop-low.invariant.steps digits fits));
+      adds = omega arith;
+      begun = λ _. omega arith;
     }
 
 pub returns-then-low-eq0-clause-inside : goal.returns-then-low-eq0-clause-inside

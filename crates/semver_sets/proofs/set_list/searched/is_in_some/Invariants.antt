@@ -1,4 +1,4 @@
-use Rattle.std.proofs.Common.{ℕ, ◌-◌, ◌<◌, ◌≤◌, ◌^◌, drop, length, take}
+use Rattle.std.proofs.Common.{ℕ, ◌+◌, ◌-◌, ◌<◌, ◌≤◌, ◌^◌, drop, length, take}
 use Rattle.std.specs.List.{AllByRecursion}
 use Rattle.semver_cuts.specs.declared.cut.Cut.TheVariants.{Before}
 use Rattle.semver_cuts.specs.Ends.{IsCutAtMost, IsCutBelow}
@@ -15,7 +15,9 @@ invariant-loop-low g l = record {
   above : AllByRecursion (λ s. IsCutBelow version_cmp (Before (g.V.Asked.asked l.version)) s.lower)
       (drop l.high l.spans.merged);
   steps : (digits : ℕ) → length l.spans.merged < 2 ^ digits
-      → IsLeft l.fn.comparisons l.comparisons digits (l.high - l.low);
+      → IsLeft (g.C.Counts.count l.fn.comparisons) (g.C.Counts.count l.comparisons) digits (l.high - l.low);
+  adds : g.C.Counts.count l.fn.comparisons ≤ g.C.Counts.count l.comparisons;
+  begun : 0 < l.low → g.C.Counts.count l.fn.comparisons + 1 ≤ g.C.Counts.count l.comparisons;
 }
 
 abbrev pub decreases-loop-low : goal.decreases-loop-low

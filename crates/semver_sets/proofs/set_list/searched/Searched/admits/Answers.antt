@@ -4,8 +4,10 @@ use Rattle.semver_cuts.specs.declared.cut.Cut.TheVariants.{Before}
 use Rattle.semver_cuts.specs.Common.{IsInSome}
 use Rattle.semver_cuts.specs.Ends.{Ends}
 use Rattle.semver_cuts.specs.Places.{span_at}
+use Rattle.semver_cuts.specs.Starts.{count_of_starts}
 use Rattle.semver_sets.specs.Comparison.{version_cmp}
 use Rattle.semver_sets.specs.Meaning.{AnyByRecursion, IsInside}
+use Rattle.semver_sets.specs.Searching.{HasDigits}
 use Rattle.semver_sets.specs.Version.{IsPrerelease, VersionValue}
 use Rattle.semver_sets.specs.Private.SearchViews.{is_opening_of, places_opening}
 use Rattle.semver_sets.specs.declared.set_list.opened.Opening.{Opening}
@@ -22,6 +24,20 @@ returns-then-not-is_prerelease-clause-answer g c =
     ↔ IsInSome version_cmp l (Before v))
     c.merged.ensures c.is_in_some.ensures.inside in
     (λ h. admits.0 (inside.0 h), λ is. inside.1 (admits.1 is))
+
+pub returns-then-not-is_prerelease-clause-short : goal.returns-then-not-is_prerelease-clause-short
+returns-then-not-is_prerelease-clause-short g c =
+    let release : ¬ IsPrerelease (g.V.Asked.asked c.args.version.now) =
+    λ pre. cc (c.if-not-is_prerelease.true, c.is_prerelease.ensures.1 pre) in
+    record {
+      adds = c.is_in_some.ensures.adds;
+      release = λ _ digits fits. c.is_in_some.ensures.short digits
+          (subst (λ (l : List (Ends VersionValue)). HasDigits (count_of_starts version_cmp l) digits)
+          (sym c.merged.ensures) fits);
+      prerelease = λ pre. absurd (release pre);
+      admitted = λ is.
+          c.is_in_some.ensures.admitted ((returns-then-not-is_prerelease-clause-answer g c).1 is);
+    }
 
 pub is_in_opened-requires : goal.is_in_opened-requires
 is_in_opened-requires g c =
@@ -60,4 +76,9 @@ returns-clause-short g c =
     (places_opening v 0) c.self.view_is in
     let pre : IsPrerelease v = c.is_prerelease.ensures.0 c.if-not-is_prerelease.false in
     let count = found-count v pre c.args.self.now found places in
-    record { release = λ no. absurd (no pre); prerelease = λ _. omega (arith, count) }
+    record {
+      adds = c.is_in_opened.ensures.adds;
+      release = λ no. absurd (no pre);
+      prerelease = λ _. omega (arith, count);
+      admitted = λ is. c.is_in_opened.ensures.admitted ((returns-clause-answer g c).1 is);
+    }

@@ -14,7 +14,7 @@
 //! ```
 //! use node_semver::{Range, SemverErrorKind, Version};
 //! use std::test::Fail;
-//! 
+//!
 //! fn reads_a_range_and_asks_it(rt: HostRuntime) -> Result<(), Fail> {
 //!     let alloc = rt.alloc();
 //!     let range = Range::parse(alloc, "^1.2.3-rc.4 || >=3")?;

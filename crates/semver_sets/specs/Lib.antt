@@ -20,10 +20,11 @@ pub mod Operators
 pub mod TildeRanges
 pub mod CaretRanges
 pub mod HyphenRanges
--- ---- range texts: their alternatives, their meaning, and the sets that they are merged to
+-- ---- range texts: their alternatives, their meaning, the sets that they are merged to, and how two texts are joined
 pub mod Division
 pub mod Meaning
 pub mod Merging
+pub mod Union
 -- ---- sets: their form, how a version is found in them, how they are printed, and when they are equal
 pub mod RangeSets
 pub mod Searching

@@ -4,6 +4,8 @@
 //!
 //! | task | caller |
 //! |---|---|
+//! | does a version satisfy a range text | [`wanted::is_wanted`] |
+//! | does a change of a range let in anything new | [`change::lets_in_nothing_new`] |
 //! | does a lock file's version still fit its manifest | [`lock_file::still_fits`] |
 //! | the least version that a manifest allows | [`least::least_allowed`] |
 //! | one range for two dependents | [`common::shared_range`] |
@@ -13,6 +15,7 @@
 #![tactic(auto)]
 
 pub mod advisory;
+pub mod change;
 #[cfg(test)]
 mod checks;
 pub mod common;
@@ -21,5 +24,6 @@ pub mod least;
 pub mod lock_file;
 pub mod package;
 pub mod tree;
+pub mod wanted;
 
 pub use failure::Failure;

@@ -1,4 +1,4 @@
--- What a contract sees of an error: the text that was parsed, where its fault is, and the kind of the fault.
+-- What a contract sees of an error: the text that was parsed, the place of its fault, and the kind of the fault.
 use Rattle.std.specs.Prelude.{◌≡◌, ℕ, List, [], Result, Ok, Err, string_bytes}
 use Rattle.semver_sets.specs.Version.{VersionValue}
 use Rattle.node_semver.specs.declared.error.kind.SemverErrorKind.{SemverErrorKind}
@@ -7,7 +7,7 @@ use Rattle.node_semver.specs.declared.error.kind.SemverErrorKind.TheVariants.{Pa
 use Rattle.node_semver.specs.declared.error.kind.SemverErrorKind.TheVariants.{NoValidRanges, Other, OutOfMemory}
 use Rattle.node_semver.specs.declared.error.SemverError.{SemverError}
 
--- a kind as a value: the number of `MaxIntError`, the word of `Context` by its bytes
+-- a kind as a value: the number of `MaxIntError`, and the word of `Context` as its bytes
 pub data Kind : Type 0 where
   max_length : Kind
   incomplete : Kind
@@ -28,7 +28,7 @@ kind_of NoValidRanges = no_valid_ranges
 kind_of Other = other
 kind_of OutOfMemory = out_of_memory
 
--- an error as a value: the text, the byte offset of its fault from 0, how many bytes are at fault, and the kind
+-- an error as a value: the text, the byte offset of its fault from 0, the length of the fault in bytes, and the kind
 pub record Refusal : Type 0 where
   pub input : List ℕ
   pub offset : ℕ
@@ -43,15 +43,15 @@ refusal_of e = record {
   kind = kind_of e.kind;
 }
 
--- e is the refusal of this text at this offset, with no bytes at fault
+-- e is the error for this text, kind and offset, with length 0
 abbrev pub IsRefusalAt : List ℕ → Kind → ℕ → SemverError → Type 0
 IsRefusalAt text kind offset e = refusal_of e ≡ record { input = text; offset = offset; length = 0; kind = kind }
 
--- e says that memory was refused: no text, offset 0
+-- e reports that an allocation failed: with an empty text, at offset 0
 abbrev pub IsOutOfMemory : SemverError → Type 0
 IsOutOfMemory e = IsRefusalAt [] out_of_memory 0 e
 
--- the answer is this version, or want of memory
+-- the result is this version, or the error that an allocation failed
 abbrev pub IsReadAs : VersionValue → Result VersionValue SemverError → Type 0
 IsReadAs v (Ok w) = w ≡ v
 IsReadAs v (Err e) = IsOutOfMemory e

@@ -1,4 +1,4 @@
--- What a kind of refusal prints, byte for byte.
+-- The text that each kind of error prints, byte for byte.
 use Rattle.std.specs.Prelude.{ℕ, List, [], ◌++◌, Option, Some, None, codes}
 use Rattle.std.specs.Fmt.{decimal}
 use Rattle.node_semver.specs.declared.error.kind.SemverErrorKind.{SemverErrorKind}
@@ -6,7 +6,7 @@ use Rattle.node_semver.specs.declared.error.kind.SemverErrorKind.TheVariants.{Ma
 use Rattle.node_semver.specs.declared.error.kind.SemverErrorKind.TheVariants.{ParseIntError, MaxIntError, Context}
 use Rattle.node_semver.specs.declared.error.kind.SemverErrorKind.TheVariants.{NoValidRanges, Other, OutOfMemory}
 
--- none for `ParseIntError`, since std states no text for its fault
+-- no text is defined for `ParseIntError`, because std does not define the text of its error
 abbrev pub kind_text : SemverErrorKind → Option (List ℕ)
 kind_text MaxLengthError = Some (codes "Semver string can't be longer than 256 characters.")
 kind_text IncompleteInput = Some (codes "Incomplete input to semver parser.")
@@ -19,7 +19,7 @@ kind_text NoValidRanges = Some (codes "No valid ranges could be parsed")
 kind_text Other = Some (codes "An unspecified error occurred.")
 kind_text OutOfMemory = Some (codes "Out of memory.")
 
--- the rest of it, from the number or the word on
+-- the end of the text, from the number or word on
 abbrev pub rest_text : SemverErrorKind → List ℕ
 rest_text (MaxIntError value) = decimal value
 rest_text (Context word) = word.now ++ codes "."

@@ -1,4 +1,4 @@
--- Versions and ranges as JSON strings: what is answered to a string is what `parse` answers to its text.
+-- Versions and ranges as JSON strings: a string is read as `parse` reads its text.
 use Rattle.std.specs.Prelude.{◌≡◌, ◌⊎◌, ℕ, ◌≤◌, List, [], length, Option, Some}
 use Rattle.std.specs.Prelude.{None, Result, Ok, Err, IfErr, IfOk, IsOk, codes}
 use Rattle.std.specs.declared.num.ParseIntError.{ParseIntError as IntFault}
@@ -17,7 +17,7 @@ use Rattle.node_semver.specs.Fault.{IsFaultOf}
 use Rattle.node_semver.specs.ReadingBack.{HasText, VersionReadsBack}
 use Rattle.node_semver.specs.Error.{IsReadAs}
 
--- what `Version::parse` answers to a text, by the facts that it promises
+-- the result of `Version::parse` for a text, by the facts that its contract states
 pub record IsVersionAnswer (text : List ℕ) (answer : Result VersionValue SemverError) : Type 0 where
   pub found : IfOk answer (λ v. IsVersionText text v)
   pub only : (v : VersionValue) → IsVersionText text v → IsReadAs v answer
@@ -26,13 +26,13 @@ pub record IsVersionAnswer (text : List ℕ) (answer : Result VersionValue Semve
   pub print : IfOk answer VersionReadsBack
   pub printed : (v : VersionValue) → HasText v → version_text v ≡ text → length text ≤ MAX_LENGTH → IsReadAs v answer
 
--- the answer passes on an answer of which this holds: what was read, or the refusal of the text
+-- this holds of the result: of the value that was read, or of the error for the text
 abbrev pub PassesOn : {V : Type 0} → (Result V SemverError → Type 0) → Result V JsonError → Type 0
 PassesOn Holds (Ok v) = Holds (Ok v)
 PassesOn Holds (Err (Semver e)) = Holds (Err e)
 PassesOn Holds (Err NotAString) = ⊥
 
--- a JSON error as a value: none where the JSON value is no string, else the refusal of its text
+-- a JSON error as a value: nothing if the JSON value is no string, else the error for its text
 abbrev pub json_error_value : JsonError → Option (Refusal × Option IntFault)
 json_error_value NotAString = None
 json_error_value (Semver e) = Some (error_value e)

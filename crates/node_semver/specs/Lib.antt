@@ -1,7 +1,7 @@
--- What the contracts of this crate say beside what `semver_sets` defines, in reading order. These files are what a
--- reader has to trust.
+-- The definitions that the contracts of this crate use beside those of `semver_sets`, in reading order. These files are
+-- what a reader has to trust.
 
--- ---- errors, and what is wrong with a text that is no version
+-- ---- errors, and the fault of a text that is no version text
 pub mod Error
 pub mod Fault
 -- ---- versions: the least one and the next
@@ -14,11 +14,11 @@ pub mod RangeAlgebra
 pub mod SetTree
 -- ---- prints that are read again
 pub mod ReadingBack
--- ---- what is answered to a range text
+-- ---- the result of reading a range text
 pub mod RangeAnswer
 -- ---- JSON strings
 pub mod Json
--- ---- errors: where they stand, and how they print
+-- ---- errors: their line and column, their parts, and how they are printed
 pub mod ErrorLocation
 pub mod ErrorParts
 pub mod ErrorText
@@ -26,6 +26,6 @@ pub mod ErrorEquality
 -- ---- laws over texts alone
 pub mod VersionLaws
 pub mod RangeLaws
--- ---- no contract of a public call names what follows: what private functions compute, and lemmas
+-- ---- not part of any public contract: what private functions compute, and lemmas
 pub mod Private
 pub mod Lemmas

@@ -1,6 +1,6 @@
--- What private functions are said to compute.
+-- What private functions compute.
 
--- faults, and what is answered to a text
+-- faults, and the results of reading texts
 pub mod FaultViews
 pub mod AnswerViews
 -- the least and the greatest version

@@ -1,4 +1,4 @@
--- What `Range::parse` answers to a text, by the facts that it promises.
+-- The result of `Range::parse` for a text, by the facts that its contract states.
 use Rattle.std.specs.Prelude.{◌≡◌, ◌⊎◌, ◌↔◌, ℕ, List, Result, IfErr, IfOk, OnOk}
 use Rattle.std.specs.List.{AllByRecursion}
 use Rattle.semver_cuts.specs.Ends.{Ends}
@@ -17,10 +17,10 @@ pub record IsRangeAnswer (text : List ℕ) (answer : Result (List (Ends VersionV
   pub refused : IfErr answer (λ e. IsOutOfMemory e ⊎ (IsRefusalAt text no_valid_ranges 0 e × IsRefused text))
   pub accepted : OnOk answer (¬ IsRefused text)
   pub means : IfOk answer (λ r. (v : VersionValue) → RangeAdmits r v ↔ TextAdmits text v)
-  -- one set for each alternative that gives one, and what a range always holds
+  -- one set for each alternative that gives a set, and what is true of every range
   pub sets : IfOk answer (λ r. AreSetsOfText text r)
   pub holds : IfOk answer IsRangeValue
-  -- the print of what was read is read as an equal range, and so is each print of a range
+  -- the print of what was read is read as an equal range, and so is each text that is the print of a range
   pub print : IfOk answer RangeReadsBack
   pub printed : (sets : List (Ends VersionValue)) → IsRangeValue sets → AllByRecursion IsPlainlyBounded sets
       → range_text sets ≡ text → IsReadAsRange sets answer

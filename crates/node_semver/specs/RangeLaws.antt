@@ -1,26 +1,26 @@
--- The laws of range texts: what makes "the words of a text" and "the partial of a text" well said.
+-- The laws of range texts. They are why one can say "the words of a text" and "the partial of a text".
 use Rattle.std.specs.Prelude.{◌≡◌, ℕ, List, Option}
 use Rattle.semver_sets.specs.Comparator.{Comparator}
 use Rattle.semver_sets.specs.Division.{IsSimpleText, IsWritten}
 use Rattle.semver_sets.specs.HyphenRanges.{IsHyphenText}
 use Rattle.semver_sets.specs.PartialText.{IsPartialText, Partial}
 
--- the text is written in some way
+-- the text can be divided into alternatives and words
 abbrev pub HasWriting : List ℕ → Type 0
 HasWriting text = (alternatives : List (List Comparator)) × IsWritten text alternatives
 
--- and in no other
+-- and in one way only
 abbrev pub IsWrittenOneWay : List ℕ → Type 0
 IsWrittenOneWay text = (one other : List (List Comparator)) → IsWritten text one → IsWritten text other → one ≡ other
 
--- the text is no two partials
+-- the text is at most one partial
 abbrev pub IsOnePartial : List ℕ → Type 0
 IsOnePartial text = (one other : Partial) → IsPartialText text one → IsPartialText text other → one ≡ other
 
--- and as a word it stands for no two comparators: of a hyphen range
+-- as a hyphen range, the text gives at most one comparator
 abbrev pub IsOneHyphenRange : List ℕ → Type 0
 IsOneHyphenRange text = (one other : Option Comparator) → IsHyphenText text one → IsHyphenText text other → one ≡ other
 
--- and of every other kind
+-- as a word of another kind, the text gives at most one comparator
 abbrev pub IsOneSimpleWord : List ℕ → Type 0
 IsOneSimpleWord text = (one other : Option Comparator) → IsSimpleText text one → IsSimpleText text other → one ≡ other

@@ -1,5 +1,4 @@
--- Which prints read back: as texts, they are read as what was printed. So what a file keeps of a version or of a range
--- can be its print.
+-- Which prints are read back as what was printed. So a file can store a version or a range as its print.
 use Rattle.std.specs.Prelude.{◌≡◌, ℕ, ◌≤◌, List, length, Result, Ok, Err}
 use Rattle.std.specs.List.{AllByRecursion}
 use Rattle.semver_cuts.specs.declared.cut.Cut.{Cut}
@@ -18,7 +17,7 @@ use Rattle.node_semver.specs.Error.{IsOutOfMemory}
 
 -- ---- versions
 
--- the print of the version, where it has at most 256 bytes, is a version text of just its five fields
+-- if the print of the version has at most 256 bytes, it is a version text with exactly its five fields
 abbrev pub VersionReadsBack : VersionValue → Type 0
 VersionReadsBack v = length (version_text v) ≤ MAX_LENGTH → IsVersionText (version_text v) v
 
@@ -28,7 +27,7 @@ HasText v = (text : List ℕ) × IsVersionText text v
 
 -- ---- ranges
 
--- a text can write its triple: not that of `9007199254740992.0.0`, at which `>9007199254740991` begins
+-- a text can write this triple. It cannot write 9007199254740992.0.0, where `>9007199254740991` begins
 pub record HasTextNumbers (v : VersionValue) : Type 0 where
   pub major : v.major ≤ MAX_SAFE_INTEGER
   pub minor : v.minor ≤ MAX_SAFE_INTEGER
@@ -41,17 +40,17 @@ IsTextCut (Before v) = HasTextNumbers v
 IsTextCut (After v) = HasTextNumbers v
 IsTextCut End = Unit {0}
 
--- unbounded at both sides, which prints as `*`: that text is read as `>=0.0.0`
+-- the set contains all cuts and prints as `*`, a text that is read as `>=0.0.0`
 abbrev pub IsUnbounded : Ends VersionValue → Type 0
 IsUnbounded set = (set.lower ≡ Start) × (set.upper ≡ End)
 
--- a set with an end at least, and with ends that a text can write: `>=1.2.3`, `>=1.2.3 <2.0.0-0`
+-- a set with at least one end, and whose ends a text can write: `>=1.2.3`, `>=1.2.3 <2.0.0-0`
 pub record IsPlainlyBounded (set : Ends VersionValue) : Type 0 where
   pub bounded : ¬ IsUnbounded set
   pub lower : IsTextCut set.lower
   pub upper : IsTextCut set.upper
 
--- the text is not refused, and each list of sets that it writes is equal to these
+-- the text is not refused, and each list of sets that it has is equal to these
 pub record IsReadAsEqual (text : List ℕ) (sets : List (Ends VersionValue)) : Type 0 where
   pub accepted : ¬ IsRefused text
   pub equal : (others : List (Ends VersionValue)) → AreSetsOfText text others → AreSameCuts others sets
@@ -60,7 +59,7 @@ pub record IsReadAsEqual (text : List ℕ) (sets : List (Ends VersionValue)) : T
 abbrev pub RangeReadsBack : List (Ends VersionValue) → Type 0
 RangeReadsBack sets = AllByRecursion IsPlainlyBounded sets → IsReadAsEqual (range_text sets) sets
 
--- the answer is a range equal to these sets, or want of memory
+-- the result is a range equal to these sets, or the error that an allocation failed
 abbrev pub IsReadAsRange : List (Ends VersionValue) → Result (List (Ends VersionValue)) SemverError → Type 0
 IsReadAsRange sets (Ok r) = AreSameCuts r sets
 IsReadAsRange sets (Err e) = IsOutOfMemory e

@@ -1,11 +1,11 @@
--- The laws of version texts: what makes "the version of a text" and "the fault of a text" well said.
+-- The laws of version texts. They are why one can say "the version of a text" and "the fault of a text".
 use Rattle.std.specs.Prelude.{◌≡◌, ◌⊎◌, ℕ, List}
 use Rattle.semver_sets.specs.Version.{VersionValue}
 use Rattle.semver_sets.specs.VersionText.{IsVersionText}
 use Rattle.node_semver.specs.Error.{Kind}
 use Rattle.node_semver.specs.Fault.{IsFault}
 
--- the text is no two versions
+-- the text is the text of at most one version
 abbrev pub HasOneReading : List ℕ → Type 0
 HasOneReading text = (v w : VersionValue) → IsVersionText text v → IsVersionText text w → v ≡ w
 
@@ -14,10 +14,10 @@ abbrev pub IsReadOrFaulty : List ℕ → Type 0
 IsReadOrFaulty text =
     ((v : VersionValue) × IsVersionText text v) ⊎ ((kind : Kind) × (offset : ℕ) × IsFault text kind offset)
 
--- and not both
+-- the text is not both
 abbrev pub IsNeverBoth : List ℕ → Type 0
 IsNeverBoth text = (v : VersionValue) (kind : Kind) (offset : ℕ) → IsVersionText text v → ¬ IsFault text kind offset
 
--- the text has no two faults
+-- the text has at most one fault
 abbrev pub HasOneFault : List ℕ → Type 0
 HasOneFault text = (k l : Kind) (m n : ℕ) → IsFault text k m → IsFault text l n → (k ≡ l) × (m ≡ n)

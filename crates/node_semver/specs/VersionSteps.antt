@@ -1,4 +1,4 @@
--- Which values the fields of a version can hold, and from each of these the next one in the order.
+-- The values that the fields of a version can hold, and the next version after each.
 use Rattle.std.specs.Prelude.{◌≡◌, ◌+◌, ◌^◌, ◌<◌, List, [], ◌∷◌, ◌++◌}
 use Rattle.std.specs.List.{AllByRecursion}
 use Rattle.std.specs.Str.{IsUtf8}
@@ -18,16 +18,17 @@ pub record IsVersion (v : VersionValue) : Type 0 where
   pub pre_release : AllByRecursion IsIdentifier v.pre_release
   pub build : AllByRecursion IsIdentifier v.build
 
--- with a 0 after its identifiers, and no build: `1.2.3-rc.0` of `1.2.3-rc`
+-- with one more identifier, the number 0, and no build: `1.2.3-rc.0` for `1.2.3-rc`
 abbrev pub with_zero : VersionValue → VersionValue
 with_zero v = record (release v.major v.minor v.patch) { pre_release = v.pre_release ++ numeric 0 ∷ [] }
 
--- what is next after a version with these prerelease identifiers
+-- the next version after one with these prerelease identifiers
 abbrev pub next_by : VersionValue → List IdentifierValue → VersionValue
 next_by v [] = least_of v.major v.minor (v.patch + 1)
 next_by v (identifier ∷ identifiers) = with_zero v
 
--- of a prerelease that with a 0 more, of a release the least version with the next patch: `1.2.4-0` of `1.2.3`
+-- the next version: after a prerelease it has one more identifier 0, after a release it is the least version with the
+-- next patch, `1.2.4-0` after `1.2.3`
 abbrev pub next_version : VersionValue → VersionValue
 next_version v = next_by v v.pre_release
 

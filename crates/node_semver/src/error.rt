@@ -1,4 +1,4 @@
-//! The errors of this crate: why a text was refused, and where.
+//! The errors of this crate: why parsing a text failed, and where.
 ghost use Rattle.std.specs.Prelude.{◌≡◌, ◌⊎◌};
 ghost use Rattle.node_semver.specs.Error.{kind_of, refusal_of, IsOutOfMemory, IsRefusalAt};
 ghost use Rattle.node_semver.specs.ErrorEquality.{error_value};
@@ -17,19 +17,20 @@ pub use span::SourceSpan;
 use std::alloc::{AllocError, Global};
 use thiserror::Error;
 
-/// A refused text, with the kind and the place of its fault.
+/// A failure to parse a text: the text, and the kind and place of its fault.
 ///
-/// Two errors are equal exactly where their texts, places and kinds are. An error is shown as its kind is.
+/// Two errors are equal exactly if their texts, places and kinds are equal. An error prints as its kind does.
 ///
 /// # Memory
 ///
-/// An error holds a copy of the text. Where memory for that copy is refused, the answer is `OutOfMemory` with an empty
-/// text and offset 0, in place of the refusal. `clone` copies the text again, and fails only where memory is refused.
+/// An error holds a copy of the text. If the allocation of that copy fails, the parser returns an error of kind
+/// `OutOfMemory`, with an empty text and offset 0, instead. `clone` copies the text again, and fails only if that
+/// allocation fails.
 ///
 /// # Examples
 ///
-/// - The version `1.2` is refused with `Context("version")` at 3, its end: the third number is missing.
-/// - The version `1.2.3 ` (a blank last) is refused with `Other` at 5.
+/// - The version `1.2` fails to parse with `Context("version")` at 3, its end: the third number is missing.
+/// - The version `1.2.3 `, with a blank at the end, fails to parse with `Other` at 5.
 #[derive(Debug, Drop, PartialEq, Eq, Error)]
 pub struct SemverError {
     input: String,
@@ -38,7 +39,8 @@ pub struct SemverError {
 }
 
 impl SemverError {
-    // The refusal of `input` at `offset`, with a place of no bytes.
+    // The error for `input` at `offset`, with a place of length 0. `inline(always)`: the error is built where the
+    // caller returns it.
     #[inline(always)]
     pub(crate) fn new(
         alloc: Global,
@@ -58,7 +60,7 @@ impl SemverError {
         }
     }
 
-    // Takes no memory.
+    // The error for a failed allocation. Does not allocate.
     #[cold]
     pub(crate) fn out_of_memory(alloc: Global) -> SemverError
         ensures { IsOutOfMemory result }
@@ -73,22 +75,22 @@ impl SemverError {
         }
     }
 
-    /// The text that was parsed; empty where the kind is `OutOfMemory`.
+    /// Returns the text that was parsed, or an empty text if the kind is `OutOfMemory`.
     ///
     /// # Examples
     ///
-    /// The refusal of the version `v` has the text `v`.
+    /// `v` for the error of the version `v`.
     pub fn input(&self) -> &str
         ensures { result.now ≡ (refusal_of self.now).input }
     {
         &self.input
     }
 
-    /// The place of the fault: its offset, with no bytes.
+    /// Returns the place of the fault: its offset, and length 0.
     ///
     /// # Examples
     ///
-    /// The refusal of the version `v` has the place of offset 1 and length 0.
+    /// Offset 1 and length 0 for the error of the version `v`.
     pub fn span(&self) -> &SourceSpan
         ensures offset { span_offset result.now ≡ (refusal_of self.now).offset }
         ensures length { span_len result.now ≡ (refusal_of self.now).length }
@@ -96,22 +98,22 @@ impl SemverError {
         &self.span
     }
 
-    /// The byte offset of the fault, counted from 0.
+    /// Returns the byte offset of the fault, counted from 0.
     ///
     /// # Examples
     ///
-    /// The refusal of the version `9007199254740992.a` has the offset 0, and that of `v` the offset 1, its end.
+    /// 0 for the error of the version `9007199254740992.a`, and 1, its end, for that of the version `v`.
     pub fn offset(&self) -> usize
         ensures { result ≡ (refusal_of self.now).offset }
     {
         self.span.offset
     }
 
-    /// Why the text was refused.
+    /// Returns the kind of the fault.
     ///
     /// # Examples
     ///
-    /// The refusal of the version `v` has the kind `Context("version")`.
+    /// `Context("version")` for the error of the version `v`.
     pub fn kind(&self) -> &SemverErrorKind
         ensures whole { result.now ≡ error_kind_of self.now }
         ensures kind { kind_of result.now ≡ (refusal_of self.now).kind }
@@ -119,17 +121,17 @@ impl SemverError {
         &self.kind
     }
 
-    /// The line and the column of the fault, both counted from 0.
+    /// Returns the line and the column of the fault, both counted from 0.
     ///
-    /// The line is the number of newlines in the prefix of the text up to the offset. The column is the number of bytes
-    /// of that prefix past its last newline, or of all of it: bytes and not characters, so an offset inside a character
-    /// has one too.
+    /// The line is the number of newlines before the fault. The column is the number of bytes between the last newline
+    /// before the fault (or the start of the text) and the fault. It counts bytes and not characters, so it is defined
+    /// even if the offset is inside a character.
     ///
     /// # Examples
     ///
-    /// - The refusal of `1.2.3`, a newline and `4` is at 5: line 0, column 5.
-    /// - That of `a`, a newline and 298 times `b` is at 299: line 1, column 297.
-    /// - That of `a` and 128 times `\u{161}`, of two bytes each, is at 256: line 0, column 256.
+    /// - The error of `1.2.3`, a newline and `4` is at 5: line 0, column 5.
+    /// - The error of `a`, a newline and 298 times `b` is at 299: line 1, column 297.
+    /// - The error of `a` and 128 times `\u{161}`, which has two bytes, is at 256: line 0, column 256.
     pub fn location(&self) -> (usize, usize)
         ensures line { let e = refusal_of self.now in result.0 ≡ lines_before e.input e.offset }
         ensures column { let e = refusal_of self.now in result.1 ≡ column_at e.input e.offset }

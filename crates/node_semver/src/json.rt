@@ -11,24 +11,24 @@ use crate::laws::errors_are_equal_where_their_parts_are;
 use std::fmt;
 use thiserror::Error;
 
-/// Why a JSON value was refused.
+/// Why reading a JSON value failed.
 ///
-/// Two errors are equal exactly where they are one variant with equal fields. Want of memory is `Semver` of the kind
-/// `OutOfMemory`.
+/// Two errors are equal exactly if they are the same variant with equal fields. If an allocation fails, the error is
+/// `Semver` with the kind `OutOfMemory`.
 ///
 /// # Examples
 ///
-/// The number `1` is refused with `NotAString`, which is shown as `expected a string`. The string `1.2` is refused as a
-/// version with `Semver`, which is shown as its error is: `Failed to parse version.`
+/// The number `1` fails with `NotAString`, which prints `expected a string`. The string `1.2` fails as a version with
+/// `Semver`, which prints as its error does: `Failed to parse version.`
 #[derive(Debug, Drop, PartialEq, Eq, Error)]
 pub enum JsonError {
-    /// A JSON value that is no string: null, a truth value, a number, an array or an object.
+    /// The JSON value is no string: it is null, a Boolean, a number, an array or an object.
     NotAString,
-    /// A string that is refused, with the refusal of its text.
+    /// The string failed to parse, with this error.
     Semver(SemverError),
 }
 
-/// `expected a string`, or what the error inside shows. As for that error, options such as a width are ignored.
+/// `expected a string`, or what the error inside prints. As for that error, options such as a width are ignored.
 impl fmt::Display for JsonError {
     ghost output = { json_error_text };
 
@@ -40,9 +40,9 @@ impl fmt::Display for JsonError {
     }
 }
 
-/// JSON errors are equal where the variant is, and the errors inside are.
+/// Two JSON errors are equal if they are the same variant and the errors inside are equal.
 ///
-/// This does nothing: its contract is the law.
+/// This function does nothing: its contract is the law.
 pub fn json_errors_are_equal_where_their_parts_are()
     ensures { (e f : JsonError) →
         IsTrue (⟦<JsonError as PartialEq>⟧.eq e f) ↔ (json_error_value e ≡ json_error_value f) }

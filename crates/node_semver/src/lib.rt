@@ -1,13 +1,13 @@
-//! npm's versions and version ranges, in loose mode, with the behaviour of the Rust crate `node-semver` 2.2.0:
-//! `docs/DIFFERENCES.md` tells where it differs.
+//! npm's versions and version ranges, in loose mode, with the behaviour of the Rust crate `node-semver` 2.2.0.
+//! `docs/DIFFERENCES.md` lists where it differs.
 //!
-//! A [`Version`] and a [`Range`] are read from texts. A range is asked which versions it admits and which is the least
-//! of them, and two ranges what they have in common and what one has alone; a [`SetTree`] nests such questions.
+//! [`Version::parse`] and [`Range::parse`] read texts. A [`Range`] decides which versions satisfy it and finds the
+//! least of them. Two ranges have an intersection and a difference, and a [`SetTree`] nests these operations.
 //!
-//! Each public call has a contract, and is proved to return an answer that meets it. The definitions that contracts
-//! name stand in `specs/`, here and in `semver_sets`, which reads texts as sets, and `docs/PROMISES.md` lists the
-//! clauses. [`laws`] has what follows from the definitions alone. A call that may take memory is passed the allocator,
-//! or holds it, and want of memory is an answer.
+//! Each public call has a contract, and the checker proves that its result meets the contract. The definitions in the
+//! contracts are in `specs/`, here and in `semver_sets`, the crate that reads texts as sets. `docs/PROMISES.md` lists
+//! the clauses. [`laws`] has what follows from the definitions alone. A call that can allocate takes the allocator as
+//! an argument, or uses the one that a value holds. If an allocation fails, the call returns an error.
 //!
 //! # Examples
 //!

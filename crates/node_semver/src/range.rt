@@ -1,4 +1,4 @@
-//! Ranges: which versions a text asks for.
+//! Ranges: which versions a range text admits.
 ghost use Rattle.std.specs.Prelude.{◌≡◌, ◌↔◌, ◌∷◌, [], IfOk, IsTrue};
 ghost use Rattle.semver_sets.specs.Meaning.{RangeAdmits};
 ghost use Rattle.semver_sets.specs.Merging.{all_cuts};
@@ -25,12 +25,12 @@ use semver_sets::set_list::searched::Searched;
 use std::alloc::{AllocError, Global};
 use std::marker::Model;
 
-/// The versions that a range text asks for: npm's ranges, in their loose form.
+/// The versions that a range text admits: npm's ranges, in their loose form.
 ///
-/// A range text is alternatives with `||` between them, each of words with blanks between them. Each comparator among
-/// the words asks something of a version:
+/// A range text consists of alternatives with `||` between them, and an alternative of words with blanks between them.
+/// A word can be a comparator, which limits the versions:
 ///
-/// | word | asks for |
+/// | word | limits |
 /// |---|---|
 /// | `>=1.2` | `>=1.2.0` |
 /// | `>1.2`, `<1.2`, `<=1.2` | `>=1.3.0`, `<1.2.0-0`, `<=1.2.0-0` |
@@ -41,13 +41,13 @@ use std::marker::Model;
 /// | `1.2 - 3` | `>=1.2.0 <4.0.0-0` |
 /// | `*` | `>=0.0.0` |
 ///
-/// `docs/GRAMMAR.md` has all of them. `x`, `X` and `*` stand for a component that is absent. A `v` and blanks may stand
-/// before the numbers, and blanks after an operator: `>= v 1.0`. A build may stand at the end, and changes nothing.
-/// Every other word is thrown away: `foo >=1.0.0` is `>=1.0.0`, and so is `|` alone. Spaces and tabs are blanks, and
-/// newlines are not.
+/// `docs/GRAMMAR.md` has all of them. `x`, `X` and `*` are written for an absent component. A `v` and blanks can come
+/// before the numbers, and blanks after an operator: `>= v 1.0`. A build can come at the end, and changes nothing.
+/// Every other word is ignored: `foo >=1.0.0` is `>=1.0.0`, and so is `| >=1.0.0`. Spaces and tabs are blanks, newlines
+/// are not.
 ///
-/// A range is the list of its sets: one for each alternative that has a comparator, from the greatest lower end of its
-/// comparators to their least upper end, where a cut lies between. Sets are not joined: `1||1` has two.
+/// A range is the list of its sets. Each alternative with a comparator gives one set: from the greatest lower end of
+/// its comparators to their least upper end, if a cut lies there. Sets are not joined: `1||1` has two.
 ///
 /// # Source
 ///
@@ -57,8 +57,8 @@ pub struct Range {
     sets: Sets,
 }
 
-// Written out: letting a range go is then one call in the proof of whoever has one, and not a branch for each form of
-// its ends.
+// `Drop` is written by hand so that dropping a `Range` is one call in a caller's proof; the derived one adds a branch
+// for each form of each end. `inline(always)`: the code is then as fast as the derived one.
 impl Drop for Range {
     #[inline(always)]
     fn drop(self) {
@@ -80,29 +80,32 @@ impl Model for Range {
 }
 
 impl Range {
-    /// Reads a range text of any length.
+    /// Reads a range from a text of any length.
     ///
-    /// Of lower ends at one cut, which differ in the build alone, the last stays, and of upper ends the first:
+    /// Equal ends can differ in the build. Of equal lower ends, the last is kept, and of equal upper ends the first:
     /// `>=1.0.0+a >=1.0.0+b` is `>=1.0.0+b`.
     ///
-    /// The print of what was read is read as an equal range, where no set is unbounded at both sides and no number of
-    /// an end is above `MAX_SAFE_INTEGER`.
+    /// The print of a range that was read is read as an equal range, if no set contains all cuts and no number of an
+    /// end is greater than `MAX_SAFE_INTEGER`.
     ///
     /// # Errors
     ///
-    /// - the empty text, `foo`, `~*`, `||`: `NoValidRanges` at 0, since no word is a comparator;
-    /// - `>4 <3`, `2 - 1`: `NoValidRanges` at 0, since the comparators of no alternative have a cut in common.
-    ///   `>1.0.0-a <1.0.0-a.0` has one, and is read, though no version lies there;
-    /// - any text: `OutOfMemory` at 0, with no text, where memory is refused.
+    /// Returns the kind of the fault and its byte offset, which is always 0:
+    ///
+    /// - the empty text, `foo`, `~*`, `||`: `NoValidRanges` at 0, no word is a comparator.
+    /// - `>4 <3`, `2 - 1`: `NoValidRanges` at 0, in no alternative a cut lies in all comparators. One does for
+    ///   `>1.0.0-a <1.0.0-a.0`, which is read, though no version lies there.
+    /// - any text: `OutOfMemory` at 0, with an empty text, if an allocation fails.
     ///
     /// # Memory
     ///
-    /// Takes the identifiers of the ends, one for each `-0`, and a list of the sets where the text has `||`. A word
-    /// that is thrown away takes none. An error holds a copy of the text.
+    /// Allocates the prereleases and builds that the text writes at ends, and a list of the sets if the text has `||`.
+    /// Does not allocate for a word that is ignored, or for the `-0` of an end such as `<2.0.0-0`. An error holds a
+    /// copy of the text.
     ///
     /// # Examples
     ///
-    /// `^1.2.3`, `1.2 - 3`, `foo >= v 1.0.0` and `foo || 2` are read, `foo` is refused.
+    /// `^1.2.3`, `1.2 - 3`, `foo >= v 1.0.0` and `foo || 2` are read. `foo` is not read.
     pub fn parse(alloc: Global, text: &str) -> Result<Range, SemverError>
         ensures { IsRangeAnswer text.now result }
     {
@@ -114,21 +117,21 @@ impl Range {
         }
     }
 
-    /// The range of one set, which has all cuts.
+    /// Returns the range of one set, which contains all cuts.
     ///
-    /// It admits every release, and no prerelease, since no triple is at an end of it.
+    /// Every release satisfies it, and no prerelease does, because it has no end.
     ///
     /// # Errors
     ///
-    /// `AllocError` where memory is refused.
+    /// Never fails. The `Result` is that of each call that makes a range.
     ///
     /// # Memory
     ///
-    /// Takes none.
+    /// Does not allocate.
     ///
     /// # Examples
     ///
-    /// It prints as `*`. The text `*` is read as `>=0.0.0`, another range.
+    /// It prints as `*`. The text `*` is read as `>=0.0.0`, which is another range.
     ///
     /// # Source
     ///
@@ -141,19 +144,19 @@ impl Range {
         Ok(Range::of_set(Span::between(Cut::Start, Cut::End)))
     }
 
-    /// Whether the range admits a version.
+    /// Returns `true` if the version satisfies the range.
     ///
-    /// One of the sets has it inside and, if it is a prerelease, an end of that set is a prerelease of its triple. So
-    /// `<1.0.1-beta` admits `1.0.1-0` and `1.0.0`, and not `1.0.0-a`.
+    /// A version satisfies the range if it lies inside one of its sets and, if it is a prerelease, an end of that set
+    /// is a prerelease of the same triple. So `1.0.1-0` and `1.0.0` satisfy `<1.0.1-beta`, and `1.0.0-a` does not.
     ///
     /// # Memory
     ///
-    /// Takes none.
+    /// Does not allocate.
     ///
     /// # Examples
     ///
-    /// `^1.2.3-rc.4 || >=3` admits `1.9.0`, `3.0.0` and `1.2.3-rc.5`. It does not admit `2.0.0`, nor `1.2.4-rc.6`, a
-    /// prerelease of another triple.
+    /// `1.9.0`, `3.0.0` and `1.2.3-rc.5` satisfy `^1.2.3-rc.4 || >=3`. `2.0.0` does not, and `1.2.4-rc.6`, a prerelease
+    /// of another triple, does not.
     ///
     /// # Source
     ///
@@ -188,7 +191,8 @@ impl Range {
         self.sets.admits(version, comparisons)
     }
 
-    // The range of one set, which takes no list.
+    // The range of one set, without a list. `inline(always)`: the range is built in the place of the caller's result;
+    // so also below.
     #[inline(always)]
     pub(crate) fn of_set(set: Span<End>) -> Range
         requires { IsRangeSet set }
@@ -223,15 +227,15 @@ impl Range {
 }
 
 impl Version {
-    /// Whether a range admits the version: [`Range::satisfies`].
+    /// Returns `true` if the version satisfies the range, as [`Range::satisfies`] does.
     ///
     /// # Memory
     ///
-    /// Takes none.
+    /// Does not allocate.
     ///
     /// # Examples
     ///
-    /// `1.2.3+b` satisfies `=1.2.3+a`, since builds are not looked at. `1.2.4` does not.
+    /// `1.2.3+b` satisfies `=1.2.3+a`, because builds are ignored. `1.2.4` does not.
     pub fn satisfies(&self, range: &Range) -> bool
         ensures { IsTrue result ↔ RangeAdmits range.now self.now }
     {

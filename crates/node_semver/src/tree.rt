@@ -1,4 +1,4 @@
-//! Trees of range texts: what ranges have in common, and what one has and another has not.
+//! Trees of range texts, with intersections and differences.
 ghost use Rattle.std.specs.Prelude.{◌≡◌, ◌↔◌, IfOk, IfSome, IsNone};
 ghost use Rattle.semver_cuts.specs.declared.cut.Cut.{Cut};
 ghost use Rattle.semver_cuts.specs.declared.cut.Cut.TheVariants.{Before};
@@ -16,57 +16,56 @@ ghost use Rattle.node_semver.specs.SetTree.{AreSetsOfTree, InFormula, formula_of
 use crate::{Range, SemverErrorKind};
 use std::alloc::{AllocError, Global};
 
-/// Range texts joined into one: what two have in common, and what one has and another has not.
+/// Range texts joined by intersection and difference.
 ///
-/// A tree is a formula on cuts, the places between versions. A cut lies in a text where it lies in all comparators of
-/// an alternative that has any. A text that [`Range::parse`] refuses has no cut: what it has in common with another is
-/// nothing, and a tree without it is that tree.
+/// A tree is a formula on cuts, the places between versions. A text contains a cut if the cut lies in all comparators
+/// of one of its alternatives that has any. A text for which [`Range::parse`] fails contains no cut: its intersection
+/// with another text is empty, and the difference of another text and it is that other text.
 ///
 /// # Memory
 ///
-/// Holds the texts, and a box for each side.
+/// A tree holds its texts, and a box for each side.
 ///
 /// # Examples
 ///
-/// Of `Without` of `Both` of `>=1` and `<3`, and of `2`, the range is `>=1.0.0 <2.0.0||>=3.0.0-0 <3.0.0`: `2` ends at
+/// `Without` of (`Both` of `>=1` and `<3`) and `2` has the range `>=1.0.0 <2.0.0||>=3.0.0-0 <3.0.0`: `2` ends at
 /// `3.0.0-0`, and `<3` at `3.0.0`.
 #[derive(Drop)]
 pub enum SetTree {
     /// A range text.
     Text(String),
-    /// What both sides have.
+    /// The intersection of both sides.
     Both(Box<SetTree>, Box<SetTree>),
-    /// What the left side has and the right one has not.
+    /// The part of the left side outside the right side.
     Without(Box<SetTree>, Box<SetTree>),
 }
 
 impl SetTree {
-    /// The range of all cuts of the tree, or `None` where there are none.
+    /// Returns the range of all cuts of the tree, or `None` if there are none.
     ///
-    /// A release satisfies the range exactly where the formula holds of it: it satisfies the text, both sides, or the
-    /// left side and not the right one.
+    /// A release satisfies the range exactly if the formula is true for it: it satisfies the text, or both sides, or
+    /// the left side and not the right side.
     ///
-    /// The sets are those that [`Range::parse`] reads of a text, those that [`Range::intersect`] makes of `Both`, and
-    /// those that [`Range::difference`] makes of `Without`: so `1 || 1` has two, and `Both` of it and `1 || 1` has
-    /// four.
+    /// The sets are those that [`Range::parse`] reads from a text, [`Range::intersect`] returns for `Both`, and
+    /// [`Range::difference`] returns for `Without`. So `1 || 1` has two sets, and `Both` of it with itself has four.
     ///
-    /// Which prereleases satisfy the range is read off its own sets. So `>=1` without `>=2.0.0-a` admits `2.0.0-0`, and
+    /// Which prereleases satisfy the range depends on its own sets. So `>=1` without `>=2.0.0-a` admits `2.0.0-0`, and
     /// `>=1` does not.
     ///
     /// # Errors
     ///
-    /// `AllocError` where memory is refused. A text that is not read for want of memory is never taken for a refused
-    /// one.
+    /// Returns `AllocError` if an allocation fails. If parsing a text fails for this reason, the text does not count as
+    /// one that contains no cut.
     ///
     /// # Memory
     ///
-    /// Takes the ranges of the texts, and those of the sides that are joined, each as long as it is needed. A right
-    /// side is not read where the left one has no cut. The stack grows with the depth of the tree.
+    /// Allocates the ranges of the texts, and those of the sides that are joined. Each is dropped as soon as it is
+    /// used. The right side is not evaluated if the left side has no cut. The stack grows with the depth of the tree.
     ///
     /// # Examples
     ///
     /// - `Both` of `1 || 3` and `>=1.5` is `>=1.5.0 <2.0.0-0||>=3.0.0 <4.0.0-0`.
-    /// - `Without` of `1` and `foo` is `>=1.0.0 <2.0.0-0`; `Both` of the two is `None`, and so is `Without` of `foo`
+    /// - `Without` of `1` and `foo` is `>=1.0.0 <2.0.0-0`. `Both` of the two is `None`, and so is `Without` of `foo`
     ///   and `1`.
     /// - `Without` of `1` and `>=0.0.0-0` is `None`.
     pub fn evaluate(&self, alloc: Global) -> Result<Option<Range>, AllocError>
@@ -93,7 +92,7 @@ impl SetTree {
     }
 }
 
-// The range of a text, or None where the text is refused.
+// The range of a text, or `None` if the text is not a range.
 fn range_of(alloc: Global, text: &str) -> Result<Option<Range>, AllocError>
     ensures sets { IfOk result (λ answer. AreSetsOfText text.now (sets_of_answer answer)) }
     ensures holds { IfOk result (λ answer. IfSome answer IsRangeValue) }
@@ -107,7 +106,7 @@ fn range_of(alloc: Global, text: &str) -> Result<Option<Range>, AllocError>
     }
 }
 
-// What a range has in common with another, or with none.
+// The intersection of a range with another, or with none.
 fn common(alloc: Global, one: Range, other: Option<Range>) -> Result<Option<Range>, AllocError>
     ensures sets { IfOk result (λ answer.
         sets_of_answer answer ≡ common_spans version_cmp one (sets_of_answer other)) }
@@ -119,7 +118,7 @@ fn common(alloc: Global, one: Range, other: Option<Range>) -> Result<Option<Rang
     }
 }
 
-// What a range has and another has not, or none has.
+// The part of a range outside another, or outside none.
 fn rest(alloc: Global, one: Range, other: Option<Range>) -> Result<Option<Range>, AllocError>
     ensures sets { IfOk result (λ answer. AreRestSpans version_cmp one (sets_of_answer other) (sets_of_answer answer)) }
     ensures holds { IfOk result (λ answer. IfSome answer IsRangeValue) }

@@ -14,12 +14,11 @@ use crate::Identifier;
 use std::alloc::{AllocError, Global};
 use std::marker::Model;
 
-/// A version: a triple of numbers, a prerelease and a build.
+/// A version: major, minor, patch, a prerelease and a build.
 ///
-/// The fields are public, and any values may stand in them: an identifier may hold any text, and is compared and
-/// printed as it stands.
+/// The fields are public and can hold any values. An identifier can hold any text; it is compared and printed as it is.
 ///
-/// Versions are equal, are ordered and hash by the triple and the prerelease alone: the build is not looked at.
+/// Equality, order and hash use the three numbers and the prerelease. The build is ignored.
 ///
 /// # Source
 ///
@@ -49,11 +48,11 @@ impl Model for Version {
 }
 
 impl Version {
-    /// The release with this triple, and no build.
+    /// Returns the release with these three numbers, without build.
     ///
     /// # Memory
     ///
-    /// Takes none.
+    /// Does not allocate.
     ///
     /// # Examples
     ///
@@ -71,20 +70,20 @@ impl Version {
         }
     }
 
-    /// The triple with one numeric prerelease identifier, and no build.
+    /// Returns the version with these three numbers and one numeric prerelease identifier, without build.
     ///
     /// # Errors
     ///
-    /// `AllocError` where memory for the list of one identifier is refused.
+    /// Returns `AllocError` if the allocation fails.
     ///
     /// # Memory
     ///
-    /// Takes a list of one identifier.
+    /// Allocates a list of one identifier.
     ///
     /// # Examples
     ///
-    /// `Version::with_pre_release(alloc, 1, 2, 3, 4)` is `1.2.3-4`; with a last 0 it is the least version of its
-    /// triple.
+    /// `Version::with_pre_release(alloc, 1, 2, 3, 4)` is `1.2.3-4`. With 0 as the identifier, it is the least version
+    /// with these three numbers.
     ///
     /// # Source
     ///
@@ -107,15 +106,15 @@ impl Version {
         })
     }
 
-    /// Whether the version has prerelease identifiers. Every other version is a release.
+    /// Returns `true` if the version has prerelease identifiers. Every other version is a release.
     ///
     /// # Memory
     ///
-    /// Takes none.
+    /// Does not allocate.
     ///
     /// # Examples
     ///
-    /// True of `1.2.3-rc.1`, false of `1.2.3` and of `1.2.3+rc.1`, whose identifiers are those of its build.
+    /// `true` for `1.2.3-rc.1`. `false` for `1.2.3`, and for `1.2.3+rc.1`, whose identifiers are those of the build.
     #[inline]
     pub fn is_prerelease(&self) -> bool
         ensures { IsTrue result ↔ IsPrerelease self.now }

@@ -1,11 +1,11 @@
--- Why there is no answer to a range text.
+-- Why a call has no result for a range text.
 use Rattle.std.specs.Prelude.{◌⊎◌, ℕ, List}
 use Rattle.node_semver_callers.specs.declared.failure.Failure.{Failure}
 use Rattle.node_semver_callers.specs.declared.failure.Failure.TheVariants.{Memory, Refused}
 use Rattle.semver_sets.specs.Meaning.{IsRefused}
 use Rattle.node_semver.specs.Error.{IsOutOfMemory, IsRefusalAt, no_valid_ranges}
 
--- the text is refused and the failure has its refusal, or memory ran out
+-- the text is refused and the failure holds the error for it, or an allocation failed
 abbrev pub IsFailureOf : List ℕ → Failure → Type 0
 IsFailureOf text (Refused e) = IsOutOfMemory e ⊎ (IsRefusalAt text no_valid_ranges 0 e × IsRefused text)
 IsFailureOf text Memory = Unit {0}

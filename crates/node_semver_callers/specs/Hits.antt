@@ -3,7 +3,7 @@ use Rattle.std.specs.Prelude.{ℕ, List, [], ◌∷◌}
 use Rattle.semver_sets.specs.Meaning.{TextAdmits}
 use Rattle.semver_sets.specs.Version.{VersionValue}
 
--- those that it admits, in the list's order: `^1.0.0` hits 1.2.0 and 1.0.0 of 1.2.0, 2.0.0 and 1.0.0
+-- those that the range text admits, in the list's order: for `^1.0.0`, 1.2.0 and 1.0.0 of 1.2.0, 2.0.0 and 1.0.0
 pub data AreHits (text : List ℕ) : List VersionValue → List VersionValue → Type 0 where
   none : AreHits text [] []
   hit : (v : VersionValue) (installed hits : List VersionValue) → TextAdmits text v → AreHits text installed hits

@@ -1,6 +1,6 @@
--- What the contracts of this crate say beyond the words of `node_semver`.
+-- The definitions that the contracts of this crate use beside those of `node_semver`.
 
--- why there is no answer
+-- why a call has no result
 pub mod Failure
 -- which versions of a list a range text admits
 pub mod Hits

@@ -1,4 +1,4 @@
--- Errors of members of a package, with the line and the column of the fault.
+-- Errors for members of a package, with the line and the column of the fault.
 use Rattle.std.specs.Prelude.{◌≡◌, ◌⊎◌, ℕ, List}
 use Rattle.node_semver_callers.specs.declared.package.MemberError.{MemberError}
 use Rattle.node_semver_callers.specs.declared.package.MemberError.TheVariants.{NotAString, Refused}
@@ -6,7 +6,7 @@ use Rattle.semver_sets.specs.Meaning.{IsRefused}
 use Rattle.node_semver.specs.Error.{IsOutOfMemory, IsRefusalAt, no_valid_ranges, refusal_of}
 use Rattle.node_semver.specs.ErrorLocation.{column_at, lines_before}
 
--- the refusal of this text or want of memory, at the line and the column of its offset
+-- the error for this text, or that an allocation failed, with the line and the column of its offset
 abbrev pub IsPlacedIn : List ℕ → MemberError → Type 0
 IsPlacedIn text NotAString = ⊥
 IsPlacedIn text (Refused line column e) =

@@ -1,4 +1,4 @@
-//! Which installed versions an advisory's range hits.
+//! Which installed versions an advisory's range text admits.
 
 ghost use Rattle.std.specs.Prelude.{IfErr, IfOk, map};
 ghost use Rattle.node_semver_callers.specs.Failure.{IsFailureOf};
@@ -8,9 +8,13 @@ use crate::Failure;
 use node_semver::{Range, Version};
 use std::alloc::Global;
 
-/// The installed versions that the advisory's range text admits, in their order.
+/// Returns the installed versions that the advisory's range text admits, in their order.
 ///
-/// A prerelease is hit only where the text names a prerelease of its triple: `<4.17.21` does not hit `4.17.20-a`.
+/// A prerelease is admitted only if the text names a prerelease of its triple: `<4.17.21` does not hit `4.17.20-a`.
+///
+/// # Errors
+///
+/// Returns `Failure::Refused` if [`Range::parse`] fails, and `Failure::Memory` if another allocation fails.
 pub fn versions_hit<'a>(
     alloc: Global,
     advisory: &str,
@@ -40,7 +44,7 @@ mod tests {
         assert!(rt; hits_first_and_last(rt.alloc(), "<3.10.2 || >=4 <4.17.21"));
     }
 
-    // Of three installed versions, and not the one between them.
+    // Returns `true` for the first and the last of three installed versions, and not the one between them.
     fn hits_first_and_last(alloc: Global, advisory: &str) -> bool {
         let installed = [
             Version::new(alloc, 4, 17, 20),

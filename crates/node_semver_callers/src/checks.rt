@@ -1,8 +1,8 @@
-//! What the tests ask of an answer.
+//! What the tests check of a result.
 use std::alloc::Global;
 use std::fmt::Display;
 
-// A value was found that prints as this text, or none was.
+// Returns `true` if a value was found that prints as this text, or if none was found and none is expected.
 pub(crate) fn is_found<T: Display, E>(
     alloc: Global,
     answer: &Result<Option<T>, E>,

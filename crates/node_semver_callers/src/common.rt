@@ -1,4 +1,4 @@
-//! What two dependents have in common: one range for both, if there is one.
+//! One range for two dependents: the intersection of their ranges.
 
 ghost use Rattle.std.specs.Prelude.{◌⊎◌, ◌↔◌, IfErr, IfOk, IsNone};
 ghost use Rattle.node_semver_callers.specs.Failure.{IsFailureOf};
@@ -10,7 +10,11 @@ use crate::Failure;
 use node_semver::Range;
 use std::alloc::Global;
 
-/// The range of what both texts ask for, or `None` where they have nothing in common.
+/// Returns the intersection of the two range texts, or `None` if it is empty.
+///
+/// # Errors
+///
+/// Returns `Failure::Refused` if [`Range::parse`] fails for a text, and `Failure::Memory` if another allocation fails.
 pub fn shared_range(alloc: Global, one: &str, other: &str) -> Result<Option<Range>, Failure>
     ensures releases { IfOk result (λ shared. (v : VersionValue) → ¬ IsPrerelease v →
         RangeAdmits (sets_of_answer shared) v ↔ (TextAdmits one.now v × TextAdmits other.now v)) }

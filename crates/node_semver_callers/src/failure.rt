@@ -1,4 +1,4 @@
-//! Why there is no answer: a refused text, or want of memory.
+//! Why a call has no result: a text is refused, or memory is out.
 
 ghost use Rattle.std.specs.Prelude.{◌≡◌};
 ghost use Rattle.node_semver_callers.specs.declared.failure.Failure.TheVariants.{Memory, Refused};
@@ -7,13 +7,13 @@ use node_semver::SemverError;
 use std::alloc::{AllocError, AllocFailed};
 use thiserror::Error;
 
-/// Why there is no answer.
+/// Why a call has no result.
 #[derive(Debug, Drop, Error)]
 pub enum Failure {
-    /// A text that was refused, with the library's error for it.
+    /// Parsing a text failed. Holds the library's error, whose kind is `OutOfMemory` if an allocation failed.
     #[error("{0}")]
     Refused(SemverError),
-    /// Memory was refused.
+    /// An allocation failed after parsing.
     #[error("out of memory")]
     Memory,
 }

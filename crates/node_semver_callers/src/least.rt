@@ -1,4 +1,4 @@
-//! The least version that a manifest allows: what to install to see whether it still works with it.
+//! The least version that a manifest allows: the one to install to see whether it still works.
 
 ghost use Rattle.std.specs.Prelude.{◌↔◌, IfErr, IfOk, IfSome, IsNone};
 ghost use Rattle.node_semver_callers.specs.Failure.{IsFailureOf};
@@ -10,7 +10,11 @@ use crate::Failure;
 use node_semver::{Range, Version};
 use std::alloc::Global;
 
-/// The least version that fits the range text, or `None` where none does.
+/// Returns the least version that satisfies the range text, or `None` if no version does.
+///
+/// # Errors
+///
+/// Returns `Failure::Refused` if [`Range::parse`] fails, and `Failure::Memory` if another allocation fails.
 pub fn least_allowed(alloc: Global, asked: &str) -> Result<Option<Version>, Failure>
     ensures admitted { IfOk result (λ found. IfSome found (λ least. TextAdmits asked.now least)) }
     ensures least { IfOk result (λ found. IfSome found (λ least.

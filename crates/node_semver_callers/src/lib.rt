@@ -1,6 +1,6 @@
-//! Callers of `node_semver`, a task a file, each proved from the contracts of the calls that it makes. Take what you
-//! need: copy the file, its files in `specs/` and `proofs/`, and [`Failure`] where the file names it; with a test,
-//! `checks` where the test names it.
+//! Callers of `node_semver`, a task a file. Each is proved from the contracts of the calls that it makes. Take what you
+//! need: copy the file, its files in `specs/` and `proofs/`, and [`Failure`] if the file names it. For a test, copy
+//! `checks` if the test names it.
 //!
 //! | task | caller |
 //! |---|---|
@@ -8,10 +8,10 @@
 //! | does a change of a range let in anything new | [`change::lets_in_nothing_new`] |
 //! | does a lock file's version still fit its manifest | [`lock_file::still_fits`] |
 //! | the least version that a manifest allows | [`least::least_allowed`] |
-//! | what two dependents have in common | [`common::shared_range`] |
+//! | one range for two dependents | [`common::shared_range`] |
 //! | which installed versions an advisory's range hits | [`advisory::versions_hit`] |
-//! | a range from JSON, with its error told at line and column | [`package::range_of_member`] |
-//! | a tree of ranges: what two dependents ask for, without what an advisory hits | [`tree::unhit_range`] |
+//! | a range from JSON, with the line and column of its error | [`package::range_of_member`] |
+//! | a tree of ranges: what two dependents accept, without what an advisory hits | [`tree::unhit_range`] |
 #![tactic(auto)]
 
 pub mod advisory;

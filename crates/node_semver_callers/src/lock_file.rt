@@ -1,4 +1,4 @@
-//! Does the version in a lock file still fit what the manifest asks for?
+//! Does the version in a lock file still satisfy the range in the manifest?
 
 ghost use Rattle.std.specs.Prelude.{◌⊎◌, ◌↔◌, IfErr, IfOk, IsTrue};
 ghost use Rattle.semver_sets.specs.Meaning.{IsRefused, TextAdmits};
@@ -10,11 +10,12 @@ ghost use Rattle.node_semver.specs.Fault.{IsFaultOf};
 use node_semver::{Range, SemverError, Version};
 use std::alloc::Global;
 
-/// Whether the locked version fits the range text that the manifest asks for.
+/// Returns `true` if the locked version satisfies the range text of the manifest.
 ///
 /// # Errors
 ///
-/// That of the first of the two texts that is refused, or of kind `OutOfMemory`.
+/// Returns the error of the first of the two texts that fails to parse. If an allocation fails, its kind is
+/// `OutOfMemory`.
 pub fn still_fits(alloc: Global, asked: &str, locked: &str) -> Result<bool, SemverError>
     ensures fits { IfOk result (λ fits. (v : VersionValue) × IsVersionText locked.now v
         × (IsTrue fits ↔ TextAdmits asked.now v)) }
@@ -41,7 +42,7 @@ mod tests {
         assert!(rt; answers(rt.alloc(), "latest", None));
     }
 
-    // None is an error.
+    // `None` means an error.
     fn answers(alloc: Global, asked: &str, fits: Option<bool>) -> bool {
         match &still_fits(alloc, asked, "4.17.21") {
             Ok(answer) => fits == Some(*answer),

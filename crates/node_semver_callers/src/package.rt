@@ -1,4 +1,4 @@
-//! A range from a JSON value, as a member of a package, with its error told at line and column.
+//! A range from a JSON value, as a member of a package, with the line and column of its error.
 
 ghost use Rattle.std.specs.Prelude.{◌≡◌, ◌↔◌, Err, IfErr, IfOk, IfSome, None};
 ghost use Rattle.serde_json.specs.Find.{as_str};
@@ -13,13 +13,13 @@ use serde_json::Value;
 use std::alloc::Global;
 use thiserror::Error;
 
-/// Why a member is no range, and where in its text, from line 0 and column 0.
+/// Why a member is no range, with the line and column of the fault, counted from 0.
 #[derive(Debug, Drop, Error)]
 pub enum MemberError {
-    /// A JSON value that is no string.
+    /// The JSON value is no string.
     #[error("expected a string")]
     NotAString,
-    /// A string that is no range.
+    /// The string is no range.
     #[error("line {line}, column {column}: {error}")]
     Refused {
         line: usize,
@@ -28,10 +28,15 @@ pub enum MemberError {
     },
 }
 
-/// The range that a JSON string holds.
+/// Returns the range that a JSON string holds.
 ///
-/// What is wrong with a range is wrong with all of its text, so its place is always line 0 and column 0. That of a
-/// version is where its text goes wrong: read it by `Version::from_json`, and tell it in the same way.
+/// The fault of a range text is a fault of the whole text, so its place is always line 0 and column 0. The fault of a
+/// version has a place in its text: read a version with `Version::from_json`, and report the place in the same way.
+///
+/// # Errors
+///
+/// Returns `NotAString` if the value is no string, and `Refused` with line, column and error if the string is no range
+/// or an allocation fails.
 pub fn range_of_member(alloc: Global, member: &Value) -> Result<Range, MemberError>
     ensures other { (result ≡ Err NotAString) ↔ (as_str (view member.now) ≡ None) }
     ensures means { IfSome (as_str (view member.now)) (λ text.
@@ -79,7 +84,7 @@ mod tests {
         }
     }
 
-    // None is a range.
+    // `None` means that a range is read.
     fn is_told(alloc: Global, member: &Value, text: Option<&str>) -> bool {
         match &range_of_member(alloc, member) {
             Ok(_) => text.is_none(),

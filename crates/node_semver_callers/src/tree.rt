@@ -1,4 +1,4 @@
-//! A tree of ranges: what two dependents ask for, without what an advisory hits.
+//! A tree of ranges: what two dependents accept, without what an advisory hits.
 
 ghost use Rattle.std.specs.Prelude.{◌≡◌, ◌↔◌, IfOk};
 ghost use Rattle.semver_sets.specs.Meaning.{RangeAdmits, TextAdmits};
@@ -9,8 +9,12 @@ ghost use Rattle.node_semver.specs.SetTree.{formula_of, of_text};
 use node_semver::{Range, SetTree};
 use std::alloc::{AllocError, Global};
 
-/// The range of the releases that both texts ask for and the advisory's text does not hit, or `None` where it has no
-/// cut. A text that is refused asks for nothing and hits nothing.
+/// Returns the range of the releases that both range texts admit and the advisory's text does not, or `None` if the
+/// tree has no cut. A text that is refused admits no release.
+///
+/// # Errors
+///
+/// Returns `AllocError` if an allocation fails.
 pub fn unhit_range(
     alloc: Global,
     one: &str,
@@ -25,7 +29,7 @@ pub fn unhit_range(
     tree.evaluate(alloc)
 }
 
-// A range text as a side of a tree.
+// The leaf of a tree for a range text.
 fn leaf(alloc: Global, text: &str) -> Result<Box<SetTree>, AllocError>
     ensures { IfOk result (λ leaf. formula_of leaf.value ≡ of_text text.now) }
 {

@@ -1,11 +1,11 @@
--- The order of cuts: where each stands in the line of the values, whatever their order is.
+-- The order of cuts: each cut has its place in the line of the values, whatever their type and order.
 use Rattle.std.specs.declared.cmp.Ordering.{Ordering}
 use Rattle.std.specs.declared.cmp.Ordering.TheVariants.{Less, Equal, Greater}
 use Rattle.std.specs.Ordering.{ordering_then}
 use Rattle.semver_cuts.specs.declared.cut.Cut.{Cut}
 use Rattle.semver_cuts.specs.declared.cut.Cut.TheVariants.{Start, Before, After, End}
 
--- how two cuts compare: by their values, then before is less than after: `Before 3`, `After 3`, `Before 5`
+-- how two cuts compare: by their values first, and `Before` is less than `After`: `Before 3`, `After 3`, `Before 5`
 abbrev pub cut_cmp : {T : Type 0} → (T → T → Ordering) → Cut T → Cut T → Ordering
 cut_cmp cmp (Before v) (Before w) = cmp v w
 cut_cmp cmp (After v) (After w) = cmp v w

@@ -1,4 +1,4 @@
--- The laws of the order of cuts, by which no other order is one.
+-- The laws of the order of cuts. No other order has all of them.
 use Rattle.std.specs.Prelude.{◌≡◌, ◌≢◌}
 use Rattle.std.specs.declared.cmp.Ordering.{Ordering}
 use Rattle.std.specs.declared.cmp.Ordering.TheVariants.{Less, Equal}
@@ -6,7 +6,7 @@ use Rattle.std.specs.Cmp.{IsTotalOrder}
 use Rattle.semver_cuts.specs.declared.cut.Cut.{Cut}
 use Rattle.semver_cuts.specs.declared.cut.Cut.TheVariants.{Start, Before, After, End}
 
--- cuts stand in the line of the values: `Start` first, `End` last, and the two cuts of a value where the value is
+-- the order of cuts: `Start` first, `End` last, and the two cuts of a value between those of lesser and greater values
 pub record StandsInLine {T : Type 0} (cmp : T → T → Ordering) (order : Cut T → Cut T → Ordering) : Type 0 where
   pub total : IsTotalOrder order
   pub start : (cut : Cut T) → cut ≢ Start → order Start cut ≡ Less
@@ -16,6 +16,6 @@ pub record StandsInLine {T : Type 0} (cmp : T → T → Ordering) (order : Cut T
   pub before_same : (v w : T) → cmp v w ≡ Equal → order (Before v) (Before w) ≡ Equal
   pub after_same : (v w : T) → cmp v w ≡ Equal → order (After v) (After w) ≡ Equal
 
--- no cut lies between the two of a value: none between `Before 3` and `After 3`
+-- no cut lies between the two cuts of a value: none between `Before 3` and `After 3`
 abbrev pub NoneBetween : {T : Type 0} → (Cut T → Cut T → Ordering) → T → Type 0
 NoneBetween {T} order v = (cut : Cut T) → order (Before v) cut ≡ Less → ¬ (order cut (After v) ≡ Less)

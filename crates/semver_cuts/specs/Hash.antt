@@ -1,4 +1,4 @@
--- What cuts and spans feed a hasher, from what a value does.
+-- What a cut and a span feed to a hasher, given what a value feeds to it.
 use Rattle.std.specs.Prelude.{◌++◌}
 use Rattle.std.specs.Hash as fed
 use Rattle.std.specs.Hash.{HashWrites}

@@ -1,22 +1,22 @@
--- Lemmas that ghost members and the proofs of other crates cite. Nothing here is trusted.
+-- Lemmas that ghost members and the proofs of other crates use. A reader need not trust them: the checker proves them.
 
 -- the order of cuts is total
 pub mod CutOrder
 -- less and at most, and the tests of them
 pub mod Ends
--- the chosen ends of a list of spans, and what the spans have in common
+-- the chosen ends of a list of spans, and the intersection of the spans
 pub mod Merging
 -- facts of some element and of each element of a list
 pub mod Lists
 -- cuts in some span of a list
 pub mod InSome
--- what two spans have in common, and when one lies in the other
+-- the intersection of two spans, and when one lies in the other
 pub mod TwoSpans
--- what one span has and another has not
+-- the part of one span outside another
 pub mod SpanRest
--- what two lists of spans have in common
+-- the intersection of two lists of spans
 pub mod CommonSpans
--- what one list of spans has and another has not
+-- the part of one list of spans outside another
 pub mod Rest
 -- when two lists share a cut
 pub mod Sharing
@@ -26,5 +26,5 @@ pub mod Apart
 pub mod Joined
 -- spans with their places
 pub mod Placed
--- what equal cuts and equal spans feed a hasher
+-- equal cuts, and equal spans, feed a hasher the same
 pub mod Hash

@@ -1,39 +1,39 @@
--- What the contracts of this crate say, in the order in which it reads; each for every type with a total order.
+-- The definitions that the contracts of this crate use, in reading order. Each is for every type with a total order.
 
 -- ---- Cuts
 -- how two cuts compare
 pub mod Cut
--- the laws that fix this order
+-- the laws that no other order has
 pub mod CutLaws
 -- ---- Spans of cuts
 -- a span by its two ends, and which cuts lie in it
 pub mod Ends
--- what cuts and spans feed a hasher
+-- what cuts and spans feed to a hasher
 pub mod Hash
--- the cuts in each and in one of the spans of a list
+-- the cuts in every span and in some span of a list
 pub mod Common
--- the ends of what they have in common
+-- the ends of the intersection of the spans of a list
 pub mod Merging
--- what one span has and another has not
+-- the part of one span outside another
 pub mod SpanRest
 -- ---- Algebra of lists of spans
--- what two lists have in common
+-- the intersection of two lists
 pub mod CommonSpans
--- what one has and the other has not
+-- the part of one list outside another
 pub mod Rest
--- whether they share a cut, and whether one has all cuts of the other
+-- whether two lists share a cut, and whether one contains all cuts of the other
 pub mod Sharing
--- what one list is joined to
+-- the spans that a list is joined to
 pub mod Joined
--- the same kept as places in the list
+-- the same as places in the list
 pub mod Places
--- how many spans it is joined to
+-- the number of spans that a list is joined to
 pub mod Starts
--- ---- Steps from value to value
+-- ---- From value to value
 -- the least value, and the next one
 pub mod Steps
--- ---- Said of no public call
+-- ---- Not part of any public contract
 -- what private functions compute
 pub mod Private
--- lemmas that ghost members and the proofs of other crates cite
+-- lemmas that ghost members and the proofs of other crates use
 pub mod Lemmas

@@ -1,12 +1,12 @@
--- What private functions are said to compute, those of crates above included.
+-- What private functions compute, in this crate and in those above it.
 
--- which of two ends stays where two spans are merged
+-- which of two ends is kept if two spans are merged
 pub mod Merging
--- spans with their places, in the order of their lower ends
+-- spans with their places, sorted by their lower ends
 pub mod Placed
--- how these are joined
+-- how sorted spans are joined
 pub mod Joining
--- which spans of two lists meet, found along both in this order
+-- which spans of two lists meet, found along both lists sorted
 pub mod Meeting
--- the pieces of a span, found along spans that are apart
+-- the pieces of a span outside spans that are apart
 pub mod Rest

@@ -1,5 +1,5 @@
--- What one list of spans has and another has not, as a list of spans: 1 to 9 less 5 to 6 and 2 to 3 is 1 to 2, 3 to 5,
--- 6 to 9.
+-- The part of one list of spans outside another, as a list of spans: 1 to 9 outside 5 to 6 and 2 to 3 is 1 to 2, 3 to 5
+-- and 6 to 9.
 use Rattle.std.specs.Prelude.{◌≡◌, ◌⊎◌, List, [], ◌∷◌, ◌++◌}
 use Rattle.std.specs.List.{AllByRecursion}
 use Rattle.std.specs.declared.cmp.Ordering.{Ordering}
@@ -10,29 +10,29 @@ use Rattle.semver_cuts.specs.Ends.{Ends, HoldsCut, IsCutBelow, IsInSpan}
 use Rattle.semver_cuts.specs.Common.{AreApart, IsInSome, IsWithin}
 use Rattle.semver_cuts.specs.Merging.{IsChosenEnd}
 
--- the cut lies in the span, and in none of the others
+-- the cut lies in the span and in none of the others
 abbrev pub IsLeft : {T : Type 0} → (T → T → Ordering) → List (Ends T) → Ends T → Cut T → Type 0
 IsLeft cmp others one cut = IsInSpan cmp one cut × ¬ IsInSome cmp others cut
 
--- all cuts of a part of the span are left
+-- each cut of a part of the span lies in none of the others
 abbrev pub IsAllLeft : {T : Type 0} → (T → T → Ordering) → List (Ends T) → Ends T → Ends T → Type 0
 IsAllLeft {T} cmp others one part = (cut : Cut T) → IsInSpan cmp part cut → IsLeft cmp others one cut
 
--- the end of the first of the spans that has this end at this cut, whatever else tells equal cuts apart
+-- the cut is the end of the first of the spans that has an end equal to it
 abbrev pub IsFirstAt : {T : Type 0} → (T → T → Ordering) → (Ends T → Cut T) → List (Ends T) → Cut T → Type 0
 IsFirstAt cmp end spans cut = IsChosenEnd end (λ c d. ¬ (cut_cmp cmp c d ≡ Equal)) (λ c d. Unit {0}) spans cut
 
--- where a piece begins: where the span does, or above that where one of the others ends
+-- where a piece begins: where the span begins, or above that where one of the others ends
 abbrev pub IsPieceLower : {T : Type 0} → (T → T → Ordering) → List (Ends T) → Ends T → Cut T → Type 0
 IsPieceLower {T} cmp others one cut =
     (cut ≡ one.lower) ⊎ (IsCutBelow cmp one.lower cut × IsFirstAt cmp (λ (span : Ends T). span.upper) others cut)
 
--- where a piece ends: where the span does, or below that where one of the others begins
+-- where a piece ends: where the span ends, or below that where one of the others begins
 abbrev pub IsPieceUpper : {T : Type 0} → (T → T → Ordering) → List (Ends T) → Ends T → Cut T → Type 0
 IsPieceUpper {T} cmp others one cut =
     (cut ≡ one.upper) ⊎ (IsCutBelow cmp cut one.upper × IsFirstAt cmp (λ (span : Ends T). span.lower) others cut)
 
--- a greatest span of cuts that are left: no wider one has such cuts alone
+-- a span of cuts that lie in none of the others, and the greatest such: no wider span consists of such cuts
 pub record IsPiece {T : Type 0} (cmp : T → T → Ordering) (others : List (Ends T)) (one piece : Ends T) : Type 0 where
   pub holds : HoldsCut cmp piece
   pub left : IsAllLeft cmp others one piece
@@ -40,14 +40,14 @@ pub record IsPiece {T : Type 0} (cmp : T → T → Ordering) (others : List (End
   pub lower : IsPieceLower cmp others one piece.lower
   pub upper : IsPieceUpper cmp others one piece.upper
 
--- all the pieces of one span, in ascending order
+-- all pieces of one span, in ascending order
 pub record ArePieces {T : Type 0} (cmp : T → T → Ordering) (others : List (Ends T)) (one : Ends T)
     (pieces : List (Ends T)) : Type 0 where
   pub each : AllByRecursion (IsPiece cmp others one) pieces
   pub ascending : AreApart cmp pieces
   pub all : (cut : Cut T) → IsLeft cmp others one cut → IsInSome cmp pieces cut
 
--- the pieces of each span of one list, less the others: those of the first one come first
+-- the pieces of each span of one list outside the others: those of the first span come first
 abbrev pub AreRestSpans : {T : Type 0} → (T → T → Ordering) → List (Ends T) → List (Ends T) → List (Ends T) → Type 0
 AreRestSpans cmp [] others rest = rest ≡ []
 AreRestSpans {T} cmp (one ∷ ones) others rest = (pieces later : List (Ends T)) × (rest ≡ pieces ++ later)

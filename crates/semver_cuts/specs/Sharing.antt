@@ -1,16 +1,16 @@
--- What two lists of spans share: whether they have a cut in common, and whether one has all cuts of the other.
+-- Whether two lists of spans share a cut, and whether one contains all cuts of the other.
 use Rattle.std.specs.Prelude.{◌⊎◌, List, [], ◌∷◌}
 use Rattle.std.specs.declared.cmp.Ordering.{Ordering}
 use Rattle.semver_cuts.specs.declared.cut.Cut.{Cut}
 use Rattle.semver_cuts.specs.Ends.{Ends, IsInSpan}
 use Rattle.semver_cuts.specs.Common.{IsInSome}
 
--- P holds of some element
+-- `P` holds of at least one element of the list
 abbrev pub AnyByRecursion : {X : Type 0} → (X → Type 0) → List X → Type 0
 AnyByRecursion P [] = ⊥
 AnyByRecursion P (x ∷ xs) = P x ⊎ AnyByRecursion P xs
 
--- some cut lies in both spans: in 1 to 3 and in 2 to 4, and in none of both 1 to 2 and 2 to 4
+-- some cut lies in both spans: one does for 1 to 3 and 2 to 4, none does for 1 to 2 and 2 to 4
 abbrev pub HaveCommonCut : {T : Type 0} → (T → T → Ordering) → Ends T → Ends T → Type 0
 HaveCommonCut {T} cmp one other = (cut : Cut T) × IsInSpan cmp one cut × IsInSpan cmp other cut
 
@@ -18,6 +18,6 @@ HaveCommonCut {T} cmp one other = (cut : Cut T) × IsInSpan cmp one cut × IsInS
 abbrev pub ShareCut : {T : Type 0} → (T → T → Ordering) → List (Ends T) → List (Ends T) → Type 0
 ShareCut {T} cmp ones others = (cut : Cut T) × IsInSome cmp ones cut × IsInSome cmp others cut
 
--- every cut in some span of the second list lies in some span of the first
+-- each cut in some span of the second list lies in some span of the first
 abbrev pub CoversAll : {T : Type 0} → (T → T → Ordering) → List (Ends T) → List (Ends T) → Type 0
 CoversAll {T} cmp ones others = (cut : Cut T) → IsInSome cmp others cut → IsInSome cmp ones cut

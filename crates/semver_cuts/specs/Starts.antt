@@ -1,4 +1,5 @@
--- How many spans a list is joined to, counted over the list: the spans that begin where nothing of the list goes on.
+-- The number of spans that a list is joined to, counted over the list: the spans that begin where no other span goes
+-- on.
 use Rattle.std.specs.Prelude.{ℕ, ◌+◌, Bool, ◌&&◌, ◌||◌, not, false, List, [], ◌∷◌, ◌++◌, if◌then◌else◌}
 use Rattle.std.specs.Ordering.{is_eq, is_le, is_lt}
 use Rattle.std.specs.declared.cmp.Ordering.{Ordering}
@@ -6,18 +7,18 @@ use Rattle.semver_cuts.specs.declared.cut.Cut.{Cut}
 use Rattle.semver_cuts.specs.Cut.{cut_cmp}
 use Rattle.semver_cuts.specs.Ends.{Ends}
 
--- one of the spans begins at the cut
+-- `true` if one of the spans begins at the cut
 abbrev pub begins_at : {T : Type 0} → (T → T → Ordering) → List (Ends T) → Cut T → Bool
 begins_at cmp [] cut = false
 begins_at cmp (span ∷ spans) cut = is_eq (cut_cmp cmp span.lower cut) || begins_at cmp spans cut
 
--- one of the spans reaches the cut from below: it begins below the cut and ends there or above
+-- `true` if one of the spans reaches the cut from below: it begins below the cut and ends there or above
 abbrev pub reaches : {T : Type 0} → (T → T → Ordering) → List (Ends T) → Cut T → Bool
 reaches cmp [] cut = false
 reaches cmp (span ∷ spans) cut =
     (is_lt (cut_cmp cmp span.lower cut) && is_le (cut_cmp cmp cut span.upper)) || reaches cmp spans cut
 
--- of the later spans those that begin where no earlier one does and where none of all reaches from below
+-- the number of the later spans that begin where no earlier one does and where no span at all reaches from below
 abbrev pub count_of_starts_from : {T : Type 0} → (T → T → Ordering) → List (Ends T) → List (Ends T) → List (Ends T)
     → ℕ
 count_of_starts_from cmp all earlier [] = 0
@@ -25,7 +26,7 @@ count_of_starts_from cmp all earlier (span ∷ later) =
     (if not (begins_at cmp earlier span.lower) && not (reaches cmp all span.lower) then 1 else 0)
     + count_of_starts_from cmp all (earlier ++ span ∷ []) later
 
--- the spans whose lower cut no earlier span has, and which no span reaches from below: of 1 to 2, 4 to 5, 2 to 3 and
--- 4 to 6 two
+-- the number of spans whose lower end no earlier span has, and that no span reaches from below: 2 for 1 to 2, 4 to 5, 2
+-- to 3 and 4 to 6
 abbrev pub count_of_starts : {T : Type 0} → (T → T → Ordering) → List (Ends T) → ℕ
 count_of_starts cmp spans = count_of_starts_from cmp spans [] spans

@@ -1,4 +1,5 @@
-//! The algebra of lists of spans: what two lists have in common, and what one has and the other has not.
+//! The algebra of lists of spans: the intersection of two lists, the part of one list outside the other, and questions
+//! about two lists.
 ghost use Rattle.std.specs.Prelude.{◌≡◌, ◌++◌, ◌∷◌, [], List, OnOk};
 ghost use Rattle.semver_cuts.specs.Ends.{Ends, IsCutBelow, span_between};
 
@@ -19,14 +20,18 @@ pub use places::{Places, are_merged};
 use std::alloc::AllocError;
 pub use walks::covers;
 
-/// What takes the spans of an answer one after another, by their ends: a list of them, or of copies.
+/// Receives the spans of a result one after another, each as a pair of its ends, and keeps them, or copies of them.
 ///
-/// The ends are those of the spans that were handed in, and live as long as these do.
+/// The ends are references into the lists that the algebra was called with, and live as long as those lists.
 pub trait Gather<'a, T: Ord> {
-    /// The spans that were taken, in the order in which they came.
+    /// The spans received so far, in the order in which they came.
     ghost gathered: { Self → List (Ends T) };
 
-    /// Takes one span more, from its least cut up to the one at which it ends.
+    /// Receives one more span: from `lower` up to but not including `upper`.
+    ///
+    /// # Errors
+    ///
+    /// Returns `AllocError` if an allocation fails.
     fn gather(&mut self, lower: &'a Cut<T>, upper: &'a Cut<T>) -> Result<(), AllocError>
         requires { IsCutBelow T.cmp lower.now upper.now }
         ensures { OnOk result (gathered self.new ≡ gathered self.old ++ span_between lower.now upper.now ∷ []) };

@@ -6,24 +6,25 @@ ghost use Rattle.semver_cuts.specs.Lemmas.CutOrder.{cut_total};
 
 use std::cmp::Ordering;
 
-/// A place in the line of the values of `T`: before all of them, just before one, just after one, or after all.
+/// A place in the line of the values of `T`: before all of them, just before one, just after one, or after all of them.
 ///
-/// Cuts are ordered as they stand: for values `v` less than `w`, `Start`, `Before(v)`, `After(v)`, `Before(w)`,
-/// `After(w)`, `End`.
-/// Cuts of one kind are equal where `T`'s order finds their values equal, whatever else tells the values apart.
+/// Cuts are ordered by their places: for values `v` less than `w`, `Start`, `Before(v)`, `After(v)`, `Before(w)`,
+/// `After(w)`, `End`. Two cuts are equal if they are of one kind and `T`'s `cmp` returns `Equal` for their values, even
+/// if something else distinguishes the values.
 ///
 /// # Examples
 ///
-/// `Cut::Before(3) < Cut::After(3)`, `Cut::After(3) < Cut::Before(5)`, and not `Cut::After(3) < Cut::Before(3)`.
+/// `Cut::Before(3) < Cut::After(3)` and `Cut::After(3) < Cut::Before(5)` are true. `Cut::After(3) < Cut::Before(3)` is
+/// false.
 #[derive(Debug, Drop)]
 pub enum Cut<T: Ord> {
-    /// Before every value: less than each other cut.
+    /// Before every value: less than every other cut.
     Start,
     /// Just before the value: `Before(3)` is greater than `After(2)` and less than `After(3)`.
     Before(T),
     /// Just after the value: `After(3)` is greater than `Before(3)` and less than `Before(4)`.
     After(T),
-    /// After every value: greater than each other cut.
+    /// After every value: greater than every other cut.
     End,
 }
 

@@ -1,5 +1,5 @@
-//! The laws of the order of cuts and of lists of spans. A function here does nothing: its contract is the law, for
-//! every type with an order.
+//! The laws of the order of cuts and of lists of spans. The functions here do nothing: the contract of each is a law
+//! that is proved for every type with a total order.
 ghost use Rattle.std.specs.Prelude.{◌≡◌, ◌≢◌, ◌↔◌, ◌⊎◌, List, [], length};
 ghost use Rattle.std.specs.declared.cmp.Ordering.{Ordering};
 ghost use Rattle.semver_cuts.specs.declared.cut.Cut.{Cut};
@@ -13,11 +13,11 @@ ghost use Rattle.semver_cuts.specs.Joined.{AreJoined, AreMerged, AreRising, AreS
 ghost use Rattle.semver_cuts.specs.Sharing.{ShareCut};
 ghost use Rattle.semver_cuts.specs.Starts.{count_of_starts};
 
-/// Where the cuts stand: `Start` first, `End` last, and for values `v` less than `w` `Before(v)`, `After(v)`,
-/// `Before(w)`, `After(w)` in this order.
+/// The order of cuts: `Start` is first and `End` last, and for values `v` less than `w` the order is `Before(v)`,
+/// `After(v)`, `Before(w)`, `After(w)`.
 ///
-/// Values that compare as equal have the same two cuts, and no cut lies between the two. No other order of the cuts has
-/// these laws.
+/// Values that compare as equal have the same two cuts, and no cut lies between these two. No other order of the cuts
+/// has these properties.
 pub fn cuts_stand_in_order<T: Ord>()
     ensures order { StandsInLine T.cmp (cut_cmp T.cmp) }
     ensures only { (order : Cut T → Cut T → Ordering) → StandsInLine T.cmp order →
@@ -25,11 +25,11 @@ pub fn cuts_stand_in_order<T: Ord>()
     ensures between { (v : T) → NoneBetween (cut_cmp T.cmp) v }
 {}
 
-/// Two lists of spans part the cuts of the first: each lies in what they have in common or in what the first alone has,
-/// and none in both.
+/// The intersection of two lists and the part of the first outside the second divide the cuts of the first list: each
+/// of its cuts lies in one of the two, and none in both.
 ///
-/// Nothing is common just where no cut lies in a span of each list, and nothing is left just where each cut of the
-/// first list lies in a span of the second.
+/// The intersection is empty exactly if no cut lies in a span of each list. The part outside is empty exactly if each
+/// cut of the first list lies in a span of the second.
 pub fn common_and_rest_part_the_cuts<T: Ord>()
     ensures common { (ones others : List (Ends T)) (cut : Cut T) → IsInSome T.cmp (common_spans T.cmp ones others) cut
         ↔ IsInSome T.cmp ones cut × IsInSome T.cmp others cut }
@@ -45,18 +45,19 @@ pub fn common_and_rest_part_the_cuts<T: Ord>()
         ↔ ((cut : Cut T) → IsInSome T.cmp ones cut → IsInSome T.cmp others cut) }
 {}
 
-/// Two lists of spans share a cut either way round, and just where they have a span in common.
+/// If one list shares a cut with another, then the other shares one with it. Two lists share a cut exactly if their
+/// intersection is not empty.
 pub fn sharing_is_symmetric<T: Ord>()
     ensures back { (ones others : List (Ends T)) → ShareCut T.cmp ones others → ShareCut T.cmp others ones }
     ensures common { (ones others : List (Ends T)) → ShareCut T.cmp ones others
         ↔ common_spans T.cmp ones others ≢ [] }
 {}
 
-/// Merged lists with the same cuts have the same spans: each begins and ends where its fellow does. So what a list is
-/// joined to is fixed by its cuts.
+/// Merged lists with the same cuts have equal spans, in the same order. So the cuts of a list determine the spans that
+/// it is joined to.
 ///
-/// Of a list of spans with a cut each there are as many such spans as it has spans whose lower cut no earlier one has,
-/// and which none reaches from below.
+/// If each span of a list contains a cut, the number of its merged spans is the number of spans whose lower end no
+/// earlier span has, and that no span of the list reaches from below.
 pub fn merged_spans_are_fixed_by_their_cuts<T: Ord>()
     ensures same { (ones others : List (Ends T)) → AreMerged T.cmp ones → AreMerged T.cmp others
         → ((cut : Cut T) → IsInSome T.cmp ones cut ↔ IsInSome T.cmp others cut) → AreSameSpans T.cmp ones others }

@@ -9,21 +9,21 @@ use crate::Cut;
 use std::marker::Model;
 use std::mem;
 
-/// The cuts from a lower one up to but not including an upper one: at least one, its lower end.
+/// The cuts from a lower one up to but not including an upper one. A span contains at least one cut: its lower end.
 ///
-/// A value lies in a span where the cut before it does. So from `Before(3)` up to `After(5)` lie 3, 5 and what is
-/// between, and from `After(3)` up to `Before(5)` neither of the two. `Start` leaves a span open below, and `End`
-/// above.
+/// A value lies in a span if the cut before the value does. So 3, 5 and the values between them lie from `Before(3)` up
+/// to `After(5)`, and neither 3 nor 5 lies from `After(3)` up to `Before(5)`. A span from `Start` has no lower limit,
+/// and a span to `End` no upper one.
 ///
-/// A span has a cut, and may still have no value: no whole number lies from `After(3)` up to `Before(4)`.
+/// A span contains a cut, and may still contain no value: no whole number lies from `After(3)` up to `Before(4)`.
 ///
 /// # Memory
 ///
-/// Takes none beside its two cuts.
+/// Does not allocate. A span holds its two cuts.
 ///
 /// # Examples
 ///
-/// The span from `Before(3)` up to `Before(5)` contains 3 and 4, and not 5.
+/// The span from `Before(3)` up to `Before(5)` contains 3 and 4, and does not contain 5.
 #[derive(Debug, Drop)]
 pub struct Span<T: Ord> {
     lower: Cut<T>,
@@ -41,15 +41,16 @@ impl<T: Ord> Model for Span<T> {
 }
 
 impl<T: Ord + Drop> Span<T> {
-    /// The span between two cuts, or `None` where no cut lies between them: where the lower is not less than the upper.
+    /// Returns the span from `lower` up to `upper`, or `None` if no cut lies there: if `lower` is not less than
+    /// `upper`.
     ///
     /// # Memory
     ///
-    /// Takes none.
+    /// Does not allocate.
     ///
     /// # Examples
     ///
-    /// There is one from `Before(3)` up to `After(3)`, which contains 3. There is none from `After(3)` up to
+    /// From `Before(3)` up to `After(3)` there is a span, which contains 3. There is none from `After(3)` up to
     /// `Before(3)`, and none from a cut up to itself.
     pub fn new(lower: Cut<T>, upper: Cut<T>) -> Option<Span<T>>
         ensures cut { IsSome result ↔ HoldsCut T.cmp (span_between lower upper) }
@@ -64,15 +65,17 @@ impl<T: Ord + Drop> Span<T> {
 }
 
 impl<T: Ord> Span<T> {
-    /// The span between two cuts of which the first is less than the second, which is not looked at.
+    /// Returns the span from `lower` up to `upper` without comparing the two. The caller has to prove that `lower` is
+    /// less than `upper`; [`Span::new`] compares them instead.
     ///
     /// # Memory
     ///
-    /// Takes none.
+    /// Does not allocate.
     ///
     /// # Examples
     ///
-    /// From `Before(3)` up to `After(3)` it contains 3, as the one that [`Span::new`] gives.
+    /// From `Before(3)` up to `After(3)`, it returns the span that [`Span::new`] returns.
+    // `inline(always)`: nothing is computed, so a call would cost more than the body.
     #[inline(always)]
     pub fn between(lower: Cut<T>, upper: Cut<T>) -> Span<T>
         requires { IsCutBelow T.cmp lower upper }
@@ -81,33 +84,34 @@ impl<T: Ord> Span<T> {
         Span { lower, upper }
     }
 
-    /// The least cut of the span: `Before(3)` of `Before(3)` up to `After(5)`.
+    /// Returns the lower end, which is the least cut in the span: `Before(3)` for `Before(3)` up to `After(5)`.
     ///
     /// # Memory
     ///
-    /// Takes none.
+    /// Does not allocate.
     pub fn lower(&self) -> &Cut<T>
         ensures { result.now ≡ self.now.lower }
     {
         &self.lower
     }
 
-    /// The cut at which the span ends, and which is not in it: `After(5)` of `Before(3)` up to `After(5)`.
+    /// Returns the upper end, which is the cut where the span ends and is not in it: `After(5)` for `Before(3)` up to
+    /// `After(5)`.
     ///
     /// # Memory
     ///
-    /// Takes none.
+    /// Does not allocate.
     pub fn upper(&self) -> &Cut<T>
         ensures { result.now ≡ self.now.upper }
     {
         &self.upper
     }
 
-    /// Both ends, of which the lower is less than the upper.
+    /// Returns both ends, the lower one first. The contract adds that it is less than the upper one.
     ///
     /// # Memory
     ///
-    /// Takes none.
+    /// Does not allocate.
     #[inline]
     pub fn ends(&self) -> (&Cut<T>, &Cut<T>)
         ensures ends { self.now ≡ span_between result.0.now result.1.now }
@@ -117,7 +121,7 @@ impl<T: Ord> Span<T> {
         (lower, upper)
     }
 
-    // The lower end. `Start` is left in its place.
+    // Moves the lower end out, and puts `Start` in its place.
     pub(crate) fn take_lower(&mut self) -> Cut<T>
         ensures taken { result ≡ self.old.lower }
         ensures left { self.new ≡ span_between Start self.old.upper }
@@ -125,7 +129,7 @@ impl<T: Ord> Span<T> {
         mem::replace(&mut self.lower, Cut::Start)
     }
 
-    // The upper end. `End` is left in its place.
+    // Moves the upper end out, and puts `End` in its place.
     pub(crate) fn take_upper(&mut self) -> Cut<T>
         ensures taken { result ≡ self.old.upper }
         ensures left { self.new ≡ span_between self.old.lower End }
@@ -133,17 +137,17 @@ impl<T: Ord> Span<T> {
         mem::replace(&mut self.upper, Cut::End)
     }
 
-    /// Whether the value lies in the span: whether the cut before it does.
+    /// Returns `true` if the value lies in the span: if the cut before the value does.
     ///
-    /// `s.contains(&v)` is true exactly where `s.lower() <= &Cut::Before(v)` and `&Cut::Before(v) < s.upper()`.
+    /// `s.contains(&v)` is true exactly if `s.lower() <= &Cut::Before(v)` and `&Cut::Before(v) < s.upper()`.
     ///
     /// # Memory
     ///
-    /// Takes none.
+    /// Does not allocate.
     ///
     /// # Examples
     ///
-    /// `After(3)` up to `After(5)` contains 4 and 5, and not 3.
+    /// `After(3)` up to `After(5)` contains 4 and 5, and does not contain 3.
     pub fn contains(&self, value: &T) -> bool
         ensures { IsTrue result ↔ IsInSpan T.cmp self.now (Before value.now) }
     {
@@ -151,7 +155,7 @@ impl<T: Ord> Span<T> {
     }
 }
 
-// The cut is at most the one before the value.
+// Returns `true` if the cut is less than the one before the value, or equal to it.
 #[inline]
 fn begins_before<T: Ord>(cut: &Cut<T>, value: &T) -> bool
     ensures { IsTrue result ↔ IsCutAtMost T.cmp cut.now (Before value.now) }
@@ -164,7 +168,7 @@ fn begins_before<T: Ord>(cut: &Cut<T>, value: &T) -> bool
     }
 }
 
-// The cut before the value is less than this one.
+// Returns `true` if the cut before the value is less than this one.
 #[inline]
 fn ends_after<T: Ord>(cut: &Cut<T>, value: &T) -> bool
     ensures { IsTrue result ↔ IsCutBelow T.cmp (Before value.now) cut.now }

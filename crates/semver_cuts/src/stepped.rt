@@ -1,43 +1,45 @@
-//! Values that are stepped through: from the least one, and from each to the next.
+//! Types whose values can be visited in order: a least value, and from each value the next one.
 
 ghost use Rattle.std.specs.Prelude.{IfOk, IfSome};
 ghost use Rattle.semver_cuts.specs.Steps.{IsLeast, IsNext};
 
 use std::alloc::{AllocError, Global};
 
-/// An order whose values have a least one, and most of them a next one, between which lies none.
+/// A total order with a least value, and in which a value can have a *next* one: a greater value with no value between
+/// the two.
 ///
-/// Which of what a type can hold are its values is for each type to say, and `known` tells that what is in hand is one.
-/// Where [`Stepped::next`] answers `None` is for each type to say as well.
+/// A type can represent more than its values. The ghost member `is_value` says what counts as a value, and
+/// [`Stepped::known`] proves that a given `Self` is one. The type also decides for which values [`Stepped::next`]
+/// returns `None`.
 ///
 /// # Examples
 ///
-/// Of the numbers of eight bits 0 is the least, 4 is next after 3, and none is next after 255.
+/// For numbers of eight bits, 0 is the least value, the next one after 3 is 4, and 255 has no next one.
 pub trait Stepped: Ord {
-    /// What tells the values of the type.
+    /// What counts as a value of the type.
     ghost is_value: { Self → Type 0 };
 
-    /// What is in hand is a value.
+    /// Does nothing when it runs. Its contract is that `self` is a value, for callers whose proof needs that.
     ///
     /// # Memory
     ///
-    /// Takes none.
+    /// Does not allocate.
     fn known(&self)
         ensures { is_value self.now };
 
-    /// The least value: no value is less.
+    /// Returns the least value: no value is less.
     ///
     /// # Errors
     ///
-    /// `AllocError` where memory for the value is refused.
+    /// Returns `AllocError` if an allocation fails.
     fn least(alloc: Global) -> Result<Self, AllocError>
         ensures { IfOk result (λ least. IsLeast Self.cmp is_value least) };
 
-    /// The next value after this one, if it has one: it is greater, and no value lies between.
+    /// Returns the next value after this one, if it has one: a greater value, with no value between the two.
     ///
     /// # Errors
     ///
-    /// `AllocError` where memory for the value is refused.
+    /// Returns `AllocError` if an allocation fails.
     fn next(&self, alloc: Global) -> Result<Option<Self>, AllocError>
         ensures { is_value self.now → IfOk result (λ next. IfSome next (IsNext Self.cmp is_value self.now)) };
 }

@@ -1,9 +1,9 @@
-//! What a call answered.
+//! The results of calls.
 use node_semver::{Identifier, JsonError, Range, SemverError, SemverErrorKind, Version};
 use serde_json::Value;
 use std::alloc::{AllocError, Global};
 
-/// What a call answered.
+/// The result of a call.
 #[derive(Drop)]
 pub(crate) enum Answer {
     OutOfMemory,
@@ -18,7 +18,7 @@ pub(crate) enum Answer {
 }
 
 impl Answer {
-    /// Of want of memory this is `out of memory`.
+    /// The text of the result. It is `out of memory` if an allocation failed.
     pub(crate) fn print(&self, alloc: Global) -> Result<String, AllocError> {
         match self {
             Answer::OutOfMemory => String::from_str(alloc, "out of memory"),
@@ -34,13 +34,13 @@ impl Answer {
     }
 }
 
-/// The text of an error, its place, and the text that was read.
+/// The text of an error, its offset, and the text that was parsed.
 pub(crate) fn print_of_error(alloc: Global, error: &SemverError) -> Result<String, AllocError> {
     let (offset, input) = (error.offset(), error.input());
     format!(in alloc; "{error} {offset} {input}")
 }
 
-/// Want of memory has an empty text and offset 0.
+/// An error that an allocation failed has an empty text and offset 0.
 fn refusal(error: SemverError) -> Answer {
     let is_out = matches!(error.kind(), SemverErrorKind::OutOfMemory);
     if is_out && error.input().is_empty() && error.offset() == 0 {

@@ -63,7 +63,7 @@ impl Call {
         }
     }
 
-    /// The arguments as they stand.
+    /// The arguments as they are now.
     pub(crate) fn print(&self, alloc: Global) -> Result<String, AllocError> {
         match self {
             Call::ReadVersion(text) | Call::ReadRange(text) => text.clone(),
@@ -85,7 +85,7 @@ impl Call {
     }
 }
 
-/// Whether a version satisfies the range that is read of a text.
+/// Whether a version satisfies the range of a text.
 fn asked(alloc: Global, text: &str, version: &Version) -> Answer {
     match Range::parse(alloc, text) {
         Ok(range) => Answer::Truth(range.satisfies(version)),
@@ -117,7 +117,7 @@ fn print_of_tree(alloc: Global, tree: &SetTree) -> Result<String, AllocError> {
     Ok(words)
 }
 
-/// The call of this name, which begins with the type, and of these words.
+/// The call with this name, which begins with the type, and these words as arguments.
 pub(crate) fn call_of(alloc: Global, name: &str, words: &[String]) -> Result<Call, Fault> {
     match name {
         "Range::any" => Ok(Call::Any),
@@ -128,7 +128,7 @@ pub(crate) fn call_of(alloc: Global, name: &str, words: &[String]) -> Result<Cal
     }
 }
 
-/// The word at a place, or the empty one.
+/// The word at a place, or the empty word.
 fn word_at(words: &[String], place: usize) -> &str {
     match words.get(place) {
         Some(word) => word.as_str(),
@@ -149,7 +149,7 @@ fn read_and_ask(alloc: Global, text: &str, version: &str) -> Result<Call, Fault>
     Ok(Call::ReadAndAsk(String::from_str(alloc, text)?, version))
 }
 
-/// The same for calls whose arguments are read of texts. Each kind of them is read in one place.
+/// The same for calls whose arguments are read from texts. Each kind of argument is read in one place.
 fn call_of_value(alloc: Global, name: &str, one: &str, other: &str) -> Result<Call, Fault> {
     match name {
         "Version::parse" | "Range::parse" => call_of_text(alloc, name, one),

@@ -8,9 +8,9 @@ use std::io;
 pub(crate) enum Fault {
     /// The words are not a number, the name of a call and its arguments.
     Words,
-    /// Memory was refused before the call, or after it.
+    /// An allocation failed before or after the call.
     Memory,
-    /// An argument is no version or no range.
+    /// An argument is not a version or not a range.
     Text,
     /// A line could not be written.
     Output,

@@ -1,9 +1,9 @@
-//! Makes a call of `node_semver` after a number of requests for memory, and then the same call again.
+//! Makes a call of `node_semver` after a number of allocations, and then the same call again.
 //!
-//! The words are that number, the name of the call and its arguments. Where the runtime refuses one request, the number
-//! says which request of the call that is. What is written: the requests that were granted before the call, its answer,
-//! the requests that were granted after it, and the answer of the call once more. Ends with status 1 where an argument
-//! has changed, and with 2 where no call was made.
+//! The words are that number, the name of the call, and its arguments. If the runtime makes one allocation fail, the
+//! number decides which allocation of the call that is. The program writes the number of allocations that succeeded
+//! before the call, the result of the call, the number that succeeded after it, and the result of the second call. It
+//! exits with status 1 if an argument has changed, and with status 2 if no call was made.
 #![tactic(auto)]
 
 mod answer;
@@ -45,7 +45,7 @@ fn words_of(rt: &(impl Env + AllocGlobal)) -> Result<Vec<String>, Fault> {
     Ok(words)
 }
 
-/// Makes the call of these words.
+/// Makes the call that these words name.
 fn made_of(rt: &(impl Print + AllocGlobal), words: &[String]) -> Result<bool, Fault> {
     match words {
         [_, count, name, arguments @ ..] => made_after(rt, count, name, arguments),
@@ -53,7 +53,7 @@ fn made_of(rt: &(impl Print + AllocGlobal), words: &[String]) -> Result<bool, Fa
     }
 }
 
-/// Makes the call after so many requests.
+/// Makes the call after so many allocations.
 fn made_after(
     rt: &(impl Print + AllocGlobal),
     count: &str,
@@ -66,7 +66,8 @@ fn made_after(
     }
 }
 
-/// Makes the call of this name. It is lent from there on, since each `?` of a function that owns one lets it go.
+/// Makes the call with this name. The functions below borrow it: in a function that owns it, each `?` would also drop
+/// it.
 fn made_by_name(
     rt: &(impl Print + AllocGlobal),
     count: usize,
@@ -77,14 +78,14 @@ fn made_by_name(
     is_unchanged(rt, count, &call)
 }
 
-/// Makes the call twice, and says whether its arguments are as before.
+/// Makes the call twice. Returns `true` if its arguments have not changed.
 fn is_unchanged(rt: &(impl Print + AllocGlobal), count: usize, call: &Call) -> Result<bool, Fault> {
     let print = call.print(rt.alloc())?;
     write_answers(rt, count, call)?;
     Ok(call.print(rt.alloc())? == print)
 }
 
-/// Makes the call twice, and writes what it answered.
+/// Makes the call twice, and writes its results.
 fn write_answers(rt: &(impl Print + AllocGlobal), count: usize, call: &Call) -> Result<(), Fault> {
     let before = granted(rt.alloc(), count);
     let first = call.answer(rt.alloc());
@@ -93,8 +94,8 @@ fn write_answers(rt: &(impl Print + AllocGlobal), count: usize, call: &Call) -> 
     write_lines(rt, before, &first, after, &second)
 }
 
-/// Writes the requests that were granted before the call, its answer, the requests that were granted after it, and the
-/// answer of the call once more.
+/// Writes the number of allocations that succeeded before the call, its result, the number that succeeded after it, and
+/// the result of the second call.
 fn write_lines(
     rt: &(impl Print + AllocGlobal),
     before: usize,

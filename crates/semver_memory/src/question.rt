@@ -1,4 +1,4 @@
-//! Calls that take no memory.
+//! Calls that do not allocate.
 use crate::answer::{Answer, print_of_error};
 use crate::fault::Fault;
 use node_semver::{Comparisons, Identifier, Range, SemverError, Version, max_satisfying, min_satisfying};
@@ -35,7 +35,7 @@ impl Question {
         }
     }
 
-    /// The arguments as they stand.
+    /// The arguments as they are now.
     pub(crate) fn print(&self, alloc: Global) -> Result<String, AllocError> {
         match self {
             Question::New | Question::OfSpans => Ok(String::new(alloc)),
@@ -54,7 +54,7 @@ fn hash_of<T: Hash>(value: &T) -> u64 {
     state.finish()
 }
 
-/// Whether each call says that the range admits the version.
+/// Whether each of the calls returns that the range admits the version.
 fn is_admitted(range: &Range, version: &Version) -> bool {
     version.known();
     let counted = range.satisfies_counted(version, &mut Comparisons::new());
@@ -63,19 +63,19 @@ fn is_admitted(range: &Range, version: &Version) -> bool {
     counted && listed && range.satisfies(version) && version.satisfies(range)
 }
 
-/// Whether two versions are prereleases at one place of the order.
+/// Whether two versions are equal prereleases.
 fn are_same(one: &Version, other: &Version) -> bool {
     let same = one == other && one.cmp(other).is_eq() && hash_of(one) == hash_of(other);
     same && one.is_prerelease() && other.is_prerelease()
 }
 
-/// Whether two ranges are equal and have a cut.
+/// Whether two ranges are equal and contain a cut.
 fn are_equal(one: &Range, other: &Range) -> bool {
     let same = one == other && hash_of(one) == hash_of(other);
     same && one.allows_any(other) && one.allows_all(other)
 }
 
-/// Whether the error lies in a line of its own, and a copy of its kind is equal to it.
+/// Whether the error has a place on the first line, and a copy of its kind is equal to the kind.
 fn is_located(error: &SemverError) -> bool {
     let span = error.span();
     let located = span.offset() == error.offset() && span.len() == 0;
@@ -84,7 +84,7 @@ fn is_located(error: &SemverError) -> bool {
     located && told && copied && error == error
 }
 
-/// Whether two spans have a common part, and the first has one that the second has not.
+/// Whether two spans have an intersection, and the first has a part outside the second.
 fn share_a_cut() -> bool {
     let (Some(one), Some(other)) = (
         Span::new(Cut::Before(1u64), Cut::After(3)),
@@ -97,7 +97,7 @@ fn share_a_cut() -> bool {
     common && rest && one.contains(&1) && !other.contains(&1)
 }
 
-/// The calls of this name, and of arguments read of these texts.
+/// The calls with this name, and arguments read from these texts.
 pub(crate) fn question_of(
     alloc: Global,
     name: &str,
@@ -137,7 +137,7 @@ fn satisfies(alloc: Global, range: &str, version: &str) -> Result<Question, Faul
     Ok(Question::Satisfies(range, Version::parse(alloc, version)?))
 }
 
-/// The error of a text that is no version.
+/// The error for a text that is not a version.
 pub(crate) fn error_of(alloc: Global, text: &str) -> Result<SemverError, Fault> {
     match Version::parse(alloc, text) {
         Ok(_) => Err(Fault::Text),

@@ -3,7 +3,7 @@ use crate::fault::Fault;
 use node_semver::SetTree;
 use std::alloc::{AllocError, Global};
 
-/// The tree of these words: `1`, `1.5.0`, `Without`.
+/// The tree that these words write: `1`, `1.5.0`, `Without`.
 pub(crate) fn tree_of(alloc: Global, words: &[String]) -> Result<SetTree, Fault> {
     let mut trees = Vec::new(alloc);
     for word in words {
@@ -13,7 +13,7 @@ pub(crate) fn tree_of(alloc: Global, words: &[String]) -> Result<SetTree, Fault>
     trees.pop().ok_or(Fault::Words)
 }
 
-/// The tree that a word ends.
+/// The tree that ends with this word.
 fn tree_of_word(alloc: Global, word: &str, trees: &mut Vec<SetTree>) -> Result<SetTree, Fault> {
     match word {
         "Both" => {
@@ -28,7 +28,7 @@ fn tree_of_word(alloc: Global, word: &str, trees: &mut Vec<SetTree>) -> Result<S
     }
 }
 
-/// The last tree.
+/// Takes the last tree.
 fn side(alloc: Global, trees: &mut Vec<SetTree>) -> Result<Box<SetTree>, Fault> {
     let tree = trees.pop().ok_or(Fault::Words)?;
     Ok(Box::new(alloc, tree)?)

@@ -10,6 +10,6 @@ error_text Write = codes "write failed"
 error_text Memory = codes "out of memory"
 error_text Endless = codes "input does not end"
 
--- what standard error says of it: `semver_pairs: read failed`
+-- the line on standard error for each error: `semver_pairs: read failed`
 abbrev pub error_line : RunError → List ℕ
 error_line error = codes "semver_pairs: " ++ error_text error

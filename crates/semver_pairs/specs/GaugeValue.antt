@@ -1,7 +1,7 @@
--- What is seen of a gauge.
+-- What a contract sees of a gauge.
 use Rattle.std.specs.Prelude.{◌≡◌, ◌≢◌, ℕ, List, [], Bool, IsTrue, ⊤, Result, Ok, Err}
 
--- the reader or the writer that it holds, whether a call through it has failed, and whether the last read told the end
+-- the reader or writer in it, whether a call through it has failed, and whether the last read reported the end
 pub record GaugeValue (T : Type 0) : Type 0 where
   pub inner : T
   pub failed : Bool
@@ -11,16 +11,16 @@ pub record GaugeValue (T : Type 0) : Type 0 where
 abbrev pub HasFailed : {T : Type 0} → GaugeValue T → Type 0
 HasFailed gauge = IsTrue gauge.failed
 
--- the last read through the gauge answered that the end is reached
+-- the last read through the gauge reported the end
 abbrev pub HasToldEnd : {T : Type 0} → GaugeValue T → Type 0
 HasToldEnd gauge = IsTrue gauge.ended
 
--- the write of this piece answered an error, or took no byte although there was one
+-- the write of this piece returned an error, or wrote no byte although there was one
 abbrev pub IsFailedWrite : {E : Type 0} → List ℕ → Result ℕ E → Type 0
 IsFailedWrite piece (Ok n) = (n ≡ 0) × (piece ≢ [])
 IsFailedWrite piece (Err e) = ⊤
 
--- the read into this piece gave no byte although there was room
+-- the read into this piece returned no byte although there was room
 abbrev pub IsEnd : {E : Type 0} → List ℕ → Result ℕ E → Type 0
 IsEnd piece (Ok n) = (n ≡ 0) × (piece ≢ [])
 IsEnd piece (Err e) = ⊥

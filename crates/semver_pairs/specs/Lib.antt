@@ -1,6 +1,6 @@
--- What the contracts of this crate say: all of it that is trusted, in reading order.
+-- The definitions that the contracts of this crate use, in reading order. These files are what a reader has to trust.
 
--- What is read and written through.
+-- Reading and writing.
 pub mod GaugeValue  -- a gauge: what it holds, and whether a call through it has failed
 -- What is read, and what is written for it.
 pub mod Lines  -- the lines of what is read
@@ -9,5 +9,5 @@ pub mod Answer  -- the answer to a range line and a version line
 pub mod Output  -- the output for all that is read, and its beginnings
 -- How the program ends.
 pub mod Ending  -- what standard error says
--- ---- no contract of a public call names what follows: what private functions compute
+-- ---- not part of any public contract: what private functions compute
 pub mod Private

@@ -6,39 +6,39 @@ use Rattle.semver_pairs.specs.Answer.{IsAnswer}
 use Rattle.semver_pairs.specs.GaugeValue.{GaugeValue, HasFailed, HasToldEnd}
 use Rattle.semver_pairs.specs.Pairs.{Pair, both, lone, pairs_read}
 
--- the answer to a pair: a lone last line has no version, whatever it holds
+-- the answer for a pair. A last line without a version line has the answer `missing version`, whatever it is
 abbrev pub IsPairAnswer : Pair → List ℕ → Type 0
 IsPairAnswer (both range version) answer = IsAnswer range version answer
 IsPairAnswer (lone line) answer = answer ≡ codes "missing version"
 
--- an answer for each of the pairs in turn, and a newline byte after each answer
+-- an answer for each of the pairs in order, each with a newline byte after it
 abbrev pub AreAnswers : List Pair → (written : List ℕ) → Type 0
 AreAnswers [] written = written ≡ []
 AreAnswers (pair ∷ pairs) written = (answer : List ℕ) × (others : List ℕ) × IsPairAnswer pair answer
     × AreAnswers pairs others × (written ≡ answer ++ (newline ∷ others))
 
--- what is written for all that was read, up to its end
+-- what is written for the whole input
 abbrev pub IsOutput : (read written : List ℕ) → Type 0
 IsOutput read written = AreAnswers (pairs_read true read) written
 
--- a beginning of the answers to the pairs
+-- the beginning of the answers for the pairs
 abbrev pub BeginsAnswers : List Pair → (written : List ℕ) → Type 0
 BeginsAnswers pairs written = (more : List ℕ) × AreAnswers pairs (written ++ more)
 
--- what is written for all pairs that were wholly read before the end was
+-- what is written for the pairs that were completely read before the end of the input
 abbrev pub IsOutputBeforeEnd : (read written : List ℕ) → Type 0
 IsOutputBeforeEnd read written = AreAnswers (pairs_read false read) written
 
--- the end was read: the last read answered so. Nothing is left then, and no read has failed.
+-- the last read reported the end: nothing is left to read, and no read has failed
 abbrev pub HasEnded : {R : Type 0} → (R → Option (List ℕ)) → GaugeValue R → Type 0
 HasEnded remaining gauge = HasToldEnd gauge × IsAtEnd (remaining gauge.inner) × (¬ HasFailed gauge)
 
--- a beginning of the answers to the pairs that were wholly read
+-- the beginning of the answers for the pairs that were completely read
 abbrev pub IsOutputPrefix : (Ended : Type 0) → (read written : List ℕ) → Type 0
 IsOutputPrefix Ended read written =
     (is_end : Bool) × (IsTrue is_end → Ended) × BeginsAnswers (pairs_read is_end read) written
 
--- Some bytes were read and some were written, and they go together so.
+-- some bytes were read and some were written, and the relation holds between the two
 pub record Exchanges (GoTogether : List ℕ → List ℕ → Type 0)
     (remaining remaining_new contents contents_new : Option (List ℕ)) : Type 0 where
   pub read : List ℕ
@@ -49,10 +49,10 @@ pub record Exchanges (GoTogether : List ℕ → List ℕ → Type 0)
 
 -- ---- laws
 
--- some text answers the pairs
+-- the pairs have answers
 abbrev pub HasAnswers : List Pair → Type 0
 HasAnswers pairs = (written : List ℕ) × AreAnswers pairs written
 
--- and no other does
+-- the pairs have at most one list of answers
 abbrev pub HasOneAnswer : List Pair → Type 0
 HasOneAnswer pairs = (one other : List ℕ) → AreAnswers pairs one → AreAnswers pairs other → one ≡ other

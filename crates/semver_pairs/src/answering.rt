@@ -1,4 +1,4 @@
-//! The answers to pairs of lines.
+//! The answers for pairs of lines.
 ghost use Rattle.std.specs.Prelude.{◌≡◌, ◌↔◌, ℕ, List, [], false, ◌<◌, ◌≤◌, length, MatchOption};
 ghost use Rattle.std.specs.Prelude.{IfOk, IfErr, IfSome, IfNone, OnErr, IsErrOf, IsTrue};
 ghost use Rattle.std.specs.Str.{IsAscii};
@@ -21,7 +21,7 @@ use node_semver::{Range, SemverError, SemverErrorKind, Version};
 use std::alloc::Global;
 use std::io::Write;
 
-/// A range line and a version line, what follows them, and whether all of it is known to be ASCII.
+/// A range line, a version line, the bytes after them, and whether all of these are known to be ASCII.
 #[derive(Clone, Copy)]
 pub(crate) struct Pair<'b> {
     pub(crate) range: &'b [u8],
@@ -30,7 +30,7 @@ pub(crate) struct Pair<'b> {
     pub(crate) is_ascii: bool,
 }
 
-/// Answers the pairs that are whole in these bytes, and gives the rest.
+/// Adds the answers for the complete pairs in these bytes, and returns the rest.
 #[tactic(auto, using(crate::proofs::MoveLemmas::pairs_steps))]
 pub(crate) fn answer_pairs<'b, W: Write>(
     alloc: Global,
@@ -55,7 +55,7 @@ pub(crate) fn answer_pairs<'b, W: Write>(
     Ok(rest)
 }
 
-/// The first pair, where it is whole.
+/// The first pair, if it is complete.
 fn first_pair(bytes: &[u8], is_ascii: bool) -> Option<Pair<'_>>
     ensures found { IfSome result (λ pair. BeginsWithPair bytes.now pair.range.now pair.version.now pair.rest.now) }
     ensures fewer { IfSome result (λ pair. length pair.rest.now < length bytes.now) }
@@ -74,7 +74,7 @@ fn first_pair(bytes: &[u8], is_ascii: bool) -> Option<Pair<'_>>
     })
 }
 
-/// Answers a pair and those right behind it that have the same range line, and gives the rest.
+/// Adds the answers for a pair and for the pairs right after it with the same range line, and returns the rest.
 #[tactic(auto, using(crate::proofs::MoveLemmas::range_steps))]
 pub(crate) fn answer_range<'b, W: Write>(
     alloc: Global,
@@ -106,8 +106,8 @@ pub(crate) fn answer_range<'b, W: Write>(
     }
 }
 
-/// Answers a pair and those right behind it that have the same range line, which was read as this range or is a bad
-/// one.
+/// The same when the range line has been read: `range` is `None` if it is a bad one.
+// `inline(never)`: one call for each range line, so that the loop over versions has a stack of its own.
 #[inline(never)]
 #[tactic(auto, using(crate::proofs::MoveLemmas::version_steps))]
 fn answer_versions<'b, W: Write>(
@@ -145,7 +145,7 @@ fn answer_versions<'b, W: Write>(
     }
 }
 
-/// The version line of the first pair and what stands past it, where the pair is whole and has this range line.
+/// The version line of the first pair and the bytes after it, if the pair is complete and has this range line.
 fn next_version<'b>(bytes: &'b [u8], range: &[u8]) -> Option<(&'b [u8], &'b [u8])>
     requires { HasNoNewline range.now }
     ensures found { IfSome result (λ pair. BeginsWithPair bytes.now range.now pair.0.now pair.1.now) }
@@ -156,7 +156,7 @@ fn next_version<'b>(bytes: &'b [u8], range: &[u8]) -> Option<(&'b [u8], &'b [u8]
     Some((without_return(version), rest))
 }
 
-/// The answer to a range, or to none where the range line is a bad one, and a version line, and a newline.
+/// The answer for a range (or for none, if the range line is bad) and a version line, with a newline.
 fn answer_of(
     alloc: Global,
     range: Option<&Range>,
@@ -184,7 +184,7 @@ fn answer_of(
     }
 }
 
-/// Whether a text was not read for want of memory.
+/// Returns `true` if the error is that an allocation failed.
 fn is_want_of_memory(error: &SemverError) -> bool
     ensures { IsTrue result ↔ ((refusal_of error.now).kind ≡ out_of_memory) }
 {

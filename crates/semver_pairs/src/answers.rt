@@ -1,4 +1,4 @@
-//! Answers that wait to be written.
+//! Answers that are collected, so that many are written at once.
 ghost use Rattle.std.specs.Prelude.{◌≡◌, ◌↔◌, ℕ, List, ◌+◌, ◌≤◌, [], ◌++◌, length, take, OnOk, OnErr, IfErr, IsErr};
 ghost use Rattle.std.specs.Io.KnownBytes.{Appends};
 ghost use Rattle.semver_pairs.specs.GaugeValue.{HasFailed};
@@ -10,7 +10,7 @@ use crate::writing::write_all;
 use std::io::Write;
 use std::marker::Model;
 
-/// Answers that wait, so that many are written at once.
+/// The answers that are still to be written.
 #[derive(Drop)]
 pub(crate) struct Answers {
     bytes: [u8; 4096],
@@ -26,7 +26,7 @@ impl Model for Answers {
 }
 
 impl Answers {
-    /// No answer.
+    /// No answers.
     pub(crate) fn new() -> Answers
         ensures { result ≡ [] }
     {
@@ -36,7 +36,7 @@ impl Answers {
         }
     }
 
-    /// One more answer. Those that wait are written first where it does not fit beside them.
+    /// Adds one more answer. If it does not fit, writes the others first.
     pub(crate) fn put<W: Write>(
         &mut self,
         writer: &mut Gauge<W>,
@@ -58,7 +58,7 @@ impl Answers {
         Ok(())
     }
 
-    /// Writes the answers that wait.
+    /// Writes all answers.
     pub(crate) fn flush<W: Write>(&mut self, writer: &mut Gauge<W>) -> Result<(), RunError>
         requires { ¬ HasFailed writer.old }
         ensures all { OnOk result (Appends (W.contents writer.old.inner) (W.contents writer.new.inner) self.old) }
@@ -73,7 +73,7 @@ impl Answers {
         Ok(())
     }
 
-    /// One more answer, which fits beside those that wait.
+    /// Adds an answer that fits.
     fn append(&mut self, line: &[u8])
         requires { length self.old + length line.now ≤ 4096 }
         ensures { self.new ≡ self.old ++ line.now }

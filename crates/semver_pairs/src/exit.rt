@@ -4,14 +4,14 @@ ghost use Rattle.semver_pairs.specs.Ending.{error_line};
 
 use crate::run_error::RunError;
 
-/// The exit status, and the line for standard error, which is empty where none is written.
+/// Returns the exit status, and the line for standard error, which is empty if nothing is written there.
 ///
-/// The status is 0 after `Ok`, 1 after an error, and 2 for `None`, which stands for an argument: the program takes
-/// none.
+/// The status is 0 after `Ok` and 1 after an error. It is 2 for `None`, which stands for a call with arguments: the
+/// program takes none.
 ///
 /// # Memory
 ///
-/// Takes none.
+/// Does not allocate.
 ///
 /// # Examples
 ///

@@ -1,4 +1,4 @@
-//! Readers and writers that remember a failure.
+//! Readers and writers that record whether a call has failed.
 ghost use Rattle.std.specs.Prelude.{◌≡◌, ◌↔◌, false, IsTrue, IsErr};
 ghost use Rattle.std.specs.Io.{ReadsAtMost, WritesAtMost};
 ghost use Rattle.std.specs.Io.KnownBytes.{ReadConsumes, WriteAppends};
@@ -8,13 +8,14 @@ use std::io;
 use std::io::{Read, Write};
 use std::marker::Model;
 
-/// A reader or a writer, whether a call through it has failed, and whether the last read through it answered the end.
+/// A reader or writer, with two marks: whether a call through it has failed, and whether the last read reported the
+/// end.
 ///
-/// Only `read` and `write` mark a failure, each exactly where it has failed, and neither is called again after that.
+/// Only `read` and `write` set the first mark, exactly if they fail. Neither can be called after that.
 ///
 /// # Memory
 ///
-/// No call takes any of its own.
+/// No method allocates.
 #[derive(Drop)]
 pub struct Gauge<T> {
     inner: T,
@@ -29,11 +30,11 @@ impl<T> Model for Gauge<T> {
 }
 
 impl<T> Gauge<T> {
-    /// A gauge through which no call has failed.
+    /// Returns a gauge through which no call has failed.
     ///
     /// # Examples
     ///
-    /// `Gauge::new(reader).failed()` is false, also where the next read will fail.
+    /// `Gauge::new(reader).failed()` is false, even if the next read will fail.
     pub fn new(inner: T) -> Gauge<T>
         ensures held { result.inner ≡ inner }
         ensures unfailed { ¬ HasFailed result }
@@ -46,9 +47,9 @@ impl<T> Gauge<T> {
         }
     }
 
-    /// What the gauge holds.
+    /// Returns the reader or writer.
     ///
-    /// The mark is lost, and a gauge that is made of it again has not failed.
+    /// The marks are lost: a new gauge of the same reader has not failed.
     ///
     /// # Examples
     ///
@@ -64,11 +65,11 @@ impl<T> Gauge<T> {
         inner
     }
 
-    /// Whether a call through the gauge has failed.
+    /// Returns `true` if a call through the gauge has failed.
     ///
     /// # Examples
     ///
-    /// False of a new gauge; true after a read that answered an error.
+    /// `false` for a new gauge. `true` after a read that returned an error.
     pub fn failed(&self) -> bool
         ensures { IsTrue result ↔ HasFailed self.now }
     {
@@ -77,17 +78,17 @@ impl<T> Gauge<T> {
 }
 
 impl<R: Read> Gauge<R> {
-    /// One `read` of the reader.
+    /// Calls `read` of the reader once.
     ///
-    /// A gauge that has failed is not read again. A piece with room for which no byte is given tells the end.
+    /// The gauge must not have failed. If the piece has room and `Ok(0)` is returned, the end of the input is reached.
     ///
     /// # Errors
     ///
-    /// That of the reader; the gauge has then failed.
+    /// Returns the error of the reader. The gauge has then failed.
     ///
     /// # Examples
     ///
-    /// Into a piece of four bytes, of a reader that holds `yes`: `Ok(3)`, then `Ok(0)`, and the gauge has not failed.
+    /// Into a piece of four bytes, from a reader that holds `yes`: `Ok(3)`, then `Ok(0)`. The gauge has not failed.
     pub fn read(&mut self, piece: &mut [u8]) -> io::Result<usize>
         requires { ¬ HasFailed self.old }
         ensures at_most { ReadsAtMost result piece.new }
@@ -104,17 +105,17 @@ impl<R: Read> Gauge<R> {
 }
 
 impl<W: Write> Gauge<W> {
-    /// One `write` of the writer.
+    /// Calls `write` of the writer once.
     ///
-    /// A gauge that has failed is not written to again. `Ok(0)` is a failure too, unless the piece is empty.
+    /// The gauge must not have failed. `Ok(0)` counts as a failure too, unless the piece is empty.
     ///
     /// # Errors
     ///
-    /// That of the writer; the gauge has then failed.
+    /// Returns the error of the writer. The gauge has then failed.
     ///
     /// # Examples
     ///
-    /// To a writer with room for two bytes: `yes` gives `Ok(2)`, `s` gives `Ok(0)`, and the gauge has then failed.
+    /// To a writer with room for two bytes: `yes` gives `Ok(2)`, then `s` gives `Ok(0)`, and the gauge has failed.
     pub fn write(&mut self, piece: &[u8]) -> io::Result<usize>
         requires { ¬ HasFailed self.old }
         ensures at_most { WritesAtMost result piece.now }
@@ -128,14 +129,14 @@ impl<W: Write> Gauge<W> {
     }
 }
 
-/// Whether the read into a piece told the end.
+/// Returns `true` if the read into a piece reported the end.
 fn is_end(answer: &io::Result<usize>, piece: &[u8]) -> bool
     ensures { IsTrue result ↔ IsEnd piece.now answer.now }
 {
     matches!(answer, Ok(0)) && !piece.is_empty()
 }
 
-/// Whether the write of a piece has failed.
+/// Returns `true` if the write of a piece has failed.
 fn is_failure(answer: &io::Result<usize>, piece: &[u8]) -> bool
     ensures { IsTrue result ↔ IsFailedWrite piece.now answer.now }
 {

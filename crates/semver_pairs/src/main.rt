@@ -1,5 +1,5 @@
-//! Reads ranges and versions from standard input, by turns and a line each, and writes for each two lines whether the
-//! version satisfies the range: `yes`, `no`, `bad range`, `bad version` or `missing version`.
+//! Reads lines from standard input, by turns a range and a version. Writes for each two lines whether the version
+//! satisfies the range: `yes`, `no`, `bad range`, `bad version` or `missing version`.
 #![tactic(auto)]
 
 mod answering;
@@ -24,8 +24,8 @@ use run_error::RunError;
 use std::env;
 use std::process::ExitCode;
 
-/// Takes no arguments. Ends with the status of `ending`, and with its line on standard error, if there is one. A line
-/// that cannot be written is dropped.
+/// Takes no arguments. Exits with the status of `ending`, and writes its line to standard error, if there is one. If
+/// that write fails, the line is lost.
 fn main(rt: HostRuntime) -> ExitCode {
     // The first word is the program's name.
     let outcome = match env::args(&rt).map(|words| words.count()) {

@@ -1,4 +1,4 @@
-//! The pair that is not wholly read.
+//! The pair that is not completely read.
 ghost use Rattle.std.specs.Prelude.{◌≡◌, ◌≢◌, ◌↔◌, [], ◌++◌, true, false, IfOk, IfErr, IfSome, IfNone, OnOk, IsTrue};
 ghost use Rattle.std.specs.Str.Lines.{strip_carriage_return};
 ghost use Rattle.semver_pairs.specs.Pairs.{pairs_read};
@@ -9,8 +9,8 @@ use crate::lines::split_line;
 use crate::run_error::RunError;
 use std::alloc::Global;
 
-/// What was read of the pair that is not wholly read: its range line, and what there is of its version line once the
-/// range line is ended.
+/// The bytes read of the pair that is not completely read: its range line, and its version line as soon as the range
+/// line is ended.
 #[derive(Drop)]
 pub(crate) struct OpenPair {
     range: Vec<u8>,
@@ -31,7 +31,7 @@ impl OpenPair {
         }
     }
 
-    /// Whether nothing of it was read.
+    /// Returns `true` if nothing of it was read.
     #[tactic(auto, using(crate::proofs::OpenPairLemmas::open_pair))]
     pub(crate) fn is_empty(&self) -> bool
         ensures { IsTrue result ↔ (open_bytes self.now ≡ []) }
@@ -40,28 +40,28 @@ impl OpenPair {
         !is_range_ended && self.range.is_empty()
     }
 
-    /// Whether its range line is ended, and something was read of its version line.
+    /// Returns `true` if its range line is ended, and something of its version line was read.
     pub(crate) fn has_version(&self) -> bool
         ensures { IsTrue result ↔ ((self.now.is_range_ended ≡ true) × (self.now.version.items ≢ [])) }
     {
         self.is_range_ended && !self.version.is_empty()
     }
 
-    /// Its range line, or what was read of it.
+    /// Its range line, or the part that was read.
     pub(crate) fn range(&self) -> &[u8]
         ensures { result.now ≡ self.now.range.items }
     {
         &self.range
     }
 
-    /// What was read of its version line.
+    /// The part of its version line that was read.
     pub(crate) fn version(&self) -> &[u8]
         ensures { result.now ≡ self.now.version.items }
     {
         &self.version
     }
 
-    /// Reads on. Where the version line is ended too, gives what stands past it.
+    /// Adds the bytes up to the end of the pair. If the version line is ended too, returns the bytes after it.
     pub(crate) fn read_on<'b>(&mut self, bytes: &'b [u8]) -> Result<Option<&'b [u8]>, RunError>
         requires { IsOpen self.old }
         ensures whole { IfOk result (λ found. IfSome found (λ rest. BeginsWithPair
@@ -78,7 +78,7 @@ impl OpenPair {
         }
     }
 
-    /// Reads on in the range line. Where it is ended, gives what stands past it.
+    /// Adds the bytes up to the end of the range line. If that is ended, returns the bytes after it.
     #[tactic(auto, using(crate::proofs::OpenPairLemmas::open_pair))]
     fn read_range<'b>(&mut self, bytes: &'b [u8]) -> Result<Option<&'b [u8]>, RunError>
         requires { IsOpen self.old }
@@ -106,7 +106,7 @@ impl OpenPair {
         }
     }
 
-    /// Reads on in the version line. Where it is ended, gives what stands past it.
+    /// Adds the bytes up to the end of the version line. If that is ended, returns the bytes after it.
     #[tactic(auto, using(crate::proofs::OpenPairLemmas::open_pair))]
     fn read_version<'b>(&mut self, bytes: &'b [u8]) -> Result<Option<&'b [u8]>, RunError>
         requires lines { IsOpen self.old }
@@ -131,7 +131,7 @@ impl OpenPair {
         }
     }
 
-    /// Begins another pair, of which these bytes were read.
+    /// Starts another pair with these bytes.
     #[tactic(auto, using(crate::proofs::OpenPairLemmas::open_pair))]
     pub(crate) fn begin(&mut self, bytes: &[u8]) -> Result<(), RunError>
         requires { pairs_read false bytes.now ≡ [] }
@@ -155,7 +155,7 @@ impl OpenPair {
     }
 }
 
-/// Puts the bytes behind a text.
+/// Appends the bytes to a text.
 fn append(text: &mut Vec<u8>, bytes: &[u8]) -> Result<(), RunError>
     ensures appended { OnOk result (text.new.items ≡ text.old.items ++ bytes.now) }
     ensures memory { IfErr result (λ e. e ≡ RunError.Memory) }

@@ -1,4 +1,4 @@
-//! The answers to what one read gave, and to what is left at the end.
+//! The answers for what one read returned, and for what is left at the end.
 ghost use Rattle.std.specs.Prelude.{◌≡◌, ◌↔◌, [], ◌++◌, IfOk, IfSome, IfNone, OnOk, OnErr, IsErrOf};
 ghost use Rattle.semver_pairs.specs.GaugeValue.{HasFailed};
 ghost use Rattle.semver_pairs.specs.Private.Answering.{AnswersAll, AnswersAllSome, AnswersPast, AnswersSome};
@@ -13,7 +13,7 @@ use crate::run_error::RunError;
 use std::alloc::Global;
 use std::io::Write;
 
-/// Answers the pairs that are whole once a piece was read.
+/// Adds the answers for the pairs that a piece completes.
 #[tactic(auto, using(crate::proofs::MoveLemmas::piece_steps))]
 pub(crate) fn answer_piece<W: Write>(
     alloc: Global,
@@ -42,8 +42,8 @@ pub(crate) fn answer_piece<W: Write>(
     kept.begin(rest)
 }
 
-/// Answers the open pair where the piece ends it, and gives the rest of the piece. Where it stays open, nothing is
-/// answered.
+/// Adds the answer for the open pair if the piece completes it, and returns the rest of the piece. If the pair stays
+/// open, adds nothing.
 #[tactic(auto, using(crate::proofs::MoveLemmas::open_steps))]
 fn answer_open<'b, W: Write>(
     alloc: Global,
@@ -82,7 +82,7 @@ fn answer_open<'b, W: Write>(
     Ok(Some(rest))
 }
 
-/// Answers the last pair, once the end was read.
+/// Adds the answer for the last pair, after the end was read.
 #[tactic(auto, using(crate::proofs::RunLemmas::last_steps))]
 pub(crate) fn answer_last<W: Write>(
     alloc: Global,

@@ -1,4 +1,4 @@
-//! What the program does with a reader and a writer.
+//! The program, for any reader and writer.
 ghost use Rattle.std.specs.Prelude.{◌≡◌, ◌⊎◌, ◌↔◌, ◌^◌, ◌-◌, ◌≤◌, length, OnOk, OnErr, IfSome, IsErrOf};
 ghost use Rattle.semver_pairs.specs.GaugeValue.{HasFailed};
 ghost use Rattle.semver_pairs.specs.Output.{Exchanges, HasEnded, IsOutput, IsOutputBeforeEnd, IsOutputPrefix};
@@ -11,36 +11,36 @@ use crate::run_error::RunError;
 use std::alloc::Global;
 use std::io::{Read, Write};
 
-/// Reads to the end, and writes one line for each pair of lines: a range line and then a version line. Each is written
-/// before the next read, once its pair was wholly read.
+/// Reads to the end, and writes one line for each pair of lines: a range line and a version line. The line for a pair
+/// that was completely read is written before the next read.
 ///
-/// The answer is `bad range` where the range is refused, else `bad version` where the version is, else `yes` or `no`. A
-/// last range line without a version line gives `missing version`, whatever it holds.
+/// The line is `bad range` if the range line is no range, else `bad version` if the version line is no version, else
+/// `yes` or `no`. A last range line without a version line gives `missing version`, whatever it contains.
 ///
-/// A line ends at a newline byte. One carriage return just before that byte is dropped. What is left past the last
-/// newline byte is a line too, unless it is empty; a carriage return at its end stays. A line that is not UTF-8 is
-/// refused. A call that failed is not made again.
+/// A line ends at a newline byte. One carriage return just before that byte is ignored. The bytes after the last
+/// newline byte are a line too, unless there are none; a carriage return at their end stays. A line that is not UTF-8
+/// is no range and no version. A call that failed is not made again.
 ///
 /// # Errors
 ///
-/// - `Read`: the reader's gauge has failed, here or before.
-/// - `Write`: the writer's gauge has failed, here or before. Where both had failed before, the error is `Read`.
-/// - `Memory`: memory was refused.
-/// - `Endless`: 18446744073709551615 reads gave bytes and no end came.
+/// - `Read`: the reader's gauge has failed, now or before.
+/// - `Write`: the writer's gauge has failed, now or before. If both had failed before, the error is `Read`.
+/// - `Memory`: an allocation failed.
+/// - `Endless`: 18446744073709551615 reads returned bytes without reaching the end.
 ///
-/// What was written is then a beginning of the answers to the pairs that were wholly read: a pair is so once the
-/// newline byte of its version line was read, or the end was; a last line without a second one is so once the end was.
-/// After `Read` the answers to all of them were written.
+/// What was written is then the beginning of the answers for the pairs that were completely read. A pair is completely
+/// read as soon as the newline byte of its version line is read, or the end. A last line without a version line is, as
+/// soon as the end is read. After `Read`, all of these answers were written.
 ///
 /// # Memory
 ///
-/// Takes some for one range and one version at a time, and for the pair that is not wholly read: as much as the longest
-/// pair so far that more than one read gave.
+/// Allocates for one range and one version at a time, and for the pair that is not completely read: as much as the
+/// longest pair so far that took more than one read.
 ///
 /// # Examples
 ///
-/// - `^1.2.3-rc.4`, `1.2.3-rc.5`, `foo`, `1.0.0`, `1`, `bad`, `1`, a line each, give `yes`, `bad range`,
-///   `bad version`, `missing version`, a line each.
+/// - `^1.2.3-rc.4`, `1.2.3-rc.5`, `foo`, `1.0.0`, `1`, `bad`, `1`, a line each, give `yes`, `bad range`, `bad version`,
+///   `missing version`, a line each.
 /// - `>=1.2.3 <2.0.0` and `2.0.0` give `no`.
 /// - No bytes give no bytes.
 #[tactic(auto, using(crate::proofs::RunLemmas::run_steps))]
@@ -56,18 +56,18 @@ pub fn run<R: Read, W: Write>(
     ensures begun { OnErr result (Exchanges (IsOutputPrefix (HasEnded R.remaining reader.new))
         (R.remaining reader.old.inner) (R.remaining reader.new.inner)
         (W.contents writer.old.inner) (W.contents writer.new.inner)) }
-    // A failed read keeps no answer back.
+    // After a failed read, no answer is missing.
     ensures all_begun { IsErrOf result RunError.Read → Exchanges IsOutputBeforeEnd
         (R.remaining reader.old.inner) (R.remaining reader.new.inner)
         (W.contents writer.old.inner) (W.contents writer.new.inner) }
 
-    // When each error comes.
+    // When each error is returned.
     ensures read { IsErrOf result RunError.Read ↔ HasFailed reader.new }
     ensures write { ¬ HasFailed reader.old → IsErrOf result RunError.Write ↔ HasFailed writer.new }
     ensures endless { IsErrOf result RunError.Endless
         → IfSome (R.remaining reader.old.inner) (λ bytes. 2 ^ 64 - 1 ≤ length bytes) }
 
-    // A gauge that had failed before: nothing is read or written, and the error is its own.
+    // If a gauge had failed before, nothing is read or written, and the error is that of this gauge.
     ensures untouched { (HasFailed reader.old ⊎ HasFailed writer.old)
         → (reader.new ≡ reader.old) × (writer.new ≡ writer.old) }
 {

@@ -7,7 +7,7 @@ use crate::run_error::RunError;
 use outcome::{WHOLE, gives, leaves_both_alone, outcome_of};
 use std::alloc::Global;
 
-/// What some inputs give.
+/// Inputs and their outputs.
 const ROWS: &[(&[u8], &[u8])] = &[
     // Two lines.
     (b">=1.2.3 <2.0.0\n1.9.0\n", b"yes\n"),
@@ -19,20 +19,20 @@ const ROWS: &[(&[u8], &[u8])] = &[
     (b"1 || 3\n2.0.0\n", b"no\n"),
     (b">=1.2.3-a >=1.2.3-b\n1.2.3-c\n", b"yes\n"),
     (b"1.2.3\n1.2.3\n", b"yes\n"),
-    // A bad range comes before a bad version.
+    // A bad range is reported before a bad version.
     (b"foo\nbar\n", b"bad range\n"),
-    // The end ends a line, and an empty line is one.
+    // The end of the input ends a line, and an empty line is a line.
     (b"", b""),
     (b"1\n1.0.0", b"yes\n"),
     (b"\n\n", b"bad range\n"),
     (b"1\n\n", b"bad version\n"),
-    // A lone last line, whatever it holds.
+    // A single last line, whatever it contains.
     (b"\n", b"missing version\n"),
     (b"1", b"missing version\n"),
     (b"foo\n", b"missing version\n"),
     (b"\xff", b"missing version\n"),
     (b"1\n1.0.0\n\n", b"yes\nmissing version\n"),
-    // One carriage return just before a newline goes with it, and no other one.
+    // One carriage return just before a newline is ignored, and no other one.
     (b"1\r\n1.0.0\r\n", b"yes\n"),
     (b"1\r\r\n1.0.0\n", b"bad range\n"),
     (b"1\n1.0.0\r", b"bad version\n"),
@@ -59,7 +59,7 @@ const ROWS: &[(&[u8], &[u8])] = &[
     (b"1\n1.0.0\n1", b"yes\nmissing version\n"),
 ];
 
-/// How many bytes readers give and writers take a call.
+/// How many bytes a reader returns and a writer takes in one call.
 const STEPS: &[(usize, usize)] = &[
     (usize::MAX, usize::MAX),
     (1, 1),
@@ -71,7 +71,7 @@ const STEPS: &[(usize, usize)] = &[
 
 const PAIRS: &[u8] = b"^1.2.3-rc.4\n1.2.3-rc.5\nfoo\n1.0.0\n1\nbad\n1\n";
 
-/// Whether an input gives this output by each of these steps.
+/// Returns `true` if an input gives this output with each of these steps.
 fn gives_by_steps(alloc: Global, input: &[u8], output: &[u8]) -> bool {
     for (read, write) in STEPS {
         let outcome = outcome_of(alloc, input, (*read, usize::MAX), (*write, usize::MAX));
@@ -93,7 +93,7 @@ fn answers_each_pair_with_ample_memory(rt: HostRuntime) {
     }
 }
 
-/// The answers to the first bytes of the four pairs, where the input ends there.
+/// The answers for the first bytes of the four pairs, if the input ends there.
 fn output_up_to(count: usize) -> &'static [u8] {
     match count {
         0 => b"",
@@ -110,7 +110,7 @@ fn output_up_to(count: usize) -> &'static [u8] {
     }
 }
 
-/// The answers to the pairs of which the newline of the version line is among these bytes.
+/// The answers for the pairs whose version line has its newline among these bytes.
 fn answers_up_to(count: usize) -> &'static [u8] {
     match count {
         0..=22 => b"",
@@ -120,7 +120,7 @@ fn answers_up_to(count: usize) -> &'static [u8] {
     }
 }
 
-/// How many bytes a read gives in the tests of each end and each fault.
+/// How many bytes a read returns in the tests of each end and each failure.
 const READS: &[usize] = &[1, 7, 4096];
 
 #[test]
@@ -133,11 +133,11 @@ fn answers_what_was_read_up_to_any_end(rt: HostRuntime) {
     }
 }
 
-/// Whether the last of so many reads, after so many bytes, fails, and just the answers to the pairs that were wholly
-/// read are written.
+/// Returns `true` if the last of so many reads, after so many bytes, fails, and exactly the answers for the pairs that
+/// were completely read are written.
 fn stops_at_a_read(alloc: Global, most: usize, count: usize, reads: usize) -> bool {
     let outcome = outcome_of(alloc, PAIRS, (most, count), WHOLE);
-    // No answer is kept back.
+    // No answer is missing.
     let is_answered = outcome.text() == answers_up_to(count);
     is_answered && outcome.has_stopped_reading() && outcome.reads == reads
 }
@@ -156,7 +156,7 @@ fn stops_at_a_read_that_fails(rt: HostRuntime) {
     }
 }
 
-/// Whether a write after so many bytes fails, by two bytes a write, and just these bytes are written.
+/// Returns `true` if a write fails after so many bytes, with two bytes a write, and exactly these bytes are written.
 fn stops_at_a_write(alloc: Global, count: usize) -> bool {
     let outcome = outcome_of(alloc, PAIRS, WHOLE, (2, count));
     let is_written = output_up_to(PAIRS.len()).get(..count) == Some(outcome.text());
@@ -164,7 +164,7 @@ fn stops_at_a_write(alloc: Global, count: usize) -> bool {
     is_written && outcome.has_stopped_writing() && outcome.writes == count.div_ceil(2) + 1
 }
 
-/// Whether the first write fails that takes no byte.
+/// Returns `true` if the first write that takes no byte fails.
 fn stops_where_no_byte_is_taken(alloc: Global) -> bool {
     let outcome = outcome_of(alloc, PAIRS, WHOLE, (0, usize::MAX));
     outcome.has_stopped_writing() && outcome.writes == 1
@@ -181,9 +181,9 @@ fn stops_at_a_write_that_fails(rt: HostRuntime) {
     );
 }
 
-/// Inputs, how many bytes a read gives, and how many writes are made.
+/// Inputs, how many bytes a read returns, and the number of writes.
 const WRITES: &[(&[u8], usize, usize)] = &[
-    // The last line is answered once the end was read.
+    // The answer for the last line is written after the end was read.
     (PAIRS, usize::MAX, 2),
     (b"", usize::MAX, 0),
     (PAIRS, 1, 4),
@@ -193,7 +193,8 @@ fn writes_made(alloc: Global, input: &[u8], most: usize) -> usize {
     outcome_of(alloc, input, (most, usize::MAX), WHOLE).writes
 }
 
-/// Whether the first pair is answered before more is read: it has 23 bytes, so four reads of seven, and no further one.
+/// Returns `true` if the answer for the first pair is written before more is read: it has 23 bytes, so four reads of
+/// seven, and no further one.
 fn answers_before_it_reads_on(alloc: Global) -> bool {
     let outcome = outcome_of(alloc, PAIRS, (7, usize::MAX), (usize::MAX, 0));
     let is_written = outcome.text().is_empty() && outcome.reads == 4;
@@ -209,7 +210,7 @@ fn writes_what_one_read_gave_at_once(rt: HostRuntime) {
     assert!(rt; answers_before_it_reads_on(rt.alloc()));
 }
 
-/// Whether the reader's gauge had failed, and the writer's.
+/// Whether the reader's gauge had failed, and whether the writer's had.
 const FAILED: &[(bool, bool)] = &[(true, false), (false, true), (true, true)];
 
 #[test]
@@ -219,8 +220,8 @@ fn leaves_both_alone_where_a_gauge_had_failed(rt: HostRuntime) {
     }
 }
 
-/// `.ci/refuse_memory` refuses each request for memory of the program in turn, and `rt try --test --fail-alloc N` one
-/// of this test.
+/// `.ci/refuse_memory` makes each allocation of the program fail in turn, and `rt try --test --fail-alloc N` makes one
+/// of this test fail.
 #[test]
 fn answers_or_says_that_memory_is_out(rt: HostRuntime) {
     let outcome = outcome_of(rt.alloc(), PAIRS, (7, usize::MAX), WHOLE);
@@ -229,7 +230,7 @@ fn answers_or_says_that_memory_is_out(rt: HostRuntime) {
     assert!(rt; is_out || gives(&outcome, output));
 }
 
-/// What the program ends by, and how.
+/// Outcomes, with the exit status and the line on standard error.
 const ENDS: &[(Option<Result<(), RunError>>, u8, &str)] = &[
     (Some(Ok(())), 0, ""),
     (Some(Err(RunError::Read)), 1, "semver_pairs: read failed"),
@@ -254,7 +255,7 @@ fn ends_with_a_status_and_a_line(rt: HostRuntime) {
     }
 }
 
-/// Why the program stopped, and the text of it.
+/// Errors and their texts.
 const TOLD: &[(RunError, &str)] = &[
     (RunError::Read, "read failed"),
     (RunError::Write, "write failed"),

@@ -4,7 +4,8 @@ ghost use Rattle.std.specs.Str.{IsAscii};
 
 use std::str;
 
-/// The text of a line, or none where it is not UTF-8. What is known to be ASCII is not looked at again.
+/// The text of a line, or `None` if it is not UTF-8. A line that is known to be ASCII is not tested again.
+// `inline(always)` in this file: most lines are known to be ASCII, which is then one test.
 #[inline(always)]
 pub(crate) fn text_of(line: &[u8], is_ascii: bool) -> Option<&str>
     requires { IsTrue is_ascii → IsAscii line.now }
@@ -17,7 +18,7 @@ pub(crate) fn text_of(line: &[u8], is_ascii: bool) -> Option<&str>
     str::from_utf8(line).ok()
 }
 
-/// Whether a line is ASCII, which may be known.
+/// Returns `true` if a line is ASCII, which can be known already.
 #[inline(always)]
 fn is_ascii_line(line: &[u8], is_known: bool) -> bool
     requires { IsTrue is_known → IsAscii line.now }

@@ -7,7 +7,7 @@ use crate::gauge::Gauge;
 use crate::run_error::RunError;
 use std::io::Write;
 
-/// Writes all of the text.
+/// Writes all of the text, in as many calls as it takes.
 #[tactic(auto, using(crate::proofs::ByteLemmas::known_bytes))]
 pub(crate) fn write_all<W: Write>(writer: &mut Gauge<W>, text: &[u8]) -> Result<(), RunError>
     requires { ¬ HasFailed writer.old }

@@ -1,11 +1,12 @@
--- A caret before a partial: npm's "Caret Ranges".
+-- A partial after a caret: npm's "Caret Ranges".
 use Rattle.std.specs.Prelude.{◌≡◌, ℕ, ◌+◌, zero, suc, List, [], ◌∷◌, Option, Some, None}
 use Rattle.semver_sets.specs.Characters.{caret}
 use Rattle.semver_sets.specs.Comparator.{Comparator, below, from_up_to, with_major}
 use Rattle.semver_sets.specs.PartialText.{IsLed, Partial, zeroed}
 use Rattle.semver_sets.specs.Version.{VersionValue, least_of, release, without_build}
 
--- By the components of a partial, and the version z with 0 for each absent one. The first number that is not 0 rises:
+-- By the components of a partial, and the version z with 0 for each absent one. The leftmost number that is not 0 is
+-- raised:
 abbrev pub caret_row : (major minor patch : Option ℕ) (z : VersionValue) → Option Comparator
 -- `^0` is `<1.0.0-0`
 caret_row (Some zero) None None z = Some (below (least_of 1 0 0))
@@ -24,10 +25,10 @@ caret_row (Some zero) (Some (suc minor)) (Some patch) z =
 -- `^1.2.3-a` is `>=1.2.3-a <2.0.0-0`
 caret_row (Some (suc major)) (Some minor) (Some patch) z =
     Some (from_up_to (without_build z) (least_of (suc major + 1) 0 0))
--- `^1.x.3` and `^*` are nothing
+-- `^1.x.3` and `^*` give no comparator
 caret_row major minor patch z = None
 
--- `^`, blanks or none, and a partial: `^1.2`
+-- `^`, optional blanks, and a partial: `^1.2`
 pub record IsCaretText (text : List ℕ) (comparator : Option Comparator) : Type 0 where
   pub partial : Partial
   pub written : IsLed (caret ∷ []) text partial

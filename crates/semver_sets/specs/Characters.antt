@@ -1,4 +1,4 @@
--- The characters of versions and ranges. A character past ASCII belongs to none of these classes.
+-- The characters of versions and ranges. A character outside ASCII is in none of these classes.
 use Rattle.std.specs.Prelude.{◌≡◌, ℕ, Bool, true, false, ◌==◌, ◌||◌, List, [], ◌∷◌, if◌then◌else◌}
 use Rattle.std.specs.Char.{is_ascii_alphanumeric, is_ascii_digit}
 use Rattle.std.specs.List.{list_all}
@@ -43,28 +43,28 @@ is_digit b = is_ascii_digit b
 abbrev pub is_identifier_character : ℕ → Bool
 is_identifier_character b = is_ascii_alphanumeric b || (b == hyphen)
 
--- `x`, `X` or `*`, each of which stands for any number
+-- `x`, `X` or `*`, each of which means any number
 abbrev pub is_x : ℕ → Bool
 is_x b = (b == 120) || (b == 88) || (b == 42)
 
--- `v` or `V`, with which a version may begin
+-- `v` or `V`, which a version can begin with
 abbrev pub is_version_mark : ℕ → Bool
 is_version_mark b = (b == 118) || (b == 86)
 
--- `v`, with which a partial may begin
+-- `v`, which a partial can begin with
 abbrev pub is_partial_mark : ℕ → Bool
 is_partial_mark b = b == 118
 
--- each character of the text is such a one
+-- each character of the text passes the test
 abbrev pub AreAll : (ℕ → Bool) → List ℕ → Type 0
 AreAll test text = list_all test text ≡ true
 
--- the text is empty, or its first character is no such one
+-- the text is empty, or its first character does not pass the test
 abbrev pub BeginsWithNo : (ℕ → Bool) → List ℕ → Type 0
 BeginsWithNo test [] = Unit {0}
 BeginsWithNo test (b ∷ rest) = test b ≡ false
 
--- the text has a first character, and it is such a one
+-- the text has a first character, and it passes the test
 abbrev pub BeginsWith : (ℕ → Bool) → List ℕ → Type 0
 BeginsWith test [] = ⊥
 BeginsWith test (b ∷ rest) = test b ≡ true

@@ -1,4 +1,4 @@
--- The order of versions as it computes: SemVer 2.0.0, sections 10 and 11. `Order` says the same in the standard's
+-- The order of versions as a function: SemVer 2.0.0, sections 10 and 11. `Order` defines the same in the standard's
 -- words.
 use Rattle.std.specs.Prelude.{List, [], ◌∷◌}
 use Rattle.std.specs.Ordering.{nat_cmp, on, then_cmp}
@@ -8,14 +8,14 @@ use Rattle.std.specs.declared.cmp.Ordering.TheVariants.{Less, Equal, Greater}
 use Rattle.semver_sets.specs.IdentifierValue.{IdentifierValue, numeric, alphanumeric}
 use Rattle.semver_sets.specs.Version.{VersionValue}
 
--- a number before a text, numbers by size, texts by bytes
+-- a number is less than a text, numbers are ordered by size, texts by their bytes
 abbrev pub identifier_cmp : IdentifierValue → IdentifierValue → Ordering
 identifier_cmp (numeric m) (numeric n) = nat_cmp m n
 identifier_cmp (numeric m) (alphanumeric t) = Less
 identifier_cmp (alphanumeric s) (numeric n) = Greater
 identifier_cmp (alphanumeric s) (alphanumeric t) = slice_cmp nat_cmp s t
 
--- identifier by identifier, and a release, which has none, above each prerelease
+-- identifier by identifier; a release, which has no identifiers, is greater than each prerelease
 abbrev pub prerelease_cmp : List IdentifierValue → List IdentifierValue → Ordering
 prerelease_cmp [] [] = Equal
 prerelease_cmp [] (y ∷ ys) = Greater

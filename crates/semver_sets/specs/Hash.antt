@@ -1,4 +1,4 @@
--- What identifiers, versions and ranges feed a hasher: the build is left out, as equality does not look at it.
+-- What identifiers, versions and ranges feed to a hasher. The build is left out, because equality ignores it.
 use Rattle.std.specs.Prelude.{List, ◌++◌}
 use Rattle.std.specs.Hash as fed
 use Rattle.std.specs.Hash.{HashWrites}
@@ -16,6 +16,6 @@ identifier_writes (alphanumeric t) = fed.u8 1 ++ fed.str t
 abbrev pub version_writes : VersionValue → HashWrites
 version_writes v = fed.u64 v.major ++ fed.u64 v.minor ++ fed.u64 v.patch ++ fed.slice identifier_writes v.pre_release
 
--- how many sets, and then each by its two ends
+-- the number of sets, and then the two ends of each
 abbrev pub range_writes : List (Ends VersionValue) → HashWrites
 range_writes = fed.slice (span_writes version_writes)

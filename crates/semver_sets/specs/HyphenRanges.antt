@@ -1,4 +1,4 @@
--- A hyphen between two partials: npm's "Hyphen Ranges".
+-- Two partials with a hyphen between them: npm's "Hyphen Ranges".
 use Rattle.std.specs.Prelude.{◌≡◌, ℕ, ◌+◌, List, [], ◌∷◌, ◌++◌, Option, Some, None}
 use Rattle.semver_cuts.specs.declared.cut.Cut.{Cut}
 use Rattle.semver_cuts.specs.declared.cut.Cut.TheVariants.{Start, Before, After}
@@ -7,7 +7,7 @@ use Rattle.semver_sets.specs.Comparator.{Comparator}
 use Rattle.semver_sets.specs.PartialText.{IsPartialText, Partial, zeroed}
 use Rattle.semver_sets.specs.Version.{VersionValue, least_of}
 
--- where it begins: `1.2 - ` at `>=1.2.0`, and without a left side nowhere
+-- where it begins: `1.2 - ` at `>=1.2.0`; without a left side there is no lower end
 abbrev pub left_cut : Option Partial → Cut VersionValue
 left_cut None = Start
 left_cut (Some p) = Before (zeroed p)
@@ -23,7 +23,7 @@ right_row (Some major) (Some minor) None z = Before (least_of major (minor + 1) 
 -- ` - 3.4.5-a` is `<=3.4.5-a`, ` - 3.x.5` is `<=3.0.5`, ` - x.4` is `<=0.4.0`
 right_row major minor patch z = After z
 
--- a hyphen range from the left side to the right one; where the right one is below, no cut lies in it
+-- a hyphen range goes from its left side to its right side. If the right side is below the left, it contains no cut
 abbrev pub hyphen_comparator : Option Partial → Partial → Comparator
 hyphen_comparator left right =
     record { lower = left_cut left; upper = right_row right.major right.minor right.patch (zeroed right) }
@@ -33,7 +33,7 @@ abbrev pub IsLeftText : List ℕ → Option Partial → Type 0
 IsLeftText text None = text ≡ []
 IsLeftText text (Some p) = IsPartialText text p
 
--- a left side or none, blanks, `-`, blanks, and a right side: `1.2 - 3`, ` - 3`
+-- an optional left side, blanks, `-`, blanks, and a right side: `1.2 - 3`, ` - 3`
 pub record IsHyphenText (text : List ℕ) (comparator : Option Comparator) : Type 0 where
   pub left_text : List ℕ
   pub left_blanks : List ℕ

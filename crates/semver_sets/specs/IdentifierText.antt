@@ -6,8 +6,8 @@ use Rattle.semver_sets.specs.Characters.{is_digit, is_identifier_character, plus
 use Rattle.semver_sets.specs.IdentifierValue.{IdentifierValue, alphanumeric, numeric}
 use Rattle.semver_sets.specs.NumberText.{number_of}
 
--- Digits that write a number of 64 bits are that number; every other text stands for itself: `001` is 1, `1a` is a
--- text.
+-- Digits that write a number of 64 bits are that number, and every other text is itself: `001` is the number 1, and
+-- `1a` is a text.
 abbrev pub identifier_of : List ℕ → IdentifierValue
 identifier_of text =
     if list_all is_digit text && nat_lt (number_of text) (2 ^ 64) then numeric (number_of text)
@@ -26,7 +26,7 @@ pub record IsIdentifierList (text : List ℕ) (identifiers : List IdentifierValu
   pub parts : AllByRecursion IsIdentifierText (parts_of text)
   pub values : identifiers ≡ map identifier_of (parts_of text)
 
--- Nothing, or a list of identifiers after a hyphen, which may be left out where the list doesn't begin with one:
+-- Nothing; or a list of identifiers after a hyphen. The hyphen can be left out if the list does not begin with one:
 -- `-alpha.1`, `beta`, `--`
 abbrev pub IsPrereleaseText : List ℕ → List IdentifierValue → Type 0
 IsPrereleaseText text [] = text ≡ []
@@ -39,7 +39,7 @@ abbrev pub IsBuildText : List ℕ → List IdentifierValue → Type 0
 IsBuildText text [] = text ≡ []
 IsBuildText text (i ∷ is) = (list : List ℕ) × (text ≡ plus ∷ list) × IsIdentifierList list (i ∷ is)
 
--- what may follow a triple, a prerelease and a build: `-alpha.1+build.5`
+-- the prerelease and the build that can follow a triple: `-alpha.1+build.5`
 pub record IsExtrasText (text : List ℕ) (prerelease build : List IdentifierValue) : Type 0 where
   pub prefix : List ℕ
   pub rest : List ℕ

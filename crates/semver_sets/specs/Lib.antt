@@ -1,5 +1,5 @@
--- What the contracts of `node_semver` and of this crate say of texts, words, sets and the order of versions, in reading
--- order. These files are what a reader has to trust.
+-- The definitions that the contracts of `node_semver` and of this crate use for texts, words, sets and the order of
+-- versions, in reading order. These files are what a reader has to trust.
 
 -- ---- characters, numbers and identifiers, as they are written
 pub mod Characters
@@ -13,25 +13,25 @@ pub mod Order
 pub mod Comparison
 pub mod Print
 pub mod Hash
--- ---- words, and the comparators that they write
+-- ---- words, and the comparators that they give
 pub mod Comparator
 pub mod PartialText
 pub mod Operators
 pub mod TildeRanges
 pub mod CaretRanges
 pub mod HyphenRanges
--- ---- range texts: alternatives, what they mean, the sets that they write, and how two are joined
+-- ---- range texts: their alternatives, their meaning, the sets that they are merged to, and how two texts are joined
 pub mod Division
 pub mod Meaning
 pub mod Merging
 pub mod Union
--- ---- sets: what they hold, how a version is found, how they print, and when they are equal
+-- ---- sets: their form, how a version is found in them, how they are printed, and when they are equal
 pub mod RangeSets
 pub mod Searching
 pub mod RangePrint
 pub mod RangeEquality
--- ---- how values of the program are seen
+-- ---- how a contract sees values of the program
 pub mod Identifier
--- ---- no contract of a public call of `node_semver` names what follows: what functions compute, and lemmas
+-- ---- not part of any public contract of `node_semver`: what private functions compute, and lemmas
 pub mod Private
 pub mod Lemmas

@@ -19,11 +19,11 @@ use Rattle.semver_sets.specs.Comparison.{version_cmp}
 use Rattle.semver_sets.specs.Division.{IsWritten}
 use Rattle.semver_sets.specs.Version.{HasSameTriple, IsPrerelease, VersionValue}
 
--- a version lies inside a comparator where the cut before it does
+-- a version lies inside a comparator if the cut just before the version does
 abbrev pub IsInside : VersionValue → Comparator → Type 0
 IsInside v comparator = IsInSpan version_cmp comparator (Before v)
 
--- the cut is before or after a prerelease of the version's triple: `>=1.2.3-rc.4` opens 1.2.3
+-- the cut is just before or just after a prerelease with the version's triple: `>=1.2.3-rc.4` opens 1.2.3
 abbrev pub Opens : Cut VersionValue → VersionValue → Type 0
 Opens Start v = ⊥
 Opens (Before p) v = IsPrerelease p × HasSameTriple p v
@@ -34,33 +34,33 @@ Opens End v = ⊥
 abbrev pub HasOpenEnd : VersionValue → Comparator → Type 0
 HasOpenEnd v comparator = Opens comparator.lower v ⊎ Opens comparator.upper v
 
--- the version lies inside all of the comparators and, if it is a prerelease, an end of one of them opens its triple
+-- the version lies inside each comparator, and if it is a prerelease, an end of one of them opens its triple
 pub record Admit (comparators : List Comparator) (v : VersionValue) : Type 0 where
   pub inside : AllByRecursion (IsInside v) comparators
   pub opened : IsPrerelease v → AnyByRecursion (HasOpenEnd v) comparators
 
--- there is a comparator, and a cut is common to all of them
+-- there is a comparator, and some cut lies in all of them
 pub record GiveSet (comparators : List Comparator) : Type 0 where
   pub some : comparators ≢ []
   pub common : HasCutInEvery version_cmp comparators
 
--- no alternative has a comparator and a cut common to all its comparators
+-- no alternative of the text has a comparator and a cut that lies in all its comparators
 pub record IsRefused (text : List ℕ) : Type 0 where
   pub alternatives : List (List Comparator)
   pub written : IsWritten text alternatives
   pub none : AllByRecursion (λ comparators. ¬ GiveSet comparators) alternatives
 
--- in some alternative with a comparator, its comparators admit the version
+-- in some alternative that has a comparator, the comparators admit the version
 pub record TextAdmits (text : List ℕ) (v : VersionValue) : Type 0 where
   pub alternatives : List (List Comparator)
   pub written : IsWritten text alternatives
   pub admitted : AnyByRecursion (λ comparators. (comparators ≢ []) × Admit comparators v) alternatives
 
--- the version lies inside the set and, if it is a prerelease, one of the set's two ends opens its triple
+-- the version lies inside the set, and if it is a prerelease, one of the set's two ends opens its triple
 pub record SetAdmits (set : Ends VersionValue) (v : VersionValue) : Type 0 where
   pub inside : IsInside v set
   pub opened : IsPrerelease v → HasOpenEnd v set
 
--- what a range is seen as, the list of its sets, admits a version where one of them does
+-- a range, as the list of its sets, admits a version if one of the sets does
 abbrev pub RangeAdmits : List (Ends VersionValue) → VersionValue → Type 0
 RangeAdmits sets v = AnyByRecursion (λ set. SetAdmits set v) sets

@@ -1,4 +1,4 @@
--- Operators before a partial, and a partial alone: npm's "Ranges" and "X-Ranges".
+-- Operators before a partial, and a partial without operator: npm's "Ranges" and "X-Ranges".
 use Rattle.std.specs.Prelude.{◌≡◌, ℕ, ◌+◌, List, Option, Some, None, codes, unwrap_or}
 use Rattle.semver_sets.specs.Comparator.{Comparator, above, at_least, at_most, below, exactly, with_major, with_minor}
 use Rattle.semver_sets.specs.PartialText.{IsLed, IsPartialText, Partial, zeroed}
@@ -12,7 +12,7 @@ pub data Operator : Type 0 where
   less_or_equal : Operator
   less : Operator
 
--- as they are written
+-- how they are written
 abbrev pub operator_text : Operator → List ℕ
 operator_text greater_or_equal = codes ">="
 operator_text greater = codes ">"
@@ -53,7 +53,7 @@ equal_row (Some major) (Some minor) (Some patch) z = Some (exactly (without_buil
 equal_row (Some major) (Some minor) None z = Some (with_minor major minor)
 -- `=1` and `=1.x.3` are `>=1.0.0 <2.0.0-0`
 equal_row (Some major) None patch z = Some (with_major major)
--- `=*` is nothing
+-- `=*` gives no comparator
 equal_row None minor patch z = None
 
 -- a partial alone
@@ -67,7 +67,7 @@ plain_row (Some major) None patch z = with_major major
 -- `*` is `>=0.0.0`
 plain_row None minor patch z = at_least (release 0 0 0)
 
--- what an operator makes of a partial: a comparator, or nothing
+-- the comparator that an operator and a partial give, if they give one
 abbrev pub operator_comparator : Operator → Partial → Option Comparator
 operator_comparator greater_or_equal p = Some (at_least (zeroed p))
 operator_comparator greater p = Some (greater_row p.major p.minor p.patch (zeroed p))
@@ -75,11 +75,11 @@ operator_comparator equal p = equal_row p.major p.minor p.patch (zeroed p)
 operator_comparator less_or_equal p = Some (less_or_equal_row p.major p.minor p.patch (zeroed p))
 operator_comparator less p = Some (less_row p.major p.minor p.patch (zeroed p))
 
--- what a partial alone stands for
+-- the comparator that a partial alone gives
 abbrev pub plain_comparator : Partial → Option Comparator
 plain_comparator p = Some (plain_row p.major p.minor p.patch (zeroed p))
 
--- an operator, blanks or none, and a partial: `>= v1.2.3`
+-- an operator, optional blanks, and a partial: `>= v1.2.3`
 pub record IsOperatorText (text : List ℕ) (comparator : Option Comparator) : Type 0 where
   pub operator : Operator
   pub partial : Partial

@@ -1,17 +1,18 @@
--- The order of versions in SemVer's words: SemVer 2.0.0, sections 10 and 11. `Comparison` has it as it computes.
+-- The order of versions in SemVer's words: SemVer 2.0.0, sections 10 and 11. `Comparison` defines the same as a
+-- function.
 use Rattle.std.specs.Prelude.{◌≡◌, ◌<◌, ◌⊎◌, ◌↔◌, ⊤, ℕ, List, ◌∷◌, ◌++◌}
 use Rattle.std.specs.declared.cmp.Ordering.{Ordering}
 use Rattle.std.specs.declared.cmp.Ordering.TheVariants.{Less, Equal, Greater}
 use Rattle.semver_sets.specs.IdentifierValue.{IdentifierValue, numeric, alphanumeric}
 use Rattle.semver_sets.specs.Version.{VersionValue, HasSameTriple, IsPrerelease}
 
--- the second goes on where the first ends: `alpha` and `alpha.1`
+-- the second list begins with the first and is longer: `alpha` and `alpha.1`
 pub record IsProperPrefix {A : Type 0} (xs ys : List A) : Type 0 where
   pub next : A
   pub rest : List A
   pub goes_on : ys ≡ xs ++ next ∷ rest
 
--- after a common prefix the next of the first is below the next of the second: `alpha.1` and `alpha.beta`
+-- after a common prefix, the next element of the first list is below that of the second: `alpha.1` and `alpha.beta`
 pub record HasNextBelow {A : Type 0} (Below : A → A → Type 0) (xs ys : List A) : Type 0 where
   pub common : List A
   pub next : A
@@ -22,7 +23,7 @@ pub record HasNextBelow {A : Type 0} (Below : A → A → Type 0) (xs ys : List 
   pub second : ys ≡ common ++ other_next ∷ other_rest
   pub below : Below next other_next
 
--- after a common prefix the first ends and the second goes on, or its next is below
+-- the first list is a proper prefix of the second, or its first different element is below the other's
 abbrev pub IsListBelow : {A : Type 0} → (A → A → Type 0) → List A → List A → Type 0
 IsListBelow Below xs ys = IsProperPrefix xs ys ⊎ HasNextBelow Below xs ys
 
@@ -37,7 +38,7 @@ IsIdentifierBelow (numeric m) (alphanumeric t) = ⊤
 IsIdentifierBelow (alphanumeric s) (numeric n) = ⊥
 IsIdentifierBelow (alphanumeric s) (alphanumeric t) = IsTextBelow s t
 
--- v has lower precedence than w; the build is nowhere looked at
+-- v has lower precedence than w. The build plays no part
 pub data IsBelow (v w : VersionValue) : Type 0 where
   -- `1.9.9` is below `2.0.0`
   by_major : v.major < w.major → IsBelow v w
@@ -47,7 +48,7 @@ pub data IsBelow (v w : VersionValue) : Type 0 where
   by_patch : v.major ≡ w.major → v.minor ≡ w.minor → v.patch < w.patch → IsBelow v w
   -- `1.0.0-alpha` is below `1.0.0`
   before_release : HasSameTriple v w → IsPrerelease v → ¬ IsPrerelease w → IsBelow v w
-  -- `1.0.0-alpha` is below `1.0.0-alpha.1`, and that below `1.0.0-beta`
+  -- `1.0.0-alpha` is below `1.0.0-alpha.1`, which is below `1.0.0-beta`
   by_identifiers : HasSameTriple v w → IsPrerelease v → IsPrerelease w
       → IsListBelow IsIdentifierBelow v.pre_release w.pre_release → IsBelow v w
 
@@ -56,13 +57,13 @@ pub record IsSame (v w : VersionValue) : Type 0 where
   pub triple : HasSameTriple v w
   pub pre_release : v.pre_release ≡ w.pre_release
 
--- the ordering says which one of below, same and above it is
+-- the result of a comparison: `Less` exactly if v is below w, `Equal` if they are the same, `Greater` if w is below v
 pub record OrderMeans (v w : VersionValue) (ordering : Ordering) : Type 0 where
   pub below : (ordering ≡ Less) ↔ IsBelow v w
   pub same : (ordering ≡ Equal) ↔ IsSame v w
   pub above : (ordering ≡ Greater) ↔ IsBelow w v
 
--- the same of two identifiers
+-- the result of a comparison of two identifiers
 pub record IdentifierOrderMeans (a b : IdentifierValue) (ordering : Ordering) : Type 0 where
   pub below : (ordering ≡ Less) ↔ IsIdentifierBelow a b
   pub same : (ordering ≡ Equal) ↔ (a ≡ b)

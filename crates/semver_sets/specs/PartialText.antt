@@ -1,4 +1,4 @@
--- Partials, as they are written: npm's "X-Ranges" and "Range Grammar".
+-- How partials are written: npm's "X-Ranges" and "Range Grammar".
 use Rattle.std.specs.Prelude.{◌≡◌, ℕ, true, List, [], ◌∷◌, ◌++◌, Option, Some, None, unwrap_or}
 use Rattle.semver_sets.specs.Characters.{AreAll, dot, is_blank, is_partial_mark, is_x}
 use Rattle.semver_sets.specs.IdentifierValue.{IdentifierValue}
@@ -6,7 +6,7 @@ use Rattle.semver_sets.specs.NumberText.{IsNumberText}
 use Rattle.semver_sets.specs.Version.{VersionValue}
 use Rattle.semver_sets.specs.VersionText.{HasThreeParts, IsMarked}
 
--- A version of which components may be absent. An x counts as absent, as one that isn't written does: `1`, `1.x`,
+-- A version of which components can be absent. A component is absent if it is an x or is not written: `1`, `1.x`,
 -- `1.2.x-beta`
 pub record Partial : Type 0 where
   pub major : Option ℕ
@@ -19,7 +19,7 @@ pub record Partial : Type 0 where
 abbrev pub plain_partial : Option ℕ → Option ℕ → Option ℕ → Partial
 plain_partial major minor patch = record { major = major; minor = minor; patch = patch; pre_release = []; build = [] }
 
--- a component: a number, or an x, which is an absent one
+-- a component: a number, or an x for an absent one
 abbrev pub IsComponentText : List ℕ → Option ℕ → Type 0
 IsComponentText text (Some number) = IsNumberText text number
 IsComponentText text None = (b : ℕ) × (text ≡ b ∷ []) × (is_x b ≡ true)
@@ -32,7 +32,7 @@ pub record HasTwoParts (text : List ℕ) (major minor : Option ℕ) : Type 0 whe
   pub major_text : IsComponentText first major
   pub minor_text : IsComponentText second minor
 
--- one, two or three components with dots between them; extras can follow the third alone
+-- one, two or three components with dots between them. Only after the third, extras can follow
 pub data IsUnmarkedPartial (p : Partial) (text : List ℕ) : Type 0 where
   -- `1`, `x`
   one : (major : Option ℕ) → p ≡ plain_partial major None None → IsComponentText text major → IsUnmarkedPartial p text
@@ -42,11 +42,12 @@ pub data IsUnmarkedPartial (p : Partial) (text : List ℕ) : Type 0 where
   -- `1.2.3-beta+5`, `1.2.x3`
   three : HasThreeParts IsComponentText text p.major p.minor p.patch p.pre_release p.build → IsUnmarkedPartial p text
 
--- a `v` or none, blanks or none, and components: `v 1.2.x`
+-- an optional `v`, optional blanks, and components: `v 1.2.x`
 abbrev pub IsPartialText : List ℕ → Partial → Type 0
 IsPartialText text p = IsMarked is_partial_mark (IsUnmarkedPartial p) text
 
--- the version with the numbers of a partial, 0 for each absent one, and its extras: `1.2.0-beta` of `1.2.x-beta`
+-- the version with the numbers of a partial, 0 for each absent one, and the partial's extras: `1.2.0-beta` for
+-- `1.2.x-beta`
 abbrev pub zeroed : Partial → VersionValue
 zeroed p = record {
   major = unwrap_or p.major 0;
@@ -56,7 +57,7 @@ zeroed p = record {
   build = p.build;
 }
 
--- an operator of a word, blanks or none, and a partial: `>= v1.2`
+-- the operator of a word, optional blanks, and a partial: `>= v1.2`
 pub record IsLed (lead text : List ℕ) (p : Partial) : Type 0 where
   pub blanks : List ℕ
   pub operand : List ℕ

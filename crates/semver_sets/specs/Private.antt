@@ -1,13 +1,13 @@
--- What functions are said to compute, those of crates above included.
+-- What private functions compute, in this crate and in those above it.
 
--- characters, numbers, identifiers and triples, as they are read
+-- how characters, numbers, identifiers and triples are read
 pub mod Reading
 pub mod ReadingViews
--- words, alternatives and sets, as they are read
+-- how words, alternatives and sets are read
 pub mod WordReading
 pub mod WordViews
 pub mod PieceReading
 pub mod RangeViews
--- ends, and what finds a version among sets
+-- ends, and how a version is found among sets
 pub mod EndViews
 pub mod SearchViews

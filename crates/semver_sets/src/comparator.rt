@@ -1,4 +1,8 @@
-//! Comparators: what one word of a range text asks of a version, and what several ask together.
+//! Comparators: the span of versions that one word of a range text asks for, and the merging of several words of an
+//! alternative.
+//!
+//! `#[inline(always)]`: the comparators of most words have an end that no other word limits, which is one test. The
+//! rare rest is in functions with `#[inline(never)]`, so that it takes no stack in the loop over the words.
 ghost use Rattle.std.specs.Prelude.{◌≡◌, ◌↔◌, ◌++◌, ◌∷◌, [], IsTrue, List, None};
 ghost use Rattle.semver_cuts.specs.Private.Merging.{IsEarlierLeast, IsLaterGreatest};
 ghost use Rattle.semver_sets.specs.Comparator.{Comparator};
@@ -9,7 +13,8 @@ use crate::end::End;
 use semver_cuts::{Cut, Span};
 use std::marker::Model;
 
-// Where a comparator begins and ends: `>=1.2.3` from before 1.2.3 to the end. It may hold no cut, as `2 - 1`.
+// Where a comparator begins and ends: `>=1.2.3` goes from just before 1.2.3 to the end. It may contain no cut, as ` - `
+// with crossed ends: `2 - 1`.
 #[derive(Drop)]
 pub(crate) struct Comparator {
     pub(crate) lower: Cut<End>,
@@ -25,7 +30,7 @@ impl Model for Comparator {
     ghost view = { λ c. record { lower = c.lower; upper = c.upper } };
 }
 
-// Comparators merged into one as they come, and whether one came.
+// The comparators merged so far, and whether there was one.
 #[derive(Drop)]
 pub(crate) struct Merged {
     found: bool,
@@ -48,7 +53,7 @@ impl Model for Merged {
 }
 
 impl Merged {
-    // No comparator yet, and all cuts.
+    // No comparator so far: the span of all cuts.
     #[inline(always)]
     pub(crate) fn new() -> Merged
         ensures { result ≡ None }
@@ -60,7 +65,7 @@ impl Merged {
         }
     }
 
-    // One comparator more. Of equal lower ends the later stays, and of equal upper ends the earlier.
+    // Merges one more comparator. Of equal lower ends the later is kept, and of equal upper ends the earlier.
     #[inline(always)]
     pub(crate) fn merge(&mut self, later: Comparator)
         ensures { (comparators : List Comparator) → IsMerged comparators self.old
@@ -71,7 +76,7 @@ impl Merged {
         self.found = true;
     }
 
-    // The set of the comparators, if there are any and a cut is common to all of them.
+    // The set that the comparators give, or `None` if there was no comparator or they share no cut.
     #[inline(always)]
     pub(crate) fn into_set(self) -> Option<Span<End>>
         ensures { IsSpanOf self result }
@@ -83,7 +88,7 @@ impl Merged {
         }
     }
 
-    // Whether there are any, and a cut is common to all of them.
+    // Returns `true` if there was a comparator and a cut lies in all of them.
     #[inline(always)]
     fn has_cut(&self) -> bool
         ensures { IsTrue result ↔ HasSpan self.now }
@@ -92,7 +97,7 @@ impl Merged {
     }
 }
 
-// The greater of two lower ends, and of equal ones the later. Most often one of them is the start.
+// Keeps the greater of two lower ends, and the later of equal ones. Usually one of them is `Start`.
 #[inline(always)]
 fn keep_greatest(kept: &mut Cut<End>, later: Cut<End>)
     ensures { IsLaterGreatest version_cmp kept.old later kept.new }
@@ -107,7 +112,7 @@ fn keep_greatest(kept: &mut Cut<End>, later: Cut<End>)
     }
 }
 
-// The same of any two.
+// The same for any two lower ends.
 #[inline(never)]
 fn keep_greater(kept: &mut Cut<End>, later: Cut<End>)
     ensures { IsLaterGreatest version_cmp kept.old later kept.new }
@@ -118,7 +123,7 @@ fn keep_greater(kept: &mut Cut<End>, later: Cut<End>)
     *kept = later;
 }
 
-// The lesser of two upper ends, and of equal ones the earlier. Most often one of them is the end.
+// Keeps the lesser of two upper ends, and the earlier of equal ones. Usually one of them is `End`.
 #[inline(always)]
 fn keep_least(kept: &mut Cut<End>, later: Cut<End>)
     ensures { IsEarlierLeast version_cmp kept.old later kept.new }
@@ -133,7 +138,7 @@ fn keep_least(kept: &mut Cut<End>, later: Cut<End>)
     }
 }
 
-// The same of any two.
+// The same for any two upper ends.
 #[inline(never)]
 fn keep_lesser(kept: &mut Cut<End>, later: Cut<End>)
     ensures { IsEarlierLeast version_cmp kept.old later kept.new }

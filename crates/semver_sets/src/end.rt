@@ -1,5 +1,5 @@
-//! Ends: the versions at the ends of a range's sets. One without extras, or with the prerelease `0` alone, takes no
-//! memory.
+//! The ends of a range's sets. An end is a version, stored so that the usual ones (no prerelease and build, or the
+//! prerelease `0` alone) need no allocation.
 ghost use Rattle.std.specs.Prelude.{◌≡◌, ◌↔◌, IfOk, IsTrue};
 ghost use Rattle.semver_sets.specs.Identifier.{values_of};
 ghost use Rattle.semver_sets.specs.Private.EndViews.{lent_seen};
@@ -18,8 +18,8 @@ use std::marker::Model;
 
 /// A version at an end of a set.
 ///
-/// A contract sees the version that it stands for. One without extras, or with the prerelease `0` alone, takes no
-/// memory.
+/// A contract sees the version itself. A version without prerelease and build, or with the prerelease `0` alone, is
+/// stored without an allocation.
 #[derive(Debug)]
 pub struct End {
     pub major: u64,
@@ -28,7 +28,8 @@ pub struct End {
     pub(crate) extras: Extras,
 }
 
-// Written out, as that of `Range` is: one call, and no branch for each form of the extras.
+// `Drop` is written by hand so that dropping an `End` is one call in a caller's proof; the derived one adds a branch
+// for each form of its extras. `inline(always)`: the code is then as fast as the derived one.
 impl Drop for End {
     #[inline(always)]
     fn drop(self) {
@@ -41,18 +42,18 @@ impl Drop for End {
     }
 }
 
-// What stands after the triple.
+// What follows the triple.
 #[derive(Debug, Drop)]
 pub(crate) enum Extras {
     // no prerelease and no build: `1.2.3`
     Nothing,
-    // the prerelease 0, and no build: `2.0.0-0`, the least version of its triple
+    // the prerelease `0` alone and no build: `2.0.0-0`, the least version of its triple
     Zero,
     // any two lists: `1.2.3-rc.4+5`
     Lists(Box<Lists>),
 }
 
-// A prerelease and a build, either of which may be empty.
+// A prerelease and a build. Either can be empty.
 #[derive(Debug, Drop)]
 pub(crate) struct Lists {
     pub(crate) pre_release: Vec<Identifier>,
@@ -75,7 +76,7 @@ impl Model for End {
 }
 
 impl End {
-    /// The release of a triple: `1.2.3`.
+    /// Returns the release with this triple: `1.2.3`. Does not allocate.
     #[inline(always)]
     pub fn release(major: u64, minor: u64, patch: u64) -> End
         ensures { result ≡ Versions.release major minor patch }
@@ -88,7 +89,7 @@ impl End {
         }
     }
 
-    /// The least version of a triple: `1.2.3-0`.
+    /// Returns the least version with this triple: `1.2.3-0`. Does not allocate.
     #[inline(always)]
     pub fn least(major: u64, minor: u64, patch: u64) -> End
         ensures { result ≡ Versions.least_of major minor patch }
@@ -101,7 +102,7 @@ impl End {
         }
     }
 
-    // With these lists, which take no box where both are empty.
+    // The version with these lists. Does not allocate a box if both are empty.
     pub(crate) fn with_extras(
         alloc: Global,
         triple: (u64, u64, u64),
@@ -129,7 +130,7 @@ impl End {
         })
     }
 
-    /// Whether it has a prerelease.
+    /// Returns `true` if it has a prerelease.
     #[inline]
     pub fn is_prerelease(&self) -> bool
         ensures { IsTrue result ↔ IsPrerelease self.now }
@@ -141,7 +142,7 @@ impl End {
         }
     }
 
-    /// Whether it has neither prerelease nor build.
+    /// Returns `true` if it has neither prerelease nor build.
     #[inline(always)]
     pub fn has_no_extras(&self) -> bool
         ensures { IsTrue result → self.now ≡ Versions.release self.now.major self.now.minor self.now.patch }
@@ -152,7 +153,7 @@ impl End {
         }
     }
 
-    /// Whether it has no lists: a prerelease is then the least version of its triple.
+    /// Returns `true` if it stores no lists: it is a release without build, or the least version of its triple.
     #[inline(always)]
     pub fn has_no_lists(&self) -> bool
         ensures { IsTrue result → IsPrerelease self.now
@@ -164,7 +165,7 @@ impl End {
         }
     }
 
-    /// The identifiers of the prerelease.
+    /// Returns the identifiers of the prerelease, without allocating.
     #[inline]
     pub fn pre_release(&self) -> Lent<'_>
         ensures { lent_seen result ≡ self.now.pre_release }
@@ -176,7 +177,7 @@ impl End {
         }
     }
 
-    /// The identifiers of the build.
+    /// Returns the identifiers of the build.
     #[inline]
     pub fn build(&self) -> &[Identifier]
         ensures { values_of result.now ≡ self.now.build }

@@ -3,9 +3,9 @@ mod display;
 mod hash;
 pub mod order;
 
-/// One part of a prerelease or of a build, as `alpha` and `1` of `1.2.3-alpha.1`.
+/// One part of a prerelease or of a build, such as `alpha` and `1` in `1.2.3-alpha.1`.
 ///
-/// `AlphaNumeric` may hold any text, even the empty one or `1`: it is compared and printed as it stands.
+/// `AlphaNumeric` can hold any text, even an empty one or `1`. It is compared and printed as it is.
 ///
 /// # Source
 ///

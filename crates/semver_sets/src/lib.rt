@@ -1,12 +1,12 @@
-//! The sets of versions that npm's range texts write: how they are read, and which versions they admit.
+//! The sets of versions that npm's range texts describe: how a text is read as sets, and which versions a set admits.
 //!
-//! A range text is alternatives of words, each word writes a comparator, and the comparators of an alternative merge
-//! into a set, which is a span of cuts with a version at each of its ends. [`read`] reads them, [`set`] says which
-//! versions a set admits, and [`set_list`] finds a version among several.
+//! A range text consists of alternatives, and an alternative of words. Each word gives a comparator. The comparators of
+//! an alternative are merged into one set: a span of cuts with a version at each of its ends. The module [`read`] reads
+//! texts, [`set`] decides which versions a set admits, and [`set_list`] finds a version among several sets.
 //!
-//! `node_semver` stands on this crate, and has the calls that users need: versions and ranges, their algebra, their
-//! prints and errors. What its contracts say of texts, words, sets and the order of versions is defined here, in
-//! `specs/`.
+//! Users call the crate `node_semver`, which is built on this one and has versions, ranges, their algebra, prints and
+//! errors. What its contracts say about texts, words, sets and the order of versions is defined in `specs/` of this
+//! crate.
 #![tactic(auto)]
 
 mod comparator;
@@ -23,16 +23,16 @@ mod word;
 pub use comparisons::Counts;
 pub use identifier::Identifier;
 
-/// The greatest major, minor or patch of a text: 2 to the 53rd power, less one.
+/// The greatest major, minor or patch that is read from a text: 2 to the power 53, minus 1.
 ///
-/// In the Rust crate `node-semver` 2.2.0 it lacks its last digit.
+/// In the Rust crate `node-semver` 2.2.0 this constant lacks its last digit.
 ///
 /// # Source
 ///
 /// JavaScript's `Number.MAX_SAFE_INTEGER`.
 pub const MAX_SAFE_INTEGER: u64 = 9007199254740991;
 
-/// The greatest length of a version text, in bytes. A range text has no limit.
+/// The greatest length of a version text, in bytes. A range text can have any length.
 ///
 /// # Source
 ///

@@ -1,4 +1,4 @@
-//! Texts that are written into one array, from its end.
+//! Texts that are written into one array, from its end: so a printed version or set is one write to the formatter.
 ghost use Rattle.std.specs.Prelude.{◌≡◌, ◌+◌, ◌≤◌, ◌∷◌, ◌++◌, decimal, drop};
 ghost use Rattle.semver_sets.specs.Characters.{dot};
 ghost use Rattle.semver_sets.specs.declared.line.TheConstants.{NUMBER_ROOM, ROOM, TRIPLE_ROOM};
@@ -8,30 +8,30 @@ pub mod set;
 use itoa::write_digits;
 use std::str;
 
-// What a number takes at most.
+// The longest number has this many digits.
 pub(crate) const NUMBER_ROOM: usize = 20;
 
-// Three numbers and two dots.
+// The length of the longest triple: three numbers and two dots.
 pub(crate) const TRIPLE_ROOM: usize = 62;
 
-// A triple, a hyphen and a number.
+// The length of the longest version without lists: a triple, a hyphen and a number.
 pub(crate) const VERSION_ROOM: usize = 83;
 
-/// Room for two versions, their marks and a space.
+/// Room for two versions, their operators and a space.
 pub const ROOM: usize = 176;
 
-/// A triple as a text, written into the array: `1.2.3`.
+/// Writes `1.2.3` into the array and returns it.
 #[inline]
 pub fn triple_text(line: &mut [u8; ROOM], major: u64, minor: u64, patch: u64) -> &str
     ensures { result.now ≡ decimal major ++ (dot ∷ (decimal minor ++ (dot ∷ decimal patch))) }
 {
     let start = put_triple_last(line, (major, minor, patch));
     let text = &line[start..];
-    // Digits and dots are ASCII.
+    // Safe: digits and dots are ASCII.
     unsafe { str::from_utf8_unchecked(text) }
 }
 
-// `1.2.3`, at the end of the line
+// Writes `1.2.3` to the end of the line, and returns where it begins.
 #[inline]
 fn put_triple_last(line: &mut [u8; ROOM], triple: (u64, u64, u64)) -> usize
     ensures place { result ≤ ROOM }
@@ -40,7 +40,7 @@ fn put_triple_last(line: &mut [u8; ROOM], triple: (u64, u64, u64)) -> usize
     put_triple(line, ROOM, triple)
 }
 
-// `1.2.3`
+// Writes `1.2.3` so that it ends at `end`, and returns where it begins.
 #[inline]
 pub(crate) fn put_triple(line: &mut [u8; ROOM], end: usize, triple: (u64, u64, u64)) -> usize
     requires { (TRIPLE_ROOM ≤ end) × (end ≤ ROOM) }
@@ -56,7 +56,7 @@ pub(crate) fn put_triple(line: &mut [u8; ROOM], end: usize, triple: (u64, u64, u
     put_number(line, at, major)
 }
 
-// A number's digits before the end.
+// Writes the digits of a number so that they end at `end`. `inline(always)`: part of each print's only loop.
 #[inline(always)]
 pub(crate) fn put_number(line: &mut [u8; ROOM], end: usize, n: u64) -> usize
     requires { (NUMBER_ROOM ≤ end) × (end ≤ ROOM) }
@@ -66,7 +66,7 @@ pub(crate) fn put_number(line: &mut [u8; ROOM], end: usize, n: u64) -> usize
     write_digits(n, line, end)
 }
 
-// One byte before the end.
+// Writes one byte before `end`. `inline(always)`: one store.
 #[inline(always)]
 pub(crate) fn put_byte(line: &mut [u8; ROOM], end: usize, byte: u8) -> usize
     requires { (1 ≤ end) × (end ≤ ROOM) }

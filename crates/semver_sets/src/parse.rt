@@ -1,8 +1,7 @@
-//! The readers that versions and ranges share: each takes the bytes that are left, and gives a value and the rest of
-//! them.
+//! The readers that versions and ranges share. Each reader gets the bytes that are left of a text.
 //!
-//! `read_..` gives a value and the rest, `skip_..` the rest alone. What each computes stands under its own name in
-//! `specs/Private/Reading`, on lists of bytes.
+//! A function `read_..` returns a value and the bytes after it, and `skip_..` returns only the bytes after it. What
+//! each of them computes is defined under the same name in `specs/Private/Reading`, on lists of bytes.
 
 mod extras;
 mod fault;

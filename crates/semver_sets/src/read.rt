@@ -1,4 +1,4 @@
-//! How a range text is read: alternative after alternative, each by its words.
+//! Reading a range text: one alternative after another, each word by word.
 ghost use Rattle.std.specs.Prelude.{◌≡◌, ◌∷◌, [], IfErr, IfOk};
 ghost use Rattle.semver_sets.specs.Meaning.{IsRefused};
 ghost use Rattle.semver_sets.specs.Merging.{AreSetsOfText};
@@ -16,26 +16,26 @@ use semver_cuts::Span;
 pub use sets::read_sets;
 use std::alloc::Global;
 
-/// Why a text is not read as one set.
+/// Why a text was not read as one set.
 #[derive(Clone, Copy)]
 pub enum Unread {
-    /// It has bars.
+    /// It contains `||`, so it has several alternatives.
     WithBars,
-    /// No word gives a comparator, or no cut is common to those that they give.
+    /// No word gives a comparator, or no cut lies in all comparators.
     Refused,
-    /// Nothing is wrong: memory was refused.
+    /// Nothing is wrong with the text: an allocation failed.
     OutOfMemory,
 }
 
-/// The set of a text without bars.
+/// Returns the set of a text without `||`.
 ///
 /// # Errors
 ///
-/// Why it is not read as one set.
+/// Returns why the text was not read as one set.
 ///
 /// # Memory
 ///
-/// Takes the identifiers of its ends.
+/// Allocates the identifiers of the set's ends.
 #[inline(always)]
 pub fn read_only_set(alloc: Global, text: &[u8]) -> Result<Span<End>, Unread>
     ensures set { IfOk result (λ set. AreSetsOfText text.now (set ∷ [])) }
@@ -45,7 +45,7 @@ pub fn read_only_set(alloc: Global, text: &[u8]) -> Result<Span<End>, Unread>
     if left.is_some() {
         return Err(Unread::WithBars);
     }
-    // Where no word can begin a comparator, nothing is set up to read one.
+    // If no word can begin a comparator, nothing is prepared to read one.
     let words = skip_thrown_away(piece);
     if words.is_empty() {
         return Err(Unread::Refused);

@@ -1,4 +1,6 @@
-//! The words of a range text, and the comparator that each of them writes.
+//! The words of a range text, and the comparator that each of them gives.
+//!
+//! `#[inline(always)]`: see `parse/partial.rt`.
 ghost use Rattle.std.specs.Prelude.{◌≡◌, List, None, Some, false};
 ghost use Rattle.semver_sets.specs.Comparator.{Comparator};
 ghost use Rattle.semver_sets.specs.Division.{IsAlternative};
@@ -21,7 +23,7 @@ use hyphen::{hyphen_ends, read_right};
 use lead::{Lead, lead_ends, read_lead};
 use plain::plain_ends;
 
-// `>=1.2.3` of `>=1.2.3 <2`, or nothing of `foo`, and the rest
+// `>=1.2.3` of `>=1.2.3 <2`, or nothing for `foo`, and the rest
 #[inline(always)]
 #[tactic(auto, unfolding(crate::specs::Private::WordReading::read_word))]
 pub(crate) fn read_word(text: &[u8]) -> (WordEnds, &[u8])
@@ -34,7 +36,7 @@ pub(crate) fn read_word(text: &[u8]) -> (WordEnds, &[u8])
     }
 }
 
-// Whether the first byte can begin a comparator.
+// Returns `false` only if no comparator begins with this byte.
 #[inline(always)]
 pub(crate) fn begins_comparator(text: &[u8]) -> bool
     requires { BeginsWithNo is_blank text.now }
@@ -49,8 +51,8 @@ pub(crate) fn begins_comparator(text: &[u8]) -> bool
     }
 }
 
-// The text without its first words, as long as their first bytes begin no comparator. What is merged later is not yet
-// there to be kept.
+// The text without its leading words whose first byte begins no comparator. These words are ignored, so nothing has to
+// be kept for merging yet.
 #[inline(always)]
 pub(crate) fn skip_thrown_away(text: &[u8]) -> &[u8]
     ensures { (comparators : List Comparator) → IsAlternative result.now comparators
@@ -66,7 +68,8 @@ pub(crate) fn skip_thrown_away(text: &[u8]) -> &[u8]
     rest
 }
 
-// The same as `read_comparator`, whose place is then cleared where it is called, and nowhere else.
+// Calls `read_comparator`. With this function between, the toolchain clears the place of its result only if it is
+// called.
 #[inline(always)]
 fn some_comparator(text: &[u8]) -> Option<(WordEnds, &[u8])>
     requires { BeginsWithNo is_blank text.now }
@@ -75,7 +78,7 @@ fn some_comparator(text: &[u8]) -> Option<(WordEnds, &[u8])>
     read_comparator(text)
 }
 
-// A word that is not thrown away: its ends, or nothing where it writes no comparator.
+// A word that is not ignored: its ends, or nothing if it gives no comparator (`=*` is such a word).
 #[inline(always)]
 fn read_comparator(text: &[u8]) -> Option<(WordEnds, &[u8])>
     requires { BeginsWithNo is_blank text.now }
@@ -92,7 +95,7 @@ fn read_comparator(text: &[u8]) -> Option<(WordEnds, &[u8])>
     }
 }
 
-// A plain partial before a blank: alone, or the left side of a hyphen.
+// A plain partial before a blank: alone, or as the left side of a hyphen range.
 #[inline(always)]
 fn plain_or_hyphen<'a>(partial: Partial<'a>, text: &'a [u8]) -> (WordEnds<'a>, &'a [u8])
     requires { IsSound partial }

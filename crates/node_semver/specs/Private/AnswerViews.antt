@@ -1,4 +1,4 @@
--- What the private functions that make a range do.
+-- What the private functions compute that make a range.
 use Rattle.std.specs.Prelude.{◌≢◌, ◌⊎◌, ℕ, List, [], ◌∷◌, Option, Some, None, Result, Ok, Err}
 use Rattle.semver_cuts.specs.Ends.{Ends}
 use Rattle.semver_sets.specs.Meaning.{IsRefused}
@@ -12,13 +12,13 @@ use Rattle.node_semver.specs.declared.range.read.full.FullLead.TheVariants.{Care
 use Rattle.node_semver.specs.declared.range.algebra.gathered.Found.{Found}
 use Rattle.node_semver.specs.declared.range.algebra.gathered.Found.TheVariants.{Many, One}
 
--- what stands before a full version
+-- what is written before a full version
 abbrev pub full_lead_seen : FullLead → Lead
 full_lead_seen Caret = caret_lead
 full_lead_seen Tilde = tilde_lead
 full_lead_seen Nothing = no_lead
 
--- the list of the sets that came, where any came
+-- the sets so far, as a list
 abbrev pub found_seen : Found → List (Ends VersionValue)
 found_seen (One set) = set ∷ []
 found_seen (Many sets) = sets.items
@@ -27,7 +27,8 @@ abbrev pub some_found_seen : Option Found → List (Ends VersionValue)
 some_found_seen None = []
 some_found_seen (Some sets) = found_seen sets
 
--- what is answered for a text: its sets, at least one, or its refusal, unless memory ran out
+-- the result of reading a text: its sets, at least one; or the error for the text; or the error that an allocation
+-- failed
 abbrev pub IsReadRange : List ℕ → Result (List (Ends VersionValue)) SemverError → Type 0
 IsReadRange text (Ok sets) = AreSetsOfText text sets × (sets ≢ [])
 IsReadRange text (Err e) = IsOutOfMemory e ⊎ (IsRefusalAt text no_valid_ranges 0 e × IsRefused text)

@@ -1,4 +1,4 @@
--- The faults that private readers answer, as a contract sees them.
+-- What a contract sees of the faults that private readers return.
 use Rattle.std.specs.Prelude.{◌-◌, ◌⊎◌, List, ℕ, codes, drop, length}
 use Rattle.semver_sets.specs.Characters.{is_digit}
 use Rattle.semver_sets.specs.NumberText.{number_of}
@@ -10,7 +10,7 @@ use Rattle.node_semver.specs.Error.{IsOutOfMemory, IsRefusalAt, Kind, context, m
 use Rattle.node_semver.specs.Fault.{IsFault, too_large}
 use Rattle.node_semver.specs.declared.error.SemverError.{SemverError}
 
--- the kind that a fault of this text is told as
+-- the kind of error for a fault of this text
 abbrev pub kind_in : List ℕ → Fault → Kind
 kind_in text (TooLong left) = max_length
 kind_in text (Missing left) = context (codes "version")
@@ -18,11 +18,11 @@ kind_in text (TooLarge left) = too_large (number_of (prefix_of is_digit (drop (l
 kind_in text (LeftOver left) = other
 kind_in text OutOfMemory = out_of_memory
 
--- memory ran out, or the fault is that of the text
+-- an allocation failed, or the fault is that of the text
 abbrev pub IsMemoryOr : List ℕ → Fault → Type 0
 IsMemoryOr text f = IsWantOfMemory f ⊎ IsFault text (kind_in text f) (length text - left_of f)
 
--- the error that tells this fault of the text: want of memory for want of memory
+-- the error for this fault of the text; if an allocation failed, the error that reports that
 pub record IsErrorOf (text : List ℕ) (f : Fault) (e : SemverError) : Type 0 where
   pub memory : IsWantOfMemory f → IsOutOfMemory e
   pub fault : IsOutOfMemory e ⊎ IsRefusalAt text (kind_in text f) (length text - left_of f) e

@@ -1,4 +1,4 @@
-//! How errors print.
+//! How errors are printed.
 ghost use Rattle.std.specs.Prelude.{◌≡◌, ◌++◌, IfSome};
 ghost use Rattle.node_semver.specs.ErrorParts.{error_kind_of};
 ghost use Rattle.node_semver.specs.ErrorText.{kind_text, rest_text};
@@ -6,14 +6,14 @@ ghost use Rattle.node_semver.specs.ErrorText.{kind_text, rest_text};
 use crate::{SemverError, SemverErrorKind};
 use std::fmt;
 
-/// One sentence for each kind, with its number or its word; that of `ParseIntError` ends in what std says of the
-/// digits.
+/// Prints one sentence for each kind, with its number or word. The sentence of `ParseIntError` ends with std's message
+/// about the digits.
 ///
-/// Options such as a width, a fill or `#` are not looked at: `{:>9}` and `{:#}` give the same text as `{}`.
+/// Width, fill and `#` are ignored: `{:>9}` and `{:#}` print the same as `{}`.
 ///
 /// # Examples
 ///
-/// `Context("version")` is shown as `Failed to parse version.`, and `MaxLengthError` as
+/// `Context("version")` prints `Failed to parse version.`, and `MaxLengthError` prints
 /// `Semver string can't be longer than 256 characters.`
 impl fmt::Display for SemverErrorKind {
     ghost output = { kind_text };
@@ -29,7 +29,7 @@ impl fmt::Display for SemverErrorKind {
     }
 }
 
-// The prefix of a kind's text that is the same whatever the kind holds; the whole text of a kind that holds nothing.
+// The beginning of a kind's text, up to its number or word. For a kind without one it is the whole text.
 fn fixed_prefix(kind: &SemverErrorKind) -> &'static str
     ensures { IfSome (kind_text kind.now) (λ text. text ≡ result.now ++ rest_text kind.now) }
 {
@@ -48,7 +48,7 @@ fn fixed_prefix(kind: &SemverErrorKind) -> &'static str
     }
 }
 
-/// What its kind shows, whatever the options: an error's text and its place are not shown.
+/// Prints the kind of the error. The text and the place are not printed, and format options are ignored.
 impl fmt::Display for SemverError {
     ghost output = { λ e. kind_text (error_kind_of e) };
 

@@ -1,36 +1,38 @@
-//! Why a text was refused.
+//! Why parsing a text failed.
 
 use std::num::ParseIntError;
 use thiserror::Error;
 
-/// Why a text was refused.
+/// Why parsing a text failed.
 ///
-/// Two kinds are equal exactly where they are one variant with equal fields; words are compared as texts.
+/// Two kinds are equal exactly if they are the same variant with equal fields. Words are compared as texts.
 ///
 /// # Memory
 ///
-/// `clone` takes none, and always answers `Ok`. `==` takes none either.
+/// `clone` does not allocate and always returns `Ok`. `==` does not allocate.
 ///
 /// # Examples
 ///
 /// - `MaxIntError(7)` equals `MaxIntError(7)`, and not `MaxIntError(8)` or `Other`.
-/// - `Context("version")` is shown as `Failed to parse version.`, and is not equal to `Context("range")`.
+/// - `Context("version")` prints `Failed to parse version.`, and does not equal `Context("range")`.
 #[derive(Debug, Clone, Drop, PartialEq, Eq, Error)]
 pub enum SemverErrorKind {
-    /// A version text of more than 256 bytes, at its last byte.
+    /// A version text has more than 256 bytes. The offset is that of its last byte.
     MaxLengthError,
-    /// Kept from the Rust crate of this name: no call answers it.
+    /// Never returned. The Rust crate of this name has this kind.
     IncompleteInput,
-    /// A major, minor or patch of a version text above the greatest `u64`, at its first digit.
+    /// A major, minor or patch of a version text is greater than the greatest `u64`. The offset is that of its first
+    /// digit.
     ParseIntError(ParseIntError),
-    /// A major, minor or patch that fits `u64` and is above `MAX_SAFE_INTEGER`, at its first digit.
+    /// A major, minor or patch fits `u64`, and is greater than `MAX_SAFE_INTEGER`. The offset is that of its first
+    /// digit.
     MaxIntError(u64),
-    /// A number or a dot that is missing from a version text, at that place. The word is `version`.
+    /// A number or a dot is missing from a version text at the offset. The word is `version`.
     Context(&'static str),
-    /// A range text of which no alternative gives a set, at 0.
+    /// No alternative of a range text gives a set. The offset is 0.
     NoValidRanges,
-    /// A version text that goes on after the version, at the first byte that is left.
+    /// A version text goes on after the version. The offset is that of the first byte after it.
     Other,
-    /// Memory was refused.
+    /// An allocation failed.
     OutOfMemory,
 }

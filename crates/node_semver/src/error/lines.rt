@@ -1,4 +1,4 @@
-//! Newlines in a prefix of a text.
+//! Newlines before a fault.
 ghost use Rattle.std.specs.Prelude.{◌≡◌, count_by, length};
 ghost use Rattle.std.specs.List.{after_last};
 ghost use Rattle.node_semver.specs.ErrorLocation.{is_newline};
@@ -10,7 +10,7 @@ pub(super) fn newlines(prefix: &[u8]) -> usize
     prefix.iter().filter(|byte| **byte == b'\n').count()
 }
 
-// The number of bytes past the last newline, or of all where there is none.
+// The number of bytes after the last newline, or of all bytes if there is none.
 pub(super) fn last_line_length(prefix: &[u8]) -> usize
     ensures { result ≡ length (after_last is_newline prefix.now) }
 {

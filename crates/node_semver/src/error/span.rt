@@ -1,15 +1,15 @@
-//! Where a fault is.
+//! The place of a fault.
 ghost use Rattle.std.specs.Prelude.{◌≡◌};
 ghost use Rattle.node_semver.specs.ErrorParts.{span_offset, span_len};
 
-/// A place in a text, as a byte offset and a number of bytes.
+/// A place in a text: a byte offset and a length in bytes.
 ///
-/// Two places are equal exactly where both numbers are. Every place that this crate answers has no bytes: it stands
-/// before the byte at its offset, or at the text's end.
+/// Two places are equal exactly if both numbers are equal. The places in this crate's errors have length 0: each is
+/// before the byte at its offset, or at the end of the text.
 ///
 /// # Examples
 ///
-/// The refusals of the versions `1.2` and `3.4` have equal places, and those of `1.2` and `1.` have not.
+/// The errors of the versions `1.2` and `3.4` have equal places. Those of `1.2` and `1.` have different places.
 #[derive(Clone, Copy, Debug, PartialEq, Eq)]
 pub struct SourceSpan {
     pub(super) offset: usize,
@@ -17,22 +17,22 @@ pub struct SourceSpan {
 }
 
 impl SourceSpan {
-    /// The byte offset of the place, counted from 0.
+    /// Returns the byte offset of the place, counted from 0.
     ///
     /// # Examples
     ///
-    /// The refusal of the version `1.` has the offset 2.
+    /// 2 for the error of the version `1.`.
     pub fn offset(&self) -> usize
         ensures { result ≡ span_offset self.now }
     {
         self.offset
     }
 
-    /// The number of bytes of the place: 0 in every error.
+    /// Returns the length of the place in bytes, which is 0 in every error.
     ///
     /// # Examples
     ///
-    /// The refusal of the version `1.` has the length 0.
+    /// 0 for the error of the version `1.`.
     pub fn len(&self) -> usize
         ensures { result ≡ span_len self.now }
     {

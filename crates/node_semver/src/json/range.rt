@@ -13,23 +13,23 @@ use serde_json::Value;
 use std::alloc::{AllocError, Global};
 
 impl Range {
-    /// The JSON string of the range's print.
+    /// Returns the JSON string with the range's print.
     ///
-    /// [`Range::from_json`] reads it as an equal range, if no set of the range is unbounded at both sides, and no
-    /// major, minor or patch of an end is above `MAX_SAFE_INTEGER`.
+    /// [`Range::from_json`] reads it as an equal range, if no set of the range contains all cuts, and no major, minor
+    /// or patch of an end is greater than `MAX_SAFE_INTEGER`.
     ///
     /// # Errors
     ///
-    /// `AllocError` where memory for the text is refused.
+    /// Returns `AllocError` if the allocation of the text fails.
     ///
     /// # Memory
     ///
-    /// Takes the text.
+    /// Allocates the text.
     ///
     /// # Examples
     ///
-    /// That of `<1.2.3` is the string `<1.2.3`. That of [`Range::any`] is the string `*`, which is read as `>=0.0.0`, a
-    /// range that is not equal.
+    /// The string `<1.2.3` for `<1.2.3`. The string `*` for [`Range::any`], which is read as `>=0.0.0`, a range that is
+    /// not equal to it.
     ///
     /// # Source
     ///
@@ -40,20 +40,20 @@ impl Range {
         Ok(Value::String(format!(in alloc; "{self}")?))
     }
 
-    /// Reads a JSON string as a range: what [`Range::parse`] answers to its text.
+    /// Reads a range from a JSON string, as [`Range::parse`] does from its text.
     ///
     /// # Errors
     ///
-    /// - null, a truth value, a number, an array, an object: `NotAString`;
-    /// - the empty string: `Semver` with `NoValidRanges` at 0, as `Range::parse` refuses the empty text.
+    /// - null, a Boolean, a number, an array, an object: `NotAString`;
+    /// - a string: `Semver` with the error of `Range::parse`. For the empty string, it is `NoValidRanges` at 0.
     ///
     /// # Memory
     ///
-    /// As `Range::parse` of its text; none for `NotAString`.
+    /// As `Range::parse` does for the text. Does not allocate for `NotAString`.
     ///
     /// # Examples
     ///
-    /// The string `^1.2.3` is read, the number `1` is refused.
+    /// The string `^1.2.3` is read. The number `1` fails.
     ///
     /// # Source
     ///

@@ -12,22 +12,22 @@ use serde_json::Value;
 use std::alloc::{AllocError, Global};
 
 impl Version {
-    /// The JSON string of the version's print.
+    /// Returns the JSON string with the version's print.
     ///
     /// [`Version::from_json`] reads it as this version, if the version was read from a text and its print has at most
     /// `MAX_LENGTH` bytes.
     ///
     /// # Errors
     ///
-    /// `AllocError` where memory for the text is refused.
+    /// Returns `AllocError` if the allocation of the text fails.
     ///
     /// # Memory
     ///
-    /// Takes the text.
+    /// Allocates the text.
     ///
     /// # Examples
     ///
-    /// That of `1.2.34-abc.213+2` is the string `1.2.34-abc.213+2`, and that of `v1.2.3` the string `1.2.3`.
+    /// The string `1.2.34-abc.213+2` for `1.2.34-abc.213+2`, and the string `1.2.3` for `v1.2.3`.
     ///
     /// # Source
     ///
@@ -38,20 +38,20 @@ impl Version {
         Ok(Value::String(format!(in alloc; "{self}")?))
     }
 
-    /// Reads a JSON string as a version: what [`Version::parse`] answers to its text.
+    /// Reads a version from a JSON string, as [`Version::parse`] does from its text.
     ///
     /// # Errors
     ///
-    /// - null, a truth value, a number, an array, an object: `NotAString`;
-    /// - the string `1.2`: `Semver` with `Context("version")` at 3, as `Version::parse` refuses its text.
+    /// - null, a Boolean, a number, an array, an object: `NotAString`;
+    /// - a string: `Semver` with the error of `Version::parse`. For the string `1.2`, it is `Context("version")` at 3.
     ///
     /// # Memory
     ///
-    /// As `Version::parse` of its text; none for `NotAString`.
+    /// As `Version::parse` does for the text. Does not allocate for `NotAString`.
     ///
     /// # Examples
     ///
-    /// The string `v1.2.3` is read as `1.2.3`, the number `1` is refused.
+    /// The string `v1.2.3` is read as `1.2.3`. The number `1` fails.
     ///
     /// # Source
     ///

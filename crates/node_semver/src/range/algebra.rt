@@ -1,4 +1,4 @@
-//! What two ranges have in common, and questions over two ranges.
+//! The intersection of two ranges, and questions about two ranges.
 
 ghost use Rattle.std.specs.Prelude.{◌≡◌, ◌≢◌, ◌⊎◌, ◌↔◌, List, [], IfOk, IfSome, IsNone, IsSome, IsTrue};
 ghost use Rattle.semver_cuts.specs.declared.cut.Cut.{Cut};
@@ -23,32 +23,33 @@ use gathered::Gathered;
 use std::alloc::{AllocError, Global};
 
 impl Range {
-    /// The range of the cuts that both ranges have, or `None` where they have none in common.
+    /// Returns the intersection: the range of the cuts that both ranges contain, or `None` if they share no cut.
     ///
-    /// Each set of `self` in order is taken with each set of `other` in order, and gives the set from the greater lower
-    /// end to the lesser upper end, where a cut lies between. Of equal lower ends, which differ in the build alone, the
-    /// one of `other` stays, and of equal upper ends the one of `self`.
+    /// Each set of `self`, in order, is intersected with each set of `other`, in order. Two sets give the set from the
+    /// greater of their lower ends to the lesser of their upper ends, if a cut lies there. Equal ends can differ in the
+    /// build: of equal lower ends, that of `other` is kept, and of equal upper ends, that of `self`.
     ///
-    /// A release satisfies the answer exactly where it satisfies both ranges. A prerelease does exactly where a set of
-    /// one and a set of the other both have it inside and an end of one of the two is a prerelease of its triple: so
-    /// `1.0.0-b` satisfies what `>=1.0.0-a` and `<2.0.0` have in common, though it does not satisfy `<2.0.0`.
+    /// A release satisfies the intersection exactly if it satisfies both ranges. A prerelease satisfies it exactly if a
+    /// set of each range contains it, and an end of one of these two sets is a prerelease of its triple. So `1.0.0-b`
+    /// satisfies the intersection of `>=1.0.0-a` and `<2.0.0`, though it does not satisfy `<2.0.0`.
     ///
-    /// The cuts of `a.intersect(b)` and of `a.difference(b)` are disjoint, and together those of `a`.
+    /// `a.intersect(b)` and `a.difference(b)` share no cut, and together contain exactly the cuts of `a`.
     ///
     /// # Errors
     ///
-    /// `AllocError` where memory is refused.
+    /// Returns `AllocError` if an allocation fails.
     ///
     /// # Memory
     ///
-    /// Takes the identifiers of the answer's ends, and a list where the answer has several sets. Where there are many
-    /// sets, and those of `other` do not ascend apart from one another, both lists are put in order too.
+    /// Allocates the identifiers of the ends, and a list if the result has several sets. If there are many sets, and
+    /// those of `other` are not in ascending order or touch, also allocates both lists in sorted order for the time of
+    /// the call.
     ///
     /// # Examples
     ///
     /// - `<1 || 3 - 4` with `0.5 - 3.5.0` is `>=0.5.0 <1.0.0||>=3.0.0 <=3.5.0`.
     /// - `>1.2.3` with `<=1.2.3` is `None`.
-    /// - `>1.0.0-a` with `<1.0.0-a.0` is `>1.0.0-a <1.0.0-a.0`, which has a cut and no version.
+    /// - `>1.0.0-a` with `<1.0.0-a.0` is `>1.0.0-a <1.0.0-a.0`, which contains a cut and no version.
     pub fn intersect(&self, alloc: Global, other: &Range) -> Result<Option<Range>, AllocError>
         ensures sets { IfOk result (λ answer. sets_of_answer answer ≡ common_spans version_cmp self.now other.now) }
         ensures cuts { IfOk result (λ answer. (cut : Cut VersionValue)
@@ -77,20 +78,20 @@ impl Range {
         Ok(sets.into_range()?)
     }
 
-    /// Whether the two ranges have a cut in common.
+    /// Returns `true` if the two ranges share a cut.
     ///
-    /// `a.allows_any(b)` is `b.allows_any(a)`, and true exactly where `a.intersect(b)` is not `None`.
+    /// `a.allows_any(b)` equals `b.allows_any(a)`, and is true exactly if `a.intersect(b)` is not `None`.
     ///
-    /// A common cut need not be that of a version: no version satisfies `>1.0.0-a <1.0.0-a.0`, and it shares its cuts
+    /// No version needs to lie at the common cut: no version satisfies `>1.0.0-a <1.0.0-a.0`, and it shares its cuts
     /// with `*`.
     ///
     /// # Memory
     ///
-    /// Takes none.
+    /// Does not allocate.
     ///
     /// # Examples
     ///
-    /// `2 - 8` and `<=4.0.0` have some. `<1.2.3` and `>1.2.3` have none, nor have `1.2.3` and `<1.2.3`.
+    /// `true` for `2 - 8` and `<=4.0.0`. `false` for `<1.2.3` and `>1.2.3`, and for `1.2.3` and `<1.2.3`.
     pub fn allows_any(&self, other: &Range) -> bool
         ensures shared { IsTrue result ↔ ShareCut version_cmp self.now other.now }
         ensures symmetric { IsTrue result ↔ ShareCut version_cmp other.now self.now }
@@ -99,24 +100,25 @@ impl Range {
         self.sets.share_cut(&other.sets)
     }
 
-    /// Whether every cut of `other` is a cut of `self`.
+    /// Returns `true` if `self` contains every cut of `other`.
     ///
-    /// `a.allows_all(b)` is true exactly where `b.difference(a)` is `None`. A set of `other` may have some of its cuts
-    /// in one set of `self` and some in another, where these touch or overlap.
+    /// `a.allows_all(b)` is true exactly if `b.difference(a)` is `None`. The cuts of one set of `other` can lie in
+    /// several sets of `self`, if these touch or overlap.
     ///
-    /// It speaks of cuts. A prerelease that `other` admits may still not satisfy `self`: `>=1.0.0-0` has all cuts of
-    /// `^1.2.3-rc.4`, and does not admit `1.2.3-rc.4`, since no end of it is a prerelease of that triple. And `1 || 2`
-    /// lacks cuts of `1 - 2`, and admits all its versions. [`Range::least_beyond`] speaks of the versions admitted.
+    /// This compares cuts, not versions. A prerelease that `other` admits may not satisfy `self`: `>=1.0.0-0` contains
+    /// all cuts of `^1.2.3-rc.4`, and does not admit `1.2.3-rc.4`, because no end of it is a prerelease of that triple.
+    /// And `1 || 2` does not contain all cuts of `1 - 2`, but admits all its versions. [`Range::least_beyond`] compares
+    /// the versions that are admitted.
     ///
     /// # Memory
     ///
-    /// Takes none.
+    /// Does not allocate.
     ///
     /// # Examples
     ///
     /// - `2 - 8` allows `4 - 5`, and not `5 - 9`.
-    /// - `1 || >=2.0.0-0` allows `>=1.5.0`, whose cuts its two sets have together.
-    /// - `>=1.2.3` does not allow `0.1 || 1.4`, since it lacks the cuts of `0.1`.
+    /// - `1 || >=2.0.0-0` allows `>=1.5.0`, whose cuts lie in its two sets together.
+    /// - `>=1.2.3` does not allow `0.1 || 1.4`, because it does not contain the cuts of `0.1`.
     /// - `<1.2.3` does not allow `<=1.2.3`.
     pub fn allows_all(&self, other: &Range) -> bool
         ensures covered { IsTrue result ↔ CoversAll version_cmp self.now other.now }

@@ -1,4 +1,4 @@
-//! When ranges are equal, and what they feed a hasher.
+//! Equality and hashing of ranges.
 
 ghost use Rattle.std.specs.Prelude.{◌≡◌, ◌↔◌, IsTrue, List};
 ghost use Rattle.std.specs.Cmp.{partial_equiv_from_equiv};
@@ -13,19 +13,19 @@ ghost use Rattle.node_semver.specs.Lemmas.RangeEquality.{are_same_cuts-equiv};
 use crate::Range;
 use std::hash::{Hash, Hasher};
 
-/// Two ranges are equal where they have as many sets, and those at each place begin at equal cuts and end at equal
-/// cuts.
+/// Two ranges are equal if they have the same number of sets, and the sets at each place begin at equal cuts and end at
+/// equal cuts.
 ///
-/// Builds are not looked at, so equal ranges may print differently. Equal ranges admit the same versions, and ranges
-/// that do may still not be equal: `1||2` and `2||1`.
+/// Builds are ignored, so equal ranges can print differently. Equal ranges admit the same versions. Ranges that admit
+/// the same versions need not be equal: `1||2` and `2||1`.
 ///
 /// # Memory
 ///
-/// Takes none.
+/// Does not allocate.
 ///
 /// # Examples
 ///
-/// `^1.2.3` equals `>=1.2.3 <2.0.0-0`, and not `>=1.2.3 <2.0.0`.
+/// `^1.2.3` equals `>=1.2.3 <2.0.0-0`, and does not equal `>=1.2.3 <2.0.0`.
 impl PartialEq for Range {
     ghost eq = { are_same_cuts };
 
@@ -45,11 +45,12 @@ impl Eq for Range {
     ghost laws = { are_same_cuts-equiv };
 }
 
-/// Equal ranges hash alike: how many sets there are is fed, and then the two ends of each, without their builds.
+/// Feeds the number of sets to the hasher, and then the two ends of each set without their builds. Equal ranges feed it
+/// the same.
 ///
 /// # Memory
 ///
-/// Takes none.
+/// Does not allocate.
 impl Hash for Range {
     ghost hash_input = { range_writes };
 
@@ -60,10 +61,10 @@ impl Hash for Range {
     }
 }
 
-/// Ranges are equal where they have as many sets, each with the same two ends. Then they hash alike, and admit the same
-/// versions.
+/// Ranges are equal if they have the same number of sets with the same two ends. Then they feed a hasher the same, and
+/// admit the same versions.
 ///
-/// This does nothing: its contract is the law.
+/// This function does nothing: its contract is the law.
 pub fn ranges_are_equal_where_their_cuts_are()
     ensures same { (one other : List (Ends VersionValue)) → IsTrue (are_same_cuts one other) ↔ AreSameCuts one other }
     ensures alike { (one other : List (Ends VersionValue)) → AreSameCuts one other →

@@ -1,4 +1,7 @@
-//! The least version that a range admits.
+//! The least version that satisfies a range.
+//!
+//! `#[inline(always)]`: the usual range has one set that begins just before a release, and its result is then a few
+//! tests and a copy of three numbers. `#[inline(never)]` keeps all else, with its stack, out of that way.
 ghost use Rattle.std.specs.Prelude.{◌≡◌, ◌↔◌, Some, IsFalse, IsTrue, IfOk, IfSome, IsNone};
 ghost use Rattle.std.specs.List.{AllByRecursion};
 ghost use Rattle.semver_sets.specs.Identifier.{values_of};
@@ -19,23 +22,23 @@ use std::alloc::{AllocError, Global};
 use unbuilt::Unbuilt;
 
 impl Range {
-    /// The least version that the range admits, or `None` where it admits none.
+    /// Returns the least version that satisfies the range, or `None` if no version does.
     ///
-    /// A range may have cuts and admit no version: `<0.0.0`, or `>1.0.0-a <1.0.0-a.0`. The answer has the build of the
-    /// lower end of the first set that admits it, and none where that set has no lower end.
+    /// A range can contain cuts and admit no version: `<0.0.0`, or `>1.0.0-a <1.0.0-a.0`. The result has the build of
+    /// the lower end of the first set that admits it, and no build if that set has no lower end.
     ///
     /// # Errors
     ///
-    /// `AllocError` where memory for the answer is refused.
+    /// Returns `AllocError` if an allocation fails.
     ///
     /// # Memory
     ///
-    /// Takes the identifiers of the answer, and no more.
+    /// Allocates the identifiers of the result, and nothing else.
     ///
     /// # Examples
     ///
-    /// `1.2.3` of `^1.2.3`, `1.0.1` of `>1.0.0`, `1.0.1-0` of `>1.0.0 <1.0.1-beta`, `1.1.1` of `>=2.2.2 || >=1.1.1 <2`,
-    /// and `None` of `>1.0.0 <1.0.1-0`.
+    /// `1.2.3` for `^1.2.3`, `1.0.1` for `>1.0.0`, `1.0.1-0` for `>1.0.0 <1.0.1-beta`, `1.1.1` for
+    /// `>=2.2.2 || >=1.1.1 <2`, and `None` for `>1.0.0 <1.0.1-0`.
     ///
     /// # Source
     ///
@@ -56,7 +59,8 @@ impl Range {
     }
 }
 
-// The release that the only set begins before, if it has no build: it is the least. Most ranges have one.
+// If the range has one set, which begins just before a release without build: that release, which is the least. Most
+// ranges are such.
 #[inline(always)]
 fn plain_beginning(sets: &[Span<End>]) -> Option<&End>
     requires { AllByRecursion IsRangeSet sets.now }
@@ -84,7 +88,7 @@ fn least_built(alloc: Global, sets: &[Span<End>]) -> Result<Option<Version>, All
     }
 }
 
-// The same, not built yet.
+// The same, as a candidate that is not built.
 #[inline]
 fn least_of_sets(sets: &[Span<End>]) -> Option<Unbuilt<'_>>
     requires { AllByRecursion IsRangeSet sets.now }
@@ -97,8 +101,8 @@ fn least_of_sets(sets: &[Span<End>]) -> Option<Unbuilt<'_>>
     least
 }
 
-// The least version of the set, where it is below the least so far. Most sets begin before it: such a set is passed by
-// one comparison where it begins at or above the least so far.
+// Keeps the least version of the set if it is less than the least so far. Most sets begin just before a version. If
+// that version is not less than the least so far, one comparison is enough.
 #[inline(always)]
 fn keep_least<'a>(least: &mut Option<Unbuilt<'a>>, set: &'a Span<End>)
     requires { IsRangeSet set.now }
@@ -130,7 +134,7 @@ fn is_end_lesser(end: &End, least: &Option<Unbuilt<'_>>) -> bool
     }
 }
 
-// The same of a set that does not begin before a version.
+// The same for a set that does not begin just before a version.
 #[inline(never)]
 fn keep_least_inside<'a>(least: &mut Option<Unbuilt<'a>>, set: &'a Span<End>)
     requires { IsRangeSet set.now }
@@ -139,7 +143,7 @@ fn keep_least_inside<'a>(least: &mut Option<Unbuilt<'a>>, set: &'a Span<End>)
     keep_lesser(least, least_of_set(set));
 }
 
-// The later one where it is the lesser.
+// Keeps the lesser of the two, and the earlier of equal ones.
 #[inline(always)]
 fn keep_lesser<'a>(least: &mut Option<Unbuilt<'a>>, later: Option<Unbuilt<'a>>)
     ensures { IsLesser least.old later.entry least.new }
@@ -161,7 +165,7 @@ fn is_lesser(later: &Option<Unbuilt<'_>>, least: &Option<Unbuilt<'_>>) -> bool
     }
 }
 
-// The least version that the set admits. Where the set begins before a version this is that one.
+// The least version that the set admits. If the set begins just before a version, it is that version.
 #[inline]
 fn least_of_set(set: &Span<End>) -> Option<Unbuilt<'_>>
     requires { IsRangeSet set.now }
@@ -180,7 +184,8 @@ fn least_of_set(set: &Span<End>) -> Option<Unbuilt<'_>>
     }
 }
 
-// The least version of a triple that no lower end opens: a prerelease where the upper end opens it.
+// The least version that the set admits of a triple that its lower end does not open: a prerelease if the upper end
+// opens it.
 #[inline]
 fn least_of_triple<'a>(
     upper: &Cut<End>,

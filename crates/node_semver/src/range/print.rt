@@ -1,4 +1,4 @@
-//! The text of ranges.
+//! How ranges are printed.
 
 ghost use Rattle.std.specs.Prelude.{◌++◌, Some, flat_map};
 ghost use Rattle.std.specs.Fmt.{WritesOnOk};
@@ -14,7 +14,7 @@ use semver_sets::line::ROOM;
 use semver_sets::line::set::line_of;
 use std::fmt;
 
-/// The sets in their order, with `||` and no blank between. Each prints as a text that asks for it:
+/// Prints the sets in their order, with `||` and no blank between them. A set prints as a text that gives this set:
 ///
 /// | set | text |
 /// |---|---|
@@ -23,12 +23,12 @@ use std::fmt;
 /// | from before a version to after an equal one | `1.2.3` |
 /// | any other | both ends, as `>=1.2.3 <2.0.0-0` |
 ///
-/// A width or a fill is not looked at. Builds of the ends are printed, but of a version alone only the lower end's. The
-/// text `*` is read as `>=0.0.0`, and so prints: only [`Range::any`] prints `*`.
+/// Width and fill are ignored. The builds of the ends are printed, except that `1.2.3` has only the build of the lower
+/// end. The text `*` is read as `>=0.0.0`, and that range prints as `>=0.0.0`: only [`Range::any`] prints `*`.
 ///
 /// # Memory
 ///
-/// Takes none.
+/// Does not allocate.
 ///
 /// # Examples
 ///
@@ -47,7 +47,7 @@ impl fmt::Display for Range {
     }
 }
 
-// `||` and a set, for each of them.
+// Writes `||` and the set, for each set.
 fn write_barred<W: fmt::Write>(f: &mut fmt::Formatter<W>, sets: &[Span<End>]) -> fmt::Result
     ensures { WritesOnOk W.write_str_gives f.old result (flat_map barred_text sets.now) f.new }
 {
@@ -58,7 +58,7 @@ fn write_barred<W: fmt::Write>(f: &mut fmt::Formatter<W>, sets: &[Span<End>]) ->
     Ok(())
 }
 
-// `*`, `>=1.2.3`, `1.2.3`, `>1.2.3 <=2.0.0`: one write where the set has a line
+// `*`, `>=1.2.3`, `1.2.3`, `>1.2.3 <=2.0.0`. One write if the text of the set fits the array of `line::set`.
 fn write_set<W: fmt::Write>(f: &mut fmt::Formatter<W>, set: &Span<End>) -> fmt::Result
     ensures { WritesOnOk W.write_str_gives f.old result (set_text set.now) f.new }
 {
@@ -69,7 +69,7 @@ fn write_set<W: fmt::Write>(f: &mut fmt::Formatter<W>, set: &Span<End>) -> fmt::
     }
 }
 
-// The same for every set, in pieces.
+// The same for every set, in several writes. `inline(never)`: few sets need it.
 #[inline(never)]
 fn write_ends<W: fmt::Write>(f: &mut fmt::Formatter<W>, set: &Span<End>) -> fmt::Result
     ensures { WritesOnOk W.write_str_gives f.old result (set_text set.now) f.new }
@@ -109,7 +109,7 @@ fn write_upper<W: fmt::Write>(f: &mut fmt::Formatter<W>, upper: &Cut<End>) -> fm
     }
 }
 
-// The mark, and the version after it.
+// The operator, and the version after it.
 fn write_marked<W: fmt::Write>(f: &mut fmt::Formatter<W>, mark: &str, end: &End) -> fmt::Result
     ensures { WritesOnOk W.write_str_gives f.old result (mark.now ++ version_text end.now) f.new }
 {

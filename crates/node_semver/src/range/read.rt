@@ -1,4 +1,4 @@
-//! How a range text is read: as the one set of a text without bars, and else alternative after alternative.
+//! Reading a range text: as one set if it has no `||`, and else alternative after alternative.
 ghost use Rattle.std.specs.Prelude.{IfErr, IsErr};
 ghost use Rattle.semver_sets.specs.Meaning.{IsRefused};
 ghost use Rattle.semver_sets.specs.declared.read.Unread.TheVariants.{Refused};
@@ -13,10 +13,11 @@ pub(crate) use full::{FullLead, caret_range, exact_range, read_full, tilde_range
 use semver_sets::read::{Unread, read_only_set, read_sets};
 use std::alloc::Global;
 
-// A text of one alternative, without a list of sets. Few texts have bars.
+// Reads a text as one alternative, without a list of sets. Few texts have `||`.
 //
-// What is out of line is called through a function that is not, so that the place of its answer is cleared where it is
-// called, and nowhere else.
+// `#[inline(always)]` puts this into `Range::parse`, so that its result is built in place. `#[inline(never)]` keeps the
+// slow path's stack slot out of the fast path: the toolchain clears the place of a result where the calling function
+// begins. So each slow function is called through a function of one line.
 #[inline(always)]
 pub(crate) fn read_range(alloc: Global, text: &str) -> Result<Range, SemverError>
     ensures { IsReadRange text.now result }
@@ -43,7 +44,7 @@ fn with_bars(alloc: Global, text: &str) -> Result<Range, SemverError>
     barred_range(alloc, text)
 }
 
-// Alternative after alternative.
+// Reads alternative after alternative. `inline(never)`: see `read_range`.
 #[inline(never)]
 fn barred_range(alloc: Global, text: &str) -> Result<Range, SemverError>
     ensures { IsReadRange text.now result }
@@ -60,7 +61,7 @@ fn barred_range(alloc: Global, text: &str) -> Result<Range, SemverError>
     Ok(range)
 }
 
-// Memory ran out.
+// The error for a failed allocation. `inline(always)`: the error is built where it is returned.
 #[inline(always)]
 fn no_memory(alloc: Global) -> Result<Range, SemverError>
     ensures memory { IfErr result IsOutOfMemory }
@@ -69,7 +70,7 @@ fn no_memory(alloc: Global) -> Result<Range, SemverError>
     Err(SemverError::out_of_memory(alloc))
 }
 
-// No alternative gives a set.
+// The error for a text of which no alternative gives a set. `inline(always)`: as above.
 #[inline(always)]
 fn refused(alloc: Global, text: &str) -> Result<Range, SemverError>
     requires { IsRefused text.now }

@@ -1,4 +1,4 @@
-//! Sets are asked for a version that is built.
+//! Versions as what sets are searched for. `#[inline(always)]`: each function is one load or test in the search.
 use crate::Version;
 use semver_sets::end::End;
 use semver_sets::set::Asked;

@@ -7,16 +7,16 @@ use crate::Version;
 use semver_sets::identifier::copy::copies_of;
 use std::alloc::AllocError;
 
-/// A copy has all five fields, the build too.
+/// Returns a copy of all five fields, including the build.
 ///
 /// # Errors
 ///
-/// `AllocError` where memory for the identifiers is refused.
+/// Returns `AllocError` if an allocation fails.
 ///
 /// # Memory
 ///
-/// Takes a list for a prerelease and one for a build, and the texts of their identifiers. A version with neither takes
-/// none.
+/// Allocates a list for the prerelease and one for the build, and the texts of their identifiers. Does not allocate for
+/// a version with neither.
 impl Clone for Version {
     ghost is_clone = { λ v copy. copy ≡ v };
 

@@ -1,4 +1,4 @@
-//! The text of versions.
+//! How versions are printed.
 
 ghost use Rattle.std.specs.Prelude.{◌∷◌, ◌++◌, Some, decimal, flat_map};
 ghost use Rattle.std.specs.Fmt.{WritesOnOk};
@@ -11,13 +11,14 @@ use crate::{Identifier, Version};
 use semver_sets::line::{ROOM, triple_text};
 use std::fmt;
 
-/// Major, minor and patch with dots between, `-` and the prerelease, `+` and the build, identifiers joined by dots.
+/// Prints major, minor and patch with dots between them, `-` and the prerelease, `+` and the build. Identifiers have
+/// dots between them.
 ///
-/// A width or a fill is not looked at. Identifiers that no text gives print as they stand.
+/// Width and fill are ignored. Identifiers that cannot be read from a text are printed as they are.
 ///
 /// # Examples
 ///
-/// `1.2.34-abc.213+2` prints itself, also by `{:>40}`.
+/// `1.2.34-abc.213+2` prints as itself, also with `{:>40}`.
 ///
 /// # Source
 ///
@@ -31,7 +32,7 @@ impl fmt::Display for Version {
     }
 }
 
-// The version with this triple, this prerelease and this build.
+// Writes the version with this triple, prerelease and build.
 pub(crate) fn write_version<W: fmt::Write>(
     f: &mut fmt::Formatter<W>,
     triple: (u64, u64, u64),
@@ -51,7 +52,7 @@ pub(crate) fn write_version<W: fmt::Write>(
     write_marked(f, "+", build)
 }
 
-// `1.2.3`, by one write.
+// Writes `1.2.3` in one write.
 #[inline]
 fn write_triple<W: fmt::Write>(f: &mut fmt::Formatter<W>, triple: (u64, u64, u64)) -> fmt::Result
     ensures { WritesOnOk W.write_str_gives f.old result
@@ -62,7 +63,8 @@ fn write_triple<W: fmt::Write>(f: &mut fmt::Formatter<W>, triple: (u64, u64, u64
     f.write_str(triple_text(&mut line, major, minor, patch))
 }
 
-// The mark and the first identifier, then a dot and the next, and so on. Most versions have none.
+// Writes the mark and the identifiers with dots between them. `inline(always)`: most versions have none, which is one
+// test.
 #[inline(always)]
 fn write_marked<W: fmt::Write>(
     f: &mut fmt::Formatter<W>,
@@ -77,7 +79,7 @@ fn write_marked<W: fmt::Write>(
     }
 }
 
-// The mark, the first identifier and the others.
+// Writes the mark, the first identifier and the others. `inline(never)`: few versions need it.
 #[inline(never)]
 fn write_some<W: fmt::Write>(
     f: &mut fmt::Formatter<W>,
@@ -92,7 +94,7 @@ fn write_some<W: fmt::Write>(
     write_dotted(f, others)
 }
 
-// A dot and an identifier, for each of them.
+// Writes a dot and the identifier, for each identifier.
 fn write_dotted<W: fmt::Write>(f: &mut fmt::Formatter<W>, identifiers: &[Identifier]) -> fmt::Result
     ensures { WritesOnOk W.write_str_gives f.old result (flat_map dotted_text identifiers.now) f.new }
 {

@@ -1,4 +1,4 @@
-//! What versions feed a hasher.
+//! How versions are hashed.
 
 ghost use Rattle.semver_sets.specs.Hash.{version_writes};
 ghost use Rattle.semver_sets.specs.Lemmas.Hash.{version_alike};
@@ -6,11 +6,11 @@ ghost use Rattle.semver_sets.specs.Lemmas.Hash.{version_alike};
 use crate::Version;
 use std::hash::{Hash, Hasher};
 
-/// Equal versions hash alike: major, minor, patch and the prerelease are fed, and the build is not.
+/// Feeds major, minor, patch and the prerelease to the hasher, and not the build. Equal versions feed it the same.
 ///
 /// # Memory
 ///
-/// Takes none.
+/// Does not allocate.
 impl Hash for Version {
     ghost hash_input = { version_writes };
 

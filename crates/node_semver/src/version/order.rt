@@ -11,18 +11,18 @@ use crate::Version;
 use semver_sets::identifier::order::cmp_prereleases;
 use std::cmp::Ordering;
 
-/// Two versions are equal where their triples and their prereleases are: `v == w` is true exactly where `v.cmp(w)`
-/// is `Equal`.
+/// Two versions are equal if their three numbers and their prereleases are equal: `v == w` is true exactly if
+/// `v.cmp(w)` is `Equal`.
 ///
-/// The build is not looked at, so equal versions may print differently.
+/// The build is ignored, so equal versions can print differently.
 ///
 /// # Memory
 ///
-/// Takes none.
+/// Does not allocate.
 ///
 /// # Examples
 ///
-/// `1.0.0-rc.1+7` equals `1.0.0-rc.1`, and not `1.0.0-rc.2+7`.
+/// `1.0.0-rc.1+7` equals `1.0.0-rc.1`, and does not equal `1.0.0-rc.2+7`.
 ///
 /// # Source
 ///
@@ -46,7 +46,7 @@ impl Eq for Version {
     ghost laws = { eq_by_cmp_equiv version_total };
 }
 
-/// What `cmp` answers: any two versions compare.
+/// Returns `Some` of what `cmp` returns: any two versions can be compared.
 impl PartialOrd for Version {
     ghost partial_cmp = { λ v w. Some (version_cmp v w) };
 
@@ -61,20 +61,20 @@ impl PartialOrd for Version {
     }
 }
 
-/// The precedence of versions, a total order: major, minor and patch by number, and then the prerelease.
+/// Returns the order of precedence, a total order: by major, minor and patch, and then by the prerelease.
 ///
-/// With equal triples a release is above each prerelease. Two prereleases go by their identifiers from the left:
-/// numbers by size, texts by bytes, a number below each text, and a list that ends first below the longer one. The
-/// build is not looked at.
+/// If the three numbers are equal, a release is greater than each prerelease. Two prereleases are compared identifier
+/// by identifier from the left: numbers by size, texts by bytes, and a number is less than every text. If one list is
+/// the beginning of the other, the shorter one is less. The build is ignored.
 ///
 /// # Memory
 ///
-/// Takes none.
+/// Does not allocate.
 ///
 /// # Examples
 ///
-/// `1.0.0-alpha` is below `1.0.0-alpha.1`, that is below `1.0.0-beta`, and that below `1.0.0`; `1.0.0+7` is not
-/// above `1.0.0`.
+/// `1.0.0-alpha` is less than `1.0.0-alpha.1`, which is less than `1.0.0-beta`, which is less than `1.0.0`. `1.0.0+7`
+/// is not greater than `1.0.0`.
 ///
 /// # Source
 ///

@@ -17,47 +17,49 @@ use semver_sets::parse::{Fault, read_leading_triple};
 use std::alloc::Global;
 
 impl Version {
-    /// Reads a version text.
+    /// Reads a version from a text.
     ///
-    /// A text is a version in one way, or it has one fault, the first one from the left. It is read in npm's loose
-    /// form: it may begin with a `v` or `V` and blanks, numbers and identifiers may have leading zeros, and the `-` of
-    /// a prerelease may be left out. No blank may follow. An identifier of digits above the greatest `u64` is a text.
+    /// A text is read as exactly one version, or it has exactly one fault: the first from the left. The text is read in
+    /// npm's loose form. It can begin with `v` or `V` and blanks, numbers and identifiers can have leading zeros, and
+    /// the `-` before a prerelease can be left out. No blank can follow. An identifier of digits that is greater than
+    /// the greatest `u64` is read as a text.
     ///
-    /// The print of what was read is read as the same version, where it has at most `MAX_LENGTH` bytes.
+    /// The print of a version that was read is read as the same version, if it has at most `MAX_LENGTH` bytes.
     ///
     /// # Errors
     ///
-    /// Byte offsets from 0.
+    /// Returns the kind of the fault and its byte offset, counted from 0:
     ///
-    /// - 257 times `1`: `MaxLengthError` at 256, the length less one.
+    /// - 257 times `1`: `MaxLengthError` at 256, the last byte.
     /// - `1.`: `Context("version")` at 2, a number is missing.
     /// - `1.2`: `Context("version")` at 3, a dot is missing.
-    /// - `18446744073709551616.0.0`: `ParseIntError` at 0, the number is above the greatest `u64`.
-    /// - `1.2.9007199254740992`: `MaxIntError(9007199254740992)` at 4, the number is above `MAX_SAFE_INTEGER`.
+    /// - `18446744073709551616.0.0`: `ParseIntError` at 0, the number is greater than the greatest `u64`.
+    /// - `1.2.9007199254740992`: `MaxIntError(9007199254740992)` at 4, the number is greater than `MAX_SAFE_INTEGER`.
     /// - `1.2.3 `: `Other` at 5, bytes are left.
-    /// - no memory for the version or for the error's copy of the text: `OutOfMemory` at 0, with no text.
+    /// - any text: `OutOfMemory` at 0, with an empty text, if an allocation fails.
     ///
     /// # Memory
     ///
-    /// Takes none for a version without prerelease and build. Otherwise a list of identifiers, and the text of each one
-    /// that is no number; for an error a copy of the text.
+    /// Does not allocate for a version without prerelease and build. Otherwise allocates lists of identifiers, and the
+    /// text of each identifier that is no number. An error holds a copy of the text.
     ///
     /// # Examples
     ///
-    /// `1.2.3-alpha.1+5` and `v 01.2.3alpha.1+5` are read as equal versions, `1.2.3.4` is refused.
+    /// `1.2.3-alpha.1+5` and `v 01.2.3alpha.1+5` are read as equal versions. `1.2.3.4` is not read.
     ///
     /// # Source
     ///
     /// SemVer 2.0.0, sections 2, 9 and 10; the Rust crate `node-semver` 2.2.0.
+    // `inline(always)`: with this part inlined, the usual version is built in the place of the caller's result.
     #[inline(always)]
     pub fn parse(alloc: Global, text: &str) -> Result<Version, SemverError>
         ensures found { IfOk result (λ v. IsVersionText text.now v) }
         ensures only { (v : VersionValue) → IsVersionText text.now v → IsReadAs v result }
         ensures fault { IfErr result (λ e. IsOutOfMemory e ⊎ IsFaultOf text.now e) }
-        // A version without prerelease and build takes no memory.
+        // A version without prerelease and build is read without an allocation.
         ensures plain { (v : VersionValue) → IsVersionText text.now v → v.pre_release ≡ []
             → v.build ≡ [] → IsOk result }
-        // The print of what was read is read as the same version.
+        // The print of a version that was read is read as the same version.
         ensures print { IfOk result VersionReadsBack }
         ensures printed { (v : VersionValue) → HasText v → version_text v ≡ text.now
             → length text.now ≤ MAX_LENGTH → IsReadAs v result }
@@ -69,8 +71,8 @@ impl Version {
     }
 }
 
-// The numbers of `1.2.3`, which is the whole text and no longer than a version's; else what is read of it: three
-// numbers and the rest, or nothing yet.
+// The numbers of `1.2.3` if that is the whole text, and no longer than a version can be. Otherwise what was read of it:
+// three numbers and the rest, or nothing. `inline(always)`: the fast path of `Version::parse`.
 #[inline(always)]
 fn whole_triple(text: &[u8]) -> Result<(u64, u64, u64), Option<((u64, u64, u64), &[u8])>>
     ensures whole { IfOk result (λ t. IsVersionText text.now (release t.0 t.1 t.2)) }
@@ -85,7 +87,7 @@ fn whole_triple(text: &[u8]) -> Result<(u64, u64, u64), Option<((u64, u64, u64),
     }
 }
 
-// The version that any text is, of which the triple may be read already.
+// The version of any text, whose triple may have been read already. `inline(always)`: one test, to choose a slow path.
 #[inline(always)]
 fn version_in_parts(
     alloc: Global,
@@ -104,10 +106,11 @@ fn version_in_parts(
     }
 }
 
-// The version of a text whose triple is read.
+// The version of a text whose triple has been read.
 //
-// What is out of line is called through a function that is not, so that the place of its answer is cleared where it is
-// called, and nowhere else; so also below.
+// This function of one line calls a function with `#[inline(never)]`: the toolchain clears the place of a result where
+// the calling function begins. Inlined into `Version::parse`, the slow path's place would be cleared for each version.
+// The next function has the same reason.
 #[inline(always)]
 fn after_triple(
     alloc: Global,
@@ -165,7 +168,7 @@ fn whole_after_triple<'a>(
     }
 }
 
-// The same of a text of which nothing is read.
+// The same for a text of which nothing has been read.
 #[inline(always)]
 fn from_start(alloc: Global, text: &str) -> Result<Version, SemverError>
     ensures found { IfOk result (λ v. IsVersionText text.now v) }
@@ -197,7 +200,7 @@ fn whole(alloc: Global, text: &[u8]) -> Result<Version, Fault>
         → v.build ≡ [] → IsOk result }
 {
     if text.len() > MAX_LENGTH {
-        // Told at the last byte.
+        // The fault is at the last byte.
         return Err(Fault::TooLong(1));
     }
     match read_version(alloc, text) {
@@ -207,7 +210,7 @@ fn whole(alloc: Global, text: &[u8]) -> Result<Version, Fault>
     }
 }
 
-// The error that tells a fault of this text.
+// The error for a fault of this text. `inline(always)`: the error is built where it is returned.
 #[inline(always)]
 fn refusal(alloc: Global, text: &str, fault: Fault) -> SemverError
     requires { IsMemoryOr text.now fault }
@@ -231,7 +234,7 @@ fn refused(alloc: Global, text: &str, fault: Fault) -> SemverError
     refusal_after_triple(alloc, text, fault)
 }
 
-// Few texts are refused after their triple.
+// The same, called if the text is refused after its triple. `cold`, `inline(never)`: few texts are.
 #[cold]
 #[inline(never)]
 fn refusal_after_triple(alloc: Global, text: &str, fault: Fault) -> SemverError
@@ -241,7 +244,8 @@ fn refusal_after_triple(alloc: Global, text: &str, fault: Fault) -> SemverError
     refusal(alloc, text, fault)
 }
 
-// The kind for the number that is too large where so many bytes are left.
+// The kind of error for a number that is too large, given how many bytes are left from it on. `inline(never)`: few
+// texts have one.
 #[cold]
 #[inline(never)]
 fn large_kind_at(text: &[u8], left: usize) -> SemverErrorKind

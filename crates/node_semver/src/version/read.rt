@@ -1,4 +1,7 @@
-//! Versions at the start of a text, and why a number of a text is too large.
+//! Reading a version at the start of a text, and why a number of a text is too large.
+//!
+//! `#[inline(always)]`: the readers hand numbers on in registers, and the version is built in the place of the caller's
+//! result.
 ghost use Rattle.std.specs.Prelude.{◌≡◌};
 ghost use Rattle.semver_sets.specs.Characters as Characters;
 ghost use Rattle.semver_sets.specs.Characters.{BeginsWith};
@@ -13,7 +16,7 @@ use semver_sets::parse::{Fault, leading_digits, read_extras, read_major, read_mi
 use std::alloc::Global;
 use std::str;
 
-// `1.2.3-alpha+5` of 1 and `.2.3-alpha+5 <2.0.0`
+// `1.2.3-alpha+5` and ` <2.0.0` of 1 and `.2.3-alpha+5 <2.0.0`
 #[inline(always)]
 #[tactic(auto, unfolding(semver_sets::specs::Private::Reading::read_extras, semver_sets::specs::Private::Reading::read_prerelease, semver_sets::specs::Private::Reading::read_build, semver_sets::specs::Private::Reading::skip_one, semver_sets::specs::Private::Reading::skip_plus))]
 fn read_from_major(alloc: Global, major: u64, text: &[u8]) -> Result<(Version, &[u8]), Fault>
@@ -27,7 +30,7 @@ fn read_from_major(alloc: Global, major: u64, text: &[u8]) -> Result<(Version, &
     read_extended(alloc, numbers, rest)
 }
 
-// A triple with the prerelease and the build that follow it.
+// The triple with the prerelease and the build that follow it.
 #[inline(always)]
 #[tactic(auto, unfolding(semver_sets::specs::Private::Reading::read_extras))]
 fn read_extended(
@@ -50,7 +53,7 @@ fn read_extended(
     Ok((version, rest))
 }
 
-// `V 1.2.3` of `V 1.2.3 <2.0.0`: a version
+// `V 1.2.3` and ` <2.0.0` of `V 1.2.3 <2.0.0`
 #[inline(always)]
 #[tactic(auto, unfolding(semver_sets::specs::Private::Reading::read_version, semver_sets::specs::Private::Reading::read_unmarked, semver_sets::specs::Private::Reading::read_triple))]
 pub(crate) fn read_version(alloc: Global, text: &[u8]) -> Result<(Version, &[u8]), Fault>
@@ -61,7 +64,7 @@ pub(crate) fn read_version(alloc: Global, text: &[u8]) -> Result<(Version, &[u8]
     read_from_major(alloc, major, rest)
 }
 
-// The same, where the triple is read already.
+// The same if the triple has been read already.
 #[inline(always)]
 pub(crate) fn read_after_triple<'a>(
     alloc: Global,
@@ -77,13 +80,13 @@ pub(crate) fn read_after_triple<'a>(
     read_extended(alloc, triple, rest)
 }
 
-// Why such a number is refused: `9007199254740992`, `18446744073709551616`
+// The kind of error for a number that is too large: `9007199254740992`, `18446744073709551616`
 pub(crate) fn large_kind(text: &[u8]) -> SemverErrorKind
     requires { BeginsWith Characters.is_digit text.now }
     ensures { kind_of result ≡ Told.too_large (number_of (Reading.prefix_of Characters.is_digit text.now)) }
 {
     let digits = leading_digits(text);
-    // Digits are ASCII.
+    // Safe: digits are ASCII.
     let digits = unsafe { str::from_utf8_unchecked(digits) };
     match digits.parse::<u64>() {
         Ok(value) => SemverErrorKind::MaxIntError(value),

@@ -1,4 +1,4 @@
-//! Versions, from the least one, and from each to the next.
+//! The least version, and from each version the next one.
 
 ghost use Rattle.std.specs.Prelude.{◌≡◌, ◌↔◌, IfOk, IfSome, IsNone};
 ghost use Rattle.std.specs.List.{AllByRecursion};
@@ -13,14 +13,15 @@ use semver_cuts::Stepped;
 use semver_sets::identifier::copy::copies_with_zero;
 use std::alloc::{AllocError, Global};
 
-/// Versions of any 64-bit numbers and any identifiers, from the least one, `0.0.0-0`.
+/// The versions with any 64-bit numbers and any identifiers, in order. The least one is `0.0.0-0`.
 ///
-/// Next after a prerelease is that with a numeric 0 more, and next after a release the least version with the next
-/// patch. Builds are not looked at, and no answer has one.
+/// The next version after a prerelease has one more identifier, the number 0. The next one after a release is the least
+/// version with the next patch. Builds are ignored, and the results have none.
 ///
 /// # Examples
 ///
-/// `1.2.3-rc.0` is next after `1.2.3-rc`, and `1.2.4-0` after `1.2.3`. `0.0.18446744073709551615` has none.
+/// After `1.2.3-rc` comes `1.2.3-rc.0`, and after `1.2.3` comes `1.2.4-0`. `0.0.18446744073709551615` has no next
+/// version.
 ///
 /// # Source
 ///
@@ -63,7 +64,7 @@ impl Stepped for Version {
     }
 }
 
-// What is in a list of identifiers are identifiers.
+// Does nothing when it runs: its contract is that the elements of a list are identifiers.
 fn known_identifiers(identifiers: &[Identifier])
     ensures { AllByRecursion IsIdentifier (values_of identifiers.now) }
 {

@@ -1,4 +1,4 @@
--- Lists of spans that are apart: what stands before a span and behind it, and where halving finds a cut.
+-- Lists of spans that are apart: the spans before and after one of them, and where a binary search finds a cut.
 use Rattle.std.specs.Prelude.{◌≡◌, ℕ, ◌+◌, ◌<◌, List, [], ◌∷◌, ◌++◌, if◌then◌else◌, take, drop, length, refl}
 use mathlib.Core.Path.{sym, ap, subst, ◌∙◌}
 use mathlib.Core.Logic.{inl}

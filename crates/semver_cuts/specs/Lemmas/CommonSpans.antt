@@ -1,4 +1,4 @@
--- The spans that two lists have in common: their cuts, their ends, and from which two spans each comes.
+-- The intersection of two lists of spans: its cuts, its ends, and from which two spans each of its spans comes.
 use Rattle.std.specs.Prelude.{◌≡◌, ◌≢◌, ◌↔◌, Bool, List, [], ◌∷◌, if◌then◌else◌, refl, true, false}
 use mathlib.Core.Path.{subst}
 use mathlib.Core.Logic.{inl, inr}

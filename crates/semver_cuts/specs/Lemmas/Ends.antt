@@ -149,7 +149,7 @@ module _ {T : Type 0} (cmp : T → T → Ordering) where
   pub at_most-from_le : (c d : Cut T) → is_le (cut_cmp cmp c d) ≡ true → IsCutAtMost cmp c d
   at_most-from_le c d h = at_most_by (cut_cmp cmp c d) h
 
-  -- and what the test answers where the fact holds
+  -- and what the test returns where the fact holds
   pub lt-from_below : (c d : Cut T) → IsCutBelow cmp c d → is_lt (cut_cmp cmp c d) ≡ true
   lt-from_below c d p = ap is_lt p
 

@@ -1,4 +1,4 @@
--- Equal cuts and equal spans are fed alike, wherever equal values are.
+-- Equal cuts, and equal spans, feed a hasher the same, if equal values do.
 use Rattle.std.specs.Prelude.{◌≡◌, true, ◌++◌, refl}
 use mathlib.Core.Path.{ap}
 use Rattle.std.specs.declared.cmp.Ordering.{Ordering}
@@ -14,7 +14,7 @@ use Rattle.semver_cuts.specs.Lemmas.CutOrder.{equal-by_kind}
 
 module _ {T : Type 0} (cmp : T → T → Ordering) {writes : T → HashWrites}
     (alike : (v w : T) → eq_by_cmp cmp v w ≡ true → writes v ≡ writes w) where
-  -- equal cuts are fed alike
+  -- equal cuts feed a hasher the same
   pub cut_alike : (c d : Cut T) → eq_by_cmp (cut_cmp cmp) c d ≡ true → cut_writes writes c ≡ cut_writes writes d
   cut_alike c d e =
       equal-by_kind cmp (λ c d. cut_writes writes c ≡ cut_writes writes d) refl

@@ -1,4 +1,4 @@
--- The chosen ends of a list of spans: one span more, just one choice, and what lies between the two.
+-- The chosen ends of a list of spans: after one more span, that the choice is unique, and the cuts between the two.
 use Rattle.std.specs.Prelude.{◌≡◌, ◌≢◌, ◌↔◌, List, [], ◌∷◌, ◌++◌, refl}
 use mathlib.Core.Path.{sym, ap, subst, ◌∙◌}
 use mathlib.Core.Logic.{inl, inr}
@@ -212,7 +212,7 @@ module _ {T : Type 0} {cmp : T → T → Ordering} (o : IsTotalOrder cmp) where
   chosen_upper-some spans chosen is =
       chosen-some (λ (s : Ends T). s.upper) (λ c d. IsCutBelow cmp d c) (λ c d. IsCutAtMost cmp d c) spans chosen is
 
-  -- ---- what the spans have in common
+  -- ---- the intersection of the spans
 
   module _ (spans : List (Ends T)) (lower upper : Cut T) (l : IsLastGreatestLower cmp spans lower)
       (u : IsFirstLeastUpper cmp spans upper) where

@@ -1,4 +1,4 @@
--- What one list of spans has and another has not: its cuts, when there is none, its ends, and how it adds up.
+-- The part of one list of spans outside another: its cuts, its ends, when it is empty, and how it adds up.
 use Rattle.std.specs.Prelude.{◌≡◌, ◌⊎◌, ◌↔◌, List, [], ◌∷◌}
 use mathlib.Core.Path.{sym, subst}
 use mathlib.Core.Logic.{inl, inr}

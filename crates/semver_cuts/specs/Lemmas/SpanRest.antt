@@ -1,4 +1,4 @@
--- What one span has and another has not: when a piece is below and above, and which cuts lie in the pieces.
+-- The part of one span outside another: when there is a piece below and above, and which cuts lie in the pieces.
 use Rattle.std.specs.Prelude.{◌≡◌, ◌⊎◌, ◌↔◌, Bool, List, [], ◌∷◌, ◌++◌, if◌then◌else◌, refl, true, false}
 use mathlib.Core.Path.{sym, ap, ◌∙◌}
 use mathlib.Core.Logic.{inl, inr}

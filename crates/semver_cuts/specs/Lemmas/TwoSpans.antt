@@ -1,4 +1,4 @@
--- Two spans: which cuts they have in common, when they share one, and when one has all cuts of the other.
+-- Two spans: their intersection, when they share a cut, and when one contains all cuts of the other.
 use Rattle.std.specs.Prelude.{◌≡◌, ◌↔◌, Bool, IsTrue, List, [], ◌∷◌, if◌then◌else◌, refl, true, false}
 use mathlib.Core.Path.{sym, ap, ◌∙◌}
 use mathlib.Core.Logic.{inl, inr}
@@ -16,11 +16,11 @@ use Rattle.semver_cuts.specs.Lemmas.Ends.{at_most-from_le, at_most-from_not_lt, 
 use Rattle.semver_cuts.specs.Lemmas.Ends.{at_most_trans, at_most-below, below-at_most, below-from_lt, below-not-at_most}
 use Rattle.semver_cuts.specs.Lemmas.Ends.{below_irrefl, below_trans, le-from_at_most, lt-from_below}
 
--- a test that answers both ways is absurd
+-- a test does not return both `true` and `false`
 both_ways : {P : Type 0} (r : Bool) → r ≡ true → r ≡ false → P
 both_ways r p q = absurd (true≢false (sym p ∙ q))
 
--- two tests are alike where each answers yes where the other does
+-- two tests are equal if each returns `true` where the other does
 alike : (r s : Bool) → (r ≡ true → s ≡ true) → (s ≡ true → r ≡ true) → r ≡ s
 alike true s f g = sym (f refl)
 alike false true f g = g refl
@@ -94,7 +94,7 @@ module _ {T : Type 0} {cmp : T → T → Ordering} (o : IsTotalOrder cmp) where
         },
       )
 
-  -- ---- what two spans have in common
+  -- ---- the intersection of two spans
 
   -- a cut lies between the common ends where it lies in both spans
   pub common_ends-cuts : (one other : Ends T) (cut : Cut T)

@@ -1,4 +1,4 @@
--- How spans in the order of their lower ends are joined, one after another.
+-- How spans that are sorted by their lower ends are joined, one after another.
 use Rattle.std.specs.Prelude.{ℕ, List, [], ◌∷◌, if◌then◌else◌}
 use Rattle.std.specs.Ordering.{is_lt, nat_cmp, ordering_then}
 use Rattle.std.specs.declared.cmp.Ordering.{Ordering}
@@ -7,11 +7,11 @@ use Rattle.semver_cuts.specs.Cut.{cut_cmp}
 use Rattle.semver_cuts.specs.Ends.{Ends, span_between}
 use Rattle.semver_cuts.specs.Private.Placed.{PlacedSpan}
 
--- the span ends above the cut, or there and stands before the place
+-- `Less` if the span ends above the cut, or at the cut and has an earlier place
 abbrev pub ends_later : {T : Type 0} → (T → T → Ordering) → Cut T → ℕ → PlacedSpan T → Ordering
 ends_later cmp upper place next = ordering_then (cut_cmp cmp upper next.span.upper) (nat_cmp next.place place)
 
--- the spans joined to what lies between two cuts, of which the upper one is the end of the span at the place
+-- the spans joined to the part from `lower` up to `upper`, where `upper` is the end of the span at the place
 abbrev pub joined_from : {T : Type 0} → (T → T → Ordering) → Cut T → Cut T → ℕ → List (PlacedSpan T) → List (Ends T)
 joined_from cmp lower upper place [] = span_between lower upper ∷ []
 joined_from cmp lower upper place (next ∷ later) =
@@ -26,7 +26,7 @@ abbrev pub joined_in_order : {T : Type 0} → (T → T → Ordering) → List (P
 joined_in_order cmp [] = []
 joined_in_order cmp (first ∷ later) = joined_from cmp first.span.lower first.span.upper first.place later
 
--- the same by places: of the span that began last, and of the one that ends it
+-- the same as places: that of the span where the current one began, and that of the span where it ends
 abbrev pub places_from : {T : Type 0} → (T → T → Ordering) → ℕ → Cut T → ℕ → List (PlacedSpan T) → List (ℕ × ℕ)
 places_from cmp first upper place [] = (first, place) ∷ []
 places_from cmp first upper place (next ∷ later) =

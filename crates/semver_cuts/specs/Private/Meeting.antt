@@ -1,5 +1,5 @@
--- Which spans of two lists meet, found along both in the order of their lower ends: one of two spans that meet begins
--- in the other.
+-- Which spans of two lists meet, found along both lists sorted by lower ends. Of two spans that meet, one begins in the
+-- other.
 use Rattle.std.specs.Prelude.{◌≡◌, ℕ, ◌<◌, Bool, List, [], ◌∷◌, ◌++◌, if◌then◌else◌, length}
 use Rattle.std.specs.List.{AllByRecursion, flat_map}
 use Rattle.std.specs.Ordering.{is_lt}
@@ -21,7 +21,7 @@ beginning_from cmp cut [] = []
 beginning_from cmp cut (next ∷ later) =
     if is_lt (cut_cmp cmp next.span.lower cut) then beginning_from cmp cut later else next ∷ later
 
--- a place with that of each span before the first one that begins at the cut or above
+-- a place with that of each span up to the first one that begins at the cut or above
 abbrev pub pairs_until : {T : Type 0} → (T → T → Ordering) → Bool → ℕ → Cut T → List (PlacedSpan T) → List (ℕ × ℕ)
 pairs_until cmp swapped place cut [] = []
 pairs_until cmp swapped place cut (next ∷ later) =
@@ -29,7 +29,7 @@ pairs_until cmp swapped place cut (next ∷ later) =
     then places_by swapped place next.place ∷ pairs_until cmp swapped place cut later
     else []
 
--- the place of each span with those of the others that begin in it
+-- for each span, its place with that of each of the others that begins in it
 abbrev pub pairs_along : {T : Type 0} → (T → T → Ordering) → Bool → List (PlacedSpan T) → List (PlacedSpan T)
     → List (ℕ × ℕ)
 pairs_along cmp swapped [] others = []
@@ -37,15 +37,15 @@ pairs_along cmp swapped (one ∷ ones) others =
     pairs_until cmp swapped one.place one.span.upper (beginning_from cmp one.span.lower others)
     ++ pairs_along cmp swapped ones (beginning_from cmp one.span.lower others)
 
--- what the spans at two places have in common
+-- the intersection of the spans at two places
 abbrev pub common_at : {T : Type 0} → (T → T → Ordering) → List (Ends T) → List (Ends T) → ℕ × ℕ → List (Ends T)
 common_at cmp ones others pair = common_of cmp (span_at ones pair.0) (span_at others pair.1)
 
--- both are places of the lists
+-- each place is in its list
 abbrev pub AreBothWithin : {T : Type 0} → List (Ends T) → List (Ends T) → ℕ × ℕ → Type 0
 AreBothWithin ones others pair = (pair.0 < length ones) × (pair.1 < length others)
 
--- what the lists have in common is what the spans at these pairs of places have, one pair after another
+-- the intersection of the lists is that of the spans at these pairs of places, one pair after another
 pub record AreMeeting {T : Type 0} (cmp : T → T → Ordering) (ones others : List (Ends T)) (pairs : List (ℕ × ℕ))
     : Type 0 where
   pub within : AllByRecursion (AreBothWithin ones others) pairs

@@ -1,4 +1,4 @@
--- Which of two ends stays where two spans are merged, the earlier one of the list or the later.
+-- Which of two ends is kept if two spans are merged: that of the earlier span of the list or that of the later.
 use Rattle.std.specs.Prelude.{◌≡◌, ◌⊎◌}
 use Rattle.std.specs.declared.cmp.Ordering.{Ordering}
 use Rattle.semver_cuts.specs.declared.cut.Cut.{Cut}

@@ -1,4 +1,4 @@
--- A span of a list with its place there, and how such are put in order: by lower ends, then by places.
+-- A span of a list with its place there, and the order of such: by lower ends, then by places.
 use Rattle.std.specs.Prelude.{ℕ, ◌+◌, List, [], ◌∷◌}
 use Rattle.std.specs.Ordering.{nat_cmp, on, then_cmp}
 use Rattle.std.specs.declared.cmp.Ordering.{Ordering}
@@ -15,7 +15,7 @@ abbrev pub placed_cmp : {T : Type 0} → (T → T → Ordering) → PlacedSpan T
 placed_cmp {T} cmp =
     then_cmp (on (λ (p : PlacedSpan T). p.span.lower) (cut_cmp cmp)) (on (λ (p : PlacedSpan T). p.place) nat_cmp)
 
--- each span of a list with its place, counted from a number on
+-- each span of a list with its place, counted from this number on
 abbrev pub placed_from : {T : Type 0} → ℕ → List (Ends T) → List (PlacedSpan T)
 placed_from n [] = []
 placed_from n (span ∷ spans) = record { span = span; place = n } ∷ placed_from (n + 1) spans

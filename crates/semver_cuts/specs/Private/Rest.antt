@@ -1,4 +1,5 @@
--- How the pieces of one span are found: along spans that are apart, from the first one that ends above where it begins.
+-- How the pieces of one span outside spans that are apart are found: from the first of these that ends above where it
+-- begins.
 use Rattle.std.specs.Prelude.{List, [], ◌∷◌, ◌++◌, if◌then◌else◌}
 use Rattle.std.specs.Ordering.{is_le, is_lt}
 use Rattle.std.specs.declared.cmp.Ordering.{Ordering}
@@ -12,11 +13,11 @@ ending_above cmp cut [] = []
 ending_above cmp cut (span ∷ spans) =
     if is_le (cut_cmp cmp span.upper cut) then ending_above cmp cut spans else span ∷ spans
 
--- from one cut up to another, where the first is less
+-- the span from one cut up to another, if the first is less
 abbrev pub part_between : {T : Type 0} → (T → T → Ordering) → Cut T → Cut T → List (Ends T)
 part_between cmp lower upper = if is_lt (cut_cmp cmp lower upper) then span_between lower upper ∷ [] else []
 
--- what lies from one cut up to another and in none of the spans, all of which end above the first cut
+-- the part from one cut up to another outside the spans, all of which end above the first cut
 abbrev pub parts_between : {T : Type 0} → (T → T → Ordering) → Cut T → Cut T → List (Ends T) → List (Ends T)
 parts_between cmp lower upper [] = span_between lower upper ∷ []
 parts_between cmp lower upper (span ∷ spans) =
@@ -25,7 +26,7 @@ parts_between cmp lower upper (span ∷ spans) =
     ++ (if is_lt (cut_cmp cmp span.upper upper) then parts_between cmp span.upper upper spans else [])
     else span_between lower upper ∷ []
 
--- the pieces of one span, less spans that are apart
+-- the pieces of one span outside spans that are apart
 abbrev pub pieces_of : {T : Type 0} → (T → T → Ordering) → Ends T → List (Ends T) → List (Ends T)
 pieces_of cmp one spans = parts_between cmp one.lower one.upper (ending_above cmp one.lower spans)
 

@@ -1,4 +1,4 @@
-//! What two lists of spans have in common.
+//! The intersection of two lists of spans.
 ghost use Rattle.std.specs.Prelude.{◌≡◌, ◌++◌, OnOk};
 ghost use Rattle.std.specs.List.{AllByRecursion, flat_map};
 ghost use Rattle.semver_cuts.specs.Common.{AreApart};
@@ -13,34 +13,34 @@ use crate::algebra::merged::Merged;
 use crate::algebra::near::first_near;
 use std::alloc::{AllocError, Global};
 
-// Lists shorter than this are gone through whole for each span.
+// If the merged list has fewer spans than this, each pair of spans is tried.
 const FEW: usize = 3;
 
-// So many pairs of spans are all tried, where they are not found faster along one list.
+// If there are at most so many pairs of spans, and the merged list is not in order, each pair is tried.
 const FEW_PAIRS: usize = 128;
 
 impl<'a, 'p, T: Ord> Merged<'a, 'p, T> {
-    /// Hands over what the spans of a list have in common with those of this one: for each span of that list with each
-    /// span of this one, from the greater of their lower ends up to the lesser of their upper ends, where a cut lies
-    /// there.
+    /// Passes the intersection of a list with this one to `into`: for each span of `ones` and each span of this list,
+    /// the span from the greater of their lower ends up to the lesser of their upper ends, if it contains a cut.
     ///
-    /// The pairs of the first span of that list come first, in the order of this list. Where two lower ends are equal
-    /// this list's is lent, and where two upper ends are equal that list's.
+    /// The pairs of the first span of `ones` come first, in the order of this list. If two lower ends are equal, the
+    /// reference to this list's is passed. If two upper ends are equal, the reference to that of `ones` is passed.
     ///
     /// # Errors
     ///
-    /// Fails where a request for memory is refused, or where `into` fails.
+    /// Returns `AllocError` if an allocation or a call of `into` fails.
     ///
     /// # Memory
     ///
-    /// Takes none beside what `into` takes where this list is merged as it stands, as one span always is, or where
-    /// there are few pairs. Else it takes room for both lists in their order, and for the pairs that meet.
+    /// Does not allocate, apart from what `into` allocates, if this list is merged as it stands (as one span always
+    /// is), or if there are few pairs. Otherwise allocates room for both lists in sorted order and for the pairs of
+    /// spans that meet.
     ///
     /// # Examples
     ///
-    /// `Before(0)` up to `Before(1)` and `Before(3)` up to `Before(5)`, with `After(0)` up to `Before(4)`, give
-    /// `After(0)` up to `Before(1)` and `Before(3)` up to `Before(4)`. With `Before(1)` up to `Before(3)` they give
-    /// nothing.
+    /// Take a list of `Before(0)` up to `Before(1)` and `Before(3)` up to `Before(5)`. Its intersection with `After(0)`
+    /// up to `Before(4)` is `After(0)` up to `Before(1)` and `Before(3)` up to `Before(4)`. Its intersection with
+    /// `Before(1)` up to `Before(3)` is empty.
     pub fn common_with<S: Gather<'a, T>>(
         &self,
         alloc: Global,
@@ -67,7 +67,8 @@ impl<'a, 'p, T: Ord> Merged<'a, 'p, T> {
     }
 }
 
-// What those pairs have in common that meet.
+// Passes the intersection of the pairs of spans that meet, which it finds first. `inline(never)`: long lists out of
+// order are rare, and the lists that this allocates then take no stack in `common_with`.
 #[inline(never)]
 fn common_of_meeting<'a, T: Ord, S: Gather<'a, T>>(
     alloc: Global,
@@ -81,7 +82,7 @@ fn common_of_meeting<'a, T: Ord, S: Gather<'a, T>>(
     common_of_pairs(ones, others, &pairs, into)
 }
 
-// What the spans at each pair of places have in common.
+// Passes the intersection of the spans at each pair of places.
 fn common_of_pairs<'a, T: Ord, S: Gather<'a, T>>(
     ones: &'a [Span<T>],
     others: &'a [Span<T>],
@@ -99,7 +100,7 @@ fn common_of_pairs<'a, T: Ord, S: Gather<'a, T>>(
     Ok(())
 }
 
-// What all pairs have in common.
+// Passes the intersection of each span with each span, pair by pair.
 fn common_of_all<'a, T: Ord, S: Gather<'a, T>>(
     ones: &'a [Span<T>],
     others: &'a [Span<T>],
@@ -113,7 +114,7 @@ fn common_of_all<'a, T: Ord, S: Gather<'a, T>>(
     Ok(())
 }
 
-// The same along others that are apart.
+// The same if the others are apart: for each span, the walk starts near where the one before it ended.
 fn common_ascending<'a, T: Ord, S: Gather<'a, T>>(
     ones: &'a [Span<T>],
     others: &'a [Span<T>],
@@ -130,7 +131,7 @@ fn common_ascending<'a, T: Ord, S: Gather<'a, T>>(
     Ok(())
 }
 
-// What two spans have in common, if anything.
+// Passes the intersection of two spans, if it contains a cut. `inline(always)`: the body of the inner loops.
 #[inline(always)]
 fn common_of<'a, T: Ord, S: Gather<'a, T>>(
     one: &'a Span<T>,
@@ -145,7 +146,7 @@ fn common_of<'a, T: Ord, S: Gather<'a, T>>(
     }
 }
 
-// What one span has in common with each of the others.
+// Passes the intersection of one span with each of the others. `inline(always)`: the inner loop of `common_of_all`.
 #[inline(always)]
 fn common_with<'a, T: Ord, S: Gather<'a, T>>(
     one: &'a Span<T>,
@@ -160,8 +161,8 @@ fn common_with<'a, T: Ord, S: Gather<'a, T>>(
     Ok(())
 }
 
-// The same along others that are apart: from the first that ends above where the span begins, looked for near a place.
-// Answers its place.
+// The same if the others are apart: starts at the first that ends above where the span begins, looked for near `place`,
+// and returns its place. `inline(never)`: one call for each span, so that the loop over the spans stays small.
 #[inline(never)]
 fn common_along<'a, T: Ord, S: Gather<'a, T>>(
     one: &'a Span<T>,
@@ -178,7 +179,7 @@ fn common_along<'a, T: Ord, S: Gather<'a, T>>(
     Ok(first)
 }
 
-// The same up to the first that begins where the span ends or above.
+// The same, up to the first that begins where the span ends or above.
 #[inline]
 fn common_until<'a, T: Ord, S: Gather<'a, T>>(
     one: &'a Span<T>,

@@ -1,4 +1,4 @@
-//! Spans joined: those that touch or overlap become one.
+//! Joining the spans of a list: those that touch or overlap become one.
 ghost use Rattle.std.specs.Prelude.{◌≡◌, ◌≢◌, ◌<◌, ℕ, [], IfOk, length};
 ghost use Rattle.semver_cuts.specs.Ends.{IsCutBelow};
 ghost use Rattle.semver_cuts.specs.Joined.{AreJoined};
@@ -8,19 +8,21 @@ use crate::Span;
 use crate::algebra::places::Places;
 use std::alloc::{AllocError, Global};
 
-/// The spans joined to spans that ascend with a cut between each and the next: those that touch or overlap become one.
+/// Returns the spans joined: spans that touch or overlap become one. The result ascends, with a cut between each span
+/// and the next.
 ///
-/// The answer has just the cuts of the list. Each of its ends is that of the first span of the list that has it at this
-/// cut. No other list of such spans has these cuts, so two lists with the same cuts are joined to the same spans.
+/// The result contains exactly the cuts of the list. Each of its ends is moved out of the list, from the first span
+/// that has an end at this cut. No other ascending list of spans that do not touch contains these cuts, so two lists
+/// with the same cuts are joined to equal spans.
 ///
 /// # Errors
 ///
-/// Fails where a request for memory is refused. The spans are dropped.
+/// Returns `AllocError` if an allocation fails. The spans are then dropped.
 ///
 /// # Memory
 ///
-/// Takes none where the spans are merged as they stand, as one span always is. Else it takes room for them in their
-/// order, for the places of the joined spans, and for the answer.
+/// Does not allocate if the spans are merged as they stand, as one span always is. Otherwise allocates room for them in
+/// sorted order, for the places of the joined spans, and for the result.
 ///
 /// # Examples
 ///
@@ -38,7 +40,7 @@ pub fn join<T: Ord + Drop>(
     taken_at(alloc, &mut spans, places.as_slice())
 }
 
-// The merged spans at the places, each end taken out of the list.
+// The merged spans at the places, with each end moved out of the list.
 fn taken_at<T: Ord + Drop>(
     alloc: Global,
     spans: &mut [Span<T>],
@@ -55,7 +57,7 @@ fn taken_at<T: Ord + Drop>(
     Ok(joined)
 }
 
-// The span from where one of the list begins up to where one ends: these two ends are taken, and no others.
+// The span from where one span of the list begins up to where another ends. Moves these two ends out, and no others.
 fn take_between<T: Ord + Drop>(spans: &mut [Span<T>], begins: usize, ends: usize) -> Span<T>
     requires begins { begins < length spans.old }
     requires ends { ends < length spans.old }

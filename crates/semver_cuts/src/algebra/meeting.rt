@@ -1,4 +1,4 @@
-//! Which spans of two lists meet, found along both in the order of their lower ends.
+//! Which spans of two lists meet, found by one walk along both in the order of their lower ends.
 ghost use Rattle.std.specs.Prelude.{◌≡◌, ◌++◌, IfOk, OnOk};
 ghost use Rattle.semver_cuts.specs.Private.Meeting.{AreMeeting, beginning_from, pairs_along, pairs_until, places_by};
 
@@ -6,8 +6,9 @@ use crate::algebra::placed::{Placed, in_order};
 use crate::{Cut, Span};
 use std::alloc::{AllocError, Global};
 
-// The places of each span of one list and each of the other that meet: those of the first span come first, in the order
-// of the other list. One of two spans that meet begins in the other.
+// The places of each two spans, one of each list, that meet. Sorted by the place in `ones`, then by that in `others`.
+// Of two spans that meet, one begins in the other: so both lists are walked for spans that begin in a span of the
+// other.
 pub(crate) fn meeting<T: Ord>(
     alloc: Global,
     ones: &[Span<T>],
@@ -25,7 +26,7 @@ pub(crate) fn meeting<T: Ord>(
     Ok(pairs)
 }
 
-// Adds the place of each span with those of the others that begin in it.
+// Adds, for each span, its place with that of each of the others that begins in it.
 fn add_pairs<T: Ord>(
     pairs: &mut Vec<(usize, usize)>,
     ones: &[Placed<T>],
@@ -56,7 +57,7 @@ fn beginning_from<'s, 'a, T: Ord>(spans: &'s [Placed<'a, T>], cut: &Cut<T>) -> &
     &[]
 }
 
-// Adds a place with that of each span before the first one that begins at the cut or above.
+// Adds a place with that of each span up to the first one that begins at the cut or above.
 fn add_pairs_until<T: Ord>(
     pairs: &mut Vec<(usize, usize)>,
     place: usize,
@@ -77,7 +78,7 @@ fn add_pairs_until<T: Ord>(
     Ok(())
 }
 
-// A place of one list and one of the other, in this order or swapped.
+// The pair of the two places, in this order or swapped. `inline(always)`: one test in the inner loop.
 #[inline(always)]
 fn places_by(swapped: bool, place: usize, other: usize) -> (usize, usize)
     ensures { result ≡ places_by swapped place other }

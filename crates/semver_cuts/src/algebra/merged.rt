@@ -1,4 +1,4 @@
-//! The spans of a list merged: what they are joined to, by places in the list.
+//! A list of spans together with its merged spans, which are kept as places in the list.
 ghost use Rattle.std.specs.Prelude.{◌≡◌, ◌<◌, ◌≤◌, ◌+◌, ◌∷◌, IsTrue, length, drop};
 ghost use Rattle.semver_cuts.specs.Ends.{span_between};
 ghost use Rattle.semver_cuts.specs.Joined.{AreJoined, AreMerged};
@@ -10,19 +10,19 @@ use crate::algebra::places::Places;
 use crate::{Cut, Span};
 use std::marker::Model;
 
-/// A list of spans together with what they are joined to: the merged spans, which ascend with a cut between each and
-/// the next, and have just the cuts of the list.
+/// A borrowed list of spans, with the spans that it is joined to: the *merged spans*. They ascend, with a cut between
+/// each and the next, and contain exactly the cuts of the list.
 ///
-/// It lends the list and the places, and copies no end. An end of a merged span is that of the first span of the list
-/// that has it at this cut.
+/// Both the list and the places are borrowed, and no end is copied. An end of a merged span is that of the first span
+/// of the list that has an end at this cut.
 ///
 /// # Memory
 ///
-/// Takes none.
+/// Does not allocate.
 ///
 /// # Examples
 ///
-/// Of the list 2 to 5, 0 to 1 and 4 to 7 the merged spans are 0 to 1 and 2 to 7.
+/// The merged spans of 2 to 5, 0 to 1 and 4 to 7 are 0 to 1 and 2 to 7.
 #[derive(Debug, Drop)]
 pub struct Merged<'a, 'p, T: Ord> {
     spans: &'a [Span<T>],
@@ -40,11 +40,11 @@ impl<'a, 'p, T: Ord> Model for Merged<'a, 'p, T> {
 }
 
 impl<'a, 'p, T: Ord> Merged<'a, 'p, T> {
-    /// The list with its places.
+    /// Returns the list with its merged spans, given by their places.
     ///
     /// # Memory
     ///
-    /// Takes none.
+    /// Does not allocate.
     #[inline]
     pub fn with(spans: &'a [Span<T>], places: &'p Places) -> Merged<'a, 'p, T>
         requires { IsPlacesOf T.cmp spans.now places.now }
@@ -57,11 +57,11 @@ impl<'a, 'p, T: Ord> Merged<'a, 'p, T> {
         }
     }
 
-    /// A list that is merged as it stands.
+    /// Returns a list that is merged as it stands: each span ends below where the next one begins.
     ///
     /// # Memory
     ///
-    /// Takes none.
+    /// Does not allocate.
     #[inline]
     pub fn itself(spans: &'a [Span<T>]) -> Merged<'a, 'p, T>
         requires { AreMerged T.cmp spans.now }
@@ -71,16 +71,16 @@ impl<'a, 'p, T: Ord> Merged<'a, 'p, T> {
         Merged { spans, places: &[] }
     }
 
-    /// How many merged spans there are: as many as the list has spans whose lower cut no earlier span has, and which no
-    /// span of the list reaches from below.
+    /// Returns the number of merged spans. It is the number of spans in the list whose lower end no earlier span has,
+    /// and that no span of the list reaches from below.
     ///
     /// # Memory
     ///
-    /// Takes none.
+    /// Does not allocate.
     ///
     /// # Examples
     ///
-    /// Two of 2 to 5, 0 to 1 and 4 to 7, and one of 0 to 1 and 1 to 2.
+    /// 2 for 2 to 5, 0 to 1 and 4 to 7. 1 for 0 to 1 and 1 to 2.
     #[inline]
     pub fn len(&self) -> usize
         ensures length { result ≡ length self.now.merged }
@@ -94,15 +94,15 @@ impl<'a, 'p, T: Ord> Merged<'a, 'p, T> {
         }
     }
 
-    /// The ends of a merged span, by its number from 0 on: where it begins, and the cut at which it ends.
+    /// Returns the two ends of the merged span with this number, counted from 0.
     ///
     /// # Memory
     ///
-    /// Takes none.
+    /// Does not allocate.
     ///
     /// # Examples
     ///
-    /// Of 2 to 5, 0 to 1 and 4 to 7 number 1 is 2 to 7.
+    /// Number 1 of 2 to 5, 0 to 1 and 4 to 7 is 2 to 7.
     #[inline]
     pub fn ends(&self, number: usize) -> (&'a Cut<T>, &'a Cut<T>)
         requires { number < length self.now.merged }
@@ -116,7 +116,7 @@ impl<'a, 'p, T: Ord> Merged<'a, 'p, T> {
         }
     }
 
-    // The number of the first merged span that ends above the cut, found by halving.
+    // The number of the first merged span that ends above the cut, found by binary search.
     pub(crate) fn first_above(&self, cut: &Cut<T>) -> usize
         ensures place { result ≤ length self.now.merged }
         ensures above { drop result self.now.merged ≡ ending_above T.cmp cut.now self.now.merged }
@@ -135,7 +135,7 @@ impl<'a, 'p, T: Ord> Merged<'a, 'p, T> {
         low
     }
 
-    // The list.
+    // The list as it stands.
     #[inline]
     pub(crate) fn spans(&self) -> &'a [Span<T>]
         ensures list { result.now ≡ self.now.list }
@@ -144,7 +144,7 @@ impl<'a, 'p, T: Ord> Merged<'a, 'p, T> {
         self.spans
     }
 
-    // Whether the list is merged as it stands.
+    // Returns `true` only if the list is merged as it stands.
     #[inline]
     pub(crate) fn is_itself(&self) -> bool
         ensures { IsTrue result → AreMerged T.cmp self.now.list }
@@ -162,7 +162,7 @@ fn ends_at<'a, T: Ord>(spans: &'a [Span<T>], place: usize) -> (&'a Cut<T>, &'a C
     spans[place].ends()
 }
 
-// The lower end of the span at one place, and the upper end of that at the other.
+// The lower end of the span at the first place, and the upper end of the span at the second.
 #[inline]
 fn ends_between<'a, T: Ord>(
     spans: &'a [Span<T>],

@@ -1,4 +1,4 @@
-//! The first of spans that are apart to end above a cut, looked for near a place.
+//! In a list of spans that are apart, the first that ends above a cut, looked for near a place.
 ghost use Rattle.std.specs.Prelude.{◌≡◌, ◌≤◌, IsTrue, length, drop};
 ghost use Rattle.semver_cuts.specs.Common.{AreApart};
 ghost use Rattle.semver_cuts.specs.Joined.{AreRising};
@@ -7,7 +7,7 @@ ghost use Rattle.semver_cuts.specs.Private.Rest.{ending_above};
 use crate::algebra::merged::Merged;
 use crate::{Cut, Span};
 
-// The place of the first span that ends above the cut: this place or the next, or else found by halving.
+// The place of the first span that ends above the cut. Tries `place`, then the one after it, and then a binary search.
 #[inline]
 pub(crate) fn first_near<T: Ord>(spans: &[Span<T>], place: usize, cut: &Cut<T>) -> usize
     requires apart { AreApart T.cmp spans.now }
@@ -25,7 +25,7 @@ pub(crate) fn first_near<T: Ord>(spans: &[Span<T>], place: usize, cut: &Cut<T>) 
     Merged::itself(spans).first_above(cut)
 }
 
-// Whether the span at the place is the first that ends above the cut.
+// Returns `true` only if the span at the place is the first that ends above the cut.
 #[inline]
 fn is_first_above<T: Ord>(spans: &[Span<T>], place: usize, cut: &Cut<T>) -> bool
     requires apart { AreApart T.cmp spans.now }

@@ -1,4 +1,4 @@
-//! The spans of a list with their places, in the order of their lower ends.
+//! The spans of a list with their places, sorted by their lower ends.
 ghost use Rattle.std.specs.Prelude.{◌≡◌, OnOk, IfOk};
 ghost use Rattle.std.proofs.Common.{refl};
 ghost use Rattle.std.specs.Cmp.{eq_by_cmp_equiv, nat_cmp_total, on_total, partial_equiv_from_equiv};
@@ -31,6 +31,7 @@ impl<'a, T: Ord> Model for Placed<'a, T> {
 }
 
 impl<'a, T: Ord> Placed<'a, T> {
+    // The two ends of the span.
     pub(crate) fn ends(&self) -> (&'a Cut<T>, &'a Cut<T>)
         ensures ends { self.now.span ≡ span_between result.0.now result.1.now }
         ensures rising { IsCutBelow T.cmp result.0.now result.1.now }
@@ -38,6 +39,7 @@ impl<'a, T: Ord> Placed<'a, T> {
         self.span.ends()
     }
 
+    // The place of the span in its list.
     pub(crate) fn place(&self) -> usize
         ensures { result ≡ self.now.place }
     {
@@ -86,7 +88,7 @@ impl<'a, T: Ord> Ord for Placed<'a, T> {
     }
 }
 
-// The spans in the order of their lower ends; of those that begin at one cut the first of the list comes first.
+// The spans sorted by their lower ends. Of those with equal lower ends, the first of the list comes first.
 pub(crate) fn in_order<'a, T: Ord>(
     alloc: Global,
     spans: &'a [Span<T>],

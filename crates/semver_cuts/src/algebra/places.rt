@@ -1,4 +1,4 @@
-//! What the spans of a list are joined to, kept as places in the list.
+//! The merged spans of a list, kept as places in that list.
 ghost use Rattle.std.specs.Prelude.{◌≡◌, ◌↔◌, ◌∷◌, [], IfOk, IsTrue};
 ghost use Rattle.std.specs.Ordering.{is_lt, nat_cmp, ordering_then};
 ghost use Rattle.semver_cuts.specs.Cut.{cut_cmp};
@@ -12,19 +12,19 @@ use crate::{Cut, Span};
 use std::alloc::{AllocError, Global};
 use std::marker::Model;
 
-/// What the spans of a list are joined to, as places in that list: of each joined span that of the span where it
-/// begins, and that of the span where it ends.
+/// The merged spans of a list, as pairs of places in that list: the place of the span where the merged span begins, and
+/// the place of the span where it ends.
 ///
-/// Of several spans with an end at one cut it is the first one's place. A list that is merged as it stands has no
-/// places.
+/// If several spans of the list have an end at the same cut, it is the place of the first. A list that is merged as it
+/// stands has no places.
 ///
 /// # Memory
 ///
-/// Two numbers for each joined span, in one list, and none where the list is merged as it stands.
+/// Two numbers for each merged span, in one list. None if the list is merged as it stands.
 ///
 /// # Examples
 ///
-/// 2 to 5, 0 to 1 and 4 to 7 are joined to 0 to 1 and 2 to 7, and the places are (1, 1) and (0, 2).
+/// 2 to 5, 0 to 1 and 4 to 7 are joined to 0 to 1 and 2 to 7. The places are (1, 1) and (0, 2).
 #[derive(Debug, Drop)]
 pub struct Places {
     pairs: Vec<(usize, usize)>,
@@ -39,11 +39,11 @@ impl Model for Places {
 }
 
 impl Places {
-    /// No places: those of a list that is merged as it stands.
+    /// Returns no places, as for a list that is merged as it stands.
     ///
     /// # Memory
     ///
-    /// Takes none.
+    /// Does not allocate.
     #[inline]
     pub fn none(alloc: Global) -> Places
         ensures { result ≡ [] }
@@ -53,20 +53,20 @@ impl Places {
         }
     }
 
-    /// The places of what the spans are joined to.
+    /// Returns the places of the merged spans of a list.
     ///
     /// # Errors
     ///
-    /// Fails where a request for memory is refused.
+    /// Returns `AllocError` if an allocation fails.
     ///
     /// # Memory
     ///
-    /// Where the spans are merged as they stand, as one span always is, it takes none. Else it takes room for them in
-    /// their order for the time of the call, and the places.
+    /// Does not allocate if the spans are merged as they stand, as one span always is. Otherwise allocates the places,
+    /// and for the time of the call room for the spans in sorted order.
     ///
     /// # Examples
     ///
-    /// Of 2 to 5, 0 to 1 and 4 to 7 they are (1, 1) and (0, 2). Of 0 to 1 and 2 to 7 there are none.
+    /// (1, 1) and (0, 2) for 2 to 5, 0 to 1 and 4 to 7. None for 0 to 1 and 2 to 7.
     pub fn of<T: Ord>(alloc: Global, spans: &[Span<T>]) -> Result<Places, AllocError>
         ensures { IfOk result (λ places. IsPlacesOf T.cmp spans.now places) }
     {
@@ -78,15 +78,15 @@ impl Places {
         Ok(Places { pairs })
     }
 
-    /// A copy of the places: those of each list with the same spans.
+    /// Returns a copy. It serves each list with the same spans.
     ///
     /// # Errors
     ///
-    /// Fails where a request for memory is refused.
+    /// Returns `AllocError` if the allocation fails.
     ///
     /// # Memory
     ///
-    /// That of the places.
+    /// As much as the places.
     pub fn clone(&self) -> Result<Places, AllocError>
         ensures { IfOk result (λ places. places ≡ self.now) }
     {
@@ -95,7 +95,7 @@ impl Places {
         })
     }
 
-    // Each pair of places.
+    // The pairs of places.
     #[inline]
     pub(crate) fn as_slice(&self) -> &[(usize, usize)]
         ensures { result.now ≡ self.now }
@@ -104,22 +104,22 @@ impl Places {
     }
 }
 
-/// Whether the spans are merged as they stand: whether each ends below where the next one begins.
+/// Returns `true` if the spans are merged as they stand: each ends below where the next one begins.
 ///
 /// # Memory
 ///
-/// Takes none.
+/// Does not allocate.
 ///
 /// # Examples
 ///
-/// 0 to 1 and 2 to 7 are. 0 to 2 and 2 to 7 are not, nor are 2 to 7 and 0 to 1.
+/// `true` for 0 to 1 and 2 to 7. `false` for 0 to 2 and 2 to 7, and for 2 to 7 and 0 to 1.
 pub fn are_merged<T: Ord>(spans: &[Span<T>]) -> bool
     ensures { IsTrue result ↔ AreMerged T.cmp spans.now }
 {
     are_apart(spans)
 }
 
-// Whether each span ends below where the next one begins.
+// Returns `true` if each span ends below where the next one begins.
 fn are_apart<T: Ord>(spans: &[Span<T>]) -> bool
     ensures apart { IsTrue result ↔ AreApart T.cmp spans.now }
     ensures rising { IsTrue result → AreRising T.cmp spans.now }
@@ -138,7 +138,8 @@ fn are_apart<T: Ord>(spans: &[Span<T>]) -> bool
     true
 }
 
-// The places of the spans joined: of equal ends that of the first span of the list.
+// The places of the merged spans, from the spans sorted by their lower ends. Of equal ends, that of the first span of
+// the list is chosen.
 fn places_in_order<T: Ord>(
     alloc: Global,
     order: &[Placed<T>],
@@ -169,7 +170,8 @@ fn places_in_order<T: Ord>(
     Ok(pairs)
 }
 
-// Whether the second end stands above the first, or at the same cut and in an earlier span of the list.
+// Returns `true` if the second end is greater than the first, or equal to it and in an earlier span of the list.
+// `inline(always)`: two comparisons in the inner loop.
 #[inline(always)]
 fn ends_later<T: Ord>(upper: &Cut<T>, place: usize, end: &Cut<T>, found: usize) -> bool
     ensures { result ≡ is_lt (ordering_then (cut_cmp T.cmp upper.now end.now) (nat_cmp found place)) }

@@ -1,4 +1,4 @@
-//! What one list of spans has and another has not.
+//! The part of one list of spans outside another.
 ghost use Rattle.std.specs.Prelude.{◌≡◌, ◌++◌, List, OnOk};
 ghost use Rattle.semver_cuts.specs.Ends.{Ends, IsCutBelow};
 ghost use Rattle.semver_cuts.specs.Rest.{AreRestSpans};
@@ -10,26 +10,27 @@ use crate::algebra::merged::Merged;
 use std::alloc::AllocError;
 
 impl<'a, 'p, T: Ord> Merged<'a, 'p, T> {
-    /// Hands over what each span of a list has and no span of this one has: its greatest pieces, in ascending order.
+    /// Passes the part of a list outside this one to `into`: the greatest pieces of each span of `ones` that lie in no
+    /// span of this list, in ascending order.
     ///
-    /// A cut lies in one of the pieces of a span exactly where it lies in the span and in none of this list, and no two
-    /// pieces of a span touch. The pieces of an earlier span come first, those of one span lowest first. A span that
-    /// has no cut in common with this list is its own piece, and one whose cuts all lie in this list has none.
+    /// A cut lies in one of the pieces of a span exactly if it lies in the span and in none of this list. No two pieces
+    /// of a span touch. The pieces of an earlier span come first, and those of one span lowest first. A span that
+    /// shares no cut with this list is its own piece. A span whose cuts all lie in this list has no piece.
     ///
-    /// A piece begins and ends where its span does, or at an end of a span of this list. Where several of these end or
-    /// begin at that cut, the end is that of the first of them.
+    /// A piece begins and ends where its span does, or at an end of a span of this list. If several spans of this list
+    /// have an end at that cut, the reference to that of the first one is passed.
     ///
     /// # Errors
     ///
-    /// Fails where `into` fails.
+    /// Returns `AllocError` if a call of `into` fails.
     ///
     /// # Memory
     ///
-    /// Takes none beside what `into` takes.
+    /// Does not allocate, apart from what `into` allocates.
     ///
     /// # Examples
     ///
-    /// Of 1 to 9 less 5 to 6 and 2 to 3 stay 1 to 2, 3 to 5 and 6 to 9. Of 1 to 9 less 0 to 5 and 5 to 9 nothing stays.
+    /// 1 to 9 outside 5 to 6 and 2 to 3 is 1 to 2, 3 to 5 and 6 to 9. 1 to 9 outside 0 to 5 and 5 to 9 is nothing.
     pub fn rest_of<S: Gather<'a, T>>(
         &self,
         ones: &'a [Span<T>],
@@ -46,7 +47,7 @@ impl<'a, 'p, T: Ord> Merged<'a, 'p, T> {
     }
 }
 
-// Hands over the pieces of one span, lowest first.
+// Passes the pieces of one span, lowest first.
 fn add_pieces<'a, T: Ord, S: Gather<'a, T>>(
     one: &'a Span<T>,
     others: &Merged<'a, '_, T>,

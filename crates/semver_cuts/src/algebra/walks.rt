@@ -1,4 +1,4 @@
-//! Questions over two lists of merged spans, each answered by one walk along both.
+//! Questions about two lists of spans, each decided by one walk along the merged spans of both.
 ghost use Rattle.std.specs.Prelude.{◌↔◌, IsTrue};
 ghost use Rattle.semver_cuts.specs.Joined.{AreMerged};
 ghost use Rattle.semver_cuts.specs.Sharing.{CoversAll, ShareCut};
@@ -6,17 +6,19 @@ ghost use Rattle.semver_cuts.specs.Sharing.{CoversAll, ShareCut};
 use crate::Span;
 use crate::algebra::merged::Merged;
 
-/// Whether every cut in some span of the second list lies in some span of the first. Both lists are merged.
+/// Returns `true` if each cut in some span of the second list lies in some span of the first. Both lists must be
+/// merged.
 ///
-/// Merged spans do not touch, so it is so exactly where each span of the second list lies in one span of the first.
+/// Merged spans do not touch, so this is the case exactly if each span of the second list lies in one span of the
+/// first.
 ///
 /// # Memory
 ///
-/// Takes none.
+/// Does not allocate.
 ///
 /// # Examples
 ///
-/// 1 to 5 and 7 to 9 cover 2 to 5 and 8 to 9, and cover neither 2 to 6 nor 4 to 8.
+/// 1 to 5 and 7 to 9 cover 2 to 5 and 8 to 9. They cover neither 2 to 6 nor 4 to 8.
 pub fn covers<T: Ord>(ones: &[Span<T>], others: &[Span<T>]) -> bool
     requires ones { AreMerged T.cmp ones.now }
     requires others { AreMerged T.cmp others.now }
@@ -26,11 +28,11 @@ pub fn covers<T: Ord>(ones: &[Span<T>], others: &[Span<T>]) -> bool
 }
 
 impl<'a, 'p, T: Ord> Merged<'a, 'p, T> {
-    /// Whether every cut in some span of the other list lies in some span of this one.
+    /// Returns `true` if each cut in some span of the other list lies in some span of this one.
     ///
     /// # Memory
     ///
-    /// Takes none.
+    /// Does not allocate.
     ///
     /// # Examples
     ///
@@ -44,17 +46,17 @@ impl<'a, 'p, T: Ord> Merged<'a, 'p, T> {
         covers_along(self, other)
     }
 
-    /// Whether some cut lies both in a span of this list and in a span of the other.
+    /// Returns `true` if some cut lies both in a span of this list and in a span of the other.
     ///
-    /// Spans that touch share no cut. The answer is the same the other way round.
+    /// Spans that touch share no cut. `a.share_cut(&b)` equals `b.share_cut(&a)`.
     ///
     /// # Memory
     ///
-    /// Takes none.
+    /// Does not allocate.
     ///
     /// # Examples
     ///
-    /// 5 to 9 and 1 to 3 share one with 2 to 4, and none with 3 to 5.
+    /// 5 to 9 and 1 to 3 share a cut with 2 to 4, and none with 3 to 5.
     pub fn share_cut(&self, other: &Merged<'_, '_, T>) -> bool
         ensures { IsTrue result ↔ ShareCut T.cmp self.now.list other.now.list }
     {
@@ -65,7 +67,7 @@ impl<'a, 'p, T: Ord> Merged<'a, 'p, T> {
     }
 }
 
-// The same along the merged spans of both: each turn leaves one of them behind.
+// The same, by one walk along the merged spans of both: each turn is done with one of them.
 fn covers_along<T: Ord>(ones: &Merged<'_, '_, T>, others: &Merged<'_, '_, T>) -> bool
     ensures { IsTrue result ↔ CoversAll T.cmp ones.now.list others.now.list }
 {
@@ -90,7 +92,7 @@ fn covers_along<T: Ord>(ones: &Merged<'_, '_, T>, others: &Merged<'_, '_, T>) ->
     true
 }
 
-// The same along the merged spans of both: each turn leaves one of them behind.
+// The same, by one walk along the merged spans of both: each turn is done with one of them.
 fn shares_along<T: Ord>(ones: &Merged<'_, '_, T>, others: &Merged<'_, '_, T>) -> bool
     ensures { IsTrue result ↔ ShareCut T.cmp ones.now.list others.now.list }
 {

@@ -1,4 +1,4 @@
-//! What cuts feed a hasher.
+//! How cuts are hashed.
 
 ghost use Rattle.std.proofs.Common.{◌∙◌};
 ghost use Rattle.semver_cuts.specs.Hash.{cut_writes};
@@ -7,11 +7,11 @@ ghost use Rattle.semver_cuts.specs.Lemmas.Hash.{cut_alike};
 use crate::Cut;
 use std::hash::{Hash, Hasher};
 
-/// Equal cuts hash alike: a number for the kind is fed, and then the value, if there is one.
+/// Feeds a number for the kind of cut to the hasher, and then the value, if there is one. Equal cuts feed it the same.
 ///
 /// # Memory
 ///
-/// Takes none.
+/// Does not allocate.
 impl<T: Ord + Hash> Hash for Cut<T> {
     ghost hash_input = { cut_writes T.hash_input };
 

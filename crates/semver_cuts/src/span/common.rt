@@ -1,4 +1,4 @@
-//! What two spans have in common, and what one has and the other has not, as the spans' own cuts.
+//! The intersection of two spans, and the part of one outside the other, as references to the ends of the two.
 ghost use Rattle.std.specs.Prelude.{◌≡◌, ◌↔◌, ◌++◌, IsTrue, option_map, option_to_list};
 ghost use Rattle.semver_cuts.specs.declared.cut.Cut.{Cut};
 ghost use Rattle.semver_cuts.specs.Ends.{IsInSpan, span_between};
@@ -10,21 +10,21 @@ ghost use Rattle.semver_cuts.specs.SpanRest.{piece_above, piece_below, span_if_a
 use crate::{Cut, Span};
 
 impl<T: Ord> Span<T> {
-    /// The ends of the cuts that lie in both spans, or `None` where no cut does.
+    /// Returns the ends of the intersection of the two spans, or `None` if they share no cut.
     ///
-    /// They go from the greater of the two lower ends up to the lesser of the two upper ends, and are the spans' own:
-    /// where the lower ends are equal that of `other` is lent, and where the upper ends are equal that of `self`.
+    /// The intersection goes from the greater of the two lower ends up to the lesser of the two upper ends. The ends
+    /// are borrowed from the spans: of equal lower ends that of `other`, and of equal upper ends that of `self`.
     ///
-    /// Spans that touch have no cut in common.
+    /// Spans that touch share no cut.
     ///
     /// # Memory
     ///
-    /// Takes none.
+    /// Does not allocate.
     ///
     /// # Examples
     ///
-    /// `Before(1)` up to `Before(5)` and `After(3)` up to `After(9)` have `After(3)` up to `Before(5)` in common.
-    /// `Before(1)` up to `Before(3)` and `Before(3)` up to `Before(5)` have nothing in common.
+    /// The intersection of `Before(1)` up to `Before(5)` and `After(3)` up to `After(9)` is `After(3)` up to
+    /// `Before(5)`. `Before(1)` up to `Before(3)` and `Before(3)` up to `Before(5)` share no cut.
     #[inline]
     pub fn common<'a>(&'a self, other: &'a Span<T>) -> Option<(&'a Cut<T>, &'a Cut<T>)>
         ensures ends { option_to_list (option_map (λ lent. span_between lent.0.now lent.1.now) result)
@@ -36,20 +36,21 @@ impl<T: Ord> Span<T> {
         self.ends_in_common(other)
     }
 
-    /// The ends of the cuts of the span that do not lie in the other: of the piece below it and of the piece above it,
-    /// each `None` where it has no cut.
+    /// Returns the part of this span outside the other: the ends of the piece below the other and of the piece above
+    /// it, each `None` if it contains no cut.
     ///
-    /// The ends are the spans' own: the outer ones those of `self`, the inner ones those of `other`. A span that shares
-    /// no cut with the other stands whole in the first place, also where it lies above.
+    /// The ends are borrowed from the spans: the outer ends from `self`, the inner ends from `other`. If the two share
+    /// no cut, the first piece is the whole of `self`, even if `self` lies above `other`.
     ///
     /// # Memory
     ///
-    /// Takes none.
+    /// Does not allocate.
     ///
     /// # Examples
     ///
-    /// `Before(1)` up to `Before(9)` less `Before(3)` up to `Before(5)` is `Before(1)` up to `Before(3)` and
-    /// `Before(5)` up to `Before(9)`. `Before(3)` up to `Before(5)` less `Before(1)` up to `Before(9)` is nothing.
+    /// The part of `Before(1)` up to `Before(9)` outside `Before(3)` up to `Before(5)` is `Before(1)` up to `Before(3)`
+    /// and `Before(5)` up to `Before(9)`. The part of `Before(3)` up to `Before(5)` outside `Before(1)` up to
+    /// `Before(9)` is nothing.
     pub fn rest<'a>(
         &'a self,
         other: &'a Span<T>,
@@ -75,7 +76,8 @@ impl<T: Ord> Span<T> {
         }
     }
 
-    // From the greater lower end up to the lesser upper end, where a cut lies there.
+    // From the greater lower end up to the lesser upper end, if a cut lies there. `inline(always)`: the body of the
+    // inner loops of the algebra.
     #[inline(always)]
     pub(crate) fn ends_in_common<'a>(
         &'a self,
@@ -97,18 +99,19 @@ impl<T: Ord> Span<T> {
         }
     }
 
-    /// Whether some cut lies in both spans.
+    /// Returns `true` if some cut lies in both spans.
     ///
-    /// `a.shares_cut(&b)` is `b.shares_cut(&a)`, and true exactly where [`Span::common`] is not `None`.
+    /// `a.shares_cut(&b)` equals `b.shares_cut(&a)`, and is true exactly if [`Span::common`] returns `Some`.
     ///
     /// # Memory
     ///
-    /// Takes none.
+    /// Does not allocate.
     ///
     /// # Examples
     ///
-    /// `Before(1)` up to `Before(3)` shares one with `After(1)` up to `Before(5)`, and none with `Before(3)` up to
+    /// `Before(1)` up to `Before(3)` shares a cut with `After(1)` up to `Before(5)`, and none with `Before(3)` up to
     /// `Before(5)`.
+    // `inline(always)`: two comparisons, in the inner loops of callers.
     #[inline(always)]
     pub fn shares_cut(&self, other: &Span<T>) -> bool
         ensures { IsTrue result ↔ HaveCommonCut T.cmp self.now other.now }
@@ -116,7 +119,7 @@ impl<T: Ord> Span<T> {
         self.lower < other.upper && other.lower < self.upper
     }
 
-    // Whether all cuts of the other span lie in this one.
+    // Returns `true` if each cut of the other span lies in this one. `inline(always)`: two comparisons.
     #[inline(always)]
     pub(crate) fn covers(&self, other: &Span<T>) -> bool
         ensures { IsTrue result ↔ IsWithin T.cmp other.now self.now }
@@ -125,7 +128,7 @@ impl<T: Ord> Span<T> {
     }
 }
 
-// Of two cuts the less, and the first where they are equal.
+// The lesser of two cuts, and the first if they are equal.
 #[inline]
 fn lesser<'a, T: Ord>(one: &'a Cut<T>, other: &'a Cut<T>) -> &'a Cut<T>
     ensures { result.now ≡ lesser_cut T.cmp one.now other.now }
@@ -133,7 +136,7 @@ fn lesser<'a, T: Ord>(one: &'a Cut<T>, other: &'a Cut<T>) -> &'a Cut<T>
     if other < one { other } else { one }
 }
 
-// The two cuts, where some cut lies from the first up to the second.
+// The two cuts, if the first is less than the second.
 #[inline]
 fn ends_if_any<'a, T: Ord>(lower: &'a Cut<T>, upper: &'a Cut<T>) -> Option<(&'a Cut<T>, &'a Cut<T>)>
     ensures { option_to_list (option_map (λ lent. span_between lent.0.now lent.1.now) result)

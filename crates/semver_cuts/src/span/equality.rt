@@ -1,4 +1,4 @@
-//! When spans are equal, and what they feed a hasher.
+//! Equality and hashing of spans.
 
 ghost use Rattle.std.specs.Prelude.{◌≡◌, ◌↔◌, IsTrue};
 ghost use Rattle.std.proofs.Common.{◌∙◌};
@@ -11,14 +11,14 @@ ghost use Rattle.semver_cuts.specs.Lemmas.Hash.{span_alike};
 use crate::Span;
 use std::hash::{Hash, Hasher};
 
-/// Two spans are equal where their lower ends are equal cuts and their upper ends are.
+/// Two spans are equal if their lower ends are equal cuts and their upper ends are equal cuts.
 ///
-/// Spans of other ends are not equal, also where the same values lie in them: `Before(4)` to `End` and `After(3)` to
-/// `End` as spans of numbers.
+/// Spans with other ends are not equal, even if they contain the same values: `Before(4)` to `End` and `After(3)` to
+/// `End`, as spans of whole numbers, both contain 4 and all greater numbers.
 ///
 /// # Memory
 ///
-/// Takes none.
+/// Does not allocate.
 impl<T: Ord> PartialEq for Span<T> {
     ghost eq = { are_same_ends T.cmp };
 
@@ -38,11 +38,11 @@ impl<T: Ord> Eq for Span<T> {
     ghost laws = { are_same_ends-equiv T.total };
 }
 
-/// Equal spans hash alike: the lower end is fed, and then the upper.
+/// Feeds the lower end to the hasher, and then the upper end. Equal spans feed it the same.
 ///
 /// # Memory
 ///
-/// Takes none.
+/// Does not allocate.
 impl<T: Ord + Hash> Hash for Span<T> {
     ghost hash_input = { span_writes T.hash_input };
 

@@ -1,4 +1,4 @@
--- What answering some pairs after others goes by.
+-- How the answers for some pairs follow those for others.
 use Rattle.std.specs.Prelude.{◌≡◌, ◌↔◌, ℕ, List, [], ◌∷◌, ◌++◌, Bool, true, Option}
 use Rattle.std.specs.Io.KnownBytes.{Appends}
 use Rattle.std.specs.Str.Lines.{strip_carriage_return}
@@ -9,22 +9,22 @@ use Rattle.semver_sets.specs.Meaning.{TextAdmits}
 use Rattle.semver_sets.specs.Version.{VersionValue}
 use Rattle.node_semver.specs.ErrorLocation.{newline}
 
--- the range line is a good one, and just the versions that its text admits are admitted
+-- the range line is a good one, and exactly the versions that its text admits are admitted
 abbrev pub IsReadAs : (line : List ℕ) → (Admits : VersionValue → Type 0) → Type 0
 IsReadAs line Admits = IsGoodRange line × ((v : VersionValue) → Admits v ↔ TextAdmits line v)
 
--- the line is an answer to a range line and a version line, and a newline byte
+-- the line is an answer for a range line and a version line, and a newline byte
 abbrev pub IsAnswerLine : (range version line : List ℕ) → Type 0
 IsAnswerLine range version line = (answer : List ℕ) × IsAnswer range version answer × (line ≡ answer ++ (newline ∷ []))
 
--- The answers to the pairs that stand before the rest: whatever follows, the answers to the pairs of the rest and what
--- follows, put behind these, are the answers to the pairs of all bytes and what follows.
+-- The answers for the pairs in the bytes before the rest. If the answers for the rest and whatever follows it are
+-- added, the result is the answers for all of the bytes and whatever follows.
 pub record AnswersUpTo (bytes rest added : List ℕ) : Type 0 where
   pub go_on : (is_end : Bool) (later more : List ℕ) → AreAnswers (pairs_read is_end (rest ++ later)) more
       → AreAnswers (pairs_read is_end (bytes ++ later)) (added ++ more)
 
--- The answer to a range line that a newline byte ends and to a version line, and then those to the pairs of the bytes
--- that stand before the rest.
+-- The answer for an ended range line and a version line, followed by the answers for the pairs in the bytes before the
+-- rest.
 pub record AnswersFrom (range version bytes rest added : List ℕ) : Type 0 where
   pub first : List ℕ
   pub others : List ℕ
@@ -32,20 +32,20 @@ pub record AnswersFrom (range version bytes rest added : List ℕ) : Type 0 wher
   pub later : AnswersUpTo bytes rest others
   pub both : added ≡ first ++ others
 
--- Answers were added behind those that waited to be written; of all these some were written and the others are left.
+-- Answers were added to those that are still to be written. Some of all these were written, and the others are left.
 pub record Moves (contents contents_new : Option (List ℕ)) (waiting added left : List ℕ) : Type 0 where
   pub written : List ℕ
   pub put : Appends contents contents_new written
   pub all : waiting ++ added ≡ written ++ left
 
--- The answers to the pairs that stand before the rest were added.
+-- The answers for the pairs in the bytes before the rest were added.
 pub record AnswersPast (bytes rest : List ℕ) (contents contents_new : Option (List ℕ)) (waiting left : List ℕ) : Type 0
   where
     pub added : List ℕ
     pub answers : AnswersUpTo bytes rest added
     pub moves : Moves contents contents_new waiting added left
 
--- The same, where it is left open up to where, and what waits.
+-- The same for some rest and some answers left.
 pub record AnswersSome (bytes : List ℕ) (contents contents_new : Option (List ℕ)) (waiting : List ℕ) : Type 0 where
   pub rest : List ℕ
   pub left : List ℕ
@@ -58,20 +58,20 @@ pub record AnswersRange (range version bytes rest : List ℕ) (contents contents
   pub answers : AnswersFrom range version bytes rest added
   pub moves : Moves contents contents_new waiting added left
 
--- The same, where it is left open up to where, and what waits.
+-- The same for some rest and some answers left.
 pub record AnswersRangeSome (range version bytes : List ℕ) (contents contents_new : Option (List ℕ))
     (waiting : List ℕ) : Type 0 where
   pub rest : List ℕ
   pub left : List ℕ
   pub past : AnswersRange range version bytes rest contents contents_new waiting left
 
--- The answers to all pairs, and the end, were added.
+-- The answers for all pairs at the end of the input were added.
 pub record AnswersAll (bytes : List ℕ) (contents contents_new : Option (List ℕ)) (waiting left : List ℕ) : Type 0 where
   pub added : List ℕ
   pub answers : AreAnswers (pairs_read true bytes) added
   pub moves : Moves contents contents_new waiting added left
 
--- The same, where it is left open up to where, and what waits.
+-- The same for some answers left.
 pub record AnswersAllSome (bytes : List ℕ) (contents contents_new : Option (List ℕ)) (waiting : List ℕ) : Type 0 where
   pub left : List ℕ
   pub all : AnswersAll bytes contents contents_new waiting left

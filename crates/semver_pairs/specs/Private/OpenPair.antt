@@ -1,15 +1,15 @@
--- The pair that is not wholly read.
+-- The pair that is not completely read.
 use Rattle.std.specs.Prelude.{◌≡◌, ℕ, List, [], ◌∷◌, ◌++◌, false, if◌then◌else◌}
 use Rattle.node_semver.specs.ErrorLocation.{newline}
 use Rattle.semver_pairs.specs.declared.open_pair.OpenPair.{OpenPair}
 use Rattle.semver_pairs.specs.Private.Splitting.{HasNoNewline}
 
--- all that was read of it
+-- all bytes that were read of it
 abbrev pub open_bytes : OpenPair → List ℕ
 open_bytes pair =
     if pair.is_range_ended then pair.range.items ++ (newline ∷ pair.version.items) else pair.range.items
 
--- no newline byte stands in its lines, and nothing was read of the version line before the range line was ended
+-- its lines contain no newline byte, and no byte of the version line was read before the range line ended
 pub record IsOpen (pair : OpenPair) : Type 0 where
   pub range : HasNoNewline pair.range.items
   pub version : HasNoNewline pair.version.items

@@ -1,20 +1,20 @@
--- Bytes and their first newline bytes.
+-- Bytes up to their first newline bytes.
 use Rattle.std.specs.Prelude.{◌≡◌, ◌==◌, ℕ, List, [], ◌∷◌, ◌++◌, false, ⊤}
 use Rattle.std.specs.Str.Lines.{strip_carriage_return}
 use Rattle.node_semver.specs.ErrorLocation.{newline}
 
--- no newline byte is among them
+-- the bytes contain no newline byte
 abbrev pub HasNoNewline : List ℕ → Type 0
 HasNoNewline [] = ⊤
 HasNoNewline (b ∷ bytes) = ((b == newline) ≡ false) × HasNoNewline bytes
 
--- The line stands before the first newline byte, and the rest past it.
+-- The line is what comes before the first newline byte, and the rest is what comes after it.
 pub record BeginsWithLine (bytes line rest : List ℕ) : Type 0 where
   pub one_line : HasNoNewline line
   pub split : bytes ≡ line ++ (newline ∷ rest)
 
--- A range line stands first and then a version line, which is given without its carriage return. The rest stands past
--- them.
+-- The bytes begin with a range line and a version line, each with its newline byte. The version line is given without
+-- its carriage return. The rest comes after them.
 pub record BeginsWithPair (bytes range version rest : List ℕ) : Type 0 where
   pub others : List ℕ
   pub line : List ℕ

@@ -1,8 +1,8 @@
-//! Lines longer than what one read gives, and what stands where one read ends.
+//! Lines that are longer than one read, and bytes where one read ends.
 use super::outcome::{Outcome, WHOLE, gives, outcome_of};
 use std::alloc::{AllocError, Global};
 
-/// A text, a piece so many times, and the rest.
+/// A text, a piece repeated so many times, and the rest.
 fn repeated(
     alloc: Global,
     prefix: &[u8],
@@ -18,7 +18,7 @@ fn repeated(
     Ok(input)
 }
 
-/// Whether a repeated text gives this output, by reads of so many bytes.
+/// Returns `true` if a repeated text gives this output, with reads of so many bytes.
 fn repeated_gives(
     alloc: Global,
     row: &(&[u8], &[u8], usize, &[u8]),
@@ -31,7 +31,7 @@ fn repeated_gives(
     }
 }
 
-/// A text, a piece so many times, and the rest; and what they give.
+/// A text, a piece repeated so many times, and the rest; and the output.
 const LONG: &[((&[u8], &[u8], usize, &[u8]), &[u8])] = &[
     ((b"", b">=1.0.0 ", 10_000, b"\n1.0.0\n"), b"yes\n"),
     (
@@ -52,7 +52,7 @@ const LONG: &[((&[u8], &[u8], usize, &[u8]), &[u8])] = &[
     ((b"1", b" ", 8_191, b"\n1.0.0\n1\n2.0.0\n"), b"yes\nno\n"),
     ((b"1", b" ", 99_999, b"\r\n1.0.0\n"), b"yes\n"),
     ((b"1", b" ", 99_999, b""), b"missing version\n"),
-    // Version lines of as many.
+    // Version lines of the same lengths.
     (
         (b"1\nv", b" ", 4_089, b"1.0.0\n1\n1.0.0\n"),
         b"bad version\nyes\n",
@@ -72,7 +72,7 @@ const LONG: &[((&[u8], &[u8], usize, &[u8]), &[u8])] = &[
     ((b"1\nv", b" ", 99_994, b"1.0.0"), b"bad version\n"),
 ];
 
-/// How many bytes a read gives of long lines.
+/// How many bytes a read returns of long lines.
 const READS: &[usize] = &[4095, 4096, 4097];
 
 #[test]
@@ -84,11 +84,11 @@ fn answers_long_lines_with_ample_memory(rt: HostRuntime) {
     }
 }
 
-/// What stands past a range line that is filled up, and what it gives.
+/// The bytes after a range line that is filled up, and their output.
 const PAST: &[(&[u8], &[u8])] = &[
     (b"\n1.0.0\n1\n2.0.0\n", b"yes\nno\n"),
     (b"\r\n1.0.0\r\n1\n2.0.0\n", b"yes\nno\n"),
-    // The text `\r2` is thrown away; without its carriage return it would be a word.
+    // The word `\r2` is ignored. Without its carriage return it would be a range.
     (b"\r2\n1.0.0\n1\n2.0.0\n", b"yes\nno\n"),
     (b"\n1.0.0\r2\n1\n2.0.0\n", b"bad version\nno\n"),
     (b"\n1.0.0\r\r\n", b"bad version\n"),
@@ -108,7 +108,7 @@ fn ends_lines_anywhere_around_the_end_of_a_read(rt: HostRuntime) {
     }
 }
 
-/// Whether so many pairs with a bad range are answered so, by so many writes.
+/// Returns `true` if so many pairs with a bad range get their answers in so many writes.
 fn bad_ranges_give(alloc: Global, pairs: usize, writes: usize) -> bool {
     match &repeated(alloc, b"", b"\n\n", pairs, b"") {
         Ok(input) => {
@@ -119,7 +119,7 @@ fn bad_ranges_give(alloc: Global, pairs: usize, writes: usize) -> bool {
     }
 }
 
-/// Whether the output says of so many pairs that their range is a bad one.
+/// Returns `true` if the output is `bad range` for so many pairs.
 fn says_bad_ranges(alloc: Global, outcome: &Outcome, pairs: usize) -> bool {
     match &repeated(alloc, b"", b"bad range\n", pairs, b"") {
         Ok(output) => gives(outcome, output),
@@ -127,7 +127,7 @@ fn says_bad_ranges(alloc: Global, outcome: &Outcome, pairs: usize) -> bool {
     }
 }
 
-/// So many pairs with a bad range, and by how many writes they are answered.
+/// The number of pairs with a bad range, and the number of writes for their answers.
 const BAD_RANGES: &[(usize, usize)] = &[(409, 1), (410, 2), (1_000, 3)];
 
 #[test]

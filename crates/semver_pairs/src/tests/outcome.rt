@@ -1,4 +1,4 @@
-//! A run over memory.
+//! A run on readers and writers in memory.
 use super::stepwise::Stepwise;
 use crate::gauge::Gauge;
 use crate::program::run;
@@ -9,7 +9,7 @@ use std::io::Cursor;
 /// All bytes in one call.
 pub(crate) const WHOLE: (usize, usize) = (usize::MAX, usize::MAX);
 
-/// What a run left.
+/// The outcome of a run.
 #[derive(Drop)]
 pub(crate) struct Outcome {
     pub(crate) result: Result<(), RunError>,
@@ -21,32 +21,32 @@ pub(crate) struct Outcome {
 }
 
 impl Outcome {
-    /// What was written.
+    /// The bytes that were written.
     pub(crate) fn text(&self) -> &[u8] {
         let count = self.written.position() as usize;
         self.written.get_ref().get(..count).unwrap_or(&[])
     }
 
-    /// Whether the run ended by a read that failed, and no write has.
+    /// Returns `true` if the run ended with a failed read, and no write has failed.
     pub(crate) fn has_stopped_reading(&self) -> bool {
         let is_told = self.result == Err(RunError::Read);
         is_told && self.has_read_failed && !self.has_write_failed
     }
 
-    /// Whether the run ended by a write that failed, and no read has.
+    /// Returns `true` if the run ended with a failed write, and no read has failed.
     pub(crate) fn has_stopped_writing(&self) -> bool {
         let is_told = self.result == Err(RunError::Write);
         is_told && !self.has_read_failed && self.has_write_failed
     }
 
-    /// Whether the run ended for want of memory, and no read and no write has failed.
+    /// Returns `true` if the run ended because an allocation failed, and no read and no write has failed.
     pub(crate) fn is_out_of_memory(&self) -> bool {
         let is_told = self.result == Err(RunError::Memory);
         is_told && !self.has_read_failed && !self.has_write_failed
     }
 }
 
-/// Runs over the input, with at most so many bytes a call and in all.
+/// Runs the program on the input, with at most so many bytes in one call and in all.
 pub(crate) fn outcome_of(
     alloc: Global,
     input: &[u8],
@@ -68,13 +68,13 @@ pub(crate) fn outcome_of(
     }
 }
 
-/// Whether the run ended well and wrote just this, and no read and no write has failed.
+/// Returns `true` if the run ended with `Ok` and wrote exactly this, and no read and no write has failed.
 pub(crate) fn gives(outcome: &Outcome, output: &[u8]) -> bool {
     let has_failed = outcome.has_read_failed || outcome.has_write_failed;
     outcome.result == Ok(()) && !has_failed && outcome.text() == output
 }
 
-/// Whether a run makes no call where the reader's gauge had failed, or the writer's, and says which had, the reader's
+/// Returns `true` if a run makes no call after a gauge had failed, and its error says which one had, the reader's
 /// first.
 pub(crate) fn leaves_both_alone(
     alloc: Global,
@@ -95,12 +95,12 @@ pub(crate) fn leaves_both_alone(
         Err(RunError::Write) => !has_read,
         _ => false,
     };
-    // Of the calls that failed none was made again.
+    // No failed call was made again.
     let calls = (reader.into_inner().calls, writer.into_inner().calls);
     is_told && calls == (usize::from(has_read), usize::from(has_written))
 }
 
-/// None are left where the first call is to fail.
+/// No bytes if the first call is to fail.
 fn limits(fails: bool) -> (usize, usize) {
     if fails { (usize::MAX, 0) } else { WHOLE }
 }

@@ -1,11 +1,10 @@
-//! A reader or a writer in memory that goes by small steps and fails.
+//! A reader or writer in memory that takes small steps, and fails.
 ghost use Rattle.std.specs.Prelude.{◌≤◌, IfOk};
 
 use std::io;
 use std::io::{ErrorKind, Read, Write};
 
-/// A reader or a writer in memory, which passes at most so many bytes a call and fails once so many
-/// in all have passed.
+/// A reader or writer in memory that passes at most so many bytes in one call, and fails after so many in all.
 #[derive(Drop)]
 pub(crate) struct Stepwise<T> {
     pub(crate) inner: T,

@@ -1,4 +1,4 @@
--- What is seen of what stands after the triple of an end, and of identifiers that it lends.
+-- What a contract sees of an end's extras, and of the identifiers that it borrows.
 use Rattle.std.specs.Prelude.{List, [], ◌∷◌}
 use Rattle.semver_cuts.specs.declared.cut.Cut.{Cut}
 use Rattle.semver_cuts.specs.declared.cut.Cut.TheVariants.{After, Before, End, Start}
@@ -22,12 +22,12 @@ build_seen Nothing = []
 build_seen Zero = []
 build_seen (Lists lists) = values_of lists.value.build.items
 
--- the identifiers that are lent
+-- the borrowed identifiers
 abbrev pub lent_seen : Lent → List IdentifierValue
 lent_seen (ListLent identifiers) = values_of identifiers.now
 lent_seen ZeroLent = numeric 0 ∷ []
 
--- the cut stands at a version of the same triple
+-- the cut is just before or just after a version with the same triple
 abbrev pub IsAtTriple : Cut VersionValue → VersionValue → Type 0
 IsAtTriple (Before v) w = HasSameTriple v w
 IsAtTriple (After v) w = HasSameTriple v w

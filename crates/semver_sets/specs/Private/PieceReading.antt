@@ -7,7 +7,7 @@ use Rattle.semver_sets.specs.Characters.{bar}
 abbrev pub Piece : Type 0
 Piece = List ℕ × Option (List ℕ)
 
--- what follows `||`, where the text begins with it
+-- what follows `||`, if the text begins with it
 abbrev pub bars_after : List ℕ → Option (List ℕ)
 bars_after [] = None
 bars_after (b ∷ []) = None
@@ -17,7 +17,7 @@ bars_after (b ∷ c ∷ rest) = if (b == bar) && (c == bar) then Some rest else 
 abbrev pub behind : List ℕ → Piece → Piece
 behind before p = (before ++ p.0, p.1)
 
--- nothing where `||` stands, and one character more than the next place gives where it does not
+-- an empty piece if the text begins with `||`, else one character more than the piece from the next place on
 abbrev pub piece_from : ℕ → Option (List ℕ) → Piece → Piece
 piece_from b None p = (b ∷ p.0, p.1)
 piece_from b (Some after) p = ([], Some after)
@@ -27,7 +27,7 @@ unfoldable pub piece_at : List ℕ → Piece
 piece_at [] = ([], None)
 piece_at (b ∷ rest) = piece_from b (bars_after (b ∷ rest)) (piece_at rest)
 
--- ---- what is seen of what the code answers
+-- ---- what a contract sees of the results of the code
 
 abbrev pub some_seen : Option (Bor (List ℕ)) → Option (List ℕ)
 some_seen None = None

@@ -1,4 +1,4 @@
--- What the private functions that make the sets of a range do.
+-- What the private functions compute that make the sets of a range.
 use Rattle.std.specs.Prelude.{◌≡◌, ◌≤◌, ◌↔◌, ℕ, Bool, List, [], ◌∷◌, ◌++◌, if◌then◌else◌, Option, Some, None}
 use Rattle.std.specs.Prelude.{IfSome, IsSome, Ok}
 use Rattle.semver_cuts.specs.declared.cut.Cut.{Cut}
@@ -16,37 +16,37 @@ use Rattle.semver_sets.specs.Private.WordViews.{listed}
 use Rattle.semver_sets.specs.Private.WordReading.{Lead, lead_comparator, read_partial}
 use Rattle.semver_sets.specs.declared.TheConstants.{MAX_SAFE_INTEGER}
 
--- the comparators merged into one, or none where there are none
+-- the comparators merged into one, or none if there are none
 abbrev pub IsMerged : List Comparator → Option Comparator → Type 0
 IsMerged comparators None = comparators ≡ []
 IsMerged comparators (Some merged) = IsSetOf comparators merged
 
--- a word more, and its comparator, if it writes one
+-- one more word, whose comparator is merged if it gives one
 abbrev pub IsOneMerged : Option Comparator → Option Comparator → Option Comparator → Type 0
 IsOneMerged before word after = (comparators : List Comparator) → IsMerged comparators before
     → IsMerged (comparators ++ listed word) after
 
--- what is seen of comparators that are merged as they come: none before the first came
+-- what a contract sees of the comparators merged so far: none before the first
 abbrev pub merged_seen : Bool → Cut VersionValue → Cut VersionValue → Option Comparator
 merged_seen found lower upper = if found then Some (span_between lower upper) else None
 
--- comparators came, and a cut is common to all of them
+-- there was a comparator, and a cut lies in all of them
 abbrev pub HasSpan : Option Comparator → Type 0
 HasSpan None = ⊥
 HasSpan (Some merged) = HoldsCut version_cmp merged
 
--- the span of merged comparators, or none where there are none or no cut lies between their ends
+-- the span of merged comparators, or none if there are none or no cut lies between their ends
 abbrev pub IsSpanOf : Option Comparator → Option (Ends VersionValue) → Type 0
 IsSpanOf None span = span ≡ None
 IsSpanOf (Some merged) span =
     (IsSome span ↔ HoldsCut version_cmp merged) × IfSome span (λ ends. ends ≡ merged)
 
--- those of an alternative
+-- the merged comparators of an alternative
 abbrev pub IsMergedAlternative : List ℕ → Option Comparator → Type 0
 IsMergedAlternative text merged = (comparators : List Comparator) × IsAlternative text comparators
     × IsMerged comparators merged
 
--- the set of an alternative, or none where its comparators give none
+-- the set of an alternative, or none if its comparators give none
 pub data IsSetOfAlternative (text : List ℕ) (set : Option (Ends VersionValue)) : Type 0 where
   given : (comparators : List Comparator) (ends : Ends VersionValue) → IsAlternative text comparators
       → GiveSet comparators
@@ -54,13 +54,13 @@ pub data IsSetOfAlternative (text : List ℕ) (set : Option (Ends VersionValue))
   not_given : (comparators : List Comparator) → IsAlternative text comparators → ¬ GiveSet comparators → set ≡ None
       → IsSetOfAlternative text set
 
--- the text is one alternative, which is all of the range, and it has one comparator, which holds a cut: `^1.2.3`
+-- the text is a single alternative with a single comparator, which contains a cut: `^1.2.3`
 pub record IsOnlyComparator (text : List ℕ) (comparator : Comparator) : Type 0 where
   pub alternative : IsAlternative text (comparator ∷ [])
   pub no_bars : ¬ HasBars text
   pub below : IsCutBelow version_cmp comparator.lower comparator.upper
 
--- three numbers, which are the whole text, the partial that it begins with and the version
+-- the whole text is three numbers, as a partial and as a version
 pub record IsFullText (text : List ℕ) (major minor patch : ℕ) : Type 0 where
   pub digit : BeginsWith is_digit text
   pub read : Some (plain_partial (Some major) (Some minor) (Some patch), []) ≡ read_partial text
@@ -69,11 +69,11 @@ pub record IsFullText (text : List ℕ) (major minor patch : ℕ) : Type 0 where
   pub minor_limit : minor ≤ MAX_SAFE_INTEGER
   pub patch_limit : patch ≤ MAX_SAFE_INTEGER
 
--- the comparator that they write after a lead
+-- the comparator that a lead and three numbers give
 abbrev pub full_comparator : Lead → ℕ → ℕ → ℕ → Option Comparator
 full_comparator lead major minor patch = lead_comparator lead (plain_partial (Some major) (Some minor) (Some patch))
 
--- a lead and three numbers are the whole text, and write its only comparator
+-- the whole text is a lead and three numbers, and this is its only comparator
 pub record IsFull (text : List ℕ) (lead : Lead) (major minor patch : ℕ) : Type 0 where
   pub comparator : Comparator
   pub written : full_comparator lead major minor patch ≡ Some comparator
@@ -82,12 +82,12 @@ pub record IsFull (text : List ℕ) (lead : Lead) (major minor patch : ℕ) : Ty
   pub minor_limit : minor ≤ MAX_SAFE_INTEGER
   pub patch_limit : patch ≤ MAX_SAFE_INTEGER
 
--- a list of the set, or of none
+-- the set as a list, or the empty list
 abbrev pub listed_set : Option (Ends VersionValue) → List (Ends VersionValue)
 listed_set None = []
 listed_set (Some set) = set ∷ []
 
--- the sets of one alternative more
+-- the sets with those of one more alternative
 abbrev pub IsOneMore : List ℕ → List (Ends VersionValue) → List (Ends VersionValue) → Type 0
 IsOneMore text before after = (set : Option (Ends VersionValue)) × IsSetOfAlternative text set
     × (after ≡ before ++ listed_set set)

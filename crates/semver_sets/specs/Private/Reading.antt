@@ -1,5 +1,5 @@
--- What the private readers compute, on lists of bytes: a value and the rest, or a fault. The lemmas of
--- `proofs/` tie it to what the texts mean; no public contract speaks of it.
+-- What the private readers compute, on lists of bytes: a value and the rest, or a fault. The lemmas of `proofs/`
+-- connect it with the meaning of the texts. No public contract uses it.
 use Rattle.std.specs.Prelude.{ℕ, ◌==◌, nat_le, if◌then◌else◌, Bool, true, false}
 use Rattle.std.specs.Prelude.{List, [], ◌∷◌, length, map, Result, Ok, Err}
 use Rattle.semver_sets.specs.declared.TheConstants.{MAX_SAFE_INTEGER}
@@ -22,7 +22,7 @@ abbrev pub ◌>>=◌ : {A B : Type 0} → Result A Fault → (A → Result B Fau
 Ok x >>= f = f x
 Err e >>= f = Err e
 
--- the longest prefix whose characters all pass, and the rest
+-- the longest prefix whose characters all pass the test, and the rest
 unfoldable pub prefix_of : (ℕ → Bool) → List ℕ → List ℕ
 prefix_of test [] = []
 prefix_of test (b ∷ rest) = if test b then b ∷ prefix_of test rest else []
@@ -31,16 +31,16 @@ unfoldable pub rest_of : (ℕ → Bool) → List ℕ → List ℕ
 rest_of test [] = []
 rest_of test (b ∷ rest) = if test b then rest_of test rest else b ∷ rest
 
--- whether the first character passes
+-- `true` if the first character passes the test
 abbrev pub begins : (ℕ → Bool) → List ℕ → Bool
 begins test [] = false
 begins test (b ∷ rest) = test b
 
--- a word is missing here
+-- a number or a dot is missing here
 abbrev pub missing : {A : Type 0} → List ℕ → Result A Fault
 missing text = Err (Missing (length text))
 
--- all the digits that stand together, at most MAX_SAFE_INTEGER
+-- all leading digits, which write at most MAX_SAFE_INTEGER
 unfoldable pub read_number : List ℕ → Read ℕ
 read_number text =
     if begins is_digit text then
@@ -51,12 +51,12 @@ read_number text =
     else Err (TooLarge (length text))
     else missing text
 
--- the text without its first dot
+-- the text without the dot that it begins with
 unfoldable pub read_dot : List ℕ → Result (List ℕ) Fault
 read_dot [] = missing []
 read_dot (b ∷ rest) = if b == dot then Ok rest else missing (b ∷ rest)
 
--- whether a list of identifiers goes on here: an identifier character, or a dot and one
+-- `true` if a list of identifiers goes on here: with an identifier character, or a dot and one
 abbrev pub goes_on : List ℕ → Bool
 goes_on [] = false
 goes_on (b ∷ rest) =
@@ -75,12 +75,12 @@ list_rest (b ∷ rest) = if goes_on (b ∷ rest) then list_rest rest else b ∷ 
 abbrev pub list_values : List ℕ → List IdentifierValue
 list_values text = map identifier_of (parts_of (list_prefix text))
 
--- that list and the rest; or nothing, and the text `otherwise`
+-- that list and the rest, or no identifiers and the text `otherwise`
 abbrev pub read_list_or : List ℕ → List ℕ → List IdentifierValue × List ℕ
 read_list_or otherwise text =
     if begins is_identifier_character text then (list_values text, list_rest text) else ([], otherwise)
 
--- the bytes after a mark, where there is one
+-- the bytes after a mark if the text begins with one, else the text
 unfoldable pub skip_one : (ℕ → Bool) → List ℕ → List ℕ
 skip_one is_mark [] = []
 skip_one is_mark (b ∷ rest) = if is_mark b then rest else b ∷ rest
@@ -89,16 +89,16 @@ skip_one is_mark (b ∷ rest) = if is_mark b then rest else b ∷ rest
 abbrev pub is_hyphen : ℕ → Bool
 is_hyphen b = b == hyphen
 
--- a prerelease, which may be missing
+-- an optional prerelease
 unfoldable pub read_prerelease : List ℕ → List IdentifierValue × List ℕ
 read_prerelease text = read_list_or text (skip_one is_hyphen text)
 
--- the bytes after a plus; none where there is no plus
+-- the bytes after a plus, or no bytes if the text does not begin with one
 unfoldable pub skip_plus : List ℕ → List ℕ
 skip_plus [] = []
 skip_plus (b ∷ rest) = if b == plus then rest else []
 
--- a build, which may be missing
+-- an optional build
 unfoldable pub read_build : List ℕ → List IdentifierValue × List ℕ
 read_build text = read_list_or text (skip_plus text)
 
@@ -146,6 +146,6 @@ read_unmarked text = read_triple text >>= λ numbers. read_extended numbers.0 nu
 abbrev pub read_from_major : ℕ × List ℕ → Read VersionValue
 read_from_major major = read_minor_and_patch major >>= λ numbers. read_extended numbers.0 numbers.1
 
--- a mark or none, blanks or none, and an unmarked version
+-- an optional mark, optional blanks, and an unmarked version
 unfoldable pub read_version : List ℕ → Read VersionValue
 read_version text = read_unmarked (rest_of is_blank (skip_one is_version_mark text))

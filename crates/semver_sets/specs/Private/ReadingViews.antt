@@ -1,4 +1,4 @@
--- What is seen of what the private readers answer.
+-- What a contract sees of the results of the private readers.
 use Rattle.std.specs.Prelude.{◌≡◌, ◌<◌, ◌≤◌, ◌⊎◌, ℕ, Bool, true, List, [], ◌∷◌}
 use Rattle.std.specs.Prelude.{length, Result, Ok, Err, IsOk}
 use Rattle.std.specs.Borrow.{Bor}
@@ -14,11 +14,11 @@ use Rattle.semver_sets.specs.declared.identifier.Identifier.{Identifier}
 use Rattle.semver_sets.specs.declared.parse.fault.Fault.{Fault}
 use Rattle.semver_sets.specs.declared.parse.fault.Fault.TheVariants.{LeftOver, Missing, OutOfMemory, TooLarge, TooLong}
 
--- a function of the code answers of each byte what this test says
+-- a function of the code returns for each byte what this test returns
 abbrev pub IsTest : (ℕ → Bool → Type 0) → (ℕ → Bool) → Type 0
 IsTest answers test = (b : ℕ) (r : Bool) → b < 256 → answers b r → r ≡ test b
 
--- how many bytes of the text stand from the fault on
+-- the number of bytes left from the fault on
 abbrev pub left_of : Fault → ℕ
 left_of (TooLong left) = left
 left_of (Missing left) = left
@@ -26,21 +26,21 @@ left_of (TooLarge left) = left
 left_of (LeftOver left) = left
 left_of OutOfMemory = 0
 
--- no fault: memory was refused
+-- no fault of the text: an allocation failed
 abbrev pub IsWantOfMemory : Fault → Type 0
 IsWantOfMemory f = f ≡ OutOfMemory
 
--- what a reader that takes no memory answered
+-- the result of a reader that does not allocate
 abbrev pub seen : {A : Type 0} → Result (A × Bor (List ℕ)) Fault → Read A
 seen (Ok x) = Ok (x.0, x.1.now)
 seen (Err f) = Err f
 
--- what a reader answered, seen by a view, is what reading gives, unless memory ran out
+-- the result of a reader is what reading gives, unless an allocation failed
 abbrev pub Gives : {X A : Type 0} → (X → A) → Result X Fault → Result A Fault → Type 0
 Gives view (Ok x) read = read ≡ Ok (view x)
 Gives view (Err f) read = IsWantOfMemory f ⊎ (read ≡ Err f)
 
--- the text without its first dot
+-- the text without the dot that it begins with
 abbrev pub dot_seen : Result (Bor (List ℕ)) Fault → Result (List ℕ) Fault
 dot_seen (Ok rest) = Ok rest.now
 dot_seen (Err f) = Err f
@@ -54,7 +54,7 @@ abbrev pub extras_seen : (Vec Identifier Global × Vec Identifier Global) × Bor
     → (List IdentifierValue × List IdentifierValue) × List ℕ
 extras_seen x = ((values_of x.0.0.items, values_of x.0.1.items), x.1.now)
 
--- where a version with no prerelease and no build is read, the answer is not want of memory
+-- if the version has no prerelease and no build, the result is `Ok`
 abbrev pub IsPlainOk : {X : Type 0} → Result X Fault → Read VersionValue → Type 0
 IsPlainOk r (Ok x) = x.0.pre_release ≡ [] → x.0.build ≡ [] → IsOk r
 IsPlainOk r (Err f) = Unit {0}
@@ -71,11 +71,11 @@ pub record IsNextIdentifier (text part rest : List ℕ) : Type 0 where
   pub part_is : part ≡ prefix_of is_identifier_character next
   pub rest_is : rest ≡ rest_of is_identifier_character next
 
--- a triple at the very start of the text, and the rest
+-- a triple that the text begins with, and the rest
 pub record IsLeadingTriple (text : List ℕ) (triple : ℕ × ℕ × ℕ) (rest : List ℕ) : Type 0 where
   pub digit : BeginsWith is_digit text
   pub read : read_triple text ≡ Ok (triple, rest)
 
--- the same of a text that is no longer than a version's
+-- the same, for a text that is no longer than a version can be
 abbrev pub IsBegun : List ℕ → ℕ × ℕ × ℕ → List ℕ → Type 0
 IsBegun text triple rest = IsLeadingTriple text triple rest × (length text ≤ MAX_LENGTH)

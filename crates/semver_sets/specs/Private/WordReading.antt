@@ -1,5 +1,5 @@
--- What the private readers of words compute, on lists of bytes. The lemmas of `proofs/` tie it to what the words mean;
--- no public contract speaks of it.
+-- What the private readers of words compute, on lists of bytes. The lemmas of `proofs/` connect it with the meaning of
+-- the words. No public contract uses it.
 use Rattle.std.specs.Prelude.{ℕ, ◌==◌, not, if◌then◌else◌, Bool, true, List, [], ◌∷◌, Option, Some, None, Ok, Err}
 use Rattle.semver_sets.specs.CaretRanges.{caret_row}
 use Rattle.semver_sets.specs.Characters.{caret, dot, greater_sign, hyphen, is_blank, is_partial_mark, is_x, tilde}
@@ -12,11 +12,11 @@ use Rattle.semver_sets.specs.PartialText.{Partial, plain_partial, zeroed}
 use Rattle.semver_sets.specs.TildeRanges.{tilde_greater_row, tilde_row}
 use Rattle.semver_sets.specs.Private.Reading.{Read, begins, read_extras, read_number, rest_of, skip_one}
 
--- no blank
+-- any character but a blank
 abbrev pub is_solid : ℕ → Bool
 is_solid b = not (is_blank b)
 
--- whether a word may end before this text
+-- `true` if a word can end before this text
 abbrev pub is_clean : List ℕ → Bool
 is_clean [] = true
 is_clean (b ∷ rest) = is_blank b
@@ -76,16 +76,16 @@ with_first (Some major) = read_from_minor major.0 major.1
 unfoldable pub read_components : List ℕ → ReadPartial
 read_components text = with_first (read_component text)
 
--- a mark or none, blanks or none, and components
+-- an optional mark, optional blanks, and components
 unfoldable pub read_partial : List ℕ → ReadPartial
 read_partial text = read_components (rest_of is_blank (skip_one is_partial_mark text))
 
--- that partial, where it ends at a clean end
+-- that partial, if it ends at a clean end
 abbrev pub up_to_clean : ReadPartial → ReadPartial
 up_to_clean None = None
 up_to_clean (Some r) = if is_clean r.1 then Some r else None
 
--- ---- what stands before the partial of a word
+-- ---- what is written before the partial of a word
 
 -- nothing, an operator, a tilde, a tilde and a `>`, or a caret
 pub data Lead : Type 0 where
@@ -95,12 +95,12 @@ pub data Lead : Type 0 where
   tilde_greater_lead : Lead
   caret_lead : Lead
 
--- the longer operator where a `=` stands here, else the shorter one
+-- the longer operator if a `=` follows here, else the shorter one
 abbrev pub with_equals : Operator → Operator → List ℕ → Operator × List ℕ
 with_equals longer shorter [] = (shorter, [])
 with_equals longer shorter (b ∷ rest) = if b == 61 then (longer, rest) else (shorter, b ∷ rest)
 
--- the longest operator with which a text begins, and the rest
+-- the longest operator that a text begins with, and the rest
 unfoldable pub read_operator : List ℕ → Option (Operator × List ℕ)
 read_operator [] = None
 read_operator (b ∷ rest) =
@@ -109,7 +109,7 @@ read_operator (b ∷ rest) =
     if b == 60 then Some (with_equals less_or_equal less rest) else
     None
 
--- an operator and the rest without its blanks; or nothing, and the text
+-- an operator and the rest without its leading blanks; or no operator, and the text
 abbrev pub operator_lead : Option (Operator × List ℕ) → List ℕ → Lead × List ℕ
 operator_lead None text = (no_lead, text)
 operator_lead (Some read) text = (operator read.0, rest_of is_blank read.1)

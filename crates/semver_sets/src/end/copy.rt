@@ -6,7 +6,7 @@ use crate::identifier::copy::copies_of;
 use std::alloc::AllocError;
 
 impl End {
-    // A copy takes memory for lists alone.
+    // A copy. Allocates only for lists.
     #[inline]
     pub(crate) fn copy(&self) -> Result<End, AllocError>
         ensures { IfOk result (λ copy. copy ≡ self.now) }

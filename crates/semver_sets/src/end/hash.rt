@@ -1,4 +1,4 @@
-//! What ends feed a hasher: what the versions feed that they stand for.
+//! An end feeds a hasher what its version does.
 ghost use Rattle.semver_sets.specs.Hash.{version_writes};
 ghost use Rattle.semver_sets.specs.Lemmas.Hash.{version_alike};
 

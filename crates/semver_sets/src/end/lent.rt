@@ -1,4 +1,7 @@
-//! The identifiers of a prerelease as an end lends them: no list stands in memory for a 0 alone.
+//! The identifiers of an end's prerelease, by reference. The prerelease `0` alone is stored as no list, so [`Zero`]
+//! provides one.
+//!
+//! `#[inline(always)]`: each function here is one test, on the way of comparisons.
 ghost use Rattle.std.specs.Prelude.{◌≡◌, ◌↔◌, ◌∷◌, [], IsTrue};
 ghost use Rattle.semver_sets.specs.Identifier.{values_of};
 ghost use Rattle.semver_sets.specs.IdentifierValue.{numeric};
@@ -7,17 +10,17 @@ ghost use Rattle.semver_sets.specs.Private.EndViews.{lent_seen};
 use crate::Identifier;
 use std::marker::Model;
 
-/// The identifiers of a prerelease: a list, or the number 0 alone.
+/// The identifiers of a prerelease: a borrowed list, or the number 0 alone.
 #[derive(Clone, Copy)]
 pub enum Lent<'a> {
-    /// those of a list
+    /// a borrowed list
     List(&'a [Identifier]),
-    /// 0 alone
+    /// the number 0 alone
     Zero,
 }
 
 impl<'a> Lent<'a> {
-    /// Whether there is none.
+    /// Returns `true` if there are no identifiers.
     #[inline(always)]
     pub fn is_empty(self) -> bool
         ensures { IsTrue result ↔ (lent_seen self.entry ≡ []) }
@@ -28,7 +31,7 @@ impl<'a> Lent<'a> {
         }
     }
 
-    /// The identifiers as a list, of which a 0 alone is lent by another.
+    /// Returns the identifiers as a slice. If they are the number 0 alone, the slice borrows it from `zero`.
     #[inline(always)]
     pub fn as_slice<'b>(self, zero: &'b Zero) -> &'b [Identifier]
     where
@@ -42,7 +45,7 @@ impl<'a> Lent<'a> {
     }
 }
 
-/// A 0 that is lent where identifiers are asked for and none stand in memory.
+/// The identifier 0, kept by a caller for [`Lent::as_slice`] to borrow.
 #[derive(Drop)]
 pub struct Zero {
     identifier: Identifier,
@@ -61,7 +64,7 @@ impl Model for Zero {
 }
 
 impl Zero {
-    /// The identifier 0.
+    /// Returns the identifier 0.
     #[inline(always)]
     pub fn new() -> Zero
         ensures { result ≡ numeric 0 }

@@ -1,4 +1,4 @@
-//! The order of ends is that of the versions that they stand for.
+//! Equality and order of ends: those of their versions.
 ghost use Rattle.std.specs.Prelude.{◌≡◌, [], Some, refl};
 ghost use Rattle.std.specs.Cmp.{eq_by_cmp_equiv, partial_equiv_from_equiv, po};
 ghost use Rattle.std.specs.Ordering.{eq_by_cmp};
@@ -62,7 +62,8 @@ impl Ord for End {
 }
 
 impl End {
-    // The order of two ends with one triple. Most have no lists.
+    // The order of two ends with the same triple. `inline(always)`: most ends have no lists, and those are compared
+    // without a call.
     #[inline(always)]
     fn cmp_extras(&self, other: &End) -> Ordering
         ensures { result ≡ prerelease_cmp self.now.pre_release other.now.pre_release }
@@ -86,7 +87,8 @@ impl End {
         )
     }
 
-    /// How the end compares with the release of its triple.
+    /// Returns the order of this end and the release of its triple. `Less` if the end is a prerelease, and else
+    /// `Equal`.
     #[inline(always)]
     pub fn cmp_release(&self) -> Ordering
         ensures { result ≡ prerelease_cmp self.now.pre_release [] }
@@ -98,7 +100,7 @@ impl End {
         }
     }
 
-    /// How the end compares with the version of its triple that has this prerelease.
+    /// Returns the order of this end and the version of its triple that has this prerelease.
     #[inline(never)]
     pub fn cmp_pre_release(&self, identifiers: &[Identifier]) -> Ordering
         ensures { result ≡ prerelease_cmp self.now.pre_release (values_of identifiers.now) }

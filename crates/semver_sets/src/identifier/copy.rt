@@ -7,15 +7,15 @@ ghost use Rattle.semver_sets.specs.IdentifierValue.{numeric};
 use crate::Identifier;
 use std::alloc::{AllocError, Global};
 
-/// A copy is the same number, or the same text.
+/// Returns a copy: the same number or the same text.
 ///
 /// # Errors
 ///
-/// `AllocError` where memory for the text is refused.
+/// Returns `AllocError` if the allocation of the text fails.
 ///
 /// # Memory
 ///
-/// Takes none for a number, and the bytes of a text.
+/// Does not allocate for a number. For a text, allocates its bytes.
 impl Clone for Identifier {
     ghost is_clone = { λ i copy. value_of copy ≡ value_of i };
 
@@ -34,15 +34,15 @@ impl Clone for Identifier {
     }
 }
 
-/// Copies of identifiers.
+/// Returns copies of the identifiers.
 ///
 /// # Errors
 ///
-/// `AllocError` where memory is refused.
+/// Returns `AllocError` if an allocation fails.
 ///
 /// # Memory
 ///
-/// Takes the list and its texts; none for no identifiers.
+/// Allocates the list and its texts. Does not allocate if there are no identifiers.
 #[inline]
 pub fn copies_of(alloc: Global, identifiers: &[Identifier]) -> Result<Vec<Identifier>, AllocError>
     ensures copies { IfOk result (λ v. values_of v.items ≡ values_of identifiers.now) }
@@ -58,15 +58,15 @@ pub fn copies_of(alloc: Global, identifiers: &[Identifier]) -> Result<Vec<Identi
     Ok(copies)
 }
 
-/// Copies of identifiers, and the number 0 after them.
+/// Returns copies of the identifiers, followed by the number 0.
 ///
 /// # Errors
 ///
-/// `AllocError` where memory is refused.
+/// Returns `AllocError` if an allocation fails.
 ///
 /// # Memory
 ///
-/// Takes the list and its texts.
+/// Allocates the list and its texts.
 pub fn copies_with_zero(
     alloc: Global,
     identifiers: &[Identifier],

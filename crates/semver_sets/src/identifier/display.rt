@@ -1,4 +1,4 @@
-//! The text of identifiers.
+//! How identifiers are printed.
 
 ghost use Rattle.std.specs.Prelude.{Some};
 ghost use Rattle.semver_sets.specs.Identifier.{value_of};
@@ -7,13 +7,11 @@ ghost use Rattle.semver_sets.specs.Print.{identifier_text};
 use crate::Identifier;
 use std::fmt;
 
-/// The number in decimal without leading zeros, or the text.
-///
-/// A width or a fill is not looked at.
+/// Prints the number in decimal without leading zeros, or the text. Width and fill are ignored.
 ///
 /// # Examples
 ///
-/// `Numeric(1)` prints `1`, also by `{:>9}`.
+/// `Numeric(1)` prints `1`, also with `{:>9}`.
 impl fmt::Display for Identifier {
     ghost output = { λ i. Some (identifier_text (value_of i)) };
 

@@ -1,4 +1,4 @@
-//! What identifiers feed a hasher.
+//! How identifiers are hashed.
 
 ghost use Rattle.semver_sets.specs.Hash.{identifier_writes};
 ghost use Rattle.semver_sets.specs.Lemmas.Hash.{identifier_alike};
@@ -7,11 +7,11 @@ ghost use Rattle.semver_sets.specs.Identifier.{value_of};
 use crate::Identifier;
 use std::hash::{Hash, Hasher};
 
-/// Equal identifiers hash alike. A number and a text are fed after different marks.
+/// Feeds a mark for the kind to the hasher, and then the number or the text. Equal identifiers feed it the same.
 ///
 /// # Memory
 ///
-/// Takes none.
+/// Does not allocate.
 impl Hash for Identifier {
     ghost hash_input = { λ a. identifier_writes (value_of a) };
 

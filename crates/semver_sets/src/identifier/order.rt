@@ -11,12 +11,12 @@ ghost use Rattle.semver_sets.specs.Lemmas.Order.{identifier_total};
 use crate::Identifier;
 use std::cmp::Ordering;
 
-/// Two identifiers are equal where they are the same number or the same text; `Numeric(1)` is not `AlphaNumeric` of
-/// `1`.
+/// Two identifiers are equal if they are the same number or the same text. `Numeric(1)` and the `AlphaNumeric` of `1`
+/// are not equal.
 ///
 /// # Memory
 ///
-/// Takes none.
+/// Does not allocate.
 impl PartialEq for Identifier {
     ghost eq = { on value_of (eq_by_cmp identifier_cmp) };
 
@@ -40,7 +40,7 @@ impl Eq for Identifier {
     ghost laws = { on_equiv value_of (eq_by_cmp_equiv identifier_total) };
 }
 
-/// What `cmp` answers: any two identifiers compare.
+/// Returns `Some` of what `cmp` returns: any two identifiers can be compared.
 impl PartialOrd for Identifier {
     ghost partial_cmp = { λ a b. Some (on value_of identifier_cmp a b) };
 
@@ -55,15 +55,15 @@ impl PartialOrd for Identifier {
     }
 }
 
-/// Numbers by size, texts by bytes, and a number below each text.
+/// Numbers are ordered by size and texts by their bytes. A number is less than every text.
 ///
 /// # Memory
 ///
-/// Takes none.
+/// Does not allocate.
 ///
 /// # Examples
 ///
-/// `2` is below `11`, `11` is below `alpha`, and `Beta` is below `alpha`.
+/// `2` is less than `11`, `11` is less than `alpha`, and `Beta` is less than `alpha`.
 ///
 /// # Source
 ///
@@ -93,7 +93,12 @@ impl Ord for Identifier {
     }
 }
 
-/// The order of two prereleases of one triple. No identifiers are those of a release, which is above each prerelease.
+/// Returns the order of two prereleases of one triple. An empty list stands for the release, which is greater than each
+/// of its prereleases.
+///
+/// # Memory
+///
+/// Does not allocate.
 ///
 /// # Source
 ///

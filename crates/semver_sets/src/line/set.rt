@@ -1,4 +1,4 @@
-//! The text of a set in one array, written from its end, where its ends have no lists.
+//! The text of a set in one array, for sets whose ends have no lists.
 ghost use Rattle.std.specs.Prelude.{◌≡◌, ◌+◌, ◌≤◌, ◌∷◌, ◌++◌, IfSome, codes, drop};
 ghost use Rattle.semver_sets.specs.Print.{version_text};
 ghost use Rattle.semver_sets.specs.RangePrint.{set_text};
@@ -9,10 +9,10 @@ use crate::line::{ROOM, put_byte, put_number, put_triple};
 use semver_cuts::{Cut, Span};
 use std::str;
 
-/// The set's text, written into the array.
+/// Writes the set's text into the array and returns it.
 ///
-/// `None` where it is not like `>=1.2.3 <2.0.0-0`, `1.2.3` or `>=1.2.3`, or an end has a build or a prerelease other
-/// than 0.
+/// Returns `None` if the set has another form than `>=1.2.3 <2.0.0-0`, `1.2.3` or `>=1.2.3`, or if an end has a build
+/// or a prerelease other than `0`.
 #[inline]
 pub fn line_of<'a>(line: &'a mut [u8; ROOM], set: &Span<End>) -> Option<&'a str>
     ensures { IfSome result (λ text. text.now ≡ set_text set.now) }
@@ -21,7 +21,7 @@ pub fn line_of<'a>(line: &'a mut [u8; ROOM], set: &Span<End>) -> Option<&'a str>
     str::from_utf8(&line[start..]).ok()
 }
 
-// Puts the set's text at the end of the line, and says where it begins.
+// Writes the set's text to the end of the line, and returns where it begins.
 #[inline]
 fn put_set(line: &mut [u8; ROOM], set: &Span<End>) -> Option<usize>
     ensures place { IfSome result (λ start. start ≤ ROOM) }

@@ -1,4 +1,4 @@
-//! Where a prerelease and a build end: they are gone over, and nothing is built.
+//! Where a prerelease and a build end. The readers here only pass over them and build nothing.
 ghost use Rattle.std.specs.Prelude.{◌≡◌};
 ghost use Rattle.semver_sets.specs.Private.Reading as Reading;
 
@@ -7,7 +7,8 @@ use crate::parse::identifiers::{
 };
 use crate::parse::skip::begins_clean;
 
-// Whether a list of identifiers goes on here: an identifier character, or a dot and one.
+// Returns `true` if a list of identifiers goes on here: with an identifier character, or a dot and one.
+// `inline(always)`: the test of a loop.
 #[inline(always)]
 fn goes_on(text: &[u8]) -> bool
     ensures { result ≡ Reading.goes_on text.now }
@@ -33,7 +34,7 @@ fn skip_identifiers(text: &[u8]) -> &[u8]
     rest
 }
 
-// What follows a list of identifiers, or `otherwise` where there is no list.
+// What follows a list of identifiers, or `otherwise` if there is no list.
 #[inline]
 fn skip_list<'a>(otherwise: &'a [u8], text: &'a [u8]) -> &'a [u8]
     ensures { result.now ≡ (Reading.read_list_or otherwise.now text.now).1 }
@@ -63,7 +64,8 @@ fn skip_build(text: &[u8]) -> &[u8]
     skip_list(text, skip_plus(text))
 }
 
-// ` <2` of `-alpha.1+5 <2`: a prerelease and a build, which may be missing. Most words have neither.
+// ` <2` of `-alpha.1+5 <2`: what follows an optional prerelease and an optional build. `inline(always)`: most words
+// have neither, which is one test of a byte.
 #[inline(always)]
 pub(crate) fn skip_extras(text: &[u8]) -> &[u8]
     ensures { result.now ≡ (Reading.read_extras text.now).1 }

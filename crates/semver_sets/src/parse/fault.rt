@@ -3,18 +3,19 @@ ghost use Rattle.semver_sets.specs.declared.parse.fault.Fault.TheVariants.{OutOf
 
 use std::alloc::AllocError;
 
-/// What is wrong with a text, and how many of its bytes stand from there on: so no reader has to keep its place.
+/// What is wrong with a text, and how many of its bytes are left from there on. With the number of bytes left, no
+/// reader has to count its place.
 #[derive(Clone, Copy)]
 pub enum Fault {
     /// It has too many bytes.
     TooLong(usize),
-    /// A number or a dot is missing.
+    /// A number or a dot is missing here.
     Missing(usize),
     /// A number is too large.
     TooLarge(usize),
-    /// Bytes are left.
+    /// These bytes are left after the end of the version.
     LeftOver(usize),
-    /// Nothing is wrong: memory was refused.
+    /// Nothing is wrong with the text: an allocation failed.
     OutOfMemory,
 }
 

@@ -1,10 +1,12 @@
-//! Texts that are three numbers and no more, as most versions and nine of ten ranges are.
+//! Texts that are three numbers with dots and nothing else, like most versions. Nine of ten ranges are such a text
+//! after `^`, `~` or nothing.
 ghost use Rattle.std.specs.Prelude.{IfSome};
 ghost use Rattle.semver_sets.specs.Private.RangeViews.{IsFullText};
 
 use crate::parse::number::read_number;
 
-/// The numbers of `1.2.3`, where three numbers of at most `MAX_SAFE_INTEGER` and two dots are the whole text.
+/// Returns the numbers of `1.2.3` if the whole text is three numbers of at most `MAX_SAFE_INTEGER` with two dots.
+// `inline(always)`: the usual version is then read without a call, and its numbers stay in registers.
 #[inline(always)]
 pub fn read_full_triple(text: &[u8]) -> Option<(u64, u64, u64)>
     ensures { IfSome result (λ t. IsFullText text.now t.0 t.1 t.2) }

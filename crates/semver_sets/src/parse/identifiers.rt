@@ -15,7 +15,7 @@ use crate::parse::skip::{skip_one, split};
 use std::alloc::{AllocError, Global};
 use std::str;
 
-// Each identifier character stands at its own place, and a comma at every other place.
+// Each identifier character is at its own index. At every other index is a comma, which is none.
 static IDENTIFIER_CHARACTERS: [u8; 256] = *b"\
     ,,,,,,,,,,,,,,,,,,,,,,,,,,,,,,,,\
     ,,,,,,,,,,,,,-,,0123456789,,,,,,\
@@ -26,10 +26,11 @@ static IDENTIFIER_CHARACTERS: [u8; 256] = *b"\
     ,,,,,,,,,,,,,,,,,,,,,,,,,,,,,,,,\
     ,,,,,,,,,,,,,,,,,,,,,,,,,,,,,,,,";
 
-// Room for this many identifiers is taken at once. Most lists have no more.
+// A list gets room for this many identifiers at once. Most lists have no more.
 const USUAL_IDENTIFIERS: usize = 4;
 
-// An ASCII letter, a digit or `-`.
+// An ASCII letter, a digit or `-`. `inline(always)` in this file: these are the steps of the loop over a list of
+// identifiers.
 #[inline(always)]
 pub(crate) fn is_identifier_character(byte: u8) -> bool
     ensures { result ≡ Characters.is_identifier_character byte }
@@ -37,7 +38,7 @@ pub(crate) fn is_identifier_character(byte: u8) -> bool
     IDENTIFIER_CHARACTERS[byte as usize] != b','
 }
 
-// Whether the text begins with an identifier.
+// Returns `true` if the text begins with an identifier.
 #[inline(always)]
 pub(crate) fn begins_identifier(text: &[u8]) -> bool
     ensures { result ≡ Reading.begins Characters.is_identifier_character text.now }
@@ -57,7 +58,7 @@ fn split_identifier(text: &[u8]) -> (&[u8], &[u8])
     split(text, is_identifier_character)
 }
 
-// A number with one digit more, where it has at most 64 bits.
+// The number with one more digit, if it has at most 64 bits.
 #[inline(always)]
 fn one_more(value: u64, byte: u8) -> Option<u64>
     ensures { let more = value * 10 + (byte - 48) in
@@ -70,13 +71,13 @@ fn one_more(value: u64, byte: u8) -> Option<u64>
     tens.checked_add(u64::from(byte - b'0'))
 }
 
-// The number that digits write, where it has at most 64 bits.
+// The number that the digits write, if the text is digits only and the number has at most 64 bits.
 #[inline(always)]
 fn numeric(text: &[u8]) -> Option<u64>
     ensures { result ≡ (if list_all Characters.is_digit text.now && nat_lt (number_of text.now) (2 ^ 64)
         then Some (number_of text.now) else None) }
 {
-    // Most identifiers begin with a letter.
+    // Most identifiers begin with a letter: they are no numbers.
     if let [first, ..] = text
         && !is_digit(*first)
     {
@@ -94,7 +95,7 @@ fn numeric(text: &[u8]) -> Option<u64>
     Some(value)
 }
 
-// The identifier that a text of identifier characters stands for.
+// The identifier that a text of identifier characters writes.
 #[inline(always)]
 fn identifier_of(alloc: Global, text: &[u8]) -> Result<Identifier, AllocError>
     requires { AreAll Characters.is_identifier_character text.now }
@@ -103,14 +104,14 @@ fn identifier_of(alloc: Global, text: &[u8]) -> Result<Identifier, AllocError>
     match numeric(text) {
         Some(number) => Ok(Identifier::Numeric(number)),
         None => {
-            // Identifier characters are ASCII.
+            // Safe: identifier characters are ASCII.
             let text = unsafe { str::from_utf8_unchecked(text) };
             Ok(Identifier::AlphaNumeric(String::from_str(alloc, text)?))
         }
     }
 }
 
-// `1` and `+5` of `.1+5`: a dot, the identifier that follows it and the rest, where one follows
+// `1` and `+5` of `.1+5`: the identifier after a dot, and the rest. `None` if the text has no such.
 #[inline(always)]
 fn read_next_identifier(text: &[u8]) -> Option<(&[u8], &[u8])>
     ensures next { IfSome result (λ parts. IsNextIdentifier text.now parts.0.now parts.1.now) }
@@ -127,7 +128,8 @@ fn read_next_identifier(text: &[u8]) -> Option<(&[u8], &[u8])>
     Some((part, rest))
 }
 
-// `alpha.1` and `+5` of `alpha.1+5`: identifiers with dots between them, and the rest
+// `alpha.1` and `+5` of `alpha.1+5`: identifiers with dots between them, and the rest. `inline(never)`: most versions
+// have no list, and then need no stack for it.
 #[inline(never)]
 fn read_identifiers(alloc: Global, text: &[u8]) -> Result<(Vec<Identifier>, &[u8]), AllocError>
     ensures { IfOk result (IsListRead (Reading.list_values text.now, Reading.list_rest text.now)) }
@@ -146,7 +148,7 @@ fn read_identifiers(alloc: Global, text: &[u8]) -> Result<(Vec<Identifier>, &[u8
     }
 }
 
-// A list of identifiers and the rest, or no identifiers and `otherwise`.
+// A list of identifiers and the rest, or no identifiers and `otherwise` if there is no list.
 #[inline(always)]
 fn read_identifiers_or<'a>(
     alloc: Global,
@@ -163,7 +165,7 @@ fn read_identifiers_or<'a>(
     }
 }
 
-// The text without its first `-`, where it begins with one.
+// The text without the `-` that it begins with, if it does.
 #[inline(always)]
 pub(crate) fn skip_hyphen(text: &[u8]) -> &[u8]
     ensures { result.now ≡ Reading.skip_one Reading.is_hyphen text.now }
@@ -171,7 +173,7 @@ pub(crate) fn skip_hyphen(text: &[u8]) -> &[u8]
     skip_one(text, |byte| byte == b'-')
 }
 
-// The text without its first `+`, and no text where it begins with none.
+// The text without the `+` that it begins with, or an empty text if it begins with none.
 #[inline(always)]
 #[tactic(auto, unfolding(crate::specs::Private::Reading::skip_plus))]
 pub(crate) fn skip_plus(text: &[u8]) -> &[u8]
@@ -183,7 +185,7 @@ pub(crate) fn skip_plus(text: &[u8]) -> &[u8]
     }
 }
 
-// A prerelease, which may be missing: `-alpha.1`, `alpha.1`
+// An optional prerelease: `-alpha.1`, `alpha.1`
 #[inline(always)]
 #[tactic(auto, unfolding(crate::specs::Private::Reading::read_prerelease))]
 pub(crate) fn read_prerelease(
@@ -196,7 +198,7 @@ pub(crate) fn read_prerelease(
     read_identifiers_or(alloc, text, skip_hyphen(text))
 }
 
-// A build, which may be missing: `+5`
+// An optional build: `+5`
 #[inline(always)]
 #[tactic(auto, unfolding(crate::specs::Private::Reading::read_build))]
 pub(crate) fn read_build(alloc: Global, text: &[u8]) -> Result<(Vec<Identifier>, &[u8]), AllocError>

@@ -8,7 +8,7 @@ use crate::MAX_SAFE_INTEGER;
 use crate::parse::Fault;
 use crate::parse::skip::split;
 
-// `0` to `9`
+// `0` to `9`. `inline(always)` in this file: a number is read by one loop, which is part of the reader around it.
 #[inline(always)]
 pub(crate) fn is_digit(byte: u8) -> bool
     ensures { result ≡ Characters.is_digit byte }
@@ -16,7 +16,7 @@ pub(crate) fn is_digit(byte: u8) -> bool
     byte.is_ascii_digit()
 }
 
-// 12 and `.3` of `12.3`: all the digits that stand together
+// 12 and `.3` of `12.3`: all leading digits, and the rest
 #[inline(always)]
 #[tactic(auto, unfolding(crate::specs::Private::Reading::prefix_of, crate::specs::Private::Reading::rest_of, crate::specs::Private::Reading::read_number))]
 pub(crate) fn read_number(text: &[u8]) -> Result<(u64, &[u8]), Fault>
@@ -42,7 +42,7 @@ pub(crate) fn read_number(text: &[u8]) -> Result<(u64, &[u8]), Fault>
     Ok((value, rest))
 }
 
-// A number or a dot must stand here.
+// The fault that a number or a dot is missing here.
 #[inline(always)]
 pub(crate) fn missing(text: &[u8]) -> Fault
     ensures { result ≡ Missing (length text.now) }
@@ -50,7 +50,7 @@ pub(crate) fn missing(text: &[u8]) -> Fault
     Fault::Missing(text.len())
 }
 
-// The digits at the start write a number that is too large.
+// The fault that the number here is too large.
 #[inline(always)]
 fn too_large(text: &[u8]) -> Fault
     ensures { result ≡ TooLarge (length text.now) }
@@ -58,7 +58,7 @@ fn too_large(text: &[u8]) -> Fault
     Fault::TooLarge(text.len())
 }
 
-/// All the digits at the start: `12` of `12.3`.
+/// Returns all leading digits: `12` for `12.3`.
 pub fn leading_digits(text: &[u8]) -> &[u8]
     ensures { result.now ≡ Reading.prefix_of Characters.is_digit text.now }
 {

@@ -1,7 +1,7 @@
-//! Partials: versions of which components may be absent. Nothing is built: a partial keeps the text of its extras,
-//! which is gone over once to see where the word ends, and read where the word's versions are built.
+//! Partials: versions of which some components can be absent. Nothing is built: a partial keeps the text of its extras.
+//! That text is passed over once, to find where the word ends, and read only if the word's versions are built.
 //!
-//! What is `#[inline(always)]` keeps numbers and shapes in registers on the way through the readers of words.
+//! `#[inline(always)]` makes one function of the readers of a word, so that numbers and shapes stay in registers.
 ghost use Rattle.std.specs.Prelude.{◌≡◌, IfSome};
 ghost use Rattle.semver_sets.specs.Characters.{is_blank, is_partial_mark};
 ghost use Rattle.semver_sets.specs.Private.Reading.{read_extras, rest_of, skip_one};
@@ -34,7 +34,7 @@ pub(crate) enum Shape {
     Nothing,
 }
 
-// `1.2.x` of `1.2.x-alpha <2`: the numbers, each 0 where it is absent, and the text that begins with the extras.
+// `1.2.x` of `1.2.x-alpha <2`: the numbers, 0 for each absent one, and the text that begins with the extras.
 #[derive(Clone, Copy)]
 pub(crate) struct Partial<'a> {
     pub(crate) major: u64,
@@ -44,7 +44,7 @@ pub(crate) struct Partial<'a> {
     pub(crate) extras: &'a [u8],
 }
 
-// A number, or 0 where it is absent.
+// A number, or 0 if it is absent.
 #[derive(Clone, Copy)]
 pub(crate) struct Component {
     number: u64,
@@ -56,7 +56,7 @@ const ABSENT: Component = Component {
     is_number: false,
 };
 
-// `1` and `.2` of `1.2`, an absent one and `.2` of `x.2`
+// `1` and `.2` of `1.2`; an absent number and `.2` of `x.2`
 #[inline(always)]
 #[tactic(auto, unfolding(crate::specs::Private::WordReading::read_component))]
 fn read_component(text: &[u8]) -> Option<(Component, &[u8])>
@@ -110,7 +110,7 @@ fn partial_of(major: Component, minor: Component, patch: Component, extras: &[u8
     }
 }
 
-// The text without its `v`, where it begins with one.
+// The text without the `v` that it begins with, if it does.
 #[inline(always)]
 fn skip_partial_mark(text: &[u8]) -> &[u8]
     ensures { result.now ≡ skip_one is_partial_mark text.now }
@@ -118,7 +118,7 @@ fn skip_partial_mark(text: &[u8]) -> &[u8]
     skip_one(text, |byte| byte == b'v')
 }
 
-// `1.2` of `v 1.2`. Most texts have neither a mark nor blanks, and begin with a digit.
+// `1.2` of `v 1.2`: the text after an optional `v` and blanks. Most texts begin with a digit.
 #[inline(always)]
 #[tactic(auto, unfolding(crate::specs::Private::Reading::skip_one))]
 fn skip_to_components(text: &[u8]) -> &[u8]

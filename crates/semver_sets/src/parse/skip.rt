@@ -1,6 +1,6 @@
-//! What stands at the start of a text and is gone over: runs of bytes that pass a test, and marks of one byte.
+//! What is passed over at the start of a text: runs of bytes that pass a test, and marks of one byte.
 //!
-//! What is `#[inline(always)]` takes a test that is then part of the loop.
+//! `#[inline(always)]` makes the test, a closure, part of the loop.
 ghost use Rattle.std.specs.Prelude.{◌≡◌, ℕ, Bool, false, IfSome, IfNone, IsTrue};
 ghost use Rattle.semver_sets.specs.Characters as Characters;
 ghost use Rattle.semver_sets.specs.Private.Reading as Reading;
@@ -9,7 +9,7 @@ ghost use Rattle.semver_sets.specs.Private.WordReading as WordReading;
 
 use memchr::memchr2;
 
-// The longest prefix whose bytes all pass, and the rest.
+// The longest prefix whose bytes all pass the test, and the rest.
 #[inline(always)]
 pub(crate) fn split<F: Fn(u8) -> bool>(text: &[u8], passes: F) -> (&[u8], &[u8])
     requires { F.IsAlwaysCallable passes }
@@ -24,7 +24,7 @@ pub(crate) fn split<F: Fn(u8) -> bool>(text: &[u8], passes: F) -> (&[u8], &[u8])
     (text, &text[text.len()..])
 }
 
-// The rest from the first byte on that does not pass.
+// The rest, from the first byte on that does not pass the test.
 #[inline(always)]
 pub(crate) fn skip_while<F: Fn(u8) -> bool>(text: &[u8], passes: F) -> &[u8]
     requires { F.IsAlwaysCallable passes }
@@ -33,7 +33,7 @@ pub(crate) fn skip_while<F: Fn(u8) -> bool>(text: &[u8], passes: F) -> &[u8]
     split(text, passes).1
 }
 
-// The rest without the first byte, where that passes.
+// The text without its first byte, if that passes the test.
 #[inline(always)]
 #[tactic(auto, unfolding(crate::specs::Private::Reading::skip_one))]
 pub(crate) fn skip_one<F: Fn(u8) -> bool>(text: &[u8], passes: F) -> &[u8]
@@ -62,7 +62,7 @@ pub(crate) fn skip_blanks(text: &[u8]) -> &[u8]
     skip_while(text, is_blank)
 }
 
-// The text without the blanks with which it begins, where it begins with one.
+// The text without its leading blanks, or `None` if it has none.
 #[inline(always)]
 pub(crate) fn skip_some_blanks(text: &[u8]) -> Option<&[u8]>
     ensures some { IfSome result (λ rest. IsTrue (Reading.begins Characters.is_blank text.now)
@@ -75,7 +75,7 @@ pub(crate) fn skip_some_blanks(text: &[u8]) -> Option<&[u8]>
     }
 }
 
-// Whether a word may end before this text.
+// Returns `true` if a word can end before this text.
 #[inline(always)]
 pub(crate) fn begins_clean(text: &[u8]) -> bool
     ensures { result ≡ WordReading.is_clean text.now }

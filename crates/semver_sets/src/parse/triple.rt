@@ -10,7 +10,8 @@ use crate::parse::number::{is_digit, missing, read_number};
 use crate::parse::skip::{skip_blanks, skip_one};
 use std::alloc::{AllocError, Global};
 
-// The text without its first dot.
+// The text without the dot that it begins with. `inline(always)` in this file: these readers are the usual way of each
+// version, and hand numbers on in registers.
 #[inline(always)]
 #[tactic(auto, unfolding(crate::specs::Private::Reading::read_dot))]
 fn read_dot(text: &[u8]) -> Result<&[u8], Fault>
@@ -22,7 +23,7 @@ fn read_dot(text: &[u8]) -> Result<&[u8], Fault>
     }
 }
 
-// The text without its `v` or `V`, where it begins with one.
+// The text without the `v` or `V` that it begins with, if it does.
 #[inline(always)]
 fn skip_version_mark(text: &[u8]) -> &[u8]
     ensures { result.now ≡ Reading.skip_one is_version_mark text.now }
@@ -30,19 +31,19 @@ fn skip_version_mark(text: &[u8]) -> &[u8]
     skip_one(text, |byte| byte == b'v' || byte == b'V')
 }
 
-/// The number that follows a mark and blanks, and the rest: `1` and `.2.3` of `V 1.2.3`.
+/// Returns the number after an optional `v` and blanks, and the rest: `1` and `.2.3` for `V 1.2.3`.
 #[inline(always)]
 pub fn read_major(text: &[u8]) -> Result<(u64, &[u8]), Fault>
     ensures { seen result ≡ Reading.read_number (Reading.rest_of is_blank (Reading.skip_one is_version_mark text.now)) }
 {
-    // Most texts have neither, and begin with a digit.
+    // Most texts begin with a digit: they have no mark and no blanks.
     match text {
         [first, ..] if is_digit(*first) => read_number(text),
         _ => read_number(skip_blanks(skip_version_mark(text))),
     }
 }
 
-/// The triple that goes on after its major, and the rest: `1.2.3` and `-alpha` of 1 and `.2.3-alpha`.
+/// Returns the triple whose major was read, and the rest: `1.2.3` and `-alpha` for 1 and `.2.3-alpha`.
 #[inline(always)]
 pub fn read_minor_and_patch(major: u64, text: &[u8]) -> Result<((u64, u64, u64), &[u8]), Fault>
     ensures { seen result ≡ Reading.read_minor_and_patch (major, text.now) }
@@ -54,7 +55,8 @@ pub fn read_minor_and_patch(major: u64, text: &[u8]) -> Result<((u64, u64, u64),
     Ok(((major, minor, patch), rest))
 }
 
-/// Three numbers at the very start, and the rest: `1.2.3` and `-alpha` of `1.2.3-alpha`.
+/// Returns three numbers that the text begins with, and the rest: `1.2.3` and `-alpha` for `1.2.3-alpha`. `None` if it
+/// does not begin with three numbers of at most `MAX_SAFE_INTEGER`.
 #[inline(always)]
 pub fn read_leading_triple(text: &[u8]) -> Option<((u64, u64, u64), &[u8])>
     ensures { IfSome result (λ t. IsLeadingTriple text.now t.0 t.1.now) }
@@ -63,15 +65,15 @@ pub fn read_leading_triple(text: &[u8]) -> Option<((u64, u64, u64), &[u8])>
     read_minor_and_patch(major, rest).ok()
 }
 
-/// A prerelease and a build, and the rest: `-alpha+5` of `-alpha+5 <2.0.0`.
+/// Returns an optional prerelease, an optional build, and the rest: `-alpha+5` and ` <2.0.0` for `-alpha+5 <2.0.0`.
 ///
 /// # Errors
 ///
-/// `AllocError` where memory is refused.
+/// Returns `AllocError` if an allocation fails.
 ///
 /// # Memory
 ///
-/// Takes the identifiers; none where there are none.
+/// Allocates the identifiers. Does not allocate if there are none.
 #[inline(always)]
 #[tactic(auto, unfolding(crate::specs::Private::Reading::read_extras, crate::specs::Private::Reading::read_build, crate::specs::Private::Reading::skip_plus))]
 pub fn read_extras(

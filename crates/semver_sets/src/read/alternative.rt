@@ -1,4 +1,4 @@
-//! One alternative of a range text: its words, merged as they are read.
+//! Reading one alternative of a range text: its words are merged as they are read.
 ghost use Rattle.std.specs.Prelude.{◌≡◌, IfOk, None, OnOk};
 ghost use Rattle.semver_sets.specs.Characters.{BeginsWithNo, is_blank};
 ghost use Rattle.semver_sets.specs.Private.RangeViews.{IsMergedAlternative, IsOneMerged, IsSetOfAlternative};
@@ -14,7 +14,7 @@ use crate::word::{WordEnds, begins_comparator, nothing, read_leading_hyphen, rea
 use semver_cuts::Span;
 use std::alloc::{AllocError, Global};
 
-// The set of an alternative, if it gives one.
+// The set of an alternative, or `None` if it gives none. `inline(always)`: it has one call in each of two callers.
 #[inline(always)]
 pub(crate) fn read_set(alloc: Global, text: &[u8]) -> Result<Option<Span<End>>, AllocError>
     ensures { IfOk result (λ set. IsSetOfAlternative text.now set) }
@@ -24,7 +24,7 @@ pub(crate) fn read_set(alloc: Global, text: &[u8]) -> Result<Option<Span<End>>, 
     Ok(merged.into_set())
 }
 
-// The comparators of an alternative, merged into one.
+// Merges the comparators of an alternative into one.
 fn merge_words(alloc: Global, text: &[u8], merged: &mut Merged) -> Result<(), AllocError>
     requires { merged.old ≡ None }
     ensures { OnOk result (IsMergedAlternative text.now merged.new) }
@@ -36,7 +36,8 @@ fn merge_words(alloc: Global, text: &[u8], merged: &mut Merged) -> Result<(), Al
     Ok(())
 }
 
-// The text without a hyphen that it begins with, whose comparator is merged. Few texts begin with a blank.
+// Merges a hyphen range without a left side, if the text begins with one, and returns the rest. `inline(always)`: few
+// texts begin with a blank, and the others need only this test.
 #[inline(always)]
 fn merge_leading<'a>(
     alloc: Global,
@@ -54,7 +55,7 @@ fn merge_leading<'a>(
     }
 }
 
-// The same of any text.
+// The same for any text. `inline(never)`: its stack is then not part of `merge_words`.
 #[inline(never)]
 fn merge_leading_hyphen<'a>(
     alloc: Global,
@@ -71,8 +72,8 @@ fn merge_leading_hyphen<'a>(
     Ok(skip_blanks(rest))
 }
 
-// The text without its first word, whose comparator is merged, and without the blanks behind that. Where the first byte
-// begins no comparator, nothing is set up to read one.
+// Merges the comparator of the first word, and returns the text after that word and its blanks. If the first byte
+// begins no comparator, nothing is prepared to read one. `inline(always)`: this test is part of the loop.
 #[inline(always)]
 #[tactic(auto, unfolding(crate::specs::Private::WordReading::read_word))]
 fn merge_next<'a>(
@@ -91,7 +92,7 @@ fn merge_next<'a>(
     }
 }
 
-// The same of any word.
+// The same for any word. `inline(never)`: one call a word, whose ends never leave its stack.
 #[inline(never)]
 fn merge_word<'a>(
     alloc: Global,
@@ -107,7 +108,7 @@ fn merge_word<'a>(
     Ok(skip_blanks(rest))
 }
 
-// One comparator more, where a word writes one.
+// Merges the comparator of a word, if it gives one.
 #[inline(always)]
 fn keep(alloc: Global, merged: &mut Merged, ends: WordEnds) -> Result<(), AllocError>
     ensures { OnOk result (IsOneMerged merged.old (ends_seen ends.entry) merged.new) }
@@ -118,7 +119,7 @@ fn keep(alloc: Global, merged: &mut Merged, ends: WordEnds) -> Result<(), AllocE
     Ok(())
 }
 
-// A hyphen without a left side, with which a text may begin: ` - 3`
+// The hyphen range without a left side that a text can begin with: ` - 3`
 #[inline(always)]
 fn skip_leading_hyphen(text: &[u8]) -> (WordEnds, &[u8])
     ensures { word_seen result ≡ leading_or_none (read_right text.now) text.now }

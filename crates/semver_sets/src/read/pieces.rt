@@ -1,10 +1,11 @@
-//! The division of a range text at `||`.
+//! Dividing a range text at `||`.
 ghost use Rattle.std.specs.Prelude.{◌≡◌};
 ghost use Rattle.semver_sets.specs.Private.PieceReading.{bars_after, piece_at, piece_seen, some_seen};
 
 use memchr::memchr;
 
-// The text before the first `||`, or the whole text, and what follows the `||`: `1` and `|2` of `1|||2`.
+// The text before the first `||` (or the whole text), and what follows the `||` if there is one: `1` and `|2` of
+// `1|||2`. `inline(always)` in this file: one loop over the bars, in each of its callers.
 #[inline(always)]
 pub(crate) fn next_piece(text: &[u8]) -> (&[u8], Option<&[u8]>)
     ensures { piece_seen result ≡ piece_at text.now }

@@ -1,4 +1,4 @@
-//! The sets of a range text: one for each alternative that gives one.
+//! The sets of a range text: one for each alternative that gives a set.
 ghost use Rattle.std.specs.Prelude.{IfOk, OnOk};
 ghost use Rattle.semver_sets.specs.Merging.{AreSetsOfText};
 ghost use Rattle.semver_sets.specs.Private.RangeViews.{IsOneMore};
@@ -10,15 +10,16 @@ use crate::read::pieces::next_piece;
 use semver_cuts::Span;
 use std::alloc::{AllocError, Global};
 
-/// The sets of a text, in the order of its alternatives: one for each that gives one.
+/// Returns the sets of a text, in the order of its alternatives. An alternative without a comparator, or whose
+/// comparators share no cut, gives none.
 ///
 /// # Errors
 ///
-/// `AllocError` where memory is refused.
+/// Returns `AllocError` if an allocation fails.
 ///
 /// # Memory
 ///
-/// Takes the list, and the identifiers of the ends.
+/// Allocates the list, and the identifiers of the ends.
 pub fn read_sets(alloc: Global, text: &[u8]) -> Result<Vec<Span<End>>, AllocError>
     ensures { IfOk result (λ sets. AreSetsOfText text.now sets.items) }
 {
@@ -33,7 +34,7 @@ pub fn read_sets(alloc: Global, text: &[u8]) -> Result<Vec<Span<End>>, AllocErro
     Ok(sets)
 }
 
-// One set more, where an alternative gives one.
+// Adds the set of an alternative, if it gives one.
 fn add_set(alloc: Global, sets: &mut Vec<Span<End>>, text: &[u8]) -> Result<(), AllocError>
     ensures { OnOk result (IsOneMore text.now sets.old.items sets.new.items) }
 {

@@ -1,4 +1,4 @@
-//! Copies of sets, and of the cuts at their ends.
+//! Copies of sets.
 ghost use Rattle.std.specs.Prelude.{◌≡◌, ◌++◌, IfOk, OnOk};
 ghost use Rattle.std.specs.List.{AllByRecursion};
 ghost use Rattle.semver_cuts.specs.Ends.{IsCutBelow, span_between};
@@ -29,15 +29,15 @@ pub(crate) fn push_copies(copies: &mut Vec<Span<End>>, sets: &[Span<End>]) -> Re
     Ok(())
 }
 
-/// The set between copies of two cuts.
+/// Returns the set between copies of two cuts.
 ///
 /// # Errors
 ///
-/// `AllocError` where memory is refused.
+/// Returns `AllocError` if an allocation fails.
 ///
 /// # Memory
 ///
-/// Takes the identifiers of the ends.
+/// Allocates the identifiers of the ends.
 #[inline]
 pub fn copy_of(lower: &Cut<End>, upper: &Cut<End>) -> Result<Span<End>, AllocError>
     requires { IsCutBelow version_cmp lower.now upper.now }

@@ -1,4 +1,5 @@
-//! Which sets of a range open which triples.
+//! Which sets of a range have a prerelease at an end, and so *open* its triple: only they can admit other prereleases
+//! of it.
 ghost use Rattle.std.specs.Prelude.{◌≡◌, ◌≤◌, ◌*◌, ◌++◌, ◌↔◌, IfOk, OnOk, IsTrue, filter, length};
 ghost use Rattle.std.specs.List.Sorted.{IsSortedByKey};
 ghost use Rattle.semver_sets.specs.Private.SearchViews.{AreOpeningsOf, opened_triple, openings_of, other_than};
@@ -16,15 +17,15 @@ pub(crate) struct Triple {
     pub(crate) patch: u64,
 }
 
-// A triple that an end of a set opens, and the place of the set.
+// A triple, and the place of a set that has a prerelease of this triple at an end.
 #[derive(Clone, Copy, Debug)]
 pub(crate) struct Opening {
     pub(crate) triple: Triple,
     pub(crate) place: usize,
 }
 
-// For each triple that an end of a set opens, the places of the sets that open it. Where no end opens one, it takes no
-// memory.
+// The opened triples of all sets, each with the place of the set, sorted by triple. Does not allocate if no end is a
+// prerelease.
 pub(crate) fn openings(alloc: Global, sets: &[Span<End>]) -> Result<Vec<Opening>, AllocError>
     ensures { IfOk result (λ openings. AreOpeningsOf sets.now openings.items) }
 {
@@ -37,7 +38,7 @@ pub(crate) fn openings(alloc: Global, sets: &[Span<End>]) -> Result<Vec<Opening>
     Ok(openings)
 }
 
-// How many there are.
+// The number of openings.
 fn count_of(sets: &[Span<End>]) -> usize {
     let mut count = 0;
     'sets: for set in sets {
@@ -52,7 +53,7 @@ fn count_of(sets: &[Span<End>]) -> usize {
     count
 }
 
-// Those of the set at a place.
+// Adds the openings of the set at a place.
 #[inline]
 fn add_openings(
     openings: &mut Vec<Opening>,
@@ -71,7 +72,7 @@ fn add_openings(
     Ok(())
 }
 
-// The triple that the set's lower end opens, and that of its upper end if it is another.
+// The triple that the set's lower end opens, and the triple that its upper end opens if it is another.
 #[inline]
 fn triples_of(set: &Span<End>) -> (Option<Triple>, Option<Triple>)
     ensures lower { result.0 ≡ triple_at set.now.lower }
@@ -86,7 +87,7 @@ fn triples_of(set: &Span<End>) -> (Option<Triple>, Option<Triple>)
     (lower, other)
 }
 
-// The triple that the end opens.
+// The triple that a cut opens, if a prerelease is at it.
 #[inline]
 fn triple_at(cut: &Cut<End>) -> Option<Triple>
     ensures { result ≡ triple_at cut.now }
@@ -97,7 +98,7 @@ fn triple_at(cut: &Cut<End>) -> Option<Triple>
     }
 }
 
-// The triple of a prerelease.
+// The triple that an end opens, if it is a prerelease.
 #[inline]
 fn opened_triple(end: &End) -> Option<Triple>
     ensures { result ≡ opened_triple end.now }
@@ -120,7 +121,7 @@ fn is_same(one: Triple, other: Triple) -> bool
     one.major == other.major && one.minor == other.minor && one.patch == other.patch
 }
 
-// Those of a triple, found by halving.
+// The openings of a triple, found by binary search.
 #[inline]
 pub(crate) fn openings_at(openings: &[Opening], triple: Triple) -> &[Opening]
     requires { IsSortedByKey (λ o. o.triple) triple_cmp openings.now }

@@ -1,4 +1,6 @@
 //! `^1.2.3`, `^0.2`, `^1`
+//!
+//! `#[inline(always)]`: see `parse/partial.rt`.
 ghost use Rattle.std.specs.Prelude.{◌≡◌, ◌+◌, ◌≤◌, Some, nat_eq, if◌then◌else◌};
 ghost use Rattle.semver_sets.specs.CaretRanges as CaretRanges;
 ghost use Rattle.semver_sets.specs.Comparator as Comparators;
@@ -48,8 +50,8 @@ fn one_number(major: u64) -> WordEnds<'static>
     }
 }
 
-// Up to where the first of two numbers that is not 0 rises, or the second: from `1.2` to `2.0.0-0`, from `0.2` to
-// `0.3.0-0`
+// Up to the next version with a greater major if the major is not 0, and else with a greater minor: from `1.2` to
+// `2.0.0-0`, from `0.2` to `0.3.0-0`
 #[inline(always)]
 fn from_two<'a>(lower: WrittenVersion<'a>, major: u64, minor: u64) -> WordEnds<'a>
     requires major { major ≤ MAX_SAFE_INTEGER }
@@ -64,7 +66,7 @@ fn from_two<'a>(lower: WrittenVersion<'a>, major: u64, minor: u64) -> WordEnds<'
     }
 }
 
-// The same of three numbers: from `0.0.3` to `0.0.4-0`
+// The same for three numbers: from `0.0.3` to `0.0.4-0`
 #[inline(always)]
 fn from_three<'a>(lower: WrittenVersion<'a>, major: u64, minor: u64, patch: u64) -> WordEnds<'a>
     requires major { major ≤ MAX_SAFE_INTEGER }

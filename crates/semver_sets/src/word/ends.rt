@@ -1,7 +1,7 @@
-//! The ends of a comparator as its word writes them. Their versions are built only where they are kept.
+//! The ends of a comparator as its word writes them. Their versions are built only if the comparator is kept.
 //!
-//! All is flat: one form, two triples and what stands after them. What is `#[inline(always)]` hands numbers on, and is
-//! gone once a word is read.
+//! All values are flat: one form, two triples and the text after them. `#[inline(always)]`: the constructors here only
+//! hand numbers on, and in registers if they are inlined.
 ghost use Rattle.std.specs.Prelude.{◌≡◌, ◌↔◌, ◌≤◌, ◌+◌, IfOk, IfSome, IsTrue, None, Some};
 ghost use Rattle.semver_sets.specs.Comparator as Comparators;
 ghost use Rattle.semver_sets.specs.PartialText as PartialText;
@@ -15,7 +15,7 @@ use crate::parse::{Partial, begins_clean, read_extras, read_prerelease};
 use semver_cuts::Cut;
 use std::alloc::{AllocError, Global};
 
-// A version as it is written: a triple, and the text that begins with its extras.
+// A version as a word writes it: a triple, and the text that begins with its extras.
 #[derive(Clone, Copy)]
 pub(crate) struct WrittenVersion<'a> {
     pub(crate) major: u64,
@@ -24,7 +24,7 @@ pub(crate) struct WrittenVersion<'a> {
     extras: &'a [u8],
 }
 
-// What stands at the two ends. A form of one version has it as the lower one.
+// The form of the two ends. If a form has one version, it is the lower one.
 #[derive(Clone, Copy)]
 enum Form {
     // no comparator
@@ -35,25 +35,25 @@ enum Form {
     Above,
     // `<1.2.3`
     Below,
-    // `<1.2.3-0`, of the triple
+    // `<1.2.3-0`: below the least version of the triple
     BelowLeast,
     // `<=1.2.3`
     AtMost,
-    // `<=1.2.3-0`, of the triple
+    // `<=1.2.3-0`: up to the least version of the triple
     AtMostLeast,
-    // `>=1.2.3 <=1.2.3`
+    // `>=1.2.3+5 <=1.2.3+5`
     Exactly,
-    // the same without the build
+    // `>=1.2.3 <=1.2.3` of `1.2.3+5`
     Equal,
-    // `>=1.2.3 <2.0.0-0`, of the upper triple
+    // `>=1.2.3+5 <2.0.0-0`: below the least version of the upper triple
     UpTo,
-    // the same, the lower one without its build
+    // `>=1.2.3 <2.0.0-0` of `1.2.3+5`
     BareUpTo,
     // `>=1.2.3 <=2.0.0`
     Through,
 }
 
-// The ends of a comparator, or none.
+// The two ends of a comparator, or no comparator.
 #[derive(Clone, Copy)]
 pub(crate) struct WordEnds<'a> {
     form: Form,
@@ -75,7 +75,7 @@ pub(crate) fn release(major: u64, minor: u64, patch: u64) -> WrittenVersion<'sta
     }
 }
 
-// The numbers of a partial, 0 for each absent one, and its extras.
+// The numbers of a partial, with 0 for each absent one, and its extras.
 #[inline(always)]
 pub(crate) fn zeroed(partial: Partial) -> WrittenVersion
     requires { IsSound partial }
@@ -230,7 +230,7 @@ pub(crate) fn through<'a>(lower: WrittenVersion<'a>, upper: WrittenVersion<'a>) 
     }
 }
 
-// All with this major: `>=1.0.0 <2.0.0-0`
+// All versions with this major: `>=1.0.0 <2.0.0-0`
 #[inline(always)]
 pub(crate) fn with_major(major: u64) -> WordEnds<'static>
     requires { major ≤ MAX_SAFE_INTEGER }
@@ -239,7 +239,7 @@ pub(crate) fn with_major(major: u64) -> WordEnds<'static>
     up_to(release(major, 0, 0), next(major), 0, 0)
 }
 
-// All with this major and this minor: `>=1.2.0 <1.3.0-0`
+// All versions with this major and this minor: `>=1.2.0 <1.3.0-0`
 #[inline(always)]
 pub(crate) fn with_minor(major: u64, minor: u64) -> WordEnds<'static>
     requires { minor ≤ MAX_SAFE_INTEGER }
@@ -259,7 +259,7 @@ impl<'a> WordEnds<'a> {
         }
     }
 
-    // The comparator, of ends that are built. Takes memory for extras alone.
+    // The comparator with its ends built. Allocates only for prerelease and build.
     #[inline(always)]
     pub(crate) fn comparator(self, alloc: Global) -> Result<Comparator, AllocError>
         requires { ¬ (ends_seen self ≡ None) }
@@ -305,7 +305,7 @@ impl<'a> WordEnds<'a> {
 }
 
 impl<'a> WrittenVersion<'a> {
-    // The version that is written. Most have no extras.
+    // Builds the version. Most have no extras, and then nothing is allocated.
     #[inline(always)]
     #[tactic(auto, using(crate::proofs::Words::PartialViews::clean_extras))]
     fn end(&self, alloc: Global) -> Result<End, AllocError>
@@ -318,7 +318,7 @@ impl<'a> WrittenVersion<'a> {
         }
     }
 
-    // The same without its build.
+    // The same without the build.
     #[inline(always)]
     #[tactic(auto, using(crate::proofs::Words::PartialViews::clean_extras))]
     fn bare_end(&self, alloc: Global) -> Result<End, AllocError>

@@ -1,4 +1,8 @@
 //! `1.2 - 3`, and ` - 3` at the start of a range text
+//!
+//! `#[inline(always)]`: see `parse/partial.rt`. The functions with `#[inline(never)]` are called only if there is a
+//! hyphen, or a blank at the start. Each is called through a function of one line: the toolchain clears the place of a
+//! result where the calling function begins, and so only if it is called.
 ghost use Rattle.std.specs.Prelude.{◌≡◌, ◌∷◌, IfSome, Some, None};
 ghost use Rattle.semver_cuts.specs.declared.cut.Cut.TheVariants.{Before};
 ghost use Rattle.semver_sets.specs.Characters.{hyphen};
@@ -14,7 +18,7 @@ use crate::word::ends::{
     WordEnds, WrittenVersion, at_most, below_least, next, release, through, up_to, zeroed,
 };
 
-// `3` and ` <5` of ` - 3 <5`: the right side of a hyphen with its blanks, up to a clean end
+// `3` and ` <5` of ` - 3 <5`: the right side of a hyphen range, with the blanks around the hyphen
 #[inline(always)]
 #[tactic(auto, unfolding(crate::specs::Private::WordReading::read_right))]
 pub(crate) fn read_right(text: &[u8]) -> Option<(Partial, &[u8])>
@@ -27,7 +31,7 @@ pub(crate) fn read_right(text: &[u8]) -> Option<(Partial, &[u8])>
     right_operand(rest)
 }
 
-// The same as `read_right_operand`, whose place is then cleared where a hyphen stands, and nowhere else.
+// Calls `read_right_operand`; see the top of this file.
 #[inline(always)]
 fn right_operand(text: &[u8]) -> Option<(Partial, &[u8])>
     ensures read { read_partial_seen result ≡ Reading.right_at (hyphen ∷ text.now) }
@@ -36,7 +40,7 @@ fn right_operand(text: &[u8]) -> Option<(Partial, &[u8])>
     read_right_operand(text)
 }
 
-// `3` and ` <5` of ` 3 <5`, behind the hyphen
+// `3` and ` <5` of ` 3 <5`: what follows the hyphen
 #[inline(never)]
 fn read_right_operand(text: &[u8]) -> Option<(Partial, &[u8])>
     ensures read { read_partial_seen result ≡ Reading.right_at (hyphen ∷ text.now) }
@@ -50,7 +54,7 @@ fn read_right_operand(text: &[u8]) -> Option<(Partial, &[u8])>
     }
 }
 
-// ` - 3` at the start of a range text: a hyphen without a left side. Few texts begin with a blank.
+// ` - 3` at the start of a range text: a hyphen range without a left side. Few texts begin with a blank.
 #[inline(always)]
 #[tactic(auto, unfolding(crate::specs::Private::WordReading::read_right))]
 pub(crate) fn read_leading_hyphen(text: &[u8]) -> Option<(WordEnds, &[u8])>
@@ -60,7 +64,7 @@ pub(crate) fn read_leading_hyphen(text: &[u8]) -> Option<(WordEnds, &[u8])>
     right_alone(text)
 }
 
-// The same as `read_right_alone`, whose place is then cleared where a text begins with a blank, and nowhere else.
+// Calls `read_right_alone`; see the top of this file.
 #[inline(always)]
 fn right_alone(text: &[u8]) -> Option<(WordEnds, &[u8])>
     ensures { some_word_seen result ≡ Reading.said_hyphen None (Reading.read_right text.now) }
@@ -115,7 +119,7 @@ fn below_right(right: Partial) -> WordEnds
     }
 }
 
-// Where a hyphen range ends: at a version that it holds, or below the least one with a triple.
+// Where a hyphen range ends: at a version that it includes, or below the least version of a triple.
 #[derive(Clone, Copy)]
 struct RightEnd<'a> {
     is_held: bool,

@@ -1,4 +1,6 @@
-//! What stands before the partial of a word, and what the two make together.
+//! What is written before the partial of a word, and the comparator that the two give.
+//!
+//! `#[inline(always)]`: see `parse/partial.rt`.
 ghost use Rattle.std.specs.Prelude.{◌≡◌};
 ghost use Rattle.semver_sets.specs.Private.WordReading as Reading;
 ghost use Rattle.semver_sets.specs.Private.WordViews.{IsSound, lead_seen, partial_seen, ends_seen};
@@ -24,7 +26,7 @@ pub(crate) enum Lead {
     Caret,
 }
 
-// `^` of `^ 1.2`, and the rest without its blanks
+// `^` of `^ 1.2`, and the rest without its leading blanks
 #[inline(always)]
 #[tactic(auto, unfolding(crate::specs::Private::WordReading::read_lead))]
 pub(crate) fn read_lead(text: &[u8]) -> (Lead, &[u8])
@@ -40,7 +42,7 @@ pub(crate) fn read_lead(text: &[u8]) -> (Lead, &[u8])
     }
 }
 
-// The ends of the comparator that a lead and a partial write, where they write one.
+// The ends of the comparator that a lead and a partial give, if they give one.
 #[inline(always)]
 pub(crate) fn lead_ends(lead: Lead, partial: Partial) -> WordEnds
     requires { IsSound partial }

@@ -1,4 +1,6 @@
 //! `>=1.2.3`, `>1.2`, `=1`, `<=1.x`, `< v 2`
+//!
+//! `#[inline(always)]`: see `parse/partial.rt`.
 ghost use Rattle.std.specs.Prelude.{◌≡◌, Some};
 ghost use Rattle.semver_sets.specs.Operators as Operators;
 ghost use Rattle.semver_sets.specs.PartialText as PartialText;
@@ -21,7 +23,7 @@ pub(crate) enum Operator {
     Below,
 }
 
-// `>=` of `>=1.2.3`, the longest that stands there
+// `>=` of `>=1.2.3`: the longest operator that the text begins with
 #[inline(always)]
 #[tactic(auto, unfolding(crate::specs::Private::WordReading::read_operator))]
 pub(crate) fn read_operator(text: &[u8]) -> Option<(Operator, &[u8])>
@@ -95,7 +97,7 @@ fn at_most_ends(partial: Partial) -> WordEnds
     }
 }
 
-// `=1.2.3+5` is `>=1.2.3 <=1.2.3`, `=1.2` is `>=1.2.0 <1.3.0-0`, `=*` is nothing.
+// `=1.2.3+5` is `>=1.2.3 <=1.2.3`, `=1.2` is `>=1.2.0 <1.3.0-0`, `=*` gives no comparator.
 #[inline(always)]
 fn equal_ends(partial: Partial) -> WordEnds
     requires { IsSound partial }

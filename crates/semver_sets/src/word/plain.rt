@@ -1,4 +1,6 @@
 //! `1.2.3`, `1.2`, `1.x`, `*`
+//!
+//! `#[inline(always)]`: see `parse/partial.rt`.
 ghost use Rattle.std.specs.Prelude.{◌≡◌};
 ghost use Rattle.semver_sets.specs.Operators as Operators;
 ghost use Rattle.semver_sets.specs.Private.WordViews.{IsSound, ends_seen, partial_seen};

@@ -1,4 +1,6 @@
 //! `~1.2.3`, `~1.2`, `~> 1`
+//!
+//! `#[inline(always)]`: see `parse/partial.rt`.
 ghost use Rattle.std.specs.Prelude.{◌≡◌, ◌+◌, Some};
 ghost use Rattle.semver_sets.specs.Comparator as Comparators;
 ghost use Rattle.semver_sets.specs.Version as Versions;
@@ -13,7 +15,7 @@ use crate::parse::{Partial, Shape, skip_blanks};
 use crate::word::ends::{WordEnds, bare_up_to, next, nothing, with_major, with_minor, zeroed};
 use crate::word::lead::Lead;
 
-// `> 1.2` of `~ > 1.2`: which tilde it is, and the rest without its blanks
+// `> 1.2` of `~ > 1.2`: which tilde it is, and the rest without its leading blanks
 #[inline(always)]
 pub(crate) fn read_tilde(text: &[u8]) -> (Lead, &[u8])
     ensures { (lead_seen result.0, result.1.now) ≡ Reading.tilde_at (rest_of is_blank text.now) }
@@ -40,7 +42,7 @@ pub(crate) fn tilde_ends(partial: Partial) -> WordEnds
     }
 }
 
-// `~>1.2.x-b` is `>=1.2.0-b <1.3.0-0`; every other shape reads as after `~`.
+// `~>1.2.x-b` is `>=1.2.0-b <1.3.0-0`. Every other shape is read as after `~`.
 #[inline(always)]
 pub(crate) fn tilde_greater_ends(partial: Partial) -> WordEnds
     requires { IsSound partial }

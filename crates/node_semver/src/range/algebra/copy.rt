@@ -7,15 +7,15 @@ use semver_sets::set_list::Sets;
 use semver_sets::set_list::copy::copy_of;
 use std::alloc::AllocError;
 
-/// A copy is the list of the same sets, with the builds of their ends.
+/// Returns a copy: a range of the same sets, with the builds of their ends.
 ///
 /// # Errors
 ///
-/// `AllocError` where memory is refused.
+/// Returns `AllocError` if an allocation fails.
 ///
 /// # Memory
 ///
-/// Takes the identifiers of the ends, and a list where there are several sets.
+/// Allocates the identifiers of the ends, and a list if there are several sets.
 impl Clone for Range {
     ghost is_clone = { λ r copy. copy ≡ r };
 

@@ -1,4 +1,4 @@
-//! What one range has and another has not.
+//! The part of one range outside another.
 
 ghost use Rattle.std.specs.Prelude.{◌≡◌, ◌⊎◌, ◌↔◌, IfOk, IfSome, IsNone};
 ghost use Rattle.semver_cuts.specs.declared.cut.Cut.{Cut};
@@ -17,31 +17,32 @@ use crate::range::algebra::gathered::Gathered;
 use std::alloc::{AllocError, Global};
 
 impl Range {
-    /// The range of the cuts that `self` has and `other` has not, or `None` where there are none.
+    /// Returns the part of `self` outside `other`: the range of the cuts that `self` contains and `other` does not, or
+    /// `None` if there are none.
     ///
-    /// The sets of `self` are taken in order, and of each stay the greatest pieces that lie in no set of `other`, in
-    /// ascending order. Where a piece begins or ends in the middle of a set of `self`, its end has the version of the
-    /// set of `other` that ends or begins there, with its build, and of several of these sets that of the first.
+    /// The result has, for each set of `self` in order, the greatest pieces that lie in no set of `other`, in ascending
+    /// order. If a piece begins or ends in the middle of a set of `self`, that end has the version of the set of
+    /// `other` that ends or begins there, with its build. If several sets of `other` do, it is that of the first.
     ///
-    /// A release satisfies the answer exactly where it satisfies `self` and not `other`. The cuts of
-    /// `a.intersect(b)` and of `a.difference(b)` are disjoint, and together those of `a`.
+    /// A release satisfies the result exactly if it satisfies `self` and not `other`. `a.intersect(b)` and
+    /// `a.difference(b)` share no cut, and together contain exactly the cuts of `a`.
     ///
-    /// Which prereleases satisfy the answer is read off its own ends. `>=1.0.0` less `>=2.0.0-a` is
-    /// `>=1.0.0 <2.0.0-a`, which admits `2.0.0-0`, and `>=1.0.0` does not.
+    /// Which prereleases satisfy the result depends on its own ends. The difference of `>=1.0.0` and `>=2.0.0-a` is
+    /// `>=1.0.0 <2.0.0-a`. It admits `2.0.0-0`, which `>=1.0.0` does not.
     ///
     /// # Errors
     ///
-    /// `AllocError` where memory is refused.
+    /// Returns `AllocError` if an allocation fails.
     ///
     /// # Memory
     ///
-    /// Takes the identifiers of the answer's ends, and a list where the answer has several sets.
+    /// Allocates the identifiers of the ends, and a list if the result has several sets.
     ///
     /// # Examples
     ///
-    /// - `>=1.2.3` less `2.0.0 || >3.0.0` is `>=1.2.3 <2.0.0||>2.0.0 <=3.0.0`.
-    /// - `>=1` less `5 || 2` is `>=1.0.0 <2.0.0||>=3.0.0-0 <5.0.0||>=6.0.0-0`.
-    /// - `>=1.2.3` less `>1.0.0` is `None`.
+    /// - `>=1.2.3` without `2.0.0 || >3.0.0` is `>=1.2.3 <2.0.0||>2.0.0 <=3.0.0`.
+    /// - `>=1` without `5 || 2` is `>=1.0.0 <2.0.0||>=3.0.0-0 <5.0.0||>=6.0.0-0`.
+    /// - `>=1.2.3` without `>1.0.0` is `None`.
     pub fn difference(&self, alloc: Global, other: &Range) -> Result<Option<Range>, AllocError>
         ensures sets { IfOk result (λ answer. AreRestSpans version_cmp self.now other.now (sets_of_answer answer)) }
         ensures cuts { IfOk result (λ answer. (cut : Cut VersionValue)

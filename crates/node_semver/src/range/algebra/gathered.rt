@@ -1,4 +1,4 @@
-//! The sets of an answer, as they come one after another.
+//! The sets of a result, as they come one after another.
 
 ghost use Rattle.std.specs.Prelude.{◌≡◌, ◌≢◌, ◌++◌, ◌∷◌, [], IfOk, IfSome, List, OnOk};
 ghost use Rattle.std.specs.List.{AllByRecursion};
@@ -17,14 +17,16 @@ use semver_sets::set_list::copy::copy_of;
 use std::alloc::{AllocError, Global};
 use std::marker::Model;
 
-// The sets that came: most often one.
+// The sets so far. Usually there is one.
 #[derive(Drop)]
 enum Found {
     One(Span<End>),
     Many(Vec<Span<End>>),
 }
 
-// Copies of the sets that came: each end is copied once, and one set takes no list.
+// Copies of the sets so far. Each end is copied once, and one set alone needs no list.
+//
+// `#[inline(always)]` in this file: the ends are then copied into the result without a copy between.
 #[derive(Drop)]
 pub(crate) struct Gathered {
     alloc: Global,
@@ -47,7 +49,7 @@ impl Gathered {
         Gathered { alloc, sets: None }
     }
 
-    // The range of them, or `None` where no set came.
+    // The range of the sets, or `None` if there are none.
     #[inline(always)]
     pub(crate) fn into_range(self) -> Result<Option<Range>, AllocError>
         requires { AllByRecursion IsRangeSet self }

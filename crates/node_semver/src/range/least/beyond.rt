@@ -1,4 +1,7 @@
-//! The least version that a range admits and another does not.
+//! The least version that satisfies a range and not another.
+//!
+//! `#[inline(always)]` makes one function of the steps from candidate to candidate. `#[inline(never)]` keeps out what
+//! needs a list of identifiers: most candidates are releases.
 ghost use Rattle.std.specs.Prelude.{◌≡◌, ◌↔◌, [], IfOk, IfSome, IsNone, IsTrue};
 ghost use Rattle.std.specs.List.{AllByRecursion};
 ghost use Rattle.semver_cuts.specs.declared.cut.Cut.TheVariants.{After, Before};
@@ -18,24 +21,24 @@ use semver_sets::set::{Asked, admits};
 use std::alloc::{AllocError, Global};
 
 impl Range {
-    /// The least version that the range admits and the other does not, or `None` where there is none.
+    /// Returns the least version that satisfies this range and not the other, or `None` if there is none.
     ///
-    /// So `a.least_beyond(b)` is `None` exactly where each version that satisfies a satisfies b. Where
-    /// [`Range::allows_all`] speaks of cuts, this speaks of the versions admitted. `1 || 2` lacks cuts of `1 - 2`,
-    /// those from `2.0.0-0` up to `2.0.0`, and admits each version that `1 - 2` does. `>=1.0.0-0` has all cuts of
-    /// `^1.2.3-rc.4`, and does not admit `1.2.3-rc.4`. The answer has no build.
+    /// So `a.least_beyond(b)` is `None` exactly if each version that satisfies `a` also satisfies `b`.
+    /// [`Range::allows_all`] compares cuts; this compares the versions that are admitted. `1 || 2` does not contain the
+    /// cuts of `1 - 2` from `2.0.0-0` up to `2.0.0`, but admits each version that `1 - 2` does. `>=1.0.0-0` contains
+    /// all cuts of `^1.2.3-rc.4`, but does not admit `1.2.3-rc.4`. The result has no build.
     ///
     /// # Errors
     ///
-    /// `AllocError` where memory for the answer is refused.
+    /// Returns `AllocError` if an allocation fails.
     ///
     /// # Memory
     ///
-    /// Takes the identifiers of the answer, and no more.
+    /// Allocates the identifiers of the result, and nothing else.
     ///
     /// # Examples
     ///
-    /// `2.0.1` of `>=1` beyond `1 || 2.0.0`, `1.0.1-0` of `<1.0.1-beta` beyond `<=1.0.0`, and `None` of `1 - 2` beyond
+    /// `2.0.1` for `>=1` and `1 || 2.0.0`, `1.0.1-0` for `<1.0.1-beta` and `<=1.0.0`, and `None` for `1 - 2` and
     /// `1 || 2`.
     pub fn least_beyond(&self, alloc: Global, other: &Range) -> Result<Option<Version>, AllocError>
         ensures least { IfOk result (λ found. IfSome found (IsLeastBeyond self.now other.now)) }
@@ -50,7 +53,7 @@ impl Range {
     }
 }
 
-// The least version, not built yet.
+// The least such version, as a candidate that is not built.
 #[inline(always)]
 fn least_unbuilt<'a>(range: &'a Range, other: &'a Range) -> Option<Unbuilt<'a>>
     ensures { IsLeastBeyondOrNone range.now other.now result }
@@ -72,7 +75,7 @@ fn least_of_sets<'a>(sets: &'a [Span<End>], range: &Range, other: &Range) -> Opt
     best
 }
 
-// And of those at the upper ends of the other's sets.
+// The least of these and of the candidates at the upper ends of the other's sets.
 #[inline(always)]
 fn least_with_others<'a>(
     found: Option<Unbuilt<'a>>,
@@ -91,8 +94,8 @@ fn least_with_others<'a>(
     best
 }
 
-// Tries the candidates of a set, so that the best so far stays the least: where it begins, and in the triple that its
-// upper end opens.
+// Tries the candidates of a set, and keeps the least in `best`: the candidates where the set begins, and the one in the
+// triple that its upper end opens.
 #[inline(always)]
 fn try_set<'a>(best: &mut Option<Unbuilt<'a>>, set: &'a Span<End>, range: &Range, other: &Range)
     requires { IsRangeSet set.now }
@@ -102,7 +105,7 @@ fn try_set<'a>(best: &mut Option<Unbuilt<'a>>, set: &'a Span<End>, range: &Range
     try_opened(best, set, range, other);
 }
 
-// The candidates where a set ends.
+// Tries the candidates where a set ends.
 #[inline(always)]
 fn try_end<'a>(best: &mut Option<Unbuilt<'a>>, set: &'a Span<End>, range: &Range, other: &Range)
     requires { IsRangeSet set.now }
@@ -111,7 +114,7 @@ fn try_end<'a>(best: &mut Option<Unbuilt<'a>>, set: &'a Span<End>, range: &Range
     try_cut(best, set.upper(), range, other);
 }
 
-// The candidates at a cut: the least release after it and, at a prerelease, the least version after it.
+// Tries the candidates at a cut: the least release after it and, if it is at a prerelease, the least version after it.
 #[inline(always)]
 fn try_cut<'a>(best: &mut Option<Unbuilt<'a>>, cut: &'a Cut<End>, range: &Range, other: &Range)
     requires { IsReadCut cut.now }
@@ -172,7 +175,8 @@ fn try_after<'a>(best: &mut Option<Unbuilt<'a>>, end: &'a End, range: &Range, ot
     );
 }
 
-// The least version of a triple that the upper end of a set opens, if the set admits it: none is below `1.2.3-0`.
+// Tries the least version of the triple that the upper end of a set opens, if the set admits it. If that end is
+// `1.2.3-0`, no version of the triple is below it.
 #[inline(always)]
 fn try_opened<'a>(best: &mut Option<Unbuilt<'a>>, set: &Span<End>, range: &Range, other: &Range)
     ensures { IsOpenTrial range.now other.now best.old set.now best.new }
@@ -202,7 +206,8 @@ fn try_least_opened<'a>(
     }
 }
 
-// Whether no prerelease of a triple that the cut opens lies below it, told by what stands after the triple alone.
+// Returns `true` only if no prerelease of the triple that the cut opens is below the cut. Only the identifiers are
+// tested.
 #[inline(always)]
 fn opens_nothing_inside(cut: &Cut<End>) -> bool
     ensures { IsTrue result → IsShut cut.now }
@@ -231,7 +236,7 @@ fn least_opened<'a>(cut: &Cut<End>) -> Option<Unbuilt<'a>>
     }
 }
 
-// The candidate is the best if it is below the best so far and the one range admits it and the other does not.
+// Keeps the candidate if it is less than the best so far, this range admits it, and the other does not.
 #[inline(never)]
 fn try_candidate<'a>(
     best: &mut Option<Unbuilt<'a>>,
@@ -247,7 +252,7 @@ fn try_candidate<'a>(
     }
 }
 
-// The same of a release, of which only triples are compared.
+// The same for a release: only its triple is compared.
 #[inline(always)]
 fn try_release(best: &mut Option<Unbuilt<'_>>, candidate: Release, range: &Range, other: &Range)
     ensures { IsTrial range.now other.now best.old (release candidate.major candidate.minor candidate.patch) best.new }
@@ -257,7 +262,7 @@ fn try_release(best: &mut Option<Unbuilt<'_>>, candidate: Release, range: &Range
     }
 }
 
-// The same of a release that is below the best so far.
+// The same for a release that is less than the best so far.
 #[inline(never)]
 fn try_lower(best: &mut Option<Unbuilt<'_>>, candidate: Release, range: &Range, other: &Range)
     requires { IsBelowBest best.old (release candidate.major candidate.minor candidate.patch) }
@@ -268,7 +273,7 @@ fn try_lower(best: &mut Option<Unbuilt<'_>>, candidate: Release, range: &Range, 
     }
 }
 
-// Whether the one range admits the candidate and the other does not.
+// Returns `true` if `range` admits the candidate and `other` does not.
 #[inline(always)]
 fn is_beyond<V: Asked>(candidate: &V, range: &Range, other: &Range) -> bool
     ensures { IsTrue result ↔ AdmitsBeyond range.now other.now (V.asked candidate.now) }

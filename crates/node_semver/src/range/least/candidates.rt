@@ -1,4 +1,7 @@
-//! Versions at which the least one beyond another range may be, asked of sets before they are built.
+//! The candidates for the least version beyond another range. A candidate is checked against sets before any memory is
+//! allocated for it.
+//!
+//! `#[inline(always)]`: each function is a few stores or comparisons in the loop over the candidates.
 ghost use Rattle.std.specs.Prelude.{◌≡◌, ◌↔◌, IsTrue};
 ghost use Rattle.std.specs.declared.cmp.Ordering.TheVariants.{Less};
 ghost use Rattle.semver_sets.specs.Comparison.{prerelease_cmp, version_cmp};
@@ -37,7 +40,7 @@ impl<'a> Unbuilt<'a> {
         }
     }
 
-    // The same version with no build.
+    // The same version without its build.
     #[inline(always)]
     pub(crate) fn without_build(self) -> Unbuilt<'a>
         ensures { result ≡ without_build self.entry }
@@ -45,7 +48,7 @@ impl<'a> Unbuilt<'a> {
         Unbuilt { build: &[], ..self }
     }
 
-    // Whether there is no best version so far that it is not below.
+    // Returns `true` if there is no best version so far, or this one is less than it.
     #[inline(always)]
     pub(crate) fn is_below_best(&self, best: &Option<Unbuilt<'_>>) -> bool
         ensures { IsTrue result ↔ IsBelowBest best.now self.now }
@@ -76,7 +79,8 @@ impl<'a> Asked for Unbuilt<'a> {
     }
 }
 
-// The order of an end and a version with one triple.
+// The order of the prereleases of an end and a version with the same triple. `inline(never)`: most candidates have no
+// identifiers.
 #[inline(never)]
 fn cmp_prereleases(end: &End, version: &Unbuilt<'_>) -> Ordering
     ensures { result ≡ prerelease_cmp end.now.pre_release version.now.pre_release }
@@ -91,7 +95,7 @@ fn cmp_prereleases(end: &End, version: &Unbuilt<'_>) -> Ordering
     }
 }
 
-// A release, which its triple tells.
+// A release, given by its triple alone.
 #[derive(Clone, Copy)]
 pub(crate) struct Release {
     pub(crate) major: u64,
@@ -111,7 +115,8 @@ impl Release {
         }
     }
 
-    // Whether there is no best version so far that it is not below. No version of its triple is above it.
+    // Returns `true` if there is no best version so far, or this release is less than it. Other versions of its triple
+    // are not greater than it.
     #[inline(always)]
     pub(crate) fn is_below_best(&self, best: &Option<Unbuilt<'_>>) -> bool
         ensures { IsTrue result ↔ IsBelowBest best.now (release self.now.major self.now.minor self.now.patch) }

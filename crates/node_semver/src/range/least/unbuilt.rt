@@ -1,4 +1,7 @@
-//! Versions that are compared before they are built.
+//! Versions that are compared before any memory is allocated for them.
+//!
+//! `#[inline(always)]` and `#[inline(never)]`: versions of different triples, and releases, are compared without a
+//! call, and the rare others by one.
 ghost use Rattle.std.specs.Prelude.{◌≡◌, ◌↔◌, ◌++◌, [], ◌∷◌, IfOk, IsTrue};
 ghost use Rattle.std.specs.declared.cmp.Ordering.TheVariants.{Less};
 ghost use Rattle.semver_cuts.specs.Ends.{IsCutBelow};
@@ -17,7 +20,7 @@ use semver_sets::identifier::order::cmp_prereleases;
 use std::alloc::{AllocError, Global};
 use std::marker::Model;
 
-// A version of which the lists are lent: its prerelease are the identifiers and, where `zero` is set, a 0 after them.
+// A version with borrowed lists. Its prerelease is the list of identifiers, followed by a 0 if `zero` is true.
 #[derive(Drop)]
 pub(crate) struct Unbuilt<'a> {
     pub(crate) major: u64,
@@ -46,7 +49,7 @@ impl<'a> Model for Unbuilt<'a> {
 }
 
 impl<'a> Unbuilt<'a> {
-    // The version at an end.
+    // The version of an end.
     #[inline(always)]
     pub(crate) fn at_end(end: &'a End) -> Unbuilt<'a>
         ensures { result ≡ end.now }
@@ -61,7 +64,7 @@ impl<'a> Unbuilt<'a> {
         }
     }
 
-    // The same with a 0 after its identifiers: what is next after a prerelease.
+    // The same with a 0 after its identifiers. For a prerelease, this is the next version.
     #[inline(always)]
     pub(crate) fn after_end(end: &'a End) -> Unbuilt<'a>
         ensures { result ≡ record end.now { pre_release = end.now.pre_release ++ numeric 0 ∷ [] } }
@@ -76,7 +79,7 @@ impl<'a> Unbuilt<'a> {
         }
     }
 
-    // Whether the version lies in a span that ends at the cut.
+    // Returns `true` if the version is below the cut: if it lies in a span that ends there and begins at or below it.
     #[inline]
     pub(crate) fn is_inside(&self, upper: &Cut<End>) -> bool
         ensures { IsTrue result ↔ IsCutBelow version_cmp (Before self.now) upper.now }
@@ -89,7 +92,7 @@ impl<'a> Unbuilt<'a> {
         }
     }
 
-    // The version if it lies in a span that ends at the cut, or `None`.
+    // The version if it is below the cut, or `None`.
     #[inline]
     pub(crate) fn if_inside(self, upper: &Cut<End>) -> Option<Unbuilt<'a>>
         ensures { IsInsideOrNone upper.now self.entry result }
@@ -117,7 +120,7 @@ impl<'a> Unbuilt<'a> {
         self.is_prerelease_below(other)
     }
 
-    // Whether the version at an end is below this one.
+    // Returns `true` if the version of an end is less than this one.
     #[inline(always)]
     pub(crate) fn is_above(&self, end: &End) -> bool
         ensures { IsTrue result ↔ (version_cmp end.now self.now ≡ Less) }
@@ -134,7 +137,7 @@ impl<'a> Unbuilt<'a> {
         self.is_prerelease_above(end)
     }
 
-    // The same of two versions with one triple.
+    // The same if both have the same triple.
     #[inline(never)]
     fn is_prerelease_above(&self, end: &End) -> bool
         ensures { IsTrue result ↔ (prerelease_cmp end.now.pre_release self.now.pre_release ≡ Less) }
@@ -142,7 +145,7 @@ impl<'a> Unbuilt<'a> {
         Unbuilt::at_end(end).is_prerelease_below(self)
     }
 
-    // The same of two versions with one triple.
+    // Returns `true` if this version is less than the other, if both have the same triple.
     #[inline(never)]
     pub(crate) fn is_prerelease_below(&self, other: &Unbuilt<'_>) -> bool
         ensures { IsTrue result ↔ (prerelease_cmp self.now.pre_release other.now.pre_release ≡ Less) }
@@ -156,7 +159,7 @@ impl<'a> Unbuilt<'a> {
         )
     }
 
-    // The version, with lists of its own. Most are releases without a build, which take none.
+    // Builds the version, with lists of its own. Most are releases without build, which need no allocation.
     #[inline(always)]
     pub(crate) fn built(&self, alloc: Global) -> Result<Version, AllocError>
         ensures { IfOk result (λ v. v ≡ self.now) }
@@ -194,8 +197,8 @@ impl<'a> Unbuilt<'a> {
     }
 }
 
-// The order of prereleases and releases, by their identifiers and whether a 0 stands after them. No list lies between
-// one and that with a 0 more, so the identifiers decide, but where one list is the other with a 0 more.
+// The order of two prereleases of one triple, where a 0 can follow each list. No list is between a list and the same
+// list with one more 0. So the identifiers decide, unless one list is the other with one more 0.
 fn are_identifiers_below(
     one: &[Identifier],
     zero: bool,
@@ -213,7 +216,7 @@ fn are_identifiers_below(
     }
 }
 
-// Whether the first list is the second with a 0 more.
+// Returns `true` if the first list is the second with one more 0.
 fn is_with_zero(longer: &[Identifier], shorter: &[Identifier]) -> bool
     ensures { IsTrue result ↔ (values_of longer.now ≡ values_of shorter.now ++ numeric 0 ∷ []) }
 {

@@ -1,6 +1,7 @@
-//! A text that is a full version, with a `^`, a `~` or nothing before it: nine of ten ranges are one. It is read as
-//! three numbers, and its range is built at once, each kind in a function of its own, which writes into the place of
-//! the answer.
+//! A text that is a full version after `^`, `~` or nothing: nine of ten ranges are such. It is read as three numbers,
+//! and its range is built at once. Each kind has a function of its own.
+//!
+//! `#[inline(always)]`: the numbers stay in registers, and the range is built in the place of the caller's result.
 ghost use Rattle.std.specs.Prelude.{◌≡◌, ◌∷◌, [], ℕ, IfSome, List};
 ghost use Rattle.semver_cuts.specs.Ends.{IsCutBelow};
 ghost use Rattle.semver_cuts.specs.declared.cut.Cut.TheVariants.{Before};
@@ -17,7 +18,7 @@ use semver_cuts::{Cut, Span};
 use semver_sets::end::End;
 use semver_sets::parse::read_full_triple;
 
-// What stands before the version.
+// What is written before the version.
 #[derive(Clone, Copy)]
 pub(crate) enum FullLead {
     // `^`
@@ -77,7 +78,7 @@ pub(crate) fn exact_range(major: u64, minor: u64, patch: u64) -> Range
     Range::of_set(Span::between(Cut::Before(lower), Cut::After(upper)))
 }
 
-// From a release up to the least version with another triple.
+// The range from a release up to the least version of another triple.
 #[inline(always)]
 fn range_up_to(lower: (u64, u64, u64), upper: (u64, u64, u64)) -> Range
     requires below { IsCutBelow version_cmp (Before (Versions.release lower.0 lower.1 lower.2))

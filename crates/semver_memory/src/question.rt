@@ -2,7 +2,8 @@
 use crate::answer::{Answer, print_of_error};
 use crate::fault::Fault;
 use node_semver::{Comparisons, Identifier, Range, SemverError, Version, max_satisfying, min_satisfying};
-use semver_cuts::{Cut, Span, Stepped};
+use semver_cuts::algebra::are_merged;
+use semver_cuts::{Cut, Span, Stepped, covers};
 use std::alloc::{AllocError, Global};
 use std::hash::{DefaultHasher, Hash, Hasher};
 
@@ -31,7 +32,7 @@ impl Question {
             Question::OfRanges(one, other) => Answer::Truth(are_equal(one, other)),
             Question::Satisfies(range, version) => { Answer::Truth(is_admitted(range, version)) }
             Question::OfError(error) => Answer::Truth(is_located(error)),
-            Question::OfSpans => Answer::Truth(share_a_cut()),
+            Question::OfSpans => Answer::Truth(share_a_cut() && cover_a_part()),
         }
     }
 
@@ -97,6 +98,21 @@ fn share_a_cut() -> bool {
     common && rest && one.contains(&1) && !other.contains(&1)
 }
 
+/// Returns `true` if two spans that lie apart cover a part of one of them, and the part does not cover the two.
+fn cover_a_part() -> bool {
+    let (Some(one), Some(other), Some(part)) = (
+        Span::new(Cut::Before(1u64), Cut::Before(3)),
+        Span::new(Cut::Before(5u64), Cut::End),
+        Span::new(Cut::Before(6u64), Cut::Before(7)),
+    ) else {
+        return false;
+    };
+    let spans = [one, other];
+    let parts = [part];
+    let are_apart = are_merged(&spans) && are_merged(&parts);
+    are_apart && covers(&spans, &parts) && !covers(&parts, &spans)
+}
+
 /// The calls with this name, and arguments read from these texts.
 pub(crate) fn question_of(
     alloc: Global,
@@ -111,7 +127,7 @@ pub(crate) fn question_of(
         "Range: equality, hash and allows" => of_ranges(alloc, one, other),
         "Range::satisfies" => satisfies(alloc, one, other),
         "SemverError: its parts" => Ok(Question::OfError(error_of(alloc, one)?)),
-        "Span: all calls" => Ok(Question::OfSpans),
+        "Span and covers: all calls" => Ok(Question::OfSpans),
         _ => Err(Fault::Words),
     }
 }

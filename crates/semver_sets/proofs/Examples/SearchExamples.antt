@@ -1,9 +1,13 @@
 -- Worked examples: how many spans the sets of a text are joined to, and how many comparisons a search takes at most.
-use Rattle.std.proofs.Common.{◌≡◌, ◌≤◌, ◌+◌, ◌*◌, ℕ, List, [], ◌∷◌, Some, arith, codes, refl}
+use Rattle.std.proofs.Common.{◌≡◌, ◌≤◌, ◌+◌, ◌*◌, ℕ, List, [], ◌∷◌, Some, arith, codes, inl}
+use Rattle.std.proofs.Common.{inr, refl}
+use Rattle.semver_cuts.specs.declared.cut.Cut.TheVariants.{Before}
 use Rattle.semver_cuts.specs.Starts.{count_of_starts}
+use Rattle.semver_cuts.specs.Lemmas.Ends.{at_most-from_le, below-from_lt}
 use Rattle.semver_sets.specs.Comparator.{at_least, below, from_up_to, with_major}
 use Rattle.semver_sets.specs.Comparison.{version_cmp}
 use Rattle.semver_sets.specs.IdentifierValue.{alphanumeric, numeric}
+use Rattle.semver_sets.specs.Meaning.{IsInside, SetAdmits}
 use Rattle.semver_sets.specs.Merging.{AreSetsOfText}
 use Rattle.semver_sets.specs.Searching.{HasDigits, IsShortSearch, count_of_opening}
 use Rattle.semver_sets.specs.Version.{IsPrerelease, VersionValue, least_of, release}
@@ -90,3 +94,22 @@ inside_second = prerelease-bound _ (candidate 7) candidates 1 refl refl
 unopened : IsPrereleaseBound (codes "1 || 3 || 5") (candidate 5) 0
 unfolding sets_in
 unopened = prerelease-bound _ (candidate 5) (with_major 1 ∷ with_major 3 ∷ with_major 5 ∷ []) 0 refl refl
+
+-- ---- what is no search: a count that falls, and one that stays though the version is admitted
+
+fallen : (sets : Sets) (v : VersionValue) → ¬ IsShortSearch sets v 3 0
+fallen sets v search = let adds = search.adds in absurd (omega (arith, adds))
+
+-- `3.0.0` lies in the second set of `1 || 3 || 5`
+third-inside : IsInside (release 3 0 0) (with_major 3)
+third-inside = record {
+  lower = at_most-from_le version_cmp (with_major 3).lower (Before (release 3 0 0)) refl;
+  upper = below-from_lt version_cmp (Before (release 3 0 0)) (with_major 3).upper refl;
+}
+
+uncounted : (n : ℕ) → ¬ IsShortSearch (with_major 1 ∷ with_major 3 ∷ with_major 5 ∷ []) (release 3 0 0) n n
+uncounted n search =
+    let inside : SetAdmits (with_major 3) (release 3 0 0) =
+    record { inside = third-inside; opened = λ pre. absurd (pre refl) } in
+    let twice = search.admitted (inr (inl inside)) in
+    absurd (omega (arith, twice))

@@ -11,3 +11,4 @@ pub mod ListReading
 pub mod ExtrasReading
 pub mod LongestReading
 pub mod LineText
+pub mod DecimalReading

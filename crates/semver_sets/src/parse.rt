@@ -11,6 +11,7 @@ mod number;
 mod partial;
 mod skip;
 mod triple;
+pub mod written;
 
 pub use fault::Fault;
 pub use full::read_full_triple;

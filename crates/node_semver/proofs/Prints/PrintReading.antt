@@ -1,47 +1,29 @@
 -- The print of a version of which a text can write the numbers and the identifiers is such a text.
 use Rattle.std.proofs.Common.{◌≡◌, ◌<◌, ◌≤◌, ◌^◌, ◌∙◌, ℕ, Bool, true, false, List, [], ◌∷◌, ◌++◌, map, length}
 use Rattle.std.proofs.Common.{append_assoc, arith, refl, sym, ap, subst, inl, inr}
-use Rattle.std.proofs.lemmas.Bool.{and_from, and_parts, cases_Bool, lt-ltb, ltb-true}
-use Rattle.std.proofs.lemmas.Fmt.{decimal_nonempty, digits_decimal, digits_value-decimal}
+use Rattle.std.proofs.lemmas.Bool.{and_parts, cases_Bool, ltb-true}
 use Rattle.std.specs.Fmt.{decimal}
 use Rattle.std.specs.List.{AllByRecursion, join_with_byte, list_all}
 use Rattle.std.specs.Prelude.{◌&&◌, nat_lt}
 use Rattle.semver_sets.specs.declared.TheConstants.{MAX_LENGTH, MAX_SAFE_INTEGER}
-use Rattle.semver_sets.specs.Characters.{AreAll, BeginsWith, BeginsWithNo, dot, hyphen, is_digit}
-use Rattle.semver_sets.specs.Characters.{is_identifier_character, is_version_mark, mark_of, plus}
+use Rattle.semver_sets.specs.Characters.{BeginsWith, BeginsWithNo, dot, hyphen, is_digit}
+use Rattle.semver_sets.specs.Characters.{is_version_mark, mark_of, plus}
 use Rattle.semver_sets.specs.IdentifierText.{IsBuildText, IsIdentifierList, IsIdentifierText, IsPrereleaseText}
 use Rattle.semver_sets.specs.IdentifierText.{identifier_of, parts_of}
-use Rattle.semver_sets.specs.IdentifierValue.{IdentifierValue, numeric}
+use Rattle.semver_sets.specs.IdentifierValue.{IdentifierValue}
 use Rattle.semver_sets.specs.NumberText.{IsNumberText, number_of}
 use Rattle.semver_sets.specs.Print.{identifier_text, marked_text, version_text}
 use Rattle.semver_sets.specs.RangeSets.{IsReadIdentifier}
 use Rattle.semver_sets.specs.Version.{VersionValue}
 use Rattle.semver_sets.specs.VersionText.{IsMarked, IsUnmarkedVersion, IsVersionText}
-use Rattle.semver_sets.proofs.Texts.Digits.{digits-numerals}
+use Rattle.semver_sets.proofs.Texts.DecimalReading.{decimal-begins, decimal-digits, decimal-identifier, decimal-value}
 use Rattle.semver_sets.proofs.Texts.ListReading.{parts-alone, parts-before}
-use Rattle.semver_sets.proofs.Texts.LongestReading.{digit-character}
 use Rattle.semver_sets.proofs.Words.PartialBounds.{build-read, prerelease-read}
 use Rattle.semver_sets.proofs.Texts.Prefixes.{begins-append}
 use Rattle.semver_sets.proofs.Texts.Characters.{digit-no_version_mark}
 use Rattle.node_semver.specs.ReadingBack.{HasText, HasTextNumbers, VersionReadsBack}
 
 -- ---- numbers
-
--- a text of such characters that is not empty begins with one
-some-begins : (test : ℕ → Bool) (text : List ℕ) → 0 < length text → AreAll test text → BeginsWith test text
-some-begins test [] some all = absurd (omega arith)
-some-begins test (b ∷ text) some all = (and_parts (test b) (list_all test text) all).0
-
--- the decimal digits of a number of 64 bits
-module _ (n : ℕ) (small : n < 2 ^ 64) where
-  decimal-digits : AreAll is_digit (decimal n)
-  decimal-digits = digits_decimal digits-numerals n small
-
-  decimal-value : number_of (decimal n) ≡ n
-  decimal-value = digits_value-decimal digits-numerals n small
-
-  decimal-begins : BeginsWith is_digit (decimal n)
-  decimal-begins = some-begins is_digit (decimal n) (decimal_nonempty n small) decimal-digits
 
 -- the decimal digits of a number within the limit are a number text of it
 number-text : (n : ℕ) → n ≤ MAX_SAFE_INTEGER → IsNumberText (decimal n) n
@@ -60,26 +42,11 @@ number-text n limit =
 abbrev IsPrinted : IdentifierValue → Type 0
 IsPrinted i = IsIdentifierText (identifier_text i) × (identifier_of (identifier_text i) ≡ i)
 
-characters-of_digits : (text : List ℕ) → AreAll is_digit text → AreAll is_identifier_character text
-characters-of_digits [] all = refl
-characters-of_digits (b ∷ text) all =
-    let both = and_parts (is_digit b) (list_all is_digit text) all in
-    and_from _ _ (digit-character b both.0) (characters-of_digits text both.1)
-
-number-printed : (n : ℕ) → n < 2 ^ 64 → IsPrinted (numeric n)
-number-printed n small =
-    let all = decimal-digits n small in
-    let characters = characters-of_digits (decimal n) all in
-    let fits : nat_lt n (2 ^ 64) ≡ true = lt-ltb _ _ small in (
-      (some-begins is_identifier_character (decimal n) (decimal_nonempty n small) characters, characters),
-      rw (all, decimal-value n small, fits) refl,
-    )
-
 text-printed : (text : List ℕ) → IsIdentifierText text → IsPrinted (identifier_of text)
 text-printed text is = elim (cases_Bool (list_all is_digit text && nat_lt (number_of text) (2 ^ 64))) [
   | inl number ↦
       let fits = and_parts (list_all is_digit text) _ number in
-      rw number (number-printed (number_of text) (ltb-true _ _ fits.1))
+      rw number (decimal-identifier (number_of text) (ltb-true _ _ fits.1))
   | inr other ↦ rw other (is, rw other refl)
 ]
 

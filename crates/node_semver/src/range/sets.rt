@@ -1,10 +1,14 @@
 //! The sets of a range, as spans of versions.
-ghost use Rattle.std.specs.Prelude.{◌≡◌, IfOk};
+ghost use Rattle.std.specs.Prelude.{◌≡◌, ◌↔◌, ◌≤◌, ◌+◌, IfOk, IfSome, IsNone, IsSome, IsTrue};
+ghost use Rattle.std.specs.List.{AllByRecursion};
+ghost use Rattle.semver_sets.specs.RangeSets.{IsRangeSet, IsRangeValue, IsReadCut, IsReadIdentifier, IsReadVersion};
+ghost use Rattle.semver_sets.specs.declared.TheConstants.{MAX_SAFE_INTEGER};
 
 use crate::range::least::unbuilt::Unbuilt;
-use crate::{Range, Version};
+use crate::{MAX_SAFE_INTEGER, Range, Version};
 use semver_cuts::{Cut, Span};
 use semver_sets::end::End;
+use semver_sets::parse::written::are_read;
 use std::alloc::{AllocError, Global};
 
 impl Range {
@@ -26,7 +30,8 @@ impl Range {
     ///   `After(4.0.0)` to `End`.
     /// - The only set of `^1.2.3+a` is the span from `Before(1.2.3)` to `Before(2.0.0-0)`: a caret drops the build.
     pub fn sets(&self, alloc: Global) -> Result<Vec<Span<Version>>, AllocError>
-        ensures { IfOk result (λ sets. sets.items ≡ self.now) }
+        ensures sets { IfOk result (λ sets. sets.items ≡ self.now) }
+        ensures holds { IfOk result (λ sets. IsRangeValue sets.items) }
     {
         let sets = self.sets.as_slice();
         let mut spans = Vec::with_capacity(alloc, sets.len())?;
@@ -35,6 +40,132 @@ impl Range {
         }
         Ok(spans)
     }
+
+    /// Returns the range of these sets in their order, or `None` if the list is empty or a set has an end that no range
+    /// text can write.
+    ///
+    /// [`Range::sets`] gives the same list back, builds included. No range text writes a number above 9007199254740992,
+    /// which is `MAX_SAFE_INTEGER` and 1, nor an identifier such as `a b`, the empty text, or the text `1`, which as an
+    /// identifier is the number.
+    ///
+    /// # Errors
+    ///
+    /// Fails with `AllocError` if an allocation fails.
+    ///
+    /// # Memory
+    ///
+    /// Allocates copies of the identifiers of the ends. For several sets it also allocates a list of them, and what finds
+    /// a version in it, as [`Range::parse`] does for a text with `||`.
+    ///
+    /// # Examples
+    ///
+    /// - The range of the span from `Before(1.2.3)` to `Before(2.0.0-0)` equals `^1.2.3`.
+    /// - The empty list gives `None`, and so does a span that ends at `Before(18446744073709551615.0.0)`.
+    pub fn from_sets(alloc: Global, sets: Vec<Span<Version>>) -> Result<Option<Range>, AllocError>
+        ensures sets { IfOk result (λ answer. IfSome answer (λ range. range ≡ sets.items)) }
+        ensures some { IfOk result (λ answer. IsSome answer ↔ IsRangeValue sets.items) }
+        ensures none { IfOk result (λ answer. IsNone answer ↔ ¬ IsRangeValue sets.items) }
+    {
+        if sets.is_empty() || !are_range_sets(&sets) {
+            return Ok(None);
+        }
+        match sets.as_slice() {
+            [set] => Ok(Some(Range::of_set(set_of(alloc, set)?))),
+            several => Ok(Some(Range::of_sets(alloc, sets_of(alloc, several)?)?)),
+        }
+    }
+}
+
+// Whether a range text can write each of the sets.
+fn are_range_sets(sets: &[Span<Version>]) -> bool
+    ensures { IsTrue result ↔ AllByRecursion IsRangeSet sets.now }
+{
+    'sets: for set in sets {
+        if !is_range_set(set) {
+            return false;
+        }
+    }
+    true
+}
+
+#[inline]
+fn is_range_set(set: &Span<Version>) -> bool
+    ensures { IsTrue result ↔ IsRangeSet set.now }
+{
+    let (lower, upper) = set.ends();
+    is_read_cut(lower) && is_read_cut(upper)
+}
+
+#[inline]
+fn is_read_cut(cut: &Cut<Version>) -> bool
+    ensures { IsTrue result ↔ IsReadCut cut.now }
+{
+    match cut {
+        Cut::Start | Cut::End => true,
+        Cut::Before(version) | Cut::After(version) => is_read_version(version),
+    }
+}
+
+#[inline]
+fn is_read_version(version: &Version) -> bool
+    ensures { IsTrue result ↔ IsReadVersion version.now }
+{
+    are_read_numbers(version.major, version.minor, version.patch) && has_read_identifiers(version)
+}
+
+#[inline]
+fn are_read_numbers(major: u64, minor: u64, patch: u64) -> bool
+    ensures { IsTrue result ↔ ((major ≤ MAX_SAFE_INTEGER + 1) × (minor ≤ MAX_SAFE_INTEGER + 1)
+        × (patch ≤ MAX_SAFE_INTEGER + 1)) }
+{
+    major <= MAX_SAFE_INTEGER + 1 && minor <= MAX_SAFE_INTEGER + 1 && patch <= MAX_SAFE_INTEGER + 1
+}
+
+#[inline]
+fn has_read_identifiers(version: &Version) -> bool
+    ensures { IsTrue result ↔ (AllByRecursion IsReadIdentifier version.now.pre_release
+        × AllByRecursion IsReadIdentifier version.now.build) }
+{
+    are_read(&version.pre_release) && are_read(&version.build)
+}
+
+// The sets, with ends of their own.
+fn sets_of(alloc: Global, spans: &[Span<Version>]) -> Result<Vec<Span<End>>, AllocError>
+    ensures { IfOk result (λ sets. sets.items ≡ spans.now) }
+{
+    let mut sets = Vec::with_capacity(alloc, spans.len())?;
+    'spans: for span in spans {
+        sets.push(set_of(alloc, span)?)?;
+    }
+    Ok(sets)
+}
+
+#[inline]
+fn set_of(alloc: Global, span: &Span<Version>) -> Result<Span<End>, AllocError>
+    ensures { IfOk result (λ set. set ≡ span.now) }
+{
+    let (lower, upper) = span.ends();
+    Ok(Span::between(end_cut_of(alloc, lower)?, end_cut_of(alloc, upper)?))
+}
+
+#[inline]
+fn end_cut_of(alloc: Global, cut: &Cut<Version>) -> Result<Cut<End>, AllocError>
+    ensures { IfOk result (λ copy. copy ≡ cut.now) }
+{
+    match cut {
+        Cut::Start => Ok(Cut::Start),
+        Cut::Before(version) => Ok(Cut::Before(end_of(alloc, version)?)),
+        Cut::After(version) => Ok(Cut::After(end_of(alloc, version)?)),
+        Cut::End => Ok(Cut::End),
+    }
+}
+
+#[inline]
+fn end_of(alloc: Global, version: &Version) -> Result<End, AllocError>
+    ensures { IfOk result (λ end. end ≡ version.now) }
+{
+    let triple = (version.major, version.minor, version.patch);
+    End::with_copies(alloc, triple, &version.pre_release, &version.build)
 }
 
 // The set, with versions of its own at its ends.

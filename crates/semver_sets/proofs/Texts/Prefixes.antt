@@ -1,5 +1,5 @@
 -- The longest prefix of a text whose characters all pass, and the rest.
-use Rattle.std.proofs.Common.{◌≡◌, ℕ, Bool, true, false, List, [], ◌∷◌, ◌++◌, arith, length, refl, ap, inl, inr}
+use Rattle.std.proofs.Common.{◌≡◌, ℕ, suc, Bool, true, false, List, [], ◌∷◌, ◌++◌, arith, length, refl, ap, inl, inr}
 use Rattle.std.proofs.lemmas.Bool.{and_from, and_parts, cases_Bool, eqb-true}
 use Rattle.std.specs.Prelude.{◌==◌}
 use Rattle.std.specs.List.{list_all}
@@ -119,4 +119,19 @@ prefix_of-some test [] h = cc h
 prefix_of-some test (b ∷ rest) h = elim (cases_Bool (test b)) [
   | inl passes ↦ passes
   | inr stops ↦ cc (rw stops at h)
+]
+
+never-empty : (n : ℕ) → (suc n == 0) ≡ false
+never-empty n = elim (cases_Bool (suc n == 0)) [
+  | inl empty ↦ absurd (cc (eqb-true (suc n) 0 empty))
+  | inr not ↦ not
+]
+
+-- nothing is left exactly where all pass
+pub rest_of-empty : (test : ℕ → Bool) (text : List ℕ) → (length (rest_of test text) == 0) ≡ list_all test text
+unfolding rest_of
+rest_of-empty test [] = refl
+rest_of-empty test (b ∷ rest) = elim (cases_Bool (test b)) [
+  | inl passes ↦ rw passes (rest_of-empty test rest)
+  | inr stops ↦ rw stops (never-empty (length rest))
 ]

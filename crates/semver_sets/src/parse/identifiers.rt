@@ -51,7 +51,7 @@ pub(crate) fn begins_identifier(text: &[u8]) -> bool
 
 // `alpha` and `.1` of `alpha.1`: the longest identifier and the rest
 #[inline(always)]
-fn split_identifier(text: &[u8]) -> (&[u8], &[u8])
+pub(crate) fn split_identifier(text: &[u8]) -> (&[u8], &[u8])
     ensures identifier { result.0.now ≡ Reading.prefix_of Characters.is_identifier_character text.now }
     ensures rest { result.1.now ≡ Reading.rest_of Characters.is_identifier_character text.now }
 {
@@ -73,7 +73,7 @@ fn one_more(value: u64, byte: u8) -> Option<u64>
 
 // The number that the digits write, if the text is digits only and the number has at most 64 bits.
 #[inline(always)]
-fn numeric(text: &[u8]) -> Option<u64>
+pub(crate) fn numeric(text: &[u8]) -> Option<u64>
     ensures { result ≡ (if list_all Characters.is_digit text.now && nat_lt (number_of text.now) (2 ^ 64)
         then Some (number_of text.now) else None) }
 {

@@ -154,6 +154,12 @@ node_semver_status node_semver_range_intersect(const node_semver_range *one, con
 node_semver_status node_semver_range_difference(const node_semver_range *one, const node_semver_range *other,
                                                 node_semver_range *answer);
 
+/* The sets of the first range and then those of the second: a version satisfies it where it satisfies one of the two.
+ * Sets are not joined: the union of `1` and `1` has two. */
+#define NODE_SEMVER_HAS_UNION 1
+node_semver_status node_semver_range_union(const node_semver_range *one, const node_semver_range *other,
+                                           node_semver_range *answer);
+
 /* The least version that the range admits, or NODE_SEMVER_NONE where it admits none. */
 node_semver_status node_semver_min_version(const node_semver_range *range, node_semver_version *answer);
 
@@ -164,6 +170,10 @@ node_semver_status node_semver_least_beyond(const node_semver_range *one, const 
 /* Whether the range admits one of the versions of an array, and the place of the greatest that it admits: of equal
  * ones, which differ in the build alone, the first. Where it admits none, the place says nothing. */
 bool node_semver_max_satisfying(const node_semver_version *versions, size_t count, const node_semver_range *range,
+                                size_t *place);
+
+/* The same of the least: of equal ones, which differ in the build alone, the first. */
+bool node_semver_min_satisfying(const node_semver_version *versions, size_t count, const node_semver_range *range,
                                 size_t *place);
 
 /* Whether the version of one text satisfies the range of another, in one call. The range is read first, and the fault

@@ -151,8 +151,11 @@ static void run_search(search *call, const struct read *read, struct answer *ans
     node_semver_version_free(found);
 }
 
-/* Versions of a text with blanks between, of which the range admits this one as the greatest. */
-static void run_greatest(const char *const *texts, struct answer *answer) {
+/* A call of an array of versions, which finds the place of one. */
+typedef bool choice(const node_semver_version *, size_t, const node_semver_range *, size_t *);
+
+/* Versions of a text with blanks between, of which the range admits this one as the greatest, or the least. */
+static void run_choice(choice *call, const char *const *texts, struct answer *answer) {
     node_semver_version versions[8];
     node_semver_range range = NODE_SEMVER_EMPTY;
     node_semver_fault fault = {0, 0, 0};
@@ -168,7 +171,7 @@ static void run_greatest(const char *const *texts, struct answer *answer) {
     }
     if (status != NODE_SEMVER_OK) {
         tell_status(answer, status, &fault);
-    } else if (node_semver_max_satisfying(versions, count, &range, &place)) {
+    } else if (call(versions, count, &range, &place)) {
         snprintf(answer->text, sizeof answer->text, "%zu", place);
     } else {
         tell(answer, "none");
@@ -317,12 +320,16 @@ static void run(const struct row *row, struct answer *answer) {
         run_algebra(node_semver_range_intersect, &read, answer);
     } else if (strcmp(row->call, "difference") == 0) {
         run_algebra(node_semver_range_difference, &read, answer);
+    } else if (strcmp(row->call, "union") == 0) {
+        run_algebra(node_semver_range_union, &read, answer);
     } else if (strcmp(row->call, "min_version") == 0) {
         run_search(NULL, &read, answer);
     } else if (strcmp(row->call, "least_beyond") == 0) {
         run_search(node_semver_least_beyond, &read, answer);
     } else if (strcmp(row->call, "max_satisfying") == 0) {
-        run_greatest(row->texts, answer);
+        run_choice(node_semver_max_satisfying, row->texts, answer);
+    } else if (strcmp(row->call, "min_satisfying") == 0) {
+        run_choice(node_semver_min_satisfying, row->texts, answer);
     } else if (strcmp(row->call, "satisfies_text") == 0) {
         run_texts(row->texts, answer);
     } else {

@@ -1,5 +1,5 @@
 -- What the exports answer, by the clauses of the calls of `node_semver` that they make.
-use Rattle.std.specs.Prelude.{◌≡◌, ◌⊎◌, ◌↔◌, ℕ, List, []}
+use Rattle.std.specs.Prelude.{◌≡◌, ◌⊎◌, ◌↔◌, ◌++◌, ℕ, List, []}
 use Rattle.std.specs.Prelude.{Option, Some, None, IfSome, IsNone, IsSome, Result, MatchResult}
 use Rattle.node_semver_c.specs.declared.status.Fault.{Fault}
 use Rattle.node_semver_c.specs.declared.status.TheConstants.{OK, NONE, OUT_OF_MEMORY}
@@ -12,7 +12,9 @@ use Rattle.semver_cuts.specs.Rest.{AreRestSpans}
 use Rattle.semver_cuts.specs.Sharing.{ShareCut}
 use Rattle.semver_sets.specs.Comparison.{version_cmp}
 use Rattle.semver_sets.specs.Meaning.{RangeAdmits}
+use Rattle.semver_sets.specs.Merging.{AreSetsOfText}
 use Rattle.semver_sets.specs.RangeSets.{IsRangeValue}
+use Rattle.semver_sets.specs.Union.{AreJoinable, joined_text}
 use Rattle.semver_sets.specs.Version.{IsPrerelease, VersionValue}
 use Rattle.node_semver.specs.declared.error.SemverError.{SemverError}
 use Rattle.node_semver.specs.Error.{refusal_of}
@@ -33,6 +35,23 @@ pub record IsSomeTold {X : Type 0} (Answers : Result X SemverError → Type 0) (
   pub answer : Result X SemverError
   pub promised : Answers answer
   pub told : IsTold answer status held fault
+
+-- ---- what there always is
+
+-- the handle has a value that the call may return, or memory was refused and it is empty
+pub data IsMade {X : Type 0} (Is : X → Type 0) (status : ℕ) (held : Option X) : Type 0 where
+  made : (x : X) → Is x → status ≡ OK → held ≡ Some x → IsMade Is status held
+  no_memory : status ≡ OUT_OF_MEMORY → held ≡ None → IsMade Is status held
+
+-- what `Range::union` returns
+pub record IsUnion (one other union : List (Ends VersionValue)) : Type 0 where
+  pub sets : union ≡ one ++ other
+  pub cuts : (cut : Cut VersionValue) → IsInSome version_cmp union cut
+      ↔ (IsInSome version_cmp one cut ⊎ IsInSome version_cmp other cut)
+  pub admitted : (v : VersionValue) → RangeAdmits union v ↔ (RangeAdmits one v ⊎ RangeAdmits other v)
+  pub text : (first second : List ℕ) → AreJoinable first second → AreSetsOfText first one
+      → AreSetsOfText second other → AreSetsOfText (joined_text first second) union
+  pub holds : IsRangeValue union
 
 -- ---- what may be none
 

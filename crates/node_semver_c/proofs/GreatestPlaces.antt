@@ -22,7 +22,8 @@ module _ (order : Order) (is : IsOrder order) (sets : List (Ends VersionValue)) 
       subst (IsBestAtOrNone order sets (done ++ v ∷ [])) (sym taken) (take-first order is sets done v none admits, at)
   more-place done place v None found at none (inr (not, kept)) =
       subst (IsBestAtOrNone order sets (done ++ v ∷ [])) (sym kept)
-      (all-append (λ (w : VersionValue). ¬ RangeAdmits sets w) done (v ∷ []) none ((λ admitted. not (tt, admitted)), tt))
+      (all-append (λ (w : VersionValue). ¬ RangeAdmits sets w) done (v ∷ []) none
+      ((λ admitted. not (tt, admitted)), tt))
   more-place done place v (Some best) found at first (inl (after, admits, taken)) =
       subst (IsBestAtOrNone order sets (done ++ v ∷ [])) (sym taken)
       (take-better order is sets done best.1 v first.0 after admits, at)

@@ -1,4 +1,4 @@
--- What the exports answer, by the clauses of the calls of `node_semver` that they make.
+-- What the exports return, by the clauses of the calls of `node_semver` that they make.
 use Rattle.std.specs.Prelude.{◌≡◌, ◌⊎◌, ◌↔◌, ◌++◌, ℕ, List, []}
 use Rattle.std.specs.Prelude.{Option, Some, None, IfSome, IsNone, IsSome, Result, MatchResult}
 use Rattle.node_semver_c.specs.declared.status.Fault.{Fault}
@@ -24,12 +24,13 @@ use Rattle.node_semver.specs.RangeAlgebra.{PairAdmits, sets_of_answer}
 
 -- ---- texts
 
--- an answer to a text is told: its value is in the handle, or its refusal in status and fault and the handle is empty
+-- the result of parsing is passed on: its value is in the handle, or its error in status and fault and the handle is
+-- empty
 abbrev pub IsTold : {X : Type 0} → Result X SemverError → ℕ → Option X → Fault → Type 0
 IsTold answer status held fault =
     MatchResult answer (λ x. IsKept x status held) (λ e. IsRefusalTold (refusal_of e) status fault × (held ≡ None))
 
--- some answer that the call may give is told
+-- a result that the call may return is passed on
 pub record IsSomeTold {X : Type 0} (Answers : Result X SemverError → Type 0) (status : ℕ) (held : Option X)
     (fault : Fault) : Type 0 where
   pub answer : Result X SemverError
@@ -38,7 +39,7 @@ pub record IsSomeTold {X : Type 0} (Answers : Result X SemverError → Type 0) (
 
 -- ---- what there always is
 
--- the handle has a value that the call may return, or memory was refused and it is empty
+-- the handle has a value that the call may return, or an allocation failed and the handle is empty
 pub data IsMade {X : Type 0} (Is : X → Type 0) (status : ℕ) (held : Option X) : Type 0 where
   made : (x : X) → Is x → status ≡ OK → held ≡ Some x → IsMade Is status held
   no_memory : status ≡ OUT_OF_MEMORY → held ≡ None → IsMade Is status held
@@ -55,17 +56,17 @@ pub record IsUnion (one other union : List (Ends VersionValue)) : Type 0 where
 
 -- ---- what may be none
 
--- the status of a call that made an answer, or found that there is none
+-- the status of a call that found something, or nothing
 abbrev pub status_found : {X : Type 0} → Option X → ℕ
 status_found None = NONE
 status_found (Some x) = OK
 
--- the handle has the answer of the call, or there was no memory and it is empty
+-- the handle has what the call returns, or an allocation failed and the handle is empty
 abbrev pub IsFound : {X : Type 0} → (Option X → Type 0) → ℕ → Option X → Type 0
 IsFound Answers status held =
     (Answers held × (status ≡ status_found held)) ⊎ ((status ≡ OUT_OF_MEMORY) × (held ≡ None))
 
--- what `Range::intersect` answers
+-- what `Range::intersect` returns
 pub record IsIntersection (one other : List (Ends VersionValue)) (answer : Option (List (Ends VersionValue)))
     : Type 0 where
   pub sets : sets_of_answer answer ≡ common_spans version_cmp one other
@@ -83,7 +84,7 @@ pub record IsIntersection (one other : List (Ends VersionValue)) (answer : Optio
       ↔ (IsInSome version_cmp (sets_of_answer answer) cut ⊎ IsInSome version_cmp rest cut)
   pub holds : IfSome answer IsRangeValue
 
--- what `Range::difference` answers
+-- what `Range::difference` returns
 pub record IsDifference (one other : List (Ends VersionValue)) (answer : Option (List (Ends VersionValue)))
     : Type 0 where
   pub sets : AreRestSpans version_cmp one other (sets_of_answer answer)
@@ -100,13 +101,13 @@ pub record IsDifference (one other : List (Ends VersionValue)) (answer : Option 
       ⊎ IsInSome version_cmp (sets_of_answer answer) cut)
   pub holds : IfSome answer IsRangeValue
 
--- what `Range::min_version` answers
+-- what `Range::min_version` returns
 pub record IsMinimum (sets : List (Ends VersionValue)) (answer : Option VersionValue) : Type 0 where
   pub least : IfSome answer (IsLeastAdmitted sets)
   pub none : IsNone answer ↔ AdmitsNone sets
   pub build : IfSome answer (HasBuildOfFirst sets)
 
--- what `Range::least_beyond` answers
+-- what `Range::least_beyond` returns
 pub record IsBeyond (one other : List (Ends VersionValue)) (answer : Option VersionValue) : Type 0 where
   pub least : IfSome answer (IsLeastBeyond one other)
   pub none : IsNone answer ↔ AdmitsNoneBeyond one other

@@ -10,7 +10,7 @@ use crate::handle::range::RangeRef;
 use crate::handle::version::VersionRef;
 use node_semver::{Range, Version};
 
-/// `max_satisfying`: whether the range admits one of them, and the place of the greatest.
+/// `max_satisfying`: returns whether the range admits one of the versions, and writes the place of the greatest.
 #[unsafe(no_mangle)]
 pub extern "C" fn node_semver_max_satisfying(
     versions: &[VersionRef],
@@ -36,7 +36,7 @@ fn place_of_greatest(versions: &[VersionRef], range: &Range, place: &mut usize) 
     }
 }
 
-// The greatest, with its place.
+// Returns the greatest, with its place.
 fn greatest<'a>(versions: &'a [VersionRef], range: &Range) -> Option<(usize, &'a Version)>
     ensures { IsBestAtOrNone version_cmp range.now (values versions.now)
         (option_map (λ b. (b.0, b.1.now)) result) }
@@ -48,7 +48,8 @@ fn greatest<'a>(versions: &'a [VersionRef], range: &Range) -> Option<(usize, &'a
     best
 }
 
-// The version and its place if the range admits it and it is above the best so far, or else the best.
+// Returns the version and its place if the range admits it and it is above the best so far, or else the best. Inlined,
+// since it is the body of the loop.
 #[inline(always)]
 fn greater<'a>(
     best: Option<(usize, &'a Version)>,
@@ -70,7 +71,7 @@ fn greater<'a>(
     }
 }
 
-/// `min_satisfying`: whether the range admits one of them, and the place of the least.
+/// `min_satisfying`: returns whether the range admits one of the versions, and writes the place of the least.
 #[unsafe(no_mangle)]
 pub extern "C" fn node_semver_min_satisfying(
     versions: &[VersionRef],
@@ -96,7 +97,7 @@ fn place_of_least(versions: &[VersionRef], range: &Range, place: &mut usize) -> 
     }
 }
 
-// The least, with its place.
+// Returns the least, with its place.
 fn least<'a>(versions: &'a [VersionRef], range: &Range) -> Option<(usize, &'a Version)>
     ensures { IsBestAtOrNone downward range.now (values versions.now)
         (option_map (λ b. (b.0, b.1.now)) result) }
@@ -108,7 +109,8 @@ fn least<'a>(versions: &'a [VersionRef], range: &Range) -> Option<(usize, &'a Ve
     best
 }
 
-// The version and its place if the range admits it and it is below the best so far, or else the best.
+// Returns the version and its place if the range admits it and it is below the best so far, or else the best. Inlined,
+// since it is the body of the loop.
 #[inline(always)]
 fn lesser<'a>(
     best: Option<(usize, &'a Version)>,

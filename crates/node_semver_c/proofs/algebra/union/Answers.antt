@@ -4,7 +4,8 @@ use Rattle.node_semver_c.proofs.algebra.union.Goals as goal
 
 pub returns-in-Ok : goal.returns-in-Ok
 returns-in-Ok c =
-    made_of (IsUnion c.args.one.now c.args.other.now) c.in-Ok.union c.keep_range.result c.keep_range.new.held.value record {
+    made_of (IsUnion c.args.one.now c.args.other.now) c.in-Ok.union
+    c.keep_range.result c.keep_range.new.held.value record {
       sets = c.in-Ok.ensures.sets;
       cuts = c.in-Ok.ensures.cuts;
       admitted = c.in-Ok.ensures.admitted;

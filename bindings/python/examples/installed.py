@@ -3,8 +3,8 @@
 
     python3 installed.py FOLDER
 
-FOLDER is a project's folder, or its `node_modules`. Each line is a package, what it asks for, and what is installed. Ends with
-status 1 if there is such a line.
+FOLDER is a project's folder, or its `node_modules`. Each line is a package, what it asks for, and what is installed.
+Ends with status 1 if there is such a line.
 """
 
 import json

@@ -65,8 +65,8 @@ PyObject *only_argument(const char *name, PyObject *arguments, PyObject *keyword
 /* `copy.copy` and `copy.deepcopy` of a value that never changes: the value. */
 PyObject *same_object(PyObject *self, PyObject *ignored);
 
-/* What pickle stores: the type and the text. NULL with a ValueError if the text is not read as an equal value. Takes the
- * reference to `text`, which may be NULL with an exception. */
+/* What pickle stores: the type and the text. NULL with a ValueError if the text is not read as an equal value. Takes
+ * the reference to `text`, which may be NULL with an exception. */
 PyObject *reduced(PyObject *self, PyObject *text);
 
 /* ---- version.c ---- */

@@ -122,12 +122,10 @@ static PyObject *range_subtract(PyObject *one, PyObject *other)
     return combined(node_semver_range_difference, one, other);
 }
 
-#ifdef NODE_SEMVER_HAS_UNION
 static PyObject *range_or(PyObject *one, PyObject *other)
 {
     return combined(node_semver_range_union, one, other);
 }
-#endif
 
 /* Whether the argument of a method is a Range; sets a TypeError if not. */
 static int is_range(PyObject *self, PyObject *other)
@@ -140,12 +138,16 @@ static int is_range(PyObject *self, PyObject *other)
 
 static PyObject *range_allows_any(PyObject *self, PyObject *other)
 {
-    return is_range(self, other) ? PyBool_FromLong(node_semver_range_allows_any(RANGE_OF(self), RANGE_OF(other))) : NULL;
+    if (!is_range(self, other))
+        return NULL;
+    return PyBool_FromLong(node_semver_range_allows_any(RANGE_OF(self), RANGE_OF(other)));
 }
 
 static PyObject *range_allows_all(PyObject *self, PyObject *other)
 {
-    return is_range(self, other) ? PyBool_FromLong(node_semver_range_allows_all(RANGE_OF(self), RANGE_OF(other))) : NULL;
+    if (!is_range(self, other))
+        return NULL;
+    return PyBool_FromLong(node_semver_range_allows_all(RANGE_OF(self), RANGE_OF(other)));
 }
 
 /* The Version of a call that may find none. */
@@ -212,9 +214,7 @@ static PyType_Slot range_slots[] = {
     {Py_sq_contains, range_contains},
     {Py_nb_and, range_and},
     {Py_nb_subtract, range_subtract},
-#ifdef NODE_SEMVER_HAS_UNION
     {Py_nb_or, range_or},
-#endif
     {Py_tp_methods, range_methods},
     {0, NULL},
 };

@@ -69,7 +69,8 @@ static int reads_back(PyObject *self, PyObject *text)
     return same;
 }
 
-/* The repr is made before the message: if it fails inside PyErr_Format, Python 3.10 raises a ValueError without text. */
+/* The repr is made before the message: if it failed inside PyErr_Format, an older Python would raise a ValueError
+ * without a text. */
 static void raise_not_read_back(PyObject *self)
 {
     PyObject *repr = PyObject_Repr(self);

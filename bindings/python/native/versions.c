@@ -67,62 +67,40 @@ PyObject *range_filter(PyObject *self, PyObject *iterable)
     return inside;
 }
 
-/* The place of the greatest version in the range, or -1; -2 with an exception. */
-static Py_ssize_t greatest_place(const node_semver_range *range, const version_list *list)
+typedef bool choice(const node_semver_version *versions, size_t count, const node_semver_range *range, size_t *place);
+
+/* The item whose version is chosen, or None; NULL with an exception. The reference is new. */
+static PyObject *chosen_item(choice *choose, const node_semver_range *range, const version_list *list)
 {
     Py_ssize_t place;
     size_t found;
     bool is_found;
-    node_semver_version *handles;
-    if (list->count == 0)
-        return -1;
-    handles = PyMem_Malloc((size_t)list->count * sizeof *handles);
-    if (handles == NULL) {
-        PyErr_NoMemory();
-        return -2;
-    }
+    node_semver_version *handles = PyMem_Malloc((size_t)list->count * sizeof *handles);
+    if (handles == NULL)
+        return PyErr_NoMemory();
     for (place = 0; place < list->count; place++)
         handles[place] = *VERSION_OF(PyTuple_GetItem(list->versions, place));
-    is_found = node_semver_max_satisfying(handles, (size_t)list->count, range, &found);
+    is_found = choose(handles, (size_t)list->count, range, &found);
     PyMem_Free(handles);
-    return is_found ? (Py_ssize_t)found : -1;
+    return Py_NewRef(is_found ? PyTuple_GetItem(list->items, (Py_ssize_t)found) : Py_None);
 }
-
-/* The place of the least version in the range, or -1. */
-static Py_ssize_t least_place(const node_semver_range *range, const version_list *list)
-{
-    Py_ssize_t place, least = -1;
-    for (place = 0; place < list->count; place++) {
-        const node_semver_version *version = VERSION_OF(PyTuple_GetItem(list->versions, place));
-        if (!node_semver_satisfies(range, version))
-            continue;
-        if (least < 0 || node_semver_version_compare(version, VERSION_OF(PyTuple_GetItem(list->versions, least))) < 0)
-            least = place;
-    }
-    return least;
-}
-
-typedef Py_ssize_t choice(const node_semver_range *range, const version_list *list);
 
 static PyObject *chosen(choice *choose, PyObject *self, PyObject *iterable)
 {
     version_list list;
     PyObject *item = NULL;
-    if (read_list(PyType_GetModuleState(Py_TYPE(self)), iterable, &list) == 0) {
-        Py_ssize_t place = choose(RANGE_OF(self), &list);
-        if (place >= -1)
-            item = Py_NewRef(place == -1 ? Py_None : PyTuple_GetItem(list.items, place));
-    }
+    if (read_list(PyType_GetModuleState(Py_TYPE(self)), iterable, &list) == 0)
+        item = chosen_item(choose, RANGE_OF(self), &list);
     release(&list);
     return item;
 }
 
 PyObject *range_max_satisfying(PyObject *self, PyObject *iterable)
 {
-    return chosen(greatest_place, self, iterable);
+    return chosen(node_semver_max_satisfying, self, iterable);
 }
 
 PyObject *range_min_satisfying(PyObject *self, PyObject *iterable)
 {
-    return chosen(least_place, self, iterable);
+    return chosen(node_semver_min_satisfying, self, iterable);
 }

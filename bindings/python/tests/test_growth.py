@@ -44,7 +44,7 @@ WORKS: List[Callable[[], object]] = [
     lambda: "1.2.3-rc.5" in WANTED,
     lambda: VERSION in WANTED,
     lambda: satisfies("1.2.3-rc.5", "^1.2.3-rc.4"),
-    lambda: (WANTED & OTHER, WANTED - OTHER),
+    lambda: (WANTED & OTHER, WANTED - OTHER, WANTED | OTHER),
     lambda: (WANTED == OTHER, VERSION < LONGEST),
     lambda: (WANTED.allows_any(OTHER), WANTED.allows_all(OTHER)),
     lambda: (WANTED.min_version(), WANTED.least_beyond(OTHER)),

@@ -1,5 +1,5 @@
 # SPDX-License-Identifier: Apache-2.0
-"""examples/installed.py: on a made-up folder, and on npm's own node_modules, where npm's semver gives the same results."""
+"""examples/installed.py: on a made-up folder, and on npm's own node_modules, where npm's semver gives the same."""
 
 import contextlib
 import importlib.util
@@ -18,15 +18,35 @@ assert SPEC is not None and SPEC.loader is not None
 installed: Any = importlib.util.module_from_spec(SPEC)
 SPEC.loader.exec_module(installed)
 
-# A folder in the project, and its package.json. `late` has an own copy of `tool`, and `tool` asks for what is not there.
+# A folder in the project, and its package.json. `late` has its own copy of `tool`, and `tool` asks for what is absent.
 MADE_UP: Dict[str, Dict[str, object]] = {
-    "": {"name": "app", "version": "0.1.0", "dependencies": {"tool": "^1.2.0", "@s/kit": "~2.1", "alias": "npm:tool@1"}},
+    "": {
+        "name": "app",
+        "version": "0.1.0",
+        "dependencies": {"tool": "^1.2.0", "@s/kit": "~2.1", "alias": "npm:tool@1"},
+    },
     "node_modules/tool": {"name": "tool", "version": "1.3.0-rc.1", "dependencies": {"absent": "^1"}},
     "node_modules/alias": {"name": "tool", "version": "1.9.0"},
-    "node_modules/@s/kit": {"name": "@s/kit", "version": "2.1.7", "peerDependencies": {"tool": ">=1.3.0-a", "late": ""}},
-    "node_modules/late": {"name": "late", "version": "3.0.0", "optionalDependencies": {"tool": "2.x || 3", "@s/kit": "3"}},
-    "node_modules/late/node_modules/tool": {"name": "tool", "version": "3.9.9", "dependencies": {"late": "file:../.."}},
-    "node_modules/late/node_modules/odd": {"name": "odd", "version": "not one", "dependencies": {"odd": "*", "late": "next"}},
+    "node_modules/@s/kit": {
+        "name": "@s/kit",
+        "version": "2.1.7",
+        "peerDependencies": {"tool": ">=1.3.0-a", "late": ""},
+    },
+    "node_modules/late": {
+        "name": "late",
+        "version": "3.0.0",
+        "optionalDependencies": {"tool": "2.x || 3", "@s/kit": "3"},
+    },
+    "node_modules/late/node_modules/tool": {
+        "name": "tool",
+        "version": "3.9.9",
+        "dependencies": {"late": "file:../.."},
+    },
+    "node_modules/late/node_modules/odd": {
+        "name": "odd",
+        "version": "not one",
+        "dependencies": {"odd": "*", "late": "next"},
+    },
 }
 
 WRONG = [

@@ -16,7 +16,7 @@ SEED = int(os.environ.get("NODE_SEMVER_SEED", "20261124"))
 TEXTS = 50_000  # of versions, and as many of ranges
 MAX_NUMBER = 9007199254740991
 
-# A version text as docs/GRAMMAR.md has it. A prerelease without `-` begins with a character that is no digit and no `-`.
+# A version text as docs/GRAMMAR.md has it. A prerelease without `-` begins with a letter.
 IDENTIFIERS = r"[0-9A-Za-z-]+(?:\.[0-9A-Za-z-]+)*"
 VERSION = re.compile(
     rf"[vV]?[ \t]*([0-9]+)\.([0-9]+)\.([0-9]+)(?:-({IDENTIFIERS})|(?=[A-Za-z])({IDENTIFIERS}))?(?:\+({IDENTIFIERS}))?"
@@ -24,8 +24,8 @@ VERSION = re.compile(
 
 PIECES = [
     "0", "1", "2", "10", "01", "9007199254740991", "9007199254740992", "18446744073709551616", ".", ".", ".", "-", "+",
-    "a", "rc", "v", "V", "x", "*", " ", " ", "\t", "\n", "||", "|", "^", "~", ">", ">=", "<", "<=", "=", " - ", "\u0161",
-    "\u00a0", "\0", "\U0001f600", "\ud800", "1.2.3", "1.2.3-rc.4", "^1.2", "2 - 3", "1.2.x", "+b.7",
+    "a", "rc", "v", "V", "x", "*", " ", " ", "\t", "\n", "||", "|", "^", "~", ">", ">=", "<", "<=", "=", " - ",
+    "\u0161", "\u00a0", "\0", "\U0001f600", "\ud800", "1.2.3", "1.2.3-rc.4", "^1.2", "2 - 3", "1.2.x", "+b.7",
 ]  # fmt: skip
 
 
@@ -38,7 +38,8 @@ def random_version(chance: random.Random) -> str:
     numbers = ".".join(str(chance.choice([0, 1, 2, 3, 10, MAX_NUMBER])) for _ in range(3))
     extras = chance.choice(["", "", "-0", "-rc.4", "-a", "beta", "-00", "-1.a", "--", "-a.", "- 1"])
     build = chance.choice(["", "", "", "+b", "+1.07", "+"])
-    return chance.choice(["", "", "", "v", "V ", " "]) + numbers + extras + build + chance.choice(["", "", "", " ", "1"])
+    lead, end = chance.choice(["", "", "", "v", "V ", " "]), chance.choice(["", "", "", " ", "1"])
+    return lead + numbers + extras + build + end
 
 
 def identifiers_of(text: Optional[str]) -> Tuple[Union[int, str], ...]:
@@ -52,7 +53,8 @@ def identifiers_of(text: Optional[str]) -> Tuple[Union[int, str], ...]:
 class RandomTexts(unittest.TestCase):
     def check_version(self, text: str) -> Optional[Version]:
         match = VERSION.fullmatch(text)
-        is_version = match is not None and len(text) <= 256 and all(int(n) <= MAX_NUMBER for n in match.groups()[:3])
+        triple = None if match is None else tuple(int(number) for number in match.groups()[:3])
+        is_version = triple is not None and len(text) <= 256 and max(triple) <= MAX_NUMBER
         try:
             version = Version(text)
         except (SemverError, UnicodeEncodeError) as error:
@@ -61,8 +63,7 @@ class RandomTexts(unittest.TestCase):
             return None
         self.assertTrue(is_version)
         assert match is not None
-        triple = (version.major, version.minor, version.patch)
-        self.assertEqual(triple, tuple(int(n) for n in match.groups()[:3]))
+        self.assertEqual((version.major, version.minor, version.patch), triple)
         self.assertEqual(version.prerelease, identifiers_of(match[4] or match[5]))
         self.assertEqual(version.build, identifiers_of(match[6]))
         again = Version(str(version))
@@ -81,7 +82,7 @@ class RandomTexts(unittest.TestCase):
         return wanted
 
     def check_pair(self, one: Range, other: Range, versions: List[Version]) -> None:
-        both, rest = one & other, one - other
+        both, either, rest = one & other, one | other, one - other
         least, beyond = one.min_version(), one.least_beyond(other)
         self.assertEqual(one.allows_any(other), both is not None)
         self.assertEqual(other.allows_all(one), rest is None)
@@ -94,6 +95,7 @@ class RandomTexts(unittest.TestCase):
             self.assertFalse(least is None or version < least)
         for version in versions:
             self.assertEqual(version in one, version in inside)
+            self.assertEqual(version in either, version in one or version in other)
             if version in one and version not in other:
                 self.assertFalse(beyond is None or version < beyond)
             if not version.is_prerelease:

@@ -156,6 +156,8 @@ class Rows(unittest.TestCase):
         self.assertEqual(
             str(one - other), ">=1.0.0 <1.5.0||>1.5.0 <2.0.0-0||>=3.0.0 <3.1.0||>3.1.0 <4.0.0-0"
         )
+        self.assertEqual(str(one | other), f"{one}||{other}")
+        self.assertEqual(str(Range("1") | Range("1")), ">=1.0.0 <2.0.0-0||>=1.0.0 <2.0.0-0")
         self.assertIsNone(Range("1") & Range("2"))
         self.assertIsNone(Range("1.5.0") - Range("1"))
         self.assertEqual((one.allows_all(other), other.allows_all(one)), (True, False))

@@ -64,6 +64,7 @@ class Typing(unittest.TestCase):
     def test_the_tests_and_the_example(self) -> None:
         example = os.path.join(os.path.dirname(HERE), "examples", "installed.py")
         files = [os.path.join(HERE, name) for name in sorted(os.listdir(HERE)) if name.endswith(".py")]
+        files += [os.path.join(HERE, "refused", "test_refused.py")]
         self.accepts("mypy", "--strict", example, *files)
 
 

@@ -5,23 +5,32 @@
  */
 #include "../../native/native.h"
 
+#include <malloc.h>
 #include <stdarg.h>
 
 #define EXPORTED __attribute__((visibility("default")))
 
 static long left = -1;
 static long kept;
+static int has_refused_shrink;
 
 /* Lets the allocation at `place`, from 0, fail; none if it is below 0. */
 EXPORTED void refuse_at(long place)
 {
     left = place;
+    has_refused_shrink = 0;
 }
 
 /* Whether the chosen allocation has come. */
 EXPORTED int has_refused(void)
 {
     return left < 0;
+}
+
+/* Whether it was to make a block shorter: the library may go on with the longer one then. */
+EXPORTED int was_shrink(void)
+{
+    return has_refused_shrink;
 }
 
 /* How many blocks of the library are not freed. */
@@ -48,7 +57,9 @@ void *__wrap_malloc(size_t size)
 
 void *__wrap_realloc(void *block, size_t size)
 {
+    size_t before = malloc_usable_size(block);
     void *moved = refuses() ? NULL : __real_realloc(block, size);
+    has_refused_shrink |= moved == NULL && size <= before;
     kept += block == NULL && moved != NULL;
     return moved;
 }

@@ -18,6 +18,7 @@ ordered: List[Version] = sorted([version, Version("1.0.0")])
 greatest: Version = max(ordered)
 
 both: Optional[Range] = wanted & Range("^1")
+union: Range = wanted | Range("^1")
 rest: Optional[Range] = wanted - Range("^1")
 least: Optional[Version] = wanted.min_version()
 beyond: Optional[Version] = wanted.least_beyond(Range("^1"))

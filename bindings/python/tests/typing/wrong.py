@@ -15,6 +15,7 @@ Range(version)  # wrong
 Range(b"^1")  # wrong
 wanted & version  # wrong
 wanted - "1"  # wrong
+wanted | version  # wrong
 wanted < wanted  # wrong
 version < "1.2.3"  # wrong
 1 in wanted  # wrong

@@ -8,6 +8,7 @@
         "src/lists.c",
         "src/module.c",
         "src/order.c",
+        "src/state.c",
         "src/text.c"
       ],
       "include_dirs": ["lib"],

@@ -7,8 +7,15 @@
 
 const native = require('./build/Release/node_semver.node');
 
+// Where `native.readVersion` puts the three numbers of a version.
+const numbers = native.triple;
+
 // The greatest length of a version text, as npm counts it.
 const LONGEST_VERSION = 256;
+
+// What `native.readVersion` returns, beside 1 for a triple alone.
+const REFUSED = 0;
+const HAS_MORE = 2;
 
 // How many ranges the native part keeps, at most `PLACES` of kept.c, and the greatest length of a text that is kept.
 const PLACES = 512;
@@ -50,19 +57,22 @@ function identifier(text) {
 const NONE = Object.freeze([]);
 const identifiers = (text, read) => Object.freeze(text.split('.').map(read));
 
-// Puts the parts of a print on a version: `1.2.3-rc.4+b` is `1.2.3-rc.4` with the build `b`.
-function putParts(semVer, print) {
+function withoutBuild(print) {
     const plus = print.indexOf('+');
-    const version = plus < 0 ? print : print.slice(0, plus);
-    const dash = version.indexOf('-');
-    const first = version.indexOf('.');
-    const second = version.indexOf('.', first + 1);
-    semVer.major = Number(version.slice(0, first));
-    semVer.minor = Number(version.slice(first + 1, second));
-    semVer.patch = Number(dash < 0 ? version.slice(second + 1) : version.slice(second + 1, dash));
-    semVer.prerelease = dash < 0 ? NONE : identifiers(version.slice(dash + 1), identifier);
-    semVer.build = plus < 0 ? NONE : identifiers(print.slice(plus + 1), String);
-    semVer.version = version;
+    return plus < 0 ? print : print.slice(0, plus);
+}
+
+// Puts the parts of a version, of which the native part has just put the triple into `numbers`.
+function putParts(semVer, key, hasMore) {
+    semVer.major = numbers[0];
+    semVer.minor = numbers[1];
+    semVer.patch = numbers[2];
+    const triple = `${semVer.major}.${semVer.minor}.${semVer.patch}`;
+    const more = hasMore ? native.versionText(key).slice(triple.length) : '';
+    const prerelease = withoutBuild(more);
+    semVer.prerelease = prerelease === '' ? NONE : identifiers(prerelease.slice(1), identifier);
+    semVer.build = more === prerelease ? NONE : identifiers(more.slice(prerelease.length + 1), String);
+    semVer.version = triple + prerelease;
 }
 
 // The texts whose ranges are kept, and the place of each; `texts` by places, of which the next to be used is the oldest.
@@ -109,14 +119,14 @@ class SemVer {
         } else {
             throw new TypeError(`Invalid version. Must be a string. Got type "${typeof version}".`);
         }
-        const print = native.versionText(this.#key);
-        if (print === null) {
+        const form = native.readVersion(this.#key);
+        if (form === REFUSED) {
             throw new TypeError(version.length > LONGEST_VERSION
                 ? `version is longer than ${LONGEST_VERSION} characters`
                 : `Invalid Version: ${version}`);
         }
-        this.raw = typeof version === 'string' ? version : print;
-        putParts(this, print);
+        this.raw = made === MADE ? native.versionText(version) : version;
+        putParts(this, this.#key, form === HAS_MORE);
         Object.freeze(this);
     }
 
@@ -256,7 +266,7 @@ function valid(version, options) {
     check(options);
     const key = versionKey(version);
     const print = key === undefined ? null : native.versionText(key);
-    return print === null ? null : print.split('+', 1)[0];
+    return print === null ? null : withoutBuild(print);
 }
 
 function clean(version, options) {
@@ -347,16 +357,25 @@ function satisfies(version, range, options) {
     return native.satisfies(key, wanted);
 }
 
+// What a list or a set has.
+function elements(versions) {
+    if (Array.isArray(versions)) {
+        return versions;
+    }
+    const list = [];
+    versions.forEach((version) => { list.push(version); });
+    return list;
+}
+
 function best(versions, range, options, isGreatest) {
     if (validRange(range, options) === null) {
         return null;
     }
-    const list = [];
+    const list = elements(versions);
     const keys = [];
-    versions.forEach((version) => {
-        list.push(version);
-        keys.push(version ? versionKey(version) ?? refuse(version) : '');
-    });
+    for (const version of list) {
+        keys.push(typeof version === 'string' ? trimmedVersion(version) : testedKey(version) ?? '');
+    }
     const place = native.best(keys, rangeKey(range), isGreatest);
     return place < 0 ? null : list[place];
 }

@@ -69,12 +69,23 @@ napi_value range_key(napi_env env, node_semver_range range);
 /* An external for a range, which is freed when JavaScript has no use of the external. */
 napi_value held_range(napi_env env, node_semver_range range);
 
-/* ---- kept.c ---- */
+/* ---- state.c ---- */
 
 #define PLACES 512u
 
-/* Makes the places of this environment. */
-bool begin_keeping(napi_env env);
+/* What an environment has for itself, since each worker thread has its own: the ranges that are kept, and the triple of
+ * the version that was read last, in an array of JavaScript that is as old as the environment. */
+struct state {
+    node_semver_range places[PLACES];
+    double *triple;
+    napi_ref array;
+};
+
+/* Makes the state, and puts its triple on the exports. */
+bool make_state(napi_env env, napi_value exports);
+struct state *state_of(napi_env env);
+
+/* ---- kept.c ---- */
 
 /* The range at a place. It stays there until the next call of `keep`. */
 node_semver_status kept_range(napi_env env, uint32_t number, struct range *range);

@@ -2,48 +2,13 @@
 /*
  * The ranges that were read last, in a table of numbered places. `index.js` knows which text stands at which place, and
  * puts the range of a new text at the place of the oldest one, which is freed at once: so the table has one size, and
- * nothing waits for a garbage collection. Each environment, so each worker thread, has a table of its own.
+ * nothing waits for a garbage collection.
  */
 #include "binding.h"
 
-#include <stdlib.h>
-
-struct table {
-    node_semver_range places[PLACES];
-};
-
-static void empty_place(node_semver_range *place) {
-    if (place->at != NULL) {
-        node_semver_range_free(*place);
-        *place = (node_semver_range)NODE_SEMVER_EMPTY;
-    }
-}
-
-static void end_keeping(napi_env env, void *data, void *hint) {
-    struct table *table = data;
-    (void)env;
-    (void)hint;
-    for (size_t i = 0; i < PLACES; i++) {
-        empty_place(&table->places[i]);
-    }
-    free(table);
-}
-
-bool begin_keeping(napi_env env) {
-    struct table *table = calloc(1, sizeof *table);
-    if (table != NULL && napi_set_instance_data(env, table, end_keeping, NULL) == napi_ok) {
-        return true;
-    }
-    free(table);
-    return false;
-}
-
 static node_semver_range *place_of(napi_env env, uint32_t number) {
-    struct table *table = NULL;
-    if (number >= PLACES || napi_get_instance_data(env, (void **)&table) != napi_ok || table == NULL) {
-        return NULL;
-    }
-    return &table->places[number];
+    struct state *state = state_of(env);
+    return number < PLACES && state != NULL ? &state->places[number] : NULL;
 }
 
 node_semver_status kept_range(napi_env env, uint32_t number, struct range *range) {
@@ -68,8 +33,9 @@ napi_value keep(napi_env env, napi_callback_info info) {
     if (status != NODE_SEMVER_OK && status != NODE_SEMVER_REFUSED) {
         return failed(env, status);
     }
-    if (place != NULL) {
-        empty_place(place);
+    if (place != NULL && place->at != NULL) {
+        node_semver_range_free(*place);
+        *place = (node_semver_range)NODE_SEMVER_EMPTY;
     }
     if (status == NODE_SEMVER_OK) {
         *place = range.handle;

@@ -22,6 +22,28 @@ static napi_value version_text(napi_env env, napi_callback_info info) {
     return result;
 }
 
+/* readVersion(key): puts the triple of the version into `triple`. Returns 0 where the key is none, 1 where the version is
+ * a triple alone, and 2 where it has a prerelease or a build. */
+static napi_value read_parts(napi_env env, napi_callback_info info) {
+    napi_value key;
+    struct version version;
+    struct state *state = state_of(env);
+    if (state == NULL || !get_arguments(env, info, 1, &key)) {
+        return NULL;
+    }
+    node_semver_status status = get_version(env, key, &version);
+    if (status != NODE_SEMVER_OK) {
+        return status == NODE_SEMVER_REFUSED ? of_int(env, 0) : failed(env, status);
+    }
+    state->triple[0] = (double)node_semver_version_major(&version.handle);
+    state->triple[1] = (double)node_semver_version_minor(&version.handle);
+    state->triple[2] = (double)node_semver_version_patch(&version.handle);
+    bool has_more = node_semver_version_is_prerelease(&version.handle)
+        || node_semver_version_build_count(&version.handle) > 0;
+    let_version_go(&version);
+    return of_int(env, has_more ? 2 : 1);
+}
+
 /* rangeText(key): the print of the range, or null where the key is none. */
 static napi_value range_text(napi_env env, napi_callback_info info) {
     napi_value key, result;
@@ -223,8 +245,9 @@ NAPI_MODULE_INIT() {
         FUNCTION("allowsAny", allows_any),     FUNCTION("intersect", intersect),
         FUNCTION("difference", difference),    FUNCTION("leastBeyond", least_beyond),
         FUNCTION("minVersion", min_version),   FUNCTION("keep", keep),
+        FUNCTION("readVersion", read_parts),
     };
-    if (!begin_keeping(env)) {
+    if (!make_state(env, exports)) {
         return out_of_memory(env);
     }
     napi_define_properties(env, exports, sizeof functions / sizeof functions[0], functions);

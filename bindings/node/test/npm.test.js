@@ -7,6 +7,7 @@ const assert = require('node:assert');
 const fs = require('node:fs');
 const path = require('node:path');
 const { test } = require('node:test');
+const { isMainThread, parentPort, Worker, workerData } = require('node:worker_threads');
 const here = require('..');
 const { rules, results, npm, LOOSE } = require('./rules.js');
 const { Texts } = require('./texts.js');
@@ -15,6 +16,8 @@ const PAIRS = Number(process.env.NPM_PAIRS ?? 100000);
 const SEED = Number(process.env.NPM_SEED ?? 1);
 const OPERATORS = ['', '=', '==', '===', '!=', '!==', '<', '<=', '>', '>='];
 const LIST = 6;
+const THREADS = 4;
+const SHOWN = Number(process.env.NPM_SHOWN ?? 20);
 
 // The table of the README, a row for each rule.
 const code = (value) => `\`${typeof value === 'string' ? `'${value.replaceAll('|', '\\|')}'` : value}\``;
@@ -103,39 +106,50 @@ function pair(texts) {
     };
 }
 
-test(`${PAIRS} pairs: each function returns what npm's returns, or a rule covers the texts`, () => {
-    const texts = new Texts(SEED);
-    const counts = new Map();
-    const wrong = [];
-    let agreed = 0;
-    for (let i = 0; i < PAIRS; i++) {
+// The pairs of one thread: how many calls agreed, how many each rule covered, and the first of those that are wrong.
+function compared(share) {
+    const texts = new Texts(SEED * THREADS + share);
+    const found = { calls: 0, agreed: 0, counts: new Map(), wrong: [], wrongs: 0 };
+    for (let i = share; i < PAIRS; i += THREADS) {
         const given = pair(texts);
         for (const [name, call] of Object.entries(calls)) {
             const theirs = result(call, npm, given);
             const ours = result(call, here, given);
+            found.calls++;
             if (theirs === ours || JSON.stringify(theirs) === JSON.stringify(ours)) {
-                agreed++;
+                found.agreed++;
                 continue;
             }
             const covers = covering(name, given, theirs, ours);
-            covers.forEach((rule) => counts.set(rule.name, (counts.get(rule.name) ?? 0) + 1));
-            if (covers.length === 0) {
-                wrong.push({ name, texts: takes(call).map((word) => given[word]), npm: theirs, here: ours });
+            covers.forEach((rule) => found.counts.set(rule.name, (found.counts.get(rule.name) ?? 0) + 1));
+            if (covers.length === 0 && found.wrongs++ < SHOWN) {
+                found.wrong.push({ name, texts: takes(call).map((word) => given[word]), npm: theirs, here: ours });
             }
         }
     }
-    const total = PAIRS * Object.keys(calls).length;
-    console.log(`${total} calls: ${agreed} agreed, ${total - agreed - wrong.length} under a rule, ${wrong.length} wrong`);
-    wrong.slice(0, Number(process.env.NPM_SHOWN ?? 0)).forEach((row) => console.log(JSON.stringify(row)));
-    counts.forEach((count, name) => console.log(`${String(count).padStart(9)}  ${name}`));
-    assert.deepStrictEqual(wrong.slice(0, 20), []);
-    assert.ok(agreed > total * 0.8, 'most calls agree');
-    if (PAIRS >= 10000) {
-        [...rules, ...results].forEach(({ name }) => assert.ok(counts.has(name), `no text is under the rule: ${name}`));
-    }
+    return found;
+}
+
+const inThread = (share) => new Promise((resolve, reject) => {
+    new Worker(__filename, { workerData: { share } }).once('message', resolve).once('error', reject);
 });
 
-test('each row of the table of the README is a rule, and its example is so', () => {
+async function comparePairs() {
+    const all = await Promise.all(Array.from({ length: THREADS }, (_, share) => inThread(share)));
+    const sum = (name) => all.reduce((total, found) => total + found[name], 0);
+    const covered = sum('calls') - sum('agreed') - sum('wrongs');
+    console.log(`${sum('calls')} calls: ${sum('agreed')} agreed, ${covered} under a rule, ${sum('wrongs')} wrong`);
+    for (const { name } of [...rules, ...results]) {
+        const count = all.reduce((total, { counts }) => total + (counts.get(name) ?? 0), 0);
+        console.log(`${String(count).padStart(9)}  ${name}`);
+        assert.ok(count > 0 || PAIRS < 10000, `no text is under the rule: ${name}`);
+    }
+    assert.deepStrictEqual(all.flatMap(({ wrong }) => wrong).slice(0, SHOWN), []);
+    assert.strictEqual(sum('calls'), PAIRS * Object.keys(calls).length);
+    assert.ok(sum('agreed') > sum('calls') * 0.8, 'most calls agree');
+}
+
+function checkReadme() {
     const readme = fs.readFileSync(path.join(__dirname, '../README.md'), 'utf8');
     const table = readme.slice(readme.indexOf('| text | call | npm | here | why |')).split('\n\n')[0].split('\n').slice(2);
     assert.deepStrictEqual(table, [...rules, ...results].map(row));
@@ -143,4 +157,11 @@ test('each row of the table of the README is a rule, and its example is so', () 
         assert.strictEqual(plain(npm[call](...texts, LOOSE)), theirs, `npm: ${call} ${texts}`);
         assert.strictEqual(plain(here[call](...texts)), ours, `here: ${call} ${texts}`);
     }
-});
+}
+
+if (isMainThread) {
+    test(`${PAIRS} pairs: each function returns what npm's returns, or a rule covers the texts`, comparePairs);
+    test('each row of the table of the README is a rule, and its example is so', checkReadme);
+} else {
+    parentPort.postMessage(compared(workerData.share));
+}

@@ -15,7 +15,7 @@ later-ends : (text piece others : List ℕ) → text ≡ piece ++ (bar ∷ bar �
 later-ends text piece others whole ends = (
   piece ++ (bar ∷ bar ∷ ends.0),
   whole ∙ ap (λ (l : List ℕ). piece ++ (bar ∷ bar ∷ l)) ends.1
-  ∙ sym (append_assoc piece (bar ∷ bar ∷ ends.0) (bar ∷ [])),
+      ∙ sym (append_assoc piece (bar ∷ bar ∷ ends.0) (bar ∷ [])),
 )
 
 joined-pieces : (one other : List ℕ) (ones others : List (List ℕ)) → ¬ EndsInBar one → IsPieces one ones

@@ -73,8 +73,9 @@ const BEYOND: [(&str, [u64; 3], bool); 10] = [
     ("<1", [u64::MAX, u64::MAX, u64::MAX], false),
 ];
 
-// Prints of ends of one more, and of numbers with a digit less.
-const PRINTS: [&str; 11] = [
+// Prints of ends of one more, and of numbers with a digit less: the greatest number of the Rust crate's texts is
+// 900719925474099.
+const PRINTS: [&str; 14] = [
     "^#; >=#.0.0 <$.0.0-0",
     ">=#.0.0 <$.0.0-0; >=#.0.0",
     ">#; >=$.0.0",
@@ -85,6 +86,9 @@ const PRINTS: [&str; 11] = [
     ">9007199254740991; >=9007199254740992.0.0",
     "^900719925474099; >=900719925474099.0.0 <900719925474100.0.0-0",
     ">=900719925474099.0.0 <900719925474100.0.0-0; >=900719925474099.0.0 <900719925474100.0.0-0",
+    ">900719925474099; >=900719925474100.0.0",
+    "~900719925474099.900719925474099; >=900719925474099.900719925474099.0 <900719925474099.900719925474100.0-0",
+    "^0.0.900719925474099; >=0.0.900719925474099 <0.0.900719925474100-0",
     "900719925474100; >=900719925474100.0.0 <900719925474101.0.0-0",
 ];
 
@@ -97,8 +101,8 @@ const FAULTS: [&str; 5] = [
     "900719925474100.a; Context(\"version\") at 16 (0, 16)",
 ];
 
-// The least version beyond the greatest number.
-const LEAST: [&str; 1] = [">#; $.0.0"];
+// The least version beyond the greatest number, and beyond that with a digit less.
+const LEAST: [&str; 2] = [">#; $.0.0", ">900719925474099; 900719925474100.0.0"];
 
 #[test]
 fn greatest_numbers(rt: HostRuntime) {

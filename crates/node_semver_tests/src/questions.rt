@@ -5,7 +5,6 @@ use crate::limits::least_print;
 use crate::long_texts::answers_longer;
 use crate::order::{is_below, is_same, texts_compare};
 use crate::prints::prints_in_one_way;
-use crate::readme::asks_wanted;
 use crate::search::counts;
 use crate::spread::spread;
 use crate::told::{range_print, version_print};
@@ -44,8 +43,6 @@ pub(crate) enum Question {
     IsSame,
     // A range text and a version text.
     Counts,
-    // A range text, a version text, and whether that version satisfies the range.
-    AsksWanted,
 }
 
 // What is asked of each two rows of a table.
@@ -88,7 +85,6 @@ fn is_answered(alloc: Global, question: Question, row: &str) -> bool {
         Question::IsBelow => is_below(alloc, row),
         Question::IsSame => is_same(alloc, row),
         Question::Counts => counts(alloc, row),
-        Question::AsksWanted => asks_wanted(alloc, row),
         _ => prints(alloc, question, row),
     }
 }

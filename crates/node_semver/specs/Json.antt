@@ -1,6 +1,6 @@
 -- Versions and ranges as JSON strings: a string is read as `parse` reads its text.
 use Rattle.std.specs.Prelude.{◌≡◌, ◌⊎◌, ℕ, ◌≤◌, List, [], length, Option, Some}
-use Rattle.std.specs.Prelude.{None, Result, Ok, Err, IfErr, IfOk, IsOk}
+use Rattle.std.specs.Prelude.{None, Result, Ok, Err, IfErr, IfOk, IsOk, codes}
 use Rattle.std.specs.declared.num.ParseIntError.{ParseIntError as IntFault}
 use Rattle.semver_sets.specs.declared.TheConstants.{MAX_LENGTH}
 use Rattle.semver_sets.specs.Print.{version_text}
@@ -11,6 +11,8 @@ use Rattle.node_semver.specs.declared.json.JsonError.{JsonError}
 use Rattle.node_semver.specs.declared.json.JsonError.TheVariants.{NotAString, Semver}
 use Rattle.node_semver.specs.Error.{IsOutOfMemory, Refusal}
 use Rattle.node_semver.specs.ErrorEquality.{error_value}
+use Rattle.node_semver.specs.ErrorParts.{error_kind_of}
+use Rattle.node_semver.specs.ErrorText.{kind_text}
 use Rattle.node_semver.specs.Fault.{IsFaultOf}
 use Rattle.node_semver.specs.ReadingBack.{HasText, VersionReadsBack}
 use Rattle.node_semver.specs.Error.{IsReadAs}
@@ -34,3 +36,8 @@ PassesOn Holds (Err NotAString) = ⊥
 abbrev pub json_error_value : JsonError → Option (Refusal × Option IntFault)
 json_error_value NotAString = None
 json_error_value (Semver e) = Some (error_value e)
+
+-- what a JSON error shows: `expected a string`, or the text of the refusal, `Failed to parse version.` for `1.2`
+abbrev pub json_error_text : JsonError → Option (List ℕ)
+json_error_text NotAString = Some (codes "expected a string")
+json_error_text (Semver e) = kind_text (error_kind_of e)

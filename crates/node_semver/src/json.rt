@@ -1,13 +1,14 @@
 //! Versions and ranges as JSON strings.
 ghost use Rattle.std.specs.Prelude.{◌≡◌, ◌↔◌, IsTrue};
 ghost use Rattle.node_semver.specs.declared.json.JsonError.{JsonError};
-ghost use Rattle.node_semver.specs.Json.{json_error_value};
+ghost use Rattle.node_semver.specs.Json.{json_error_text, json_error_value};
 
 mod range;
 mod version;
 
 use crate::SemverError;
 use crate::laws::errors_are_equal_where_their_parts_are;
+use std::fmt;
 use thiserror::Error;
 
 /// Why reading a JSON value failed.
@@ -22,11 +23,21 @@ use thiserror::Error;
 #[derive(Debug, Drop, PartialEq, Eq, Error)]
 pub enum JsonError {
     /// The JSON value is no string: it is null, a Boolean, a number, an array or an object.
-    #[error("expected a string")]
     NotAString,
     /// The string failed to parse, with this error.
-    #[error(transparent)]
     Semver(SemverError),
+}
+
+/// Prints `expected a string`, or what the error inside prints. Format options such as a width are ignored.
+impl fmt::Display for JsonError {
+    ghost output = { json_error_text };
+
+    fn fmt<W: fmt::Write>(&self, f: &mut fmt::Formatter<W>) -> fmt::Result {
+        match self {
+            JsonError::NotAString => f.write_str("expected a string"),
+            JsonError::Semver(error) => error.fmt(f),
+        }
+    }
 }
 
 /// Two JSON errors are equal if they are the same variant and the errors inside are equal.

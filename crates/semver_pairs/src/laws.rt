@@ -1,8 +1,9 @@
-//! Laws of what the contracts speak of. A function here does nothing, or one call: its contract is the law.
+//! Laws of what the contracts speak of. A function here does nothing: its contract is the law.
 ghost use Rattle.std.specs.Prelude.{◌≡◌, ◌↔◌, ℕ, List, Bool, false, ◌++◌, IsTrue};
 ghost use Rattle.semver_pairs.specs.Lines.{divided, joined};
 ghost use Rattle.semver_pairs.specs.Output.{AreAnswers, BeginsAnswers, HasAnswers, HasOneAnswer};
 ghost use Rattle.semver_pairs.specs.Pairs.{pairs_read};
+ghost use Rattle.semver_pairs.specs.declared.run_error.RunError.{RunError};
 
 use crate::run_error::RunError;
 
@@ -25,8 +26,6 @@ pub fn joined_lines_are_the_bytes()
 {}
 
 /// Errors are equal exactly where their variant is the same.
-pub fn errors_are_equal_as_variants(one: &RunError, other: &RunError) -> bool
-    ensures { IsTrue result ↔ (one.now ≡ other.now) }
-{
-    one == other
-}
+pub fn errors_are_equal_as_variants()
+    ensures { (e f : RunError) → IsTrue (⟦<RunError as PartialEq>⟧.eq e f) ↔ (e ≡ f) }
+{}

@@ -1,3 +1,7 @@
+//! Why the program stops.
+ghost use Rattle.std.specs.Prelude.{Some};
+ghost use Rattle.semver_pairs.specs.Ending.{error_text};
+
 use std::error::Error;
 use std::fmt;
 
@@ -5,15 +9,25 @@ use std::fmt;
 #[derive(Debug, PartialEq, Eq, Drop, thiserror::Error)]
 pub enum RunError {
     /// The reader's gauge has failed.
-    #[error("read failed")]
     Read,
     /// The writer's gauge has failed.
-    #[error("write failed")]
     Write,
     /// Memory was refused.
-    #[error("out of memory")]
     Memory,
     /// So many reads gave bytes that their number leaves a `u64`, and no end came.
-    #[error("input does not end")]
     Endless,
+}
+
+/// A few words: `read failed`. Options such as a width are ignored.
+impl fmt::Display for RunError {
+    ghost output = { λ e. Some (error_text e) };
+
+    fn fmt<W: fmt::Write>(&self, f: &mut fmt::Formatter<W>) -> fmt::Result {
+        f.write_str(match self {
+            RunError::Read => "read failed",
+            RunError::Write => "write failed",
+            RunError::Memory => "out of memory",
+            RunError::Endless => "input does not end",
+        })
+    }
 }

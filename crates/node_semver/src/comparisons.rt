@@ -1,4 +1,4 @@
-//! A count of comparisons that takes no bytes.
+//! A counter of comparisons that has no bytes when the program runs.
 ghost use Rattle.std.specs.Prelude.{◌≡◌, ◌+◌};
 
 mod tally;
@@ -7,9 +7,10 @@ use semver_sets::Counts;
 use std::marker::Model;
 use tally::Tally;
 
-/// How often a version was compared with a cut. It takes no bytes, and a running program can't read it.
+/// The number of times that a version was compared with a cut. It exists only for contracts: it has no bytes, and a
+/// running program cannot read it.
 ///
-/// A contract sees a whole number, as that of [`Range::satisfies_counted`](crate::Range::satisfies_counted).
+/// The contract of [`Range::satisfies_counted`](crate::Range::satisfies_counted) sees it as a whole number.
 ///
 /// # Memory
 ///
@@ -28,11 +29,12 @@ impl Model for Comparisons {
 }
 
 impl Comparisons {
-    /// No comparisons yet.
+    /// Returns a counter at 0.
     ///
     /// # Memory
     ///
     /// Does not allocate.
+    // `inline(always)`: there is nothing to compute when the program runs.
     #[inline(always)]
     pub fn new() -> Comparisons
         ensures { result ≡ 0 }

@@ -28,7 +28,7 @@ pub enum JsonError {
     Semver(SemverError),
 }
 
-/// `expected a string`, or what the error inside prints. As for that error, options such as a width are ignored.
+/// Prints `expected a string`, or what the error inside prints. Format options such as a width are ignored.
 impl fmt::Display for JsonError {
     ghost output = { json_error_text };
 

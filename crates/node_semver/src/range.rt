@@ -167,22 +167,23 @@ impl Range {
         self.satisfies_counted(version, &mut Comparisons::new())
     }
 
-    /// Whether the range admits a version, as [`Range::satisfies`] answers, with a count of the comparisons.
+    /// Returns `true` if the version satisfies the range, as [`Range::satisfies`] does, and counts the comparisons.
     ///
-    /// Each comparison of the version with a cut, an end of a set, adds one. A release is found by halving among the
-    /// spans that the sets are joined to: that takes at most as many comparisons as the count of these spans has binary
-    /// digits, and one more. Their count is that of the sets whose lower cut no earlier set has, and which no set
-    /// reaches from below. A prerelease is looked for in the sets with an end that is a prerelease of its triple, by at
-    /// most two comparisons for each.
+    /// Each comparison of the version with a cut, an end of a set, adds 1 to `comparisons`. A release is found by
+    /// binary search among the merged spans of the sets. This takes at most as many comparisons as the number of these
+    /// spans has binary digits, plus one. The number of merged spans is the number of sets whose lower end no earlier
+    /// set has, and that no set reaches from below. A prerelease is looked for in the sets with an end that is a
+    /// prerelease of its triple, with at most two comparisons for each. A version that satisfies the range takes at
+    /// least two.
     ///
     /// # Memory
     ///
-    /// Takes none.
+    /// Does not allocate.
     ///
     /// # Examples
     ///
-    /// `1 || 3 || 5` is joined to three spans, so a release takes three comparisons at most. `1 || 1.5 - 3 || 2` is
-    /// joined to one, `>=1.0.0 <4.0.0-0`, and a release takes two.
+    /// The sets of `1 || 3 || 5` have three merged spans, so a release takes at most three comparisons. The sets of
+    /// `1 || 1.5 - 3 || 2` have one, `>=1.0.0 <4.0.0-0`, so a release takes at most two.
     #[inline]
     pub fn satisfies_counted(&self, version: &Version, comparisons: &mut Comparisons) -> bool
         ensures answer { IsTrue result ↔ RangeAdmits self.now version.now }
@@ -214,7 +215,7 @@ impl Range {
         })
     }
 
-    // The range of such sets, whose versions are found already.
+    // The range of a list of sets that has its index already.
     #[inline(always)]
     pub(crate) fn of_searched(sets: Searched) -> Range
         requires { IsRangeValue sets }

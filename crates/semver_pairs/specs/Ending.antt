@@ -3,7 +3,7 @@ use Rattle.std.specs.Prelude.{ℕ, List, ◌++◌, codes}
 use Rattle.semver_pairs.specs.declared.run_error.RunError.{RunError}
 use Rattle.semver_pairs.specs.declared.run_error.RunError.TheVariants.{Endless, Memory, Read, Write}
 
--- why the program stopped, in words
+-- the text of each error
 abbrev pub error_text : RunError → List ℕ
 error_text Read = codes "read failed"
 error_text Write = codes "write failed"

@@ -6,8 +6,8 @@ use crate::run_error::RunError;
 
 /// Returns the exit status, and the line for standard error, which is empty if nothing is written there.
 ///
-/// The status is 0 after `Ok` and 1 after an error. It is 2 for `None`, which stands for a call with arguments: the
-/// program takes none.
+/// The status is 0 after `Ok` and 1 after an error. It is 2 for `None`, which means that the program was called with
+/// arguments: it takes none.
 ///
 /// # Memory
 ///

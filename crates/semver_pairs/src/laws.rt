@@ -1,4 +1,4 @@
-//! Laws of what the contracts speak of. A function here does nothing: its contract is the law.
+//! Laws of the definitions that the contracts use. The functions here do nothing: the contract of each is a law.
 ghost use Rattle.std.specs.Prelude.{◌≡◌, ◌↔◌, ℕ, List, Bool, false, ◌++◌, IsTrue};
 ghost use Rattle.semver_pairs.specs.Lines.{divided, joined};
 ghost use Rattle.semver_pairs.specs.Output.{AreAnswers, BeginsAnswers, HasAnswers, HasOneAnswer};
@@ -7,25 +7,25 @@ ghost use Rattle.semver_pairs.specs.declared.run_error.RunError.{RunError};
 
 use crate::run_error::RunError;
 
-/// The pairs of each input have answers, and no others: with the end read, the output of the input.
+/// The pairs of each input have exactly one list of answers. With the end of the input, it is the output for the input.
 pub fn each_input_has_one_output()
     ensures exists { (is_end : Bool) (read : List ℕ) → HasAnswers (pairs_read is_end read) }
     ensures only { (is_end : Bool) (read : List ℕ) → HasOneAnswer (pairs_read is_end read) }
 {}
 
-/// The answers to the pairs that were wholly read before the end begin the output of any longer input: no byte that
-/// follows, and no end, changes them.
+/// The answers for the pairs that were completely read before the end are the beginning of the output for any longer
+/// input: no byte that follows, and no end, changes them.
 pub fn answers_stay_as_the_input_goes_on()
     ensures { (is_end : Bool) (read more written : List ℕ) → AreAnswers (pairs_read false read) written
         → BeginsAnswers (pairs_read is_end (read ++ more)) written }
 {}
 
-/// The ended lines, joined by newlines, and the rest give the bytes.
+/// The ended lines, each with a newline byte after it, and the rest are the bytes.
 pub fn joined_lines_are_the_bytes()
     ensures { (bytes : List ℕ) → joined (divided bytes).ended (divided bytes).rest ≡ bytes }
 {}
 
-/// Errors are equal exactly where their variant is the same.
+/// Two errors are equal exactly if they are the same variant.
 pub fn errors_are_equal_as_variants()
     ensures { (e f : RunError) → IsTrue (⟦<RunError as PartialEq>⟧.eq e f) ↔ (e ≡ f) }
 {}

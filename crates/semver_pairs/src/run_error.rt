@@ -12,13 +12,13 @@ pub enum RunError {
     Read,
     /// The writer's gauge has failed.
     Write,
-    /// Memory was refused.
+    /// An allocation failed.
     Memory,
-    /// So many reads gave bytes that their number leaves a `u64`, and no end came.
+    /// 18446744073709551615 reads returned bytes without reaching the end.
     Endless,
 }
 
-/// A few words: `read failed`. Options such as a width are ignored.
+/// Prints a few words, such as `read failed`. Format options such as a width are ignored.
 impl fmt::Display for RunError {
     ghost output = { λ e. Some (error_text e) };
 

@@ -1,4 +1,4 @@
--- How sets and ranges print: each as a text that asks for what it holds.
+-- How sets and ranges are printed: as a range text that gives the same sets.
 use Rattle.std.specs.Prelude.{ℕ, List, [], ◌∷◌, ◌++◌, codes, if◌then◌else◌}
 use Rattle.std.specs.Ordering.{eq_by_cmp}
 use Rattle.semver_cuts.specs.declared.cut.Cut.{Cut}
@@ -8,26 +8,26 @@ use Rattle.semver_sets.specs.Comparison.{version_cmp}
 use Rattle.semver_sets.specs.Print.{version_text}
 use Rattle.semver_sets.specs.Version.{VersionValue}
 
--- a lower end: `>=1.2.3` or `>1.2.3`, and nothing at the start. No set begins at the end: nothing there either
+-- a lower end: `>=1.2.3` or `>1.2.3`, and nothing for the start. (No set begins at the end; the row makes it nothing.)
 abbrev pub lower_text : Cut VersionValue → List ℕ
 lower_text Start = []
 lower_text (Before v) = codes ">=" ++ version_text v
 lower_text (After v) = codes ">" ++ version_text v
 lower_text End = []
 
--- an upper end: `<1.2.3` or `<=1.2.3`, and nothing at the end. No set ends at the start: nothing there either
+-- an upper end: `<1.2.3` or `<=1.2.3`, and nothing for the end. (No set ends at the start; the row makes it nothing.)
 abbrev pub upper_text : Cut VersionValue → List ℕ
 upper_text Start = []
 upper_text (Before v) = codes "<" ++ version_text v
 upper_text (After v) = codes "<=" ++ version_text v
 upper_text End = []
 
--- both ends with a space between: `>=1.2.3 <2.0.0`
+-- both ends with a space between them: `>=1.2.3 <2.0.0`
 abbrev pub both_text : Cut VersionValue → Cut VersionValue → List ℕ
 both_text lower upper = lower_text lower ++ (codes " " ++ upper_text upper)
 
--- by the ends: `*`, one end alone where the other is open, a version alone, and else both: `1.2.3` from before 1.2.3 to
--- after 1.2.3+7, where the build of the upper end is not shown
+-- `*` for all cuts, one end if the other is open, a version alone if both ends are at it, and else both ends. The set
+-- from just before 1.2.3 to just after 1.2.3+7 is `1.2.3`, without the build of the upper end
 abbrev pub ends_text : Cut VersionValue → Cut VersionValue → List ℕ
 ends_text Start End = codes "*"
 ends_text Start upper = upper_text upper
@@ -39,7 +39,7 @@ ends_text lower upper = both_text lower upper
 abbrev pub set_text : Ends VersionValue → List ℕ
 set_text set = ends_text set.lower set.upper
 
--- the sets in their order, with `||` and no blank between: `1.2.3||>=5.0.0`
+-- the sets in their order, with `||` and no blank between them: `1.2.3||>=5.0.0`
 abbrev pub range_text : List (Ends VersionValue) → List ℕ
 range_text [] = []
 range_text (set ∷ []) = set_text set

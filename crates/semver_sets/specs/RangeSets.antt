@@ -1,5 +1,5 @@
--- What is seen of a range, the list of its sets, and what it always holds: a set at least, a cut in each set, and ends
--- that a range text can write.
+-- What a contract sees of a range, the list of its sets, and what is true of each range: it has at least one set, each
+-- set contains a cut, and a range text can write its ends.
 use Rattle.std.specs.Prelude.{◌≡◌, ◌≢◌, ℕ, ◌≤◌, ◌+◌, List, [], ◌∷◌}
 use Rattle.std.specs.List.{AllByRecursion}
 use Rattle.semver_cuts.specs.declared.cut.Cut.{Cut}
@@ -18,11 +18,11 @@ abbrev pub sets_seen : Sets → List (Ends VersionValue)
 sets_seen (One set) = set ∷ []
 sets_seen (Many sets) = sets
 
--- what some identifier text stands for: a number below 2^64, or a text that writes no such number
+-- the value of some identifier text: a number below 2^64, or a text that does not write such a number
 abbrev pub IsReadIdentifier : IdentifierValue → Type 0
 IsReadIdentifier identifier = (text : List ℕ) × IsIdentifierText text × (identifier_of text ≡ identifier)
 
--- a version at an end: its numbers are those of a text, or the next ones, as the 2 of `^1` in `<2.0.0-0`
+-- a version at an end: its numbers are those of a text, or one greater, as the 2 of `<2.0.0-0`, where `^1` ends
 pub record IsReadVersion (v : VersionValue) : Type 0 where
   pub major : v.major ≤ MAX_SAFE_INTEGER + 1
   pub minor : v.minor ≤ MAX_SAFE_INTEGER + 1
@@ -37,13 +37,13 @@ IsReadCut (Before v) = IsReadVersion v
 IsReadCut (After v) = IsReadVersion v
 IsReadCut End = Unit {0}
 
--- a set holds a cut, and its two ends are such cuts
+-- a set contains a cut, and its two ends are such cuts
 pub record IsRangeSet (set : Ends VersionValue) : Type 0 where
   pub holds : HoldsCut version_cmp set
   pub lower : IsReadCut set.lower
   pub upper : IsReadCut set.upper
 
--- one such set or more
+-- at least one such set
 pub record IsRangeValue (sets : List (Ends VersionValue)) : Type 0 where
   pub some : sets ≢ []
   pub each : AllByRecursion IsRangeSet sets

@@ -1,5 +1,5 @@
--- How many comparisons a search in a range takes: for a release by halving among the sets joined to spans that are
--- apart, for a prerelease in the sets with an end that opens its triple.
+-- How many comparisons a search in a range takes. A release is found by binary search among the merged spans of the
+-- sets. A prerelease is looked for in the sets with an end that opens its triple.
 use Rattle.std.specs.Prelude.{ℕ, ◌+◌, ◌*◌, ◌^◌, ◌<◌, ◌≤◌, ◌==◌, ◌&&◌, ◌||◌, Bool, true, false, List, [], ◌∷◌, count_by}
 use Rattle.semver_cuts.specs.declared.cut.Cut.{Cut}
 use Rattle.semver_cuts.specs.declared.cut.Cut.TheVariants.{Start, Before, After, End}
@@ -10,30 +10,30 @@ use Rattle.semver_sets.specs.IdentifierValue.{IdentifierValue}
 use Rattle.semver_sets.specs.Meaning.{RangeAdmits}
 use Rattle.semver_sets.specs.Version.{IsPrerelease, VersionValue}
 
--- ---- the tests of what `Meaning` says of ends
+-- ---- what `Meaning` says of ends, as tests
 
 abbrev pub has_identifiers : List IdentifierValue → Bool
 has_identifiers [] = false
 has_identifiers (first ∷ others) = true
 
--- the test of `HasSameTriple`
+-- `HasSameTriple` as a test
 abbrev pub has_same_triple : VersionValue → VersionValue → Bool
 has_same_triple v w = (v.major == w.major) && (v.minor == w.minor) && (v.patch == w.patch)
 
--- the test of `Opens`
+-- `Opens` as a test
 abbrev pub opens : Cut VersionValue → VersionValue → Bool
 opens Start v = false
 opens (Before p) v = has_identifiers p.pre_release && has_same_triple p v
 opens (After p) v = has_identifiers p.pre_release && has_same_triple p v
 opens End v = false
 
--- the test of `HasOpenEnd`
+-- `HasOpenEnd` as a test
 abbrev pub has_open_end : VersionValue → Ends VersionValue → Bool
 has_open_end v set = opens set.lower v || opens set.upper v
 
 -- ---- counts
 
--- how many of the sets have an end that opens the version's triple
+-- the number of sets with an end that opens the version's triple
 abbrev pub count_of_opening : VersionValue → List (Ends VersionValue) → ℕ
 count_of_opening v sets = count_by (has_open_end v) sets
 
@@ -41,9 +41,9 @@ count_of_opening v sets = count_by (has_open_end v) sets
 abbrev pub HasDigits : ℕ → ℕ → Type 0
 HasDigits number digits = number < 2 ^ digits
 
--- the count never falls. For a release it grows by at most the binary digits of how many spans the sets are joined to,
--- and one more; for a prerelease by at most two for each set with an end that opens its triple. A version that is
--- admitted was compared at least twice: with a lower end and with an upper end
+-- The count never falls. For a release it grows by at most the number of binary digits of the number of merged spans,
+-- plus one. For a prerelease it grows by at most two for each set with an end that opens its triple. For a version that
+-- is admitted it grows by at least two: the version is compared with a lower and an upper end.
 pub record IsShortSearch (sets : List (Ends VersionValue)) (v : VersionValue) (before after : ℕ) : Type 0 where
   pub adds : before ≤ after
   pub release : ¬ IsPrerelease v → (digits : ℕ) → HasDigits (count_of_starts version_cmp sets) digits

@@ -1,4 +1,4 @@
--- A tilde before a partial: npm's "Tilde Ranges".
+-- A partial after a tilde: npm's "Tilde Ranges".
 use Rattle.std.specs.Prelude.{◌≡◌, ℕ, ◌+◌, List, [], ◌∷◌, ◌++◌, Option, Some, None}
 use Rattle.semver_sets.specs.Characters.{AreAll, greater_sign, is_blank, tilde}
 use Rattle.semver_sets.specs.Comparator.{Comparator, from_up_to, with_major, with_minor}
@@ -15,17 +15,17 @@ tilde_row (Some major) (Some minor) (Some patch) z = Some (from_up_to (without_b
 tilde_row (Some major) (Some minor) None z = Some (with_minor major minor)
 -- `~1` is `>=1.0.0 <2.0.0-0`
 tilde_row (Some major) None None z = Some (with_major major)
--- `~1.x.3` and `~*` are nothing
+-- `~1.x.3` and `~*` give no comparator
 tilde_row major minor patch z = None
 
 -- `~>`, which keeps a prerelease after an x
 abbrev pub tilde_greater_row : (major minor patch : Option ℕ) (z : VersionValue) → Option Comparator
 -- `~>1.2` is `>=1.2.0 <1.3.0-0`, `~>1.2.x-a` is `>=1.2.0-a <1.3.0-0`
 tilde_greater_row (Some major) (Some minor) None z = Some (from_up_to (without_build z) (least_of major (minor + 1) 0))
--- every other partial as after `~`
+-- every other partial is read as after `~`
 tilde_greater_row major minor patch z = tilde_row major minor patch z
 
--- `~`, or `~`, blanks or none and `>`; blanks or none, and a partial: `~1.2`, `~ > 1.2`
+-- `~`, or `~`, optional blanks and `>`; then optional blanks, and a partial: `~1.2`, `~ > 1.2`
 pub data IsTildeText (text : List ℕ) (comparator : Option Comparator) : Type 0 where
   with_tilde : (p : Partial) → IsLed (tilde ∷ []) text p → comparator ≡ tilde_row p.major p.minor p.patch (zeroed p)
       → IsTildeText text comparator

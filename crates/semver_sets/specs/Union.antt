@@ -1,7 +1,8 @@
--- The union of two ranges as a text: the texts of both with `||` between, npm's "Range Grammar".
+-- The union of two ranges as a text: the two texts with `||` between them, npm's "Range Grammar".
 --
--- `1` and `>=3` joined are `1||>=3`. Two pairs of texts are not joined so. `1 |` ends in a bar: `1 |||2` is `1 ` and
--- `|2`. ` - 10` begins with a blank: alone it is a hyphen range without a left side, and after `||` its blank is dropped.
+-- `1` and `>=3` are joined to `1||>=3`. Two kinds of texts cannot be joined in this way. `1 |` ends with a bar:
+-- `1 |||2` is read as `1 ` and `|2`. ` - 10` begins with a blank: alone it is a hyphen range without a left side, but
+-- after `||` its blank is ignored.
 use Rattle.std.specs.Prelude.{ℕ, List, ◌∷◌, ◌++◌}
 use Rattle.semver_sets.specs.Characters.{BeginsWithNo, bar, is_blank}
 use Rattle.semver_sets.specs.Division.{EndsInBar}

@@ -10,16 +10,16 @@ pub record VersionValue : Type 0 where
   pub pre_release : List IdentifierValue
   pub build : List IdentifierValue
 
--- a version with prerelease identifiers; every other version is a release
+-- the version has prerelease identifiers; every other version is a release
 abbrev pub IsPrerelease : VersionValue → Type 0
 IsPrerelease v = v.pre_release ≢ []
 
--- a version with neither prerelease nor build: `1.2.3`
+-- the version has no prerelease and no build: `1.2.3`
 pub record IsPlain (v : VersionValue) : Type 0 where
   pub pre_release : v.pre_release ≡ []
   pub build : v.build ≡ []
 
--- the two have one major, minor and patch
+-- the two versions have the same major, minor and patch
 pub record HasSameTriple (v w : VersionValue) : Type 0 where
   pub major : v.major ≡ w.major
   pub minor : v.minor ≡ w.minor
@@ -37,6 +37,6 @@ with_pre_release m n p i = record (release m n p) { pre_release = numeric i ∷ 
 abbrev pub least_of : ℕ → ℕ → ℕ → VersionValue
 least_of m n p = with_pre_release m n p 0
 
--- the same version with no build: `1.2.3-rc.1` of `1.2.3-rc.1+7`
+-- the same version without its build: `1.2.3-rc.1` for `1.2.3-rc.1+7`
 abbrev pub without_build : VersionValue → VersionValue
 without_build v = record v { build = [] }

@@ -8,8 +8,7 @@ use Rattle.semver_sets.specs.IdentifierValue.{IdentifierValue}
 use Rattle.semver_sets.specs.NumberText.{IsNumberText}
 use Rattle.semver_sets.specs.Version.{VersionValue}
 
--- Three parts with dots between them, and extras. Where the third part has digits, it takes all of them:
--- `1.2.34-alpha+5`
+-- Three parts with dots between them, and extras. If the third part has digits, it has all of them: `1.2.34-alpha+5`
 pub record HasThreeParts {N : Type 0} (IsPart : List ℕ → N → Type 0) (text : List ℕ) (major minor patch : N)
     (pre_release build : List IdentifierValue) : Type 0 where
   pub first : List ℕ
@@ -23,7 +22,7 @@ pub record HasThreeParts {N : Type 0} (IsPart : List ℕ → N → Type 0) (text
   pub digits_end : BeginsWith is_digit third → BeginsWithNo is_digit extras
   pub extras_text : IsExtrasText extras pre_release build
 
--- a mark or none, blanks or none, and a text that is so: `v 1.2.3`
+-- an optional mark, optional blanks, and a text of this form: `v 1.2.3`
 pub record IsMarked (is_mark : ℕ → Bool) (Is : List ℕ → Type 0) (text : List ℕ) : Type 0 where
   pub blanks : List ℕ
   pub unmarked : List ℕ
@@ -35,7 +34,7 @@ pub record IsMarked (is_mark : ℕ → Bool) (Is : List ℕ → Type 0) (text : 
 abbrev pub IsUnmarkedVersion : VersionValue → List ℕ → Type 0
 IsUnmarkedVersion v text = HasThreeParts IsNumberText text v.major v.minor v.patch v.pre_release v.build
 
--- A text of at most 256 bytes with these five fields: `v1.2.3-alpha+5`
+-- a text of at most 256 bytes with these five fields: `v1.2.3-alpha+5`
 pub record IsVersionText (text : List ℕ) (v : VersionValue) : Type 0 where
   pub short : length text ≤ MAX_LENGTH
   pub fields : IsMarked is_version_mark (IsUnmarkedVersion v) text

@@ -1,4 +1,4 @@
-//! Comparators: the span of versions that one word of a range text asks for, and the merging of several words of an
+//! Comparators: the span of versions that one word of a range text gives, and the merging of several words of an
 //! alternative.
 //!
 //! `#[inline(always)]`: the comparators of most words have an end that no other word limits, which is one test. The

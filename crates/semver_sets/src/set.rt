@@ -1,4 +1,7 @@
 //! Which versions a set admits.
+//!
+//! `#[inline(always)]`: the functions here are the steps of a search, and most versions are releases, for which only
+//! triples are compared.
 ghost use Rattle.std.specs.Prelude.{◌≡◌, ◌≤◌, ◌+◌, ◌↔◌, IsTrue};
 ghost use Rattle.semver_cuts.specs.declared.cut.Cut.TheVariants.{Before, Start};
 ghost use Rattle.semver_cuts.specs.Ends.{IsCutAtMost};
@@ -12,31 +15,31 @@ use crate::end::End;
 use semver_cuts::{Cut, Span};
 use std::cmp::Ordering;
 
-/// A version that sets are asked for: one that is built, or one that is compared before it is.
+/// A version that can be checked against sets: a `Version`, or a candidate for which no memory has been allocated.
 ///
-/// A contract sees it as a version, `asked`.
+/// A contract sees it as a version value, `asked`.
 pub trait Asked {
     ghost asked: { Self → VersionValue };
 
-    /// Whether it has a prerelease.
+    /// Returns `true` if the version has a prerelease.
     fn is_prerelease(&self) -> bool
         ensures { IsTrue result ↔ IsPrerelease (asked self.now) };
 
-    /// Its major, minor and patch.
+    /// Returns its major, minor and patch.
     fn triple(&self) -> (u64, u64, u64)
         ensures major { result.0 ≡ (asked self.now).major }
         ensures minor { result.1 ≡ (asked self.now).minor }
         ensures patch { result.2 ≡ (asked self.now).patch };
 
-    /// The order of what follows the triples of an end and of the version.
+    /// Returns the order of what follows the triple in `end` and in the version, for an `end` with the same triple.
     fn cmp_extras(&self, end: &End) -> Ordering
         ensures { result ≡ prerelease_cmp end.now.pre_release (asked self.now).pre_release };
 }
 
-/// Whether the set admits a version, and how many comparisons that took.
+/// Returns `true` if the set admits the version, and adds the comparisons that this takes to `comparisons`.
 ///
-/// A release has to lie inside it; a prerelease also needs an end that is a prerelease of its triple, and without one
-/// is not compared at all.
+/// A release is admitted if it lies inside the set. A prerelease also needs an end that is a prerelease of its triple.
+/// If there is none, it is not compared at all.
 #[inline(always)]
 pub fn admits<V: Asked, C: Counts>(set: &Span<End>, version: &V, comparisons: &mut C) -> bool
     ensures answer { IsTrue result ↔ SetAdmits set.now (V.asked version.now) }
@@ -53,7 +56,7 @@ pub fn admits<V: Asked, C: Counts>(set: &Span<End>, version: &V, comparisons: &m
     }
 }
 
-// The same of a prerelease.
+// The same for a prerelease. `inline(never)`: releases are checked most often.
 #[inline(never)]
 fn admits_prerelease<V: Asked, C: Counts>(set: &Span<End>, version: &V, comparisons: &mut C) -> bool
     requires { IsPrerelease (V.asked version.now) }
@@ -66,7 +69,7 @@ fn admits_prerelease<V: Asked, C: Counts>(set: &Span<End>, version: &V, comparis
     has_open_end(set, version) && has_inside(set, version, comparisons)
 }
 
-// Whether the version lies in the set.
+// Returns `true` if the version lies inside the set.
 #[inline(always)]
 pub(crate) fn has_inside<V: Asked, C: Counts>(
     set: &Span<End>,
@@ -81,8 +84,8 @@ pub(crate) fn has_inside<V: Asked, C: Counts>(
     is_begun(set.lower(), version, comparisons) && !is_begun(set.upper(), version, comparisons)
 }
 
-// Whether the cut is at most the one before the version. Each comparison of a version with a cut is this one, and is
-// counted.
+// Returns `true` if the cut is less than the one just before the version, or equal to it. This is the only function
+// that compares a version with a cut, and it counts the comparison.
 #[inline(always)]
 pub(crate) fn is_begun<V: Asked, C: Counts>(
     cut: &Cut<End>,
@@ -96,7 +99,8 @@ pub(crate) fn is_begun<V: Asked, C: Counts>(
     is_at_most(cut, version)
 }
 
-// The same, not counted. Most cuts stand at an end, and most ends are told by their triples.
+// The same without the count. Most cuts are at an end whose triple differs from the version's, so only triples are
+// compared.
 #[inline(always)]
 fn is_at_most<V: Asked>(cut: &Cut<End>, version: &V) -> bool
     ensures { IsTrue result ↔ IsCutAtMost version_cmp cut.now (Before (V.asked version.now)) }
@@ -119,7 +123,7 @@ fn is_at_most<V: Asked>(cut: &Cut<End>, version: &V) -> bool
     }
 }
 
-// The same of a cut at an end with the version's triple.
+// The same for a cut at an end with the version's triple.
 #[inline(always)]
 fn is_at_most_in_triple<V: Asked>(cut: &Cut<End>, version: &V) -> bool
     requires { IsAtTriple cut.now (V.asked version.now) }
@@ -142,7 +146,7 @@ fn is_start(cut: &Cut<End>) -> bool
     }
 }
 
-// Whether a prerelease of the version's triple stands at one of the set's ends.
+// Returns `true` if an end of the set is a prerelease of the version's triple.
 #[inline(always)]
 fn has_open_end<V: Asked>(set: &Span<End>, version: &V) -> bool
     ensures { IsTrue result ↔ HasOpenEnd (V.asked version.now) set.now }
@@ -151,7 +155,7 @@ fn has_open_end<V: Asked>(set: &Span<End>, version: &V) -> bool
     opens(set.lower(), triple) || opens(set.upper(), triple)
 }
 
-/// Whether a prerelease of the triple stands at the cut: it then opens the triple for other prereleases.
+/// Returns `true` if the cut is at a prerelease of the triple. Such an end opens the triple for other prereleases.
 #[inline]
 pub fn opens(cut: &Cut<End>, triple: (u64, u64, u64)) -> bool
     ensures { IsTrue result ↔ Opens cut.now (release triple.0 triple.1 triple.2) }

@@ -1,4 +1,7 @@
 //! The list of the sets of a range.
+//!
+//! `#[inline(always)]`: most ranges have one set, and each call is then one test and the code for that set.
+//! `#[inline(never)]` keeps the code for several sets, with its stack, out of that way.
 ghost use Rattle.std.specs.Prelude.{◌≡◌, ◌↔◌, IsTrue};
 ghost use Rattle.semver_cuts.specs.Sharing.{ShareCut};
 ghost use Rattle.semver_sets.specs.Comparison.{version_cmp};
@@ -18,19 +21,19 @@ use crate::set_list::searched::Searched;
 use semver_cuts::Span;
 use semver_cuts::algebra::Merged;
 
-/// The sets of a range, at least one. A contract sees the list of them, `sets_seen`.
+/// The sets of a range: at least one. A contract sees them as a list, `sets_seen`.
 ///
-/// Most ranges have one, which takes no list.
+/// Most ranges have one set, which is stored without a list.
 #[derive(Debug, Drop)]
 pub enum Sets {
     /// One set.
     One(Span<End>),
-    /// Several sets, or one that came as a list.
+    /// Several sets, or one set that came in a list.
     Many(Searched),
 }
 
 impl Sets {
-    /// The list.
+    /// Returns the sets as a slice.
     #[inline(always)]
     pub fn as_slice(&self) -> &[Span<End>]
         ensures { result.now ≡ sets_seen self.now }
@@ -41,7 +44,7 @@ impl Sets {
         }
     }
 
-    /// The sets with what they are joined to.
+    /// Returns the sets with their merged spans.
     #[inline(always)]
     pub fn merged(&self) -> Merged<'_, '_, End>
         ensures { result.list ≡ sets_seen self.now }
@@ -55,7 +58,7 @@ impl Sets {
         }
     }
 
-    /// Whether some cut lies in a set of both.
+    /// Returns `true` if some cut lies both in a set of this list and in a set of the other.
     #[inline(always)]
     pub fn share_cut(&self, other: &Sets) -> bool
         ensures { IsTrue result ↔ ShareCut version_cmp (sets_seen self.now) (sets_seen other.now) }
@@ -66,7 +69,7 @@ impl Sets {
         }
     }
 
-    // The same along the merged spans of both.
+    // The same, by one walk along the merged spans of both.
     #[inline(never)]
     fn share_merged_cut(&self, other: &Sets) -> bool
         ensures { IsTrue result ↔ ShareCut version_cmp (sets_seen self.now) (sets_seen other.now) }
@@ -74,7 +77,7 @@ impl Sets {
         self.merged().share_cut(&other.merged())
     }
 
-    /// Whether one of the sets admits a version, and how many comparisons that took.
+    /// Returns `true` if one of the sets admits the version, and adds the comparisons that this takes to `comparisons`.
     #[inline(always)]
     pub fn admits<V: Asked, C: Counts>(&self, version: &V, comparisons: &mut C) -> bool
         ensures answer { IsTrue result ↔ RangeAdmits (sets_seen self.now) (V.asked version.now) }

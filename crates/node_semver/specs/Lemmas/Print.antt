@@ -1,4 +1,4 @@
--- The text of identifiers in the pieces in which it is written.
+-- The text of identifiers, in the pieces in which it is written.
 use Rattle.std.proofs.Common.{◌≡◌, ℕ, List, [], ◌∷◌, ◌++◌, map, refl, ap, append-nil, flat_map}
 use Rattle.std.specs.List.{join_with_byte}
 use Rattle.semver_sets.specs.Identifier.{value_of, values_of}

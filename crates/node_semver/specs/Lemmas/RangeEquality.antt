@@ -1,4 +1,4 @@
--- The test of the same cuts is an equivalence, and says just that.
+-- The test whether two ranges have the same cuts is an equivalence, and decides exactly that.
 use Rattle.std.specs.Prelude.{◌≡◌, ◌↔◌, ◌&&◌, Bool, IsTrue, List, [], ◌∷◌, refl, true}
 use mathlib.Core.Path.{sym, ◌∙◌}
 use mathlib.Core.Bool.{true≢false}
@@ -14,7 +14,7 @@ use Rattle.semver_sets.specs.Version.{VersionValue}
 pub are_same_cuts-equiv : IsEquivalence are_same_cuts
 are_same_cuts-equiv = lists_equiv (are_same_ends-equiv version_total)
 
--- what the test says where it holds
+-- what follows if the test is true
 pub cuts-from_test : (one other : List (Ends VersionValue)) → are_same_cuts one other ≡ true → AreSameCuts one other
 cuts-from_test [] [] h = tt
 cuts-from_test [] (t ∷ other) h = true≢false (sym h)
@@ -22,7 +22,7 @@ cuts-from_test (s ∷ one) [] h = true≢false (sym h)
 cuts-from_test (s ∷ one) (t ∷ other) h =
     ((span_same version_cmp s t _ refl).0 (first_so _ _ h), cuts-from_test one other (second_so _ _ h))
 
--- and what it answers where the cuts are the same
+-- and the test is true if the cuts are the same
 pub test-from_cuts : (one other : List (Ends VersionValue)) → AreSameCuts one other → are_same_cuts one other ≡ true
 test-from_cuts [] [] same = refl
 test-from_cuts [] (t ∷ other) same = absurd same

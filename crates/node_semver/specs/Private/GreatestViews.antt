@@ -1,5 +1,5 @@
--- What the private functions that look for the best version of a list do with each. The best is the last in an order
--- of versions: by precedence the greatest, and by precedence turned round the least.
+-- What the private functions compute that look for the best version of a list. The best is the last one in an order:
+-- the order of precedence for the greatest version, and its reverse for the least.
 use Rattle.std.specs.Prelude.{◌≡◌, ◌⊎◌, List, Option, Some, None}
 use Rattle.std.specs.declared.cmp.Ordering.{Ordering}
 use Rattle.std.specs.declared.cmp.Ordering.TheVariants.{Less}
@@ -13,23 +13,23 @@ use Rattle.node_semver.specs.Greatest.{AdmitsNoneIn, IsFirstBest}
 abbrev pub Order : Type 0
 Order = VersionValue → VersionValue → Ordering
 
--- precedence turned round: what is below comes later
+-- the reverse of the order of precedence
 abbrev pub downward : Order
 downward v w = version_cmp w v
 
--- the version comes after the best so far, or there is none yet
+-- the version comes after the best so far, or there is none so far
 abbrev pub IsBetter : Order → Option VersionValue → VersionValue → Type 0
 IsBetter order None v = Unit {0}
 IsBetter order (Some best) v = order best v ≡ Less
 
--- the version if it is better than the best so far and the range admits it, or else the best
+-- the version if it is better than the best so far and the range admits it, else the best so far
 abbrev pub IsBetterOf : Order → List (Ends VersionValue) → Option VersionValue → VersionValue → Option VersionValue
     → Type 0
 IsBetterOf order sets best v better =
     (IsBetter order best v × RangeAdmits sets v × (better ≡ Some v))
     ⊎ ((¬ (IsBetter order best v × RangeAdmits sets v)) × (better ≡ best))
 
--- the best version of the list that the range admits, and of equal ones the first, or none where it admits none
+-- the best version of the list that the range admits (of equal ones the first), or none if it admits none
 abbrev pub IsBestOrNone : Order → List (Ends VersionValue) → List VersionValue → Option VersionValue → Type 0
 IsBestOrNone order sets versions None = AdmitsNoneIn sets versions
 IsBestOrNone order sets versions (Some best) =

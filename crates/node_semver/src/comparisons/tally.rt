@@ -4,7 +4,7 @@ ghost use Rattle.std.specs.Borrow.{ftrue};
 
 use std::marker::Model;
 
-// It takes no memory, and its methods do nothing at run time.
+// It has no bytes, and its methods do nothing when the program runs.
 #[derive(Drop)]
 pub(crate) struct Tally {
     pub(crate) ghost count: { ℕ },

@@ -1,4 +1,4 @@
-//! The greatest and the least version of a list that a range admits.
+//! The greatest and the least version of a list that satisfies a range.
 ghost use Rattle.std.specs.Option.{option_map};
 ghost use Rattle.std.specs.Prelude.{◌↔◌, IfSome, IsNone};
 ghost use Rattle.semver_sets.specs.Comparison.{version_cmp};
@@ -7,18 +7,19 @@ ghost use Rattle.node_semver.specs.Private.GreatestViews.{IsBetterOf, downward};
 
 use crate::{Range, Version};
 
-/// The greatest of the versions that the range admits, and of equal ones the first, or `None` where it admits none.
+/// Returns the greatest version of the list that satisfies the range, or `None` if none does. Of equal versions it
+/// returns the first.
 ///
-/// Equal versions may differ in the build. The answer is lent from the list.
+/// Equal versions can differ in the build. The returned version is borrowed from the list, which need not be sorted.
 ///
 /// # Memory
 ///
-/// Takes none.
+/// Does not allocate.
 ///
 /// # Examples
 ///
-/// Of `1.0.0`, `1.2.3+a`, `1.2.3+b` and `2.0.0` it is `1.2.3+a` for `^1`, and `None` for `^3`. Of `1.2.3` and
-/// `1.3.0-rc.1` it is `1.2.3` for `^1`, which admits no prerelease of 1.3.0.
+/// Of `1.0.0`, `1.2.3+a`, `1.2.3+b` and `2.0.0` it returns `1.2.3+a` for `^1`, and `None` for `^3`. Of `1.2.3` and
+/// `1.3.0-rc.1` it returns `1.2.3` for `^1`, because `^1` admits no prerelease of 1.3.0.
 ///
 /// # Source
 ///
@@ -37,7 +38,7 @@ pub fn max_satisfying<'a>(versions: &'a [Version], range: &Range) -> Option<&'a 
 /// Returns the least version of the list that satisfies the range, or `None` if none does. Of equal versions it returns
 /// the first.
 ///
-/// Equal versions may differ in the build. The returned version is borrowed from the list.
+/// Equal versions can differ in the build. The returned version is borrowed from the list, which need not be sorted.
 ///
 /// # Memory
 ///
@@ -46,7 +47,7 @@ pub fn max_satisfying<'a>(versions: &'a [Version], range: &Range) -> Option<&'a 
 /// # Examples
 ///
 /// Of `2.0.0`, `1.2.3+a`, `1.2.3+b` and `1.4.0` it returns `1.2.3+a` for `^1`, and `None` for `^3`. Of `1.3.0-rc.1` and
-/// `1.4.0` it returns `1.4.0` for `^1`, since `^1` admits no prerelease of 1.3.0.
+/// `1.4.0` it returns `1.4.0` for `^1`, because `^1` admits no prerelease of 1.3.0.
 ///
 /// # Source
 ///
@@ -62,8 +63,8 @@ pub fn min_satisfying<'a>(versions: &'a [Version], range: &Range) -> Option<&'a 
     best
 }
 
-// The version if the range admits it and it is above the best so far, or else the best. The order is asked first, which
-// is less work.
+// The version if it is greater than the best so far and satisfies the range, else the best so far. The order is
+// compared first, which is less work. `inline(always)`: the body of the loop over the list.
 #[inline(always)]
 fn greater<'a>(
     best: Option<&'a Version>,
@@ -84,7 +85,8 @@ fn greater<'a>(
     }
 }
 
-// The version if the range admits it and it is below the best so far, or else the best.
+// The version if it is less than the best so far and satisfies the range, else the best so far. `inline(always)`: as
+// above.
 #[inline(always)]
 fn lesser<'a>(best: Option<&'a Version>, version: &'a Version, range: &Range) -> Option<&'a Version>
     ensures { IsBetterOf downward range.now (option_map (λ v. v.now) best.entry) version.now

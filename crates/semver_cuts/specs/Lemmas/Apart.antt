@@ -29,7 +29,7 @@ module _ {T : Type 0} (cmp : T → T → Ordering) where
   rising-behind [] back rising = rising
   rising-behind (span ∷ front) back rising = rising-behind front back rising.1
 
-  -- one span more in front, where all the others begin above where it ends
+  -- one more span in front, if all the others begin above where it ends
   pub apart-cons : (span : Ends T) (spans : List (Ends T))
       → AllByRecursion (λ (s : Ends T). IsCutBelow cmp span.upper s.lower) spans → AreApart cmp spans
       → AreApart cmp (span ∷ spans)
@@ -37,7 +37,7 @@ module _ {T : Type 0} (cmp : T → T → Ordering) where
   apart-cons span (next ∷ spans) above apart = (above.0, apart)
 
 module _ {T : Type 0} {cmp : T → T → Ordering} (o : IsTotalOrder cmp) where
-  -- all spans behind one begin above where it ends
+  -- all spans after one begin above where it ends
   pub apart-above : (span : Ends T) (spans : List (Ends T)) → AreApart cmp (span ∷ spans) → AreRising cmp spans
       → AllByRecursion (λ (s : Ends T). IsCutBelow cmp span.upper s.lower) spans
   apart-above span [] apart rising = tt
@@ -102,7 +102,7 @@ module _ {T : Type 0} {cmp : T → T → Ordering} (o : IsTotalOrder cmp) where
         (apart-before (take place spans) (drop (place + 1) spans) span (subst (AreApart cmp) parts apart)
         (subst (AreRising cmp) parts rising))) h)
 
-    -- a span that ends above the cut: so do all those behind it
+    -- a span that ends above the cut: so do all those after it
     pub halved_above : IsCutBelow cmp cut span.upper
         → AllByRecursion (λ (s : Ends T). IsCutBelow cmp cut s.upper) (drop place spans)
     halved_above h =

@@ -73,7 +73,7 @@ module _ {T : Type 0} {cmp : T → T → Ordering} (o : IsTotalOrder cmp) where
       in_some-right cmp cut (common_with cmp one others) (common_spans cmp ones others)
       (both-spans ones others cut there some)
 
-  -- a cut lies in one of the common spans where it lies in a span of each list
+  -- a cut lies in one of the common spans exactly if it lies in a span of each list
   pub common_spans-cuts : (ones others : List (Ends T)) (cut : Cut T)
       → IsInSome cmp (common_spans cmp ones others) cut ↔ (IsInSome cmp ones cut × IsInSome cmp others cut)
   common_spans-cuts ones others cut =
@@ -95,7 +95,7 @@ module _ {T : Type 0} {cmp : T → T → Ordering} (o : IsTotalOrder cmp) where
         all-append Q (common_of cmp one other) (common_with cmp one others) (of-all one other p all.0)
         (with-all one others p all.1)
 
-    -- what follows for the common ends of each two spans that share a cut holds of each common span
+    -- what follows for the common ends of each two spans that share a cut is true of each common span
     pub common_spans-each : (ones others : List (Ends T)) → AllByRecursion P ones → AllByRecursion P' others
         → AllByRecursion Q (common_spans cmp ones others)
     common_spans-each [] others all all' = tt
@@ -111,7 +111,7 @@ module _ {T : Type 0} {cmp : T → T → Ordering} (o : IsTotalOrder cmp) where
       ones others (all-always (λ (one : Ends T). Unit {0}) (λ one. tt) ones)
       (all-always (λ (other : Ends T). Unit {0}) (λ other. tt) others)
 
-  -- what holds of all lower ends and of all upper ends holds of those of the common spans
+  -- what is true of all lower ends, and of all upper ends, is true of those of the common spans
   pub common_spans-ends : (Lower Upper : Cut T → Type 0) (ones others : List (Ends T))
       → AllByRecursion (λ (span : Ends T). Lower span.lower × Upper span.upper) ones
       → AllByRecursion (λ (span : Ends T). Lower span.lower × Upper span.upper) others
@@ -177,7 +177,7 @@ module _ {T : Type 0} {cmp : T → T → Ordering} (o : IsTotalOrder cmp) where
     spans-some (one ∷ ones) others (inr there) =
         any-right Q (common_with cmp one others) (common_spans cmp ones others) (spans-some ones others there)
 
-    -- some common span is so where the common ends of some two spans that share a cut are
+    -- it is true of some common span if it is true of the common ends of some two spans that share a cut
     pub common_spans-some : (ones others : List (Ends T)) → AnyByRecursion Q (common_spans cmp ones others)
         ↔ AnyByRecursion (λ (one : Ends T). AnyByRecursion (λ (other : Ends T).
         HaveCommonCut cmp one other × Q (common_ends cmp one other)) others) ones
@@ -190,7 +190,7 @@ module _ {T : Type 0} {cmp : T → T → Ordering} (o : IsTotalOrder cmp) where
   some-held [] held some = absurd (some refl)
   some-held (span ∷ spans) held some = (held.0.0, inl held.0.1)
 
-  -- there is no common span where no cut lies in a span of each list
+  -- there is no common span if no cut lies in a span of each list
   pub common_spans-none : (ones others : List (Ends T))
       → (common_spans cmp ones others ≡ []) ↔ (¬ ShareCut cmp ones others)
   common_spans-none ones others = (
@@ -200,7 +200,7 @@ module _ {T : Type 0} {cmp : T → T → Ordering} (o : IsTotalOrder cmp) where
         (λ cut is. apart (cut, (spans-both ones others cut is).0, (spans-both ones others cut is).1)),
   )
 
-  -- and there is one where some cut does
+  -- and there is one if some cut does
   pub common_spans-any : (ones others : List (Ends T))
       → (common_spans cmp ones others ≢ []) ↔ ShareCut cmp ones others
   common_spans-any ones others = (

@@ -94,7 +94,7 @@ module _ {T : Type 0} {cmp : T → T → Ordering} (o : IsTotalOrder cmp) where
   not_below_by c d Equal p h = inr (cut_cmp-equal_back c d p)
   not_below_by c d Greater p h = inl (below-from_greater c d p)
 
-  -- what the test `c < d` says where it fails
+  -- what follows if the test `c < d` is false
   pub at_most-from_not_lt : (c d : Cut T) → is_lt (cut_cmp cmp c d) ≡ false → IsCutAtMost cmp d c
   at_most-from_not_lt c d h = not_below_by c d (cut_cmp cmp c d) refl h
 
@@ -103,7 +103,7 @@ module _ {T : Type 0} {cmp : T → T → Ordering} (o : IsTotalOrder cmp) where
   not_at_most_by c d Equal p h = absurd (true≢false h)
   not_at_most_by c d Greater p h = below-from_greater c d p
 
-  -- what the test `c <= d` says where it fails
+  -- what follows if the test `c <= d` is false
   pub below-from_not_le : (c d : Cut T) → is_le (cut_cmp cmp c d) ≡ false → IsCutBelow cmp d c
   below-from_not_le c d h = not_at_most_by c d (cut_cmp cmp c d) refl h
 
@@ -136,7 +136,7 @@ module _ {T : Type 0} (cmp : T → T → Ordering) where
   below_by Equal h = absurd (true≢false (sym h))
   below_by Greater h = absurd (true≢false (sym h))
 
-  -- what the test `c < d` says where it holds
+  -- what follows if the test `c < d` is true
   pub below-from_lt : (c d : Cut T) → is_lt (cut_cmp cmp c d) ≡ true → IsCutBelow cmp c d
   below-from_lt c d h = below_by (cut_cmp cmp c d) h
 
@@ -145,11 +145,11 @@ module _ {T : Type 0} (cmp : T → T → Ordering) where
   at_most_by Equal h = inr refl
   at_most_by Greater h = absurd (true≢false (sym h))
 
-  -- what the test `c <= d` says where it holds
+  -- what follows if the test `c <= d` is true
   pub at_most-from_le : (c d : Cut T) → is_le (cut_cmp cmp c d) ≡ true → IsCutAtMost cmp c d
   at_most-from_le c d h = at_most_by (cut_cmp cmp c d) h
 
-  -- and what the test returns where the fact holds
+  -- and the test is true if the fact is
   pub lt-from_below : (c d : Cut T) → IsCutBelow cmp c d → is_lt (cut_cmp cmp c d) ≡ true
   lt-from_below c d p = ap is_lt p
 

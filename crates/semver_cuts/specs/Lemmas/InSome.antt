@@ -23,23 +23,23 @@ module _ {T : Type 0} (cmp : T → T → Ordering) (cut : Cut T) where
   of_some (span ∷ spans) (inl here) = inl here
   of_some (span ∷ spans) (inr there) = inr (of_some spans there)
 
-  -- the cut lies in some span where some span is one that it lies in
+  -- the cut lies in some span of the list if it lies in one of them
   pub in_some-any : (spans : List (Ends T))
       → IsInSome cmp spans cut ↔ AnyByRecursion (λ (span : Ends T). IsInSpan cmp span cut) spans
   in_some-any spans = (some_of spans, of_some spans)
 
-  -- of two lists in the first
+  -- if it lies in a span of the first of two lists, it does in the two together
   pub in_some-left : (ones others : List (Ends T)) → IsInSome cmp ones cut → IsInSome cmp (ones ++ others) cut
   in_some-left [] others is = absurd is
   in_some-left (one ∷ ones) others (inl here) = inl here
   in_some-left (one ∷ ones) others (inr there) = inr (in_some-left ones others there)
 
-  -- in the second
+  -- and so with the second
   pub in_some-right : (ones others : List (Ends T)) → IsInSome cmp others cut → IsInSome cmp (ones ++ others) cut
   in_some-right [] others is = is
   in_some-right (one ∷ ones) others is = inr (in_some-right ones others is)
 
-  -- or in none but these
+  -- if it lies in a span of the two together, it does in one of the two
   pub in_some-either : (ones others : List (Ends T)) → IsInSome cmp (ones ++ others) cut
       → IsInSome cmp ones cut ⊎ IsInSome cmp others cut
   in_some-either [] others is = inr is
@@ -50,7 +50,7 @@ module _ {T : Type 0} (cmp : T → T → Ordering) (cut : Cut T) where
   ]
 
 module _ {T : Type 0} (cmp : T → T → Ordering) where
-  -- spans that hold a cut each, and no cut in any: there are none
+  -- if each span contains a cut, and no cut lies in any, there is no span
   pub none_held : (spans : List (Ends T)) → AllByRecursion (HoldsCut cmp) spans
       → ((cut : Cut T) → ¬ IsInSome cmp spans cut) → spans ≡ []
   none_held [] held none = refl

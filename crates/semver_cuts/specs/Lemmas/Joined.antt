@@ -1,4 +1,4 @@
--- Lists of spans that are merged as they stand are what they are joined to.
+-- Lists of spans that are merged as they stand are joined to themselves.
 use Rattle.std.specs.Prelude.{◌≡◌, List, [], ◌∷◌, ◌++◌, refl}
 use mathlib.Core.Path.{sym, subst}
 use mathlib.Core.Logic.{inr}
@@ -79,7 +79,7 @@ module _ {T : Type 0} {cmp : T → T → Ordering} (o : IsTotalOrder cmp) where
         ),
       )
 
-  -- apart as they stand
+  -- spans that are apart are joined to themselves
   pub apart-joined : (spans : List (Ends T)) → AreRising cmp spans → AreApart cmp spans → AreJoined cmp spans spans
   apart-joined spans rising apart = record {
     merged = record { rising = rising; apart = apart };

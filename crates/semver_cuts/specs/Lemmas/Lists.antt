@@ -7,12 +7,12 @@ use Rattle.std.proofs.Common.{arith}
 use Rattle.semver_cuts.specs.Sharing.{AnyByRecursion}
 
 module _ {X : Type 0} (P : X → Type 0) where
-  -- what is always so is so of each element
+  -- what is true of every value is true of each element
   pub all-always : ((x : X) → P x) → (xs : List X) → AllByRecursion P xs
   all-always f [] = tt
   all-always f (x ∷ xs) = (f x, all-always f xs)
 
-  -- each element of two lists is so where each of both is
+  -- it is true of each element of two lists together if it is of each of both
   pub all-append : (xs ys : List X) → AllByRecursion P xs → AllByRecursion P ys → AllByRecursion P (xs ++ ys)
   all-append [] ys a b = b
   all-append (x ∷ xs) ys a b = (a.0, all-append xs ys a.1 b)
@@ -55,7 +55,7 @@ module _ {X : Type 0} (P : X → Type 0) where
     | inr there ↦ passed_one xs k x (omega arith) e (λ earlier. none (inr earlier)) other there
   ]
 
-  -- one more element that is not so
+  -- one more element of which it is not true
   pub none-more : (xs : List X) (k : ℕ) (x : X) → k < length xs → x ≡ get_or xs k x
       → ¬ AnyByRecursion P (take k xs) → ¬ P x → ¬ AnyByRecursion P (take (k + 1) xs)
   none-more xs k x lt e none other =
@@ -69,7 +69,7 @@ module _ {X : Type 0} (P Q : X → Type 0) where
   any-map f (x ∷ xs) (inl p) = inl (f x p)
   any-map f (x ∷ xs) (inr a) = inr (any-map f xs a)
 
-  -- some element is so, and each is so in another way
+  -- if one thing is true of some element, and another of each, then both are of some element
   pub any-with_all : (R : X → Type 0) → ((x : X) → P x → Q x → R x) → (xs : List X)
       → AnyByRecursion P xs → AllByRecursion Q xs → AnyByRecursion R xs
   any-with_all R f [] a b = absurd a

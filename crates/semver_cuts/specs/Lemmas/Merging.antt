@@ -58,7 +58,7 @@ module _ {T : Type 0} (end : Ends T → Cut T) (Before After : Cut T → Cut T �
     later = tt;
   }
 
-  -- the choice stays, where the span after the list stands to it as one that is after it
+  -- the choice stays if `After` holds between the span that is added and it
   chosen-kept : (spans : List (Ends T)) (span : Ends T) (chosen : Cut T) → IsChosenEnd end Before After spans chosen
       → After (end span) chosen → IsChosenEnd end Before After (spans ++ span ∷ []) chosen
   chosen-kept spans span chosen is h = record {
@@ -71,7 +71,7 @@ module _ {T : Type 0} (end : Ends T → Cut T) (Before After : Cut T → Cut T �
     later = all_push (λ (other : Ends T). After (end other) chosen) is.after span is.later h;
   }
 
-  -- the span after the list is chosen, where all the others stand to it as those before it
+  -- the span that is added is chosen if `Before` holds between all the others and it
   chosen-last : (spans : List (Ends T)) (span : Ends T)
       → AllByRecursion (λ (other : Ends T). Before (end other) (end span)) spans
       → IsChosenEnd end Before After (spans ++ span ∷ []) (end span)
@@ -85,7 +85,7 @@ module _ {T : Type 0} (end : Ends T → Cut T) (Before After : Cut T → Cut T �
     later = tt;
   }
 
-  -- what holds of the ends before the chosen one, of itself, and of those after it
+  -- what is true of the ends before the chosen one, of itself, and of those after it
   chosen-all : (P : Cut T → Type 0) (spans : List (Ends T)) (chosen : Cut T) → IsChosenEnd end Before After spans chosen
       → ((c : Cut T) → Before c chosen → P c) → P chosen → ((c : Cut T) → After c chosen → P c)
       → AllByRecursion (λ (other : Ends T). P (end other)) spans
@@ -96,7 +96,7 @@ module _ {T : Type 0} (end : Ends T → Cut T) (Before After : Cut T → Cut T �
       (subst P (sym is.end_of) at)
       (all_map (Of (λ c. After c chosen)) (Of P) (λ other h. from_after (end other) h) is.after is.later))
 
-  -- what holds of all ends holds of the chosen one
+  -- what is true of all ends is true of the chosen one
   chosen-of : (P : Cut T → Type 0) (spans : List (Ends T)) (chosen : Cut T) → IsChosenEnd end Before After spans chosen
       → AllByRecursion (λ (other : Ends T). P (end other)) spans → P chosen
   chosen-of P spans chosen is all =
@@ -106,7 +106,7 @@ module _ {T : Type 0} (end : Ends T → Cut T) (Before After : Cut T → Cut T �
   chosen-some : (spans : List (Ends T)) (chosen : Cut T) → IsChosenEnd end Before After spans chosen → spans ≢ []
   chosen-some spans chosen is empty = middle≢[] is.before is.after is.span (sym is.parts ∙ empty)
 
-  -- where no end is both before one and after it, one place is chosen
+  -- if `Before` and `After` never hold together, only one place can be chosen
   module _ (clash : (c d : Cut T) → Before c d → After d c → ⊥) (c d : Cut T) where
     same-place : (before before' after after' : List (Ends T)) (span span' : Ends T)
         → before ++ span ∷ after ≡ before' ++ span' ∷ after' → end span ≡ c → end span' ≡ d
@@ -190,7 +190,7 @@ module _ {T : Type 0} {cmp : T → T → Ordering} (o : IsTotalOrder cmp) where
       (chosen-kept (λ (s : Ends T). s.upper) (λ c d. IsCutBelow cmp d c) (λ c d. IsCutAtMost cmp d c) spans span old is
       h.0)
 
-  -- one end alone is chosen
+  -- only one end is chosen
   pub chosen_lower-unique : (spans : List (Ends T)) (one other : Cut T) → IsLastGreatestLower cmp spans one
       → IsLastGreatestLower cmp spans other → one ≡ other
   chosen_lower-unique spans one other is is' =
@@ -203,7 +203,7 @@ module _ {T : Type 0} {cmp : T → T → Ordering} (o : IsTotalOrder cmp) where
       chosen-unique (λ (s : Ends T). s.upper) (λ c d. IsCutBelow cmp d c) (λ c d. IsCutAtMost cmp d c)
       (λ c d below at_most. below-not-at_most o d c below at_most) spans one other is is'
 
-  -- and of no span none is
+  -- and for no spans, none is
   pub chosen_lower-some : (spans : List (Ends T)) (chosen : Cut T) → IsLastGreatestLower cmp spans chosen → spans ≢ []
   chosen_lower-some spans chosen is =
       chosen-some (λ (s : Ends T). s.lower) (λ c d. IsCutAtMost cmp c d) (λ c d. IsCutBelow cmp c d) spans chosen is

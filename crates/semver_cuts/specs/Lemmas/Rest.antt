@@ -44,7 +44,7 @@ module _ {T : Type 0} (cmp : T → T → Ordering) where
       subst (λ spans. IsInSome cmp spans cut) (sym are.2)
       (in_some-right cmp cut are.0 are.1 (in-rest ones others are.1 cut are.4 there out))
 
-  -- a cut is left where it lies in a span of the first list and in none of the second
+  -- a cut is left exactly if it lies in a span of the first list and in none of the second
   pub rest_spans-cuts : (ones others rest : List (Ends T)) → AreRestSpans cmp ones others rest → (cut : Cut T)
       → IsInSome cmp rest cut ↔ (IsInSome cmp ones cut × ¬ IsInSome cmp others cut)
   rest_spans-cuts ones others rest are cut =
@@ -105,7 +105,7 @@ module _ {T : Type 0} (cmp : T → T → Ordering) where
 
   -- ---- nothing left
 
-  -- nothing is left where no cut of the first list lies in no span of the second
+  -- nothing is left if no cut of the first list lies outside the second
   pub rest_spans-none : (ones others rest : List (Ends T)) → AreRestSpans cmp ones others rest
       → (rest ≡ []) ↔ (¬ ((cut : Cut T) × IsInSome cmp ones cut × (¬ IsInSome cmp others cut)))
   rest_spans-none ones others rest are = (
@@ -116,7 +116,7 @@ module _ {T : Type 0} (cmp : T → T → Ordering) where
   )
 
 module _ {T : Type 0} {cmp : T → T → Ordering} (o : IsTotalOrder cmp) where
-  -- nothing is left where each cut of the first list lies in some span of the second
+  -- nothing is left exactly if each cut of the first list lies in some span of the second
   pub rest_spans-covered : (ones others rest : List (Ends T)) → AreRestSpans cmp ones others rest
       → (rest ≡ []) ↔ ((cut : Cut T) → IsInSome cmp ones cut → IsInSome cmp others cut)
   rest_spans-covered ones others rest are =

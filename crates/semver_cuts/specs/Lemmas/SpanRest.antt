@@ -22,11 +22,11 @@ module _ {T : Type 0} (cmp : T → T → Ordering) (one other : Ends T) where
   some_by span true e = refl
   some_by span false e = cc e
 
-  -- the two share a cut where they have a common span
+  -- the two share a cut if they have a common span
   pub share-from_some : (span : Ends T) → span ∷ [] ≡ common_of cmp one other → spans_share cmp one other ≡ true
   share-from_some span e = some_by span (spans_share cmp one other) e
 
-  -- the piece below, where they share a cut
+  -- the piece below, if they share a cut
   pub below-shared : spans_share cmp one other ≡ true
       → piece_below cmp one other ≡ span_if_any cmp one.lower other.lower
   below-shared share = ap (λ r. if r then span_if_any cmp one.lower other.lower else one ∷ []) share
@@ -52,7 +52,7 @@ module _ {T : Type 0} {cmp : T → T → Ordering} (o : IsTotalOrder cmp) where
         ∙ h)),
   )
 
-  -- a cut lies in the span between two cuts, if there is one, where it lies between them
+  -- a cut lies in the span between two cuts, if there is one, exactly if it lies between them
   pub if_any-cuts : (lower upper cut : Cut T)
       → IsInSome cmp (span_if_any cmp lower upper) cut ↔ IsInSpan cmp (span_between lower upper) cut
   if_any-cuts lower upper cut = if_any_by lower upper cut (is_lt (cut_cmp cmp lower upper)) refl
@@ -85,7 +85,7 @@ module _ {T : Type 0} {cmp : T → T → Ordering} (o : IsTotalOrder cmp) where
       | inr early ↦ inl (record { lower = is.lower; upper = early })
     ]
 
-    -- a cut lies in one of the two pieces where it lies in the first span and not in the second
+    -- a cut lies in one of the two pieces exactly if it lies in the first span and not in the second
     pub pieces-cuts : IsInSome cmp (span_if_any cmp one.lower other.lower ++ span_if_any cmp other.upper one.upper) cut
         ↔ (IsInSpan cmp one cut × ¬ IsInSpan cmp other cut)
     pieces-cuts =

@@ -36,7 +36,7 @@ module _ {T : Type 0} {cmp : T → T → Ordering} (o : IsTotalOrder cmp) where
   greater_by c d e false h =
       (λ p. (at_most_trans o c d e (at_most-from_not_lt o d c h) p, p), λ both. both.1)
 
-  -- the greater of two cuts is at most a third where both are
+  -- the greater of two cuts is at most a third exactly if both are
   pub greater-at_most : (c d e : Cut T)
       → IsCutAtMost cmp (greater_cut cmp c d) e ↔ (IsCutAtMost cmp c e × IsCutAtMost cmp d e)
   greater-at_most c d e = greater_by c d e (is_lt (cut_cmp cmp d c)) refl
@@ -47,7 +47,7 @@ module _ {T : Type 0} {cmp : T → T → Ordering} (o : IsTotalOrder cmp) where
   lesser_by c d e false h =
       (λ p. (p, below-at_most o e c d p (at_most-from_not_lt o d c h)), λ both. both.0)
 
-  -- a cut is below the lesser of two where it is below both
+  -- a cut is below the lesser of two exactly if it is below both
   pub below-lesser : (c d e : Cut T)
       → IsCutBelow cmp e (lesser_cut cmp c d) ↔ (IsCutBelow cmp e c × IsCutBelow cmp e d)
   below-lesser c d e = lesser_by c d e (is_lt (cut_cmp cmp d c)) refl
@@ -59,21 +59,21 @@ module _ {T : Type 0} {cmp : T → T → Ordering} (o : IsTotalOrder cmp) where
   greater_below_by c d e false h =
       (λ p. (at_most-below o c d e (at_most-from_not_lt o d c h) p, p), λ both. both.1)
 
-  -- the greater of two cuts is below a third where both are
+  -- the greater of two cuts is below a third exactly if both are
   pub greater-below : (c d e : Cut T)
       → IsCutBelow cmp (greater_cut cmp c d) e ↔ (IsCutBelow cmp c e × IsCutBelow cmp d e)
   greater-below c d e = greater_below_by c d e (is_lt (cut_cmp cmp d c)) refl
 
   -- ---- the cuts of a span
 
-  -- a span holds a cut where it begins below where it ends
+  -- a span contains a cut exactly if it begins below where it ends
   pub holds-below : (span : Ends T) → HoldsCut cmp span ↔ IsCutBelow cmp span.lower span.upper
   holds-below span = (
     λ h. at_most-below o span.lower h.0 span.upper h.1.lower h.1.upper,
     λ p. (span.lower, record { lower = at_most_refl o span.lower; upper = p }),
   )
 
-  -- a span that holds a cut lies in another where it begins no earlier and ends no later
+  -- a span that contains a cut lies in another exactly if it begins no earlier and ends no later
   pub within-ends : (one other : Ends T) → IsCutBelow cmp one.lower one.upper
       → IsWithin cmp one other ↔ (IsCutAtMost cmp other.lower one.lower × IsCutAtMost cmp one.upper other.upper)
   within-ends one other held =
@@ -96,7 +96,7 @@ module _ {T : Type 0} {cmp : T → T → Ordering} (o : IsTotalOrder cmp) where
 
   -- ---- the intersection of two spans
 
-  -- a cut lies between the common ends where it lies in both spans
+  -- a cut lies between the common ends exactly if it lies in both spans
   pub common_ends-cuts : (one other : Ends T) (cut : Cut T)
       → IsInSpan cmp (common_ends cmp one other) cut ↔ (IsInSpan cmp one cut × IsInSpan cmp other cut)
   common_ends-cuts one other cut =
@@ -112,7 +112,7 @@ module _ {T : Type 0} {cmp : T → T → Ordering} (o : IsTotalOrder cmp) where
         },
       )
 
-  -- the common ends hold a cut where some cut lies in both spans
+  -- the common ends contain a cut exactly if some cut lies in both spans
   pub common_ends-hold : (one other : Ends T)
       → HaveCommonCut cmp one other
       ↔ IsCutBelow cmp (common_ends cmp one other).lower (common_ends cmp one other).upper
@@ -123,7 +123,7 @@ module _ {T : Type 0} {cmp : T → T → Ordering} (o : IsTotalOrder cmp) where
             let both = (common_ends-cuts one other held.0).0 held.1 in (held.0, both.0, both.1),
       )
 
-  -- two spans that hold cuts share one where each begins below where the other ends
+  -- two spans that contain cuts share one exactly if each begins below where the other ends
   pub shares-ends : (one other : Ends T) → IsCutBelow cmp one.lower one.upper → IsCutBelow cmp other.lower other.upper
       → HaveCommonCut cmp one other ↔ (IsCutBelow cmp one.lower other.upper × IsCutBelow cmp other.lower one.upper)
   shares-ends one other held held' =
@@ -139,7 +139,7 @@ module _ {T : Type 0} {cmp : T → T → Ordering} (o : IsTotalOrder cmp) where
         )),
       )
 
-  -- the test of a common cut, where the first span begins last
+  -- the test of a common cut, if the first span begins last
   pub shares-from_first : (one other : Ends T) → IsCutBelow cmp one.lower one.upper
       → is_lt (cut_cmp cmp one.lower (lesser_cut cmp one.upper other.upper)) ≡ is_lt (cut_cmp cmp one.lower other.upper)
   shares-from_first one other held =
@@ -150,7 +150,7 @@ module _ {T : Type 0} {cmp : T → T → Ordering} (o : IsTotalOrder cmp) where
       (λ p. lt-from_below cmp one.lower (lesser_cut cmp one.upper other.upper)
       ((below-lesser one.upper other.upper one.lower).1 (held, below-from_lt cmp one.lower other.upper p)))
 
-  -- and where the second does
+  -- and if the second does
   pub shares-from_second : (one other : Ends T) → IsCutBelow cmp other.lower other.upper
       → is_lt (cut_cmp cmp other.lower (lesser_cut cmp one.upper other.upper))
       ≡ is_lt (cut_cmp cmp other.lower one.upper)
@@ -172,7 +172,7 @@ module _ {T : Type 0} {cmp : T → T → Ordering} (o : IsTotalOrder cmp) where
     λ h. e ∙ lt-from_below cmp other.lower one.upper ((shares-ends one other held held').0 h).1,
   )
 
-  -- and where it has not
+  -- and if it has failed
   pub shares-failed : (one other : Ends T) → IsCutBelow cmp one.lower one.upper → IsCutBelow cmp other.lower other.upper
       → is_lt (cut_cmp cmp one.lower other.upper) ≡ false
       → (r : Bool) → r ≡ false → IsTrue r ↔ HaveCommonCut cmp one other
@@ -191,7 +191,7 @@ module _ {T : Type 0} {cmp : T → T → Ordering} (o : IsTotalOrder cmp) where
     λ h. e ∙ le-from_at_most cmp other.upper one.upper ((within-ends other one held).0 h).1,
   )
 
-  -- and where it has not
+  -- and if it has failed
   pub covers-failed : (one other : Ends T) → IsCutBelow cmp other.lower other.upper
       → is_le (cut_cmp cmp one.lower other.lower) ≡ false
       → (r : Bool) → r ≡ false → IsTrue r ↔ IsWithin cmp other one
@@ -211,7 +211,7 @@ module _ {T : Type 0} {cmp : T → T → Ordering} (o : IsTotalOrder cmp) where
   common_by one other P false h some none =
       none (λ shared. both_ways _ (lt-from_below cmp _ _ ((common_ends-hold one other).0 shared)) h)
 
-  -- the common span is there where some cut lies in both
+  -- there is a common span exactly if some cut lies in both
   pub common_of-cases : (one other : Ends T) (P : List (Ends T) → Type 0)
       → (HaveCommonCut cmp one other → P (common_ends cmp one other ∷ [])) → (¬ HaveCommonCut cmp one other → P [])
       → P (common_of cmp one other)
@@ -219,7 +219,7 @@ module _ {T : Type 0} {cmp : T → T → Ordering} (o : IsTotalOrder cmp) where
       common_by one other P
       (is_lt (cut_cmp cmp (common_ends cmp one other).lower (common_ends cmp one other).upper)) refl some none
 
-  -- a cut lies in the common span where it lies in both
+  -- a cut lies in the common span exactly if it lies in both
   pub common_of-cuts : (one other : Ends T) (cut : Cut T)
       → IsInSome cmp (common_of cmp one other) cut ↔ (IsInSpan cmp one cut × IsInSpan cmp other cut)
   common_of-cuts one other cut =

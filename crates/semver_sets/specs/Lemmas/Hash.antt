@@ -1,4 +1,4 @@
--- Equal identifiers, equal versions and equal ranges are fed alike.
+-- Equal identifiers, equal versions and equal ranges feed a hasher the same.
 use Rattle.std.proofs.Common.{◌≡◌, ◌++◌, ℕ, true, List, ap, sym}
 use Rattle.std.specs.Hash as fed
 use Rattle.std.specs.Hash.{items_Alike}

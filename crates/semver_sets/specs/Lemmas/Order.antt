@@ -68,7 +68,7 @@ version_total = then_total (on_total (λ (v : VersionValue). v.major) nat_cmp_to
 
 -- ---- any total order
 
--- what is above is below the other way round
+-- greater is less the other way round
 pub Greater-turned : {K : Type 0} {R : K → K → Ordering} → IsTotalOrder R → (x y : K)
     → (R x y ≡ Greater) ↔ (R y x ≡ Less)
 Greater-turned {R = R} o x y =
@@ -203,7 +203,7 @@ identifier_cmp-means a b = record {
   );
 }
 
--- the same of an answer
+-- the same for the result of a function
 pub identifier_order : (a b : IdentifierValue) (r : Ordering) → r ≡ identifier_cmp a b → IdentifierOrderMeans a b r
 identifier_order a b r e = subst (IdentifierOrderMeans a b) (sym e) (identifier_cmp-means a b)
 
@@ -217,7 +217,7 @@ prerelease-IsAntisymmetric (x ∷ xs) [] e = cc e
 prerelease-IsAntisymmetric (x ∷ xs) (y ∷ ys) e =
     slice_cmp-IsAntisymmetric identifier-IsAntisymmetric (x ∷ xs) (y ∷ ys) e
 
--- two prereleases go by their lists
+-- two prereleases are ordered by their lists
 both-prereleases : (xs ys : List IdentifierValue) → xs ≢ [] → ys ≢ []
     → prerelease_cmp xs ys ≡ slice_cmp identifier_cmp xs ys
 both-prereleases [] ys n m = absurd (n refl)
@@ -270,7 +270,7 @@ Less-version v w e = Less-majors v w (nat_cmp v.major w.major) refl e
 number-tied : (m n : ℕ) → m ≡ n → nat_cmp m n ≡ Equal
 number-tied m n e = subst (λ k. nat_cmp m k ≡ Equal) e (tied_itself nat_cmp_total m)
 
--- equal triples leave it to the prereleases
+-- if the triples are equal, the prereleases decide
 same-triple : (v w : VersionValue) → HasSameTriple v w → version_cmp v w ≡ prerelease_cmp v.pre_release w.pre_release
 same-triple v w t = then-tied _ _ (number-tied v.major w.major t.major)
     ∙ then-tied _ _ (number-tied v.minor w.minor t.minor)
@@ -317,7 +317,7 @@ version_cmp-means v w = record {
   );
 }
 
--- the same of an answer
+-- the same for the result of a function
 pub version_order : (v w : VersionValue) (r : Ordering) → r ≡ version_cmp v w → OrderMeans v w r
 version_order v w r e = subst (OrderMeans v w) (sym e) (version_cmp-means v w)
 

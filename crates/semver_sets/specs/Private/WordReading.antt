@@ -114,12 +114,12 @@ abbrev pub operator_lead : Option (Operator × List ℕ) → List ℕ → Lead �
 operator_lead None text = (no_lead, text)
 operator_lead (Some read) text = (operator read.0, rest_of is_blank read.1)
 
--- after a tilde and its blanks: a `>` and its blanks, or none
+-- after a tilde and its blanks: an optional `>` and its blanks
 abbrev pub tilde_at : List ℕ → Lead × List ℕ
 tilde_at [] = (tilde_lead, [])
 tilde_at (b ∷ rest) = if b == greater_sign then (tilde_greater_lead, rest_of is_blank rest) else (tilde_lead, b ∷ rest)
 
--- what stands before the partial of a word, and the rest without its blanks
+-- what is written before the partial of a word, and the rest without its leading blanks
 unfoldable pub read_lead : List ℕ → Lead × List ℕ
 read_lead [] = (no_lead, [])
 read_lead (b ∷ rest) =
@@ -127,7 +127,7 @@ read_lead (b ∷ rest) =
     if b == tilde then tilde_at (rest_of is_blank rest) else
     operator_lead (read_operator (b ∷ rest)) (b ∷ rest)
 
--- what a lead makes of a partial
+-- the comparator that a lead and a partial give
 abbrev pub lead_comparator : Lead → Partial → Option Comparator
 lead_comparator no_lead p = plain_comparator p
 lead_comparator (operator o) p = operator_comparator o p
@@ -137,7 +137,7 @@ lead_comparator caret_lead p = caret_row p.major p.minor p.patch (zeroed p)
 
 -- ---- words
 
--- a comparator, or none, and the rest
+-- a comparator, if the word gives one, and the rest
 abbrev pub Word : Type 0
 Word = Option Comparator × List ℕ
 
@@ -168,7 +168,7 @@ abbrev pub with_left : ReadPartial → Option Word
 with_left None = None
 with_left (Some left) = said_hyphen (Some left.0) (read_right left.1)
 
--- the first of two, if there is one, else the second
+-- the first word if there is one, else the second
 abbrev pub or_else : Option Word → Option Word → Option Word
 or_else (Some word) other = Some word
 or_else None other = other
@@ -177,16 +177,16 @@ or_else None other = other
 unfoldable pub read_hyphen : List ℕ → Option Word
 read_hyphen text = or_else (said_hyphen None (read_right text)) (with_left (read_partial text))
 
--- that word, or the bytes from the next blank on
+-- that word, or no comparator and the bytes from the next blank on
 abbrev pub or_thrown_away : Option Word → List ℕ → Word
 or_thrown_away (Some word) text = word
 or_thrown_away None text = (None, rest_of is_solid text)
 
--- the word with which a text begins
+-- the word that a text begins with
 unfoldable pub read_word : List ℕ → Word
 read_word text = or_thrown_away (or_else (read_hyphen text) (read_simple text)) text
 
--- a hyphen range without a left side, with which a text begins; or nothing, and the text
+-- a hyphen range without a left side that a text begins with; or no word, and the text
 abbrev pub leading_or_none : ReadPartial → List ℕ → Word
 leading_or_none None text = (None, text)
 leading_or_none (Some right) text = (Some (hyphen_comparator None right.0), right.1)

@@ -1,4 +1,4 @@
--- What is seen of what the private readers of words answer.
+-- What a contract sees of the results of the private readers of words.
 use Rattle.std.specs.Prelude.{◌≡◌, ◌≤◌, ℕ, Bool, true, false, List, [], ◌∷◌, Option, Some, None, if◌then◌else◌}
 use Rattle.std.specs.Borrow.{Bor}
 use Rattle.semver_cuts.specs.declared.cut.Cut.{Cut}
@@ -34,7 +34,7 @@ use Rattle.semver_sets.specs.declared.word.operator.Operator.TheVariants.{Above,
 
 -- ---- partials
 
--- a number where it is one
+-- the number if it is one, else none
 abbrev pub number_if : Bool → ℕ → Option ℕ
 number_if is_number number = if is_number then Some number else None
 
@@ -47,7 +47,7 @@ abbrev pub component_seen : Option (Component × Bor (List ℕ)) → Reading.Com
 component_seen None = None
 component_seen (Some r) = Some (component_value r.0, r.1.now)
 
--- no number above the limit, and an absent one is kept as 0
+-- the number is at most the limit, and an absent number is stored as 0
 pub record IsComponentSound (c : Component) : Type 0 where
   pub limit : c.number ≤ MAX_SAFE_INTEGER
   pub absent : c.is_number ≡ false → c.number ≡ 0
@@ -83,7 +83,7 @@ has_patch Minor = false
 has_patch Patch = true
 has_patch Nothing = false
 
--- a partial, with the extras that its text of extras begins with
+-- a partial, with the extras that its text of extras writes
 abbrev pub partial_seen : CodePartial → Partial
 partial_seen p = with_extras (number_if (has_major p.shape) p.major) (number_if (has_minor p.shape) p.minor)
     (number_if (has_patch p.shape) p.patch) (read_extras p.extras.now).0
@@ -93,7 +93,7 @@ abbrev pub read_partial_seen : Option (CodePartial × Bor (List ℕ)) → ReadPa
 read_partial_seen None = None
 read_partial_seen (Some r) = Some (partial_seen r.0, r.1.now)
 
--- no number above the limit, and an absent one is kept as 0
+-- no number is above the limit, and an absent number is stored as 0
 pub record IsSound (p : CodePartial) : Type 0 where
   pub major_limit : p.major ≤ MAX_SAFE_INTEGER
   pub minor_limit : p.minor ≤ MAX_SAFE_INTEGER
@@ -102,7 +102,7 @@ pub record IsSound (p : CodePartial) : Type 0 where
   pub no_minor : has_minor p.shape ≡ false → p.minor ≡ 0
   pub no_patch : has_patch p.shape ≡ false → p.patch ≡ 0
 
--- ---- what stands before the partial of a word
+-- ---- what is written before the partial of a word
 
 -- the operator
 abbrev pub operator_seen : CodeOperator → Operator
@@ -125,7 +125,7 @@ lead_seen Tilde = Reading.tilde_lead
 lead_seen TildeGreater = Reading.tilde_greater_lead
 lead_seen Caret = Reading.caret_lead
 
--- ---- ends as they are written
+-- ---- ends as words write them
 
 -- the version
 abbrev pub written_seen : WrittenVersion → VersionValue
@@ -145,7 +145,7 @@ least v = least_of v.major v.minor v.patch
 abbrev pub from_through : VersionValue → VersionValue → Comparator
 from_through v w = record { lower = Before v; upper = After w }
 
--- by the form, of the two versions
+-- the comparator of a form, for the two versions
 abbrev pub form_comparator : Form → VersionValue → VersionValue → Option Comparator
 form_comparator NothingForm v w = None
 form_comparator AtLeastForm v w = Some (at_least v)
@@ -174,7 +174,7 @@ right_end_seen e = if e.is_held then After (written_seen e.version) else Before 
 abbrev pub word_seen : WordEnds × Bor (List ℕ) → Word
 word_seen w = (ends_seen w.0, w.1.now)
 
--- or none
+-- the word, or none
 abbrev pub some_word_seen : Option (WordEnds × Bor (List ℕ)) → Option Word
 some_word_seen None = None
 some_word_seen (Some w) = Some (word_seen w)

@@ -1,4 +1,4 @@
-//! Sets with what finds a version among them.
+//! Sets with an index, by which a version is found among them.
 ghost use Rattle.std.specs.Prelude.{◌≡◌, ◌↔◌, ℕ, ◌+◌, ◌*◌, ◌≤◌, ◌<◌, IfOk, IsTrue, length};
 ghost use Rattle.std.specs.List.{AllByRecursion};
 ghost use Rattle.semver_cuts.specs.declared.cut.Cut.TheVariants.{Before};
@@ -21,10 +21,10 @@ use semver_cuts::algebra::{Merged, Places};
 use std::alloc::{AllocError, Global};
 use std::marker::Model;
 
-/// A list of sets with what finds a version among them: the places of what they are joined to, none where they stand
-/// apart, and which of them open which triples.
+/// A list of sets, with an index to find a version in it. The index has two parts: the merged spans of the sets, as
+/// places in the list, and for each triple of which a prerelease is at an end, the sets that have such an end.
 ///
-/// A contract sees the list.
+/// A contract sees the list alone.
 #[derive(Debug, Drop)]
 pub struct Searched {
     sets: Vec<Span<End>>,
@@ -49,15 +49,16 @@ impl Model for Searched {
 }
 
 impl Searched {
-    /// The list with what finds a version in it.
+    /// Returns the list with its index.
     ///
     /// # Errors
     ///
-    /// `AllocError` where memory is refused.
+    /// Returns `AllocError` if an allocation fails.
     ///
     /// # Memory
     ///
-    /// Takes the places and the triples that are opened.
+    /// Allocates the index. It has no places if the sets ascend and do not touch, and no triples if no end is a
+    /// prerelease.
     pub fn of(alloc: Global, sets: Vec<Span<End>>) -> Result<Searched, AllocError>
         ensures { IfOk result (λ searched. searched ≡ sets.items) }
     {
@@ -77,7 +78,7 @@ impl Searched {
         &self.sets
     }
 
-    // The list with what its sets are joined to.
+    // The list with its merged spans. `inline(always)`: it only passes two slices on.
     #[inline(always)]
     pub(crate) fn merged(&self) -> Merged<'_, '_, End>
         ensures { result.list ≡ self.now }
@@ -85,15 +86,15 @@ impl Searched {
         Merged::with(&self.sets, &self.places)
     }
 
-    /// A copy of the list, and of what finds a version in it.
+    /// Returns a copy of the list and its index.
     ///
     /// # Errors
     ///
-    /// `AllocError` where memory is refused.
+    /// Returns `AllocError` if an allocation fails.
     ///
     /// # Memory
     ///
-    /// Takes as much as the list does.
+    /// As much as the list and its index.
     pub fn copy(&self) -> Result<Searched, AllocError>
         requires { AllByRecursion IsRangeSet self.now }
         ensures { IfOk result (λ copy. copy ≡ self.now) }
@@ -108,8 +109,8 @@ impl Searched {
         })
     }
 
-    // Whether one of the sets admits a version: a release is looked for among the merged spans, and a prerelease in the
-    // sets with an end that opens its triple.
+    // Returns `true` if one of the sets admits the version. Looks for a release among the merged spans, and for a
+    // prerelease in the sets with an end that is a prerelease of its triple. `inline(never)`: see `set_list.rt`.
     #[inline(never)]
     pub(crate) fn admits<V: Asked, C: Counts>(&self, version: &V, comparisons: &mut C) -> bool
         ensures answer { IsTrue result ↔ RangeAdmits self.now (V.asked version.now) }
@@ -130,8 +131,8 @@ impl Searched {
     }
 }
 
-// Whether a version lies in one of the spans, found by halving: among the merged spans it lies in the last that begins
-// before it, or in none.
+// Returns `true` if the version lies in one of the spans. A binary search finds the last merged span that begins below
+// the version: it lies in that one, or in none.
 fn is_in_some<V: Asked, C: Counts>(
     spans: &Merged<'_, '_, End>,
     version: &V,
@@ -161,7 +162,7 @@ fn is_in_some<V: Asked, C: Counts>(
     !is_begun(upper, version, comparisons)
 }
 
-// Whether a version lies in a set at one of the places.
+// Returns `true` if the version lies in one of the sets at these places.
 fn is_in_opened<V: Asked, C: Counts>(
     sets: &[Span<End>],
     openings: &[Opening],

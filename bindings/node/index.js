@@ -17,7 +17,7 @@ const LONGEST_VERSION = 256;
 const REFUSED = 0;
 const HAS_MORE = 2;
 
-// How many ranges the native part keeps, at most `PLACES` of kept.c, and the greatest length of a text that is kept.
+// How many ranges the native part keeps, at most `PLACES` of src/binding.h, and the greatest length of a text that is kept.
 const PLACES = 512;
 const LONGEST_KEPT = 128;
 

@@ -140,6 +140,11 @@ describe('a SemVer or a Range stands for its text', () => {
         assert.strictEqual(semver.maxSatisfying(['1.2.3-rc.3', version], range), version);
         assert.deepStrictEqual(semver.sort([version, '1.0.0', '1.2.3-rc.4']), ['1.0.0', '1.2.3-rc.4', version]);
     });
+    test('equal versions stay in the order in which they stood', () => {
+        const equal = ['v1.0.0', '1.0.0', ' 1.0.0', '01.0.0'];
+        assert.deepStrictEqual(semver.sort(['2.0.0', ...equal, '0.1.0']), ['0.1.0', ...equal, '2.0.0']);
+        assert.deepStrictEqual(semver.rsort(['0.1.0', ...equal, '2.0.0']), ['2.0.0', ...equal, '0.1.0']);
+    });
     test('ranges', () => {
         assert.strictEqual(new semver.Range(range), range);
         assert.strictEqual(semver.validRange(range), range.range);

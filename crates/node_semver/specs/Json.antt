@@ -37,7 +37,7 @@ abbrev pub json_error_value : JsonError → Option (Refusal × Option IntFault)
 json_error_value NotAString = None
 json_error_value (Semver e) = Some (error_value e)
 
--- the text that a JSON error prints: `expected a string`, or that of the error inside, `Failed to parse version.` for `1.2`
+-- the text that a JSON error prints: `expected a string`, or that of the error inside: `Failed to parse version.`
 abbrev pub json_error_text : JsonError → Option (List ℕ)
 json_error_text NotAString = Some (codes "expected a string")
 json_error_text (Semver e) = kind_text (error_kind_of e)

@@ -48,6 +48,7 @@ impl Comparisons {
 impl Counts for Comparisons {
     ghost count = { λ c. c };
 
+    // `inline(always)`: there is nothing to do when the program runs.
     #[inline(always)]
     fn add_one(&mut self) {
         self.tally = self.tally.next();

@@ -77,6 +77,7 @@ impl Model for End {
 
 impl End {
     /// Returns the release with this triple: `1.2.3`. Does not allocate.
+    // `inline(always)` here and below: a few stores, or one test of the extras.
     #[inline(always)]
     pub fn release(major: u64, minor: u64, patch: u64) -> End
         ensures { result ≡ Versions.release major minor patch }

@@ -36,6 +36,7 @@ pub enum Unread {
 /// # Memory
 ///
 /// Allocates the identifiers of the set's ends.
+// `inline(always)`: it has one caller, and its set is built in the place of that caller's result.
 #[inline(always)]
 pub fn read_only_set(alloc: Global, text: &[u8]) -> Result<Span<End>, Unread>
     ensures set { IfOk result (λ set. AreSetsOfText text.now (set ∷ [])) }

@@ -15,6 +15,7 @@ impl Model for Tally {
 }
 
 impl Tally {
+    // A tally of 0. `inline(always)`: there is nothing to do when the program runs.
     #[inline(always)]
     pub(crate) fn zero() -> Tally
         ensures { result.count ≡ 0 }
@@ -22,6 +23,7 @@ impl Tally {
         Tally {}
     }
 
+    // The next tally. `inline(always)`: as above.
     #[inline(always)]
     pub(crate) fn next(&self) -> Tally
         ensures { result.count ≡ self.now.count + 1 }

@@ -127,6 +127,7 @@ fn after_triple(
     version_after_triple(alloc, text, triple.0, triple.1, triple.2, rest)
 }
 
+// `inline(never)`: see `after_triple`.
 #[inline(never)]
 fn version_after_triple(
     alloc: Global,
@@ -148,6 +149,7 @@ fn version_after_triple(
     }
 }
 
+// `inline(always)`: the fault stays in registers until the error is built.
 #[inline(always)]
 fn whole_after_triple<'a>(
     alloc: Global,
@@ -169,6 +171,7 @@ fn whole_after_triple<'a>(
 }
 
 // The same for a text of which nothing has been read.
+// `inline(always)`: see `after_triple`.
 #[inline(always)]
 fn from_start(alloc: Global, text: &str) -> Result<Version, SemverError>
     ensures found { IfOk result (λ v. IsVersionText text.now v) }
@@ -179,6 +182,7 @@ fn from_start(alloc: Global, text: &str) -> Result<Version, SemverError>
     version_of_text(alloc, text)
 }
 
+// `inline(never)`: see `after_triple`.
 #[inline(never)]
 fn version_of_text(alloc: Global, text: &str) -> Result<Version, SemverError>
     ensures found { IfOk result (λ v. IsVersionText text.now v) }
@@ -192,6 +196,7 @@ fn version_of_text(alloc: Global, text: &str) -> Result<Version, SemverError>
     }
 }
 
+// `inline(always)`: the fault stays in registers until the error is built.
 #[inline(always)]
 fn whole(alloc: Global, text: &[u8]) -> Result<Version, Fault>
     ensures found { IfOk result (λ v. IsVersionText text.now v) }
@@ -226,6 +231,7 @@ fn refusal(alloc: Global, text: &str, fault: Fault) -> SemverError
     SemverError::new(alloc, text, text.len().saturating_sub(left), kind)
 }
 
+// `inline(always)`: see `after_triple`.
 #[inline(always)]
 fn refused(alloc: Global, text: &str, fault: Fault) -> SemverError
     requires { IsMemoryOr text.now fault }

@@ -76,6 +76,7 @@ impl End {
         }
     }
 
+    // The same if one of the two has lists. `inline(never)`: few ends have.
     #[inline(never)]
     fn cmp_lists(&self, other: &End) -> Ordering
         ensures { result ≡ prerelease_cmp self.now.pre_release other.now.pre_release }
@@ -89,6 +90,7 @@ impl End {
 
     /// Returns the order of this end and the release of its triple. `Less` if the end is a prerelease, and else
     /// `Equal`.
+    // `inline(always)`: one test.
     #[inline(always)]
     pub fn cmp_release(&self) -> Ordering
         ensures { result ≡ prerelease_cmp self.now.pre_release [] }
@@ -101,6 +103,7 @@ impl End {
     }
 
     /// Returns the order of this end and the version of its triple that has this prerelease.
+    // `inline(never)`: few comparisons reach the prereleases.
     #[inline(never)]
     pub fn cmp_pre_release(&self, identifiers: &[Identifier]) -> Ordering
         ensures { result ≡ prerelease_cmp self.now.pre_release (values_of identifiers.now) }

@@ -77,6 +77,7 @@ pub(crate) fn skip_extras(text: &[u8]) -> &[u8]
     }
 }
 
+// `inline(never)`: most words have no extras.
 #[inline(never)]
 #[tactic(auto, unfolding(crate::specs::Private::Reading::read_extras))]
 fn skip_some_extras(text: &[u8]) -> &[u8]

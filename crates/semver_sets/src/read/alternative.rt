@@ -109,6 +109,7 @@ fn merge_word<'a>(
 }
 
 // Merges the comparator of a word, if it gives one.
+// `inline(always)`: the ends of a word never leave the stack of `merge_word`.
 #[inline(always)]
 fn keep(alloc: Global, merged: &mut Merged, ends: WordEnds) -> Result<(), AllocError>
     ensures { OnOk result (IsOneMerged merged.old (ends_seen ends.entry) merged.new) }
@@ -120,6 +121,7 @@ fn keep(alloc: Global, merged: &mut Merged, ends: WordEnds) -> Result<(), AllocE
 }
 
 // The hyphen range without a left side that a text can begin with: ` - 3`
+// `inline(always)`: it has one caller.
 #[inline(always)]
 fn skip_leading_hyphen(text: &[u8]) -> (WordEnds, &[u8])
     ensures { word_seen result ≡ leading_or_none (read_right text.now) text.now }

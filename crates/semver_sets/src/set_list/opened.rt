@@ -114,6 +114,7 @@ fn opened_triple(end: &End) -> Option<Triple>
     }
 }
 
+// `inline(always)`: one test.
 #[inline(always)]
 fn is_same(one: Triple, other: Triple) -> bool
     ensures { result ≡ same_triples one other }

@@ -71,6 +71,7 @@ impl Searched {
         })
     }
 
+    // The list. `inline(always)`: it only passes a slice on.
     #[inline(always)]
     pub(crate) fn as_slice(&self) -> &[Span<End>]
         ensures { result.now ≡ self.now }

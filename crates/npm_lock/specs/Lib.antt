@@ -6,3 +6,4 @@ pub mod FoundValue  -- what is seen of a package that was found
 pub mod Asked  -- what a package depends on
 pub mod RangeText  -- which specs are ranges
 pub mod Verdict  -- whether a version is what a spec asks for
+pub mod Outcomes  -- what is wrong with a dependency, and with the version of Node

@@ -7,6 +7,7 @@ mod fault;
 mod folder;
 mod lock_file;
 mod names;
+mod outcome;
 mod place;
 mod problem;
 mod range_text;

@@ -1,4 +1,5 @@
 //! What is wrong with an installed package, and its JSON object.
+use crate::outcome::Outcome;
 use serde_json::{Map, Value, put};
 use std::alloc::{AllocError, Global};
 
@@ -102,4 +103,22 @@ pub struct Problems {
     pub dependencies: usize,
     /// How many of these were found, and have a spec that is no range.
     pub unchecked: usize,
+}
+
+impl Problems {
+    /// Adds what is said of one dependency.
+    pub(crate) fn add(&mut self, outcome: Outcome) -> Result<(), AllocError> {
+        let Outcome {
+            problem,
+            is_unchecked,
+        } = outcome;
+        self.dependencies = self.dependencies.saturating_add(1);
+        if is_unchecked {
+            self.unchecked = self.unchecked.saturating_add(1);
+        }
+        if let Some(problem) = problem {
+            self.list.push(problem)?;
+        }
+        Ok(())
+    }
 }

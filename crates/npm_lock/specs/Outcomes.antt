@@ -1,0 +1,108 @@
+-- What is wrong with a dependency, and with the version of Node: npm's "npm ls" and "package.json", "engines".
+use Rattle.std.specs.Prelude.{◌≡◌, ℕ, List, Bool, true, false, Option, Some, None, option_and_then, option_map, string_bytes, codes}
+use Rattle.serde_json.specs.Data.{Data}
+use Rattle.serde_json.specs.Find.{as_str, get}
+use Rattle.semver_sets.specs.Print.{version_text}
+use Rattle.semver_sets.specs.Version.{VersionValue}
+use Rattle.npm_lock.specs.declared.problem.Kind.{Kind}
+use Rattle.npm_lock.specs.declared.problem.Kind.TheVariants.{Engine, Invalid, Missing, PeerLocal}
+use Rattle.npm_lock.specs.declared.problem.Problem.{Problem}
+use Rattle.npm_lock.specs.declared.verdict.Verdict.TheVariants as Verdicts
+use Rattle.npm_lock.specs.Asked.{AskedValue}
+use Rattle.npm_lock.specs.Packages.{IsFound, IsFoundIn, Package}
+use Rattle.npm_lock.specs.Verdict.{IsAdmittedBy, IsVerdict}
+
+-- a problem: the package in the folder `from` asks for the name by this spec, and the package in `to` was found
+pub record ProblemValue : Type 0 where
+  pub kind : Kind
+  pub from : List ℕ
+  pub name : List ℕ
+  pub spec : List ℕ
+  pub to : Option (List ℕ)
+  pub version : Option (List ℕ)
+
+-- what is seen of a problem
+abbrev pub problem_value : Problem → ProblemValue
+problem_value problem = record {
+  kind = problem.kind;
+  from = string_bytes problem.from;
+  name = string_bytes problem.name;
+  spec = string_bytes problem.spec;
+  to = option_map string_bytes problem.to;
+  version = option_map string_bytes problem.version;
+}
+
+-- the version of a package, if it has one
+abbrev pub version_of : (member : Data) → Option (List ℕ)
+version_of member = option_and_then as_str (get (codes "version") member)
+
+-- ---- dependencies
+
+abbrev pub missing_problem : (folder name spec : List ℕ) → ProblemValue
+missing_problem folder name spec =
+    record { kind = Missing; from = folder; name = name; spec = spec; to = None; version = None }
+
+abbrev pub found_problem : Kind → (folder name spec : List ℕ) → Package → ProblemValue
+found_problem kind folder name spec found = record {
+  kind = kind;
+  from = folder;
+  name = name;
+  spec = spec;
+  to = Some found.folder;
+  version = version_of found.member;
+}
+
+-- a peer of an installed package that stands in the `node_modules` of that very package
+pub record IsLocalPeer (packages : Data) (folder : List ℕ) (is_installed : Bool) (name : List ℕ) (asked : AskedValue)
+    (package_found : Package) : Type 0 where
+  pub peer : asked.is_peer ≡ true
+  pub installed : is_installed ≡ true
+  pub own : IsFoundIn packages name folder package_found
+
+-- the problem of a dependency of the package in this folder, or none
+pub data IsOutcome (packages : Data) (folder : List ℕ) (is_installed : Bool) (name : List ℕ) (asked : AskedValue)
+    : Option ProblemValue → Type 0 where
+  absent : IsFound packages name folder None → asked.is_needed ≡ false
+      → IsOutcome packages folder is_installed name asked None
+  missing : IsFound packages name folder None → asked.is_needed ≡ true
+      → IsOutcome packages folder is_installed name asked (Some (missing_problem folder name asked.spec))
+  local_peer : (found : Package) → IsFound packages name folder (Some found)
+      → IsLocalPeer packages folder is_installed name asked found
+      → IsOutcome packages folder is_installed name asked
+      (Some (found_problem PeerLocal folder name asked.spec found))
+  invalid : (found : Package) → IsFound packages name folder (Some found)
+      → ¬ IsLocalPeer packages folder is_installed name asked found
+      → IsVerdict (version_of found.member) asked.spec Verdicts.Invalid
+      → IsOutcome packages folder is_installed name asked (Some (found_problem Invalid folder name asked.spec found))
+  valid : (found : Package) → IsFound packages name folder (Some found)
+      → ¬ IsLocalPeer packages folder is_installed name asked found
+      → IsVerdict (version_of found.member) asked.spec Verdicts.Valid
+      → IsOutcome packages folder is_installed name asked None
+  unchecked : (found : Package) → IsFound packages name folder (Some found)
+      → ¬ IsLocalPeer packages folder is_installed name asked found
+      → IsVerdict (version_of found.member) asked.spec Verdicts.Unchecked
+      → IsOutcome packages folder is_installed name asked None
+
+-- ---- the version of Node
+
+-- what a package says of Node
+abbrev pub engine_of : (member : Data) → Option (List ℕ)
+engine_of member = option_and_then as_str (option_and_then (get (codes "node")) (get (codes "engines") member))
+
+abbrev pub engine_problem : (folder spec : List ℕ) → VersionValue → ProblemValue
+engine_problem folder spec node = record {
+  kind = Engine;
+  from = folder;
+  name = codes "node";
+  spec = spec;
+  to = None;
+  version = Some (version_text node);
+}
+
+-- the problem of the package in this folder with a version of Node, or none
+pub data IsEngineOutcome (node : VersionValue) (folder : List ℕ) (member : Data) : Option ProblemValue → Type 0 where
+  unsaid : engine_of member ≡ None → IsEngineOutcome node folder member None
+  admitted : (spec : List ℕ) → engine_of member ≡ Some spec → IsAdmittedBy spec node
+      → IsEngineOutcome node folder member None
+  engine : (spec : List ℕ) → engine_of member ≡ Some spec → ¬ IsAdmittedBy spec node
+      → IsEngineOutcome node folder member (Some (engine_problem folder spec node))

@@ -1,0 +1,33 @@
+//! Why a lock file was not checked.
+use crate::fault::Fault;
+use std::alloc::{AllocError, AllocFailed};
+use thiserror::Error;
+
+/// Why a lock file was not checked.
+#[derive(Debug, Drop, PartialEq, Eq, Error)]
+pub enum CheckError {
+    /// The value is no lock file that is read here.
+    #[error("{0}")]
+    Refused(Fault),
+    /// An allocation failed.
+    #[error("out of memory")]
+    Memory,
+}
+
+impl From<Fault> for CheckError {
+    fn from(fault: Fault) -> CheckError {
+        CheckError::Refused(fault)
+    }
+}
+
+impl From<AllocError> for CheckError {
+    fn from(_error: AllocError) -> CheckError {
+        CheckError::Memory
+    }
+}
+
+impl<T: Drop> From<AllocFailed<T>> for CheckError {
+    fn from(_error: AllocFailed<T>) -> CheckError {
+        CheckError::Memory
+    }
+}

@@ -1,0 +1,31 @@
+//! Folders of packages, as the keys of a lock file write them: `node_modules/a`, and `""` for the root.
+ghost use Rattle.std.specs.Prelude.{◌≡◌, ◌<◌, ◌↔◌, [], length, IsTrue, IfSome, IfNone};
+ghost use Rattle.npm_lock.specs.Folders.{IsAbove, IsInstalled};
+ghost use Rattle.npm_lock.specs.Folders as Folders;
+
+/// The folder above, or `None` for the root.
+pub(crate) fn above(folder: &str) -> Option<&str>
+    ensures above { IfSome result (λ above. IsAbove folder.now above.now) }
+    ensures shorter { IfSome result (λ above. length above.now < length folder.now) }
+    ensures root { IfNone result (folder.now ≡ []) }
+{
+    match folder.rfind('/') {
+        Some(at) => Some(&folder[..at]),
+        None if folder.is_empty() => None,
+        None => Some(""),
+    }
+}
+
+/// Returns `true` if the folder is a `node_modules` itself, which holds packages and is none.
+pub(crate) fn is_modules(folder: &str) -> bool
+    ensures { result ≡ Folders.is_modules folder.now }
+{
+    folder == "node_modules" || folder.ends_with("/node_modules")
+}
+
+/// Returns `true` if the folder lies inside some `node_modules`.
+pub(crate) fn is_installed(folder: &str) -> bool
+    ensures { IsTrue result ↔ IsInstalled folder.now }
+{
+    folder.starts_with("node_modules/") || folder.contains("/node_modules/")
+}

@@ -1,0 +1,124 @@
+//! What is wrong with an installed package, and its JSON object.
+use crate::outcome::Outcome;
+use serde_json::{Map, Value, put};
+use std::alloc::{AllocError, Global};
+
+/// What is wrong.
+#[derive(Clone, Copy, Debug, PartialEq, Eq, Drop)]
+pub enum Kind {
+    /// A dependency is found nowhere, and is not optional.
+    Missing,
+    /// The found version does not satisfy the range.
+    Invalid,
+    /// A peer of an installed package stands in that package's own `node_modules`.
+    PeerLocal,
+    /// The version of Node does not satisfy `engines.node`.
+    Engine,
+}
+
+impl Kind {
+    /// The word for it, as the JSON object has it.
+    pub fn as_str(self) -> &'static str {
+        match self {
+            Kind::Missing => "missing",
+            Kind::Invalid => "invalid",
+            Kind::PeerLocal => "peer local",
+            Kind::Engine => "engine",
+        }
+    }
+}
+
+/// One problem: the package in the folder `from` asks for `name`.
+#[derive(Debug, PartialEq, Eq, Drop)]
+pub struct Problem {
+    pub kind: Kind,
+    /// The folder of the package that asks, `""` for the root.
+    pub from: String,
+    /// The name of the dependency, or `node`.
+    pub name: String,
+    /// What is asked for, as it is written.
+    pub spec: String,
+    /// The folder of the package that was found.
+    pub to: Option<String>,
+    /// The version of that package, or the asked version of Node.
+    pub version: Option<String>,
+}
+
+impl Problem {
+    /// The problem as a JSON object, whose members are in the order of their names.
+    pub fn to_json(&self, alloc: Global) -> Result<Value, AllocError> {
+        let mut members = Map::new(alloc);
+        put(
+            &mut members,
+            alloc,
+            "from",
+            text(alloc, self.from.as_str())?,
+        )?;
+        put(
+            &mut members,
+            alloc,
+            "name",
+            text(alloc, self.name.as_str())?,
+        )?;
+        put(
+            &mut members,
+            alloc,
+            "problem",
+            text(alloc, self.kind.as_str())?,
+        )?;
+        put(
+            &mut members,
+            alloc,
+            "spec",
+            text(alloc, self.spec.as_str())?,
+        )?;
+        if let Some(to) = &self.to {
+            put(&mut members, alloc, "to", text(alloc, to.as_str())?)?;
+        }
+        if let Some(version) = &self.version {
+            put(
+                &mut members,
+                alloc,
+                "version",
+                text(alloc, version.as_str())?,
+            )?;
+        }
+        Ok(Value::Object(members))
+    }
+}
+
+/// A text as a JSON string.
+fn text(alloc: Global, text: &str) -> Result<Value, AllocError> {
+    Ok(Value::String(String::from_str(alloc, text)?))
+}
+
+/// The problems of a lock file, and what was counted.
+#[derive(Debug, PartialEq, Eq, Drop)]
+pub struct Problems {
+    /// Packages as their folders sort by bytes; of a package first `node`, and then its dependencies by name.
+    pub list: Vec<Problem>,
+    /// How many packages there are. A link is none.
+    pub packages: usize,
+    /// How many dependencies they have.
+    pub dependencies: usize,
+    /// How many of these were found, and have a spec that is no range.
+    pub unchecked: usize,
+}
+
+impl Problems {
+    /// Adds what is said of one dependency.
+    pub(crate) fn add(&mut self, outcome: Outcome) -> Result<(), AllocError> {
+        let Outcome {
+            problem,
+            is_unchecked,
+        } = outcome;
+        self.dependencies = self.dependencies.saturating_add(1);
+        if is_unchecked {
+            self.unchecked = self.unchecked.saturating_add(1);
+        }
+        if let Some(problem) = problem {
+            self.list.push(problem)?;
+        }
+        Ok(())
+    }
+}

@@ -1,0 +1,63 @@
+//! Which specs are ranges.
+ghost use Rattle.std.specs.Prelude.{◌≡◌, option_map};
+ghost use Rattle.std.specs.List.{list_any};
+ghost use Rattle.npm_lock.specs.RangeText.{is_path_byte, range_of_alias};
+ghost use Rattle.npm_lock.specs.RangeText as RangeText;
+
+/// The text that is a range or a tag, or `None` for any other spec: a URL, git, a file, a folder.
+///
+/// What stands after `npm:NAME@` counts, and `*` if nothing does: `npm:@s/a@^1` is `^1`, and `npm:@s/a` is `*`.
+pub(crate) fn range_text(spec: &str) -> Option<&str>
+    ensures { option_map (λ text. text.now) result ≡ RangeText.range_text spec.now }
+{
+    let text = match spec.strip_prefix("npm:") {
+        Some(alias) => alias_range(alias),
+        None => spec,
+    };
+    if is_path(text) { None } else { Some(text) }
+}
+
+/// What stands after the `@` of `NAME@RANGE`. A scope's `@` stands before the name.
+fn alias_range(alias: &str) -> &str
+    ensures { result.now ≡ range_of_alias alias.now }
+{
+    let name = alias.strip_prefix('@').unwrap_or(alias);
+    match name.split_once('@') {
+        Some((_, range)) => range,
+        None => "*",
+    }
+}
+
+/// Returns `true` if the text has a `/` or a `:`, and so is neither a range nor a tag.
+fn is_path(text: &str) -> bool
+    ensures { result ≡ list_any is_path_byte text.now }
+{
+    for byte in text.as_bytes() {
+        if *byte == b'/' || *byte == b':' {
+            return true;
+        }
+    }
+    false
+}
+
+/// Returns `true` if the text has letters, digits and `-_.!~*'()` alone.
+pub(crate) fn is_tag(text: &str) -> bool
+    ensures { result ≡ RangeText.is_tag text.now }
+{
+    for byte in text.as_bytes() {
+        if !is_tag_byte(*byte) {
+            return false;
+        }
+    }
+    true
+}
+
+fn is_tag_byte(byte: u8) -> bool
+    ensures { result ≡ RangeText.is_tag_byte byte }
+{
+    byte.is_ascii_alphanumeric()
+        || matches!(
+            byte,
+            b'-' | b'_' | b'.' | b'!' | b'~' | b'*' | b'\'' | b'(' | b')'
+        )
+}

@@ -1,0 +1,166 @@
+//! Tests of the check: texts of lock files, and the problems of each.
+use crate::{CheckError, Fault, Kind, Problem, check};
+use node_semver::Version;
+use serde_json::Value;
+use std::alloc::Global;
+use std::test::Fail;
+
+// What each package is called in the rows: `packages` of a lock file, and each problem as its kind, the folder of the
+// package that asks, and the name.
+const ROWS: [(&str, &[(Kind, &str, &str)]); 16] = [
+    (r#""": {}"#, &[]),
+    // A dependency, missing and not.
+    (
+        r#""": {"dependencies": {"a": "^1"}}"#,
+        &[(Kind::Missing, "", "a")],
+    ),
+    (
+        r#""": {"dependencies": {"a": "^1"}}, "node_modules/a": {"version": "1.2.0"}"#,
+        &[],
+    ),
+    (
+        r#""": {"dependencies": {"a": "^1"}}, "node_modules/a": {"version": "2.0.0"}"#,
+        &[(Kind::Invalid, "", "a")],
+    ),
+    // No version, and any version.
+    (
+        r#""": {"dependencies": {"a": "^1"}}, "node_modules/a": {}"#,
+        &[(Kind::Invalid, "", "a")],
+    ),
+    (
+        r#""": {"dependencies": {"a": "*", "b": ""}}, "node_modules/a": {"version": "1.0.0-a"}, "node_modules/b": {}"#,
+        &[],
+    ),
+    // Optional dependencies, and the later group of one name.
+    (
+        r#""": {"optionalDependencies": {"a": "1"}, "dependencies": {"a": "2"}}"#,
+        &[],
+    ),
+    (
+        r#""": {"optionalDependencies": {"a": "1"}}, "node_modules/a": {"version": "2.0.0"}"#,
+        &[(Kind::Invalid, "", "a")],
+    ),
+    // Peers, of which one is optional, and one stands in the folder of its own package.
+    (
+        r#""": {"peerDependencies": {"a": "1", "b": "1"}, "peerDependenciesMeta": {"a": {"optional": true}}}"#,
+        &[(Kind::Missing, "", "b")],
+    ),
+    (
+        r#""node_modules/a": {"peerDependencies": {"b": "1"}}, "node_modules/a/node_modules/b": {"version": "1.0.0"}"#,
+        &[(Kind::PeerLocal, "node_modules/a", "b")],
+    ),
+    // Development dependencies count for the root and workspaces.
+    (
+        r#""node_modules/a": {"devDependencies": {"b": "1"}}, "w": {"devDependencies": {"b": "1"}}"#,
+        &[(Kind::Missing, "w", "b")],
+    ),
+    // A link, and its target.
+    (
+        r#""": {"dependencies": {"w": "2"}}, "node_modules/w": {"link": true, "resolved": "p/w"}, "p/w": {"version": "1.0.0"}"#,
+        &[(Kind::Invalid, "", "w")],
+    ),
+    // A scope, nested: the nearest package counts.
+    (
+        r#""node_modules/@s/a": {"dependencies": {"@t/b": "1"}}, "node_modules/@s/a/node_modules/@t/b": {"version": "1.0.0"}, "node_modules/@t/b": {"version": "2.0.0"}"#,
+        &[],
+    ),
+    (
+        r#""node_modules/@s/a/node_modules/b": {"dependencies": {"c": "1"}}, "node_modules/@s/a/node_modules/c": {"version": "2.0.0"}, "node_modules/c": {"version": "1.0.0"}"#,
+        &[(Kind::Invalid, "node_modules/@s/a/node_modules/b", "c")],
+    ),
+    // Aliases.
+    (
+        r#""": {"dependencies": {"a": "npm:@s/b@^1", "b": "npm:c"}}, "node_modules/a": {"version": "2.0.0"}, "node_modules/b": {"version": "1.0.0"}"#,
+        &[(Kind::Invalid, "", "a")],
+    ),
+    // A tag and a URL are not checked, and a text that is neither a range nor a tag is invalid.
+    (
+        r#""": {"dependencies": {"a": "latest", "b": "github:b/b", "c": "= %"}}, "node_modules/a": {}, "node_modules/b": {}, "node_modules/c": {"version": "1.0.0"}"#,
+        &[(Kind::Invalid, "", "c")],
+    ),
+];
+
+#[test]
+fn finds_the_problems_of_each_row(rt: HostRuntime) -> Result<(), Fail> {
+    for (packages, problems) in ROWS {
+        let text = format!(in rt.alloc();
+            "{{\"lockfileVersion\": 3, \"packages\": {{{packages}}}}}"
+        )?;
+        let lock = Value::from_str(rt.alloc(), text.as_str())?;
+        let found = check(rt.alloc(), &lock, None)?;
+        assert!(rt; are_problems(found.list.as_slice(), problems), "{packages}");
+    }
+    Ok(())
+}
+
+fn are_problems(found: &[Problem], wanted: &[(Kind, &str, &str)]) -> bool {
+    found.len() == wanted.len()
+        && found
+            .iter()
+            .zip(wanted.iter())
+            .all(|pair| is_problem(pair.0, pair.1))
+}
+
+fn is_problem(found: &Problem, wanted: &(Kind, &str, &str)) -> bool {
+    found.kind == wanted.0 && found.from.as_str() == wanted.1 && found.name.as_str() == wanted.2
+}
+
+// The texts are no lock files, each for its fault.
+#[test]
+fn refuses_what_is_no_lock_file(rt: HostRuntime) -> Result<(), Fail> {
+    let rows = [
+        ("{}", Fault::Version),
+        (r#"{"lockfileVersion": 1, "packages": {}}"#, Fault::Version),
+        (r#"{"lockfileVersion": 2}"#, Fault::Packages),
+        (r#"{"lockfileVersion": 2, "packages": []}"#, Fault::Packages),
+        (
+            r#"{"lockfileVersion": 2, "packages": {"": 1}}"#,
+            Fault::Package,
+        ),
+        (
+            r#"{"lockfileVersion": 2, "packages": {"a": {"link": true}}}"#,
+            Fault::Link,
+        ),
+        (
+            r#"{"lockfileVersion": 2, "packages": {"a": {"link": true, "resolved": "b"}}}"#,
+            Fault::Link,
+        ),
+        (
+            r#"{"lockfileVersion": 2, "packages": {"": {"version": 1}}}"#,
+            Fault::PackageVersion,
+        ),
+        (
+            r#"{"lockfileVersion": 2, "packages": {"": {"dependencies": []}}}"#,
+            Fault::Dependencies,
+        ),
+        (
+            r#"{"lockfileVersion": 2, "packages": {"": {"dependencies": {"a": 1}}}}"#,
+            Fault::Spec,
+        ),
+    ];
+    for (text, fault) in rows {
+        let lock = Value::from_str(rt.alloc(), text)?;
+        assert!(rt;
+            check(rt.alloc(), &lock, None) == Err(CheckError::Refused(fault)),
+            "{text}"
+        );
+    }
+    Ok(())
+}
+
+#[test]
+fn asks_for_a_version_of_node(rt: HostRuntime) -> Result<(), Fail> {
+    let alloc = rt.alloc();
+    let text = r#"{"lockfileVersion": 3, "packages": {"": {"engines": {"node": ">=18"}},
+        "node_modules/a": {"version": "1.0.0", "engines": ["node >= 22"]},
+        "node_modules/b": {"version": "1.0.0", "engines": {"node": "foo"}}}}"#;
+    let lock = Value::from_str(alloc, text)?;
+    let found = check(alloc, &lock, Some(&Version::parse(alloc, "16.0.0")?))?;
+    let wanted = [
+        (Kind::Engine, "", "node"),
+        (Kind::Engine, "node_modules/b", "node"),
+    ];
+    assert!(rt; are_problems(found.list.as_slice(), &wanted));
+    assert!(rt; check(alloc, &lock, None)?.list.is_empty());
+    Ok(())
+}

@@ -1,0 +1,67 @@
+// SPDX-License-Identifier: Apache-2.0
+// Builds the native part with the node-gyp that npm ships. In a clone it first builds the C library of `../c`, and
+// copies it into `lib`; a package from `npm pack` has it there.
+//
+//     node build.js              builds build/Release/node_semver.node
+//     node build.js --library    builds and copies the library alone
+'use strict';
+
+const { spawnSync } = require('node:child_process');
+const fs = require('node:fs');
+const path = require('node:path');
+
+const parts = [
+    ['build/libnode_semver.a', 'libnode_semver.a'],
+    ['include/node_semver.h', 'node_semver.h'],
+];
+
+function run(command, words) {
+    const { status, error } = spawnSync(command, words, { cwd: __dirname, stdio: 'inherit' });
+    if (status !== 0) {
+        console.error(`build.js: ${command} ${words.join(' ')}: ${error ? error.message : `status ${status}`}`);
+        process.exit(1);
+    }
+}
+
+// The library, from the clone that this folder is in.
+function copyLibrary() {
+    const from = path.join(__dirname, '..', 'c');
+    if (fs.existsSync(path.join(from, 'Makefile'))) {
+        run('make', ['-C', from]);
+        fs.mkdirSync(path.join(__dirname, 'lib'), { recursive: true });
+        parts.forEach(([file, name]) => fs.copyFileSync(path.join(from, file), path.join(__dirname, 'lib', name)));
+    }
+    const missing = parts.find(([, name]) => !fs.existsSync(path.join(__dirname, 'lib', name)));
+    if (missing) {
+        console.error(`build.js: lib/${missing[1]} is missing, and there is no ../c to build it from`);
+        process.exit(1);
+    }
+}
+
+// npm tells its scripts where its node-gyp is. Else it stands in the npm beside Node.
+function findGyp() {
+    const prefix = path.join(path.dirname(fs.realpathSync(process.execPath)), '..');
+    const places = [
+        process.env.npm_config_node_gyp,
+        path.join(prefix, 'lib/node_modules/npm/node_modules/node-gyp/bin/node-gyp.js'),
+        path.join(prefix, 'share/nodejs/npm/node_modules/node-gyp/bin/node-gyp.js'),
+        path.join(prefix, 'share/nodejs/node-gyp/bin/node-gyp.js'),
+    ];
+    const found = places.find((place) => place && fs.existsSync(place));
+    if (!found) {
+        console.error('build.js: node-gyp is not found: install npm');
+        process.exit(1);
+    }
+    return found;
+}
+
+// Node's own headers, so that node-gyp needs no network. Without them node-gyp loads them.
+function headers() {
+    const prefix = path.join(path.dirname(fs.realpathSync(process.execPath)), '..');
+    return fs.existsSync(path.join(prefix, 'include/node/node_api.h')) ? [`--nodedir=${path.resolve(prefix)}`] : [];
+}
+
+copyLibrary();
+if (!process.argv.includes('--library')) {
+    run(process.execPath, [findGyp(), 'rebuild', '--silent', ...headers()]);
+}

@@ -1,0 +1,96 @@
+// SPDX-License-Identifier: Apache-2.0
+
+/** Accepted and without effect: texts are always read in loose mode. Another option throws a `TypeError`. */
+export interface Options {
+    loose?: boolean;
+    includePrerelease?: false;
+}
+
+type Loose = boolean | Options | null;
+
+/** A version, which nothing changes. */
+export class SemVer {
+    /** Throws a `TypeError` if the text is no version. */
+    constructor(version: string | SemVer, options?: Loose);
+    /** The text as it was passed. */
+    readonly raw: string;
+    readonly major: number;
+    readonly minor: number;
+    readonly patch: number;
+    readonly prerelease: ReadonlyArray<string | number>;
+    readonly build: ReadonlyArray<string>;
+    /** The version without its build. */
+    readonly version: string;
+    format(): string;
+    toString(): string;
+    compare(other: string | SemVer): -1 | 0 | 1;
+    compareMain(other: string | SemVer): -1 | 0 | 1;
+    comparePre(other: string | SemVer): -1 | 0 | 1;
+    compareBuild(other: string | SemVer): -1 | 0 | 1;
+}
+
+/** A range, which nothing changes. */
+export class Range {
+    /** Throws a `TypeError` if the text is no range. */
+    constructor(range: string | Range, options?: Loose);
+    /** The text as it was passed, with each run of white space as one blank. */
+    readonly raw: string;
+    /** The sets of the range, as `>=1.2.0 <2.0.0-0||>=3.0.0`. */
+    readonly range: string;
+    format(): string;
+    toString(): string;
+    test(version: string | SemVer | null | undefined): boolean;
+    intersects(range: Range, options?: Loose): boolean;
+}
+
+export type Operator = '===' | '!==' | '' | '=' | '==' | '!=' | '>' | '>=' | '<' | '<=';
+
+/** The version without its build, or null if the text is no version. */
+export function valid(version: string | SemVer | null | undefined, options?: Loose): string | null;
+/** The same of a text without the white space, `=` and `v` before it. */
+export function clean(version: string, options?: Loose): string | null;
+export function parse(version: string | SemVer | null | undefined, options?: Loose, throwErrors?: false): SemVer | null;
+export function parse(version: string | SemVer | null | undefined, options: Loose | undefined, throwErrors: true): SemVer;
+export function major(version: string | SemVer, options?: Loose): number;
+export function minor(version: string | SemVer, options?: Loose): number;
+export function patch(version: string | SemVer, options?: Loose): number;
+/** The identifiers of the prerelease, or null if there are none. */
+export function prerelease(version: string | SemVer | null | undefined, options?: Loose): Array<string | number> | null;
+
+/** The order of SemVer 2.0.0, section 11. The build is not looked at. */
+export function compare(one: string | SemVer, other: string | SemVer, options?: Loose): -1 | 0 | 1;
+export function rcompare(one: string | SemVer, other: string | SemVer, options?: Loose): -1 | 0 | 1;
+export function compareLoose(one: string | SemVer, other: string | SemVer): -1 | 0 | 1;
+/** The same order, and the builds where two versions are equal. */
+export function compareBuild(one: string | SemVer, other: string | SemVer, options?: Loose): -1 | 0 | 1;
+export function eq(one: string | SemVer, other: string | SemVer, options?: Loose): boolean;
+export function neq(one: string | SemVer, other: string | SemVer, options?: Loose): boolean;
+export function gt(one: string | SemVer, other: string | SemVer, options?: Loose): boolean;
+export function gte(one: string | SemVer, other: string | SemVer, options?: Loose): boolean;
+export function lt(one: string | SemVer, other: string | SemVer, options?: Loose): boolean;
+export function lte(one: string | SemVer, other: string | SemVer, options?: Loose): boolean;
+export function cmp(one: string | SemVer, operator: Operator, other: string | SemVer, options?: Loose): boolean;
+/** Sort in place by `compareBuild`, and return the list. */
+export function sort<T extends string | SemVer>(list: T[], options?: Loose): T[];
+export function rsort<T extends string | SemVer>(list: T[], options?: Loose): T[];
+
+/** Whether the version satisfies the range: false too if one of them is refused. */
+export function satisfies(version: string | SemVer | null | undefined, range: string | Range, options?: Loose): boolean;
+/** The greatest version that satisfies the range: of equal ones the first, or null. */
+export function maxSatisfying<T extends string | SemVer>(versions: readonly T[], range: string | Range, options?: Loose): T | null;
+export function minSatisfying<T extends string | SemVer>(versions: readonly T[], range: string | Range, options?: Loose): T | null;
+/** The least version that satisfies the range, or null if none does. */
+export function minVersion(range: string | Range, options?: Loose): SemVer | null;
+/** The range as it prints, or null if the text is no range. */
+export function validRange(range: string | Range | null | undefined, options?: Loose): string | null;
+/** Whether the two ranges have a place in the line of versions in common. */
+export function intersects(one: string | Range, other: string | Range, options?: Loose): boolean;
+/** Whether each version that satisfies `sub` satisfies `dom`. */
+export function subset(sub: string | Range, dom: string | Range, options?: Loose): boolean;
+
+/** The range of what both have, or null if they have nothing in common. */
+export function intersect(one: string | Range, other: string | Range, options?: Loose): Range | null;
+/** The range of what the first has and the second has not, or null if there is nothing. */
+export function difference(one: string | Range, other: string | Range, options?: Loose): Range | null;
+/** The least version that satisfies the first range and not the second, or null if there is none. */
+export function leastBeyond(one: string | Range, other: string | Range, options?: Loose): SemVer | null;

@@ -1,0 +1,123 @@
+/* SPDX-License-Identifier: Apache-2.0 */
+/*
+ * What the files of this folder share. `index.js` alone calls them, and gives them keys: what stands for a version or
+ * for a range. A key is a JavaScript string, or an external that holds a version or a range that no text writes, or the
+ * number of a place where a range is kept.
+ */
+#ifndef BINDING_H
+#define BINDING_H
+
+#include <node_api.h>
+#include <node_semver.h>
+
+/* What a reader of a key returns beside the library's own: an exception is pending. */
+#define THROWN 100u
+
+/* A string of JavaScript as UTF-8: in `room` if it fits, else in memory of its own. */
+struct text {
+    char *bytes;
+    size_t length;
+    char room[320];
+};
+
+/* A version or a range for the time of a call, which ends with `let_.._go`. `is_own` says that the call frees it. */
+struct version {
+    node_semver_version handle;
+    bool is_own;
+};
+
+struct range {
+    node_semver_range handle;
+    bool is_own;
+};
+
+/* ---- text.c ---- */
+
+/* Throws and returns NULL, for a call from JavaScript to return. */
+napi_value out_of_memory(napi_env env);
+napi_value failed(napi_env env, node_semver_status status);
+
+/* Returns false with an exception pending where the call has fewer arguments. */
+bool get_arguments(napi_env env, napi_callback_info info, size_t wanted, napi_value *arguments);
+
+/* Returns NODE_SEMVER_OK; NODE_SEMVER_REFUSED where the value is no string; or NODE_SEMVER_OUT_OF_MEMORY. */
+node_semver_status get_text(napi_env env, napi_value value, struct text *text);
+void free_text(struct text *text);
+
+/* Results for JavaScript. */
+napi_value of_bool(napi_env env, bool value);
+napi_value of_int(napi_env env, int32_t value);
+napi_value of_null(napi_env env);
+
+/* The print of a version or of a range as a string; NULL with an exception pending if memory runs out. */
+napi_value version_print(napi_env env, const node_semver_version *version);
+napi_value range_print(napi_env env, const node_semver_range *range);
+
+/* ---- keys.c ---- */
+
+/* Reads a key: NODE_SEMVER_OK, _REFUSED, _OUT_OF_MEMORY, or THROWN where it is no key. */
+node_semver_status get_version(napi_env env, napi_value key, struct version *version);
+void let_version_go(struct version *version);
+napi_value version_key(napi_env env, node_semver_version version);
+
+/* The key of a range may also be the number of a place where it is kept; an empty place is refused. */
+node_semver_status get_range(napi_env env, napi_value key, struct range *range);
+node_semver_status get_range_text(napi_env env, napi_value text, struct range *range);
+void let_range_go(struct range *range);
+napi_value range_key(napi_env env, node_semver_range range);
+
+/* An external for a range, which is freed when JavaScript has no use of the external. */
+napi_value held_range(napi_env env, node_semver_range range);
+
+/* ---- state.c ---- */
+
+#define PLACES 512u
+
+/* What an environment has for itself, since each worker thread has its own: the ranges that are kept, and the triple of
+ * the version that was read last, in an array of JavaScript that is as old as the environment. */
+struct state {
+    node_semver_range places[PLACES];
+    double *triple;
+    napi_ref array;
+};
+
+/* Makes the state, and puts its triple on the exports. */
+bool make_state(napi_env env, napi_value exports);
+struct state *state_of(napi_env env);
+
+/* ---- kept.c ---- */
+
+/* The range at a place. It stays there until the next call of `keep`. */
+node_semver_status kept_range(napi_env env, uint32_t number, struct range *range);
+
+/* keep(number, text): puts the range of a text at a place, and frees what was there. Where the text is refused, returns
+ * false and leaves the place empty. */
+napi_value keep(napi_env env, napi_callback_info info);
+
+/* ---- order.c ---- */
+
+/* -1, 0 or 1 by the versions, and where they compare as the same by the builds; `made` is false if memory runs out. */
+int32_t compare_with_builds(const node_semver_version *one, const node_semver_version *other, bool *made);
+
+/* order(keys, isDescending): the places of the keys in order, or the place of the first that is no version. */
+napi_value order(napi_env env, napi_callback_info info);
+
+/* ---- lists.c ---- */
+
+/* Versions that are read from an array of keys, the place of each, and whether the list frees it. What is no version is
+ * left out. A version of an external is freed with the external, which the array of keys keeps alive. */
+struct versions {
+    node_semver_version *handles;
+    uint32_t *places;
+    bool *are_own;
+    size_t count;
+};
+
+/* Where `is_each` is true, stops at the first key that is no version: its place is in `places[count]`. */
+node_semver_status get_versions(napi_env env, napi_value keys, bool is_each, struct versions *versions);
+void free_versions(struct versions *versions);
+
+/* best(keys, range, isGreatest): the place of the greatest or least version that satisfies the range, or -1. */
+napi_value best(napi_env env, napi_callback_info info);
+
+#endif

@@ -1,0 +1,171 @@
+/* SPDX-License-Identifier: Apache-2.0 */
+/* Keys: strings that are read as versions or ranges, and externals for what no text writes. */
+#include "binding.h"
+
+#include <stdlib.h>
+
+/* What an external of this package holds. Other packages make externals too; `index.js` passes none of theirs. */
+enum kind { VERSION = 0x5e3e0001, RANGE = 0x5e3e0002 };
+
+struct held {
+    enum kind kind;
+    node_semver_version version;
+    node_semver_range range;
+};
+
+static void free_held(napi_env env, void *data, void *hint) {
+    struct held *held = data;
+    (void)env;
+    (void)hint;
+    if (held->kind == VERSION) {
+        node_semver_version_free(held->version);
+    } else {
+        node_semver_range_free(held->range);
+    }
+    free(held);
+}
+
+/* An external that frees what it holds. What it could not take is freed at once. */
+static napi_value external_of(napi_env env, struct held holds) {
+    napi_value result = NULL;
+    struct held *held = malloc(sizeof *held);
+    if (held != NULL) {
+        *held = holds;
+        if (napi_create_external(env, held, free_held, NULL, &result) == napi_ok) {
+            return result;
+        }
+        free_held(env, held, NULL);
+    } else if (holds.kind == VERSION) {
+        node_semver_version_free(holds.version);
+    } else {
+        node_semver_range_free(holds.range);
+    }
+    return out_of_memory(env);
+}
+
+/* What the key holds, or NULL with an exception pending. */
+static const struct held *get_held(napi_env env, napi_value key, enum kind kind) {
+    void *data = NULL;
+    const struct held *held;
+    if (napi_get_value_external(env, key, &data) == napi_ok) {
+        held = data;
+        if (held->kind == kind) {
+            return held;
+        }
+    }
+    napi_throw_type_error(env, "ERR_INVALID_ARG_TYPE", kind == VERSION ? "no key of a version" : "no key of a range");
+    return NULL;
+}
+
+static node_semver_status read_version(const struct text *text, node_semver_version *version) {
+    node_semver_fault fault;
+    *version = (node_semver_version)NODE_SEMVER_EMPTY;
+    return node_semver_version_parse(text->bytes, text->length, version, &fault);
+}
+
+static node_semver_status get_held_version(napi_env env, napi_value key, struct version *version) {
+    const struct held *held = get_held(env, key, VERSION);
+    if (held == NULL) {
+        return THROWN;
+    }
+    *version = (struct version){.handle = held->version, .is_own = false};
+    return NODE_SEMVER_OK;
+}
+
+node_semver_status get_version(napi_env env, napi_value key, struct version *version) {
+    struct text text;
+    node_semver_status status = get_text(env, key, &text);
+    if (status == NODE_SEMVER_REFUSED) {
+        return get_held_version(env, key, version);
+    }
+    if (status == NODE_SEMVER_OK) {
+        version->is_own = true;
+        status = read_version(&text, &version->handle);
+        free_text(&text);
+    }
+    return status;
+}
+
+void let_version_go(struct version *version) {
+    if (version->is_own) {
+        node_semver_version_free(version->handle);
+    }
+}
+
+static node_semver_status read_range(const struct text *text, node_semver_range *range) {
+    node_semver_fault fault;
+    *range = (node_semver_range)NODE_SEMVER_EMPTY;
+    return node_semver_range_parse(text->bytes, text->length, range, &fault);
+}
+
+node_semver_status get_range_text(napi_env env, napi_value value, struct range *range) {
+    struct text text;
+    node_semver_status status = get_text(env, value, &text);
+    if (status == NODE_SEMVER_OK) {
+        range->is_own = true;
+        status = read_range(&text, &range->handle);
+        free_text(&text);
+    }
+    return status;
+}
+
+static node_semver_status get_held_range(napi_env env, napi_value key, struct range *range) {
+    const struct held *held = get_held(env, key, RANGE);
+    if (held == NULL) {
+        return THROWN;
+    }
+    *range = (struct range){.handle = held->range, .is_own = false};
+    return NODE_SEMVER_OK;
+}
+
+node_semver_status get_range(napi_env env, napi_value key, struct range *range) {
+    uint32_t number;
+    napi_valuetype type = napi_undefined;
+    if (napi_get_value_uint32(env, key, &number) == napi_ok) {
+        return kept_range(env, number, range);
+    }
+    napi_typeof(env, key, &type);
+    return type == napi_string ? get_range_text(env, key, range) : get_held_range(env, key, range);
+}
+
+void let_range_go(struct range *range) {
+    if (range->is_own) {
+        node_semver_range_free(range->handle);
+    }
+}
+
+/* Takes the version. Its print is its key where the print can be read again: it may be longer than a version text may
+ * be, or hold a number that is too large for one. */
+napi_value version_key(napi_env env, node_semver_version version) {
+    struct version again;
+    napi_value print = version_print(env, &version);
+    node_semver_status status = print == NULL ? THROWN : get_version(env, print, &again);
+    if (status == NODE_SEMVER_REFUSED) {
+        return external_of(env, (struct held){.kind = VERSION, .version = version});
+    }
+    if (status == NODE_SEMVER_OK) {
+        let_version_go(&again);
+    }
+    node_semver_version_free(version);
+    return status == NODE_SEMVER_OK ? print : failed(env, status);
+}
+
+/* Takes the range, in the same way. */
+napi_value range_key(napi_env env, node_semver_range range) {
+    struct range again;
+    napi_value print = range_print(env, &range);
+    node_semver_status status = print == NULL ? THROWN : get_range(env, print, &again);
+    bool is_same = status == NODE_SEMVER_OK && node_semver_range_equals(&range, &again.handle);
+    if (status == NODE_SEMVER_OK) {
+        let_range_go(&again);
+    }
+    if (status == NODE_SEMVER_REFUSED || (status == NODE_SEMVER_OK && !is_same)) {
+        return held_range(env, range);
+    }
+    node_semver_range_free(range);
+    return is_same ? print : failed(env, status);
+}
+
+napi_value held_range(napi_env env, node_semver_range range) {
+    return external_of(env, (struct held){.kind = RANGE, .range = range});
+}

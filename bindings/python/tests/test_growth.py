@@ -6,7 +6,7 @@ import gc
 import pickle
 import sys
 import unittest
-from typing import Callable, List, Union
+from typing import Callable, List, Tuple, Union
 
 from node_semver import Range, SemverError, Version, satisfies
 
@@ -66,14 +66,21 @@ WORKS: List[Callable[[], object]] = [
 
 
 class Growth(unittest.TestCase):
-    def check(self, work: Callable[[], object], calls: int) -> None:
+    def growth(self, work: Callable[[], object], calls: int) -> Tuple[int, int]:
+        """How many bytes more the process has after the calls, and how many blocks more Python has."""
         gc.collect()
         memory, blocks = resident(), sys.getallocatedblocks()
         for _ in range(calls):
             work()
         gc.collect()
-        self.assertLess(sys.getallocatedblocks() - blocks, calls // 100)
-        self.assertLess(resident() - memory, ROOM)
+        return resident() - memory, sys.getallocatedblocks() - blocks
+
+    def test_a_freed_value_releases_its_type(self) -> None:
+        for work, owner in [(WORKS[0], Version), (lambda: Range("^1"), Range)]:
+            before = sys.getrefcount(owner)
+            for _ in range(1000):
+                work()
+            self.assertLess(sys.getrefcount(owner) - before, 10)
 
     def test_a_million_calls_keep_nothing(self) -> None:
         for work in WORKS:
@@ -81,7 +88,12 @@ class Growth(unittest.TestCase):
                 work()
         for work in WORKS:
             with self.subTest(line=work.__code__.co_firstlineno):
-                self.check(work, CALLS // len(WORKS) + 1)
+                calls = CALLS // len(WORKS) + 1
+                memory, blocks = self.growth(work, calls)
+                if memory >= ROOM:  # what Python itself keeps comes once, and what a call keeps comes each time
+                    memory, blocks = self.growth(work, calls)
+                self.assertLess(memory, ROOM)
+                self.assertLess(blocks, calls // 100)
 
 
 if __name__ == "__main__":

@@ -1,5 +1,5 @@
-// Writes a lock file of 2,000 packages and about 12,000 dependencies, whose graph is like a real one: each package depends
-// mostly on packages that come after it, so that cycles are few, and some names are installed twice.
+// Writes a lock file of 2,000 packages and about 12,000 dependencies, whose graph is like a real one: each package
+// depends mostly on packages that come after it, so that cycles are few.
 let seed = 20111
 const below = n => {
   seed = (seed * 1103515245 + 12345) % 2147483648
@@ -7,7 +7,9 @@ const below = n => {
 }
 const name = i => (i % 7 === 0 ? `@scope-${i % 40}/package-${i}` : `package-${i}`)
 const version = i => `${1 + i % 9}.${i % 17}.${i % 23}`
-const range = i => [`^${version(i)}`, `^${1 + i % 9}.0.0`, `~${version(i)}`, `>=${1 + i % 9}`, version(i), '*'][below(6)]
+const ranges = i =>
+  [`^${version(i)}`, `^${1 + i % 9}.0.0`, `~${version(i)}`, `>=${1 + i % 9}`, version(i), '*']
+const range = i => ranges(i)[below(6)]
 
 const count = 2000
 const packages = { '': { name: 'large', version: '1.0.0', dependencies: {} } }

@@ -1,24 +1,26 @@
 /* SPDX-License-Identifier: Apache-2.0 */
 /*
- * npm's versions and version ranges, in loose mode: a static library over the proved crate `node_semver`.
+ * npm's versions and version ranges, in loose mode.
  *
- * Each function makes one call of that crate, and its contract in crates/node_semver_c/src states the clauses of the
- * call again. They hold for every caller that upholds what stands here, which nothing checks.
+ * Each function makes one call of the proved crate `node_semver`, and the contract of its export in
+ * crates/node_semver_c/src states what that call promises. The contracts hold for every caller that follows the rules
+ * below. Nothing checks that a caller does.
  *
- * - Handles. A `node_semver_version` or a `node_semver_range` is a struct of one pointer that is not looked into. It
- *   begins as NODE_SEMVER_EMPTY. A call that makes a version or a range fills an empty handle, and `.._free` frees what
- *   a full one holds: exactly once, after which the handle and each copy of it are used no more. Freeing an empty handle
- *   does nothing. A copy of a handle is the same version. Every other call reads: the handles that it is passed are full, and no other thread frees them meanwhile.
- *   Nothing changes a version or a range once it is made, so any number of threads may read one at once.
- * - No pointer is null, not even to 0 bytes, but for a fault: that may be NULL, and the fault is told nowhere. A length is that of what the pointer points to, at most SIZE_MAX / 2. What
- *   a call writes to is no part of what it reads.
- * - Texts are UTF-8, without a zero at the end. Bytes that are no UTF-8 are told by NODE_SEMVER_NOT_UTF8.
+ * - Handles. A `node_semver_version` or a `node_semver_range` is a struct of one pointer, which only this library
+ *   reads. It starts as NODE_SEMVER_EMPTY. A call that makes a version or a range fills an empty handle. `.._free`
+ *   frees what a full handle holds: exactly once, and then neither the handle nor a copy of it is used again. Freeing
+ *   an empty handle does nothing. A copy of a handle stands for the same version. Every other call reads: its handles
+ *   are full, and no other thread frees them during the call. Versions and ranges never change, so any number of
+ *   threads may read one.
+ * - Pointers. A `fault` may be NULL, and then the fault is not reported. No other pointer is null, not even one to 0
+ *   bytes. A length is the length of what its pointer points to, at most SIZE_MAX / 2. What a call writes to does not
+ *   overlap what it reads.
+ * - Texts are UTF-8 and need no zero at the end. Other bytes return NODE_SEMVER_NOT_UTF8.
  * - Memory comes from the program's malloc, realloc and free, which align a block to each power of two up to 16 that
- *   divides its size. Where it is refused, the answer is NODE_SEMVER_OUT_OF_MEMORY, nothing is kept, and the call may
- *   be made again.
- * - Nothing is called from a signal handler, or in the forked child of a program with threads. The library has no state
- *   of its own.
- * - It is linked with node_semver_c's static library and the toolchain's C part, liblibc_c.a.
+ *   divides its size. If an allocation fails, the call returns NODE_SEMVER_OUT_OF_MEMORY and frees what it allocated.
+ *   It may be made again.
+ * - No call is made from a signal handler, or in the forked child of a program with threads. The library keeps no
+ *   state.
  */
 #ifndef NODE_SEMVER_H
 #define NODE_SEMVER_H
@@ -31,13 +33,13 @@
 extern "C" {
 #endif
 
-/* The version of this library, as the compiler sees it. */
+/* The version of this header. */
 #define NODE_SEMVER_LIBRARY_VERSION_MAJOR 1
 #define NODE_SEMVER_LIBRARY_VERSION_MINOR 0
 #define NODE_SEMVER_LIBRARY_VERSION_PATCH 0
 #define NODE_SEMVER_LIBRARY_VERSION "1.0.0"
 
-/* The version of the library that the program is linked with, such as "1.0.0". Ends with a zero, and is never freed. */
+/* Returns the version of the library that the program runs with, as "1.0.0". It ends with a zero and is never freed. */
 const char *node_semver_library_version(void);
 
 /* A version: three numbers, a prerelease and a build. */
@@ -50,124 +52,137 @@ typedef struct node_semver_range {
     const void *at;
 } node_semver_range;
 
-/* An empty handle, of either kind. */
+/* An empty handle, of a version or a range. */
 #define NODE_SEMVER_EMPTY { NULL }
 
-/* What a call answers. */
+/* What a call returns. */
 typedef uint32_t node_semver_status;
 
-#define NODE_SEMVER_OK 0u            /* it did what it was asked for */
+#define NODE_SEMVER_OK 0u            /* the call did what it was called for */
 #define NODE_SEMVER_NONE 1u          /* there is no such version, or no such range; the handle stays empty */
-#define NODE_SEMVER_REFUSED 2u       /* the text is refused, and its fault is told; the handle stays empty */
-#define NODE_SEMVER_NOT_UTF8 3u      /* the bytes are no UTF-8; the handle stays empty */
-#define NODE_SEMVER_OUT_OF_MEMORY 4u /* memory was refused; the handle stays empty */
+#define NODE_SEMVER_REFUSED 2u       /* parsing failed, and the fault says why; the handle stays empty */
+#define NODE_SEMVER_NOT_UTF8 3u      /* the bytes are not UTF-8; the handle stays empty */
+#define NODE_SEMVER_OUT_OF_MEMORY 4u /* an allocation failed; the handle stays empty */
 
 /* The kinds of faults. */
-#define NODE_SEMVER_MAX_LENGTH 1u      /* a version text of more than 256 bytes, at its last byte */
-#define NODE_SEMVER_INCOMPLETE_INPUT 2u /* never answered */
-#define NODE_SEMVER_PARSE_INT 3u       /* a number of a version text above the greatest uint64_t, at its first digit */
-#define NODE_SEMVER_MAX_INT 4u         /* a number that is too large and fits a uint64_t, at its first digit */
-#define NODE_SEMVER_CONTEXT 5u         /* a number or a dot that is missing from a version text, at that place */
-#define NODE_SEMVER_NO_VALID_RANGES 6u /* a range text of which no alternative gives a set, at 0 */
-#define NODE_SEMVER_OTHER 7u           /* a version text that goes on after the version, at the first byte left */
-#define NODE_SEMVER_NO_MEMORY 8u       /* with NODE_SEMVER_OUT_OF_MEMORY alone */
+#define NODE_SEMVER_MAX_LENGTH 1u       /* a version text of more than 256 bytes, at its last byte */
+#define NODE_SEMVER_INCOMPLETE_INPUT 2u /* never returned */
+#define NODE_SEMVER_PARSE_INT 3u        /* a number of a version text above UINT64_MAX, at its first digit */
+#define NODE_SEMVER_MAX_INT 4u          /* a number that is too large and fits a uint64_t, at its first digit */
+#define NODE_SEMVER_CONTEXT 5u          /* a number or a dot that is missing from a version text, at that place */
+#define NODE_SEMVER_NO_VALID_RANGES 6u  /* a range text of which no alternative gives a set, at 0 */
+#define NODE_SEMVER_OTHER 7u            /* a version text that goes on after the version, at the first byte left */
+#define NODE_SEMVER_NO_MEMORY 8u        /* with NODE_SEMVER_OUT_OF_MEMORY alone */
 
-/* Why a text is refused, and where. It counts where a call answers NODE_SEMVER_REFUSED. */
+/* Why parsing failed, and where. It is written if a call returns NODE_SEMVER_REFUSED, and may be written if memory ran
+ * out. */
 typedef struct node_semver_fault {
     uint32_t kind;   /* one of the kinds */
     size_t offset;   /* the byte offset of the fault in the text, from 0 */
-    uint64_t number; /* the number of NODE_SEMVER_MAX_INT, and 0 of any other kind */
+    uint64_t number; /* the number of NODE_SEMVER_MAX_INT, and 0 for any other kind */
 } node_semver_fault;
 
 /* ---- versions ---- */
 
-/* Reads a version text in npm's loose form: `1.2.3-alpha.1+5`, and `v 01.2.3alpha.1+5` too. */
+/* Parses a version in npm's loose form: `1.2.3-alpha.1+5`, and `v 01.2.3alpha.1+5` too. */
 node_semver_status node_semver_version_parse(const char *text, size_t length, node_semver_version *version,
                                              node_semver_fault *fault);
 
 /* Frees a version. Does nothing for an empty handle. */
 void node_semver_version_free(node_semver_version version);
 
-/* Prints a version: major, minor and patch with dots between, `-` and the prerelease, `+` and the build. Answers the
- * length of the text, which is put at the begin of the array if it fits; else, and behind it, the array stays as it
- * was. No zero is put behind it. Answers 0, and puts nothing, where memory is refused. */
+/* Prints a version: major, minor and patch with dots between, `-` and the prerelease, `+` and the build. Returns the
+ * length of the text. If the text fits the array, it is written at the start of the array, with no zero after it; the
+ * rest of the array, or all of it where the text does not fit, stays as it was. Returns 0 and writes nothing if an
+ * allocation fails. */
 size_t node_semver_version_print(const node_semver_version *version, char *room, size_t size);
 
-/* Compares two versions by SemVer 2.0.0, section 11: -1 where the first is below the second, 0 where they are the same,
- * 1 where it is above. Builds are not looked at. */
+/* Compares two versions by SemVer 2.0.0, section 11. Returns -1 if the first is below the second, 0 if they are the
+ * same but for their builds, 1 if the first is above. */
 int32_t node_semver_version_compare(const node_semver_version *one, const node_semver_version *other);
 
-/* A hash: versions that compare as the same have one. */
+/* Returns a hash. Versions that compare as the same have the same hash. */
 uint64_t node_semver_version_hash(const node_semver_version *version);
 
-/* Whether the version has a prerelease. */
+/* Returns whether the version has a prerelease. */
 bool node_semver_version_is_prerelease(const node_semver_version *version);
 
-/* The three numbers. */
+/* Return the three numbers. */
 uint64_t node_semver_version_major(const node_semver_version *version);
 uint64_t node_semver_version_minor(const node_semver_version *version);
 uint64_t node_semver_version_patch(const node_semver_version *version);
 
-/* How many identifiers the prerelease has, and the build. */
+/* Return the number of identifiers of the prerelease, and of the build. */
 size_t node_semver_version_pre_release_count(const node_semver_version *version);
 size_t node_semver_version_build_count(const node_semver_version *version);
 
-/* Prints the identifier at a place, from 0: `rc` and `4` of `1.2.3-rc.4`. Returns as node_semver_version_print, and 0,
- * with nothing written, for a place past the last identifier. */
+/* Print the identifier at a place, from 0: `rc` and `4` of `1.2.3-rc.4`. Return as node_semver_version_print does.
+ * For a place past the last identifier they return 0 and write nothing. */
 size_t node_semver_version_pre_release_print(const node_semver_version *version, size_t place, char *room, size_t size);
 size_t node_semver_version_build_print(const node_semver_version *version, size_t place, char *room, size_t size);
 
 /* ---- ranges ---- */
 
-/* Reads a range text of any length: `^1.2.3`, `1.2 - 3`, `>=1 <3 || 5.x`. A word that stands for nothing is thrown
- * away. */
+/* Parses a range of any length: `^1.2.3`, `1.2 - 3`, `>=1 <3 || 5.x`. Unknown words are ignored. */
 node_semver_status node_semver_range_parse(const char *text, size_t length, node_semver_range *range,
                                            node_semver_fault *fault);
 
 /* Frees a range. Does nothing for an empty handle. */
 void node_semver_range_free(node_semver_range range);
 
-/* Prints a range: its sets with `||` between, as `>=1.2.0 <2.0.0-0||>=3.0.0`. Answers as node_semver_version_print. */
+/* Prints a range: its sets with `||` between, as `>=1.2.0 <2.0.0-0||>=3.0.0`. Returns as node_semver_version_print. */
 size_t node_semver_range_print(const node_semver_range *range, char *room, size_t size);
 
-/* Whether both ranges have as many sets, and at each place the same ends but for builds. */
+/* Returns whether both ranges have the same number of sets, and at each place the same ends but for builds. */
 bool node_semver_range_equals(const node_semver_range *one, const node_semver_range *other);
 
-/* A hash: ranges that are equal have one. */
+/* Returns a hash. Ranges that are equal have the same hash. */
 uint64_t node_semver_range_hash(const node_semver_range *range);
 
-/* Whether the range admits the version: one of the sets has it inside and, if it is a prerelease, an end of that set is
- * a prerelease of its triple. `^1.2.3-rc.4` admits `1.2.3-rc.5`, and not `1.2.4-rc.6`. */
+/* Returns whether the version satisfies the range: it lies inside one of the sets and, if it is a prerelease, an end
+ * of that set is a prerelease of the same three numbers. `1.2.3-rc.5` satisfies `^1.2.3-rc.4`, and `1.2.4-rc.6` does
+ * not. */
 bool node_semver_satisfies(const node_semver_range *range, const node_semver_version *version);
 
-/* Whether the two have a cut in common: where node_semver_range_intersect answers a range. */
+/* Returns whether the ranges have a cut in common, that is, whether node_semver_range_intersect returns a range. */
 bool node_semver_range_allows_any(const node_semver_range *one, const node_semver_range *other);
 
-/* Whether the first allows all of the second, as `Range::allows_all` of the library says. */
+/* Returns whether each cut of the second range is a cut of the first, as `Range::allows_all` of the library does. */
 bool node_semver_range_allows_all(const node_semver_range *one, const node_semver_range *other);
 
-/* The range of the cuts that both have, or NODE_SEMVER_NONE where they have none in common. */
+/* Makes the intersection, the range of the cuts that both ranges have. Returns NODE_SEMVER_NONE if there are none. */
 node_semver_status node_semver_range_intersect(const node_semver_range *one, const node_semver_range *other,
                                                node_semver_range *answer);
 
-/* The range of the cuts that the first has and the second has not, or NODE_SEMVER_NONE where there are none. */
+/* Makes the difference, the range of the cuts that the first range has and the second has not. Returns NODE_SEMVER_NONE
+ * if there are none. */
 node_semver_status node_semver_range_difference(const node_semver_range *one, const node_semver_range *other,
                                                 node_semver_range *answer);
 
-/* The least version that the range admits, or NODE_SEMVER_NONE where it admits none. */
+/* Makes the union, the sets of the first range and then those of the second. A version satisfies it exactly where it
+ * satisfies one of the two. Sets are not joined: the union of `1` and `1` has two. */
+#define NODE_SEMVER_HAS_UNION 1
+node_semver_status node_semver_range_union(const node_semver_range *one, const node_semver_range *other,
+                                           node_semver_range *answer);
+
+/* Makes the least version that satisfies the range. Returns NODE_SEMVER_NONE if none does. */
 node_semver_status node_semver_min_version(const node_semver_range *range, node_semver_version *answer);
 
-/* The least version that the first range admits and the second does not, or NODE_SEMVER_NONE where there is none. */
+/* Makes the least version that satisfies the first range and not the second. Returns NODE_SEMVER_NONE if none does. */
 node_semver_status node_semver_least_beyond(const node_semver_range *one, const node_semver_range *other,
                                             node_semver_version *answer);
 
-/* Whether the range admits one of the versions of an array, and the place of the greatest that it admits: of equal
- * ones, which differ in the build alone, the first. Where it admits none, the place says nothing. */
+/* Returns whether a version of the array satisfies the range, and writes the place of the greatest that does. Of equal
+ * ones, which differ in the build alone, this is the first. If none does, the place means nothing. */
 bool node_semver_max_satisfying(const node_semver_version *versions, size_t count, const node_semver_range *range,
                                 size_t *place);
 
-/* Whether the version of one text satisfies the range of another, in one call. The range is read first, and the fault
- * of the first text that is refused is told. The answer counts where the status is NODE_SEMVER_OK. */
+/* The same with the place of the least: of equal ones, which differ in the build alone, the first. */
+bool node_semver_min_satisfying(const node_semver_version *versions, size_t count, const node_semver_range *range,
+                                size_t *place);
+
+/* Writes whether the version of one text satisfies the range of the other. The range is parsed first, and the fault is
+ * that of the first text that is refused. The answer counts where the status is NODE_SEMVER_OK. */
 node_semver_status node_semver_satisfies_text(const char *range, size_t range_length, const char *version,
                                               size_t version_length, bool *answer, node_semver_fault *fault);
 

@@ -2,8 +2,8 @@
 /*
  * The calls that tell a fault, with a fault pointer that may be NULL.
  *
- * The proved calls write the fault through a pointer that is not null. Here a null pointer is replaced by one to a fault
- * that nobody reads. The Makefile gives the proved calls the names that are declared here.
+ * The proved calls write the fault through a pointer that is not null. Here a fault that nobody reads takes the place
+ * of a null pointer. The Makefile gives the proved calls the names that are declared here.
  */
 #include "node_semver.h"
 

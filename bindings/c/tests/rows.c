@@ -16,7 +16,7 @@
 #include <stdlib.h>
 #include <string.h>
 
-/* Which request for memory is refused, from 1, and how many were made; 0 refuses none. How many blocks are in use. */
+/* The number of the request for memory that is refused, from 1, or 0 for none; the requests made; the blocks in use. */
 static unsigned long refused, requests;
 static long blocks;
 
@@ -44,7 +44,7 @@ void __wrap_free(void *block) {
     __real_free(block);
 }
 
-/* What a row answers. */
+/* The result of a row. */
 struct answer {
     char text[512];
 };
@@ -71,7 +71,7 @@ static void tell_status(struct answer *answer, node_semver_status status, const 
     }
 }
 
-/* The print of a version or of a range, which is asked for twice: how long it is, and then for its text. */
+/* The print of a version or a range: its length from a first call, its text from a second. */
 static void tell_print(struct answer *answer, size_t length, size_t again) {
     if (length == 0 || again == 0) {
         tell(answer, "out of memory");
@@ -106,7 +106,7 @@ static void free_read(struct read *read) {
     }
 }
 
-/* False where a text was not read, which is told; nothing is kept then. */
+/* Returns false, with the status written to the answer and nothing kept, if a text is not read. */
 static bool read_texts(struct read *read, const char *kinds, const char *const *texts, struct answer *answer) {
     *read = (struct read){{NODE_SEMVER_EMPTY, NODE_SEMVER_EMPTY}, {NODE_SEMVER_EMPTY, NODE_SEMVER_EMPTY}};
     for (int i = 0; kinds[i] != '\0'; i++) {
@@ -124,7 +124,7 @@ static bool read_texts(struct read *read, const char *kinds, const char *const *
     return true;
 }
 
-/* A call of two ranges, or of one, that answers a range or a version. */
+/* A call of one or two ranges that makes a range or a version. */
 typedef node_semver_status algebra(const node_semver_range *, const node_semver_range *, node_semver_range *);
 typedef node_semver_status search(const node_semver_range *, const node_semver_range *, node_semver_version *);
 
@@ -151,8 +151,11 @@ static void run_search(search *call, const struct read *read, struct answer *ans
     node_semver_version_free(found);
 }
 
-/* Versions of a text with blanks between, of which the range admits this one as the greatest. */
-static void run_greatest(const char *const *texts, struct answer *answer) {
+/* A call of an array of versions, which finds the place of one. */
+typedef bool choice(const node_semver_version *, size_t, const node_semver_range *, size_t *);
+
+/* Versions of a text with blanks between, of which the range admits this one as the greatest, or the least. */
+static void run_choice(choice *call, const char *const *texts, struct answer *answer) {
     node_semver_version versions[8];
     node_semver_range range = NODE_SEMVER_EMPTY;
     node_semver_fault fault = {0, 0, 0};
@@ -168,7 +171,7 @@ static void run_greatest(const char *const *texts, struct answer *answer) {
     }
     if (status != NODE_SEMVER_OK) {
         tell_status(answer, status, &fault);
-    } else if (node_semver_max_satisfying(versions, count, &range, &place)) {
+    } else if (call(versions, count, &range, &place)) {
         snprintf(answer->text, sizeof answer->text, "%zu", place);
     } else {
         tell(answer, "none");
@@ -219,7 +222,7 @@ static void tell_fields(struct answer *answer, const node_semver_version *versio
              node_semver_version_is_prerelease(version) ? " prerelease" : " release");
 }
 
-/* A text that is refused, with no place for its fault: only the status is told. */
+/* Parses with a NULL fault, and writes the status. */
 static void run_unread(const char *kind, const char *text, struct answer *answer) {
     node_semver_version version = NODE_SEMVER_EMPTY;
     node_semver_range range = NODE_SEMVER_EMPTY;
@@ -256,7 +259,7 @@ static void tell_past(struct answer *answer, const node_semver_version *version)
     tell(answer, "nothing");
 }
 
-/* A print into an array that is too short, or longer: what stands there then, with its length. */
+/* Prints into an array of this size, and writes the length and the bytes of the whole room. */
 static void tell_room(struct answer *answer, const node_semver_version *version, size_t size) {
     char room[16];
     memset(room, '.', sizeof room);
@@ -317,12 +320,16 @@ static void run(const struct row *row, struct answer *answer) {
         run_algebra(node_semver_range_intersect, &read, answer);
     } else if (strcmp(row->call, "difference") == 0) {
         run_algebra(node_semver_range_difference, &read, answer);
+    } else if (strcmp(row->call, "union") == 0) {
+        run_algebra(node_semver_range_union, &read, answer);
     } else if (strcmp(row->call, "min_version") == 0) {
         run_search(NULL, &read, answer);
     } else if (strcmp(row->call, "least_beyond") == 0) {
         run_search(node_semver_least_beyond, &read, answer);
     } else if (strcmp(row->call, "max_satisfying") == 0) {
-        run_greatest(row->texts, answer);
+        run_choice(node_semver_max_satisfying, row->texts, answer);
+    } else if (strcmp(row->call, "min_satisfying") == 0) {
+        run_choice(node_semver_min_satisfying, row->texts, answer);
     } else if (strcmp(row->call, "satisfies_text") == 0) {
         run_texts(row->texts, answer);
     } else {
@@ -331,8 +338,8 @@ static void run(const struct row *row, struct answer *answer) {
     free_read(&read);
 }
 
-/* Whether the row answers what it should. Where a request was refused, out of memory is right too; so is the row's
- * own answer, since memory that is only to be given back may be kept. */
+/* Returns whether the row gives its answer and leaves no block. If a request was refused, out of memory is right too,
+ * and so is the row's own answer: a call may go on without an allocation that only saves memory. */
 static bool is_right(const struct row *row) {
     struct answer answer;
     requests = 0;

@@ -1,5 +1,5 @@
--- What the exports answer, by the clauses of the calls of `node_semver` that they make.
-use Rattle.std.specs.Prelude.{◌≡◌, ◌⊎◌, ◌↔◌, ℕ, List, []}
+-- What the exports return, by the clauses of the calls of `node_semver` that they make.
+use Rattle.std.specs.Prelude.{◌≡◌, ◌⊎◌, ◌↔◌, ◌++◌, ℕ, List, []}
 use Rattle.std.specs.Prelude.{Option, Some, None, IfSome, IsNone, IsSome, Result, MatchResult}
 use Rattle.node_semver_c.specs.declared.status.Fault.{Fault}
 use Rattle.node_semver_c.specs.declared.status.TheConstants.{OK, NONE, OUT_OF_MEMORY}
@@ -12,7 +12,9 @@ use Rattle.semver_cuts.specs.Rest.{AreRestSpans}
 use Rattle.semver_cuts.specs.Sharing.{ShareCut}
 use Rattle.semver_sets.specs.Comparison.{version_cmp}
 use Rattle.semver_sets.specs.Meaning.{RangeAdmits}
+use Rattle.semver_sets.specs.Merging.{AreSetsOfText}
 use Rattle.semver_sets.specs.RangeSets.{IsRangeValue}
+use Rattle.semver_sets.specs.Union.{AreJoinable, joined_text}
 use Rattle.semver_sets.specs.Version.{IsPrerelease, VersionValue}
 use Rattle.node_semver.specs.declared.error.SemverError.{SemverError}
 use Rattle.node_semver.specs.Error.{refusal_of}
@@ -22,31 +24,49 @@ use Rattle.node_semver.specs.RangeAlgebra.{PairAdmits, sets_of_answer}
 
 -- ---- texts
 
--- an answer to a text is told: its value is in the handle, or its refusal in status and fault and the handle is empty
+-- the result of parsing is passed on: its value is in the handle, or its error in status and fault and the handle is
+-- empty
 abbrev pub IsTold : {X : Type 0} → Result X SemverError → ℕ → Option X → Fault → Type 0
 IsTold answer status held fault =
     MatchResult answer (λ x. IsKept x status held) (λ e. IsRefusalTold (refusal_of e) status fault × (held ≡ None))
 
--- some answer that the call may give is told
+-- a result that the call may return is passed on
 pub record IsSomeTold {X : Type 0} (Answers : Result X SemverError → Type 0) (status : ℕ) (held : Option X)
     (fault : Fault) : Type 0 where
   pub answer : Result X SemverError
   pub promised : Answers answer
   pub told : IsTold answer status held fault
 
+-- ---- what there always is
+
+-- the handle has a value that the call may return, or an allocation failed and the handle is empty
+pub data IsMade {X : Type 0} (Is : X → Type 0) (status : ℕ) (held : Option X) : Type 0 where
+  made : (x : X) → Is x → status ≡ OK → held ≡ Some x → IsMade Is status held
+  no_memory : status ≡ OUT_OF_MEMORY → held ≡ None → IsMade Is status held
+
+-- what `Range::union` returns
+pub record IsUnion (one other union : List (Ends VersionValue)) : Type 0 where
+  pub sets : union ≡ one ++ other
+  pub cuts : (cut : Cut VersionValue) → IsInSome version_cmp union cut
+      ↔ (IsInSome version_cmp one cut ⊎ IsInSome version_cmp other cut)
+  pub admitted : (v : VersionValue) → RangeAdmits union v ↔ (RangeAdmits one v ⊎ RangeAdmits other v)
+  pub text : (first second : List ℕ) → AreJoinable first second → AreSetsOfText first one
+      → AreSetsOfText second other → AreSetsOfText (joined_text first second) union
+  pub holds : IsRangeValue union
+
 -- ---- what may be none
 
--- the status of a call that made an answer, or found that there is none
+-- the status of a call that found something, or nothing
 abbrev pub status_found : {X : Type 0} → Option X → ℕ
 status_found None = NONE
 status_found (Some x) = OK
 
--- the handle has the answer of the call, or there was no memory and it is empty
+-- the handle has what the call returns, or an allocation failed and the handle is empty
 abbrev pub IsFound : {X : Type 0} → (Option X → Type 0) → ℕ → Option X → Type 0
 IsFound Answers status held =
     (Answers held × (status ≡ status_found held)) ⊎ ((status ≡ OUT_OF_MEMORY) × (held ≡ None))
 
--- what `Range::intersect` answers
+-- what `Range::intersect` returns
 pub record IsIntersection (one other : List (Ends VersionValue)) (answer : Option (List (Ends VersionValue)))
     : Type 0 where
   pub sets : sets_of_answer answer ≡ common_spans version_cmp one other
@@ -64,7 +84,7 @@ pub record IsIntersection (one other : List (Ends VersionValue)) (answer : Optio
       ↔ (IsInSome version_cmp (sets_of_answer answer) cut ⊎ IsInSome version_cmp rest cut)
   pub holds : IfSome answer IsRangeValue
 
--- what `Range::difference` answers
+-- what `Range::difference` returns
 pub record IsDifference (one other : List (Ends VersionValue)) (answer : Option (List (Ends VersionValue)))
     : Type 0 where
   pub sets : AreRestSpans version_cmp one other (sets_of_answer answer)
@@ -81,13 +101,13 @@ pub record IsDifference (one other : List (Ends VersionValue)) (answer : Option 
       ⊎ IsInSome version_cmp (sets_of_answer answer) cut)
   pub holds : IfSome answer IsRangeValue
 
--- what `Range::min_version` answers
+-- what `Range::min_version` returns
 pub record IsMinimum (sets : List (Ends VersionValue)) (answer : Option VersionValue) : Type 0 where
   pub least : IfSome answer (IsLeastAdmitted sets)
   pub none : IsNone answer ↔ AdmitsNone sets
   pub build : IfSome answer (HasBuildOfFirst sets)
 
--- what `Range::least_beyond` answers
+-- what `Range::least_beyond` returns
 pub record IsBeyond (one other : List (Ends VersionValue)) (answer : Option VersionValue) : Type 0 where
   pub least : IfSome answer (IsLeastBeyond one other)
   pub none : IsNone answer ↔ AdmitsNoneBeyond one other

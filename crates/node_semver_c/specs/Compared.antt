@@ -1,4 +1,4 @@
--- How an order is told by a number, and the hash of a version and of a range.
+-- The number of an ordering, and the hash of a version and of a range.
 use Rattle.std.specs.Prelude.{ℕ, ℤ, pos, negsuc, List, fold}
 use Rattle.std.specs.Hash.FoldHasher as folding
 use Rattle.std.specs.declared.cmp.Ordering.{Ordering}
@@ -13,10 +13,10 @@ sign_of Less = negsuc 0
 sign_of Equal = pos 0
 sign_of Greater = pos 1
 
--- what std's `FoldHasher`, with its fixed seed, makes of what a version feeds a hasher: triple and prerelease
+-- the hash by std's `FoldHasher`, with its fixed seed, of what a version feeds a hasher: triple and prerelease
 abbrev pub version_hash : VersionValue → ℕ
 version_hash v = folding.finish (fold folding.write folding.initial (version_writes v))
 
--- and of what a range does: its sets, by their cuts
+-- the same of what a range feeds a hasher: its sets, by their cuts
 abbrev pub range_hash : List (Ends VersionValue) → ℕ
 range_hash sets = folding.finish (fold folding.write folding.initial (range_writes sets))

@@ -1,40 +1,52 @@
--- The greatest of the versions of an array that a range admits, by its place.
+-- The greatest and the least of the versions of an array that a range admits, by their places.
 use Rattle.std.specs.Prelude.{◌≡◌, ◌⊎◌, ℕ, List, [], ◌∷◌, length, Option, Some, None}
 use Rattle.std.specs.declared.cmp.Ordering.TheVariants.{Less}
 use Rattle.node_semver_c.specs.declared.handle.version.VersionRef.{VersionRef}
 use Rattle.semver_cuts.specs.Ends.{Ends}
-use Rattle.semver_sets.specs.Comparison.{version_cmp}
 use Rattle.semver_sets.specs.Meaning.{RangeAdmits}
+use Rattle.semver_sets.specs.Order.{IsBelow}
 use Rattle.semver_sets.specs.Version.{VersionValue}
-use Rattle.node_semver.specs.Greatest.{AdmitsNoneIn, IsGreatestAdmitted}
+use Rattle.node_semver.specs.Greatest.{AdmitsNoneIn, IsFirstBest}
+use Rattle.node_semver.specs.Private.GreatestViews.{Order}
 
 -- the versions that the handles are lent
 abbrev pub values : List VersionRef → List VersionValue
 values [] = []
 values (handle ∷ handles) = handle.value ∷ values handles
 
--- the version at this place is the greatest that the range admits, and of equal ones the first
-pub record IsGreatestAt (sets : List (Ends VersionValue)) (versions : List VersionValue) (place : ℕ) : Type 0 where
-  pub greatest : VersionValue
-  pub admitted : IsGreatestAdmitted sets versions greatest
-  pub place_is : length admitted.before ≡ place
+-- the version at this place is the best that the range admits, and of equal ones the first
+pub record IsBestAt (IsBetter : VersionValue → VersionValue → Type 0) (sets : List (Ends VersionValue))
+    (versions : List VersionValue) (place : ℕ)
+    : Type 0 where
+  pub best : VersionValue
+  pub first : IsFirstBest IsBetter sets versions best
+  pub place_is : length first.before ≡ place
 
--- ---- for the private function that looks at each
+-- the greatest is at this place
+abbrev pub IsGreatestAt : List (Ends VersionValue) → List VersionValue → ℕ → Type 0
+IsGreatestAt = IsBestAt (λ (v : VersionValue) (best : VersionValue). IsBelow best v)
 
--- the version is above the best so far, or there is none yet
-abbrev pub IsAbove : Option (ℕ × VersionValue) → VersionValue → Type 0
-IsAbove None v = Unit {0}
-IsAbove (Some best) v = version_cmp best.1 v ≡ Less
+-- the least is at this place
+abbrev pub IsLeastAt : List (Ends VersionValue) → List VersionValue → ℕ → Type 0
+IsLeastAt = IsBestAt IsBelow
 
--- the version and its place if it is above the best so far and the range admits it, or else the best
-abbrev pub IsGreater : List (Ends VersionValue) → Option (ℕ × VersionValue) → ℕ → VersionValue
+-- ---- for the private functions that look at each
+
+-- the version comes after the best so far in an order of versions, or there is none yet
+abbrev pub IsAfter : Order → Option (ℕ × VersionValue) → VersionValue → Type 0
+IsAfter order None v = Unit {0}
+IsAfter order (Some best) v = order best.1 v ≡ Less
+
+-- the version and its place if it comes after the best so far and the range admits it, or else the best
+abbrev pub IsBetterAt : Order → List (Ends VersionValue) → Option (ℕ × VersionValue) → ℕ → VersionValue
     → Option (ℕ × VersionValue) → Type 0
-IsGreater sets best place v greater =
-    (IsAbove best v × RangeAdmits sets v × (greater ≡ Some (place, v)))
-    ⊎ ((¬ (IsAbove best v × RangeAdmits sets v)) × (greater ≡ best))
+IsBetterAt order sets best place v better =
+    (IsAfter order best v × RangeAdmits sets v × (better ≡ Some (place, v)))
+    ⊎ ((¬ (IsAfter order best v × RangeAdmits sets v)) × (better ≡ best))
 
--- the greatest with its place, or none where the range admits none of them
-abbrev pub IsGreatestOrNone : List (Ends VersionValue) → List VersionValue → Option (ℕ × VersionValue) → Type 0
-IsGreatestOrNone sets versions None = AdmitsNoneIn sets versions
-IsGreatestOrNone sets versions (Some best) =
-    (admitted : IsGreatestAdmitted sets versions best.1) × (length admitted.before ≡ best.0)
+-- the best with its place, or none where the range admits none of them
+abbrev pub IsBestAtOrNone : Order → List (Ends VersionValue) → List VersionValue → Option (ℕ × VersionValue) → Type 0
+IsBestAtOrNone order sets versions None = AdmitsNoneIn sets versions
+IsBestAtOrNone order sets versions (Some best) =
+    (first : IsFirstBest (λ (v : VersionValue) (w : VersionValue). order w v ≡ Less) sets versions best.1)
+    × (length first.before ≡ best.0)

@@ -1,8 +1,8 @@
--- What the exports say, beside the definitions of `node_semver` that they name.
+-- What the contracts of the exports cite, beside the definitions of `node_semver`.
 
 -- ---- what C passes
 pub mod Handles
--- ---- what a call tells
+-- ---- what a call returns
 pub mod Status
 pub mod Answers
 pub mod Greatest

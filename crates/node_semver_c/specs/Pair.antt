@@ -1,4 +1,4 @@
--- What is told of a range text and a version text.
+-- The result of one call with a range text and a version text.
 use Rattle.std.specs.Prelude.{◌≡◌, ◌⊎◌, ◌↔◌, ℕ, List, Bool, IsTrue}
 use Rattle.node_semver_c.specs.declared.status.Fault.{Fault}
 use Rattle.node_semver_c.specs.declared.status.TheConstants.{OK}
@@ -11,24 +11,24 @@ use Rattle.node_semver.specs.declared.error.SemverError.{SemverError}
 use Rattle.node_semver.specs.Error.{IsOutOfMemory, IsRefusalAt, no_valid_ranges, refusal_of}
 use Rattle.node_semver.specs.Fault.{IsFaultOf}
 
--- status and fault tell some error of which this holds
+-- status and fault are those of an error of which this holds
 pub record IsErrorTold (Is : SemverError → Type 0) (status : ℕ) (fault : Fault) : Type 0 where
   pub error : SemverError
   pub is : Is error
   pub told : IsRefusalTold (refusal_of error) status fault
 
--- the version of the text was asked of something: whether it satisfies it, or the fault of the text
+-- the text was parsed as a version: whether that version is admitted, or the fault of the text
 pub data IsAsked (Admits : VersionValue → Type 0) (text : List ℕ) (status : ℕ) (answer : Bool) (fault : Fault)
     : Type 0 where
   answered : (v : VersionValue) → IsVersionText text v → status ≡ OK → (IsTrue answer ↔ Admits v)
       → IsAsked Admits text status answer fault
   refused : IsErrorTold (λ e. IsOutOfMemory e ⊎ IsFaultOf text e) status fault → IsAsked Admits text status answer fault
 
--- the version of the text was asked of a range
+-- the same with a range that admits
 abbrev pub IsVersionTold : List (Ends VersionValue) → List ℕ → ℕ → Bool → Fault → Type 0
 IsVersionTold sets text status answer fault = IsAsked (RangeAdmits sets) text status answer fault
 
--- the range text is refused, or memory was; or it is not refused, and the version of the other text was asked of it
+-- the range text is refused, or an allocation failed; or it is not refused, and the other text was parsed as a version
 pub data IsPairTold (range version : List ℕ) (status : ℕ) (answer : Bool) (fault : Fault) : Type 0 where
   range_refused :
       IsErrorTold (λ e. IsOutOfMemory e ⊎ (IsRefusalAt range no_valid_ranges 0 e × IsRefused range)) status fault

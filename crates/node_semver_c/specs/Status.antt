@@ -1,4 +1,4 @@
--- What a call tells beside its answer: a status, and the fault of a text that is refused.
+-- What a call returns beside its value: a status, and the fault of a text that is refused.
 use Rattle.std.specs.Prelude.{◌≡◌, ◌⊎◌, ℕ, Option, Some, None}
 use Rattle.node_semver.specs.Error.{Kind, Refusal, max_length, incomplete, parse_int, max_int, context}
 use Rattle.node_semver.specs.Error.{no_valid_ranges, other, out_of_memory}
@@ -27,7 +27,7 @@ number_in no_valid_ranges = 0
 number_in other = 0
 number_in out_of_memory = 0
 
--- want of memory is a status of its own
+-- out of memory is a status of its own
 abbrev pub status_of : Kind → ℕ
 status_of max_length = REFUSED
 status_of incomplete = REFUSED
@@ -38,14 +38,14 @@ status_of no_valid_ranges = REFUSED
 status_of other = REFUSED
 status_of out_of_memory = OUT_OF_MEMORY
 
--- status and fault tell this refusal
+-- status and fault are those of this refusal
 pub record IsRefusalTold (refusal : Refusal) (status : ℕ) (fault : Fault) : Type 0 where
   pub status_is : status ≡ status_of refusal.kind
   pub kind : fault.kind ≡ code_of refusal.kind
   pub offset : fault.offset ≡ refusal.offset
   pub number : fault.number ≡ number_in refusal.kind
 
--- the value is in the handle, or there was no memory for it and the handle is empty
+-- the value is in the handle, or an allocation failed and the handle is empty
 abbrev pub IsKept : {X : Type 0} → X → ℕ → Option X → Type 0
 IsKept x status held = ((status ≡ OK) × (held ≡ Some x)) ⊎ ((status ≡ OUT_OF_MEMORY) × (held ≡ None))
 

@@ -1,10 +1,11 @@
-//! Exports that answer a range or a version, or none.
+//! Exports that return a range or a version, or none.
 ghost use Rattle.std.specs.Prelude.{◌≡◌, None};
-ghost use Rattle.node_semver_c.specs.Answers.{IsBeyond, IsDifference, IsFound, IsIntersection, IsMinimum};
+ghost use Rattle.node_semver_c.specs.Answers.{IsBeyond, IsDifference, IsFound, IsIntersection, IsMade};
+ghost use Rattle.node_semver_c.specs.Answers.{IsMinimum, IsUnion};
 
 use crate::handle::range::{RangeHandle, RangeRef};
 use crate::handle::version::VersionHandle;
-use crate::status::{OUT_OF_MEMORY, keep_range_found, keep_version_found};
+use crate::status::{OUT_OF_MEMORY, keep_range, keep_range_found, keep_version_found};
 use node_semver::Range;
 use std::alloc::Global;
 
@@ -52,6 +53,30 @@ fn difference(alloc: Global, one: &Range, other: &Range, answer: &mut RangeHandl
 {
     match one.difference(alloc, other) {
         Ok(found) => keep_range_found(alloc, found, answer),
+        Err(_) => OUT_OF_MEMORY,
+    }
+}
+
+/// `Range::union`.
+#[unsafe(no_mangle)]
+pub extern "C" fn node_semver_range_union(
+    alloc: Global,
+    one: &RangeRef,
+    other: &RangeRef,
+    answer: &mut RangeHandle,
+) -> u32
+    requires empty { answer.old.value ≡ None }
+    ensures { IsMade (IsUnion one.now.value other.now.value) result answer.new.value }
+{
+    union(alloc, one.get(), other.get(), answer)
+}
+
+fn union(alloc: Global, one: &Range, other: &Range, answer: &mut RangeHandle) -> u32
+    requires { answer.old.value ≡ None }
+    ensures { IsMade (IsUnion one.now other.now) result answer.new.value }
+{
+    match one.union(alloc, other) {
+        Ok(union) => keep_range(alloc, union, answer),
         Err(_) => OUT_OF_MEMORY,
     }
 }

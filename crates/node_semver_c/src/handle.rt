@@ -1,12 +1,12 @@
-//! Handles: structs of one pointer, which C passes and does not look into.
+//! Handles: structs of one pointer, which C passes and never reads.
 //!
-//! A handle that owns what it points to is filled by the call that makes it, and emptied by the one that frees it. A
-//! handle that is read is lent for the call: what C has to uphold then stands in `specs/Handles`.
+//! A handle that owns its value is filled by the call that makes the value, and freed once. A handle that a call reads is
+//! borrowed for that call. `specs/Handles` says what C must keep.
 
 pub(crate) mod range;
 pub(crate) mod version;
 
-/// What a handle points to, as C sees it: nothing.
+/// What a handle points to, as C sees it: an opaque value.
 #[repr(C)]
 #[derive(Drop)]
 pub struct Opaque {

@@ -10,7 +10,7 @@ use crate::text::put;
 use node_semver::Identifier;
 use std::alloc::Global;
 
-/// How many identifiers the prerelease has.
+/// Returns the number of identifiers of the prerelease.
 #[unsafe(no_mangle)]
 pub extern "C" fn node_semver_version_pre_release_count(version: &VersionRef) -> usize
     ensures { result ≡ length version.now.value.pre_release }
@@ -19,7 +19,7 @@ pub extern "C" fn node_semver_version_pre_release_count(version: &VersionRef) ->
     count(&version.pre_release)
 }
 
-/// How many identifiers the build has.
+/// Returns the number of identifiers of the build.
 #[unsafe(no_mangle)]
 pub extern "C" fn node_semver_version_build_count(version: &VersionRef) -> usize
     ensures { result ≡ length version.now.value.build }
@@ -28,7 +28,7 @@ pub extern "C" fn node_semver_version_build_count(version: &VersionRef) -> usize
     count(&version.build)
 }
 
-/// The print of the identifier of the prerelease at a place. Past the last one it is 0 bytes.
+/// Prints the identifier of the prerelease at a place. Past the last one this is 0 bytes.
 #[unsafe(no_mangle)]
 pub extern "C" fn node_semver_version_pre_release_print(
     alloc: Global,
@@ -45,7 +45,7 @@ pub extern "C" fn node_semver_version_pre_release_print(
     print(alloc, &version.pre_release, place, room)
 }
 
-/// The print of the identifier of the build at a place. Past the last one it is 0 bytes.
+/// Prints the identifier of the build at a place. Past the last one this is 0 bytes.
 #[unsafe(no_mangle)]
 pub extern "C" fn node_semver_version_build_print(
     alloc: Global,

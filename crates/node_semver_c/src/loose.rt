@@ -1,4 +1,4 @@
-// A box as its pointer.
+// The parts of a box: its pointer and its allocator.
 ghost use Rattle.std.specs.Prelude.{◌≡◌};
 ghost use Rattle.std.specs.Box.Ownership.{box_owns};
 

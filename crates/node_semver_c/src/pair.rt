@@ -9,7 +9,7 @@ use std::alloc::Global;
 
 /// `Range::parse`, `Version::parse` and `satisfies`: whether the version of one text satisfies the range of another.
 ///
-/// The range is read first, and of two faults its one is told.
+/// The range is parsed first. If both texts are refused, the fault is that of the range.
 #[unsafe(no_mangle)]
 pub extern "C" fn node_semver_satisfies_text(
     alloc: Global,

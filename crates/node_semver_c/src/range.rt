@@ -22,7 +22,7 @@ use node_semver::Range;
 use std::alloc::Global;
 use std::hash::{FoldHasher, Hash, Hasher};
 
-/// `Range::parse`: the range is in the handle, or its fault is told.
+/// `Range::parse`: puts the range into the handle, or reports the fault of the text.
 #[unsafe(no_mangle)]
 pub extern "C" fn node_semver_range_parse(
     alloc: Global,
@@ -50,13 +50,13 @@ fn read(alloc: Global, text: &str, range: &mut RangeHandle, fault: &mut Fault) -
     }
 }
 
-/// Frees a range. An empty handle is nothing to free.
+/// Frees a range. Does nothing for an empty handle.
 #[unsafe(no_mangle)]
 pub extern "C" fn node_semver_range_free(alloc: Global, range: RangeHandle) {
     range.free(alloc);
 }
 
-/// The print of a range.
+/// Prints a range.
 #[unsafe(no_mangle)]
 pub extern "C" fn node_semver_range_print(alloc: Global, range: &RangeRef, room: &mut [u8]) -> usize
     ensures { IsPrinted (range_text range.now.value) room.old room.new result }
@@ -98,7 +98,7 @@ pub extern "C" fn node_semver_range_allows_all(one: &RangeRef, other: &RangeRef)
     one.get().allows_all(other.get())
 }
 
-/// A hash: equal ranges have one.
+/// Returns a hash. Equal ranges have the same hash.
 #[unsafe(no_mangle)]
 pub extern "C" fn node_semver_range_hash(range: &RangeRef) -> u64
     ensures hash { result ≡ range_hash range.now.value }

@@ -1,4 +1,4 @@
-//! What a call tells: its status, and the fault of a text that it refuses.
+//! What a call returns beside its value: its status, and the fault of a text that it refuses.
 ghost use Rattle.std.specs.Prelude.{◌≡◌, Some, None};
 ghost use Rattle.node_semver.specs.Error.{kind_of, refusal_of};
 ghost use Rattle.node_semver_c.specs.Status.{IsKept, IsKeptAnswer, IsRefusalTold};
@@ -9,22 +9,22 @@ use crate::handle::version::VersionHandle;
 use node_semver::{Range, SemverError, SemverErrorKind, Version};
 use std::alloc::Global;
 
-/// The call did what it was asked for.
+/// The call did what it was called for.
 pub const OK: u32 = 0;
 
 /// There is no such version, or no such range.
 pub const NONE: u32 = 1;
 
-/// The text is refused; its fault is told.
+/// Parsing failed, and the fault says why.
 pub const REFUSED: u32 = 2;
 
-/// The bytes are no UTF-8.
+/// The bytes are not UTF-8.
 pub const NOT_UTF8: u32 = 3;
 
-/// Memory was refused.
+/// An allocation failed.
 pub const OUT_OF_MEMORY: u32 = 4;
 
-/// Why a text was refused, and where.
+/// Why parsing failed, and where.
 #[repr(C)]
 #[derive(Drop)]
 pub struct Fault {
@@ -36,7 +36,7 @@ pub struct Fault {
     pub number: u64,
 }
 
-// What is told of an error, and its status.
+// Writes the fault of an error, and returns its status.
 pub(crate) fn tell(error: &SemverError, fault: &mut Fault) -> u32
     ensures { IsRefusalTold (refusal_of error.now) result fault.new }
 {
@@ -49,7 +49,7 @@ pub(crate) fn tell(error: &SemverError, fault: &mut Fault) -> u32
     status
 }
 
-// The status, the code and the number of a kind.
+// Returns the status, the code and the number of a kind.
 fn told_kind(kind: &SemverErrorKind) -> (u32, u32, u64)
     ensures status { result.0 ≡ status_of (kind_of kind.now) }
     ensures code { result.1 ≡ code_of (kind_of kind.now) }
@@ -67,7 +67,7 @@ fn told_kind(kind: &SemverErrorKind) -> (u32, u32, u64)
     }
 }
 
-// A version for C to keep.
+// Puts a version into a handle.
 pub(crate) fn keep_version(alloc: Global, version: Version, held: &mut VersionHandle) -> u32
     requires { held.old.value ≡ None }
     ensures { IsKept version result held.new.value }
@@ -81,7 +81,7 @@ pub(crate) fn keep_version(alloc: Global, version: Version, held: &mut VersionHa
     }
 }
 
-// A range for C to keep.
+// Puts a range into a handle.
 pub(crate) fn keep_range(alloc: Global, range: Range, held: &mut RangeHandle) -> u32
     requires { held.old.value ≡ None }
     ensures { IsKept range result held.new.value }
@@ -95,7 +95,7 @@ pub(crate) fn keep_range(alloc: Global, range: Range, held: &mut RangeHandle) ->
     }
 }
 
-// The same of a version that may be none.
+// Puts a version into a handle, if there is one.
 pub(crate) fn keep_version_found(
     alloc: Global,
     found: Option<Version>,
@@ -110,7 +110,7 @@ pub(crate) fn keep_version_found(
     }
 }
 
-// The same of a range that may be none.
+// Puts a range into a handle, if there is one.
 pub(crate) fn keep_range_found(alloc: Global, found: Option<Range>, held: &mut RangeHandle) -> u32
     requires { held.old.value ≡ None }
     ensures { IsKeptAnswer found result held.new.value }

@@ -1,10 +1,10 @@
-//! Texts that are put into the caller's array.
+//! Texts that are written to the caller's array.
 ghost use Rattle.std.specs.Prelude.{◌≡◌, MatchResult, string_bytes};
 ghost use Rattle.node_semver_c.specs.Printed.{IsPrinted, IsPut};
 
 use std::alloc::AllocError;
 
-// The text, or nothing where memory was refused; how long it is.
+// Writes the text, or nothing if memory ran out before it was made. Returns its length, or 0.
 pub(crate) fn put(text: Result<String, AllocError>, room: &mut [u8]) -> usize
     ensures { MatchResult text (λ t. IsPut (string_bytes t) room.old room.new result)
         (λ _. (result ≡ 0) × (room.new ≡ room.old)) }
@@ -15,7 +15,7 @@ pub(crate) fn put(text: Result<String, AllocError>, room: &mut [u8]) -> usize
     }
 }
 
-// The text at the begin of the array, if it fits; how long it is.
+// Writes the text to the start of the array if it fits. Returns its length.
 fn copy(text: &[u8], room: &mut [u8]) -> usize
     ensures { IsPut text.now room.old room.new result }
 {

@@ -19,7 +19,7 @@ use std::alloc::Global;
 use std::cmp::Ordering;
 use std::hash::{FoldHasher, Hash, Hasher};
 
-/// `Version::parse`: the version is in the handle, or its fault is told.
+/// `Version::parse`: puts the version into the handle, or reports the fault of the text.
 #[unsafe(no_mangle)]
 pub extern "C" fn node_semver_version_parse(
     alloc: Global,
@@ -48,13 +48,13 @@ fn read(alloc: Global, text: &str, version: &mut VersionHandle, fault: &mut Faul
     }
 }
 
-/// Frees a version. An empty handle is nothing to free.
+/// Frees a version. Does nothing for an empty handle.
 #[unsafe(no_mangle)]
 pub extern "C" fn node_semver_version_free(alloc: Global, version: VersionHandle) {
     version.free(alloc);
 }
 
-/// The print of a version.
+/// Prints a version.
 #[unsafe(no_mangle)]
 pub extern "C" fn node_semver_version_print(
     alloc: Global,
@@ -66,7 +66,7 @@ pub extern "C" fn node_semver_version_print(
     put(version.get().to_string(alloc), room)
 }
 
-/// `Version::cmp`: -1, 0 or 1.
+/// `Version::cmp`: returns -1, 0 or 1.
 #[unsafe(no_mangle)]
 pub extern "C" fn node_semver_version_compare(one: &VersionRef, other: &VersionRef) -> i32
     ensures answer { result ≡ sign_of (version_cmp one.now.value other.now.value) }
@@ -87,7 +87,7 @@ pub extern "C" fn node_semver_version_is_prerelease(version: &VersionRef) -> boo
     version.get().is_prerelease()
 }
 
-/// The first number.
+/// Returns the first number.
 #[unsafe(no_mangle)]
 pub extern "C" fn node_semver_version_major(version: &VersionRef) -> u64
     ensures { result ≡ version.now.value.major }
@@ -96,7 +96,7 @@ pub extern "C" fn node_semver_version_major(version: &VersionRef) -> u64
     version.major
 }
 
-/// The second number.
+/// Returns the second number.
 #[unsafe(no_mangle)]
 pub extern "C" fn node_semver_version_minor(version: &VersionRef) -> u64
     ensures { result ≡ version.now.value.minor }
@@ -105,7 +105,7 @@ pub extern "C" fn node_semver_version_minor(version: &VersionRef) -> u64
     version.minor
 }
 
-/// The third number.
+/// Returns the third number.
 #[unsafe(no_mangle)]
 pub extern "C" fn node_semver_version_patch(version: &VersionRef) -> u64
     ensures { result ≡ version.now.value.patch }
@@ -114,7 +114,7 @@ pub extern "C" fn node_semver_version_patch(version: &VersionRef) -> u64
     version.patch
 }
 
-/// A hash: equal versions have one.
+/// Returns a hash. Equal versions have the same hash.
 #[unsafe(no_mangle)]
 pub extern "C" fn node_semver_version_hash(version: &VersionRef) -> u64
     ensures hash { result ≡ version_hash version.now.value }

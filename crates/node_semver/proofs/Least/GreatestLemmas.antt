@@ -54,7 +54,7 @@ module _ (order : Order) (is : IsOrder order) (sets : List (Ends VersionValue)) 
   NoneSame v w = RangeAdmits sets w → ¬ IsSame w v
 
   -- the first that is admitted
-  take-first : (done : List VersionValue) (v : VersionValue) → AdmitsNoneIn sets done → RangeAdmits sets v
+  abbrev pub take-first : (done : List VersionValue) (v : VersionValue) → AdmitsNoneIn sets done → RangeAdmits sets v
       → Best (done ++ v ∷ []) v
   take-first done v none admits = record {
     before = done;
@@ -70,7 +70,7 @@ module _ (order : Order) (is : IsOrder order) (sets : List (Ends VersionValue)) 
   }
 
   -- one that is better than the best so far
-  take-better : (done : List VersionValue) (best v : VersionValue) → Best done best → order best v ≡ Less
+  abbrev pub take-better : (done : List VersionValue) (best v : VersionValue) → Best done best → order best v ≡ Less
       → RangeAdmits sets v → Best (done ++ v ∷ []) v
   take-better done best v first better admits = record {
     before = done;
@@ -86,7 +86,7 @@ module _ (order : Order) (is : IsOrder order) (sets : List (Ends VersionValue)) 
   }
 
   -- one that is not admitted, or not better than the best so far
-  keep-best : (done : List VersionValue) (best v : VersionValue) → Best done best
+  abbrev pub keep-best : (done : List VersionValue) (best v : VersionValue) → Best done best
       → ¬ ((order best v ≡ Less) × RangeAdmits sets v) → Best (done ++ v ∷ []) best
   keep-best done best v first not = record {
     before = first.before;
@@ -123,37 +123,49 @@ module _ (order : Order) (is : IsOrder order) (sets : List (Ends VersionValue)) 
 
 -- ---- what the program answers
 
-pub greatest-found : {R : Type 0} (r : Option R) (now : R → VersionValue) (sets : List (Ends VersionValue))
-    (versions : List VersionValue) → IsBestOrNone version_cmp sets versions (option_map now r)
-    → IfSome r (λ v. IsGreatestAdmitted sets versions (now v))
-greatest-found (Some v) now sets versions first = record {
+-- the best by precedence is the greatest
+abbrev pub as-greatest : (sets : List (Ends VersionValue)) (versions : List VersionValue) (v : VersionValue)
+    → IsFirstBest (λ (w : VersionValue) (u : VersionValue). version_cmp u w ≡ Less) sets versions v
+    → IsGreatestAdmitted sets versions v
+as-greatest sets versions v first = record {
   before = first.before;
   after = first.after;
   parts = first.parts;
   admitted = first.admitted;
-  none_better = all-map (NoneBetter version_cmp upward-order sets (now v))
-      (λ (w : VersionValue). RangeAdmits sets w → ¬ IsBelow (now v) w) versions
-      (λ w none admitted below. none admitted (version-Less (now v) w below)) first.none_better;
+  none_better = all-map (NoneBetter version_cmp upward-order sets v)
+      (λ (w : VersionValue). RangeAdmits sets w → ¬ IsBelow v w) versions
+      (λ w none admitted below. none admitted (version-Less v w below)) first.none_better;
   none_same = first.none_same;
 }
+
+-- and by precedence turned round the least
+abbrev pub as-least : (sets : List (Ends VersionValue)) (versions : List VersionValue) (v : VersionValue)
+    → IsFirstBest (λ (w : VersionValue) (u : VersionValue). downward u w ≡ Less) sets versions v
+    → IsLeastAdmittedIn sets versions v
+as-least sets versions v first = record {
+  before = first.before;
+  after = first.after;
+  parts = first.parts;
+  admitted = first.admitted;
+  none_better = all-map (NoneBetter downward downward-order sets v)
+      (λ (w : VersionValue). RangeAdmits sets w → ¬ IsBelow w v) versions
+      (λ w none admitted below. none admitted (version-Less w v below)) first.none_better;
+  none_same = first.none_same;
+}
+
+pub greatest-found : {R : Type 0} (r : Option R) (now : R → VersionValue) (sets : List (Ends VersionValue))
+    (versions : List VersionValue) → IsBestOrNone version_cmp sets versions (option_map now r)
+    → IfSome r (λ v. IsGreatestAdmitted sets versions (now v))
+greatest-found (Some v) now sets versions first = as-greatest sets versions (now v) first
 greatest-found None now sets versions none = tt
 
 pub least-found : {R : Type 0} (r : Option R) (now : R → VersionValue) (sets : List (Ends VersionValue))
     (versions : List VersionValue) → IsBestOrNone downward sets versions (option_map now r)
     → IfSome r (λ v. IsLeastAdmittedIn sets versions (now v))
-least-found (Some v) now sets versions first = record {
-  before = first.before;
-  after = first.after;
-  parts = first.parts;
-  admitted = first.admitted;
-  none_better = all-map (NoneBetter downward downward-order sets (now v))
-      (λ (w : VersionValue). RangeAdmits sets w → ¬ IsBelow w (now v)) versions
-      (λ w none admitted below. none admitted (version-Less w (now v) below)) first.none_better;
-  none_same = first.none_same;
-}
+least-found (Some v) now sets versions first = as-least sets versions (now v) first
 least-found None now sets versions none = tt
 
-none-at : (sets : List (Ends VersionValue)) (before after versions : List VersionValue) (v : VersionValue)
+pub none-at : (sets : List (Ends VersionValue)) (before after versions : List VersionValue) (v : VersionValue)
     → versions ≡ before ++ v ∷ after → RangeAdmits sets v → ¬ AdmitsNoneIn sets versions
 none-at sets before after versions v parts admits none =
     turned-away before (subst (AdmitsNoneIn sets) parts none)

@@ -9,7 +9,7 @@ use node_semver::Range;
 use std::alloc::{AllocError, Global};
 use std::marker::Model;
 
-/// A range on the heap, which whoever has this struct frees; or no range.
+/// Owns a range on the heap; or is empty, and its pointer is null.
 #[repr(C)]
 #[derive(Drop)]
 pub struct RangeHandle {
@@ -61,7 +61,7 @@ impl RangeHandle {
     }
 }
 
-/// A range that is lent: it lies there, and nobody changes or frees it while this is read.
+/// Borrows a range: while the borrow lasts, nobody changes or frees it.
 #[repr(C)]
 #[derive(Drop)]
 pub struct RangeRef {

@@ -8,7 +8,7 @@ use node_semver::Version;
 use std::alloc::{AllocError, Global};
 use std::marker::Model;
 
-/// A version on the heap, which whoever has this struct frees; or no version.
+/// Owns a version on the heap; or is empty, and its pointer is null.
 #[repr(C)]
 #[derive(Drop)]
 pub struct VersionHandle {
@@ -60,7 +60,7 @@ impl VersionHandle {
     }
 }
 
-/// A version that is lent: it lies there, and nobody changes or frees it while this is read.
+/// Borrows a version: while the borrow lasts, nobody changes or frees it.
 #[repr(C)]
 #[derive(Drop)]
 pub struct VersionRef {

@@ -1,14 +1,17 @@
 use Rattle.std.proofs.Common.{subst}
 use Rattle.std.specs.Option.{option_map}
-use Rattle.node_semver_c.specs.Greatest.{IsGreater}
+use Rattle.node_semver_c.specs.Greatest.{IsBetterAt}
 use Rattle.node_semver_c.proofs.GreatestPlaces.{taken-place}
 use Rattle.node_semver_c.proofs.greatest.greatest.Goals as goal
+use Rattle.semver_sets.specs.Comparison.{version_cmp}
 use Rattle.semver_sets.specs.Version.{VersionValue}
+use Rattle.node_semver.proofs.Least.GreatestLemmas.{upward-order}
 
 pub versions-preserved : goal.versions-preserved
 versions-preserved c =
     let before = option_map (λ b. (b.0, b.1.now)) c.versions.best in
     let after = option_map (λ b. (b.0, b.1.now)) c.greater-best.result in
-    taken-place c.args.range.now c.args.versions.now c.versions.place c.index-versions-place.result before after
-    c.versions-test.true c.index-versions-place.is c.versions.invariant
-    (subst (λ (v : VersionValue). IsGreater c.args.range.now before c.versions.place v after) c.get.ensures c.greater-best.ensures)
+    taken-place version_cmp upward-order c.args.range.now c.args.versions.now c.versions.place
+    c.index-versions-place.result before after c.versions-test.true c.index-versions-place.is c.versions.invariant
+    (subst (λ (v : VersionValue). IsBetterAt version_cmp c.args.range.now before c.versions.place v after) c.get.ensures
+    c.greater-best.ensures)

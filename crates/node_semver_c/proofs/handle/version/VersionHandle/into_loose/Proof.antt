@@ -97,7 +97,7 @@ into_loose_spec 𝓤 𝓛 𝓜 𝓡 wired =
     sets ! (bin ! (get_in ! (fld ! refl (stop !)) (sub ! 0 refl (whole !))) (lit ! tt)
     (tests_null (block_ptr b o) may)) refl (tt, tt) $
     first ! $ branches ! (get ! refl) (λ t. absurd t)
-    (λ t. skips ! $ exec ! 𝓣.C 𝓣.Λ (env code.function.locals l) code.Mir.t-3 (at_ret (env code.function.locals l) Post) $
+    (λ t. let En = env code.function.locals l in skips ! $ exec ! 𝓣.C 𝓣.Λ En code.Mir.t-3 (at_ret En Post) $
     sets ! (of_opd ! (get_in ! (fld ! refl (stop !)) (sub ! 0 refl (whole !)))) refl (tt, tt) $ sets !
     (of_opd ! (get ! refl)) refl (tt, tt) $
     sets ! (agg ! (and_then ! (get ! refl) (and_then ! (get ! refl) (no_more !)))) refl

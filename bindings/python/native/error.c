@@ -1,0 +1,49 @@
+/* SPDX-License-Identifier: Apache-2.0
+ *
+ * The exceptions that the module raises.
+ */
+#include "native.h"
+
+/* The names of the kinds of faults, which node_semver.h numbers from 1. */
+static const char *const KIND_NAMES[] = {
+    NULL, "MaxLengthError", "IncompleteInput", "ParseIntError", "MaxIntError", "Context", "NoValidRanges", "Other",
+};
+
+void raise_wrong_type(const char *wanted, PyObject *value)
+{
+    PyObject *name = PyObject_GetAttrString((PyObject *)Py_TYPE(value), "__name__");
+    if (name == NULL)
+        return;
+    PyErr_Format(PyExc_TypeError, "%s, not %U", wanted, name);
+    Py_DECREF(name);
+}
+
+/* SemverError(text, kind, offset, number), where the number is that of MaxIntError and None of every other kind. */
+static void raise_refusal(native_state *state, PyObject *text, const node_semver_fault *fault)
+{
+    PyObject *number, *error;
+    if (fault->kind == 0 || fault->kind >= sizeof KIND_NAMES / sizeof *KIND_NAMES) {
+        PyErr_Format(PyExc_SystemError, "a fault of unknown kind %u", (unsigned)fault->kind);
+        return;
+    }
+    number = fault->kind == NODE_SEMVER_MAX_INT ? PyLong_FromUnsignedLongLong(fault->number) : Py_NewRef(Py_None);
+    if (number == NULL)
+        return;
+    error = PyObject_CallFunction(state->error_type, "OsnO", text, KIND_NAMES[fault->kind],
+                                  (Py_ssize_t)fault->offset, number);
+    Py_DECREF(number);
+    if (error == NULL)
+        return;
+    PyErr_SetObject(state->error_type, error);
+    Py_DECREF(error);
+}
+
+void raise_status(native_state *state, node_semver_status status, PyObject *text, const node_semver_fault *fault)
+{
+    if (status == NODE_SEMVER_OUT_OF_MEMORY)
+        PyErr_NoMemory();
+    else if (status == NODE_SEMVER_REFUSED)
+        raise_refusal(state, text, fault);
+    else
+        PyErr_Format(PyExc_SystemError, "an unexpected status %u", (unsigned)status);
+}

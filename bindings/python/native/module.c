@@ -1,0 +1,111 @@
+/* SPDX-License-Identifier: Apache-2.0
+ *
+ * The extension module node_semver._native. It has no global state: each interpreter has types of its own.
+ */
+#include "native.h"
+
+PyDoc_STRVAR(satisfies_doc,
+"satisfies($module, version, range, /)\n"
+"--\n"
+"\n"
+"Whether the version of one text is in the range of another, read and checked in one call.\n"
+"\n"
+">>> satisfies('1.3.0', '^1.2.3'), satisfies('2.0.0', '^1.2.3')\n"
+"(True, False)");
+
+/* `arguments` are the two texts, the version's first. The range is read first, and its fault alone is NoValidRanges. */
+static PyObject *satisfies(PyObject *module, PyObject *arguments)
+{
+    PyObject *version, *range;
+    const char *version_start, *range_start;
+    Py_ssize_t version_length, range_length;
+    node_semver_fault fault = {0, 0, 0};
+    node_semver_status status;
+    bool inside;
+    if (!PyArg_UnpackTuple(arguments, "satisfies", 2, 2, &version, &range))
+        return NULL;
+    version_start = text_of(version, "a version must be a str", &version_length);
+    range_start = version_start == NULL ? NULL : text_of(range, "a range must be a str", &range_length);
+    if (range_start == NULL)
+        return NULL;
+    status = node_semver_satisfies_text(range_start, (size_t)range_length, version_start, (size_t)version_length,
+                                        &inside, &fault);
+    if (status == NODE_SEMVER_OK)
+        return PyBool_FromLong(inside);
+    raise_status(PyModule_GetState(module), status, fault.kind == NODE_SEMVER_NO_VALID_RANGES ? range : version,
+                 &fault);
+    return NULL;
+}
+
+static PyMethodDef module_functions[] = {
+    {"satisfies", satisfies, METH_VARARGS, satisfies_doc},
+    {NULL, NULL, 0, NULL},
+};
+
+/* Makes a type and adds it to the module; NULL with an exception. */
+static PyTypeObject *add_type(PyObject *module, PyType_Spec *spec)
+{
+    PyTypeObject *type = (PyTypeObject *)PyType_FromModuleAndSpec(module, spec, NULL);
+    if (type != NULL && PyModule_AddType(module, type) != 0)
+        Py_CLEAR(type);
+    return type;
+}
+
+static int fill_module(PyObject *module)
+{
+    native_state *state = PyModule_GetState(module);
+    PyObject *errors = PyImport_ImportModule("node_semver._error");
+    if (errors == NULL)
+        return -1;
+    state->error_type = PyObject_GetAttrString(errors, "SemverError");
+    Py_DECREF(errors);
+    if (state->error_type == NULL)
+        return -1;
+    state->version_type = add_type(module, &version_spec);
+    if (state->version_type == NULL)
+        return -1;
+    state->range_type = add_type(module, &range_spec);
+    return state->range_type == NULL ? -1 : 0;
+}
+
+static int visit_module(PyObject *module, visitproc visit, void *arg)
+{
+    native_state *state = PyModule_GetState(module);
+    if (state == NULL)
+        return 0;
+    Py_VISIT(state->version_type);
+    Py_VISIT(state->range_type);
+    Py_VISIT(state->error_type);
+    return 0;
+}
+
+static int clear_module(PyObject *module)
+{
+    native_state *state = PyModule_GetState(module);
+    if (state == NULL)
+        return 0;
+    Py_CLEAR(state->version_type);
+    Py_CLEAR(state->range_type);
+    Py_CLEAR(state->error_type);
+    return 0;
+}
+
+static void free_module(void *module)
+{
+    clear_module(module);
+}
+
+static PyModuleDef_Slot module_slots[] = {
+    {Py_mod_exec, fill_module},
+    {0, NULL},
+};
+
+static PyModuleDef module_definition = {
+    PyModuleDef_HEAD_INIT, "node_semver._native", "npm's versions and version ranges.", sizeof(native_state),
+    module_functions, module_slots, visit_module, clear_module, free_module,
+};
+
+PyMODINIT_FUNC PyInit__native(void)
+{
+    return PyModuleDef_Init(&module_definition);
+}

@@ -1,0 +1,96 @@
+/* SPDX-License-Identifier: Apache-2.0
+ *
+ * Texts: of arguments, of prints, and what Version and Range have in common about them.
+ */
+#include "native.h"
+
+PyObject *printed(printer *print, const void *value, size_t place)
+{
+    char room[256];
+    char *longer;
+    PyObject *text;
+    size_t length = print(value, place, room, sizeof room);
+    if (length == 0)
+        return PyErr_NoMemory();
+    if (length <= sizeof room)
+        return PyUnicode_FromStringAndSize(room, (Py_ssize_t)length);
+    longer = PyMem_Malloc(length);
+    if (longer == NULL)
+        return PyErr_NoMemory();
+    if (print(value, place, longer, length) == length)
+        text = PyUnicode_FromStringAndSize(longer, (Py_ssize_t)length);
+    else
+        text = PyErr_NoMemory();
+    PyMem_Free(longer);
+    return text;
+}
+
+const char *text_of(PyObject *value, const char *wanted, Py_ssize_t *length)
+{
+    if (!PyUnicode_Check(value)) {
+        raise_wrong_type(wanted, value);
+        return NULL;
+    }
+    return PyUnicode_AsUTF8AndSize(value, length);
+}
+
+PyObject *only_argument(const char *name, PyObject *arguments, PyObject *keywords)
+{
+    if (keywords != NULL && PyDict_Size(keywords) != 0) {
+        PyErr_Format(PyExc_TypeError, "%s() takes no keyword arguments", name);
+        return NULL;
+    }
+    if (PyTuple_Size(arguments) != 1) {
+        PyErr_Format(PyExc_TypeError, "%s() takes exactly one argument (%zd given)", name, PyTuple_Size(arguments));
+        return NULL;
+    }
+    return PyTuple_GetItem(arguments, 0);
+}
+
+PyObject *same_object(PyObject *self, PyObject *ignored)
+{
+    (void)ignored;
+    return Py_NewRef(self);
+}
+
+/* Whether the text is read as a value equal to `self`: 1, 0, or -1 with an exception. A refusal counts as 0. */
+static int reads_back(PyObject *self, PyObject *text)
+{
+    int same;
+    PyObject *again = PyObject_CallFunction((PyObject *)Py_TYPE(self), "(O)", text);
+    if (again == NULL) {
+        if (!PyErr_ExceptionMatches(PyExc_ValueError))
+            return -1;
+        PyErr_Clear();
+        return 0;
+    }
+    same = PyObject_RichCompareBool(self, again, Py_EQ);
+    Py_DECREF(again);
+    return same;
+}
+
+/* The repr is made before the message: if it failed inside PyErr_Format, an older Python would raise a ValueError
+ * without a text. */
+static void raise_not_read_back(PyObject *self)
+{
+    PyObject *repr = PyObject_Repr(self);
+    if (repr == NULL)
+        return;
+    PyErr_Format(PyExc_ValueError, "cannot pickle %U: its text is not read as the same value", repr);
+    Py_DECREF(repr);
+}
+
+PyObject *reduced(PyObject *self, PyObject *text)
+{
+    PyObject *result = NULL;
+    int same;
+    if (text == NULL)
+        return NULL;
+    same = reads_back(self, text);
+    if (same == 1)
+        result = Py_BuildValue("(O(O))", (PyObject *)Py_TYPE(self), text);
+    else if (same == 0)
+        raise_not_read_back(self);
+    Py_DECREF(text);
+    return result;
+}

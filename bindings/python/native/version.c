@@ -1,0 +1,252 @@
+/* SPDX-License-Identifier: Apache-2.0
+ *
+ * The type Version.
+ */
+#include "native.h"
+
+#include <string.h>
+
+PyObject *new_version(PyTypeObject *type, node_semver_version handle)
+{
+    version_object *self = PyObject_New(version_object, type);
+    if (self == NULL) {
+        node_semver_version_free(handle);
+        return NULL;
+    }
+    self->handle = handle;
+    return (PyObject *)self;
+}
+
+PyObject *read_version(native_state *state, PyObject *text)
+{
+    node_semver_version handle = NODE_SEMVER_EMPTY;
+    node_semver_fault fault = {0, 0, 0};
+    node_semver_status status;
+    Py_ssize_t length;
+    const char *start = text_of(text, "a version must be a str", &length);
+    if (start == NULL)
+        return NULL;
+    status = node_semver_version_parse(start, (size_t)length, &handle, &fault);
+    if (status == NODE_SEMVER_OK)
+        return new_version(state->version_type, handle);
+    raise_status(state, status, text, &fault);
+    return NULL;
+}
+
+PyObject *as_version(native_state *state, PyObject *item)
+{
+    if (Py_TYPE(item) == state->version_type)
+        return Py_NewRef(item);
+    if (PyUnicode_Check(item))
+        return read_version(state, item);
+    raise_wrong_type("a version must be a Version or a str", item);
+    return NULL;
+}
+
+static PyObject *version_new(PyTypeObject *type, PyObject *arguments, PyObject *keywords)
+{
+    PyObject *text = only_argument("Version", arguments, keywords);
+    return text == NULL ? NULL : read_version(PyType_GetModuleState(type), text);
+}
+
+static void version_dealloc(PyObject *self)
+{
+    PyTypeObject *type = Py_TYPE(self);
+    node_semver_version_free(*VERSION_OF(self));
+    PyObject_Free(self);
+    Py_DECREF(type);
+}
+
+static size_t print_version(const void *version, size_t place, char *room, size_t size)
+{
+    (void)place;
+    return node_semver_version_print(version, room, size);
+}
+
+static PyObject *version_str(PyObject *self)
+{
+    return printed(print_version, VERSION_OF(self), 0);
+}
+
+static PyObject *version_repr(PyObject *self)
+{
+    PyObject *repr, *text = version_str(self);
+    if (text == NULL)
+        return NULL;
+    repr = PyUnicode_FromFormat("Version(%R)", text);
+    Py_DECREF(text);
+    return repr;
+}
+
+static Py_hash_t version_hash(PyObject *self)
+{
+    Py_hash_t hash = (Py_hash_t)node_semver_version_hash(VERSION_OF(self));
+    return hash == -1 ? -2 : hash;
+}
+
+/* The type is final, so two values of one type are two Versions. */
+static PyObject *version_compare(PyObject *one, PyObject *other, int operation)
+{
+    int32_t order;
+    if (Py_TYPE(one) != Py_TYPE(other))
+        Py_RETURN_NOTIMPLEMENTED;
+    order = node_semver_version_compare(VERSION_OF(one), VERSION_OF(other));
+    Py_RETURN_RICHCOMPARE(order, 0, operation);
+}
+
+static PyObject *version_major(PyObject *self, void *ignored)
+{
+    (void)ignored;
+    return PyLong_FromUnsignedLongLong(node_semver_version_major(VERSION_OF(self)));
+}
+
+static PyObject *version_minor(PyObject *self, void *ignored)
+{
+    (void)ignored;
+    return PyLong_FromUnsignedLongLong(node_semver_version_minor(VERSION_OF(self)));
+}
+
+static PyObject *version_patch(PyObject *self, void *ignored)
+{
+    (void)ignored;
+    return PyLong_FromUnsignedLongLong(node_semver_version_patch(VERSION_OF(self)));
+}
+
+static PyObject *version_is_prerelease(PyObject *self, void *ignored)
+{
+    (void)ignored;
+    return PyBool_FromLong(node_semver_version_is_prerelease(VERSION_OF(self)));
+}
+
+/* Whether an identifier is a number: digits alone, at most 18446744073709551615. The library prints such a number
+ * without leading zeros, and keeps a greater one as a text. */
+static int is_number(const char *text, size_t length)
+{
+    if (strspn(text, "0123456789") != length)
+        return 0;
+    return length < 20 || (length == 20 && strcmp(text, "18446744073709551615") <= 0);
+}
+
+static PyObject *identifier(printer *print, const node_semver_version *version, size_t place)
+{
+    PyObject *result = NULL, *text = printed(print, version, place);
+    Py_ssize_t length;
+    const char *start;
+    if (text == NULL)
+        return NULL;
+    start = PyUnicode_AsUTF8AndSize(text, &length);
+    if (start != NULL)
+        result = is_number(start, (size_t)length) ? PyLong_FromString(start, NULL, 10) : Py_NewRef(text);
+    Py_DECREF(text);
+    return result;
+}
+
+static PyObject *identifiers(printer *print, const node_semver_version *version, size_t count)
+{
+    size_t place;
+    PyObject *tuple = PyTuple_New((Py_ssize_t)count);
+    for (place = 0; tuple != NULL && place < count; place++) {
+        PyObject *item = identifier(print, version, place);
+        if (item == NULL || PyTuple_SetItem(tuple, (Py_ssize_t)place, item) != 0) {
+            Py_DECREF(tuple);
+            return NULL;
+        }
+    }
+    return tuple;
+}
+
+static size_t print_prerelease(const void *version, size_t place, char *room, size_t size)
+{
+    return node_semver_version_pre_release_print(version, place, room, size);
+}
+
+static size_t print_build(const void *version, size_t place, char *room, size_t size)
+{
+    return node_semver_version_build_print(version, place, room, size);
+}
+
+static PyObject *version_prerelease(PyObject *self, void *ignored)
+{
+    const node_semver_version *version = VERSION_OF(self);
+    (void)ignored;
+    return identifiers(print_prerelease, version, node_semver_version_pre_release_count(version));
+}
+
+static PyObject *version_build(PyObject *self, void *ignored)
+{
+    const node_semver_version *version = VERSION_OF(self);
+    (void)ignored;
+    return identifiers(print_build, version, node_semver_version_build_count(version));
+}
+
+static PyObject *version_reduce(PyObject *self, PyObject *ignored)
+{
+    (void)ignored;
+    return reduced(self, version_str(self));
+}
+
+PyDoc_STRVAR(version_doc,
+"Version(text, /)\n"
+"--\n"
+"\n"
+"A version, read from a text in npm's loose form. It never changes.\n"
+"\n"
+">>> Version('v1.2.3-rc.4+build.5')\n"
+"Version('1.2.3-rc.4+build.5')\n"
+"\n"
+"Versions are ordered by SemVer 2.0.0, section 11. The build is neither compared nor hashed.\n"
+"\n"
+">>> Version('1.2.3-rc.4') < Version('1.2.3') == Version('1.2.3+build')\n"
+"True\n"
+">>> Version('1.10.0') > Version('1.9.0')\n"
+"True\n"
+"\n"
+"A text that is not a version raises SemverError.\n"
+"\n"
+">>> Version('1.2')\n"
+"Traceback (most recent call last):\n"
+"    ...\n"
+"node_semver.SemverError: Context at byte 3: a number or a dot is missing\n"
+"    1.2\n"
+"       ^");
+
+static PyGetSetDef version_fields[] = {
+    {"major", version_major, NULL, "The first number.\n\n>>> Version('1.2.3').major\n1", NULL},
+    {"minor", version_minor, NULL, "The second number.\n\n>>> Version('1.2.3').minor\n2", NULL},
+    {"patch", version_patch, NULL, "The third number.\n\n>>> Version('1.2.3').patch\n3", NULL},
+    {"prerelease", version_prerelease, NULL,
+     "The identifiers of the prerelease: an int where one is a number, and a str otherwise.\n\n"
+     ">>> Version('1.2.3-rc.4').prerelease\n('rc', 4)\n>>> Version('1.2.3').prerelease\n()", NULL},
+    {"build", version_build, NULL,
+     "The identifiers of the build: an int where one is a number, and a str otherwise.\n\n"
+     ">>> Version('1.2.3+linux.64').build\n('linux', 64)", NULL},
+    {"is_prerelease", version_is_prerelease, NULL,
+     "Whether the version has a prerelease.\n\n>>> Version('1.2.3-rc.4').is_prerelease\nTrue\n"
+     ">>> Version('1.2.3+build').is_prerelease\nFalse", NULL},
+    {NULL, NULL, NULL, NULL, NULL},
+};
+
+static PyMethodDef version_methods[] = {
+    {"__copy__", same_object, METH_NOARGS, "__copy__($self, /)\n--\n\nThe version itself: it never changes."},
+    {"__deepcopy__", same_object, METH_O, "__deepcopy__($self, memo, /)\n--\n\nThe version itself: it never changes."},
+    {"__reduce__", version_reduce, METH_NOARGS,
+     "__reduce__($self, /)\n--\n\nWhat pickle stores: the text. Raises ValueError if the text is not read back."},
+    {NULL, NULL, 0, NULL},
+};
+
+static PyType_Slot version_slots[] = {
+    {Py_tp_doc, (void *)version_doc},
+    {Py_tp_new, version_new},
+    {Py_tp_dealloc, version_dealloc},
+    {Py_tp_str, version_str},
+    {Py_tp_repr, version_repr},
+    {Py_tp_hash, version_hash},
+    {Py_tp_richcompare, version_compare},
+    {Py_tp_getset, version_fields},
+    {Py_tp_methods, version_methods},
+    {0, NULL},
+};
+
+PyType_Spec version_spec = {
+    "node_semver.Version", sizeof(version_object), 0, Py_TPFLAGS_DEFAULT | Py_TPFLAGS_IMMUTABLETYPE, version_slots,
+};

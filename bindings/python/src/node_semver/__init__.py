@@ -1,0 +1,16 @@
+# SPDX-License-Identifier: Apache-2.0
+"""npm's versions and version ranges: `Version` and `Range`.
+
+>>> wanted = Range('^1.2.3-rc.4 || >=3')
+>>> '1.9.0' in wanted
+True
+>>> wanted.max_satisfying(['1.3.0', '1.10.0', '2.0.0'])
+'1.10.0'
+>>> sorted(map(Version, ['1.10.0', '1.9.0', '1.10.0-rc.1']))
+[Version('1.9.0'), Version('1.10.0-rc.1'), Version('1.10.0')]
+"""
+
+from ._error import FaultKind, SemverError
+from ._native import Range, Version, satisfies
+
+__all__ = ["FaultKind", "Range", "SemverError", "Version", "satisfies"]

@@ -1,0 +1,69 @@
+# SPDX-License-Identifier: Apache-2.0
+"""The exception for a text that is not a version or not a range."""
+
+from typing import Literal, Optional
+
+FaultKind = Literal[
+    "MaxLengthError", "IncompleteInput", "ParseIntError", "MaxIntError", "Context", "NoValidRanges", "Other"
+]
+
+_REASONS = {
+    "MaxLengthError": "a version has at most 256 bytes",
+    "ParseIntError": "a number is above 18446744073709551615",
+    "MaxIntError": "a number is above 9007199254740991",
+    "Context": "a number or a dot is missing",
+    "NoValidRanges": "no alternative is a range that a version can be in",
+    "Other": "the version ends here, and the text does not",
+}
+
+# How many characters of a long text the message shows on each side of the fault.
+_SHOWN = 60
+
+
+class SemverError(ValueError):
+    """A text that is not a version, or not a range.
+
+    The message shows the text with a caret under the fault.
+
+    >>> try:
+    ...     Version('1.2.3 beta')
+    ... except SemverError as error:
+    ...     print(error)
+    ...     print(error.kind, error.offset, error.number)
+    Other at byte 5: the version ends here, and the text does not
+        1.2.3 beta
+             ^
+    Other 5 None
+    """
+
+    #: What is wrong: a name, as `Context`.
+    kind: FaultKind
+    #: Where it is wrong: the number of bytes before the fault in the text as UTF-8.
+    offset: int
+    #: The text.
+    text: str
+    #: The number of a `MaxIntError`, and None for every other kind.
+    number: Optional[int]
+
+    def __init__(self, text: str, kind: FaultKind, offset: int, number: Optional[int] = None) -> None:
+        super().__init__(text, kind, offset, number)  # the arguments that pickle and copy pass again
+        self.text = text
+        self.kind = kind
+        self.offset = offset
+        self.number = number
+
+    def __str__(self) -> str:
+        place = len(self.text.encode("utf-8", "surrogatepass")[: self.offset].decode("utf-8", "ignore"))
+        start = max(0, place - _SHOWN)
+        before = ("..." if start > 0 else "") + _visible(self.text[start:place])
+        after = _visible(self.text[place : place + _SHOWN]) + ("..." if place + _SHOWN < len(self.text) else "")
+        reason = _REASONS.get(self.kind, "the text is refused")
+        return f"{self.kind} at byte {self.offset}: {reason}\n    {before}{after}\n    {' ' * len(before)}^"
+
+
+SemverError.__module__ = "node_semver"
+
+
+def _visible(text: str) -> str:
+    """The text with an escape for each character that does not print, so that the caret stands in its column."""
+    return "".join(c if c.isprintable() else c.encode("unicode_escape").decode("ascii") for c in text)

@@ -1,0 +1,150 @@
+# SPDX-License-Identifier: Apache-2.0
+"""Each allocation of each call fails in turn: the call raises MemoryError, and keeps no memory.
+
+One failure may be none: where a block cannot be made shorter, the library may go on with the longer one.
+
+It runs from the build that NODE_SEMVER_REFUSE=1 makes.
+"""
+
+import ctypes
+import gc
+import pickle
+import sys
+import unittest
+from typing import Callable, List, Tuple, Union
+
+import node_semver
+from node_semver import Range, Version, satisfies
+
+NATIVE = ctypes.PyDLL(sys.modules["node_semver._native"].__file__)
+NATIVE.refuse_at.argtypes = [ctypes.c_long]
+NATIVE.blocks_kept.restype = ctypes.c_long
+
+LONG = "1.2.3-" + ".".join("a" * 20 for _ in range(11))  # its print needs more than the room of a short one
+VERSION, WANTED, OTHER = Version("1.2.3-rc.4+b.18446744073709551616"), Range("^1.2.3-rc.4 || >=3"), Range("<3.1.0-a.b")
+ASKED: List[Union[Version, str]] = [VERSION, "3.2.1-rc.4", "3.2.1"]
+LONGEST, MANY = Version("1.2.3" + "a" * 251), "||".join(f"^{n}.2.3-rc.{n}" for n in range(40))
+
+
+def refused(read: Callable[[], object]) -> object:
+    """What a call raises for a text that is refused, but for MemoryError."""
+    try:
+        return read()
+    except ValueError as error:
+        return str(error)
+
+
+# A call, and the least number of allocations that it has.
+CALLS: List[Tuple[Callable[[], object], int]] = [
+    (lambda: Version("1.2.3"), 2),
+    (lambda: Version("1.2.3-rc.4.some-identifier+build.5"), 5),
+    (lambda: str(VERSION), 1),
+    (lambda: repr(VERSION), 2),
+    (lambda: str(LONGEST), 2),
+    (lambda: VERSION.major, 1),
+    (lambda: VERSION.minor, 1),
+    (lambda: VERSION.patch, 1),
+    (lambda: VERSION.prerelease, 4),
+    (lambda: VERSION.build, 3),
+    (lambda: Range("^1.2.3"), 2),
+    (lambda: Range(MANY), 40),
+    (lambda: str(Range(MANY)), 42),
+    (lambda: repr(Range("^1.2.3")), 4),
+    (lambda: "1.2.3-rc.5" in WANTED, 3),
+    (lambda: satisfies("1.2.3-rc.5", "^1.2.3-rc.4"), 2),
+    (lambda: WANTED & OTHER, 2),
+    (lambda: WANTED - OTHER, 2),
+    (lambda: WANTED | OTHER, 2),
+    (lambda: Range("1") & Range("2"), 4),
+    (lambda: WANTED.min_version(), 2),
+    (lambda: WANTED.least_beyond(OTHER), 2),
+    (lambda: WANTED.filter(ASKED), 5),
+    (lambda: WANTED.max_satisfying(ASKED), 4),
+    (lambda: WANTED.min_satisfying(ASKED), 4),
+    (lambda: pickle.loads(pickle.dumps(VERSION)), 6),
+    (lambda: pickle.loads(pickle.dumps(WANTED)), 4),
+    (lambda: refused(lambda: pickle.dumps(LONGEST)), 3),
+    (lambda: refused(lambda: Version("1.2")), 1),
+    (lambda: refused(lambda: Version("1.2.9007199254740992")), 2),
+    (lambda: refused(lambda: Range("latest")), 1),
+    (lambda: refused(lambda: WANTED.filter(["1.2.3", "no"])), 4),
+    (lambda: refused(lambda: WANTED.max_satisfying(["1.2.3", "no"])), 4),
+    (lambda: refused(lambda: satisfies("1.2", "^1")), 1),
+]
+
+# Calls that must not allocate.
+PLAIN_CALLS: List[Callable[[], object]] = [
+    lambda: VERSION in WANTED,
+    lambda: (hash(VERSION), hash(WANTED)),
+    lambda: (VERSION == LONGEST, VERSION < LONGEST, WANTED == OTHER),
+    lambda: VERSION.is_prerelease,
+    lambda: Range.__copy__(WANTED),
+]
+
+
+class Refused(unittest.TestCase):
+    def tearDown(self) -> None:
+        NATIVE.refuse_at(-1)
+
+    def call_refused(self, call: Callable[[], object], place: int) -> bool:
+        """Whether the call has an allocation at the place, which fails."""
+        is_error, answer = False, None
+        NATIVE.refuse_at(place)
+        try:
+            answer = call()
+        except MemoryError:
+            is_error = True
+        came, was_shrink = NATIVE.has_refused(), NATIVE.was_shrink()
+        NATIVE.refuse_at(-1)
+        if was_shrink and not is_error:
+            self.assertEqual(answer, call())
+        else:
+            self.assertEqual(came, is_error, f"allocation {place}; the call returned {answer!r}")
+        return bool(came)
+
+    def test_each_allocation(self) -> None:
+        for call, least in CALLS:
+            with self.subTest(line=call.__code__.co_firstlineno):
+                wanted, place = call(), 0
+                while self.call_refused(call, place):
+                    place += 1
+                self.assertGreaterEqual(place, least)
+                self.assertEqual(call(), wanted)
+
+    def blocks_of(self, call: Callable[[], object], place: int, times: int) -> Tuple[int, int]:
+        """How many blocks more the library and Python have after failed calls."""
+        gc.collect()
+        kept, blocks = NATIVE.blocks_kept(), sys.getallocatedblocks()
+        for _ in range(times):
+            self.call_refused(call, place)
+        gc.collect()
+        return NATIVE.blocks_kept() - kept, sys.getallocatedblocks() - blocks
+
+    def test_a_failed_call_keeps_nothing(self) -> None:
+        for call, _ in CALLS:
+            with self.subTest(line=call.__code__.co_firstlineno):
+                call()
+                place = 0
+                while self.call_refused(call, place):
+                    self.blocks_of(call, place, 20)  # Python keeps the first exceptions to use them again
+                    library, python = self.blocks_of(call, place, 100)
+                    self.assertEqual(library, 0)
+                    self.assertLess(python, 50)
+                    place += 1
+
+    def test_calls_that_do_not_allocate(self) -> None:
+        for call in PLAIN_CALLS:
+            with self.subTest(line=call.__code__.co_firstlineno):
+                self.assertFalse(self.call_refused(call, 0))
+
+    def test_a_print_of_a_range_is_made_again(self) -> None:
+        fresh = Range("^1.2.3")
+        self.assertTrue(self.call_refused(lambda: str(fresh), 0))
+        self.assertEqual(str(fresh), ">=1.2.3 <2.0.0-0")
+
+    def test_the_package_is_the_test_build(self) -> None:
+        self.assertTrue(hasattr(NATIVE, "refuse_at"), node_semver.__file__)
+
+
+if __name__ == "__main__":
+    unittest.main()

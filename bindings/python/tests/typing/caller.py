@@ -1,0 +1,42 @@
+# SPDX-License-Identifier: Apache-2.0
+"""A caller that uses every public name; mypy --strict accepts it."""
+
+import copy
+from typing import List, Optional, Tuple, Union
+
+from node_semver import FaultKind, Range, SemverError, Version, satisfies
+
+version: Version = Version("1.2.3-rc.4")
+wanted: Range = Range("^1.2.3-rc.4 || >=3")
+numbers: Tuple[int, int, int] = (version.major, version.minor, version.patch)
+prerelease: Tuple[Union[int, str], ...] = version.prerelease
+build: Tuple[Union[int, str], ...] = version.build
+flags: List[bool] = [version.is_prerelease, version < Version("2.0.0"), version == 3, wanted != "1", version in wanted]
+texts: List[str] = [str(version), repr(wanted), f"{version}"]
+hashed = {version: 1}, {wanted: hash(version)}
+ordered: List[Version] = sorted([version, Version("1.0.0")])
+greatest: Version = max(ordered)
+
+both: Optional[Range] = wanted & Range("^1")
+union: Range = wanted | Range("^1")
+rest: Optional[Range] = wanted - Range("^1")
+least: Optional[Version] = wanted.min_version()
+beyond: Optional[Version] = wanted.least_beyond(Range("^1"))
+covers: bool = wanted.allows_all(Range("3.0.0")) and wanted.allows_any(Range("3.0.0"))
+
+# Items come back as they were given.
+kept_versions: List[Version] = wanted.filter([version])
+kept_texts: List[str] = wanted.filter(text for text in ["1.2.3"])
+kept: List[Union[Version, str]] = wanted.filter([version, "1.2.3"])
+best_version: Optional[Version] = wanted.max_satisfying((version,))
+best_text: Optional[str] = wanted.max_satisfying({"1.2.3"})
+worst_text: Optional[str] = wanted.min_satisfying(["1.2.3"])
+
+same: Version = copy.deepcopy(version)
+pair: bool = satisfies("1.2.3", "^1")
+
+try:
+    Version("1.2")
+except SemverError as error:
+    fault: Tuple[FaultKind, int, str, Optional[int]] = (error.kind, error.offset, error.text, error.number)
+    is_context: bool = error.kind == "Context"

@@ -1,0 +1,14 @@
+use Rattle.node_semver_c.specs.Answers.{IsUnion}
+use Rattle.node_semver_c.proofs.Found.{made_of}
+use Rattle.node_semver_c.proofs.algebra.union.Goals as goal
+
+pub returns-in-Ok : goal.returns-in-Ok
+returns-in-Ok c =
+    made_of (IsUnion c.args.one.now c.args.other.now) c.in-Ok.union
+    c.keep_range.result c.keep_range.new.held.value record {
+      sets = c.in-Ok.ensures.sets;
+      cuts = c.in-Ok.ensures.cuts;
+      admitted = c.in-Ok.ensures.admitted;
+      text = c.in-Ok.ensures.text;
+      holds = c.in-Ok.ensures.holds;
+    } c.keep_range.ensures

@@ -50,7 +50,11 @@ export function valid(version: string | SemVer | null | undefined, options?: Loo
 /** The same of a text without the white space, `=` and `v` before it. */
 export function clean(version: string, options?: Loose): string | null;
 export function parse(version: string | SemVer | null | undefined, options?: Loose, throwErrors?: false): SemVer | null;
-export function parse(version: string | SemVer | null | undefined, options: Loose | undefined, throwErrors: true): SemVer;
+export function parse(
+    version: string | SemVer | null | undefined,
+    options: Loose | undefined,
+    throwErrors: true,
+): SemVer;
 export function major(version: string | SemVer, options?: Loose): number;
 export function minor(version: string | SemVer, options?: Loose): number;
 export function patch(version: string | SemVer, options?: Loose): number;
@@ -77,8 +81,16 @@ export function rsort<T extends string | SemVer>(list: T[], options?: Loose): T[
 /** Whether the version satisfies the range: false too if one of them is refused. */
 export function satisfies(version: string | SemVer | null | undefined, range: string | Range, options?: Loose): boolean;
 /** The greatest version that satisfies the range: of equal ones the first, or null. */
-export function maxSatisfying<T extends string | SemVer>(versions: readonly T[], range: string | Range, options?: Loose): T | null;
-export function minSatisfying<T extends string | SemVer>(versions: readonly T[], range: string | Range, options?: Loose): T | null;
+export function maxSatisfying<T extends string | SemVer>(
+    versions: readonly T[],
+    range: string | Range,
+    options?: Loose,
+): T | null;
+export function minSatisfying<T extends string | SemVer>(
+    versions: readonly T[],
+    range: string | Range,
+    options?: Loose,
+): T | null;
 /** The least version that satisfies the range, or null if none does. */
 export function minVersion(range: string | Range, options?: Loose): SemVer | null;
 /** The range as it prints, or null if the text is no range. */

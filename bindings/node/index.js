@@ -17,7 +17,8 @@ const LONGEST_VERSION = 256;
 const REFUSED = 0;
 const HAS_MORE = 2;
 
-// How many ranges the native part keeps, at most `PLACES` of src/binding.h, and the greatest length of a text that is kept.
+// How many ranges the native part keeps, at most `PLACES` of src/binding.h, and the greatest length of a text that is
+// kept.
 const PLACES = 512;
 const LONGEST_KEPT = 128;
 
@@ -75,7 +76,8 @@ function putParts(semVer, key, hasMore) {
     semVer.version = triple + prerelease;
 }
 
-// The texts whose ranges are kept, and the place of each; `texts` by places, of which the next to be used is the oldest.
+// The texts whose ranges are kept, and the place of each; `texts` by places, of which the next to be used is the
+// oldest.
 const kept = new Map();
 const texts = [];
 let next = 0;

@@ -1,6 +1,7 @@
 #!/usr/bin/env node
 // SPDX-License-Identifier: Apache-2.0
-// Lists each dependency of the packages in a folder whose installed version does not satisfy the range that asks for it.
+// Lists each dependency of the packages in a folder whose installed version does not satisfy the range that asks for
+// it.
 //
 //     node examples/installed.js node_modules
 //
@@ -99,7 +100,8 @@ module.exports = { judge };
 
 if (require.main === module) {
     const { packages, dependencies, wrong, notRanges } = judge(process.argv[2] ?? 'node_modules');
-    wrong.forEach(({ asks, name, range, version }) => console.log(`${asks}\t${name}\t${range}\t${version ?? 'missing'}`));
+    wrong.forEach(({ asks, name, range, version }) =>
+        console.log(`${asks}\t${name}\t${range}\t${version ?? 'missing'}`));
     console.error(`${packages} packages, ${dependencies} dependencies, ${wrong.length} not satisfied, `
         + `${notRanges.length} without a range`);
     process.exitCode = wrong.length > 0 ? 1 : 0;

@@ -65,19 +65,6 @@ void free_versions(struct versions *versions) {
     free(versions->are_own);
 }
 
-/* The least version that satisfies the range: of equal ones the first. */
-static bool least_of(const struct versions *versions, const node_semver_range *range, size_t *place) {
-    bool is_found = false;
-    for (size_t i = 0; i < versions->count; i++) {
-        if (node_semver_satisfies(range, &versions->handles[i])
-            && (!is_found || node_semver_version_compare(&versions->handles[i], &versions->handles[*place]) < 0)) {
-            is_found = true;
-            *place = i;
-        }
-    }
-    return is_found;
-}
-
 static napi_value best_of(napi_env env, napi_value keys, const node_semver_range *range, bool is_greatest) {
     struct versions versions;
     napi_value result = NULL;
@@ -86,7 +73,7 @@ static napi_value best_of(napi_env env, napi_value keys, const node_semver_range
     if (status == NODE_SEMVER_OK) {
         bool is_found = is_greatest
             ? node_semver_max_satisfying(versions.handles, versions.count, range, &place)
-            : least_of(&versions, range, &place);
+            : node_semver_min_satisfying(versions.handles, versions.count, range, &place);
         result = of_int(env, is_found ? (int32_t)versions.places[place] : -1);
     } else {
         result = failed(env, status);

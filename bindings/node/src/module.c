@@ -22,8 +22,8 @@ static napi_value version_text(napi_env env, napi_callback_info info) {
     return result;
 }
 
-/* readVersion(key): puts the triple of the version into `triple`. Returns 0 where the key is none, 1 where the version is
- * a triple alone, and 2 where it has a prerelease or a build. */
+/* readVersion(key): puts the triple of the version into `triple`. Returns 0 where the key is none, 1 where the version
+ * is a triple alone, and 2 where it has a prerelease or a build. */
 static napi_value read_parts(napi_env env, napi_callback_info info) {
     napi_value key;
     struct version version;

@@ -151,7 +151,8 @@ async function comparePairs() {
 
 function checkReadme() {
     const readme = fs.readFileSync(path.join(__dirname, '../README.md'), 'utf8');
-    const table = readme.slice(readme.indexOf('| text | call | npm | here | why |')).split('\n\n')[0].split('\n').slice(2);
+    const begin = readme.indexOf('| text | call | npm | here | why |');
+    const table = readme.slice(begin).split('\n\n')[0].split('\n').slice(2);
     assert.deepStrictEqual(table, [...rules, ...results].map(row));
     for (const { example: [call, ...texts], npm: theirs, here: ours } of [...rules, ...results]) {
         assert.strictEqual(plain(npm[call](...texts, LOOSE)), theirs, `npm: ${call} ${texts}`);

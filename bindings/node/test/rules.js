@@ -1,7 +1,7 @@
 // SPDX-License-Identifier: Apache-2.0
 // Where this package differs from npm's `semver`: the rows of the README's table, each with a predicate that says which
-// texts the row is about: `version` of a version text, `range` of a range text as npm trims it. `calls` are the functions
-// that a row is about, where it is not about all. `example` is a call and its arguments.
+// texts the row is about: `version` of a version text, `range` of a range text as npm trims it. `calls` are the
+// functions that a row is about, where it is not about all. `example` is a call and its arguments.
 'use strict';
 
 const { createNpm } = require('./npm.js');
@@ -32,10 +32,12 @@ function neverHolds(alternative) {
     const comparators = comparatorsOf(alternative);
     const lower = comparators.filter(({ operator }) => !operator.startsWith('<'));
     const upper = comparators.filter(({ operator }) => !operator.startsWith('>'));
-    return upper.some(({ operator, semver }) => isUnderAll(operator, semver)) || lower.some((one) => upper.some((other) => {
+    const areCrossed = (one, other) => {
         const order = npm.compare(one.semver, other.semver);
         return order > 0 || (order === 0 && (one.operator === '>' || other.operator === '<'));
-    }));
+    };
+    return upper.some(({ operator, semver }) => isUnderAll(operator, semver))
+        || lower.some((one) => upper.some((other) => areCrossed(one, other)));
 }
 
 // Whether npm reads a range of several alternatives as any version, since one of them is, and drops a prerelease.
@@ -219,7 +221,7 @@ const results = [
             && (theirs === null || npm.lt(ours, theirs)),
     },
     {
-        name: 'a subset, which npm answers by its comparators',
+        name: 'a subset, which npm decides by its comparators',
         example: ['subset', '1 - 2', '1 || 2'],
         npm: false,
         here: true,

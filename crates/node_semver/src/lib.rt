@@ -50,7 +50,7 @@ mod version;
 pub use comparisons::Comparisons;
 pub use error::{SemverError, SemverErrorKind, SourceSpan};
 pub use json::JsonError;
-pub use range::{Range, max_satisfying};
+pub use range::{Range, max_satisfying, min_satisfying};
 pub use semver_sets::{Identifier, MAX_LENGTH, MAX_SAFE_INTEGER};
 pub use tree::SetTree;
 pub use version::Version;

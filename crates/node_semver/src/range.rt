@@ -12,10 +12,11 @@ mod greatest;
 mod least;
 mod print;
 mod read;
+mod sets;
 
 use crate::{Comparisons, SemverError, Version};
 pub use equality::ranges_are_equal_where_their_cuts_are;
-pub use greatest::max_satisfying;
+pub use greatest::{max_satisfying, min_satisfying};
 use read::{FullLead, caret_range, exact_range, read_full, read_range, tilde_range};
 use semver_cuts::{Cut, Span};
 use semver_sets::end::End;

@@ -38,7 +38,7 @@ module _ (sets : List (Ends VersionValue)) where
     after = [];
     parts = refl;
     admitted = admits;
-    none_above = all-append (NoneAbove v) done (v ∷ [])
+    none_better = all-append (NoneAbove v) done (v ∷ [])
         (all-map (λ (w : VersionValue). ¬ RangeAdmits sets w) (NoneAbove v) done
         (λ w not admitted. absurd (not admitted)) none)
         ((λ _. not-itself v), tt);
@@ -54,15 +54,15 @@ module _ (sets : List (Ends VersionValue)) where
     after = [];
     parts = refl;
     admitted = admits;
-    none_above = all-append (NoneAbove v) done (v ∷ [])
+    none_better = all-append (NoneAbove v) done (v ∷ [])
         (all-map (NoneAbove best) (NoneAbove v) done
         (λ w none admitted below. none admitted
-        (Less-version best w (version_total.trans best v w above (version-Less v w below)))) greatest.none_above)
+        (Less-version best w (version_total.trans best v w above (version-Less v w below)))) greatest.none_better)
         ((λ _. not-itself v), tt);
     none_same = all-map (NoneAbove best) (NoneSame v) done
         (λ w none admitted same. none admitted
         (Less-version best w (alike_right version_total w v best (version-Equal w v same) ∙ above)))
-        greatest.none_above;
+        greatest.none_better;
   }
 
   -- one that is not admitted, or not above the greatest so far
@@ -74,7 +74,7 @@ module _ (sets : List (Ends VersionValue)) where
     parts = ap (λ (l : List VersionValue). l ++ v ∷ []) greatest.parts
         ∙ append_assoc greatest.before (best ∷ greatest.after) (v ∷ []);
     admitted = greatest.admitted;
-    none_above = all-append (NoneAbove best) done (v ∷ []) greatest.none_above
+    none_better = all-append (NoneAbove best) done (v ∷ []) greatest.none_better
         ((λ admitted below. not (version-Less best v below, admitted)), tt);
     none_same = greatest.none_same;
   }

@@ -1,8 +1,8 @@
 -- What a handle stands for, in memory.
-use Rattle.std.specs.Prelude.{ℕ, [], ◌∷◌, Option, Some, None}
+use Rattle.std.specs.Prelude.{◌≡◌, ℕ, [], ◌∷◌, Option, Some, None}
 use base.Fml.{Share, Fml, ftrue, fsep, fex, flft}
 use denote.RattleType.{RattleType}
-use denote.RawPtr.{Ptr}
+use denote.RawPtr.{Ptr, null_ptr}
 use denote.Struct.Lending.{lent_at}
 use Rattle.std.specs.Box.Ownership.{box_owns}
 use Rattle.std.specs.declared.alloc.Global.{Global}
@@ -17,7 +17,7 @@ borrows R p a x = fsep (fex Share (λ s. flft (a ∷ []) s)) (lent_at R p x (a �
 abbrev pub owns : (R : RattleType) → Ptr → R.Denot → Fml
 owns R p x = fex Global (λ a. box_owns (ghosts.dealloc_token a) R p x)
 
--- a handle that owns: nothing where it is empty
+-- a handle that owns: a null pointer where it is empty
 abbrev pub owns_held : (R : RattleType) → Ptr → Option R.Denot → Fml
-owns_held R p None = ftrue
+owns_held R p None = fex (p ≡ null_ptr) (λ _. ftrue)
 owns_held R p (Some x) = owns R p x

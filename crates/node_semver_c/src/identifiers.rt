@@ -1,5 +1,5 @@
 //! Exports on the identifiers of versions.
-ghost use Rattle.std.specs.Prelude.{◌≡◌, ◌<◌, length, slice_index_or};
+ghost use Rattle.std.specs.Prelude.{◌≡◌, ◌<◌, ◌≤◌, length, slice_index_or};
 ghost use Rattle.node_semver_c.specs.Printed.{IsPrinted};
 ghost use Rattle.semver_sets.specs.Identifier.{values_of};
 ghost use Rattle.semver_sets.specs.IdentifierValue.{numeric};
@@ -28,7 +28,7 @@ pub extern "C" fn node_semver_version_build_count(version: &VersionRef) -> usize
     count(&version.build)
 }
 
-/// The print of the identifier of the prerelease at a place.
+/// The print of the identifier of the prerelease at a place. Past the last one it is 0 bytes.
 #[unsafe(no_mangle)]
 pub extern "C" fn node_semver_version_pre_release_print(
     alloc: Global,
@@ -36,15 +36,16 @@ pub extern "C" fn node_semver_version_pre_release_print(
     place: usize,
     room: &mut [u8],
 ) -> usize
-    requires { place < length version.now.value.pre_release }
-    ensures { IsPrinted (identifier_text (slice_index_or version.now.value.pre_release place (numeric 0)))
+    ensures identifier { place < length version.now.value.pre_release
+        → IsPrinted (identifier_text (slice_index_or version.now.value.pre_release place (numeric 0)))
         room.old room.new result }
+    ensures past { length version.now.value.pre_release ≤ place → (result ≡ 0) × (room.new ≡ room.old) }
 {
     let version = version.get();
     print(alloc, &version.pre_release, place, room)
 }
 
-/// The print of the identifier of the build at a place.
+/// The print of the identifier of the build at a place. Past the last one it is 0 bytes.
 #[unsafe(no_mangle)]
 pub extern "C" fn node_semver_version_build_print(
     alloc: Global,
@@ -52,9 +53,10 @@ pub extern "C" fn node_semver_version_build_print(
     place: usize,
     room: &mut [u8],
 ) -> usize
-    requires { place < length version.now.value.build }
-    ensures { IsPrinted (identifier_text (slice_index_or version.now.value.build place (numeric 0)))
+    ensures identifier { place < length version.now.value.build
+        → IsPrinted (identifier_text (slice_index_or version.now.value.build place (numeric 0)))
         room.old room.new result }
+    ensures past { length version.now.value.build ≤ place → (result ≡ 0) × (room.new ≡ room.old) }
 {
     let version = version.get();
     print(alloc, &version.build, place, room)
@@ -67,9 +69,14 @@ fn count(identifiers: &[Identifier]) -> usize
 }
 
 fn print(alloc: Global, identifiers: &[Identifier], place: usize, room: &mut [u8]) -> usize
-    requires { place < length (values_of identifiers.now) }
-    ensures { IsPrinted (identifier_text (slice_index_or (values_of identifiers.now) place (numeric 0)))
+    ensures identifier { place < length (values_of identifiers.now)
+        → IsPrinted (identifier_text (slice_index_or (values_of identifiers.now) place (numeric 0)))
         room.old room.new result }
+    ensures past { length (values_of identifiers.now) ≤ place → (result ≡ 0) × (room.new ≡ room.old) }
 {
-    put(identifiers[place].to_string(alloc), room)
+    if place < identifiers.len() {
+        put(identifiers[place].to_string(alloc), room)
+    } else {
+        0
+    }
 }

@@ -1,10 +1,11 @@
-//! Exports of `node_semver` for C. `include/node_semver.h` declares them.
+//! Exports of `node_semver` for C. `bindings/c/include/node_semver.h` declares them.
 #![tactic(auto)]
 
 mod algebra;
 mod greatest;
 mod handle;
 mod identifiers;
+pub mod laws;
 mod loose;
 mod pair;
 mod range;

@@ -50,11 +50,9 @@ fn read(alloc: Global, text: &str, range: &mut RangeHandle, fault: &mut Fault) -
     }
 }
 
-/// Frees a range.
+/// Frees a range. An empty handle is nothing to free.
 #[unsafe(no_mangle)]
-pub extern "C" fn node_semver_range_free(alloc: Global, range: RangeHandle)
-    requires full { range.value ≢ None }
-{
+pub extern "C" fn node_semver_range_free(alloc: Global, range: RangeHandle) {
     range.free(alloc);
 }
 

@@ -1,5 +1,5 @@
 //! Exports on versions.
-ghost use Rattle.std.specs.Prelude.{◌≡◌, ◌≢◌, ◌↔◌, IsTrue, IsUtf8, None, true};
+ghost use Rattle.std.specs.Prelude.{◌≡◌, ◌↔◌, IsTrue, IsUtf8, None, true};
 ghost use Rattle.std.specs.Ordering.{eq_by_cmp};
 ghost use Rattle.node_semver_c.specs.Answers.{IsSomeTold};
 ghost use Rattle.node_semver_c.specs.Compared.{sign_of, version_hash};
@@ -48,11 +48,9 @@ fn read(alloc: Global, text: &str, version: &mut VersionHandle, fault: &mut Faul
     }
 }
 
-/// Frees a version.
+/// Frees a version. An empty handle is nothing to free.
 #[unsafe(no_mangle)]
-pub extern "C" fn node_semver_version_free(alloc: Global, version: VersionHandle)
-    requires full { version.value ≢ None }
-{
+pub extern "C" fn node_semver_version_free(alloc: Global, version: VersionHandle) {
     version.free(alloc);
 }
 

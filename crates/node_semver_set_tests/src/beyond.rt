@@ -1,7 +1,7 @@
 use crate::checks::is_print;
 use crate::pairs::range;
 use crate::questions::{Question, each};
-use node_semver::{Range, Version, max_satisfying};
+use node_semver::{Range, Version, max_satisfying, min_satisfying};
 use std::alloc::Global;
 
 // The first range, the second, and the least version that the first admits and the second does not: the empty text
@@ -39,6 +39,18 @@ const GREATEST: [&str; 7] = [
     "1.2.3+b 1.2.3+a 1.2.2; *; 1.2.3+b",
 ];
 
+// The same, and the least of the versions that it admits.
+const LEAST: [&str; 8] = [
+    "; *; ",
+    "2.0.0; ^1; ",
+    "1.3.0-rc.1 1.4.0; ^1; 1.4.0",
+    "1.0.0 1.0.0-a; >=1.0.0-a <1.0.0; 1.0.0-a",
+    "3.0.0 1.0.0 2.0.0; >1; 2.0.0",
+    "2.0.0 1.2.3+a 1.2.3+b 1.4.0; ^1; 1.2.3+a",
+    "1.2.4 1.2.3+b 1.2.3+a 1.2.3; *; 1.2.3+b",
+    "1.0.0-b 1.0.0-a.1 1.0.0-a+x 1.0.0-a+y; >=1.0.0-0; 1.0.0-a+x",
+];
+
 #[test]
 fn the_least_version_beyond_a_range(rt: HostRuntime) {
     each(&rt, Question::LeastBeyond, &BEYOND);
@@ -47,6 +59,11 @@ fn the_least_version_beyond_a_range(rt: HostRuntime) {
 #[test]
 fn the_greatest_version_of_a_list(rt: HostRuntime) {
     each(&rt, Question::Greatest, &GREATEST);
+}
+
+#[test]
+fn the_least_version_of_a_list(rt: HostRuntime) {
+    each(&rt, Question::LeastListed, &LEAST);
 }
 
 // What is answered is admitted by the one and not by the other.
@@ -74,16 +91,24 @@ fn read_versions(alloc: Global, texts: &str) -> Option<Vec<Version>> {
     Some(versions)
 }
 
-fn greatest_is(alloc: Global, versions: &[Version], range: &Range, greatest: &str) -> bool {
-    match max_satisfying(versions, range) {
-        Some(version) => is_print(version.to_string(alloc).ok(), greatest),
-        None => greatest.is_empty(),
+// Whether a version that was found prints so: the empty text where none was.
+fn is_found(alloc: Global, found: Option<&Version>, wanted: &str) -> bool {
+    match found {
+        Some(version) => is_print(version.to_string(alloc).ok(), wanted),
+        None => wanted.is_empty(),
     }
 }
 
 pub(crate) fn is_greatest(alloc: Global, versions: &str, text: &str, greatest: &str) -> bool {
     match (&read_versions(alloc, versions), &range(alloc, text)) {
-        (Some(versions), Some(range)) => greatest_is(alloc, versions, range, greatest),
+        (Some(versions), Some(range)) => is_found(alloc, max_satisfying(versions, range), greatest),
+        _ => false,
+    }
+}
+
+pub(crate) fn is_least_listed(alloc: Global, versions: &str, text: &str, least: &str) -> bool {
+    match (&read_versions(alloc, versions), &range(alloc, text)) {
+        (Some(versions), Some(range)) => is_found(alloc, min_satisfying(versions, range), least),
         _ => false,
     }
 }

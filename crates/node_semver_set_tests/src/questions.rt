@@ -1,5 +1,5 @@
 use crate::algebra::admits;
-use crate::beyond::is_greatest;
+use crate::beyond::{is_greatest, is_least_listed};
 use crate::checks::is_print;
 use crate::json::{of_member, of_string, text_of};
 use crate::least::{least_print, of_least, of_version};
@@ -35,6 +35,8 @@ pub(crate) enum Question {
     Admits,
     // Versions with blanks between, a range text, and the greatest of the versions that it admits.
     Greatest,
+    // The same, and the least of them.
+    LeastListed,
     // A range text, and its print.
     Print,
     // A range text, and the print of a copy.
@@ -103,6 +105,7 @@ fn of_two(alloc: Global, question: Question, one: &str, other: &str, wanted: &st
         Question::Joins => joins(alloc, one, other, wanted),
         Question::Admits => admits(alloc, one, other, wanted),
         Question::Greatest => is_greatest(alloc, one, other, wanted),
+        Question::LeastListed => is_least_listed(alloc, one, other, wanted),
         _ => of_texts(alloc, question, one, other, wanted),
     }
 }

@@ -1,7 +1,9 @@
 //! Calls that take no memory.
 use crate::answer::{Answer, print_of_error};
 use crate::fault::Fault;
-use node_semver::{Comparisons, Identifier, Range, SemverError, Version, max_satisfying};
+use node_semver::{
+    Comparisons, Identifier, Range, SemverError, Version, max_satisfying, min_satisfying,
+};
 use semver_cuts::algebra::are_merged;
 use semver_cuts::{Cut, Span, Stepped, covers};
 use std::alloc::{AllocError, Global};
@@ -59,8 +61,9 @@ fn hash_of<T: Hash>(value: &T) -> u64 {
 fn is_admitted(range: &Range, version: &Version) -> bool {
     version.known();
     let counted = range.satisfies_counted(version, &mut Comparisons::new());
-    let greatest = max_satisfying(std::slice::from_ref(version), range);
-    counted && greatest.is_some() && range.satisfies(version) && version.satisfies(range)
+    let list = std::slice::from_ref(version);
+    let listed = max_satisfying(list, range).is_some() && min_satisfying(list, range).is_some();
+    counted && listed && range.satisfies(version) && version.satisfies(range)
 }
 
 /// Whether two versions are prereleases at one place of the order.

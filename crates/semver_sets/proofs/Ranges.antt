@@ -7,3 +7,4 @@ pub mod RangeReading
 pub mod RangeBounds
 pub mod OnlyWord
 pub mod OnlySet
+pub mod JoinedTexts

@@ -20,10 +20,11 @@ pub mod Operators
 pub mod TildeRanges
 pub mod CaretRanges
 pub mod HyphenRanges
--- ---- range texts: alternatives, what they mean, and the sets that they write
+-- ---- range texts: alternatives, what they mean, the sets that they write, and how two are joined
 pub mod Division
 pub mod Meaning
 pub mod Merging
+pub mod Union
 -- ---- sets: what they hold, how a version is found, how they print, and when they are equal
 pub mod RangeSets
 pub mod Searching

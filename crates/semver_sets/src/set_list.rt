@@ -9,6 +9,7 @@ ghost use Rattle.semver_sets.specs.Searching.{IsShortSearch};
 pub mod copy;
 mod opened;
 pub mod searched;
+mod union;
 
 use crate::Counts;
 use crate::end::End;

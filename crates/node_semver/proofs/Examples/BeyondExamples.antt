@@ -113,7 +113,7 @@ second-greatest = record {
   after = built (codes "b") ∷ release 2 0 0 ∷ [];
   parts = refl;
   admitted = (range_admits-iff caret_one (built (codes "a"))).0 refl;
-  none_above = (
+  none_better = (
     λ _ below. cc (version-Less (built (codes "a")) (release 1 0 0) below),
     (
       λ _ below. cc (version-Less (built (codes "a")) (built (codes "a")) below),

@@ -1,4 +1,4 @@
--- The greatest version of a list that a range admits, as one version more is looked at.
+-- The best version of a list that a range admits, as one version more is looked at: the greatest, or the least.
 use Rattle.std.proofs.Common.{◌≡◌, ◌↔◌, ◌+◌, ◌<◌, ◌∙◌, ℕ, List, [], ◌∷◌, ◌++◌, Option, Some, None, IfSome, IsNone}
 use Rattle.std.proofs.Common.{length, get_or, take, refl, sym, ap, subst, inl, inr, Less, append_assoc}
 use Rattle.std.proofs.lemmas.List.{take_more}
@@ -10,107 +10,148 @@ use Rattle.semver_sets.specs.Comparison.{version_cmp}
 use Rattle.semver_sets.specs.Meaning.{RangeAdmits}
 use Rattle.semver_sets.specs.Order.{IsBelow, IsSame}
 use Rattle.semver_sets.specs.Version.{VersionValue}
-use Rattle.semver_sets.specs.Lemmas.Order.{Less-version, version-Equal, version-Less, version_total}
-use Rattle.node_semver.specs.Greatest.{AdmitsNoneIn, IsGreatestAdmitted}
-use Rattle.node_semver.specs.Private.GreatestViews.{IsGreater, IsGreatestOrNone}
+use Rattle.semver_sets.specs.Lemmas.Order.{version-Equal, version-Less, version_total}
+use Rattle.node_semver.specs.Greatest.{AdmitsNoneIn, IsFirstBest, IsGreatestAdmitted, IsLeastAdmittedIn}
+use Rattle.node_semver.specs.Private.GreatestViews.{IsBestOrNone, IsBetterOf, Order, downward}
 use Rattle.node_semver.proofs.Least.HighestCut.{all-map}
 
-module _ (sets : List (Ends VersionValue)) where
-  -- no admitted version is above this one
-  abbrev NoneAbove : VersionValue → VersionValue → Type 0
-  NoneAbove v w = RangeAdmits sets w → ¬ IsBelow v w
+-- what is needed of an order of versions: by precedence, and by precedence turned round
+pub record IsOrder (order : Order) : Type 0 where
+  pub not_itself : (v : VersionValue) → ¬ (order v v ≡ Less)
+  pub trans : (u v w : VersionValue) → order u v ≡ Less → order v w ≡ Less → order u w ≡ Less
+  pub alike : (u v w : VersionValue) → order u v ≡ Less → IsSame w v → order u w ≡ Less
+
+same-itself : (v : VersionValue) → IsSame v v
+same-itself v = record { triple = record { major = refl; minor = refl; patch = refl }; pre_release = refl }
+
+not-below_itself : (v : VersionValue) → ¬ (version_cmp v v ≡ Less)
+not-below_itself v less = cc (less, version-Equal v v (same-itself v))
+
+pub upward-order : IsOrder version_cmp
+upward-order = record {
+  not_itself = not-below_itself;
+  trans = version_total.trans;
+  alike = λ u v w less same. alike_right version_total w v u (version-Equal w v same) ∙ less;
+}
+
+pub downward-order : IsOrder downward
+downward-order = record {
+  not_itself = not-below_itself;
+  trans = λ u v w above below. version_total.trans w v u below above;
+  alike = λ u v w less same. version_total.congr w v u (version-Equal w v same) ∙ less;
+}
+
+module _ (order : Order) (is : IsOrder order) (sets : List (Ends VersionValue)) where
+  abbrev Best : List VersionValue → VersionValue → Type 0
+  Best versions best =
+      IsFirstBest (λ (v : VersionValue) (w : VersionValue). order w v ≡ Less) sets versions best
+
+  -- no admitted version is better than this one
+  abbrev NoneBetter : VersionValue → VersionValue → Type 0
+  NoneBetter v w = RangeAdmits sets w → ¬ (order v w ≡ Less)
 
   abbrev NoneSame : VersionValue → VersionValue → Type 0
   NoneSame v w = RangeAdmits sets w → ¬ IsSame w v
 
-  -- not above itself
-  not-itself : (v : VersionValue) → ¬ IsBelow v v
-  not-itself v below = version-Less-irrefl (version-Less v v below)
-    where
-      version-Less-irrefl : ¬ (version_cmp v v ≡ Less)
-      version-Less-irrefl less = cc (
-        less,
-        version-Equal v v
-            (record { triple = record { major = refl; minor = refl; patch = refl }; pre_release = refl }),
-      )
-
   -- the first that is admitted
   take-first : (done : List VersionValue) (v : VersionValue) → AdmitsNoneIn sets done → RangeAdmits sets v
-      → IsGreatestAdmitted sets (done ++ v ∷ []) v
+      → Best (done ++ v ∷ []) v
   take-first done v none admits = record {
     before = done;
     after = [];
     parts = refl;
     admitted = admits;
-    none_above = all-append (NoneAbove v) done (v ∷ [])
-        (all-map (λ (w : VersionValue). ¬ RangeAdmits sets w) (NoneAbove v) done
+    none_better = all-append (NoneBetter v) done (v ∷ [])
+        (all-map (λ (w : VersionValue). ¬ RangeAdmits sets w) (NoneBetter v) done
         (λ w not admitted. absurd (not admitted)) none)
-        ((λ _. not-itself v), tt);
+        ((λ _. is.not_itself v), tt);
     none_same = all-map (λ (w : VersionValue). ¬ RangeAdmits sets w) (NoneSame v) done
         (λ w not admitted. absurd (not admitted)) none;
   }
 
-  -- one that is above the greatest so far
-  take-above : (done : List VersionValue) (best v : VersionValue) → IsGreatestAdmitted sets done best
-      → version_cmp best v ≡ Less → RangeAdmits sets v → IsGreatestAdmitted sets (done ++ v ∷ []) v
-  take-above done best v greatest above admits = record {
+  -- one that is better than the best so far
+  take-better : (done : List VersionValue) (best v : VersionValue) → Best done best → order best v ≡ Less
+      → RangeAdmits sets v → Best (done ++ v ∷ []) v
+  take-better done best v first better admits = record {
     before = done;
     after = [];
     parts = refl;
     admitted = admits;
-    none_above = all-append (NoneAbove v) done (v ∷ [])
-        (all-map (NoneAbove best) (NoneAbove v) done
-        (λ w none admitted below. none admitted
-        (Less-version best w (version_total.trans best v w above (version-Less v w below)))) greatest.none_above)
-        ((λ _. not-itself v), tt);
-    none_same = all-map (NoneAbove best) (NoneSame v) done
-        (λ w none admitted same. none admitted
-        (Less-version best w (alike_right version_total w v best (version-Equal w v same) ∙ above)))
-        greatest.none_above;
+    none_better = all-append (NoneBetter v) done (v ∷ [])
+        (all-map (NoneBetter best) (NoneBetter v) done
+        (λ w none admitted beyond. none admitted (is.trans best v w better beyond)) first.none_better)
+        ((λ _. is.not_itself v), tt);
+    none_same = all-map (NoneBetter best) (NoneSame v) done
+        (λ w none admitted same. none admitted (is.alike best v w better same)) first.none_better;
   }
 
-  -- one that is not admitted, or not above the greatest so far
-  keep-best : (done : List VersionValue) (best v : VersionValue) → IsGreatestAdmitted sets done best
-      → ¬ ((version_cmp best v ≡ Less) × RangeAdmits sets v) → IsGreatestAdmitted sets (done ++ v ∷ []) best
-  keep-best done best v greatest not = record {
-    before = greatest.before;
-    after = greatest.after ++ v ∷ [];
-    parts = ap (λ (l : List VersionValue). l ++ v ∷ []) greatest.parts
-        ∙ append_assoc greatest.before (best ∷ greatest.after) (v ∷ []);
-    admitted = greatest.admitted;
-    none_above = all-append (NoneAbove best) done (v ∷ []) greatest.none_above
-        ((λ admitted below. not (version-Less best v below, admitted)), tt);
-    none_same = greatest.none_same;
+  -- one that is not admitted, or not better than the best so far
+  keep-best : (done : List VersionValue) (best v : VersionValue) → Best done best
+      → ¬ ((order best v ≡ Less) × RangeAdmits sets v) → Best (done ++ v ∷ []) best
+  keep-best done best v first not = record {
+    before = first.before;
+    after = first.after ++ v ∷ [];
+    parts = ap (λ (l : List VersionValue). l ++ v ∷ []) first.parts
+        ∙ append_assoc first.before (best ∷ first.after) (v ∷ []);
+    admitted = first.admitted;
+    none_better = all-append (NoneBetter best) done (v ∷ []) first.none_better
+        ((λ admitted better. not (better, admitted)), tt);
+    none_same = first.none_same;
   }
 
-  more-greatest : (done : List VersionValue) (v : VersionValue) (best found : Option VersionValue)
-      → IsGreatestOrNone sets done best → IsGreater sets best v found → IsGreatestOrNone sets (done ++ v ∷ []) found
-  more-greatest done v None found none (inl (above, admits, is)) =
-      subst (IsGreatestOrNone sets (done ++ v ∷ [])) (sym is) (take-first done v none admits)
-  more-greatest done v None found none (inr (not, is)) = subst (IsGreatestOrNone sets (done ++ v ∷ [])) (sym is)
+  more-best : (done : List VersionValue) (v : VersionValue) (best found : Option VersionValue)
+      → IsBestOrNone order sets done best → IsBetterOf order sets best v found
+      → IsBestOrNone order sets (done ++ v ∷ []) found
+  more-best done v None found none (inl (better, admits, taken)) =
+      subst (IsBestOrNone order sets (done ++ v ∷ [])) (sym taken) (take-first done v none admits)
+  more-best done v None found none (inr (not, kept)) = subst (IsBestOrNone order sets (done ++ v ∷ [])) (sym kept)
       (all-append (λ (w : VersionValue). ¬ RangeAdmits sets w) done (v ∷ []) none
       ((λ admitted. not (tt, admitted)), tt))
-  more-greatest done v (Some best) found greatest (inl (above, admits, is)) =
-      subst (IsGreatestOrNone sets (done ++ v ∷ [])) (sym is) (take-above done best v greatest above admits)
-  more-greatest done v (Some best) found greatest (inr (not, is)) =
-      subst (IsGreatestOrNone sets (done ++ v ∷ [])) (sym is) (keep-best done best v greatest not)
+  more-best done v (Some best) found first (inl (better, admits, taken)) =
+      subst (IsBestOrNone order sets (done ++ v ∷ [])) (sym taken) (take-better done best v first better admits)
+  more-best done v (Some best) found first (inr (not, kept)) =
+      subst (IsBestOrNone order sets (done ++ v ∷ [])) (sym kept) (keep-best done best v first not)
 
   -- as a loop goes over the versions
-  pub taken-greatest : (versions : List VersionValue) (k : ℕ) (v : VersionValue) (best found : Option VersionValue)
-      → k < length versions → v ≡ get_or versions k v → IsGreatestOrNone sets (take k versions) best
-      → IsGreater sets best v found → IsGreatestOrNone sets (take (k + 1) versions) found
-  taken-greatest versions k v best found lt is greatest greater =
-      subst (λ (l : List VersionValue). IsGreatestOrNone sets l found)
-      (sym (take_more versions k v lt ∙ ap (λ (w : VersionValue). take k versions ++ w ∷ []) (sym is)))
-      (more-greatest (take k versions) v best found greatest greater)
+  pub taken-best : (versions : List VersionValue) (k : ℕ) (v : VersionValue) (best found : Option VersionValue)
+      → k < length versions → v ≡ get_or versions k v → IsBestOrNone order sets (take k versions) best
+      → IsBetterOf order sets best v found → IsBestOrNone order sets (take (k + 1) versions) found
+  taken-best versions k v best found lt at first better =
+      subst (λ (l : List VersionValue). IsBestOrNone order sets l found)
+      (sym (take_more versions k v lt ∙ ap (λ (w : VersionValue). take k versions ++ w ∷ []) (sym at)))
+      (more-best (take k versions) v best found first better)
 
 -- ---- what the program answers
 
 pub greatest-found : {R : Type 0} (r : Option R) (now : R → VersionValue) (sets : List (Ends VersionValue))
-    (versions : List VersionValue) → IsGreatestOrNone sets versions (option_map now r)
+    (versions : List VersionValue) → IsBestOrNone version_cmp sets versions (option_map now r)
     → IfSome r (λ v. IsGreatestAdmitted sets versions (now v))
-greatest-found (Some v) now sets versions greatest = greatest
+greatest-found (Some v) now sets versions first = record {
+  before = first.before;
+  after = first.after;
+  parts = first.parts;
+  admitted = first.admitted;
+  none_better = all-map (NoneBetter version_cmp upward-order sets (now v))
+      (λ (w : VersionValue). RangeAdmits sets w → ¬ IsBelow (now v) w) versions
+      (λ w none admitted below. none admitted (version-Less (now v) w below)) first.none_better;
+  none_same = first.none_same;
+}
 greatest-found None now sets versions none = tt
+
+pub least-found : {R : Type 0} (r : Option R) (now : R → VersionValue) (sets : List (Ends VersionValue))
+    (versions : List VersionValue) → IsBestOrNone downward sets versions (option_map now r)
+    → IfSome r (λ v. IsLeastAdmittedIn sets versions (now v))
+least-found (Some v) now sets versions first = record {
+  before = first.before;
+  after = first.after;
+  parts = first.parts;
+  admitted = first.admitted;
+  none_better = all-map (NoneBetter downward downward-order sets (now v))
+      (λ (w : VersionValue). RangeAdmits sets w → ¬ IsBelow w (now v)) versions
+      (λ w none admitted below. none admitted (version-Less w (now v) below)) first.none_better;
+  none_same = first.none_same;
+}
+least-found None now sets versions none = tt
 
 none-at : (sets : List (Ends VersionValue)) (before after versions : List VersionValue) (v : VersionValue)
     → versions ≡ before ++ v ∷ after → RangeAdmits sets v → ¬ AdmitsNoneIn sets versions
@@ -121,11 +162,11 @@ none-at sets before after versions v parts admits none =
     turned-away [] none = none.0 admits
     turned-away (w ∷ l) none = turned-away l none.1
 
-pub none-greatest : {R : Type 0} (r : Option R) (now : R → VersionValue) (sets : List (Ends VersionValue))
-    (versions : List VersionValue) → IsGreatestOrNone sets versions (option_map now r)
+pub none-found : {R : Type 0} (order : Order) (r : Option R) (now : R → VersionValue) (sets : List (Ends VersionValue))
+    (versions : List VersionValue) → IsBestOrNone order sets versions (option_map now r)
     → IsNone r ↔ AdmitsNoneIn sets versions
-none-greatest (Some v) now sets versions greatest = (
+none-found order (Some v) now sets versions first = (
   λ e. cc e,
-  λ none. absurd (none-at sets greatest.before greatest.after versions (now v) greatest.parts greatest.admitted none),
+  λ none. absurd (none-at sets first.before first.after versions (now v) first.parts first.admitted none),
 )
-none-greatest None now sets versions none = ((λ e. none), (λ e. refl))
+none-found order None now sets versions none = ((λ e. none), (λ e. refl))

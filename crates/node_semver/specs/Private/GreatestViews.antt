@@ -1,24 +1,36 @@
--- What the private function that looks for the greatest version of a list does with each.
+-- What the private functions that look for the best version of a list do with each. The best is the last in an order
+-- of versions: by precedence the greatest, and by precedence turned round the least.
 use Rattle.std.specs.Prelude.{◌≡◌, ◌⊎◌, List, Option, Some, None}
+use Rattle.std.specs.declared.cmp.Ordering.{Ordering}
 use Rattle.std.specs.declared.cmp.Ordering.TheVariants.{Less}
 use Rattle.semver_cuts.specs.Ends.{Ends}
 use Rattle.semver_sets.specs.Comparison.{version_cmp}
 use Rattle.semver_sets.specs.Meaning.{RangeAdmits}
 use Rattle.semver_sets.specs.Version.{VersionValue}
-use Rattle.node_semver.specs.Greatest.{AdmitsNoneIn, IsGreatestAdmitted}
+use Rattle.node_semver.specs.Greatest.{AdmitsNoneIn, IsFirstBest}
 
--- the version is above the best so far, or there is none yet
-abbrev pub IsAbove : Option VersionValue → VersionValue → Type 0
-IsAbove None v = Unit {0}
-IsAbove (Some best) v = version_cmp best v ≡ Less
+-- an order of versions
+abbrev pub Order : Type 0
+Order = VersionValue → VersionValue → Ordering
 
--- the version if it is above the best so far and the range admits it, or else the best
-abbrev pub IsGreater : List (Ends VersionValue) → Option VersionValue → VersionValue → Option VersionValue → Type 0
-IsGreater sets best v greater =
-    (IsAbove best v × RangeAdmits sets v × (greater ≡ Some v))
-    ⊎ ((¬ (IsAbove best v × RangeAdmits sets v)) × (greater ≡ best))
+-- precedence turned round: what is below comes later
+abbrev pub downward : Order
+downward v w = version_cmp w v
 
--- the greatest version of the list that the range admits, and of equal ones the first, or none where it admits none
-abbrev pub IsGreatestOrNone : List (Ends VersionValue) → List VersionValue → Option VersionValue → Type 0
-IsGreatestOrNone sets versions None = AdmitsNoneIn sets versions
-IsGreatestOrNone sets versions (Some greatest) = IsGreatestAdmitted sets versions greatest
+-- the version comes after the best so far, or there is none yet
+abbrev pub IsBetter : Order → Option VersionValue → VersionValue → Type 0
+IsBetter order None v = Unit {0}
+IsBetter order (Some best) v = order best v ≡ Less
+
+-- the version if it is better than the best so far and the range admits it, or else the best
+abbrev pub IsBetterOf : Order → List (Ends VersionValue) → Option VersionValue → VersionValue → Option VersionValue
+    → Type 0
+IsBetterOf order sets best v better =
+    (IsBetter order best v × RangeAdmits sets v × (better ≡ Some v))
+    ⊎ ((¬ (IsBetter order best v × RangeAdmits sets v)) × (better ≡ best))
+
+-- the best version of the list that the range admits, and of equal ones the first, or none where it admits none
+abbrev pub IsBestOrNone : Order → List (Ends VersionValue) → List VersionValue → Option VersionValue → Type 0
+IsBestOrNone order sets versions None = AdmitsNoneIn sets versions
+IsBestOrNone order sets versions (Some best) =
+    IsFirstBest (λ (v : VersionValue) (w : VersionValue). order w v ≡ Less) sets versions best

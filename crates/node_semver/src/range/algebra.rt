@@ -16,6 +16,7 @@ ghost use Rattle.node_semver.specs.RangeAlgebra.{PairAdmits, sets_of_answer};
 mod copy;
 mod difference;
 mod gathered;
+mod union;
 
 use crate::Range;
 use gathered::Gathered;

@@ -9,7 +9,7 @@ ghost use Rattle.node_semver.specs.Private.LeastViews.{IsKept, IsLeastOfSet, IsL
 
 mod beyond;
 mod candidates;
-mod unbuilt;
+pub(crate) mod unbuilt;
 
 use crate::{Identifier, Range, Version};
 use semver_cuts::{Cut, Span};

@@ -1,5 +1,5 @@
 //! Handles of ranges.
-ghost use Rattle.std.specs.Prelude.{◌≡◌, ◌≢◌, ℕ, List, IfOk, Option, Some, None};
+ghost use Rattle.std.specs.Prelude.{◌≡◌, ℕ, List, IfOk, MatchOption, Option, Some, None};
 ghost use Rattle.semver_cuts.specs.Ends.{Ends};
 ghost use Rattle.semver_sets.specs.Version.{VersionValue};
 
@@ -41,21 +41,23 @@ impl RangeHandle {
         }
     }
 
-    pub(crate) fn free(self, alloc: Global)
-        requires { self.value ≢ None }
-    {
-        drop(self.into_loose(alloc).into_box());
+    pub(crate) fn free(self, alloc: Global) {
+        if let Some(held) = self.into_loose(alloc) {
+            drop(held.into_box());
+        }
     }
 
-    fn into_loose(self, alloc: Global) -> Loose<Range, Global>
-        requires { self.value ≢ None }
-        ensures { self.value ≡ Some result.value }
+    fn into_loose(self, alloc: Global) -> Option<Loose<Range, Global>>
+        ensures { MatchOption result (self.value ≡ None) (λ l. self.value ≡ Some l.value) }
     {
+        if self.at.is_null() {
+            return None;
+        }
         let RangeHandle { at } = self;
-        Loose {
+        Some(Loose {
             at: at as *mut Range,
             alloc,
-        }
+        })
     }
 }
 

@@ -1,5 +1,5 @@
 //! Handles of versions.
-ghost use Rattle.std.specs.Prelude.{◌≡◌, ◌≢◌, ℕ, IfOk, Option, Some, None};
+ghost use Rattle.std.specs.Prelude.{◌≡◌, ℕ, IfOk, MatchOption, Option, Some, None};
 ghost use Rattle.semver_sets.specs.Version.{VersionValue};
 
 use super::Opaque;
@@ -40,21 +40,23 @@ impl VersionHandle {
         }
     }
 
-    pub(crate) fn free(self, alloc: Global)
-        requires { self.value ≢ None }
-    {
-        drop(self.into_loose(alloc).into_box());
+    pub(crate) fn free(self, alloc: Global) {
+        if let Some(held) = self.into_loose(alloc) {
+            drop(held.into_box());
+        }
     }
 
-    fn into_loose(self, alloc: Global) -> Loose<Version, Global>
-        requires { self.value ≢ None }
-        ensures { self.value ≡ Some result.value }
+    fn into_loose(self, alloc: Global) -> Option<Loose<Version, Global>>
+        ensures { MatchOption result (self.value ≡ None) (λ l. self.value ≡ Some l.value) }
     {
+        if self.at.is_null() {
+            return None;
+        }
         let VersionHandle { at } = self;
-        Loose {
+        Some(Loose {
             at: at as *mut Version,
             alloc,
-        }
+        })
     }
 }
 

@@ -1,5 +1,5 @@
 //! Copies of sets, and of the cuts at their ends.
-ghost use Rattle.std.specs.Prelude.{◌≡◌, IfOk};
+ghost use Rattle.std.specs.Prelude.{◌≡◌, ◌++◌, IfOk, OnOk};
 ghost use Rattle.std.specs.List.{AllByRecursion};
 ghost use Rattle.semver_cuts.specs.Ends.{IsCutBelow, span_between};
 ghost use Rattle.semver_sets.specs.Comparison.{version_cmp};
@@ -14,10 +14,19 @@ pub(crate) fn copies_of(sets: &Vec<Span<End>>) -> Result<Vec<Span<End>>, AllocEr
     ensures { IfOk result (λ copies. copies.items ≡ sets.now.items) }
 {
     let mut copies = Vec::with_capacity(*sets.allocator(), sets.len())?;
+    push_copies(&mut copies, sets)?;
+    Ok(copies)
+}
+
+// Appends a copy of each set.
+pub(crate) fn push_copies(copies: &mut Vec<Span<End>>, sets: &[Span<End>]) -> Result<(), AllocError>
+    requires { AllByRecursion IsRangeSet sets.now }
+    ensures { OnOk result (copies.new.items ≡ copies.old.items ++ sets.now) }
+{
     'sets: for set in sets {
         copies.push(copy_of(set.lower(), set.upper())?)?;
     }
-    Ok(copies)
+    Ok(())
 }
 
 /// The set between copies of two cuts.

@@ -1,3 +1,4 @@
+/* SPDX-License-Identifier: Apache-2.0 */
 /*
  * npm's versions and version ranges, in loose mode: a static library over the proved crate `node_semver`.
  *
@@ -5,11 +6,11 @@
  * call again. They hold for every caller that upholds what stands here, which nothing checks.
  *
  * - Handles. A `node_semver_version` or a `node_semver_range` is a struct of one pointer that is not looked into. It
- *   begins as NODE_SEMVER_EMPTY. A call that makes a version or a range fills an empty handle, and `.._free` takes a
- *   full one: exactly once, after which the handle and each copy of it are used no more. A copy of a handle is the same
- *   version. Every other call reads: the handles that it is passed are full, and no other thread frees them meanwhile.
+ *   begins as NODE_SEMVER_EMPTY. A call that makes a version or a range fills an empty handle, and `.._free` frees what
+ *   a full one holds: exactly once, after which the handle and each copy of it are used no more. Freeing an empty handle
+ *   does nothing. A copy of a handle is the same version. Every other call reads: the handles that it is passed are full, and no other thread frees them meanwhile.
  *   Nothing changes a version or a range once it is made, so any number of threads may read one at once.
- * - No pointer is null, not even to 0 bytes. A length is that of what the pointer points to, at most SIZE_MAX / 2. What
+ * - No pointer is null, not even to 0 bytes, but for a fault: that may be NULL, and the fault is told nowhere. A length is that of what the pointer points to, at most SIZE_MAX / 2. What
  *   a call writes to is no part of what it reads.
  * - Texts are UTF-8, without a zero at the end. Bytes that are no UTF-8 are told by NODE_SEMVER_NOT_UTF8.
  * - Memory comes from the program's malloc, realloc and free, which align a block to each power of two up to 16 that
@@ -29,6 +30,15 @@
 #ifdef __cplusplus
 extern "C" {
 #endif
+
+/* The version of this library, as the compiler sees it. */
+#define NODE_SEMVER_LIBRARY_VERSION_MAJOR 1
+#define NODE_SEMVER_LIBRARY_VERSION_MINOR 0
+#define NODE_SEMVER_LIBRARY_VERSION_PATCH 0
+#define NODE_SEMVER_LIBRARY_VERSION "1.0.0"
+
+/* The version of the library that the program is linked with, such as "1.0.0". Ends with a zero, and is never freed. */
+const char *node_semver_library_version(void);
 
 /* A version: three numbers, a prerelease and a build. */
 typedef struct node_semver_version {
@@ -75,7 +85,7 @@ typedef struct node_semver_fault {
 node_semver_status node_semver_version_parse(const char *text, size_t length, node_semver_version *version,
                                              node_semver_fault *fault);
 
-/* Frees a version. */
+/* Frees a version. Does nothing for an empty handle. */
 void node_semver_version_free(node_semver_version version);
 
 /* Prints a version: major, minor and patch with dots between, `-` and the prerelease, `+` and the build. Answers the
@@ -102,8 +112,8 @@ uint64_t node_semver_version_patch(const node_semver_version *version);
 size_t node_semver_version_pre_release_count(const node_semver_version *version);
 size_t node_semver_version_build_count(const node_semver_version *version);
 
-/* The identifier at a place, from 0 and below the count: `rc` and `4` of `1.2.3-rc.4`. Answers as
- * node_semver_version_print. */
+/* Prints the identifier at a place, from 0: `rc` and `4` of `1.2.3-rc.4`. Returns as node_semver_version_print, and 0,
+ * with nothing written, for a place past the last identifier. */
 size_t node_semver_version_pre_release_print(const node_semver_version *version, size_t place, char *room, size_t size);
 size_t node_semver_version_build_print(const node_semver_version *version, size_t place, char *room, size_t size);
 
@@ -114,7 +124,7 @@ size_t node_semver_version_build_print(const node_semver_version *version, size_
 node_semver_status node_semver_range_parse(const char *text, size_t length, node_semver_range *range,
                                            node_semver_fault *fault);
 
-/* Frees a range. */
+/* Frees a range. Does nothing for an empty handle. */
 void node_semver_range_free(node_semver_range range);
 
 /* Prints a range: its sets with `||` between, as `>=1.2.0 <2.0.0-0||>=3.0.0`. Answers as node_semver_version_print. */

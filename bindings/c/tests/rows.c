@@ -1,11 +1,13 @@
+/* SPDX-License-Identifier: Apache-2.0 */
 /*
- * A user of node_semver in C: worked rows of the documents, each a call and what it answers.
+ * Tests of node_semver.h: worked rows of the documents, each a call and what it returns.
  *
  *     rows           runs each row
- *     rows refuse    runs each row with each request for memory refused in turn, too; to be linked with
- *                    -Wl,--wrap=malloc -Wl,--wrap=realloc
+ *     rows refuse    also runs each row with each request for memory refused in turn
  *
- * Ends with status 0 where each row is as it should be.
+ * To be linked with -Wl,--wrap=malloc -Wl,--wrap=realloc -Wl,--wrap=free. Where the library is the static one, its
+ * requests are counted too: each row gives back each block that it got. Ends with status 0 where each row is as it
+ * should be.
  */
 #include "node_semver.h"
 
@@ -14,20 +16,32 @@
 #include <stdlib.h>
 #include <string.h>
 
-/* Which request for memory is refused, from 1, and how many were made; 0 refuses none. */
+/* Which request for memory is refused, from 1, and how many were made; 0 refuses none. How many blocks are in use. */
 static unsigned long refused, requests;
+static long blocks;
 
 void *__real_malloc(size_t size);
 void *__real_realloc(void *block, size_t size);
+void __real_free(void *block);
 void *__wrap_malloc(size_t size);
 void *__wrap_realloc(void *block, size_t size);
+void __wrap_free(void *block);
 
 void *__wrap_malloc(size_t size) {
-    return ++requests == refused ? NULL : __real_malloc(size);
+    void *block = ++requests == refused ? NULL : __real_malloc(size);
+    blocks += block != NULL;
+    return block;
 }
 
 void *__wrap_realloc(void *block, size_t size) {
-    return ++requests == refused ? NULL : __real_realloc(block, size);
+    void *moved = ++requests == refused ? NULL : __real_realloc(block, size);
+    blocks += block == NULL && moved != NULL;
+    return moved;
+}
+
+void __wrap_free(void *block) {
+    blocks -= block != NULL;
+    __real_free(block);
 }
 
 /* What a row answers. */
@@ -84,14 +98,11 @@ struct read {
     node_semver_range ranges[2];
 };
 
+/* Some of the handles are empty. */
 static void free_read(struct read *read) {
     for (int i = 0; i < 2; i++) {
-        if (read->versions[i].at != NULL) {
-            node_semver_version_free(read->versions[i]);
-        }
-        if (read->ranges[i].at != NULL) {
-            node_semver_range_free(read->ranges[i]);
-        }
+        node_semver_version_free(read->versions[i]);
+        node_semver_range_free(read->ranges[i]);
     }
 }
 
@@ -165,9 +176,7 @@ static void run_greatest(const char *const *texts, struct answer *answer) {
     while (count > 0) {
         node_semver_version_free(versions[--count]);
     }
-    if (range.at != NULL) {
-        node_semver_range_free(range);
-    }
+    node_semver_range_free(range);
 }
 
 static void run_texts(const char *const *texts, struct answer *answer) {
@@ -210,6 +219,55 @@ static void tell_fields(struct answer *answer, const node_semver_version *versio
              node_semver_version_is_prerelease(version) ? " prerelease" : " release");
 }
 
+/* A text that is refused, with no place for its fault: only the status is told. */
+static void run_unread(const char *kind, const char *text, struct answer *answer) {
+    node_semver_version version = NODE_SEMVER_EMPTY;
+    node_semver_range range = NODE_SEMVER_EMPTY;
+    bool satisfies = false;
+    size_t length = strlen(text);
+    node_semver_status status = kind[0] == 'v' ? node_semver_version_parse(text, length, &version, NULL)
+        : kind[0] == 'r' ? node_semver_range_parse(text, length, &range, NULL)
+                         : node_semver_satisfies_text(text, length, text, length, &satisfies, NULL);
+    if (status == NODE_SEMVER_OUT_OF_MEMORY) {
+        tell(answer, "out of memory");
+    } else {
+        snprintf(answer->text, sizeof answer->text, "%" PRIu32, status);
+    }
+    node_semver_version_free(version);
+    node_semver_range_free(range);
+}
+
+/* The identifiers past the last one: 0 bytes, and the array stays as it was. */
+static void tell_past(struct answer *answer, const node_semver_version *version) {
+    char room[4] = {'s', 'a', 'm', 'e'};
+    size_t past[] = {0, 1, 1000, SIZE_MAX};
+    for (size_t i = 0; i < 4; i++) {
+        size_t pre_release = node_semver_version_pre_release_count(version) + past[i];
+        size_t build = node_semver_version_build_count(version) + past[i];
+        pre_release = past[i] == SIZE_MAX ? SIZE_MAX : pre_release;
+        build = past[i] == SIZE_MAX ? SIZE_MAX : build;
+        if (node_semver_version_pre_release_print(version, pre_release, room, sizeof room) != 0
+            || node_semver_version_build_print(version, build, room, sizeof room) != 0
+            || memcmp(room, "same", sizeof room) != 0) {
+            tell(answer, "printed");
+            return;
+        }
+    }
+    tell(answer, "nothing");
+}
+
+/* A print into an array that is too short, or longer: what stands there then, with its length. */
+static void tell_room(struct answer *answer, const node_semver_version *version, size_t size) {
+    char room[16];
+    memset(room, '.', sizeof room);
+    size_t length = node_semver_version_print(version, room, size);
+    if (length == 0) {
+        tell(answer, "out of memory");
+    } else {
+        snprintf(answer->text, sizeof answer->text, "%zu %.*s", length, (int)sizeof room, room);
+    }
+}
+
 struct row {
     const char *call;
     const char *kinds; /* of its texts, `v` a version and `r` a range; none where the call reads them itself */
@@ -234,6 +292,14 @@ static void run(const struct row *row, struct answer *answer) {
         }
     } else if (strcmp(row->call, "fields") == 0) {
         tell_fields(answer, &v[0]);
+    } else if (strcmp(row->call, "past") == 0) {
+        tell_past(answer, &v[0]);
+    } else if (strcmp(row->call, "short") == 0) {
+        tell_room(answer, &v[0], 4);
+    } else if (strcmp(row->call, "long") == 0) {
+        tell_room(answer, &v[0], 16);
+    } else if (strcmp(row->call, "unread") == 0) {
+        run_unread(row->texts[1], row->texts[0], answer);
     } else if (strcmp(row->call, "compare") == 0) {
         snprintf(answer->text, sizeof answer->text, "%" PRId32, node_semver_version_compare(&v[0], &v[1]));
     } else if (strcmp(row->call, "hash") == 0) {
@@ -265,12 +331,17 @@ static void run(const struct row *row, struct answer *answer) {
     free_read(&read);
 }
 
-/* Whether the row answers what it should. Where a request was refused that may be want of memory, or the row all the
- * same: memory that is only to be given back may be kept. */
+/* Whether the row answers what it should. Where a request was refused, out of memory is right too; so is the row's
+ * own answer, since memory that is only to be given back may be kept. */
 static bool is_right(const struct row *row) {
     struct answer answer;
     requests = 0;
+    long before = blocks;
     run(row, &answer);
+    if (blocks != before) {
+        printf("LEAK: %s %s: %ld blocks (request %lu refused)\n", row->call, row->texts[0], blocks - before, refused);
+        return false;
+    }
     bool is_met = refused != 0 && refused <= requests;
     if (strcmp(answer.text, row->answer) == 0 || (is_met && strcmp(answer.text, "out of memory") == 0)) {
         return true;

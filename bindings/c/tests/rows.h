@@ -1,4 +1,5 @@
-/* The worked rows: the call, what its texts are, the texts, and what it answers. A refusal is told as the code of its
+/* SPDX-License-Identifier: Apache-2.0 */
+/* The worked rows: the call, what its texts are, the texts, and what it returns. Of a refusal these are the code of its
  * kind, its byte offset and its number. */
 static const struct row rows[] = {
     {"print", "v", {"v 01.2.3alpha.1+5"}, "1.2.3-alpha.1+5"},
@@ -20,6 +21,22 @@ static const struct row rows[] = {
     {"print", "r", {"\xc3("}, "not UTF-8"},
     {"fields", "v", {"1.2.3-rc.04+b.c"}, "1 2 3 rc 4 +b +c prerelease"},
     {"fields", "v", {"4.5.6"}, "4 5 6 release"},
+    /* Places past the last identifier. */
+    {"past", "v", {"1.2.3-rc.04+b.c"}, "nothing"},
+    {"past", "v", {"4.5.6"}, "nothing"},
+    /* Arrays of 4 and of 16 bytes, full of dots. */
+    {"short", "v", {"1.2.3"}, "5 ................"},
+    {"long", "v", {"1.2.3"}, "5 1.2.3..........."},
+    /* No place for the fault. */
+    {"unread", "", {"1.2", "v"}, "2"},
+    {"unread", "", {"1.2.3", "v"}, "0"},
+    {"unread", "", {"\xff", "v"}, "3"},
+    {"unread", "", {"foo", "r"}, "2"},
+    {"unread", "", {"^1", "r"}, "0"},
+    {"unread", "", {"\xff", "r"}, "3"},
+    {"unread", "", {"foo", "both"}, "2"},
+    {"unread", "", {"1.2", "both"}, "2"},
+    {"unread", "", {"1.2.3", "both"}, "0"},
     /* SemVer 2.0.0, section 11. */
     {"compare", "vv", {"1.0.0-alpha", "1.0.0-alpha.1"}, "-1"},
     {"compare", "vv", {"1.0.0-alpha.1", "1.0.0-alpha.beta"}, "-1"},

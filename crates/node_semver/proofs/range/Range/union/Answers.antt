@@ -1,0 +1,41 @@
+use Rattle.std.proofs.Common.{rules, ◌≡◌, ◌++◌, inl, inr}
+use Rattle.semver_cuts.specs.Lemmas.InSome.{in_some-either, in_some-left, in_some-right}
+use Rattle.semver_cuts.specs.Lemmas.Lists.{any-either, any-left, any-right}
+use Rattle.semver_sets.specs.Comparison.{version_cmp}
+use Rattle.semver_sets.specs.Meaning.{SetAdmits}
+use Rattle.semver_sets.specs.Version.{VersionValue}
+use Rattle.semver_cuts.specs.Ends.{Ends}
+use Rattle.semver_sets.proofs.Ranges.JoinedTexts.{sets-of_joined}
+use Rattle.node_semver.proofs.range.Range.union.Goals as goal
+
+pub returns-clause-cuts : goal.returns-clause-cuts
+returns-clause-cuts c =
+    let ones = c.args.self.now in
+    let others = c.args.other.now in
+    let joined : c.of_searched.result ≡ ones ++ others = search rules in
+    λ cut. rw joined (
+      in_some-either version_cmp cut ones others,
+      λ either. elim either [
+        | inl one ↦ in_some-left version_cmp cut ones others one
+        | inr other ↦ in_some-right version_cmp cut ones others other
+      ],
+    )
+
+pub returns-clause-admitted : goal.returns-clause-admitted
+returns-clause-admitted c =
+    let ones = c.args.self.now in
+    let others = c.args.other.now in
+    let joined : c.of_searched.result ≡ ones ++ others = search rules in
+    λ v. rw joined (
+      any-either (λ (set : Ends VersionValue). SetAdmits set v) ones others,
+      λ either. elim either [
+        | inl one ↦ any-left (λ (set : Ends VersionValue). SetAdmits set v) ones others one
+        | inr other ↦ any-right (λ (set : Ends VersionValue). SetAdmits set v) ones others other
+      ],
+    )
+
+pub returns-clause-text : goal.returns-clause-text
+returns-clause-text c =
+    let joined : c.of_searched.result ≡ c.args.self.now ++ c.args.other.now = search rules in
+    λ one another joinable first second.
+    rw joined (sets-of_joined one another c.args.self.now c.args.other.now joinable first second)

@@ -1,0 +1,2 @@
+pub mod PrintedExamples
+pub mod ToldExamples

@@ -1,0 +1,27 @@
+//! The laws of what a call returns beside its value. Each function here does nothing: its contract is the law.
+ghost use Rattle.std.specs.Prelude.{◌≡◌, ℕ, List};
+ghost use Rattle.node_semver.specs.Error.{context, incomplete, max_int, max_length, no_valid_ranges, other};
+ghost use Rattle.node_semver.specs.Error.{out_of_memory, parse_int};
+ghost use Rattle.node_semver_c.specs.Status.{code_of};
+ghost use Rattle.node_semver_c.specs.declared.status.TheConstants.{NONE, NOT_UTF8, OK, OUT_OF_MEMORY, REFUSED};
+
+/// The statuses, as the numbers that the header gives them.
+pub fn statuses()
+    ensures ok { OK ≡ 0 }
+    ensures none { NONE ≡ 1 }
+    ensures refused { REFUSED ≡ 2 }
+    ensures not_utf8 { NOT_UTF8 ≡ 3 }
+    ensures out_of_memory { OUT_OF_MEMORY ≡ 4 }
+{}
+
+/// The kinds of faults, as the numbers that the header gives them.
+pub fn kinds()
+    ensures max_length { code_of max_length ≡ 1 }
+    ensures incomplete_input { code_of incomplete ≡ 2 }
+    ensures parse_int { code_of parse_int ≡ 3 }
+    ensures max_int { (number : ℕ) → code_of (max_int number) ≡ 4 }
+    ensures context { (word : List ℕ) → code_of (context word) ≡ 5 }
+    ensures no_valid_ranges { code_of no_valid_ranges ≡ 6 }
+    ensures other { code_of other ≡ 7 }
+    ensures no_memory { code_of out_of_memory ≡ 8 }
+{}

@@ -1,7 +1,9 @@
 //! Calls that do not allocate.
 use crate::answer::{Answer, print_of_error};
 use crate::fault::Fault;
-use node_semver::{Comparisons, Identifier, Range, SemverError, Version, max_satisfying, min_satisfying};
+use node_semver::{
+    Comparisons, Identifier, Range, SemverError, Version, max_satisfying, min_satisfying,
+};
 use semver_cuts::algebra::are_merged;
 use semver_cuts::{Cut, Span, Stepped, covers};
 use std::alloc::{AllocError, Global};

@@ -1,7 +1,9 @@
 //! Calls that take no memory.
 use crate::answer::{Answer, print_of_error};
 use crate::fault::Fault;
-use node_semver::{Comparisons, Identifier, Range, SemverError, Version, max_satisfying, min_satisfying};
+use node_semver::{
+    Comparisons, Identifier, Range, SemverError, Version, max_satisfying, min_satisfying,
+};
 use semver_cuts::{Cut, Span, Stepped};
 use std::alloc::{AllocError, Global};
 use std::hash::{DefaultHasher, Hash, Hasher};

@@ -8,6 +8,7 @@
 //! | the least version that a manifest allows | [`least::least_allowed`] |
 //! | what two dependents have in common | [`common::shared_range`] |
 //! | which installed versions an advisory's range hits | [`advisory::versions_hit`] |
+//! | the least version that a manifest allows and an advisory of two ranges spares | [`spared::least_spared`] |
 //! | a range from JSON, with its error told at line and column | [`package::range_of_member`] |
 //! | a tree of ranges: what two dependents ask for, without what an advisory hits | [`tree::unhit_range`] |
 #![tactic(auto)]
@@ -20,6 +21,7 @@ mod failure;
 pub mod least;
 pub mod lock_file;
 pub mod package;
+pub mod spared;
 pub mod tree;
 
 pub use failure::Failure;

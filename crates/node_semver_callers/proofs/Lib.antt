@@ -4,3 +4,4 @@ mod AdmittedCuts
 mod LeastOfText
 -- one version more of a list of which a range text hits some
 mod MoreHits
+mod Spared

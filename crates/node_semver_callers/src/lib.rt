@@ -10,6 +10,7 @@
 //! | the least version that a manifest allows | [`least::least_allowed`] |
 //! | one range for two dependents | [`common::shared_range`] |
 //! | which installed versions an advisory's range hits | [`advisory::versions_hit`] |
+//! | the least version that a manifest allows and an advisory of two ranges spares | [`spared::least_spared`] |
 //! | a range from JSON, with the line and column of its error | [`package::range_of_member`] |
 //! | a tree of ranges: what two dependents accept, without what an advisory hits | [`tree::unhit_range`] |
 #![tactic(auto)]
@@ -23,6 +24,7 @@ mod failure;
 pub mod least;
 pub mod lock_file;
 pub mod package;
+pub mod spared;
 pub mod tree;
 pub mod wanted;
 

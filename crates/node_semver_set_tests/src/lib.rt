@@ -20,6 +20,10 @@ mod questions;
 #[cfg(test)]
 mod range_equality;
 #[cfg(test)]
+mod set_lists;
+#[cfg(test)]
 mod spread;
 #[cfg(test)]
 mod trees;
+#[cfg(test)]
+mod unions;

@@ -3,6 +3,7 @@ use crate::beyond::is_least_beyond;
 use crate::checks::is_yes;
 use crate::questions::Question;
 use crate::range_equality::agreed;
+use crate::unions::{is_union, union_admits};
 use node_semver::Range;
 use std::alloc::{AllocError, Global};
 
@@ -67,6 +68,8 @@ fn of_ranges(alloc: Global, question: Question, one: &Range, other: &Range, want
     match question {
         Question::Answers => answers(alloc, one, other, wanted),
         Question::LeastBeyond => is_least_beyond(alloc, one, other, wanted),
+        Question::Union => is_union(alloc, one, other, wanted),
+        Question::UnionAdmits => union_admits(alloc, one, other, wanted),
         Question::CommonAdmits => made_admits(alloc, Made::Common, one, other, wanted),
         Question::RestAdmits => made_admits(alloc, Made::Rest, one, other, wanted),
         _ => answer(alloc, question, one, other) == Some(is_yes(wanted)),

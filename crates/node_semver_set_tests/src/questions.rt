@@ -1,12 +1,14 @@
 use crate::algebra::admits;
 use crate::beyond::{is_greatest, is_least_listed};
-use crate::checks::is_print;
+use crate::checks::{is_print, is_yes};
 use crate::json::{of_member, of_string, text_of};
 use crate::least::{least_print, of_least, of_version};
 use crate::pairs::{of_texts, range};
 use crate::range_equality::copy_print;
+use crate::set_lists::spans_print;
 use crate::spread::spread;
 use crate::trees::{joins, leaf_print};
+use crate::unions::is_read_of_texts;
 use node_semver::{Range, Version};
 use std::alloc::{AllocGlobal, Global};
 use std::process::Abort;
@@ -37,8 +39,16 @@ pub(crate) enum Question {
     Greatest,
     // The same, and the least of them.
     LeastListed,
+    // Two range texts, and the union of the two.
+    Union,
+    // Two range texts, a version, and whether their union admits it.
+    UnionAdmits,
+    // Two range texts, and whether their union is what both are read as with `||` between.
+    UnionOfTexts,
     // A range text, and its print.
     Print,
+    // A range text, and its sets as spans of versions.
+    Spans,
     // A range text, and the print of a copy.
     Copy,
     // A range text, and the JSON string that it is written as.
@@ -70,6 +80,7 @@ fn of_range(alloc: Global, question: Question, range: &Range) -> Option<String> 
     match question {
         Question::Print => range.to_string(alloc).ok(),
         Question::Copy => copy_print(alloc, range),
+        Question::Spans => spans_print(alloc, range),
         Question::WrittenRange => text_of(alloc, range.to_json(alloc)),
         Question::Least => least_print(alloc, range),
         _ => of_least(alloc, question, range),
@@ -105,6 +116,7 @@ fn of_two(alloc: Global, question: Question, one: &str, other: &str, wanted: &st
         Question::Joins => joins(alloc, one, other, wanted),
         Question::Admits => admits(alloc, one, other, wanted),
         Question::Greatest => is_greatest(alloc, one, other, wanted),
+        Question::UnionOfTexts => is_read_of_texts(alloc, one, other) == Some(is_yes(wanted)),
         Question::LeastListed => is_least_listed(alloc, one, other, wanted),
         _ => of_texts(alloc, question, one, other, wanted),
     }

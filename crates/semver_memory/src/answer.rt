@@ -1,5 +1,6 @@
 //! The results of calls.
 use node_semver::{Identifier, JsonError, Range, SemverError, SemverErrorKind, Version};
+use semver_cuts::Span;
 use serde_json::Value;
 use std::alloc::{AllocError, Global};
 
@@ -9,6 +10,7 @@ pub(crate) enum Answer {
     OutOfMemory,
     Nothing,
     Truth(bool),
+    Count(usize),
     Identifier(Identifier),
     Version(Version),
     Range(Range),
@@ -24,6 +26,7 @@ impl Answer {
             Answer::OutOfMemory => String::from_str(alloc, "out of memory"),
             Answer::Nothing => String::from_str(alloc, "nothing"),
             Answer::Truth(truth) => truth.to_string(alloc),
+            Answer::Count(count) => count.to_string(alloc),
             Answer::Identifier(identifier) => identifier.to_string(alloc),
             Answer::Version(version) => version.to_string(alloc),
             Answer::Range(range) => range.to_string(alloc),
@@ -89,6 +92,14 @@ pub(crate) fn version(found: Result<Version, AllocError>) -> Answer {
 pub(crate) fn range(found: Result<Range, AllocError>) -> Answer {
     match found {
         Ok(range) => Answer::Range(range),
+        Err(_) => Answer::OutOfMemory,
+    }
+}
+
+/// How many sets were given.
+pub(crate) fn count(found: Result<Vec<Span<Version>>, AllocError>) -> Answer {
+    match found {
+        Ok(sets) => Answer::Count(sets.len()),
         Err(_) => Answer::OutOfMemory,
     }
 }

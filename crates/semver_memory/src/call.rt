@@ -23,6 +23,9 @@ pub(crate) enum Call {
     CopyError(SemverError),
     Intersect(Range, Range),
     Difference(Range, Range),
+    Union(Range, Range),
+    Sets(Range),
+    FromSets(Range),
     MinVersion(Range),
     LeastBeyond(Range, Range),
     Join,
@@ -49,6 +52,9 @@ impl Call {
             Call::CopyError(error) => answer::error(error.clone()),
             Call::Intersect(one, other) => answer::range_if_any(one.intersect(alloc, other)),
             Call::Difference(one, other) => answer::range_if_any(one.difference(alloc, other)),
+            Call::Union(one, other) => answer::range(one.union(alloc, other)),
+            Call::Sets(range) => answer::count(range.sets(alloc)),
+            Call::FromSets(range) => from_sets(alloc, range),
             Call::MinVersion(range) => answer::version_if_any(range.min_version(alloc)),
             Call::LeastBeyond(one, other) => answer::version_if_any(one.least_beyond(alloc, other)),
             Call::Join => joined(alloc),
@@ -71,12 +77,15 @@ impl Call {
             Call::Any | Call::WithPreRelease | Call::Join => Ok(String::new(alloc)),
             Call::CopyIdentifier(identifier) => identifier.to_string(alloc),
             Call::CopyVersion(version) | Call::VersionToJson(version) => version.to_string(alloc),
-            Call::CopyRange(range) | Call::MinVersion(range) | Call::RangeToJson(range) => {
-                range.to_string(alloc)
-            }
+            Call::CopyRange(range)
+            | Call::Sets(range)
+            | Call::FromSets(range)
+            | Call::MinVersion(range)
+            | Call::RangeToJson(range) => range.to_string(alloc),
             Call::CopyError(error) => print_of_error(alloc, error),
             Call::Intersect(one, other)
             | Call::Difference(one, other)
+            | Call::Union(one, other)
             | Call::LeastBeyond(one, other) => format!(in alloc; "{one}, {other}"),
             Call::VersionFromJson(value) | Call::RangeFromJson(value) => value.to_string(alloc),
             Call::Evaluate(tree) => print_of_tree(alloc, tree),
@@ -90,6 +99,14 @@ fn asked(alloc: Global, text: &str, version: &Version) -> Answer {
     match Range::parse(alloc, text) {
         Ok(range) => Answer::Truth(range.satisfies(version)),
         Err(error) => answer::range_read(Err(error)),
+    }
+}
+
+/// The range of the sets that a range gives.
+fn from_sets(alloc: Global, range: &Range) -> Answer {
+    match range.sets(alloc) {
+        Ok(sets) => answer::range_if_any(Range::from_sets(alloc, sets)),
+        Err(_) => Answer::OutOfMemory,
     }
 }
 
@@ -157,8 +174,12 @@ fn call_of_value(alloc: Global, name: &str, one: &str, other: &str) -> Result<Ca
         "Identifier::clone" => copy_of_identifier(alloc, one),
         "SemverError::clone" => copy_of_error(alloc, one),
         "Version::clone" | "Version::to_json" => call_of_version(alloc, name, one),
-        "Range::clone" | "Range::min_version" | "Range::to_json" => call_of_range(alloc, name, one),
-        "Range::intersect" | "Range::difference" | "Range::least_beyond" => {
+        "Range::clone"
+        | "Range::min_version"
+        | "Range::to_json"
+        | "Range::sets"
+        | "Range::from_sets" => call_of_range(alloc, name, one),
+        "Range::intersect" | "Range::difference" | "Range::union" | "Range::least_beyond" => {
             call_of_ranges(alloc, name, one, other)
         }
         "Version::from_json" | "Range::from_json" => call_of_json(alloc, name, one),
@@ -188,6 +209,8 @@ fn call_of_range(alloc: Global, name: &str, text: &str) -> Result<Call, Fault> {
     Ok(match name {
         "Range::clone" => Call::CopyRange(range),
         "Range::min_version" => Call::MinVersion(range),
+        "Range::sets" => Call::Sets(range),
+        "Range::from_sets" => Call::FromSets(range),
         _ => Call::RangeToJson(range),
     })
 }
@@ -198,6 +221,7 @@ fn call_of_ranges(alloc: Global, name: &str, one: &str, other: &str) -> Result<C
     Ok(match name {
         "Range::intersect" => Call::Intersect(one, other),
         "Range::difference" => Call::Difference(one, other),
+        "Range::union" => Call::Union(one, other),
         _ => Call::LeastBeyond(one, other),
     })
 }

@@ -1,5 +1,6 @@
 -- What a package depends on: npm's "package.json", from "dependencies" to "optionalDependencies".
-use Rattle.std.specs.Prelude.{ℕ, List, Bool, true, false, not, if◌then◌else◌, Option, Some, None, option_and_then, option_map, unwrap_or, codes}
+use Rattle.std.specs.Prelude.{ℕ, List, Bool, true, false, not, if◌then◌else◌, Option, Some, None, option_and_then}
+use Rattle.std.specs.Prelude.{option_map, unwrap_or, codes}
 use Rattle.std.specs.Option.{option_or}
 use Rattle.serde_json.specs.Data.{Data}
 use Rattle.serde_json.specs.Find.{as_bool, as_str, get}
@@ -28,8 +29,8 @@ abbrev pub asked_in : (member : Data) → (group name : List ℕ) → (is_needed
 asked_in member group name is_needed is_peer = option_map
     (λ spec. record { spec = spec; is_needed = is_needed; is_peer = is_peer }) (spec_in member group name)
 
--- Of one name the later group counts: `peerDependencies`, `dependencies`, `optionalDependencies` and, for a package in no
--- `node_modules`, `devDependencies`.
+-- Of one name the later group counts: `peerDependencies`, `dependencies`, `optionalDependencies` and, for a package in
+-- no `node_modules`, `devDependencies`.
 abbrev pub asked_of : (member : Data) → (is_installed : Bool) → (name : List ℕ) → Option AskedValue
 asked_of member is_installed name =
     option_or (if is_installed then None else asked_in member (codes "devDependencies") name true false)

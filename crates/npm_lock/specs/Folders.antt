@@ -1,5 +1,6 @@
 -- Folders of packages, as the keys of `packages` in a lock file write them: npm's "package-lock.json", "packages".
-use Rattle.std.specs.Prelude.{◌≡◌, ◌≢◌, ◌⊎◌, ◌||◌, ◌<◌, ℕ, List, [], ◌∷◌, ◌++◌, Bool, IsTrue, bytes_eq, codes, length, nat_eq, slice_index}
+use Rattle.std.specs.Prelude.{◌≡◌, ◌≢◌, ◌⊎◌, ◌||◌, ◌<◌, ℕ, List, [], ◌∷◌, ◌++◌, Bool, IsTrue, bytes_eq, codes, length}
+use Rattle.std.specs.Prelude.{nat_eq, slice_index}
 use Rattle.std.specs.List.{ends_with, starts_with}
 use Rattle.std.specs.Str.Iter.{HasSubslice}
 

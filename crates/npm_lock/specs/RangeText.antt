@@ -1,5 +1,6 @@
 -- Which specs of dependencies are ranges: npm's "package.json", "dependencies", and `npm-package-arg`.
-use Rattle.std.specs.Prelude.{◌==◌, ◌+◌, ◌||◌, ℕ, List, Bool, true, false, if◌then◌else◌, Option, Some, None, codes, drop, length, nat_eq}
+use Rattle.std.specs.Prelude.{◌==◌, ◌+◌, ◌||◌, ℕ, List, Bool, true, false, if◌then◌else◌, Option, Some, None, codes}
+use Rattle.std.specs.Prelude.{drop, length, nat_eq}
 use Rattle.std.specs.List.{after_first, list_all, list_any, position_or_len, starts_with}
 use Rattle.std.specs.Char.{is_ascii_alphanumeric}
 
@@ -9,11 +10,13 @@ is_at_sign b = b == 64
 
 -- what stands after the `@` of `NAME@RANGE`, or `*` if none does
 abbrev pub range_of_name : List ℕ → List ℕ
-range_of_name name = if position_or_len is_at_sign name == length name then codes "*" else after_first is_at_sign name
+range_of_name name =
+    if position_or_len is_at_sign name == length name then codes "*" else after_first is_at_sign name
 
 -- the same for a name that may have a scope: `@s/a@^1` gives `^1`
 abbrev pub range_of_alias : List ℕ → List ℕ
-range_of_alias alias = if starts_with nat_eq alias (codes "@") then range_of_name (drop 1 alias) else range_of_name alias
+range_of_alias alias =
+    if starts_with nat_eq alias (codes "@") then range_of_name (drop 1 alias) else range_of_name alias
 
 -- the text after `npm:NAME@` of an alias, and the whole of any other spec
 abbrev pub unaliased : List ℕ → List ℕ

@@ -1,5 +1,6 @@
 -- Whether a version is what a spec asks for.
-use Rattle.std.specs.Prelude.{◌≡◌, ◌==◌, ◌||◌, ℕ, List, Bool, true, false, Option, Some, None, IfSome, bytes_eq, codes, length}
+use Rattle.std.specs.Prelude.{◌≡◌, ◌==◌, ◌||◌, ℕ, List, Bool, true, false, Option, Some, None, IfSome, bytes_eq}
+use Rattle.std.specs.Prelude.{codes, length}
 use Rattle.semver_sets.specs.Meaning.{IsRefused, TextAdmits}
 use Rattle.semver_sets.specs.Version.{VersionValue}
 use Rattle.semver_sets.specs.VersionText.{IsVersionText}
@@ -26,7 +27,8 @@ pub data IsVerdictOfText (version : Option (List ℕ)) (text : List ℕ) : Verdi
   unsatisfied : (written : List ℕ) (v : VersionValue) → asks_for_any text ≡ false → ¬ IsRefused text
       → version ≡ Some written → IsVersionText written v → ¬ TextAdmits text v → IsVerdictOfText version text Invalid
   no_version : asks_for_any text ≡ false → ¬ IsRefused text
-      → IfSome version (λ written. (v : VersionValue) → ¬ IsVersionText written v) → IsVerdictOfText version text Invalid
+      → IfSome version (λ written. (v : VersionValue) → ¬ IsVersionText written v)
+      → IsVerdictOfText version text Invalid
 
 -- the verdict on a spec: a text that is neither a range nor a tag is not checked
 pub data IsVerdict (version : Option (List ℕ)) (spec : List ℕ) : Verdict → Type 0 where

@@ -54,7 +54,8 @@ pub(crate) fn outcome_of(
 /// What is said of a dependency that is found nowhere.
 fn absent(alloc: Global, folder: &str, name: &str, asked: Asked<'_>) -> Result<Outcome, AllocError>
     ensures { IfOk result (λ outcome. option_map problem_value outcome.problem
-        ≡ (if asked.entry.is_needed then Some (Outcomes.missing_problem folder.now name.now asked.entry.spec.now) else None)) }
+        ≡ (if asked.entry.is_needed
+        then Some (Outcomes.missing_problem folder.now name.now asked.entry.spec.now) else None)) }
 {
     if !asked.is_needed {
         return Ok(without_problem(false));

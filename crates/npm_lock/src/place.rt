@@ -20,8 +20,8 @@ pub(crate) struct Found<'v> {
     pub(crate) member: &'v Value,
 }
 
-/// Finds a name in the `node_modules` of a folder, or else of the next folder above. Also returns `true` if it was found
-/// in that of the folder itself.
+/// Finds a name in the `node_modules` of a folder, or else of the next folder above. Also returns `true` if it was
+/// found in that of the folder itself.
 pub(crate) fn find<'v>(
     alloc: Global,
     packages: &'v Value,

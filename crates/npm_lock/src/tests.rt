@@ -28,7 +28,8 @@ const ROWS: [(&str, &[(Kind, &str, &str)]); 16] = [
         &[(Kind::Invalid, "", "a")],
     ),
     (
-        r#""": {"dependencies": {"a": "*", "b": ""}}, "node_modules/a": {"version": "1.0.0-a"}, "node_modules/b": {}"#,
+        r#""": {"dependencies": {"a": "*", "b": ""}}, "node_modules/a": {"version": "1.0.0-a"},
+            "node_modules/b": {}"#,
         &[],
     ),
     // Optional dependencies, and the later group of one name.
@@ -46,7 +47,8 @@ const ROWS: [(&str, &[(Kind, &str, &str)]); 16] = [
         &[(Kind::Missing, "", "b")],
     ),
     (
-        r#""node_modules/a": {"peerDependencies": {"b": "1"}}, "node_modules/a/node_modules/b": {"version": "1.0.0"}"#,
+        r#""node_modules/a": {"peerDependencies": {"b": "1"}},
+            "node_modules/a/node_modules/b": {"version": "1.0.0"}"#,
         &[(Kind::PeerLocal, "node_modules/a", "b")],
     ),
     // Development dependencies count for the root and workspaces.
@@ -56,26 +58,31 @@ const ROWS: [(&str, &[(Kind, &str, &str)]); 16] = [
     ),
     // A link, and its target.
     (
-        r#""": {"dependencies": {"w": "2"}}, "node_modules/w": {"link": true, "resolved": "p/w"}, "p/w": {"version": "1.0.0"}"#,
+        r#""": {"dependencies": {"w": "2"}}, "node_modules/w": {"link": true, "resolved": "p/w"},
+            "p/w": {"version": "1.0.0"}"#,
         &[(Kind::Invalid, "", "w")],
     ),
     // A scope, nested: the nearest package counts.
     (
-        r#""node_modules/@s/a": {"dependencies": {"@t/b": "1"}}, "node_modules/@s/a/node_modules/@t/b": {"version": "1.0.0"}, "node_modules/@t/b": {"version": "2.0.0"}"#,
+        r#""node_modules/@s/a": {"dependencies": {"@t/b": "1"}},
+            "node_modules/@s/a/node_modules/@t/b": {"version": "1.0.0"}, "node_modules/@t/b": {"version": "2.0.0"}"#,
         &[],
     ),
     (
-        r#""node_modules/@s/a/node_modules/b": {"dependencies": {"c": "1"}}, "node_modules/@s/a/node_modules/c": {"version": "2.0.0"}, "node_modules/c": {"version": "1.0.0"}"#,
+        r#""node_modules/@s/a/node_modules/b": {"dependencies": {"c": "1"}},
+            "node_modules/@s/a/node_modules/c": {"version": "2.0.0"}, "node_modules/c": {"version": "1.0.0"}"#,
         &[(Kind::Invalid, "node_modules/@s/a/node_modules/b", "c")],
     ),
     // Aliases.
     (
-        r#""": {"dependencies": {"a": "npm:@s/b@^1", "b": "npm:c"}}, "node_modules/a": {"version": "2.0.0"}, "node_modules/b": {"version": "1.0.0"}"#,
+        r#""": {"dependencies": {"a": "npm:@s/b@^1", "b": "npm:c"}}, "node_modules/a": {"version": "2.0.0"},
+            "node_modules/b": {"version": "1.0.0"}"#,
         &[(Kind::Invalid, "", "a")],
     ),
     // A tag and a URL are not checked, and a text that is neither a range nor a tag is invalid.
     (
-        r#""": {"dependencies": {"a": "latest", "b": "github:b/b", "c": "= %"}}, "node_modules/a": {}, "node_modules/b": {}, "node_modules/c": {"version": "1.0.0"}"#,
+        r#""": {"dependencies": {"a": "latest", "b": "github:b/b", "c": "= %"}}, "node_modules/a": {},
+            "node_modules/b": {}, "node_modules/c": {"version": "1.0.0"}"#,
         &[(Kind::Invalid, "", "c")],
     ),
 ];

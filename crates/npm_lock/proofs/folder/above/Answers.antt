@@ -1,5 +1,6 @@
 -- The last `/` ends the folder above.
-use Rattle.std.proofs.Common.{◌≡◌, ◌≢◌, ◌<◌, ◌+◌, ℕ, List, [], ◌∷◌, ◌++◌, length, get_or, take, drop, suc, codes, arith, inl, inr, refl, sym, ap, ◌∙◌, length-drop, drop-cons, add-one, rules}
+use Rattle.std.proofs.Common.{◌≡◌, ◌≢◌, ◌<◌, ◌+◌, ℕ, List, [], ◌∷◌, ◌++◌, length, get_or, take, drop, suc, codes}
+use Rattle.std.proofs.Common.{arith, inl, inr, refl, sym, ap, ◌∙◌, length-drop, drop-cons, add-one, rules}
 use native.Mathlib.Numerals.{unary_clauses}
 use Rattle.std.proofs.lemmas.List.{get_or-drop, take-append-drop}
 use Rattle.std.proofs.lemmas.Str.Pattern.{rfind_char}
@@ -30,11 +31,14 @@ is_above folder above k is small slash none = record {
 
 pub returns-in-Some-clause-above : goal.returns-in-Some-clause-above
 returns-in-Some-clause-above c =
-    let last = rw c.in-Some.is at (rfind_char 47 c.args.folder.now c.rfind.result c.rfind.ensures.cases (omega arith)) in
-    is_above c.args.folder.now c.range.result.now c.in-Some.at (simp unary_clauses at c.range.ensures.value) last.0 last.1 last.2
+    let slash = rfind_char 47 c.args.folder.now c.rfind.result c.rfind.ensures.cases (omega arith) in
+    let last = rw c.in-Some.is at slash in
+    let front = simp unary_clauses at c.range.ensures.value in
+    is_above c.args.folder.now c.range.result.now c.in-Some.at front last.0 last.1 last.2
 
 pub returns-in-None-2-clause-above : goal.returns-in-None-2-clause-above
 returns-in-None-2-clause-above c =
-    let none = rw c.in-None.is at (rfind_char 47 c.args.folder.now c.rfind.result c.rfind.ensures.cases (omega arith)) in
+    let slash = rfind_char 47 c.args.folder.now c.rfind.result c.rfind.ensures.cases (omega arith) in
+    let none = rw c.in-None.is at slash in
     let some : c.args.folder.now ≢ [] = λ empty. search (rules, empty, c.is_empty.ensures, c.if-is_empty.false) in
     record { name = c.args.folder.now; one_part = none; whole = inr (refl, some, refl) }

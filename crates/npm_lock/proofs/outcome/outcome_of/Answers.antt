@@ -5,10 +5,13 @@ use Rattle.serde_json.specs.Data.{Data}
 use Rattle.serde_json.specs.View.{view}
 use Rattle.npm_lock.specs.Asked.{AskedValue}
 use Rattle.npm_lock.specs.FoundValue.{found_value}
-use Rattle.npm_lock.specs.Outcomes.{IsLocalPeer, IsOutcome, ProblemValue, absent, invalid, local_peer, missing, missing_problem, unchecked, valid}
+use Rattle.npm_lock.specs.Outcomes.{IsLocalPeer, IsOutcome, ProblemValue, absent, invalid, local_peer, missing}
+use Rattle.npm_lock.specs.Outcomes.{missing_problem, unchecked, valid}
 use Rattle.npm_lock.specs.Packages.{IsFound, IsPassed, Package}
 use Rattle.npm_lock.proofs.outcome.outcome_of.Goals as goal
-use Rattle.npm_lock.proofs.outcome.outcome_of.Goals.{else-asked-via-then-asked+then-is_installed+else-is_own, else-asked-via-then-asked+else-is_installed, else-asked-via-else-asked}
+use Rattle.npm_lock.proofs.outcome.outcome_of.Goals.{else-asked-via-then-asked+then-is_installed+else-is_own}
+use Rattle.npm_lock.proofs.outcome.outcome_of.Goals.{else-asked-via-then-asked+else-is_installed}
+use Rattle.npm_lock.proofs.outcome.outcome_of.Goals.{else-asked-via-else-asked}
 
 module _ (packages : Data) (folder : List ℕ) (is_installed : Bool) (name : List ℕ) (asked : AskedValue) where
   absent_as : (needed : Bool) → asked.is_needed ≡ needed → IsFound packages name folder None

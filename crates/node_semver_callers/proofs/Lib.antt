@@ -4,4 +4,5 @@ mod AdmittedCuts
 mod LeastOfText
 -- one version more of a list of which a range text hits some
 mod MoreHits
-mod Spared
+-- what a range admits beyond the union of two others
+mod UnionHits

@@ -1,5 +1,5 @@
 use Rattle.semver_sets.specs.Meaning.{TextAdmits}
-use Rattle.node_semver_callers.proofs.Spared.{is-spared, least-spared, none-spared}
+use Rattle.node_semver_callers.proofs.UnionHits.{is-spared, least-spared, none-spared}
 use Rattle.node_semver_callers.proofs.spared.least_spared.Goals as goal
 
 pub returns-clause-spared : goal.returns-clause-spared

@@ -17,7 +17,6 @@
 //! use node_semver::{Range, SemverErrorKind, Version};
 //! use std::test::Fail;
 //!
-//! #[test]
 //! fn reads_a_range_and_asks_it(rt: HostRuntime) -> Result<(), Fail> {
 //!     let alloc = rt.alloc();
 //!     let range = Range::parse(alloc, "^1.2.3-rc.4 || >=3")?;

@@ -5,7 +5,7 @@ use Rattle.std.specs.Option.{option_or}
 use Rattle.serde_json.specs.Data.{Data}
 use Rattle.serde_json.specs.Find.{as_bool, as_str, get}
 
--- what a package asks for by a name: its spec, whether it must be found, and whether it is a peer
+-- a package's dependency on a name: its spec, whether it must be found, and whether it is a peer
 pub record AskedValue : Type 0 where
   pub spec : List ℕ
   pub is_needed : Bool
@@ -15,7 +15,7 @@ pub record AskedValue : Type 0 where
 abbrev pub spec_in : (member : Data) → (group name : List ℕ) → Option (List ℕ)
 spec_in member group name = option_and_then as_str (option_and_then (get name) (get group member))
 
--- what `peerDependenciesMeta` says of a peer
+-- a peer in `peerDependenciesMeta`
 abbrev pub optional_of : (member : Data) → (name : List ℕ) → Option Bool
 optional_of member name = option_and_then as_bool
     (option_and_then (get (codes "optional"))

@@ -4,7 +4,7 @@ use Rattle.std.specs.Prelude.{nat_eq, slice_index}
 use Rattle.std.specs.List.{ends_with, starts_with}
 use Rattle.std.specs.Str.Iter.{HasSubslice}
 
--- what is in a folder: `node_modules/a` is in the root, `b/node_modules/a` in `b`
+-- a path inside a folder: `node_modules/a` is in the root, `b/node_modules/a` in `b`
 abbrev pub in_folder : (folder path : List ℕ) → List ℕ
 in_folder [] path = path
 in_folder (b ∷ folder) path = (b ∷ folder) ++ (codes "/" ++ path)

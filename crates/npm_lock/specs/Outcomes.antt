@@ -13,7 +13,7 @@ use Rattle.npm_lock.specs.Asked.{AskedValue}
 use Rattle.npm_lock.specs.Packages.{IsFound, IsFoundIn, Package}
 use Rattle.npm_lock.specs.Verdict.{IsAdmittedBy, IsVerdict}
 
--- a problem: the package in the folder `from` asks for the name by this spec, and the package in `to` was found
+-- a problem: the package in the folder `from` depends on the name by this spec, and the package in `to` was found
 pub record ProblemValue : Type 0 where
   pub kind : Kind
   pub from : List ℕ
@@ -22,7 +22,7 @@ pub record ProblemValue : Type 0 where
   pub to : Option (List ℕ)
   pub version : Option (List ℕ)
 
--- what is seen of a problem
+-- a problem as a contract sees it
 abbrev pub problem_value : Problem → ProblemValue
 problem_value problem = record {
   kind = problem.kind;
@@ -53,40 +53,42 @@ found_problem kind folder name spec found = record {
   version = version_of found.member;
 }
 
--- a peer of an installed package that stands in the `node_modules` of that very package
+-- a peer of an installed package that is in the `node_modules` of that very package
 pub record IsLocalPeer (packages : Data) (folder : List ℕ) (is_installed : Bool) (name : List ℕ) (asked : AskedValue)
     (package_found : Package) : Type 0 where
   pub peer : asked.is_peer ≡ true
   pub installed : is_installed ≡ true
   pub own : IsFoundIn packages name folder package_found
 
--- the problem of a dependency of the package in this folder, or none
+-- the problem of a dependency of the package in this folder, or none, and whether the dependency is not checked
 pub data IsOutcome (packages : Data) (folder : List ℕ) (is_installed : Bool) (name : List ℕ) (asked : AskedValue)
-    : Option ProblemValue → Type 0 where
+    : Option ProblemValue → (is_unchecked : Bool) → Type 0 where
   absent : IsFound packages name folder None → asked.is_needed ≡ false
-      → IsOutcome packages folder is_installed name asked None
+      → IsOutcome packages folder is_installed name asked None false
   missing : IsFound packages name folder None → asked.is_needed ≡ true
-      → IsOutcome packages folder is_installed name asked (Some (missing_problem folder name asked.spec))
+      → IsOutcome packages folder is_installed name asked
+      (Some (missing_problem folder name asked.spec)) false
   local_peer : (found : Package) → IsFound packages name folder (Some found)
       → IsLocalPeer packages folder is_installed name asked found
       → IsOutcome packages folder is_installed name asked
-      (Some (found_problem PeerLocal folder name asked.spec found))
+      (Some (found_problem PeerLocal folder name asked.spec found)) false
   invalid : (found : Package) → IsFound packages name folder (Some found)
       → ¬ IsLocalPeer packages folder is_installed name asked found
       → IsVerdict (version_of found.member) asked.spec Verdicts.Invalid
-      → IsOutcome packages folder is_installed name asked (Some (found_problem Invalid folder name asked.spec found))
+      → IsOutcome packages folder is_installed name asked
+      (Some (found_problem Invalid folder name asked.spec found)) false
   valid : (found : Package) → IsFound packages name folder (Some found)
       → ¬ IsLocalPeer packages folder is_installed name asked found
       → IsVerdict (version_of found.member) asked.spec Verdicts.Valid
-      → IsOutcome packages folder is_installed name asked None
+      → IsOutcome packages folder is_installed name asked None false
   unchecked : (found : Package) → IsFound packages name folder (Some found)
       → ¬ IsLocalPeer packages folder is_installed name asked found
       → IsVerdict (version_of found.member) asked.spec Verdicts.Unchecked
-      → IsOutcome packages folder is_installed name asked None
+      → IsOutcome packages folder is_installed name asked None true
 
 -- ---- the version of Node
 
--- what a package says of Node
+-- a package's range for Node
 abbrev pub engine_of : (member : Data) → Option (List ℕ)
 engine_of member = option_and_then as_str (option_and_then (get (codes "node")) (get (codes "engines") member))
 

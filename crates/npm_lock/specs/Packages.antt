@@ -36,7 +36,7 @@ pub record IsFoundIn (packages : Data) (name folder : List ℕ) (package_found :
   pub no_modules : is_modules folder ≡ false
   pub found : package_at packages (place_in folder name) ≡ Some package_found
 
--- what is found for a name from a folder: in its own `node_modules`, or else what is found from the folder above
+-- the package that is found for a name from a folder: in its own `node_modules`, or else from the folder above
 pub data IsFound (packages : Data) (name : List ℕ) : (folder : List ℕ) → Option Package → Type 0 where
   here : (folder : List ℕ) (found : Package) → IsFoundIn packages name folder found
       → IsFound packages name folder (Some found)

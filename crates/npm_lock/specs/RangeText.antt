@@ -8,7 +8,7 @@ use Rattle.std.specs.Char.{is_ascii_alphanumeric}
 abbrev pub is_at_sign : ℕ → Bool
 is_at_sign b = b == 64
 
--- what stands after the `@` of `NAME@RANGE`, or `*` if none does
+-- the text after the `@` of `NAME@RANGE`, or `*` if there is none
 abbrev pub range_of_name : List ℕ → List ℕ
 range_of_name name =
     if position_or_len is_at_sign name == length name then codes "*" else after_first is_at_sign name

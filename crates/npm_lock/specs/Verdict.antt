@@ -1,4 +1,4 @@
--- Whether a version is what a spec asks for.
+-- Whether a version satisfies a dependency's spec.
 use Rattle.std.specs.Prelude.{◌≡◌, ◌==◌, ◌||◌, ℕ, List, Bool, true, false, Option, Some, None, IfSome, bytes_eq}
 use Rattle.std.specs.Prelude.{codes, length}
 use Rattle.semver_sets.specs.Meaning.{IsRefused, TextAdmits}
@@ -8,7 +8,7 @@ use Rattle.npm_lock.specs.RangeText.{is_tag, range_text}
 use Rattle.npm_lock.specs.declared.verdict.Verdict.{Verdict}
 use Rattle.npm_lock.specs.declared.verdict.Verdict.TheVariants.{Invalid, Unchecked, Valid}
 
--- `*` and the empty text ask for any version, a prerelease too
+-- `*` and the empty text admit any version, a prerelease too
 abbrev pub asks_for_any : List ℕ → Bool
 asks_for_any text = (length text == 0) || bytes_eq text (codes "*")
 

@@ -14,14 +14,6 @@ pub(crate) struct Asked<'v> {
     pub(crate) is_peer: bool,
 }
 
-/// The groups of dependencies that a package may have.
-pub(crate) const GROUPS: [&str; 4] = [
-    "peerDependencies",
-    "dependencies",
-    "optionalDependencies",
-    "devDependencies",
-];
-
 /// What a package asks for by a name, or `None` if it does not depend on it.
 ///
 /// `devDependencies` count for a package in no `node_modules` alone.

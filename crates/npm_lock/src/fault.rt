@@ -1,5 +1,9 @@
 //! Values that are no lock file.
-use crate::asked::GROUPS;
+ghost use Rattle.std.specs.Prelude.{◌≡◌, IfErr, IfOk, None, Some, codes};
+ghost use Rattle.serde_json.specs.Find.{get};
+ghost use Rattle.serde_json.specs.View.{members_view, view};
+ghost use Rattle.npm_lock.specs.Faults as Faults;
+
 use crate::place::is_link;
 use serde_json::{Map, Value};
 use thiserror::Error;
@@ -31,71 +35,110 @@ pub enum Fault {
 }
 
 /// The member `packages` of a lock file, whose members are looked at too.
-pub(crate) fn packages_of(lock: &Value) -> Result<&Value, Fault> {
-    match lock.get("lockfileVersion").and_then(Value::as_u64) {
-        Some(2 | 3) => {}
-        _ => return Err(Fault::Version),
+pub(crate) fn packages_of(lock: &Value) -> Result<&Value, Fault>
+    ensures sound { IfOk result (λ packages. (Faults.lock_fault (view lock.now) ≡ None)
+        × (get (codes "packages") (view lock.now) ≡ Some (view packages.now))) }
+    ensures refused { IfErr result (λ fault. Faults.lock_fault (view lock.now) ≡ Some fault) }
+{
+    if !has_format(lock) {
+        return Err(Fault::Version);
     }
     let Some(packages) = lock.get("packages") else {
         return Err(Fault::Packages);
     };
+    match packages_fault(packages) {
+        Some(fault) => Err(fault),
+        None => Ok(packages),
+    }
+}
+
+/// Returns `true` if `lockfileVersion` is 2 or 3.
+fn has_format(lock: &Value) -> bool
+    ensures { result ≡ Faults.has_format (view lock.now) }
+{
+    let version = lock.get("lockfileVersion").and_then(Value::as_u64);
+    matches!(version, Some(2 | 3))
+}
+
+/// The fault of `packages`: that of its first member that has one.
+fn packages_fault(packages: &Value) -> Option<Fault>
+    ensures { result ≡ Faults.packages_fault (view packages.now) }
+{
     let Some(members) = packages.as_object() else {
-        return Err(Fault::Packages);
+        return Some(Fault::Packages);
     };
     for (_, member) in members.iter() {
-        check_member(packages, member)?;
-    }
-    Ok(packages)
-}
-
-/// Looks at a member of `packages`.
-fn check_member(packages: &Value, member: &Value) -> Result<(), Fault> {
-    if !member.is_object() {
-        return Err(Fault::Package);
-    }
-    if is_link(member) {
-        return check_link(packages, member);
-    }
-    if member
-        .get("version")
-        .is_some_and(|version| !version.is_string())
-    {
-        return Err(Fault::PackageVersion);
-    }
-    for group in GROUPS {
-        check_group(member.get(group))?;
-    }
-    Ok(())
-}
-
-/// Looks at a link, whose target is a package and no link.
-fn check_link(packages: &Value, link: &Value) -> Result<(), Fault> {
-    let Some(target) = link.get("resolved").and_then(Value::as_str) else {
-        return Err(Fault::Link);
-    };
-    match packages.get(target) {
-        Some(member) if !is_link(member) => Ok(()),
-        _ => Err(Fault::Link),
-    }
-}
-
-/// Looks at a group of dependencies, which may be absent.
-fn check_group(group: Option<&Value>) -> Result<(), Fault> {
-    let Some(group) = group else {
-        return Ok(());
-    };
-    let Some(members) = group.as_object() else {
-        return Err(Fault::Dependencies);
-    };
-    check_specs(members)
-}
-
-/// Looks at what is asked for, by each name.
-fn check_specs(members: &Map<String, Value>) -> Result<(), Fault> {
-    for (_, spec) in members.iter() {
-        if !spec.is_string() {
-            return Err(Fault::Spec);
+        if let Some(fault) = member_fault(packages, member) {
+            return Some(fault);
         }
     }
-    Ok(())
+    None
+}
+
+/// The fault of a member of `packages`.
+fn member_fault(packages: &Value, member: &Value) -> Option<Fault>
+    ensures { result ≡ Faults.member_fault (view packages.now) (view member.now) }
+{
+    if !member.is_object() {
+        return Some(Fault::Package);
+    }
+    if is_link(member) {
+        return link_fault(packages, member);
+    }
+    if !has_text_version(member) {
+        return Some(Fault::PackageVersion);
+    }
+    group_fault(member, "peerDependencies")
+        .or(group_fault(member, "dependencies"))
+        .or(group_fault(member, "optionalDependencies"))
+        .or(group_fault(member, "devDependencies"))
+}
+
+/// The fault of a link, whose target is a package and no link.
+fn link_fault(packages: &Value, link: &Value) -> Option<Fault>
+    ensures { result ≡ Faults.link_fault (view packages.now) (view link.now) }
+{
+    let Some(target) = link.get("resolved").and_then(Value::as_str) else {
+        return Some(Fault::Link);
+    };
+    match packages.get(target) {
+        Some(member) if !is_link(member) => None,
+        _ => Some(Fault::Link),
+    }
+}
+
+/// Returns `true` if `version` is a string, or absent.
+fn has_text_version(member: &Value) -> bool
+    ensures { result ≡ Faults.has_text_version (view member.now) }
+{
+    match member.get("version") {
+        Some(version) => version.is_string(),
+        None => true,
+    }
+}
+
+/// The fault of a group of dependencies, which may be absent.
+fn group_fault(member: &Value, group: &str) -> Option<Fault>
+    ensures { result ≡ Faults.group_fault (view member.now) group.now }
+{
+    let Some(specs) = member.get(group)?.as_object() else {
+        return Some(Fault::Dependencies);
+    };
+    if are_texts(specs) {
+        None
+    } else {
+        Some(Fault::Spec)
+    }
+}
+
+/// Returns `true` if each member is a string.
+fn are_texts(specs: &Map<String, Value>) -> bool
+    ensures { result ≡ Faults.are_texts (members_view specs.now.entries) }
+{
+    for (_, spec) in specs.iter() {
+        if !spec.is_string() {
+            return false;
+        }
+    }
+    true
 }

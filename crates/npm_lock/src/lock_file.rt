@@ -1,6 +1,8 @@
 //! The problems of all packages.
-ghost use Rattle.std.specs.Prelude.{◌≡◌, IfOk, option_map};
+ghost use Rattle.std.specs.Prelude.{◌≡◌, ◌↔◌, IfOk, IsErrOf, Some, option_map};
 ghost use Rattle.serde_json.specs.View.{view};
+ghost use Rattle.npm_lock.specs.Faults as Faults;
+ghost use Rattle.npm_lock.specs.declared.fault.Fault.{Fault};
 ghost use Rattle.npm_lock.specs.Outcomes as Outcomes;
 ghost use Rattle.npm_lock.specs.Outcomes.{IsEngineOutcome, problem_value};
 
@@ -17,61 +19,74 @@ use node_semver::Version;
 use serde_json::Value;
 use std::alloc::{AllocError, Global};
 
-/// Returns the problems of a lock file: what its packages depend on and is missing, or has a version that they do not
-/// ask for. With a version of Node, also each package whose `engines.node` does not admit it.
+/// Returns the problems of a lock file: dependencies that are missing, or whose version does not satisfy the spec. With
+/// a version of Node, also each package whose `engines.node` does not admit it.
 ///
 /// # Errors
 ///
 /// - `Refused`: the value is no lock file of version 2 or 3, or a member that counts has the wrong type.
 /// - `Memory`: an allocation failed.
-pub fn check(alloc: Global, lock: &Value, node: Option<&Version>) -> Result<Problems, CheckError> {
+pub fn check(alloc: Global, lock: &Value, node: Option<&Version>) -> Result<Problems, CheckError>
+    ensures refused { (fault : Fault) → IsErrOf result (CheckError.Refused fault)
+        ↔ (Faults.lock_fault (view lock.now) ≡ Some fault) }
+{
     let packages = packages_of(lock)?;
-    let mut problems = Problems {
-        list: Vec::new(alloc),
-        packages: 0,
-        dependencies: 0,
-        unchecked: 0,
-    };
+    let mut problems = Problems::new(alloc);
     if let Some(members) = packages.as_object() {
-        for (folder, package) in members.iter() {
-            if !is_link(package) {
-                check_package(
-                    alloc,
-                    packages,
-                    folder.as_str(),
-                    package,
-                    node,
-                    &mut problems,
-                )?;
-            }
+        for (folder, asker) in members.iter() {
+            check_member(alloc, packages, folder.as_str(), asker, node, &mut problems)?;
         }
     }
     Ok(problems)
 }
 
-/// Adds the problems of one package.
-fn check_package(
+/// Adds the problems of one member of `packages`.
+fn check_member(
     alloc: Global,
     packages: &Value,
     folder: &str,
-    package: &Value,
+    asker: &Value,
     node: Option<&Version>,
     problems: &mut Problems,
 ) -> Result<(), AllocError> {
-    problems.packages = problems.packages.saturating_add(1);
-    if let Some(version) = node
-        && let Some(problem) = engine_problem(alloc, folder, package, version)?
-    {
-        problems.list.push(problem)?;
+    if is_link(asker) {
+        return Ok(());
     }
+    let problem = node_problem(alloc, folder, asker, node)?;
+    problems.add_package(problem)?;
+    check_dependencies(alloc, packages, folder, asker, problems)
+}
+
+/// Adds the problems of what a package depends on.
+fn check_dependencies(
+    alloc: Global,
+    packages: &Value,
+    folder: &str,
+    asker: &Value,
+    problems: &mut Problems,
+) -> Result<(), AllocError> {
     let is_installed = is_installed(folder);
-    for name in names_of(alloc, package)?.iter() {
-        if let Some(asked) = asked_of(package, is_installed, name.as_str()) {
+    let names = names_of(alloc, asker)?;
+    for name in names.iter() {
+        if let Some(asked) = asked_of(asker, is_installed, name.as_str()) {
             let outcome = outcome_of(alloc, packages, folder, is_installed, name.as_str(), asked)?;
-            problems.add(outcome)?;
+            problems.add_dependency(outcome)?;
         }
     }
     Ok(())
+}
+
+/// The problem of a package with the version of Node, if one is given.
+fn node_problem(
+    alloc: Global,
+    folder: &str,
+    asker: &Value,
+    node: Option<&Version>,
+) -> Result<Option<Problem>, AllocError> {
+    match node {
+        Some(version) => engine_problem(alloc, folder, asker, version),
+        None => Ok(None),
+    }
 }
 
 /// The problem of a package whose `engines.node` does not admit the version of Node.

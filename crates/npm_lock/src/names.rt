@@ -1,25 +1,26 @@
 //! The names that a package depends on, in the order of their bytes.
-use crate::asked::GROUPS;
 use serde_json::Value;
 use std::alloc::{AllocError, Global};
 use std::collections::BTreeSet;
 
 /// The names in all groups of dependencies.
-pub(crate) fn names_of(alloc: Global, package: &Value) -> Result<BTreeSet<String>, AllocError> {
+pub(crate) fn names_of(alloc: Global, asker: &Value) -> Result<BTreeSet<String>, AllocError> {
     let mut names = BTreeSet::new(alloc);
-    for group in GROUPS {
-        add_names(alloc, package.get(group), &mut names)?;
-    }
+    add_names(alloc, asker, "peerDependencies", &mut names)?;
+    add_names(alloc, asker, "dependencies", &mut names)?;
+    add_names(alloc, asker, "optionalDependencies", &mut names)?;
+    add_names(alloc, asker, "devDependencies", &mut names)?;
     Ok(names)
 }
 
 /// Adds the names of one group.
 fn add_names(
     alloc: Global,
-    group: Option<&Value>,
+    asker: &Value,
+    group: &str,
     names: &mut BTreeSet<String>,
 ) -> Result<(), AllocError> {
-    let Some(members) = group.and_then(Value::as_object) else {
+    let Some(members) = asker.get(group).and_then(Value::as_object) else {
         return Ok(());
     };
     for (name, _) in members.iter() {

@@ -1,5 +1,5 @@
 //! What is wrong with one dependency.
-ghost use Rattle.std.specs.Prelude.{◌≡◌, IfOk, None, Some, if◌then◌else◌, option_map, string_bytes};
+ghost use Rattle.std.specs.Prelude.{◌≡◌, IfOk, None, Some, false, if◌then◌else◌, option_map, string_bytes};
 ghost use Rattle.serde_json.specs.View.{view};
 ghost use Rattle.npm_lock.specs.FoundValue.{found_value};
 ghost use Rattle.npm_lock.specs.Outcomes as Outcomes;
@@ -12,7 +12,7 @@ use crate::verdict::{Verdict, verdict_of};
 use serde_json::Value;
 use std::alloc::{AllocError, Global};
 
-/// What is said of a dependency.
+/// The outcome of checking a dependency.
 #[derive(Drop)]
 pub(crate) struct Outcome {
     pub(crate) problem: Option<Problem>,
@@ -20,7 +20,7 @@ pub(crate) struct Outcome {
     pub(crate) is_unchecked: bool,
 }
 
-/// What is said of the dependency of the package in a folder.
+/// Returns the outcome for a dependency of the package in a folder.
 pub(crate) fn outcome_of(
     alloc: Global,
     packages: &Value,
@@ -31,7 +31,7 @@ pub(crate) fn outcome_of(
 ) -> Result<Outcome, AllocError>
     ensures { IfOk result (λ outcome. IsOutcome (view packages.now) folder.now is_installed name.now
         (record { spec = asked.entry.spec.now; is_needed = asked.entry.is_needed; is_peer = asked.entry.is_peer })
-        (option_map problem_value outcome.problem)) }
+        (option_map problem_value outcome.problem) outcome.is_unchecked) }
 {
     let (found, is_own) = find(alloc, packages, folder, name)?;
     let Some(found) = found else {
@@ -51,11 +51,12 @@ pub(crate) fn outcome_of(
     }
 }
 
-/// What is said of a dependency that is found nowhere.
+/// Returns the outcome for a dependency that is found nowhere.
 fn absent(alloc: Global, folder: &str, name: &str, asked: Asked<'_>) -> Result<Outcome, AllocError>
-    ensures { IfOk result (λ outcome. option_map problem_value outcome.problem
+    ensures problem { IfOk result (λ outcome. option_map problem_value outcome.problem
         ≡ (if asked.entry.is_needed
         then Some (Outcomes.missing_problem folder.now name.now asked.entry.spec.now) else None)) }
+    ensures checked { IfOk result (λ outcome. outcome.is_unchecked ≡ false) }
 {
     if !asked.is_needed {
         return Ok(without_problem(false));
@@ -71,7 +72,8 @@ fn absent(alloc: Global, folder: &str, name: &str, asked: Asked<'_>) -> Result<O
 }
 
 fn with_problem(problem: Problem) -> Outcome
-    ensures { result.problem ≡ Some problem }
+    ensures problem { result.problem ≡ Some problem }
+    ensures checked { result.is_unchecked ≡ false }
 {
     Outcome {
         problem: Some(problem),
@@ -80,7 +82,8 @@ fn with_problem(problem: Problem) -> Outcome
 }
 
 fn without_problem(is_unchecked: bool) -> Outcome
-    ensures { result.problem ≡ None }
+    ensures problem { result.problem ≡ None }
+    ensures unchecked { result.is_unchecked ≡ is_unchecked }
 {
     Outcome {
         problem: None,

@@ -1,4 +1,10 @@
 //! What is wrong with an installed package, and its JSON object.
+ghost use Rattle.std.specs.Prelude.{◌≡◌, IfOk, OnOk};
+ghost use Rattle.serde_json.specs.Data.{put as with_member, string};
+ghost use Rattle.serde_json.specs.View.{members_view, view};
+ghost use Rattle.npm_lock.specs.Outcomes.{problem_value};
+ghost use Rattle.npm_lock.specs.ProblemJson.{kind_text, problem_data};
+
 use crate::outcome::Outcome;
 use serde_json::{Map, Value, put};
 use std::alloc::{AllocError, Global};
@@ -18,7 +24,9 @@ pub enum Kind {
 
 impl Kind {
     /// The word for it, as the JSON object has it.
-    pub fn as_str(self) -> &'static str {
+    pub fn as_str(self) -> &'static str
+        ensures { result.now ≡ kind_text self }
+    {
         match self {
             Kind::Missing => "missing",
             Kind::Invalid => "invalid",
@@ -46,50 +54,36 @@ pub struct Problem {
 
 impl Problem {
     /// The problem as a JSON object, whose members are in the order of their names.
-    pub fn to_json(&self, alloc: Global) -> Result<Value, AllocError> {
+    pub fn to_json(&self, alloc: Global) -> Result<Value, AllocError>
+        ensures { IfOk result (λ value. view value ≡ problem_data (problem_value self.now)) }
+    {
         let mut members = Map::new(alloc);
-        put(
-            &mut members,
-            alloc,
-            "from",
-            text(alloc, self.from.as_str())?,
-        )?;
-        put(
-            &mut members,
-            alloc,
-            "name",
-            text(alloc, self.name.as_str())?,
-        )?;
-        put(
-            &mut members,
-            alloc,
-            "problem",
-            text(alloc, self.kind.as_str())?,
-        )?;
-        put(
-            &mut members,
-            alloc,
-            "spec",
-            text(alloc, self.spec.as_str())?,
-        )?;
+        put_text(&mut members, alloc, "from", self.from.as_str())?;
+        put_text(&mut members, alloc, "name", self.name.as_str())?;
+        put_text(&mut members, alloc, "problem", self.kind.as_str())?;
+        put_text(&mut members, alloc, "spec", self.spec.as_str())?;
         if let Some(to) = &self.to {
-            put(&mut members, alloc, "to", text(alloc, to.as_str())?)?;
+            put_text(&mut members, alloc, "to", to.as_str())?;
         }
         if let Some(version) = &self.version {
-            put(
-                &mut members,
-                alloc,
-                "version",
-                text(alloc, version.as_str())?,
-            )?;
+            put_text(&mut members, alloc, "version", version.as_str())?;
         }
         Ok(Value::Object(members))
     }
 }
 
-/// A text as a JSON string.
-fn text(alloc: Global, text: &str) -> Result<Value, AllocError> {
-    Ok(Value::String(String::from_str(alloc, text)?))
+/// Adds a member whose value is a text.
+fn put_text(
+    members: &mut Map<String, Value>,
+    alloc: Global,
+    name: &str,
+    text: &str,
+) -> Result<(), AllocError>
+    ensures { OnOk result (members_view members.new.entries
+        ≡ with_member name.now (string text.now) (members_view members.old.entries)) }
+{
+    let value = Value::String(String::from_str(alloc, text)?);
+    put(members, alloc, name, value)
 }
 
 /// The problems of a lock file, and what was counted.
@@ -106,8 +100,26 @@ pub struct Problems {
 }
 
 impl Problems {
+    pub(crate) fn new(alloc: Global) -> Problems {
+        Problems {
+            list: Vec::new(alloc),
+            packages: 0,
+            dependencies: 0,
+            unchecked: 0,
+        }
+    }
+
+    /// Adds a package, and its problem with the version of Node.
+    pub(crate) fn add_package(&mut self, problem: Option<Problem>) -> Result<(), AllocError> {
+        self.packages = self.packages.saturating_add(1);
+        if let Some(problem) = problem {
+            self.list.push(problem)?;
+        }
+        Ok(())
+    }
+
     /// Adds what is said of one dependency.
-    pub(crate) fn add(&mut self, outcome: Outcome) -> Result<(), AllocError> {
+    pub(crate) fn add_dependency(&mut self, outcome: Outcome) -> Result<(), AllocError> {
         let Outcome {
             problem,
             is_unchecked,

@@ -6,7 +6,7 @@ ghost use Rattle.npm_lock.specs.RangeText as RangeText;
 
 /// The text that is a range or a tag, or `None` for any other spec: a URL, git, a file, a folder.
 ///
-/// What stands after `npm:NAME@` counts, and `*` if nothing does: `npm:@s/a@^1` is `^1`, and `npm:@s/a` is `*`.
+/// The text after `npm:NAME@` counts, or `*` if there is none: `npm:@s/a@^1` is `^1`, and `npm:@s/a` is `*`.
 pub(crate) fn range_text(spec: &str) -> Option<&str>
     ensures { option_map (λ text. text.now) result ≡ RangeText.range_text spec.now }
 {
@@ -17,7 +17,7 @@ pub(crate) fn range_text(spec: &str) -> Option<&str>
     if is_path(text) { None } else { Some(text) }
 }
 
-/// What stands after the `@` of `NAME@RANGE`. A scope's `@` stands before the name.
+/// Returns the text after the `@` of `NAME@RANGE`. A scope's `@` comes before the name.
 fn alias_range(alias: &str) -> &str
     ensures { result.now ≡ range_of_alias alias.now }
 {

@@ -41,7 +41,7 @@ const ROWS: [(&str, &[(Kind, &str, &str)]); 16] = [
         r#""": {"optionalDependencies": {"a": "1"}}, "node_modules/a": {"version": "2.0.0"}"#,
         &[(Kind::Invalid, "", "a")],
     ),
-    // Peers, of which one is optional, and one stands in the folder of its own package.
+    // Peers, of which one is optional, and one is in the folder of its own package.
     (
         r#""": {"peerDependencies": {"a": "1", "b": "1"}, "peerDependenciesMeta": {"a": {"optional": true}}}"#,
         &[(Kind::Missing, "", "b")],

@@ -1,4 +1,4 @@
-//! Whether a version is what a spec asks for.
+//! Whether a version satisfies a dependency's spec.
 ghost use Rattle.std.specs.Prelude.{◌≡◌, ◌↔◌, false, IfOk, IsTrue, List, ℕ, option_map};
 ghost use Rattle.node_semver.specs.Error.{out_of_memory, refusal_of};
 ghost use Rattle.semver_sets.specs.Meaning.{IsRefused, RangeAdmits, TextAdmits};
@@ -10,7 +10,7 @@ use crate::range_text::{is_tag, range_text};
 use node_semver::{Range, SemverError, SemverErrorKind, Version};
 use std::alloc::{AllocError, Global};
 
-/// Whether a version is what a spec asks for.
+/// Whether a version satisfies a spec.
 #[derive(Clone, Copy, Debug, PartialEq, Eq, Drop)]
 pub(crate) enum Verdict {
     Valid,
@@ -19,7 +19,7 @@ pub(crate) enum Verdict {
     Unchecked,
 }
 
-/// Whether the version of a package is what a spec asks for.
+/// Returns whether the version of a package satisfies a spec.
 pub(crate) fn verdict_of(
     alloc: Global,
     spec: &str,

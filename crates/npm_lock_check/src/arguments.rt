@@ -3,7 +3,8 @@ use crate::run_error::RunError;
 use node_semver::{SemverErrorKind, Version};
 use std::alloc::Global;
 
-/// The version of Node that the arguments name, if they do. They stand past the program's name.
+/// Returns the version of Node that the arguments name, if they name one. The first of them comes after the program's
+/// name.
 pub fn node_of(
     alloc: Global,
     option: Option<&String>,

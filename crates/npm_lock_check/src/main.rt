@@ -1,5 +1,6 @@
-//! Reads a `package-lock.json` on standard input, and writes each dependency that is missing or has a version that is
-//! not asked for, a JSON object a line. With `--node VERSION` also each package whose `engines.node` does not admit it.
+//! Reads a `package-lock.json` on standard input, and writes each dependency that is missing or has a version that its
+//! spec does not admit, a JSON object a line. With `--node VERSION` also each package whose `engines.node` does not
+//! admit it.
 //!
 //! The exit status is 0 if there is no problem, 1 if there is one, and 2 if the file was not checked. Nothing is then
 //! written but one line on standard error, which says why.
@@ -15,7 +16,7 @@ use run_error::RunError;
 use std::env;
 use std::process::ExitCode;
 
-/// Ends with the status that is told above. A line on standard error that cannot be written is dropped.
+/// Ends with the status that the head of this file names. A line on standard error that cannot be written is dropped.
 fn main(rt: HostRuntime) -> ExitCode {
     let alloc = rt.alloc();
     let node = match env::args(&rt) {

@@ -1,4 +1,4 @@
--- `starts_with` is the word of std, and `contains` finds just what stands in the text.
+-- `starts_with` is the word of std, and `contains` finds exactly the parts of the text.
 use Rattle.std.proofs.Common.{codes, inl, inr, ◌∙◌, sym}
 use Rattle.std.proofs.lemmas.Str.Pattern.{contains_text, starts_text}
 use Rattle.npm_lock.proofs.folder.is_installed.Goals as goal

@@ -1,5 +1,6 @@
 -- Each branch is a case of the definition.
 use Rattle.std.proofs.Common.{◌≡◌, ℕ, List, Bool, true, false, Option, Some, None, if◌then◌else◌, inl, inr, refl}
+use Rattle.std.proofs.Common.{Result, Ok, Err, IfOk}
 use Rattle.std.proofs.lemmas.Result.{IfOk-weaker}
 use Rattle.serde_json.specs.Data.{Data}
 use Rattle.serde_json.specs.View.{view}
@@ -16,14 +17,16 @@ use Rattle.npm_lock.proofs.outcome.outcome_of.Goals.{else-asked-via-else-asked}
 module _ (packages : Data) (folder : List ℕ) (is_installed : Bool) (name : List ℕ) (asked : AskedValue) where
   absent_as : (needed : Bool) → asked.is_needed ≡ needed → IsFound packages name folder None
       → IsOutcome packages folder is_installed name asked
-      (if needed then Some (missing_problem folder name asked.spec) else None)
+      (if needed then Some (missing_problem folder name asked.spec) else None) false
   absent_as true is missed = missing missed is
   absent_as false is missed = absent missed is
 
-  absent_outcome : (problem : Option ProblemValue)
+  absent_outcome : (problem : Option ProblemValue) (is_unchecked : Bool) → is_unchecked ≡ false
       → problem ≡ (if asked.is_needed then Some (missing_problem folder name asked.spec) else None)
-      → IsFound packages name folder None → IsOutcome packages folder is_installed name asked problem
-  absent_outcome problem same missed = rw same (absent_as asked.is_needed refl missed)
+      → IsFound packages name folder None
+      → IsOutcome packages folder is_installed name asked problem is_unchecked
+  absent_outcome problem is_unchecked checked same missed =
+      rw (checked, same) (absent_as asked.is_needed refl missed)
 
   passed_by : (found : Package) → IsPassed packages name folder
       → ¬ IsLocalPeer packages folder is_installed name asked found
@@ -39,16 +42,22 @@ module _ (packages : Data) (folder : List ℕ) (is_installed : Bool) (name : Lis
   no_peer : (found : Package) → asked.is_peer ≡ false → ¬ IsLocalPeer packages folder is_installed name asked found
   no_peer found plain local = cc (plain, local.peer)
 
+both_facts : {X E : Type 0} (r : Result X E) (P Q : X → Type 0) → IfOk r P → IfOk r Q → IfOk r (λ x. P x × Q x)
+both_facts (Ok x) P Q p q = (p, q)
+both_facts (Err e) P Q p q = tt
+
 pub returns-in_default : goal.returns-in_default
 returns-in_default c =
     let missed = rw c.in_default.is at c.in_ok-found.ensures.found in
-    IfOk-weaker c.absent.result _ _ (λ outcome same. absent_outcome _ _ _ _ _ _ same missed) c.absent.ensures
+    IfOk-weaker c.absent.result _ _
+    (λ outcome is. absent_outcome _ _ _ _ _ _ _ is.1 is.0 missed)
+    (both_facts c.absent.result _ _ c.absent.ensures.problem c.absent.ensures.checked)
 
 pub returns-then-is_own : goal.returns-then-is_own
 returns-then-is_own c =
     let found = rw c.in-Some.is at c.in_ok-found.ensures.found in
     let own = rw c.if-is_own.true at (rw c.in-Some.is at c.in_ok-found.ensures.own) in
-    rw (c.with_problem.ensures, c.in_ok-problem.ensures)
+    rw (c.with_problem.ensures.problem, c.with_problem.ensures.checked, c.in_ok-problem.ensures)
     (local_peer (found_value c.in-Some.found) found
     (record { peer = c.if-asked.true; installed = c.if-is_installed.true; own = own }))
 
@@ -64,7 +73,8 @@ returns-in-Valid c =
     ] in
     let found = rw c.in-Some.is at c.in_ok-found.ensures.found in
     let verdict = rw (c.version_of.ensures, c.in-Valid.is) at c.in_ok-verdict_of.ensures in
-    rw c.without_problem.ensures (valid (found_value c.in-Some.found) found own verdict)
+    rw (c.without_problem.ensures.problem, c.without_problem.ensures.unchecked)
+    (valid (found_value c.in-Some.found) found own verdict)
 
 pub returns-in-Unchecked : goal.returns-in-Unchecked
 returns-in-Unchecked c =
@@ -78,7 +88,8 @@ returns-in-Unchecked c =
     ] in
     let found = rw c.in-Some.is at c.in_ok-found.ensures.found in
     let verdict = rw (c.version_of.ensures, c.in-Unchecked.is) at c.in_ok-verdict_of.ensures in
-    rw c.without_problem-in-Unchecked.ensures (unchecked (found_value c.in-Some.found) found own verdict)
+    rw (c.without_problem-in-Unchecked.ensures.problem, c.without_problem-in-Unchecked.ensures.unchecked)
+    (unchecked (found_value c.in-Some.found) found own verdict)
 
 pub returns-in_ok-problem-in-Invalid : goal.returns-in_ok-problem-in-Invalid
 returns-in_ok-problem-in-Invalid c =
@@ -92,5 +103,9 @@ returns-in_ok-problem-in-Invalid c =
     ] in
     let found = rw c.in-Some.is at c.in_ok-found.ensures.found in
     let verdict = rw (c.version_of.ensures, c.in-Invalid.is) at c.in_ok-verdict_of.ensures in
-    rw (c.with_problem-in-Invalid.ensures, c.in_ok-problem-in-Invalid.ensures)
+    rw (
+      c.with_problem-in-Invalid.ensures.problem,
+      c.with_problem-in-Invalid.ensures.checked,
+      c.in_ok-problem-in-Invalid.ensures,
+    )
     (invalid (found_value c.in-Some.found) found own verdict)

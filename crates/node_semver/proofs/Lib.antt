@@ -1,8 +1,8 @@
 -- Lemmas, by subject. Each subject has a list of its files in reading order. The other folders hold the proofs of
--- functions, by module. Lemmas of texts, words and merging stand in `semver_sets`.
--- ---- versions: what is answered, faults and steps
+-- functions, by module. Lemmas of texts, words and merging are in `semver_sets`.
+-- ---- versions: parsing, faults and steps
 pub mod Versions
--- ---- range texts: what is answered
+-- ---- range texts: parsing
 pub mod Ranges
 -- ---- sets: set algebra, trees
 pub mod Sets

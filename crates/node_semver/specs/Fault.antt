@@ -1,5 +1,6 @@
 -- The fault of a text that is no version text: a kind, and a byte offset from 0. It is the first fault from the left,
 -- when the text is read as a version text is written: SemVer 2.0.0, section 2, in npm's loose form.
+-- See docs/DECISIONS.md, "The fault of a text does not depend on the parser".
 use Rattle.std.specs.Prelude.{◌≡◌, ℕ, ◌^◌, ◌-◌, ◌==◌, ◌<◌, ◌≤◌, nat_lt, if◌then◌else◌}
 use Rattle.std.specs.Prelude.{false, List, [], ◌∷◌, ◌++◌, length, codes}
 use Rattle.std.specs.List.{AllByRecursion}

@@ -11,16 +11,16 @@ use Rattle.node_semver.specs.declared.error.SemverError.{SemverError}
 use Rattle.node_semver.specs.Error.{IsOutOfMemory, IsRefusalAt, no_valid_ranges}
 use Rattle.node_semver.specs.ReadingBack.{IsPlainlyBounded, IsReadAsRange, RangeReadsBack}
 
--- want of memory aside, the text is refused exactly where no alternative has a comparator and a cut common to all its
--- comparators; otherwise a version satisfies the answer exactly where the text admits it
+-- unless it is out of memory, the text is refused exactly where no alternative has a comparator and a cut common to all
+-- its comparators; otherwise a version satisfies the range exactly where the text admits it
 pub record IsRangeAnswer (text : List ℕ) (answer : Result (List (Ends VersionValue)) SemverError) : Type 0 where
   pub refused : IfErr answer (λ e. IsOutOfMemory e ⊎ (IsRefusalAt text no_valid_ranges 0 e × IsRefused text))
   pub accepted : OnOk answer (¬ IsRefused text)
   pub means : IfOk answer (λ r. (v : VersionValue) → RangeAdmits r v ↔ TextAdmits text v)
-  -- one set for each alternative that gives a set, and what is true of every range
+  -- one set for each alternative that gives a set, and the properties of every range
   pub sets : IfOk answer (λ r. AreSetsOfText text r)
   pub holds : IfOk answer IsRangeValue
-  -- the print of what was read is read as an equal range, and so is each text that is the print of a range
+  -- the print of the range is read as an equal range, and so is each text that is the print of a range
   pub print : IfOk answer RangeReadsBack
   pub printed : (sets : List (Ends VersionValue)) → IsRangeValue sets → AllByRecursion IsPlainlyBounded sets
       → range_text sets ≡ text → IsReadAsRange sets answer

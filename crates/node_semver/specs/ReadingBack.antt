@@ -1,4 +1,4 @@
--- Which prints are read back as what was printed. So a file can store a version or a range as its print.
+-- Which prints are read back as the original. So a file can store a version or a range as its print.
 use Rattle.std.specs.Prelude.{◌≡◌, ℕ, ◌≤◌, List, length, Result, Ok, Err}
 use Rattle.std.specs.List.{AllByRecursion}
 use Rattle.semver_cuts.specs.declared.cut.Cut.{Cut}

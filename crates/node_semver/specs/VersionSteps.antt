@@ -10,7 +10,7 @@ abbrev pub IsIdentifier : IdentifierValue → Type 0
 IsIdentifier (numeric n) = n < 2 ^ 64
 IsIdentifier (alphanumeric text) = IsUtf8 text
 
--- what the public fields of a version can hold: numbers of 64 bits and any identifiers
+-- the public fields of a version hold numbers of 64 bits and any identifiers
 pub record IsVersion (v : VersionValue) : Type 0 where
   pub major : v.major < 2 ^ 64
   pub minor : v.minor < 2 ^ 64

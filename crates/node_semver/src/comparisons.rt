@@ -1,4 +1,6 @@
 //! A counter of comparisons that has no bytes when the program runs.
+//!
+//! See docs/DECISIONS.md, "Comparisons are counted in a ghost".
 ghost use Rattle.std.specs.Prelude.{◌≡◌, ◌+◌};
 
 mod tally;

@@ -1,4 +1,6 @@
 //! The errors of this crate: why parsing a text failed, and where.
+//!
+//! See docs/DECISIONS.md, "A version is seen as a record, an error by a view".
 ghost use Rattle.std.specs.Prelude.{◌≡◌, ◌⊎◌};
 ghost use Rattle.node_semver.specs.Error.{kind_of, refusal_of, IsOutOfMemory, IsRefusalAt};
 ghost use Rattle.node_semver.specs.ErrorEquality.{error_value};

@@ -28,7 +28,7 @@ pub enum JsonError {
     Semver(SemverError),
 }
 
-/// Prints `expected a string`, or what the error inside prints. Format options such as a width are ignored.
+/// Prints `expected a string`, or the error inside. Format options such as a width are ignored.
 impl fmt::Display for JsonError {
     ghost output = { json_error_text };
 

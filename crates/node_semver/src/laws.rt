@@ -1,4 +1,6 @@
 //! The laws of versions and ranges. The functions here do nothing: the contract of each is a law.
+//!
+//! See docs/DECISIONS.md, "The limits are pinned by a law".
 ghost use Rattle.std.specs.Prelude.{◌≡◌, ℕ, List};
 ghost use Rattle.semver_cuts.specs.Ends.{Ends};
 ghost use Rattle.semver_sets.specs.declared.TheConstants.{MAX_LENGTH, MAX_SAFE_INTEGER};

@@ -1,4 +1,6 @@
 //! Ranges: which versions a range text admits.
+//!
+//! See docs/DECISIONS.md, "`Drop` of `Range` and `End` is written by hand".
 ghost use Rattle.std.specs.Prelude.{◌≡◌, ◌↔◌, ◌∷◌, [], IfOk, IsTrue};
 ghost use Rattle.semver_sets.specs.Meaning.{RangeAdmits};
 ghost use Rattle.semver_sets.specs.Merging.{all_cuts};

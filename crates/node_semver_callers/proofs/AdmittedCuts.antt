@@ -57,7 +57,7 @@ tree-cut one other advisory sides left right last s l r a v release =
       λ admits. ((ones.1 admits.0.0, others.1 admits.0.1), λ inside. admits.1 (hit.0 inside)),
     )
 
--- the releases that an answer admits are those of which P holds
+-- a result admits exactly the releases with the property P
 abbrev pub AdmitsReleases : (VersionValue → Type 0) → Option (List (Ends VersionValue)) → Type 0
 AdmitsReleases P answer = (v : VersionValue) → ¬ IsPrerelease v → RangeAdmits (sets_of_answer answer) v ↔ P v
 

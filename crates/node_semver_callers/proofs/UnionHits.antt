@@ -1,4 +1,4 @@
--- What a range admits beyond a union, told of the three texts.
+-- The versions that a range admits beyond a union, in terms of the three texts.
 use Rattle.std.proofs.Common.{◌↔◌, List, Option, Some, None, IfSome, IsNone, inl, inr}
 use Rattle.std.specs.Prelude.{◌⊎◌}
 use Rattle.semver_cuts.specs.Ends.{Ends}
@@ -12,7 +12,7 @@ module _ (Asked One Other : VersionValue → Type 0) (sets ones others union : L
     (one : (v : VersionValue) → RangeAdmits ones v ↔ One v)
     (other : (v : VersionValue) → RangeAdmits others v ↔ Other v)
     (either : (v : VersionValue) → RangeAdmits union v ↔ (RangeAdmits ones v ⊎ RangeAdmits others v)) where
-  -- the union admits what one of the two texts admits
+  -- the union admits exactly the versions that one of the two texts admits
   hit : (v : VersionValue) → RangeAdmits union v ↔ (One v ⊎ Other v)
   hit v = (
     λ admits. elim ((either v).0 admits) [

@@ -12,7 +12,7 @@
 //! | which installed versions an advisory's range hits | [`advisory::versions_hit`] |
 //! | the least version that a manifest allows and an advisory of two ranges spares | [`spared::least_spared`] |
 //! | a range from JSON, with the line and column of its error | [`package::range_of_member`] |
-//! | a tree of ranges: what two dependents accept, without what an advisory hits | [`tree::unhit_range`] |
+//! | a tree of ranges: the versions that two dependents accept and an advisory does not hit | [`tree::unhit_range`] |
 #![tactic(auto)]
 
 pub mod advisory;

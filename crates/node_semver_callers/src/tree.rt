@@ -1,4 +1,4 @@
-//! A tree of ranges: what two dependents accept, without what an advisory hits.
+//! A tree of ranges: the versions that two dependents accept and an advisory does not hit.
 
 ghost use Rattle.std.specs.Prelude.{◌≡◌, ◌↔◌, IfOk};
 ghost use Rattle.semver_sets.specs.Meaning.{RangeAdmits, TextAdmits};

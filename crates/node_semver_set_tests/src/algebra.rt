@@ -8,8 +8,8 @@ fn is_made(alloc: Global, made: Made, one: &Range, other: &Range, text: &str) ->
     is_print(print_of(alloc, make(alloc, made, one, other)), text)
 }
 
-// What two ranges have in common, and what the first has and the second has not. They have a cut in common where they
-// have a range in common.
+// Returns `true` if the intersection and the difference of two ranges are the wanted ones. They share a cut exactly
+// where they have an intersection.
 pub(crate) fn answers(alloc: Global, one: &Range, other: &Range, wanted: &str) -> bool {
     match wanted.split_once("; ") {
         Some((both, left)) => {
@@ -192,7 +192,7 @@ fn prereleases_of_what_is_common(rt: HostRuntime) {
     each(&rt, Question::Admits, &OPEN);
 }
 
-// An end that is taken over from the other range opens its triple: `2.0.0-0` satisfies what is left, and not the whole.
+// An end that comes from the other range opens its triple: `2.0.0-0` satisfies the difference, and not the whole range.
 const LEFT: [&str; 1] = [">=1.0.0; >=2.0.0-a; 2.0.0-0"];
 
 const WHOLE: [&str; 2] = [">=1.0.0; 2.0.0-0; no", ">=2.0.0-a; 2.0.0-0; no"];

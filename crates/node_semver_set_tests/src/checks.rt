@@ -1,7 +1,7 @@
 use node_semver::{Range, Version};
 use std::alloc::{AllocError, Global};
 
-// What is looked at is lent, and is let go where it was made: so each of these is short to prove.
+// Each function borrows its arguments and drops what it made, so each is short to prove.
 
 // The print is this text.
 pub(crate) fn is_print(print: Option<String>, text: &str) -> bool {
@@ -11,7 +11,7 @@ pub(crate) fn is_print(print: Option<String>, text: &str) -> bool {
     }
 }
 
-// The print of an answer.
+// Returns the print of the resulting range, or the text `None` if there is none.
 pub(crate) fn print_of(alloc: Global, answer: Result<Option<Range>, AllocError>) -> Option<String> {
     match &answer {
         Ok(Some(range)) => range.to_string(alloc).ok(),
@@ -28,7 +28,7 @@ pub(crate) fn version_print(alloc: Global, made: Result<Version, AllocError>) ->
     }
 }
 
-// Whether a row wants a yes: what it wants begins with "no" where it does not, as `none` and `not equal`.
+// Returns `true` if a row wants a yes. The wanted text of a no begins with "no", as `none` and `not equal`.
 pub(crate) fn is_yes(wanted: &str) -> bool {
     !wanted.starts_with("no")
 }

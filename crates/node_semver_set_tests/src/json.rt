@@ -12,7 +12,7 @@ pub(crate) fn text_of(alloc: Global, written: Result<Value, AllocError>) -> Opti
     }
 }
 
-// What an error tells, and its print.
+// The parts of an error, and its print.
 fn told(alloc: Global, error: &JsonError) -> Option<String> {
     match error {
         JsonError::NotAString => format!(in alloc; "NotAString: {error}").ok(),
@@ -23,7 +23,7 @@ fn told(alloc: Global, error: &JsonError) -> Option<String> {
     }
 }
 
-// What is read of a value, by its print, or what the error tells.
+// The print of the value that is read, or the error.
 fn version_read(alloc: Global, value: &Value) -> Option<String> {
     match &Version::from_json(alloc, value) {
         Ok(version) => version.to_string(alloc).ok(),
@@ -65,7 +65,7 @@ const VERSIONS: [&str; 2] = [
     "v 01.2.3alpha.001; 1.2.3-alpha.1",
 ];
 
-// A string that was written, and what is read of it.
+// The JSON string of a version, and the version that is read from it.
 const VERSIONS_READ: [&str; 3] = [
     "1.2.34-abc.213+2; 1.2.34-abc.213+2",
     "1.2.3-alpha.1; 1.2.3-alpha.1",
@@ -94,8 +94,8 @@ const RANGES: [&str; 4] = [
     ">1.2.3+a <=2.0.0+b; >1.2.3+a <=2.0.0+b",
 ];
 
-// A string that was written, and what is read of it. The text of the range of all cuts is read as another range. A
-// major above the greatest number of a text is printed, and no text has it.
+// The JSON string of a range, and the range that is read from it. The print of the range of all cuts is read as another
+// range. A major above the greatest number of a text is printed, but no text has it.
 const RANGES_READ: [&str; 6] = [
     ">=1.2.3 <2.0.0-0; >=1.2.3 <2.0.0-0",
     "<1.2.3; <1.2.3",

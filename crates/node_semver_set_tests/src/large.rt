@@ -1,9 +1,9 @@
 use crate::questions::{Question, each};
 
-// Where memory is left, no call answers that there is none: each of these takes much of it. `{1000*#.1.0||}0.0.9`
-// stands for `0.1.0||1.1.0||` and so on, up to `999.1.0||`, and an end.
+// Calls that allocate much: none may report that it is out of memory while there is some. `{1000*#.1.0||}0.0.9` is
+// short for `0.1.0||1.1.0||` and so on, up to `999.1.0||`, and then `0.0.9`.
 
-// The text of 1,001 sets prints as itself, and so do a copy, what is written, what is read of that, and a tree.
+// The text of 1,001 sets prints as itself. So do a copy, the JSON string, the range that is read from it, and a tree.
 const SETS: [&str; 1] = ["{1000*#.1.0||}0.0.9; {1000*#.1.0||}0.0.9"];
 
 // The last set is the least.
@@ -14,9 +14,9 @@ const EQUAL: [&str; 2] = [
     "{1000*#.1.0||}0.0.9; {1000*#.1.0||}0.0.8; not equal",
 ];
 
-// What such ranges have in common, and what the first has and the second has not. Of a hundred sets in descending
-// order, `99.0.0 - 99.9.0`, `98.0.0 - 98.9.0` and so on down to 0, the second range's stays of equal lower ends, and
-// the first one's of equal upper ends, in the order of the first.
+// The intersection and the difference of such ranges. Of a hundred sets in descending order, `99.0.0 - 99.9.0`,
+// `98.0.0 - 98.9.0` and so on down to 0, the second range's end wins of equal lower ends, and the first one's of equal
+// upper ends, in the order of the first.
 const ANSWERS: [&str; 5] = [
     "{1000*#.1.0||}0.0.9; >=0.0.0; {1000*#.1.0||}0.0.9; None",
     ">=0.0.0; {1000*#.1.0||}0.0.9; {1000*#.1.0||}0.0.9; \

@@ -14,7 +14,7 @@ pub(crate) fn least_print(alloc: Global, range: &Range) -> Option<String> {
     }
 }
 
-// What is asked of the least version.
+// Returns the text that a question about the least version of a range gives.
 pub(crate) fn of_least(alloc: Global, question: Question, range: &Range) -> Option<String> {
     match &range.min_version(alloc) {
         Ok(Some(least)) => of_version(alloc, question, least),

@@ -13,11 +13,11 @@ use node_semver::{Range, Version};
 use std::alloc::{AllocGlobal, Global};
 use std::process::Abort;
 
-// What is asked of each row of a table: a row's parts stand between `; `. A range text may be `any`, the range of all
-// cuts.
+// What is tested for each row of a table. A row's parts have `; ` between them. A range text may be `any`, the range of
+// all cuts.
 #[derive(Clone, Copy)]
 pub(crate) enum Question {
-    // Two range texts, what they have in common, and what the first has and the second has not.
+    // Two range texts, their intersection, and the difference of the first and the second.
     Answers,
     // The same by trees.
     Joins,
@@ -29,9 +29,9 @@ pub(crate) enum Question {
     Equals,
     // Two range texts, and the least version that the first admits and the second does not.
     LeastBeyond,
-    // Two range texts, and a version that what they have in common admits.
+    // Two range texts, and a version that their intersection admits.
     CommonAdmits,
-    // Two range texts, and a version that what the first has and the second has not admits.
+    // Two range texts, and a version that the difference of the first and the second admits.
     RestAdmits,
     // A range text, a version, and whether the range admits it.
     Admits,
@@ -43,7 +43,7 @@ pub(crate) enum Question {
     Union,
     // Two range texts, a version, and whether their union admits it.
     UnionAdmits,
-    // Two range texts, and whether their union is what both are read as with `||` between.
+    // Two range texts, and whether their union is the range of both texts with `||` between.
     UnionOfTexts,
     // A range text, and its print.
     Print,
@@ -67,11 +67,11 @@ pub(crate) enum Question {
     WrittenVersion,
     // A version text, and the version that is next.
     Next,
-    // The text of a JSON string, and the print of its range, or what its error tells.
+    // The text of a JSON string, and the print of its range, or its error.
     RangeOf,
-    // The text of a JSON string, and the print of its version, or what its error tells.
+    // The text of a JSON string, and the print of its version, or its error.
     VersionOf,
-    // A pointer, and the print of the range or the version of the package's member, or what its error tells.
+    // A pointer, and the print of the range or the version of the package's member, or its error.
     RangeOfMember,
     VersionOfMember,
 }

@@ -62,7 +62,7 @@ pub(crate) fn copy_print(alloc: Global, range: &Range) -> Option<String> {
     }
 }
 
-// A copy prints as what was copied, its builds too.
+// A copy prints as the original does, builds included.
 const COPIED: [&str; 4] = [
     "<1.0.0-0; <1.0.0-0",
     ">=1.2.3-rc.4 <2.0.0-0; >=1.2.3-rc.4 <2.0.0-0",

@@ -25,9 +25,40 @@ fn gives_the_sets_and_takes_them_again(rt: HostRuntime) {
 // The sets of the range, where the range of them prints as it does.
 pub(crate) fn spans_print(alloc: Global, range: &Range) -> Option<String> {
     match &range.sets(alloc) {
-        Ok(sets) if comes_back(alloc, range) => print_of_spans(alloc, sets).ok(),
+        Ok(sets) if comes_back(alloc, range) && is_each_at_its_place(alloc, range, sets) => {
+            print_of_spans(alloc, sets).ok()
+        }
         _ => None,
     }
+}
+
+// Whether the range gives each of its sets by its place, and none past the last.
+fn is_each_at_its_place(alloc: Global, range: &Range, sets: &[Span<Version>]) -> bool {
+    let count = range.set_count();
+    match (
+        &sets_by_place(alloc, range, count),
+        &print_of_spans(alloc, sets),
+    ) {
+        (Ok(others), Ok(print)) => {
+            is_print(print_of_spans(alloc, others).ok(), print.as_str())
+                && matches!(range.set(alloc, count), Ok(None))
+        }
+        _ => false,
+    }
+}
+
+fn sets_by_place(
+    alloc: Global,
+    range: &Range,
+    count: usize,
+) -> Result<Vec<Span<Version>>, AllocError> {
+    let mut sets = Vec::new(alloc);
+    for place in 0..count {
+        if let Some(set) = range.set(alloc, place)? {
+            sets.push(set)?;
+        }
+    }
+    Ok(sets)
 }
 
 fn comes_back(alloc: Global, range: &Range) -> bool {

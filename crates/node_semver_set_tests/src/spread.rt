@@ -1,6 +1,6 @@
 use std::alloc::{AllocError, Global};
 
-// What a sign of a piece stands for.
+// Returns the number that a mark in a repeated piece is replaced by.
 fn number(sign: char, step: u64, times: u64) -> Option<u64> {
     match sign {
         '#' => Some(step),
@@ -44,8 +44,8 @@ fn add_part(whole: &mut String, part: &str) -> Option<()> {
     }
 }
 
-// What a row stands for: `a{3*bc}d` for `abcbcbcd`. In what comes several times `#` stands for 0 and then 1, 2 and so
-// on, `@` for one more than that, and `$` for the number of times and then one less each time: `{2*#.@.$ }` for
+// Returns the text that a row is short for: `abcbcbcd` for `a{3*bc}d`. In a repeated piece `#` is 0, then 1, 2 and so
+// on, `@` is one more than that, and `$` is the number of times, then one less each time: `{2*#.@.$ }` is short for
 // `0.1.2 1.2.1 `.
 pub(crate) fn spread(alloc: Global, row: &str) -> Option<String> {
     let mut whole = String::new(alloc);

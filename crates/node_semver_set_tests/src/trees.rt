@@ -16,7 +16,7 @@ fn leaf(alloc: Global, text: &str) -> Option<Box<SetTree>> {
     Box::new(alloc, SetTree::Text(String::from_str(alloc, text).ok()?)).ok()
 }
 
-// The tree of what two trees have in common, or of what the first has and the second has not.
+// Returns the tree of the intersection of two trees, or of the difference of the first and the second.
 fn joined(
     alloc: Global,
     made: Made,
@@ -38,7 +38,7 @@ pub(crate) fn leaf_print(alloc: Global, text: &str) -> Option<String> {
     tree_print(alloc, leaf(alloc, text))
 }
 
-// Two texts, what they have in common, and what the first has and the second has not.
+// Two texts, their intersection, and the difference of the first and the second.
 const PAIRS: [&str; 5] = [
     "1; foo; None; >=1.0.0 <2.0.0-0",
     "foo; 1; None; None",

@@ -31,7 +31,7 @@ const ADMITTED: [&str; 8] = [
     ">1.0.0-a; <2.0.0; 1.0.0-a; no",
 ];
 
-// Two texts, and what is read of them with `||` between: the union, but where the first ends in `|`, and where the
+// Two texts, and the range of both with `||` between. This is their union, except where the first ends in `|`, or the
 // second begins with a blank and a hyphen.
 const TEXTS: [&str; 5] = [
     "^1.2.3; >=3; equal",
@@ -89,7 +89,7 @@ fn equals_union(one: &Range, other: &Range, joined: &Range, alloc: Global) -> Op
     }
 }
 
-// Whether the union of what two texts are read as equals what both with `||` between are read as.
+// Returns `true` if the union of the ranges of two texts equals the range of both texts with `||` between.
 pub(crate) fn is_read_of_texts(alloc: Global, one: &str, other: &str) -> Option<bool> {
     match (
         &Range::parse(alloc, one),

@@ -50,8 +50,8 @@ const ALTERNATIVES: [&str; 55] = [
     "1.2.3||-a; 1.2.3; 1.2.3-a 1.2.4",
     "1\n||2; 2.0.0; 1.0.0 3.0.0",
     "1 ||\n2; 1.0.0; 0.9.9 2.0.0",
-    // "Hyphen Ranges". Without a left side one stands at the very start of the text alone: each later
-    // alternative loses its leading blanks.
+    // "Hyphen Ranges". One without a left side is possible only at the very start of the text: each later alternative
+    // loses its leading blanks.
     "1 - 2||3 - 4; 1.0.0 2.9.9 3.0.0 4.9.9; 0.9.9 3.0.0-0 5.0.0",
     "1 - 2 || 5; 1.0.0 2.9.9 5.0.0; 0.9.9 3.0.0 6.0.0",
     " - 1 || 3; 0.0.0 1.9.9 3.0.0; 2.0.0 4.0.0",

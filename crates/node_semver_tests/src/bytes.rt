@@ -2,8 +2,8 @@ use crate::checks::{NO_RANGE, is_print};
 use crate::told::{range_print, version_print};
 use std::alloc::Global;
 
-// The bytes of ASCII: `d` stands for a digit, `x` for an `x` or `X`, `i` for another identifier character, `*` for
-// itself and `.` for every other byte.
+// The bytes of ASCII: `d` is a digit, `x` an `x` or `X`, `i` another identifier character, `*` itself and `.` every
+// other byte.
 const BYTES: [&str; 8] = [
     "................",
     "................",

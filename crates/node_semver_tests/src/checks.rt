@@ -1,8 +1,8 @@
 use node_semver::{Identifier, Range, SemverError, Version};
 use std::alloc::Global;
 
-// What is looked at gives a plain value, and is let go where it was made. `let .. else` and `match` stand in place of
-// `?`, which is two more calls. So each of these is short to prove.
+// Each function returns a plain value and drops what it made, and uses `let .. else` and `match` in place of `?`, which
+// is two more calls. So each is short to prove.
 
 // The print is this text.
 pub(crate) fn is_print(print: Option<String>, text: &str) -> bool {
@@ -12,7 +12,7 @@ pub(crate) fn is_print(print: Option<String>, text: &str) -> bool {
     }
 }
 
-// Both calls answer so.
+// Returns `true` if both calls give the wanted result.
 fn answer(range: &Range, version: &Version, wanted: bool) -> bool {
     range.satisfies(version) == wanted && version.satisfies(range) == wanted
 }
@@ -33,7 +33,7 @@ pub(crate) fn range(alloc: Global, text: &str) -> Option<Range> {
     }
 }
 
-// The range of a text answers so.
+// Returns `true` if the range of the text gives the wanted result.
 pub(crate) fn range_answers(alloc: Global, text: &str, version: &Version, wanted: bool) -> bool {
     match Range::parse(alloc, text) {
         Ok(range) => answer(&range, version, wanted),
@@ -55,7 +55,7 @@ pub(crate) fn number_identifier(digits: &str) -> Option<Identifier> {
     }
 }
 
-// The range answers so of each of these versions, with blanks between.
+// Returns `true` if the range gives the wanted result for each of these versions, with blanks between.
 fn answers_each(alloc: Global, range: &Range, versions: &str, wanted: bool) -> bool {
     for version in versions.split_whitespace() {
         if !answer_text(alloc, range, version, wanted) {
@@ -75,7 +75,7 @@ fn text_answers(alloc: Global, text: &str, admitted: &str, turned_away: &str) ->
     }
 }
 
-// A range text, the versions that it admits, and those that it turns away.
+// A range text, the versions that it admits, and those that it does not.
 pub(crate) fn admits(alloc: Global, row: &str) -> bool {
     let Some((text, versions)) = row.split_once("; ") else {
         return false;
@@ -86,11 +86,11 @@ pub(crate) fn admits(alloc: Global, row: &str) -> bool {
     text_answers(alloc, text, admitted, turned_away)
 }
 
-// Whether the error holds this text, and tells an empty span that begins at its byte offset.
+// Returns `true` if the error holds this text, and an empty span at its byte offset.
 pub(crate) fn holds(error: &SemverError, text: &str) -> bool {
     let span = error.span();
     error.input() == text && span.offset() == error.offset() && span.len() == 0
 }
 
-// What the error of a text that is no range tells: that, at the start of the text.
+// The error of a text that is no range: `NoValidRanges`, at the start of the text.
 pub(crate) const NO_RANGE: &str = "NoValidRanges at 0 (0, 0)";

@@ -26,7 +26,7 @@ fn copied_print(alloc: Global, version: &Version) -> Option<String> {
     }
 }
 
-// A copy prints as what was copied, its build too.
+// Returns `true` if a copy prints as the original does, build included.
 fn is_copied(alloc: Global, version: &Version, text: &str) -> bool {
     copies_each(&version.pre_release)
         && copies_each(&version.build)

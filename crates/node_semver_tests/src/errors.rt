@@ -2,7 +2,7 @@ use crate::questions::{PairQuestion, Question, each, each_pair};
 use node_semver::{Range, SemverError, SemverErrorKind, Version};
 use std::alloc::Global;
 
-// A kind by its name and what it holds: of digits that make no `u64`, what std's `parse` says of them.
+// A kind, by its name and its value: for digits that make no `u64`, the error of std's `parse`.
 pub(crate) fn kind(name: &str) -> Option<SemverErrorKind> {
     match name {
         "Context version" => Some(SemverErrorKind::Context("version")),
@@ -43,7 +43,7 @@ const KINDS: [&str; 9] = [
     "kind; OutOfMemory; Out of memory.",
 ];
 
-// Of these no two are equal but the first and the last: what is told of too many digits does not name them.
+// No two of these are equal, except the first and the last: the fault of too many digits does not hold them.
 const DIFFERENT: [&str; 10] = [
     "ParseIntError 18446744073709551616",
     "ParseIntError ",
@@ -93,7 +93,7 @@ pub(crate) fn error_of(alloc: Global, call: &str, text: &str) -> Option<SemverEr
     }
 }
 
-// A call, a text that it refuses, and what the error prints. `$` is one more than the greatest number of a text.
+// A call, a text that it refuses, and the print of the error. `$` is one more than the greatest number of a text.
 const REFUSALS: [&str; 7] = [
     "version error; {257*1}; Semver string can't be longer than 256 characters.",
     "version error; 18446744073709551616.0.0; \

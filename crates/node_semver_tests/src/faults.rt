@@ -64,7 +64,7 @@ fn begins_with_fault(alloc: Global, text: &str, name: &str) -> bool {
 fn refuses_versions_at_the_first_fault(rt: HostRuntime) {
     each(&rt, Question::VersionPrint, &FAULTS);
     each(&rt, Question::VersionPrint, &LONG);
-    // A number above 64 bits, whose kind holds what std tells of it.
+    // A number above 64 bits, whose kind holds std's error.
     let (text, kind) = (
         "18446744073709551616.0.0",
         "ParseIntError 18446744073709551616",

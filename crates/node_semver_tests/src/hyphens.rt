@@ -23,7 +23,7 @@ const HYPHENS: [&str; 37] = [
     " - x.x.0-b; 0.0.0-a 0.0.0-b; 0.0.0-c 0.0.0",
     " - *; ; 0.0.0 0.0.0-0",
     " - x.x.5; 0.0.5; 0.0.6",
-    // A hyphen without a left side stands at the very start of the text, with a blank before it.
+    // A hyphen range without a left side is at the very start of the text, after a blank.
     " - 10; 0.0.0 10.9.9; 11.0.0 11.0.0-0",
     "\t- 10; 0.0.0 10.9.9; 11.0.0",
     "  \t -\t 10; 0.0.0 10.9.9; 11.0.0",

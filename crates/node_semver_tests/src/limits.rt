@@ -4,7 +4,7 @@ use crate::spread::spread;
 use node_semver::{MAX_LENGTH, MAX_SAFE_INTEGER, Range, Version};
 use std::alloc::Global;
 
-// In these rows `#` stands for the greatest number of a text, `@` for one less and `$` for one more.
+// In these rows `#` is the greatest number of a text, `@` is one less and `$` is one more.
 
 // JavaScript's `Number.MAX_SAFE_INTEGER`; the Rust crate `node-semver` 2.2.0.
 #[test]
@@ -48,7 +48,7 @@ const TOO_LARGE: [&str; 13] = [
 // Both words are read, and no version fits both.
 const BOTH_READ: [&str; 2] = ["900719925474100 1.2.3", "# 1.2.3"];
 
-// A word with a larger number is thrown away.
+// A word with a larger number is ignored.
 const THROWN_AWAY: [&str; 4] = [
     "1 - $; 1.0.0 1.9.9; 0.9.9 2.0.0",
     "$ - 1; 1.0.0 1.9.9; 0.9.9 2.0.0",
@@ -92,7 +92,7 @@ const PRINTS: [&str; 14] = [
     "900719925474100; >=900719925474100.0.0 <900719925474101.0.0-0",
 ];
 
-// A number of a version text that is too large is told by where it begins, before what follows it.
+// If a number of a version text is too large, the fault is at its first digit, before any fault after it.
 const FAULTS: [&str; 5] = [
     "1.2.$; MaxIntError($) at 4 (0, 4)",
     "$.a; MaxIntError($) at 0 (0, 0)",

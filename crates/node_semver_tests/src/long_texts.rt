@@ -4,9 +4,9 @@ use crate::spread::spread;
 use node_semver::{Identifier, Version};
 use std::alloc::Global;
 
-// Where memory is left, no call answers that there is none: each of these takes much of it. A text has no limit of
-// length, words, alternatives or identifiers, and is read in one pass: what is thrown away is gone over a few times,
-// however long it is. `{3*ab}` stands for `ababab`.
+// Calls that allocate much: none may report that it is out of memory while there is some. A text has no limit of
+// length, words, alternatives or identifiers, and is read in one pass: ignored words are passed over a few times,
+// however long they are. `{3*ab}` is short for `ababab`.
 const ADMITTED: [&str; 21] = [
     "{100000*>=1.0.0 }; 1.0.0; 0.9.9",
     "<2.0.0-b {10000*>=1.0.0-a }; 2.0.0-a; 2.0.0-b",
@@ -117,8 +117,9 @@ pub(crate) fn answers_longer(alloc: Global, row: &str) -> bool {
     longer_answers(alloc, range, text, words, wanted == "yes")
 }
 
-// Versions of 10,001 identifiers and of one of 5,000 bytes, as no text is: `1.2.3-a` and `b` some times, of the range
-// of `1.2.3-a.b.b` with 10,000 of them, and `1.2.3` with an identifier of 5,000 bytes, of what is above it.
+// Versions that no text can write, of 10,001 identifiers and of one identifier of 5,000 bytes: `1.2.3-a` and then `b`
+// many times, in the range of `1.2.3-a.b.b` with 10,000 of them, and `1.2.3` with an identifier of 5,000 bytes, in a
+// range of the versions above it.
 const LONGER: [&str; 5] = [
     "=1.2.3-a{10000*.b}; 1.2.3-a; ; no",
     "=1.2.3-a{10000*.b}; 1.2.3-a; {10000*b }; yes",

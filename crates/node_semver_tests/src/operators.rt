@@ -56,7 +56,7 @@ const OPERATORS: [&str; 55] = [
     "=1.x.3; 1.0.0 1.9.9; 0.9.9 2.0.0",
     "=* 1.2.3; 1.2.3; 1.2.4",
     "=x.1.2 1.2.3; 1.2.3; 0.1.2 1.2.4",
-    // Comparators side by side are asked all at once.
+    // A version must lie inside all comparators of an alternative.
     ">=1.2.3 <2.0.0; 1.2.3 1.9.0; 1.2.2 2.0.0 2.0.0-0",
     ">=1.2.0 <3.3.4; 1.2.0 3.3.3; 1.1.9 3.3.4",
     ">=1.2.3-rc.4 <2.0.0; 1.2.3-rc.5 1.2.3; 1.2.3-rc.3 1.2.4-rc.6",

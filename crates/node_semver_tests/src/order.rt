@@ -10,7 +10,8 @@ fn hash_of(version: &Version) -> u64 {
     state.finish()
 }
 
-// `cmp` answers so, `partial_cmp`, `==` and `<` agree with it, and equal versions hash alike and others do not.
+// Returns `true` if `cmp` returns the wanted order, `partial_cmp`, `==` and `<` agree with it, and the hashes are the
+// same exactly for equal versions.
 fn versions_compare(v: &Version, w: &Version, wanted: Ordering) -> bool {
     v.cmp(w) == wanted
         && v.partial_cmp(w) == Some(wanted)

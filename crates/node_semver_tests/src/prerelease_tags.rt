@@ -1,6 +1,6 @@
 use crate::questions::{Question, each};
 
-// npm's "Prerelease Tags": a prerelease is admitted where one with its triple stands at an end.
+// npm's "Prerelease Tags": a prerelease is admitted only if an end is a prerelease of its triple.
 const PRERELEASE_TAGS: [&str; 7] = [
     ">1.2.3-alpha.3; 1.2.3-alpha.7 3.4.5; 3.4.5-alpha.9",
     ">=1.2.3-rc.4 <2.0.0; 1.2.3-rc.5 1.9.0; 1.2.4-rc.6 2.0.0-0",

@@ -12,16 +12,16 @@ use crate::versions::{reads_back, shape_of_text};
 use std::alloc::{AllocGlobal, Global};
 use std::process::Abort;
 
-// What is asked of each row of a table: a row's parts stand between `; `.
+// What is tested for each row of a table. A row's parts have `; ` between them.
 #[derive(Clone, Copy)]
 pub(crate) enum Question {
-    // A range text, the versions that it admits, and those that it turns away, with blanks between versions.
+    // A range text, the versions that it admits, and those that it does not, with blanks between versions.
     Admits,
     // A text that is no range.
     IsRefused,
     // A range text, and its print.
     RangePrint,
-    // A version text, and its print or what its error tells.
+    // A version text, and its print or its error.
     VersionPrint,
     // A version text, and its numbers and identifiers.
     Shape,
@@ -45,7 +45,7 @@ pub(crate) enum Question {
     Counts,
 }
 
-// What is asked of each two rows of a table.
+// What is tested for each two rows of a table.
 #[derive(Clone, Copy)]
 pub(crate) enum PairQuestion {
     // Names of kinds: the first and the tenth are equal.

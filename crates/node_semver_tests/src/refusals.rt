@@ -32,7 +32,7 @@ const REFUSED: [&str; 105] = [
     ">==1.2.3",
     "^^1",
     "~^1",
-    // A word that says nothing is thrown away.
+    // A word without a comparator is ignored.
     "=*",
     "= *",
     "=x",
@@ -81,7 +81,7 @@ const REFUSED: [&str; 105] = [
     "~1.2 >=1.3.0-0",
     "<=2.0 >=2.0.0-1",
     "<0.0.0-0 *",
-    // npm's "Hyphen Ranges": ends that cross, an upper end below everything, and what follows a hyphen range.
+    // npm's "Hyphen Ranges": ends that cross, an upper end below everything, and a word after a hyphen range.
     "2 - 1",
     "2 - 1 1",
     "2 - 1 1.2.3",

@@ -28,7 +28,7 @@ fn finds_releases_and_prereleases_among_joined_sets(rt: HostRuntime) {
     each(&rt, Question::Admits, &PRERELEASES);
 }
 
-// What is answered with a count is what is answered without, of a release and of a prerelease.
+// A counted search returns the same as one without a count, for a release and for a prerelease.
 const COUNTED: [&str; 7] = [
     "^1.2.3; 1.9.0",
     "1 || 3 || 5; 3.9.0",

@@ -1,6 +1,6 @@
 use std::alloc::Global;
 
-// `#` stands for the greatest number of a text, `@` for one less and `$` for one more.
+// `#` is the greatest number of a text, `@` is one less and `$` is one more.
 fn add_character(whole: &mut String, character: char) -> bool {
     let added = match character {
         '@' => whole.push_str("9007199254740990"),
@@ -48,8 +48,8 @@ fn add_part(whole: &mut String, part: &str) -> bool {
     }
 }
 
-// What a row stands for, where it is written short: `a{3*bc}d` for `abcbcbcd`, and marks outside braces for the numbers
-// at the limit.
+// Returns the text that a row is short for: `abcbcbcd` for `a{3*bc}d`. Marks outside braces are the numbers at the
+// limit.
 pub(crate) fn spread(alloc: Global, row: &str) -> Option<String> {
     let mut whole = String::new(alloc);
     for part in row.split('}') {

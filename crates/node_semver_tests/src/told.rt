@@ -2,7 +2,7 @@ use crate::checks::holds;
 use node_semver::{Range, SemverError, Version};
 use std::alloc::Global;
 
-// What an error of this text tells, with a span to match: its kind, its byte offset, its line and its column.
+// The kind, byte offset, line and column of an error of this text, if its span agrees with them.
 fn told(alloc: Global, error: &SemverError, text: &str) -> Option<String> {
     if !holds(error, text) {
         return None;
@@ -12,7 +12,7 @@ fn told(alloc: Global, error: &SemverError, text: &str) -> Option<String> {
     format!(in alloc; "{kind:?} at {offset} ({line}, {column})").ok()
 }
 
-// The print of a version, or what the error of its text tells.
+// The print of a version, or the error of its text.
 pub(crate) fn version_print(alloc: Global, text: &str) -> Option<String> {
     match Version::parse(alloc, text) {
         Ok(version) => version.to_string(alloc).ok(),
@@ -20,7 +20,7 @@ pub(crate) fn version_print(alloc: Global, text: &str) -> Option<String> {
     }
 }
 
-// The print of a range, or what the error of its text tells.
+// The print of a range, or the error of its text.
 pub(crate) fn range_print(alloc: Global, text: &str) -> Option<String> {
     match Range::parse(alloc, text) {
         Ok(range) => range.to_string(alloc).ok(),

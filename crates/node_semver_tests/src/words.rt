@@ -2,7 +2,7 @@ use crate::questions::{Question, each};
 
 // npm's "Range Grammar" in loose mode.
 const WORDS: [&str; 36] = [
-    // Spaces and tabs stand between words, and after an operator or a `v`.
+    // Spaces and tabs are allowed between words, and after an operator or a `v`.
     "  >=1.2.3 ; 1.2.3; 1.2.2",
     "<\t2.0.0\t>1.0.0; 1.9.9; 2.0.0 1.0.0",
     ">= v 1.0.0; 1.0.0; 0.9.9",
@@ -15,7 +15,7 @@ const WORDS: [&str; 36] = [
     "^\t1.2\t^ 1; 1.2.0 1.9.9; 1.1.9 2.0.0",
     "^ 1.2 ^ 1; 1.2.0 1.9.9; 1.1.9 2.0.0",
     "\t1.2\t; 1.2.0 1.2.9; 1.3.0",
-    // What no kind of word reads up to a blank is thrown away, up to that blank alone.
+    // A word that fits no kind is ignored up to the next blank, and no further.
     "foo 1; 1.0.0; 2.0.0",
     "foo >= v 1.0.0; 1.0.0; 0.9.9",
     ">= foo 1; 1.0.0 1.9.9; 0.9.9 2.0.0",
@@ -29,7 +29,7 @@ const WORDS: [&str; 36] = [
     ">=1.0.0\n <2.0.0; 0.5.0; 2.0.0",
     "1..2 2; 2.0.0; 1.0.0",
     "1. 2; 2.0.0; 1.0.0",
-    // A word that says nothing is thrown away as a whole, with the blanks inside it.
+    // A word without a comparator is ignored as a whole, with the blanks inside it.
     "=* 1.2.3; 1.2.3; 1.2.4",
     "= * 1; 1.0.0; 2.0.0",
     "=*\t1; 1.0.0 1.9.9; 2.0.0",

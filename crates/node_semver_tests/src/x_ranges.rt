@@ -2,7 +2,7 @@ use crate::questions::{Question, each};
 
 // npm's "X-Ranges".
 const X_RANGES: [&str; 24] = [
-    // A version alone asks for that version, whatever its build.
+    // A version alone admits that version, with any build.
     "1.2.3; 1.2.3 1.2.3+b; 1.2.2 1.2.4 1.2.3-a",
     "v1.2.3; 1.2.3; 1.2.4",
     "1.2.3-x; 1.2.3-x; 1.2.3 1.2.3-y",

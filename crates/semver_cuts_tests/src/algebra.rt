@@ -32,7 +32,7 @@ fn spans_of(alloc: Global, pairs: &[(u64, u64)]) -> Result<Vec<Span<u64>>, Alloc
     Ok(spans)
 }
 
-// What is gathered of two lists: what they have in common, or what the first has and the second has not.
+// What is computed for two lists: their intersection, or the difference of the first and the second.
 #[derive(Clone, Copy)]
 enum Operation {
     Common,
@@ -73,7 +73,7 @@ fn are_ends(taken: &[(&Cut<u64>, &Cut<u64>)], pairs: &[(u64, u64)]) -> bool {
 // Numbers, two for each span of a list.
 type Pairs = &'static [(u64, u64)];
 
-// Two lists, and what is gathered of them.
+// Two lists, and their intersection or difference.
 type Row = (Pairs, Pairs, Pairs);
 
 fn gathers(alloc: Global, operation: Operation, row: &Row) -> Result<bool, AllocError> {
@@ -83,7 +83,7 @@ fn gathers(alloc: Global, operation: Operation, row: &Row) -> Result<bool, Alloc
     Ok(are_ends(&taken.ends, row.2))
 }
 
-// Two lists, and what they have in common.
+// Two lists, and their intersection.
 const ROWS: &[Row] = &[
     (&[(0, 1), (3, 5)], &[(0, 4)], &[(0, 1), (3, 4)]),
     (&[(0, 1), (3, 5)], &[(1, 3)], &[]),
@@ -108,7 +108,8 @@ fn hands_over_what_two_lists_have_in_common(rt: HostRuntime) {
     }
 }
 
-// Two lists, and what the first has and the second has not: others that fall, overlap, touch, ascend apart, and none.
+// Two lists, and the difference of the first and the second. The spans of the second descend, overlap, touch or ascend
+// apart, or there are none.
 const REST_ROWS: &[Row] = &[
     (&[(1, 9)], &[(5, 6), (2, 3)], &[(1, 2), (3, 5), (6, 9)]),
     (
@@ -150,7 +151,7 @@ fn long_list(alloc: Global, step: u64, width: u64) -> Result<Vec<Span<u64>>, All
 // Descending, ascending and neither; apart, touching, overlapping and nested.
 const LONG_ROWS: &[(u64, u64)] = &[(12, 0), (12, 1), (1, 3), (5, 0), (5, 7), (0, 2), (3, 10)];
 
-// Whether these are the ends of what each of the ones has in common with each of the others.
+// Returns `true` if these are the ends of the intersections of each of the ones with each of the others.
 fn are_common(taken: &[(&Cut<u64>, &Cut<u64>)], ones: &[Span<u64>], others: &[Span<u64>]) -> bool {
     let mut taken = taken.iter();
     for one in ones {
@@ -182,7 +183,7 @@ fn hands_over_what_long_lists_have_in_common(rt: HostRuntime) {
     }
 }
 
-// Lists, and what they are joined to: spans that touch, overlap, fall, repeat and nest, one list merged as it stands,
+// Lists, and their joined spans: spans that touch, overlap, descend, repeat and nest, one list that is merged already,
 // and none.
 const JOIN_ROWS: &[(Pairs, Pairs)] = &[
     (&[(1, 2), (2, 3)], &[(1, 3)]),
@@ -238,7 +239,7 @@ fn joins_spans_and_keeps_their_places(rt: HostRuntime) {
     }
 }
 
-// What is asked of two lists: whether they share a cut, or whether the first has all cuts of the second.
+// A test of two lists: whether they share a cut, or whether the first has all cuts of the second.
 #[derive(Clone, Copy)]
 enum Asked {
     Share,
@@ -257,7 +258,7 @@ fn merged_answer(
     }
 }
 
-// Lists that are merged as they stand may be asked at once whether the first covers the second.
+// If both lists are merged already, `covers` can be tested without merging them.
 fn stand_covered(asked: Asked, ones: &[Span<u64>], others: &[Span<u64>], wanted: bool) -> bool {
     if matches!(asked, Asked::Cover) && are_merged(ones) && are_merged(others) {
         covers(ones, others) == wanted
@@ -280,7 +281,7 @@ fn spans_answer(
     Ok(merged_answer(asked, &one, &other, wanted) && stand_covered(asked, ones, others, wanted))
 }
 
-// Whether two lists by their numbers answer so.
+// Returns `true` if two lists, made from their numbers, give the wanted result.
 fn answer(
     alloc: Global,
     asked: Asked,

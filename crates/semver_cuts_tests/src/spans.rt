@@ -125,7 +125,7 @@ fn equals_and_hashes_by_its_ends(rt: HostRuntime) {
     }
 }
 
-// Two spans between numbers, what they have in common, and what the first has below and above the second.
+// Two spans between numbers, their intersection, and the parts of the first below and above the second.
 type Pair = (u64, u64);
 
 const PAIRS: &[(Pair, Pair, Option<Pair>, Option<Pair>, Option<Pair>)] = &[

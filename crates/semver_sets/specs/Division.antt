@@ -1,4 +1,5 @@
 -- How a range text is divided: npm's "Range Grammar", in its loose form.
+-- See docs/DECISIONS.md, "A word is defined by its text, not by how it is found".
 use Rattle.std.specs.Prelude.{◌≡◌, ℕ, true, not, List, [], ◌∷◌, ◌++◌, Option, None}
 use Rattle.std.specs.List.{filter_map}
 use Rattle.semver_sets.specs.CaretRanges.{IsCaretText}

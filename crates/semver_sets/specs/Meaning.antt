@@ -4,9 +4,9 @@
 --   Written: one alternative of two comparators, `at_least` 1.2.3-rc.4 and `below` 2.0.0.
 --   Not refused: it has comparators, and the cut before 1.2.3-rc.4 lies in both of them.
 --   1.9.0 is admitted: the cut before it lies in both, and it is no prerelease.
---   2.0.0 is turned away: the cut before it is not below the upper end of the second.
+--   2.0.0 is not admitted: the cut before it is not below the upper end of the second.
 --   1.2.3-rc.5 is admitted: it lies inside both, and the lower end of the first is a prerelease of its triple.
---   1.2.4-rc.6 is turned away: it lies inside both, and no end is a prerelease of 1.2.4.
+--   1.2.4-rc.6 is not admitted: it lies inside both, and no end is a prerelease of 1.2.4.
 use Rattle.std.specs.Prelude.{◌≢◌, ◌⊎◌, ℕ, List, []}
 use Rattle.std.specs.List.{AllByRecursion}
 use Rattle.semver_cuts.specs.declared.cut.Cut.{Cut}

@@ -1,4 +1,4 @@
--- What a contract sees of a range, the list of its sets, and what is true of each range: it has at least one set, each
+-- A range as a contract sees it, the list of its sets, and the properties of every range: it has at least one set, each
 -- set contains a cut, and a range text can write its ends.
 use Rattle.std.specs.Prelude.{◌≡◌, ◌≢◌, ℕ, ◌≤◌, ◌+◌, List, [], ◌∷◌}
 use Rattle.std.specs.List.{AllByRecursion}

@@ -3,6 +3,8 @@
 //!
 //! `#[inline(always)]`: the comparators of most words have an end that no other word limits, which is one test. The
 //! rare rest is in functions with `#[inline(never)]`, so that it takes no stack in the loop over the words.
+//!
+//! See docs/DECISIONS.md, "Ties between equal ends are settled by position".
 ghost use Rattle.std.specs.Prelude.{◌≡◌, ◌↔◌, ◌++◌, ◌∷◌, [], IsTrue, List, None};
 ghost use Rattle.semver_cuts.specs.Private.Merging.{IsEarlierLeast, IsLaterGreatest};
 ghost use Rattle.semver_sets.specs.Comparator.{Comparator};

@@ -1,4 +1,6 @@
 //! How many comparisons a search takes.
+//!
+//! See docs/DECISIONS.md, "Comparisons are counted in a ghost".
 ghost use Rattle.std.specs.Prelude.{◌≡◌, ◌+◌, ℕ};
 
 /// A count of the comparisons of a version with a cut, which only grows.

@@ -1,4 +1,6 @@
 //! Reading a range text: one alternative after another, each word by word.
+//!
+//! See docs/DECISIONS.md, "A word is defined by its text, not by how it is found".
 ghost use Rattle.std.specs.Prelude.{◌≡◌, ◌∷◌, [], IfErr, IfOk};
 ghost use Rattle.semver_sets.specs.Meaning.{IsRefused};
 ghost use Rattle.semver_sets.specs.Merging.{AreSetsOfText};

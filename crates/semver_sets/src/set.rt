@@ -2,6 +2,8 @@
 //!
 //! `#[inline(always)]`: the functions here are the steps of a search, and most versions are releases, for which only
 //! triples are compared.
+//!
+//! See docs/DECISIONS.md, "Candidates are searched like versions".
 ghost use Rattle.std.specs.Prelude.{◌≡◌, ◌≤◌, ◌+◌, ◌↔◌, IsTrue};
 ghost use Rattle.semver_cuts.specs.declared.cut.Cut.TheVariants.{Before, Start};
 ghost use Rattle.semver_cuts.specs.Ends.{IsCutAtMost};

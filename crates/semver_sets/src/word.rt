@@ -1,6 +1,8 @@
 //! The words of a range text, and the comparator that each of them gives.
 //!
 //! `#[inline(always)]`: see `parse/partial.rt`.
+//!
+//! Each of npm's headings has a file, with one function by cases: a line for each row of npm's table.
 ghost use Rattle.std.specs.Prelude.{◌≡◌, List, None, Some, false};
 ghost use Rattle.semver_sets.specs.Comparator.{Comparator};
 ghost use Rattle.semver_sets.specs.Division.{IsAlternative};

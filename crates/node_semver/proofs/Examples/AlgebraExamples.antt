@@ -1,4 +1,4 @@
--- Worked examples: what two texts have in common, set by set, and which of two ends at one cut stays; and which
+-- Worked examples: the intersection of two texts, set by set, and which of two ends at one cut wins; and which
 -- prereleases pairs of sets admit. Each is computed over the definitions.
 use Rattle.std.proofs.Common.{◌≡◌, ◌↔◌, ℕ, Bool, true, false, List, [], ◌∷◌, Option, Some, None, codes, inr, refl}
 use Rattle.std.specs.Prelude.{map}
@@ -19,7 +19,7 @@ use Rattle.node_semver.specs.SetTree.{AreSetsOfTree, Formula, both, of_text}
 
 -- ---- tables
 
--- two texts, and the print of what they have in common
+-- two texts, and the print of their intersection
 abbrev Row : Type 0
 Row = List ℕ × List ℕ × List ℕ
 
@@ -54,7 +54,7 @@ all-common (row ∷ rows) computed =
     ≡ map (λ (row : Row). Some row.2) rows = cc computed in
     (common-read row.0 row.1 row.2 (sets_in row.0) (sets_in row.1) refl refl first, all-common rows others)
 
--- ---- ends at one cut: of lower ends that of the second text stays, and of upper ends that of the first
+-- ---- ends at one cut: of lower ends the second text's wins, and of upper ends the first one's
 
 abbrev ties : List Row
 ties =

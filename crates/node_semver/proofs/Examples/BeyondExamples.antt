@@ -1,4 +1,4 @@
--- Worked examples: what one range admits beyond another, and the greatest version of a list.
+-- Worked examples: the versions that one range admits beyond another, and the greatest version of a list.
 use Rattle.std.proofs.Common.{◌≡◌, ℕ, List, [], ◌∷◌, codes, true, false, refl, inl, inr}
 use Rattle.semver_cuts.specs.declared.cut.Cut.TheVariants.{Start, Before, After}
 use Rattle.semver_cuts.specs.Ends.{Ends, span_between}

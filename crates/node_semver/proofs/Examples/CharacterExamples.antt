@@ -97,7 +97,7 @@ words-computed = refl
 pub words-written : AreWritten words
 words-written = all-written words words-computed
 
--- and the other is thrown away, but for a blank, after which the word has ended
+-- and the other is ignored, except a blank, after which the word has ended
 abbrev others_thrown_away : List (List ℕ × List Comparator)
 others_thrown_away = map (λ b. (with_byte b, [])) (filter (λ b. not (is_blank b)) others)
 

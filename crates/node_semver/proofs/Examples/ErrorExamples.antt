@@ -1,4 +1,4 @@
--- Worked examples: what each kind of error prints, and where an offset stands in a text.
+-- Worked examples: the print of each kind of error, and the line and column of an offset.
 use Rattle.std.proofs.Common.{◌≡◌, ℕ, List, [], ◌∷◌, ◌++◌, Some, None, Bor, codes, refl}
 use Rattle.std.specs.Fmt.{digits}
 use Rattle.std.specs.declared.num.ParseIntError.{ParseIntError as IntFault}
@@ -16,7 +16,7 @@ max_length-text = refl
 incomplete-text : kind_text IncompleteInput ≡ Some (codes "Incomplete input to semver parser.")
 incomplete-text = refl
 
--- std says what is wrong with the digits, and states no text for it
+-- std describes the fault of the digits, and promises no text for it
 parse_int-text : (fault : IntFault) → kind_text (ParseIntError fault) ≡ None
 parse_int-text fault = refl
 

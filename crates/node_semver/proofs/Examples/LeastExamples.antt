@@ -1,4 +1,4 @@
--- Worked examples: steps from version to version, and what the least version of a range is and is not.
+-- Worked examples: steps from version to version, and versions that are, or are not, the least of a range.
 use Rattle.std.proofs.Common.{◌≡◌, ℕ, List, [], ◌∷◌, ◌++◌, ap, arith, codes, refl, subst, inl, inr}
 use Rattle.std.specs.List.{AllByRecursion}
 use Rattle.semver_cuts.specs.declared.cut.Cut.TheVariants.{Before, After}

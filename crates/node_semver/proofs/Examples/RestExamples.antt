@@ -1,5 +1,5 @@
--- Worked examples: which end stands where several sets of the other text touch one cut, in what one text has and
--- another has not; and what it is to have all cuts of another text.
+-- Worked examples: which end a difference has if several sets of the other text touch one cut; and what it means to
+-- have all cuts of another text.
 use Rattle.std.proofs.Common.{◌≡◌, ◌≢◌, ◌↔◌, ◌∙◌, ℕ, List, [], ◌∷◌, ◌++◌, ap, arith, codes, inl, inr, refl, subst}
 use Rattle.std.specs.Fmt.{digits}
 use Rattle.std.specs.List.{AllByRecursion}
@@ -24,7 +24,7 @@ use Rattle.node_semver.proofs.Examples.AlgebraExamples.{GivesPrint}
 
 -- ---- one piece
 
--- a set whose cuts are all that is left is what is left
+-- a set that has exactly the remaining cuts is the difference
 one-piece : (others : Sets) (one piece : Ends VersionValue) → HoldsCut version_cmp piece
     → ((cut : Cut VersionValue) → IsInSpan version_cmp piece cut ↔ IsLeft version_cmp others one cut)
     → IsPieceLower version_cmp others one piece.lower → IsPieceUpper version_cmp others one piece.upper

@@ -1,4 +1,4 @@
--- What the program answers, from the best of the candidates: and that a range admits a version or does not.
+-- The program's result, from the best of the candidates; and that a range admits a version or does not.
 use Rattle.std.proofs.Common.{◌≡◌, ◌↔◌, ◌⊎◌, Bool, true, false, List, [], ◌∷◌, Option, Some, inl, inr}
 use Rattle.std.proofs.lemmas.Bool.{cases_Bool}
 use Rattle.std.specs.List.{list_any}
@@ -38,7 +38,7 @@ admitted-or_not sets v = elim (cases_Bool (range_admits sets v)) [
   | inr fails ↦ inr (λ admits. cc ((range_admits-iff sets v).1 admits, fails))
 ]
 
--- ---- what the program answers
+-- ---- the program's result
 
 pub tried-least : (sets others : List (Ends VersionValue)) (best : Option VersionValue)
     → AreUppersTried sets others others best → IsLeastBeyondOrNone sets others best

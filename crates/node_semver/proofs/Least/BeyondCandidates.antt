@@ -1,4 +1,4 @@
--- The candidates at a cut: the least release that can stand after it, and the least version where that is a prerelease.
+-- The candidates at a cut: the least release that can be after it, and the least version if that is a prerelease.
 use Rattle.std.proofs.Common.{◌≡◌, ◌≢◌, ◌⊎◌, ◌+◌, List, [], ◌∷◌, ◌++◌, refl, inl, inr, Ordering, Less, Equal, Greater}
 use Rattle.std.specs.List.{AllByRecursion}
 use Rattle.std.specs.Ordering.{ordering_then}
@@ -107,7 +107,7 @@ module _ (P : VersionValue → Type 0) where
 abbrev pub least_of_triple : VersionValue → VersionValue
 least_of_triple w = least_of w.major w.minor w.patch
 
--- a cut between the least version of a triple and a prerelease of it stands at a prerelease of it
+-- a cut between the least version of a triple and a prerelease of it is at a prerelease of it
 stands-at : (w v : VersionValue) → IsPrerelease w
     → (version_cmp (least_of_triple w) v ≡ Less) ⊎ (version_cmp (least_of_triple w) v ≡ Equal)
     → (version_cmp v w ≡ Less) ⊎ (version_cmp v w ≡ Equal) → IsPrerelease v × HasSameTriple v w

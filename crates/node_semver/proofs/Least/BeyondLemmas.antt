@@ -66,7 +66,7 @@ module _ (P : VersionValue → Type 0) (sets others : List (Ends VersionValue)) 
       between c last found.version found.is (both_releases found.first.final final) found.first.at
       (found.first.none_below w final last.below)
 
-  -- where it is a prerelease and the cut stands at a prerelease of its triple
+  -- if it is a prerelease and the cut is at a prerelease of its triple
   of-prerelease : (c : Cut VersionValue) → IsLastCut c → AllByRecursion P (candidates_at c) → IsPrerelease w
       → IsCutAtMost version_cmp (Before (least_of_triple w)) c → CandidateBelow P sets others w
   of-prerelease c last all pre from =

@@ -35,7 +35,7 @@ module _ (sets others : List (Ends VersionValue)) where
     kept = λ v not. second.kept v (first.kept v not);
   }
 
-  -- what was tried is tried
+  -- a version that was tried stays tried
   tried-kept : (a b : Option VersionValue) → IsStep sets others a b → (v : VersionValue) → IsTried sets others a v
       → IsTried sets others b v
   tried-kept a b step v tried = λ beyond. step.kept v (tried beyond)

@@ -1,6 +1,6 @@
 -- The best version of a list that a range admits, as one version more is looked at: the greatest, or the least.
 use Rattle.std.proofs.Common.{◌≡◌, ◌↔◌, ◌+◌, ◌<◌, ◌∙◌, ℕ, List, [], ◌∷◌, ◌++◌, Option, Some, None, IfSome, IsNone}
-use Rattle.std.proofs.Common.{length, get_or, take, refl, sym, ap, subst, inl, inr, Less, append_assoc}
+use Rattle.std.proofs.Common.{Bool, true, false, length, get_or, take, refl, sym, ap, subst, inl, inr, Less, append_assoc}
 use Rattle.std.proofs.lemmas.List.{take_more}
 use Rattle.std.specs.Cmp.{alike_right}
 use Rattle.std.specs.Option.{option_map}
@@ -12,10 +12,10 @@ use Rattle.semver_sets.specs.Order.{IsBelow, IsSame}
 use Rattle.semver_sets.specs.Version.{VersionValue}
 use Rattle.semver_sets.specs.Lemmas.Order.{version-Equal, version-Less, version_total}
 use Rattle.node_semver.specs.Greatest.{AdmitsNoneIn, IsFirstBest, IsGreatestAdmitted, IsLeastAdmittedIn}
-use Rattle.node_semver.specs.Private.GreatestViews.{IsBestOrNone, IsBetterOf, Order, downward}
+use Rattle.node_semver.specs.Private.GreatestViews.{IsBestOrNone, IsBetterOf, Order, downward, order_of}
 use Rattle.node_semver.proofs.Least.HighestCut.{all-map}
 
--- what is needed of an order of versions: by precedence, and by precedence turned round
+-- the premises of an order of versions: true of precedence, and of precedence reversed
 pub record IsOrder (order : Order) : Type 0 where
   pub not_itself : (v : VersionValue) → ¬ (order v v ≡ Less)
   pub trans : (u v w : VersionValue) → order u v ≡ Less → order v w ≡ Less → order u w ≡ Less
@@ -40,6 +40,10 @@ downward-order = record {
   trans = λ u v w above below. version_total.trans w v u below above;
   alike = λ u v w less same. version_total.congr w v u (version-Equal w v same) ∙ less;
 }
+
+pub each-order : (upward : Bool) → IsOrder (order_of upward)
+each-order true = upward-order
+each-order false = downward-order
 
 module _ (order : Order) (is : IsOrder order) (sets : List (Ends VersionValue)) where
   abbrev Best : List VersionValue → VersionValue → Type 0
@@ -121,7 +125,7 @@ module _ (order : Order) (is : IsOrder order) (sets : List (Ends VersionValue)) 
       (sym (take_more versions k v lt ∙ ap (λ (w : VersionValue). take k versions ++ w ∷ []) (sym at)))
       (more-best (take k versions) v best found first better)
 
--- ---- what the program answers
+-- ---- the program's result
 
 -- the best by precedence is the greatest
 abbrev pub as-greatest : (sets : List (Ends VersionValue)) (versions : List VersionValue) (v : VersionValue)

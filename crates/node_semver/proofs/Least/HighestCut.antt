@@ -1,4 +1,4 @@
--- The highest of the cuts at ends of a list that are not above a version, and what lies between it and the version.
+-- The highest of the cuts at ends of a list that are not above a version, and the cuts between it and the version.
 use Rattle.std.proofs.Common.{◌∙◌, List, [], ◌∷◌, inl, inr}
 use Rattle.std.specs.List.{AllByRecursion}
 use Rattle.semver_cuts.specs.declared.cut.Cut.{Cut}

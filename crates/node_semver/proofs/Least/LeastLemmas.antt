@@ -1,4 +1,4 @@
--- The least version that a set admits: where the set begins, and what its ends open.
+-- The least version that a set admits: where the set begins, and which triples its ends open.
 use Rattle.std.proofs.Common.{◌≡◌, ◌↔◌, ◌⊎◌, ◌+◌, ◌∙◌, ℕ, List, [], ◌∷◌, ◌++◌, Bool, true, false, not, Option, IsTrue}
 use Rattle.std.proofs.Common.{refl, sym, ap, subst, inl, inr, Ordering, Less, Equal, Greater}
 use Rattle.std.specs.Ordering.{ordering_then}
@@ -30,7 +30,7 @@ so-not : (below : Bool) → IsTrue (not below) → ¬ IsTrue below
 so-not true h k = cc h
 so-not false h k = cc k
 
--- what is not below is at least
+-- not below is at least
 pub at-least : (v w : VersionValue) → ¬ (version_cmp w v ≡ Less) → IsCutAtMost version_cmp (Before v) (Before w)
 at-least v w n = by_order (version_cmp v w) refl
   where

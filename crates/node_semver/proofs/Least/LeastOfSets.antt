@@ -111,7 +111,7 @@ take-earlier done set v least built above = (
   earlier-first done set v built,
 )
 
--- what is not below a version that is not below another is not below that
+-- if u is not below v and v is not below w, then u is not below w
 pub not-below : (u v w : VersionValue) → ¬ (version_cmp v w ≡ Less) → ¬ (version_cmp u v ≡ Less)
     → ¬ (version_cmp u w ≡ Less)
 not-below u v w n m less = elim (at-least w v n) [
@@ -168,7 +168,7 @@ only-least sets set v some few is lower each =
     subst (λ (l : List (Ends VersionValue)). IsLeastOfSets l (Some v)) (sym only)
     (more-least [] set None (Some v) (Some v) (λ w admits. admits) (before-least set v held.0.holds lower) refl)
 
--- ---- what the program answers
+-- ---- the program's result
 
 -- a version, where one is admitted
 pub some-found : (sets : List (Ends VersionValue)) (v : VersionValue) → IsLeastOfSets sets (Some v)

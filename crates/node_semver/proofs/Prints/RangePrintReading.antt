@@ -119,7 +119,7 @@ range-read (set ∷ sets) some read =
 pub range-reads_back : (sets : List (Ends VersionValue)) → IsRangeValue sets → RangeReadsBack sets
 range-reads_back sets is plainly = range-read sets is.some (sets-read sets is.each plainly)
 
--- ---- an answer to a text
+-- ---- the result of parsing a text
 
 -- the text is not refused, or memory is
 abbrev pub IsRefusal : List ℕ → SemverError → Type 0

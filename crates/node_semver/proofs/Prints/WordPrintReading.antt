@@ -1,4 +1,4 @@
--- The print of a version, alone or after an operator, is a word that stands for its comparator.
+-- The print of a version, alone or after an operator, is a word with that comparator.
 use Rattle.std.proofs.Common.{◌≡◌, ◌∙◌, ℕ, true, false, List, [], ◌∷◌, ◌++◌, Some, None, append_assoc, refl, sym, ap}
 use Rattle.std.proofs.Common.{subst, inl, inr}
 use Rattle.std.proofs.lemmas.Bool.{cases_Bool, eqb-true}
@@ -65,7 +65,7 @@ partial-printed v is =
 
 -- ---- words
 
--- A word that stands for this comparator, where this rest follows it.
+-- A word with this comparator, and this rest after it.
 pub record IsPrintedWord (text rest : List ℕ) (c : Comparator) : Type 0 where
   pub word : IsWord text rest (Some c)
   pub no_bar : HasNoBar text

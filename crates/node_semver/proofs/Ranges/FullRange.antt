@@ -101,7 +101,7 @@ full-value text l major minor patch c is full =
     let same : full.comparator ≡ c = cc (full.written, is) in
     subst (λ (x : Comparator). IsRangeValue (x ∷ [])) same (only-value text full.comparator full.only)
 
--- it is the one set of the text, and what is read
+-- it is the one set of the text, and the one that is read
 pub full-read : (text bytes : List ℕ) (l : Lead) (major minor patch : ℕ) (sets : List (Ends VersionValue))
     → bytes ≡ text
     → IsFull bytes l major minor patch → sets ≡ listed_set (full_comparator l major minor patch)

@@ -1,4 +1,4 @@
--- What is answered to a range text, from what is read of it.
+-- The result of parsing a range text, from the sets that are read.
 use Rattle.std.proofs.Common.{ℕ, List, Ok, Err}
 use Rattle.std.specs.Prelude.{Result}
 use Rattle.semver_cuts.specs.Ends.{Ends}

@@ -1,4 +1,4 @@
--- What the sets of an answer hold: those that two ranges have in common, and those that one has and the other has not.
+-- The sets of an intersection and of a difference satisfy what every range satisfies.
 use Rattle.std.proofs.Common.{◌≡◌, ◌↔◌, List, [], ◌∷◌, Option, Some, None, refl, inl}
 use Rattle.std.specs.Prelude.{IfSome, IsNone, IsSome}
 use Rattle.std.specs.List.{AllByRecursion}
@@ -33,7 +33,7 @@ sets-held [] held read = tt
 sets-held (set ∷ sets) held read =
     (record { holds = held.0; lower = read.0.0; upper = read.0.1 }, sets-held sets held.1 read.1)
 
--- the sets that two ranges have in common are such as a range can have
+-- the sets of an intersection are such as a range can have
 pub common-bounded : (ones others : List (Ends VersionValue)) → AllByRecursion IsRangeSet ones
     → AllByRecursion IsRangeSet others → AllByRecursion IsRangeSet (common_spans version_cmp ones others)
 unfolding HasReadEnds
@@ -41,7 +41,7 @@ common-bounded ones others all all' =
     sets-held (common_spans version_cmp ones others) (common_spans-hold version_total ones others)
     (common_spans-ends version_total IsReadCut IsReadCut ones others (ends-read ones all) (ends-read others all'))
 
--- and so are those that one has and the other has not
+-- and so are those of a difference
 pub rest-bounded : (ones others rest : List (Ends VersionValue)) → AreRestSpans version_cmp ones others rest
     → AllByRecursion IsRangeSet ones → AllByRecursion IsRangeSet others → AllByRecursion IsRangeSet rest
 unfolding HasReadEnds
@@ -57,13 +57,13 @@ some-cut : (sets : List (Ends VersionValue)) → IsRangeValue sets
 some-cut [] is = absurd (is.some refl)
 some-cut (set ∷ sets) is = let held = is.each.0.holds in (held.0, inl held.1)
 
--- an answer is none exactly where it has no set
+-- a result is `None` exactly where it has no set
 pub none-listed : (answer : Option (List (Ends VersionValue))) → IfSome answer IsRangeValue
     → IsNone answer ↔ (sets_of_answer answer ≡ [])
 none-listed None holds = (λ none. refl, λ empty. refl)
 none-listed (Some sets) holds = (λ none. cc none, λ empty. absurd (holds.some empty))
 
--- so an answer is none exactly where it would have no cut
+-- so a result is `None` exactly where it would have no cut
 pub none-exactly : (answer : Option (List (Ends VersionValue))) (P : Cut VersionValue → Type 0)
     → IfSome answer IsRangeValue
     → ((cut : Cut VersionValue) → IsInSome version_cmp (sets_of_answer answer) cut ↔ P cut)

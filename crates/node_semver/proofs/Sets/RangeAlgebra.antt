@@ -1,4 +1,4 @@
--- What two ranges have in common, and what one has and the other has not: what their sets hold and admit.
+-- Intersection and difference of ranges: which cuts their sets have, and which versions they admit.
 use Rattle.std.proofs.Common.{◌≡◌, ◌↔◌, Bool, true, false, if◌then◌else◌, List, [], ◌∷◌, refl, inl, inr}
 use Rattle.std.specs.Ordering.{is_lt}
 use Rattle.semver_cuts.specs.declared.cut.Cut.{Cut}
@@ -40,7 +40,7 @@ release-admitted (set ∷ sets) v release =
       ],
     )
 
--- ---- what two sets have in common is their merging
+-- ---- the intersection of two sets is their merging
 
 greater-by : (one other : Cut VersionValue) (r : Bool) → is_lt (cut_cmp version_cmp other one) ≡ r
     → IsLaterGreatest version_cmp one other (if r then one else other)
@@ -58,7 +58,7 @@ pair-merged one other =
     (greater-by one.lower other.lower (is_lt (cut_cmp version_cmp other.lower one.lower)) refl)
     (lesser-by one.upper other.upper (is_lt (cut_cmp version_cmp other.upper one.upper)) refl)
 
--- so it admits what both together do
+-- so it admits a version that both together admit
 module _ (v : VersionValue) where
   pair-admits : (one other : Ends VersionValue)
       → Admit (one ∷ other ∷ []) v ↔ SetAdmits (common_ends version_cmp one other) v
@@ -95,7 +95,7 @@ common-releases ones others v release =
       λ admits. both.1 (cuts.1 (one.0 admits.0, other.0 admits.1)),
     )
 
--- what is left of one range less another admits a release exactly where the first does and the second does not
+-- a difference admits a release exactly where the first range does and the second does not
 pub rest-releases : (ones others rest : List (Ends VersionValue)) → AreRestSpans version_cmp ones others rest
     → (v : VersionValue) → ¬ IsPrerelease v → RangeAdmits rest v ↔ (RangeAdmits ones v × (¬ RangeAdmits others v))
 rest-releases ones others rest are v release =

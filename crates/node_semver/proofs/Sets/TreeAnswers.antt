@@ -13,7 +13,7 @@ use Rattle.node_semver.proofs.Sets.AlgebraBounds.{none-exactly}
 use Rattle.node_semver.proofs.Sets.RangeAlgebra.{release-admitted}
 use Rattle.node_semver.proofs.Sets.TreeSets.{HasSetsOf, HaveCutsOf, tree-cuts}
 
--- the answer has just the cuts of the tree
+-- the result has exactly the cuts of the tree
 abbrev HasCutsOf : {E : Type 0} → Formula → Result (Option (List (Ends VersionValue))) E → Type 0
 HasCutsOf tree result = IfOk result (λ answer. HaveCutsOf tree (sets_of_answer answer))
 
@@ -40,7 +40,7 @@ answer-releases tree (Ok answer) has = λ v release.
     let same = has (Before v) in
     (λ a. same.0 (admits.0 a), λ is. admits.1 (same.1 is))
 
--- what an answer with the sets of the tree is
+-- a result with the sets of the tree meets the promises
 pub answered : {E : Type 0} (tree : Formula) (result : Result (Option (List (Ends VersionValue))) E)
     → HasSetsOf tree result → IfOk result (λ answer. IfSome answer IsRangeValue)
     → record {

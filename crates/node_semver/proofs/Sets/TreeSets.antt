@@ -70,11 +70,11 @@ rest-without_none (set ∷ sets) all = (set ∷ [], sets, refl, own-piece set al
 
 -- ---- what a tree is evaluated to
 
--- the sets of the answer are those of the tree
+-- the result has the sets of the tree
 abbrev pub HasSetsOf : {E : Type 0} → Formula → Result (Option Sets) E → Type 0
 HasSetsOf tree result = IfOk result (λ answer. AreSetsOfTree tree (sets_of_answer answer))
 
--- what the sets of both sides have in common
+-- the intersection of the sets of both sides
 pub both-sets : {E : Type 0} (tree one other : Formula) (ones others : Sets) (result : Result (Option Sets) E)
     → tree ≡ both one other → AreSetsOfTree one ones → AreSetsOfTree other others
     → IfOk result (λ answer. sets_of_answer answer ≡ common_spans version_cmp ones others) → HasSetsOf tree result

@@ -1,4 +1,4 @@
--- A tree has one list of sets, and what the sets of both sides admit.
+-- A tree has one list of sets, and which versions the sets of both sides admit.
 use Rattle.std.proofs.Common.{◌≡◌, ◌↔◌, ◌∙◌, [], refl, sym, ap, subst, inl, inr}
 use Rattle.semver_cuts.specs.CommonSpans.{common_spans}
 use Rattle.semver_cuts.specs.Rest.{AreRestSpans}
@@ -44,7 +44,7 @@ tree-unique (without one other) sets sets' (inr made) (inr made') =
     (subst (λ (l : Sets). AreRestSpans version_cmp made.0 l sets) second made.4) in
     rest-unique version_total made'.0 made'.1 sets sets' moved made'.4
 
--- the sets of both sides are those that the two lists have in common
+-- the sets of both sides are the intersection of the two lists
 both-common : (one other : Formula) (sets ones others : Sets) → AreSetsOfTree (both one other) sets
     → AreSetsOfTree one ones → AreSetsOfTree other others → sets ≡ common_spans version_cmp ones others
 both-common one other sets ones others are has has' =

@@ -29,7 +29,7 @@ use Rattle.node_semver.specs.Private.FaultViews.{kind_in}
 use Rattle.node_semver.proofs.Versions.FaultReading.{AreNumbers, digits-there, fault-takes, prefix-length, left-takes}
 use Rattle.node_semver.proofs.Versions.FaultReading.{missing_at}
 
--- The fault that a text of this length is told where this is left after a version
+-- The fault of a text of this length, if this rest is left after a version
 abbrev left_told : ℕ → List ℕ → Option (Kind × ℕ)
 left_told n [] = None
 left_told n (b ∷ rest) = Some (other, n - length (b ∷ rest))
@@ -124,7 +124,7 @@ stopped : (text numbers : List ℕ) (f : Fault) → rest_of is_blank (skip_one i
 unfolding read_version read_unmarked
 stopped text numbers f e h = rw (e, h) refl
 
--- so it is told where the rest after a prefix starts
+-- so the fault is where the rest after a prefix begins
 stopped-told : (text beginning rest : List ℕ) (kind : Kind) (f : Fault) → length text ≤ MAX_LENGTH
     → text ≡ beginning ++ rest → kind_in text f ≡ kind → left_of f ≡ length rest
     → read_version text ≡ Err f → fault_of text ≡ Some (kind, length beginning)
@@ -154,7 +154,7 @@ version-opens text more w h none =
       read = rw (version-follows text more w h, split, n) refl;
     }
 
--- what is left after the longest version is told
+-- the fault is where the rest after the longest version begins
 left-told : (text version : List ℕ) (v w : VersionValue) (b : ℕ) (rest left : List ℕ) → length text ≤ MAX_LENGTH
     → text ≡ version ++ (b ∷ rest) → IsVersionText version v
     → ((shorter behind : List ℕ) (u : VersionValue) → text ≡ shorter ++ behind → IsVersionText shorter u
@@ -181,7 +181,7 @@ left-told text version v w b rest (c ∷ left) short whole h longest read =
     ) in
     ap (λ (n : ℕ). Some (other, n)) same
 
--- a fault is what the reader tells
+-- each fault is reported by the reader
 pub fault-again : (text : List ℕ) (kind : Kind) (offset : ℕ) → IsFault text kind offset
     → fault_of text ≡ Some (kind, offset)
 fault-again text kind offset (too_long long) = pick-false _ _ _ (lt-leb _ _ long)
@@ -209,7 +209,7 @@ fault-again text kind offset (left_over version v b rest short whole none h long
     short-told text short ∙ ap (λ (r : Result (VersionValue × List ℕ) Fault). told text r) read
     ∙ left-told text version v s.v b rest s.left short whole h longest read
 
--- a version text is told no fault
+-- a version text has no fault
 pub version-none : (text : List ℕ) (v : VersionValue) → IsVersionText text v → fault_of text ≡ None
 version-none text v h =
     short-told text h.short ∙ ap (λ (r : Result (VersionValue × List ℕ) Fault). told text r) (version-read text v h)
@@ -226,7 +226,7 @@ pub version-no_fault : (text : List ℕ) (v : VersionValue) (kind : Kind) (offse
     → IsFault text kind offset → ⊥
 version-no_fault text v kind offset h g = cc (sym (version-none text v h) ∙ fault-again text kind offset g)
 
--- what is read is a version text or tells a fault
+-- a text that is read is a version text or has a fault
 abbrev ReadOrFaulty : List ℕ → Type 0
 ReadOrFaulty text = ((v : VersionValue) × IsVersionText text v)
     ⊎ ((kind : Kind) × (offset : ℕ) × IsFault text kind offset)
@@ -245,11 +245,11 @@ read_or_faulty text = elim (cases_Bool (nat_le (length text) MAX_LENGTH)) [
   | inr long ↦ inr (max_length, length text - 1, too_long (leb-false _ _ long))
 ]
 
--- what is told, taken from a pair
+-- the fault of a pair
 some-told : (a b : Kind × ℕ) → Some a ≡ Some b → a ≡ b
 some-told a b h = cc h
 
--- what the reader tells is a fault
+-- the reader reports only faults
 pub fault-computed : (text : List ℕ) (kind : Kind) (offset : ℕ) → fault_of text ≡ Some (kind, offset)
     → IsFault text kind offset
 fault-computed text kind offset h = elim (read_or_faulty text) [

@@ -89,7 +89,7 @@ dot-fails (b ∷ rest) f h = elim (cases_Bool (b == dot)) [
       (none, fault-value (missing_at (b ∷ rest)) f told)
 ]
 
--- the length of a prefix is that of the text less that of the rest
+-- a prefix is as long as the text less the rest
 pub prefix-length : (text beginning rest : List ℕ) → text ≡ beginning ++ rest
     → length beginning ≡ length text - length rest
 prefix-length text beginning rest e = omega (arith, ap length e, length-append beginning rest)
@@ -110,7 +110,7 @@ pub behind-there : (text beginning rest : List ℕ) → text ≡ beginning ++ re
 behind-there text beginning rest whole = ap (λ (l : List ℕ). drop (length beginning) l) whole
     ∙ drop-append_seam beginning rest
 
--- the digits that stand where so many bytes are left
+-- the digits at the place with so many bytes left
 pub digits-there : (text beginning digits rest : List ℕ) → text ≡ beginning ++ (digits ++ rest)
     → IsAllDigits digits rest → prefix_of is_digit (drop (length text - length (digits ++ rest)) text) ≡ digits
 digits-there text beginning digits rest whole all =
@@ -119,7 +119,7 @@ digits-there text beginning digits rest whole all =
     ∙ behind-there text beginning (digits ++ rest) whole in
     ap (λ (l : List ℕ). prefix_of is_digit l) here ∙ prefix_of-again is_digit digits rest all.all all.end
 
--- a number that is too large stands where the rest begins
+-- a number that is too large begins the rest
 told-large : (text beginning digits rest : List ℕ) (f : Fault) → text ≡ beginning ++ (digits ++ rest)
     → IsAllDigits digits rest → TooLarge (length (digits ++ rest)) ≡ f
     → IsFault text (too_large (number_of digits)) (length beginning) → Has text f
@@ -131,7 +131,7 @@ told-large text beginning digits rest f whole all told h =
     (subst (λ (n : ℕ). IsFault text (too_large (number_of digits)) n)
     (prefix-length text beginning (digits ++ rest) whole) h))
 
--- where a number is asked for after a prefix
+-- if a number is expected after a prefix
 number-fault : (text before rest : List ℕ) (count : ℕ) (f : Fault) → length text ≤ MAX_LENGTH
     → HasPrefix text before rest count → read_number rest ≡ Err f → Has text f
 number-fault text before rest count f short prefix h = elim (number-fails rest f h) [
@@ -144,7 +144,7 @@ number-fault text before rest count f short prefix h = elim (number-fails rest f
       ∙ l.told) (large_number before l.digits l.rest count short here l.all l.large)
 ]
 
--- where a dot is asked for after a prefix and a number
+-- if a dot is expected after a prefix and a number
 dot-fault : (text before rest : List ℕ) (count : ℕ) (read : ℕ × List ℕ) (f : Fault) → length text ≤ MAX_LENGTH
     → HasPrefix text before rest count → count < 2
     → read_number rest ≡ Ok read → read_dot read.1 ≡ Err f → Has text f

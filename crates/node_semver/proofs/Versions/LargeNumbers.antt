@@ -1,4 +1,4 @@
--- What `parse` answers to the digits of a number that is too large.
+-- The result of std's `parse` for the digits of a number that is too large.
 use Rattle.std.proofs.Common.{◌≡◌, ◌<◌, ◌^◌, ℕ, true, List, [], ◌∷◌, length, Ok, Err, refl, inl, inr, arith}
 use Rattle.std.proofs.lemmas.Bool.{cases_Bool, lt-ltb, ltb-true}
 use Rattle.std.proofs.lemmas.Str.Parse.{parse_digits}
@@ -17,7 +17,7 @@ some-length : (s : List ℕ) → BeginsWith is_digit s → 0 < length s
 some-length [] h = absurd h
 some-length (b ∷ s) h = omega arith
 
--- what `parse` answers to digits
+-- the result of `parse` for digits
 pub large-ok : (s : List ℕ) (r : Result ℕ ParseIntError) (value : ℕ) → ParsesUnsigned 64 10 s r → AreAll is_digit s
     → r ≡ Ok value → max_int value ≡ too_large (number_of s)
 large-ok s r value h all e =

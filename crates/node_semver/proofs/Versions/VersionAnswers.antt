@@ -1,4 +1,4 @@
--- What is answered for a version text, by whether it is a version of the text or tells its fault.
+-- The result of parsing a version text: the version that it writes, or its fault.
 use Rattle.std.proofs.Common.{◌≡◌, ◌≤◌, ◌⊎◌, ℕ, List, length, Ok, Err, inl, inr}
 use Rattle.std.specs.Prelude.{IfErr, IfOk, Result}
 use Rattle.semver_sets.specs.Print.{version_text}

@@ -54,14 +54,14 @@ pub plain-read : {X : Type 0} (r : Result X Fault) (text : List ℕ) (v : Versio
     → IsPlainOk r (read_version text) → IsVersionText text v → v.pre_release ≡ [] → v.build ≡ [] → IsOk r
 plain-read r text v plain h = subst (λ (read : Read VersionValue). IsPlainOk r read) (version-read text v h) plain
 
--- a kind that is not told of a number
+-- a kind of fault that is not one of a number
 no-large : (kind : Kind) (n : ℕ) → ((m : ℕ) → kind ≡ max_int m → ⊥) → (kind ≡ parse_int → ⊥) → kind ≡ too_large n → ⊥
 no-large kind n ints parses same = elim (cases_Bool (nat_lt n (2 ^ 64))) [
   | inl fits ↦ ints n (same ∙ pick-true _ _ _ fits)
   | inr large ↦ parses (same ∙ pick-false _ _ _ large)
 ]
 
--- a fault that tells a number which is too large lies where that number begins
+-- the fault of a number that is too large is where that number begins
 large-here : (text : List ℕ) (kind : Kind) (offset n : ℕ) → IsFault text kind offset → kind ≡ too_large n
     → BeginsWith is_digit (drop offset text)
 large-here text _ _ n (too_long long) same = absurd (no-large max_length n (λ m e. cc e) (λ e. cc e) same)
@@ -81,7 +81,7 @@ pub large-refused : (text : List ℕ) (left place : ℕ) → place ≡ length te
 large-refused text left place here (inl memory) = absurd (cc memory)
 large-refused text left place here (inr fault) = rw (to-end text place, here) (large-here text _ _ _ fault refl)
 
--- the number that stands at a place
+-- the number at a place
 pub number-there : (text : List ℕ) (left place : ℕ) → place ≡ length text - left
     → too_large (number_of (prefix_of is_digit (take (length text - place) (drop place text))))
     ≡ kind_in text (TooLarge left)

@@ -81,7 +81,7 @@ none-below_least w m n p t (by_identifiers s pre _ below) = none-listed w.pre_re
     none-listed (x ∷ xs) some below = none-below_zeros x xs
         (list-Less identifier_cmp identifier_total IsIdentifierBelow identifier-Less (x ∷ xs) (numeric 0 ∷ []) below)
 
--- and what is below a version of its triple is a prerelease
+-- a version below another of its triple is a prerelease
 pub prerelease-from_below : (v w : VersionValue) → HasSameTriple v w → IsBelow v w → IsPrerelease v
 prerelease-from_below v w t (by_major h) = let e = t.major in absurd (omega arith)
 prerelease-from_below v w t (by_minor a h) = let e = t.minor in absurd (omega arith)
@@ -167,7 +167,7 @@ none-between_zeros v w pre above below =
     none-before_zero v.pre_release w.pre_release (lists-below v w t above w_pre)
     (lists-below w (with_zero v) u below (with_zero-prerelease v))
 
--- ---- what is next after any version
+-- ---- the next version of any version
 
 -- the next version is above
 pub next-above : (v : VersionValue) → IsBelow v (next_version v)

@@ -102,7 +102,7 @@ some-zeroed : (xs : List IdentifierValue) → zeroed xs ≢ []
 some-zeroed [] e = cc e
 some-zeroed (x ∷ xs) e = cc e
 
--- with a 0 more in neither, in one or in both: what the program answers is whether the first is below
+-- with a 0 more in neither, in one or in both: the program's result is whether the first is below
 abbrev BelowWith : List Identifier → Bool → List Identifier → Bool → Type 0
 BelowWith a z b w = prerelease_cmp (with_zeros (values_of a) z) (with_zeros (values_of b) w) ≡ Less
 
@@ -124,7 +124,7 @@ values-some : (a : List Identifier) → (length a == 0) ≡ false → values_of 
 values-some [] e h = cc e
 values-some (x ∷ a) e h = cc h
 
--- an answer by another name
+-- the same result by another name
 pub answered : {P : Type 0} (s t : Bool) → s ≡ t → IsTrue t ↔ P → IsTrue s ↔ P
 answered s t e i = (λ h. i.0 (sym e ∙ h), λ p. e ∙ i.1 p)
 

@@ -14,7 +14,7 @@ use Rattle.semver_sets.specs.Version.{VersionValue}
 pub are_same_cuts-equiv : IsEquivalence are_same_cuts
 are_same_cuts-equiv = lists_equiv (are_same_ends-equiv version_total)
 
--- what follows if the test is true
+-- the facts that follow if the test is true
 pub cuts-from_test : (one other : List (Ends VersionValue)) → are_same_cuts one other ≡ true → AreSameCuts one other
 cuts-from_test [] [] h = tt
 cuts-from_test [] (t ∷ other) h = true≢false (sym h)

@@ -12,7 +12,7 @@ use Rattle.node_semver.specs.declared.range.read.full.FullLead.TheVariants.{Care
 use Rattle.node_semver.specs.declared.range.algebra.gathered.Found.{Found}
 use Rattle.node_semver.specs.declared.range.algebra.gathered.Found.TheVariants.{Many, One}
 
--- what is written before a full version
+-- the character before a full version, or none
 abbrev pub full_lead_seen : FullLead → Lead
 full_lead_seen Caret = caret_lead
 full_lead_seen Tilde = tilde_lead

@@ -31,7 +31,7 @@ candidates_at (Before v) = before_by v v.pre_release
 candidates_at (After v) = after_by v v.pre_release
 candidates_at End = []
 
--- ---- what was tried
+-- ---- the candidates that were tried
 
 -- there is a best version so far, and this one is not less than it
 abbrev pub IsNotBelow : Option VersionValue → VersionValue → Type 0
@@ -80,7 +80,7 @@ IsLeastOpened cut (Some least) =
 abbrev pub IsShut : Cut VersionValue → Type 0
 IsShut cut = (v : VersionValue) → Opens cut v → ¬ IsCutBelow version_cmp (Before (least_of v.major v.minor v.patch)) cut
 
--- one step: what was tried before still is, and the best so far still is one
+-- one step: the candidates that were tried before stay so, and the best so far still is one
 pub record IsStep (sets others : List (Ends VersionValue)) (earlier later : Option VersionValue) : Type 0 where
   pub best : IsBest sets others earlier → IsBest sets others later
   pub kept : (v : VersionValue) → IsNotBelow earlier v → IsNotBelow later v

@@ -1,6 +1,6 @@
 -- What the private functions compute that look for the best version of a list. The best is the last one in an order:
 -- the order of precedence for the greatest version, and its reverse for the least.
-use Rattle.std.specs.Prelude.{◌≡◌, ◌⊎◌, List, Option, Some, None}
+use Rattle.std.specs.Prelude.{◌≡◌, ◌⊎◌, Bool, true, false, List, Option, Some, None}
 use Rattle.std.specs.declared.cmp.Ordering.{Ordering}
 use Rattle.std.specs.declared.cmp.Ordering.TheVariants.{Less}
 use Rattle.semver_cuts.specs.Ends.{Ends}
@@ -16,6 +16,11 @@ Order = VersionValue → VersionValue → Ordering
 -- the reverse of the order of precedence
 abbrev pub downward : Order
 downward v w = version_cmp w v
+
+-- the order of precedence, which is upward, or its reverse
+abbrev pub order_of : Bool → Order
+order_of true = version_cmp
+order_of false = downward
 
 -- the version comes after the best so far, or there is none so far
 abbrev pub IsBetter : Order → Option VersionValue → VersionValue → Type 0

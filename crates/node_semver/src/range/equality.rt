@@ -1,4 +1,6 @@
 //! Equality and hashing of ranges.
+//!
+//! See docs/DECISIONS.md, "Ranges are equal set by set".
 
 ghost use Rattle.std.specs.Prelude.{◌≡◌, ◌↔◌, IsTrue, List};
 ghost use Rattle.std.specs.Cmp.{partial_equiv_from_equiv};

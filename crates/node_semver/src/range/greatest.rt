@@ -1,9 +1,9 @@
 //! The greatest and the least version of a list that satisfies a range.
 ghost use Rattle.std.specs.Option.{option_map};
-ghost use Rattle.std.specs.Prelude.{◌↔◌, IfSome, IsNone};
-ghost use Rattle.semver_sets.specs.Comparison.{version_cmp};
+ghost use Rattle.std.specs.Prelude.{◌≡◌, ◌↔◌, IfSome, IsNone, IsTrue};
+ghost use Rattle.std.specs.declared.cmp.Ordering.TheVariants.{Less};
 ghost use Rattle.node_semver.specs.Greatest.{AdmitsNoneIn, IsGreatestAdmitted, IsLeastAdmittedIn};
-ghost use Rattle.node_semver.specs.Private.GreatestViews.{IsBetterOf, downward};
+ghost use Rattle.node_semver.specs.Private.GreatestViews.{IsBestOrNone, IsBetterOf, order_of};
 
 use crate::{Range, Version};
 
@@ -28,11 +28,7 @@ pub fn max_satisfying<'a>(versions: &'a [Version], range: &Range) -> Option<&'a 
     ensures greatest { IfSome result (λ v. IsGreatestAdmitted range.now versions.now v.now) }
     ensures none { IsNone result ↔ AdmitsNoneIn range.now versions.now }
 {
-    let mut best = None;
-    'versions: for version in versions {
-        best = greater(best, version, range);
-    }
-    best
+    best_of(versions, range, true)
 }
 
 /// Returns the least version of the list that satisfies the range, or `None` if none does. Of equal versions it returns
@@ -56,49 +52,53 @@ pub fn min_satisfying<'a>(versions: &'a [Version], range: &Range) -> Option<&'a 
     ensures least { IfSome result (λ v. IsLeastAdmittedIn range.now versions.now v.now) }
     ensures none { IsNone result ↔ AdmitsNoneIn range.now versions.now }
 {
+    best_of(versions, range, false)
+}
+
+// Returns the greatest version of those that satisfy the range, or the least if `upward` is false. `inline(always)`: the
+// order is then chosen once, and not at each version.
+#[inline(always)]
+fn best_of<'a>(versions: &'a [Version], range: &Range, upward: bool) -> Option<&'a Version>
+    ensures { IsBestOrNone (order_of upward) range.now versions.now (option_map (λ v. v.now) result) }
+{
     let mut best = None;
     'versions: for version in versions {
-        best = lesser(best, version, range);
+        best = better(best, version, range, upward);
     }
     best
 }
 
-// The version if it is greater than the best so far and satisfies the range, else the best so far. The order is
-// compared first, which is less work. `inline(always)`: the body of the loop over the list.
+// The version if it is better than the best so far and satisfies the range, else the best so far. The order is compared
+// first, which is less work. `inline(always)`: the body of the loop over the list.
 #[inline(always)]
-fn greater<'a>(
+fn better<'a>(
     best: Option<&'a Version>,
     version: &'a Version,
     range: &Range,
+    upward: bool,
 ) -> Option<&'a Version>
-    ensures { IsBetterOf version_cmp range.now (option_map (λ v. v.now) best.entry) version.now
+    ensures { IsBetterOf (order_of upward) range.now (option_map (λ v. v.now) best.entry) version.now
         (option_map (λ v. v.now) result) }
 {
-    let is_above = match best {
-        Some(best) => best.cmp(version).is_lt(),
+    let is_best = match best {
+        Some(best) => is_better(version, best, upward),
         None => true,
     };
-    if is_above && range.satisfies(version) {
+    if is_best && range.satisfies(version) {
         Some(version)
     } else {
         best
     }
 }
 
-// The version if it is less than the best so far and satisfies the range, else the best so far. `inline(always)`: as
-// above.
+// Returns whether the version is greater than the best so far, or less if `upward` is false.
 #[inline(always)]
-fn lesser<'a>(best: Option<&'a Version>, version: &'a Version, range: &Range) -> Option<&'a Version>
-    ensures { IsBetterOf downward range.now (option_map (λ v. v.now) best.entry) version.now
-        (option_map (λ v. v.now) result) }
+fn is_better(version: &Version, best: &Version, upward: bool) -> bool
+    ensures { IsTrue result ↔ (order_of upward best.now version.now ≡ Less) }
 {
-    let is_below = match best {
-        Some(best) => version.cmp(best).is_lt(),
-        None => true,
-    };
-    if is_below && range.satisfies(version) {
-        Some(version)
+    if upward {
+        best.cmp(version).is_lt()
     } else {
-        best
+        version.cmp(best).is_lt()
     }
 }

@@ -1,6 +1,8 @@
 //! The sets of a range, as spans of versions.
-ghost use Rattle.std.specs.Prelude.{◌≡◌, ◌↔◌, ◌≤◌, ◌+◌, IfOk, IfSome, IsNone, IsSome, IsTrue};
-ghost use Rattle.std.specs.List.{AllByRecursion};
+//!
+//! See docs/DECISIONS.md, "A range is made only of sets that a text could write".
+ghost use Rattle.std.specs.Prelude.{◌≡◌, ◌↔◌, ◌≤◌, ◌+◌, length, IfOk, IfSome, IsNone, IsSome, IsTrue};
+ghost use Rattle.std.specs.List.{AllByRecursion, slice_get};
 ghost use Rattle.semver_sets.specs.RangeSets.{IsRangeSet, IsRangeValue, IsReadCut, IsReadIdentifier, IsReadVersion};
 ghost use Rattle.semver_sets.specs.declared.TheConstants.{MAX_SAFE_INTEGER};
 
@@ -39,6 +41,43 @@ impl Range {
             spans.push(span_of(alloc, set)?)?;
         }
         Ok(spans)
+    }
+
+    /// Returns the number of sets, which is at least 1.
+    ///
+    /// # Memory
+    ///
+    /// Does not allocate.
+    ///
+    /// # Examples
+    ///
+    /// `^1.2.3` has one set, and `1 || 1` has two.
+    pub fn set_count(&self) -> usize
+        ensures { result ≡ length self.now }
+    {
+        self.sets.as_slice().len()
+    }
+
+    /// Returns the set at a place, counted from 0, or `None` past the last set. [`Range::sets`] returns all of them.
+    ///
+    /// # Errors
+    ///
+    /// Fails with `AllocError` if an allocation fails.
+    ///
+    /// # Memory
+    ///
+    /// Allocates the identifiers of the two ends. An end without prerelease and build allocates nothing.
+    ///
+    /// # Examples
+    ///
+    /// The set of `^1.2.3 || >4.0.0` at place 1 is the span from `After(4.0.0)` to `End`. At place 2 there is none.
+    pub fn set(&self, alloc: Global, place: usize) -> Result<Option<Span<Version>>, AllocError>
+        ensures { IfOk result (λ set. set ≡ slice_get self.now place) }
+    {
+        match self.sets.as_slice().get(place) {
+            Some(set) => Ok(Some(span_of(alloc, set)?)),
+            None => Ok(None),
+        }
     }
 
     /// Returns the range of these sets in their order, or `None` if the list is empty or a set has an end that no range

@@ -1,4 +1,6 @@
 //! Versions as what sets are searched for. `#[inline(always)]`: each function is one load or test in the search.
+//!
+//! See docs/DECISIONS.md, "Candidates are searched like versions".
 use crate::Version;
 use semver_sets::end::End;
 use semver_sets::set::Asked;

@@ -1,4 +1,6 @@
 //! The order of versions.
+//!
+//! See docs/DECISIONS.md, "The order of versions is defined twice".
 
 ghost use Rattle.std.specs.Prelude.{◌≡◌, ◌↔◌, Some, IfSome, IsTrue, refl};
 ghost use Rattle.std.specs.Cmp.{eq_by_cmp_equiv, partial_equiv_from_equiv, po};
@@ -46,7 +48,7 @@ impl Eq for Version {
     ghost laws = { eq_by_cmp_equiv version_total };
 }
 
-/// Returns `Some` of what `cmp` returns: any two versions can be compared.
+/// Returns the result of `cmp` in `Some`: any two versions can be compared.
 impl PartialOrd for Version {
     ghost partial_cmp = { λ v w. Some (version_cmp v w) };
 

@@ -71,8 +71,9 @@ impl Version {
     }
 }
 
-// The numbers of `1.2.3` if that is the whole text, and no longer than a version can be. Otherwise what was read of it:
-// three numbers and the rest, or nothing. `inline(always)`: the fast path of `Version::parse`.
+// Returns the numbers of `1.2.3` if that is the whole text and it is no longer than a version can be. Otherwise returns
+// the part that was read, which is three numbers and the rest, or nothing. `inline(always)`: the fast path of
+// `Version::parse`.
 #[inline(always)]
 fn whole_triple(text: &[u8]) -> Result<(u64, u64, u64), Option<((u64, u64, u64), &[u8])>>
     ensures whole { IfOk result (λ t. IsVersionText text.now (release t.0 t.1 t.2)) }

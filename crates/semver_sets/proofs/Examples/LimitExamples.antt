@@ -72,7 +72,7 @@ patch-reached v is = (
   is.patch,
 )
 
--- one more is no number of a range text: the word is thrown away
+-- one more is no number of a range text: the word is ignored
 pub major-beyond : AreSetsOfText (codes "^" ++ decimal (MAX_SAFE_INTEGER + 1)) []
 unfolding sets_in digits
 major-beyond = merged-by _ _ refl

@@ -16,7 +16,7 @@ release-text : version_text (release 0 0 18446744073709551615) ≡ codes "0.0.18
 unfolding digits
 release-text = refl
 
--- identifiers that no text gives print as they stand
+-- identifiers that no text gives print as they are
 odd-text : version_text (record (release 1 0 0) { pre_release = alphanumeric [] ∷ alphanumeric (codes "1") ∷ [] })
     ≡ codes "1.0.0-.1"
 unfolding digits

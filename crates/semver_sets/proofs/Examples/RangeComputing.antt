@@ -73,7 +73,7 @@ both_read None others = None
 both_read (Some first) None = None
 both_read (Some first) (Some others) = Some (first ∷ others)
 
--- the alternatives of what is left, each without the blanks with which it begins; nothing if there are n or more
+-- the alternatives of the remaining text, each without the blanks with which it begins; nothing if there are n or more
 unfoldable pub read_left : ℕ → Option (List ℕ) → Option (List (List Comparator))
 unfolding piece_at comparators_in
 read_left zero left = None
@@ -140,7 +140,7 @@ all-written (row ∷ rows) computed =
     let both = first-same (alternatives_in row.0) (Some (row.1 ∷ [])) _ _ computed in
     (written-by row.0 (row.1 ∷ []) both.0, all-written rows both.1)
 
--- ---- what they have in common
+-- ---- their common cuts
 
 -- the cut lies in the comparator
 abbrev pub Holds : Cut VersionValue → Comparator → Type 0

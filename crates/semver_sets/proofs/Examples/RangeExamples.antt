@@ -22,7 +22,7 @@ two_ends = refl
 pub two_ends-admits : TextAdmits (codes ">=1.2.3 <2.0.0") (release 1 9 0)
 two_ends-admits = admits-by _ _ _ (written-by _ _ two_ends) refl
 
--- `>=1.2.3 <2.0.0` turns away 2.0.0
+-- `>=1.2.3 <2.0.0` does not admit 2.0.0
 pub two_ends-turns_away : ¬ TextAdmits (codes ">=1.2.3 <2.0.0") (release 2 0 0)
 two_ends-turns_away = turns_away-by _ _ _ (written-by _ _ two_ends) refl
 
@@ -38,7 +38,7 @@ pub opened-admits : TextAdmits (codes ">=1.2.3-rc.4 <2.0.0")
     (prerelease 1 2 3 (alphanumeric (codes "rc") ∷ numeric 5 ∷ []))
 opened-admits = admits-by _ _ _ (written-by _ _ opened) refl
 
--- `>=1.2.3-rc.4 <2.0.0` turns away 1.2.4-rc.6, whose triple no end opens
+-- `>=1.2.3-rc.4 <2.0.0` does not admit 1.2.4-rc.6, whose triple no end opens
 pub opened-turns_away : ¬ TextAdmits (codes ">=1.2.3-rc.4 <2.0.0")
     (prerelease 1 2 4 (alphanumeric (codes "rc") ∷ numeric 6 ∷ []))
 opened-turns_away = turns_away-by _ _ _ (written-by _ _ opened) refl
@@ -54,7 +54,7 @@ two_lower = refl
 pub two_lower-admits : TextAdmits (codes ">=1.2.3-a >=1.2.3-b") (prerelease 1 2 3 (alphanumeric (codes "c") ∷ []))
 two_lower-admits = admits-by _ _ _ (written-by _ _ two_lower) refl
 
--- `>=1.2.3-a >=1.2.3-b` turns away 1.2.3-a
+-- `>=1.2.3-a >=1.2.3-b` does not admit 1.2.3-a
 pub two_lower-turns_away : ¬ TextAdmits (codes ">=1.2.3-a >=1.2.3-b") (prerelease 1 2 3 (alphanumeric (codes "a") ∷ []))
 two_lower-turns_away = turns_away-by _ _ _ (written-by _ _ two_lower) refl
 
@@ -72,11 +72,11 @@ upper-admits = admits-by _ _ _ (written-by _ _ upper) refl
 pub upper-admits_2 : TextAdmits (codes "<1.0.1-beta") (release 1 0 0)
 upper-admits_2 = admits-by _ _ _ (written-by _ _ upper) refl
 
--- `<1.0.1-beta` turns away 1.0.0-a
+-- `<1.0.1-beta` does not admit 1.0.0-a
 pub upper-turns_away : ¬ TextAdmits (codes "<1.0.1-beta") (prerelease 1 0 0 (alphanumeric (codes "a") ∷ []))
 upper-turns_away = turns_away-by _ _ _ (written-by _ _ upper) refl
 
--- `<1.0.1-beta` turns away 1.0.1
+-- `<1.0.1-beta` does not admit 1.0.1
 pub upper-turns_away_2 : ¬ TextAdmits (codes "<1.0.1-beta") (release 1 0 1)
 upper-turns_away_2 = turns_away-by _ _ _ (written-by _ _ upper) refl
 
@@ -89,7 +89,7 @@ builds = refl
 pub builds-admits : TextAdmits (codes "=1.2.3+a") (record (release 1 2 3) { build = alphanumeric (codes "b") ∷ [] })
 builds-admits = admits-by _ _ _ (written-by _ _ builds) refl
 
--- `=1.2.3+a` turns away 1.2.4
+-- `=1.2.3+a` does not admit 1.2.4
 pub builds-turns_away : ¬ TextAdmits (codes "=1.2.3+a") (release 1 2 4)
 builds-turns_away = turns_away-by _ _ _ (written-by _ _ builds) refl
 
@@ -102,7 +102,7 @@ blanks = refl
 pub blanks-admits : TextAdmits (codes "foo >= v 1.0.0") (release 1 0 0)
 blanks-admits = admits-by _ _ _ (written-by _ _ blanks) refl
 
--- `foo >= v 1.0.0` turns away 0.9.9
+-- `foo >= v 1.0.0` does not admit 0.9.9
 pub blanks-turns_away : ¬ TextAdmits (codes "foo >= v 1.0.0") (release 0 9 9)
 blanks-turns_away = turns_away-by _ _ _ (written-by _ _ blanks) refl
 
@@ -115,7 +115,7 @@ tab = refl
 pub tab-admits : TextAdmits (codes "<" ++ 9 ∷ codes "2.0.0") (release 1 9 9)
 tab-admits = admits-by _ _ _ (written-by _ _ tab) refl
 
--- `<`, a tab, `2.0.0` turns away 2.0.0
+-- `<`, a tab, `2.0.0` does not admit 2.0.0
 pub tab-turns_away : ¬ TextAdmits (codes "<" ++ 9 ∷ codes "2.0.0") (release 2 0 0)
 tab-turns_away = turns_away-by _ _ _ (written-by _ _ tab) refl
 
@@ -167,7 +167,7 @@ pub no_version-accepted : ¬ IsRefused (codes ">1.0.0-a <1.0.0-a.0")
 no_version-accepted =
     accepted-by _ _ (After (prerelease 1 0 0 (alphanumeric (codes "a") ∷ []))) (written-by _ _ no_version) refl
 
--- and turns away 1.0.0-a.0
+-- and does not admit 1.0.0-a.0
 pub no_version-turns_away : ¬ TextAdmits (codes ">1.0.0-a <1.0.0-a.0")
     (prerelease 1 0 0 (alphanumeric (codes "a") ∷ numeric 0 ∷ []))
 no_version-turns_away = turns_away-by _ _ _ (written-by _ _ no_version) refl
@@ -191,7 +191,7 @@ three-admits = admits-by _ _ _ (written-by _ _ three) refl
 pub three-admits_2 : TextAdmits (codes "1 || foo || 2") (release 2 5 0)
 three-admits_2 = admits-by _ _ _ (written-by _ _ three) refl
 
--- `1 || foo || 2` turns away 3.0.0: `foo` asks for nothing
+-- `1 || foo || 2` does not admit 3.0.0: `foo` has no comparator
 pub three-turns_away : ¬ TextAdmits (codes "1 || foo || 2") (release 3 0 0)
 three-turns_away = turns_away-by _ _ _ (written-by _ _ three) refl
 
@@ -204,12 +204,12 @@ twice = refl
 pub twice-admits : TextAdmits (codes "1||1") (release 1 0 0)
 twice-admits = admits-by _ _ _ (written-by _ _ twice) refl
 
--- `1 || - 10`: without the blank before it, ` - 10` is `-`, which is thrown away, and `10`
+-- `1 || - 10`: without the blank before it, ` - 10` is `-`, which is ignored, and `10`
 later_hyphen : alternatives_in (codes "1 || - 10") ≡ Some ((with_major 1 ∷ []) ∷ (with_major 10 ∷ []) ∷ [])
 unfolding alternatives_in
 later_hyphen = refl
 
--- `1 || - 10` turns away 5.0.0
+-- `1 || - 10` does not admit 5.0.0
 pub later_hyphen-turns_away : ¬ TextAdmits (codes "1 || - 10") (release 5 0 0)
 later_hyphen-turns_away = turns_away-by _ _ _ (written-by _ _ later_hyphen) refl
 
@@ -240,7 +240,7 @@ three_bars = refl
 pub three_bars-refused : IsRefused (codes "|||")
 three_bars-refused = refused-by _ _ (written-by _ _ three_bars) refl
 
--- `1|||2`: `1`, and `|2`, which is thrown away
+-- `1|||2`: `1`, and `|2`, which is ignored
 odd_bars : alternatives_in (codes "1|||2") ≡ Some ((with_major 1 ∷ []) ∷ [] ∷ [])
 unfolding alternatives_in
 odd_bars = refl
@@ -249,11 +249,11 @@ odd_bars = refl
 pub odd_bars-admits : TextAdmits (codes "1|||2") (release 1 0 0)
 odd_bars-admits = admits-by _ _ _ (written-by _ _ odd_bars) refl
 
--- `1|||2` turns away 2.0.0
+-- `1|||2` does not admit 2.0.0
 pub odd_bars-turns_away : ¬ TextAdmits (codes "1|||2") (release 2 0 0)
 odd_bars-turns_away = turns_away-by _ _ _ (written-by _ _ odd_bars) refl
 
--- `1| |2`: one alternative of two words that are thrown away
+-- `1| |2`: one alternative of two words that are ignored
 bar_blank_bar : alternatives_in (codes "1| |2") ≡ Some ([] ∷ [])
 unfolding alternatives_in
 bar_blank_bar = refl
@@ -278,7 +278,7 @@ caret_or_more-admits = admits-by _ _ _ (written-by _ _ caret_or_more) refl
 pub caret_or_more-admits_2 : TextAdmits (codes "^1.2.3-rc.4 || >=3") (release 4 0 0)
 caret_or_more-admits_2 = admits-by _ _ _ (written-by _ _ caret_or_more) refl
 
--- `^1.2.3-rc.4 || >=3` turns away 2.5.0, which lies between them
+-- `^1.2.3-rc.4 || >=3` does not admit 2.5.0, which lies between them
 pub caret_or_more-turns_away : ¬ TextAdmits (codes "^1.2.3-rc.4 || >=3") (release 2 5 0)
 caret_or_more-turns_away = turns_away-by _ _ _ (written-by _ _ caret_or_more) refl
 
@@ -288,7 +288,7 @@ one_opens : alternatives_in (codes "1.2.3-a || >=1")
 unfolding alternatives_in
 one_opens = refl
 
--- `1.2.3-a || >=1` turns away 1.2.3-b: the alternative that opens 1.2.3 is not the one that it lies inside
+-- `1.2.3-a || >=1` does not admit 1.2.3-b: the alternative that opens 1.2.3 is not the one that it lies inside
 pub one_opens-turns_away : ¬ TextAdmits (codes "1.2.3-a || >=1") (prerelease 1 2 3 (alphanumeric (codes "b") ∷ []))
 one_opens-turns_away = turns_away-by _ _ _ (written-by _ _ one_opens) refl
 
@@ -302,6 +302,6 @@ crossed_or_one = refl
 pub crossed_or_one-accepted : ¬ IsRefused (codes ">4 <3 || 1")
 crossed_or_one-accepted = accepted-by _ _ (Before (release 1 0 0)) (written-by _ _ crossed_or_one) refl
 
--- `>4 <3 || 1` turns away 5.0.0
+-- `>4 <3 || 1` does not admit 5.0.0
 pub crossed_or_one-turns_away : ¬ TextAdmits (codes ">4 <3 || 1") (release 5 0 0)
 crossed_or_one-turns_away = turns_away-by _ _ _ (written-by _ _ crossed_or_one) refl

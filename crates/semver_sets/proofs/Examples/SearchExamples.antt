@@ -34,7 +34,7 @@ release-bound text sets spans digits read joined fits = record {
       let bound = search.release release digits fits in omega arith;
 }
 
--- three spans, as they stand
+-- three spans, as they are
 apart : IsReleaseBound (codes "1 || 3 || 5") 3 3
 unfolding sets_in
 apart = release-bound _ (with_major 1 ∷ with_major 3 ∷ with_major 5 ∷ []) 3 2 refl refl (omega arith)
@@ -95,7 +95,7 @@ unopened : IsPrereleaseBound (codes "1 || 3 || 5") (candidate 5) 0
 unfolding sets_in
 unopened = prerelease-bound _ (candidate 5) (with_major 1 ∷ with_major 3 ∷ with_major 5 ∷ []) 0 refl refl
 
--- ---- what is no search: a count that falls, and one that stays though the version is admitted
+-- ---- counts of no search: one that falls, and one that stays though the version is admitted
 
 fallen : (sets : Sets) (v : VersionValue) → ¬ IsShortSearch sets v 3 0
 fallen sets v search = let adds = search.adds in absurd (omega (arith, adds))

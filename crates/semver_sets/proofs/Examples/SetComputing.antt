@@ -24,14 +24,14 @@ use Rattle.semver_sets.proofs.Examples.RangeComputing.{lies_in, none-by, written
 abbrev EndOf : Type 0
 EndOf = Comparator → Cut VersionValue
 
--- a test of two cuts, and what it says
+-- a test of two cuts, and its meaning
 abbrev CutTest : Type 0
 CutTest = Cut VersionValue → Cut VersionValue → Bool
 
 abbrev SaysOfCuts : CutTest → (Cut VersionValue → Cut VersionValue → Type 0) → Type 0
 SaysOfCuts test Says = (c d : Cut VersionValue) → (test c d ≡ true) ↔ Says c d
 
--- whether the ends before it and those after it stand to it as the two tests want
+-- whether the ends before it pass the first test, and those after it the second
 abbrev is_chosen : EndOf → CutTest → CutTest → List Comparator → Cut VersionValue → List Comparator → Bool
 is_chosen end earlier later before chosen after =
     list_all (λ (other : Comparator). earlier (end other) chosen) before &&
@@ -195,7 +195,7 @@ merged-by text sets read = some-sets-by text (alternatives_in text) sets refl re
 
 -- ---- tables
 
--- a text, the sets that it writes, and what they print as
+-- a text, the sets that it writes, and their print
 abbrev pub Row : Type 0
 Row = List ℕ × List (Ends VersionValue) × List ℕ
 

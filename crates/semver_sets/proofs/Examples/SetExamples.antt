@@ -1,4 +1,4 @@
--- Worked examples: the sets that texts write, and what these print as. Each is computed over the definitions.
+-- Worked examples: the sets that texts write, and their prints. Each is computed over the definitions.
 use Rattle.std.proofs.Common.{◌≡◌, ℕ, List, [], ◌∷◌, true, false, codes, refl}
 use Rattle.std.specs.Fmt.{digits}
 use Rattle.semver_cuts.specs.declared.cut.Cut.TheVariants.{Before, After}

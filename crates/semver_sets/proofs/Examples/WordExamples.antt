@@ -159,7 +159,7 @@ hyphen_ranges-computed = refl
 pub hyphen_ranges-written : AreWritten hyphen_ranges
 hyphen_ranges-written = all-written hyphen_ranges hyphen_ranges-computed
 
--- ---- words that are thrown away, or stand for nothing: npm's "Range Grammar" in its loose form
+-- ---- words that are ignored, or have no comparator: npm's "Range Grammar" in its loose form
 
 abbrev thrown_away : List (List ℕ × List Comparator)
 thrown_away =

@@ -15,7 +15,7 @@ use Rattle.semver_sets.proofs.Texts.Prefixes.{prefix_of-all, prefix_of-rest_of, 
 
 -- ---- a piece after the first
 
--- what is read after its blanks
+-- the alternative that is read after the blanks
 pub later-from : (piece : List ℕ) (a : List Comparator) → IsAlternative (rest_of is_blank piece) a
     → IsLaterAlternative piece a
 later-from piece a alternative = record {
@@ -56,7 +56,7 @@ laters-unique (piece ∷ pieces) (a ∷ one) (b ∷ other) x y =
     let others : one ≡ other = laters-unique pieces one other x.1 y.1 in
     ap (λ (c : List Comparator). c ∷ one) first ∙ ap (λ (l : List (List Comparator)). b ∷ l) others
 
--- ---- what is written is one list of alternatives
+-- ---- a text writes one list of alternatives
 
 exists-in : (text : List ℕ) (pieces : List (List ℕ)) → IsPieces text pieces
     → (alternatives : List (List Comparator)) × IsWritten text alternatives
@@ -99,7 +99,7 @@ AreLeft (Some rest) alternatives = (pieces : List (List ℕ)) × IsPieces rest p
 pub record Reads (text : List ℕ) (done : List (List Comparator)) (left : Option (List ℕ)) : Type 0 where
   pub whole : (later : List (List Comparator)) → AreLeft left later → IsWritten text (done ++ later)
 
--- the first piece is read, as it stands
+-- the first piece is read with its blanks
 pub reads-start : (text piece : List ℕ) (left : Option (List ℕ)) (a : List Comparator) → piece_at text ≡ (piece, left)
     → IsAlternative piece a → Reads text (a ∷ []) left
 reads-start text piece None a read alternative = record {
@@ -117,7 +117,7 @@ reads-start text piece (Some rest) a read alternative = record {
   };
 }
 
--- what is left, with a piece before it
+-- the remaining text, with a piece before it
 pub left-more : (rest piece : List ℕ) (left : Option (List ℕ)) (a : List Comparator) (later : List (List Comparator))
     → piece_at rest ≡ (piece, left) → IsAlternative (rest_of is_blank piece) a
     → AreLeft left later → AreLeft (Some rest) (a ∷ later)

@@ -17,7 +17,7 @@ use Rattle.semver_sets.proofs.Ranges.MeaningLemmas.{refused-from_none, none-from
 use Rattle.semver_sets.proofs.Sets.Merging.{merged-gives, one-set}
 use Rattle.semver_sets.proofs.Examples.RangeComputing.{admits-by, some_admits, turns_away-by}
 
--- it is so, or it isn't
+-- a statement or its negation holds
 abbrev pub Decided : Type 0 → Type 0
 Decided P = P ⊎ (¬ P)
 

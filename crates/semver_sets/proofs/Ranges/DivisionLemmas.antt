@@ -173,7 +173,7 @@ same-first text other same (w ∷ x ∷ words) d =
     divide-more text w more.behind more.b (x ∷ words) (has-word text w (more.b ∷ more.behind) (same ∙ more.next))
     more.division
 
--- where no hyphen range without a left side stands at the start, all is left, but for leading blanks
+-- if no hyphen range without a left side is at the start, the whole text remains, without its leading blanks
 pub completes-start : (text : List ℕ) → read_right text ≡ None → Completes text [] (rest_of is_blank text)
 unfolding rest_of
 completes-start [] none = completes-nothing []

@@ -65,7 +65,7 @@ first-begins text piece [] divided no_blank = subst (λ (l : List ℕ). BeginsWi
 first-begins text piece (next ∷ pieces) divided no_blank =
     begins piece (bar ∷ bar ∷ divided.0) text divided.1.whole no_blank
 
--- the first piece of such a text is read alike where it comes later
+-- the first piece of such a text is read in the same way if it comes later
 all-later : (text : List ℕ) (pieces : List (List ℕ)) (alternatives : List (List Comparator)) → IsPieces text pieces
     → BeginsWithNo is_blank text → AreAlternatives pieces alternatives → AreLaterAlternatives pieces alternatives
 all-later text [] alternatives divided no_blank read = absurd read

@@ -24,7 +24,7 @@ bars-cases (b ∷ c ∷ rest) = elim (cases_Bool ((b == bar) && (c == bar))) [
   | inr none ↦ inl (rw none refl)
 ]
 
--- where it does, it is two bars and what follows
+-- if it does, it is two bars and the rest
 bars-are : (text after : List ℕ) → bars_after text ≡ Some after → text ≡ bar ∷ bar ∷ after
 bars-are [] after h = cc h
 bars-are (b ∷ []) after h = cc h
@@ -128,7 +128,7 @@ read-step b rest p none read = record {
       (read.ends_in_none left same) end.1;
 }
 
--- what is read is such a piece
+-- the piece that is read is such a piece
 is-read : (text : List ℕ) → IsRead text (piece_at text)
 is-read [] = subst (IsRead []) (sym piece-of_nothing) read-nothing
 is-read (b ∷ rest) = elim (bars-cases (b ∷ rest)) [
@@ -183,7 +183,7 @@ pieces-below (suc n) text h =
 pub pieces-exist : (text : List ℕ) → (pieces : List (List ℕ)) × IsPieces text pieces
 pieces-exist text = pieces-below (suc (length text)) text (omega arith)
 
--- `||` does not stand at the start of a piece with a bar after it
+-- a piece with a bar after it does not begin with `||`
 no-bars-before : (b : ℕ) (piece others after : List ℕ) → ¬ HasBars (b ∷ piece) → ¬ EndsInBar (b ∷ piece)
     → b ∷ (piece ++ (bar ∷ others)) ≡ bar ∷ bar ∷ after → ⊥
 no-bars-before b [] others after free ends e =
@@ -194,7 +194,7 @@ no-bars-before b (c ∷ piece) others after free ends e =
     let second : c ≡ bar = cc e in
     free ([], piece, cc (first, second))
 
--- what stands in a text, or at its end, stands there with a character before it
+-- `||` in a text, or a bar at its end, is still there with a character before it
 more-bars : (b : ℕ) (text : List ℕ) → HasBars text → HasBars (b ∷ text)
 more-bars b text bars = (b ∷ bars.0, bars.1, ap (λ (l : List ℕ). b ∷ l) bars.2)
 
@@ -254,7 +254,7 @@ pieces-unique text (p ∷ n ∷ one) (q ∷ m ∷ other) d e =
 
 -- ---- the first piece, from place to place
 
--- A loop has gone over the first i characters, and no `||` stands at one of them.
+-- A loop has passed the first i characters, and `||` begins at none of them.
 abbrev pub Passed : List ℕ → ℕ → Type 0
 Passed text i = piece_at text ≡ behind (take i text) (piece_at (drop i text))
 
@@ -272,7 +272,7 @@ seen-step text i None h none seen passed =
     ∙ ap (λ (l : List ℕ). (l, (piece_at more).1)) (sym (append_assoc (take i text) (b ∷ []) (piece_at more).0))
     ∙ ap (λ (l : List ℕ). (l ++ (piece_at more).0, (piece_at more).1)) (sym (take-more text i h))
 
--- where `||` stands, the piece ends
+-- the piece ends where `||` begins
 pub seen-stop : (text : List ℕ) (i : ℕ) (after : Option (Bor (List ℕ))) → i < length text → is_some after ≡ true
     → some_seen after ≡ bars_after (drop i text) → Passed text i → (take i text, some_seen after) ≡ piece_at text
 seen-stop text i None h some seen passed = cc some
@@ -318,7 +318,7 @@ free-from text hay i n same none k low high =
       | inr other ↦ other
     ]
 
--- up to the first bar of what is left
+-- up to the first bar of the remaining text
 pub pass-to_bar : (text hay : List ℕ) (i n : ℕ) → hay ≡ drop i text → i + n ≤ length text
     → Nowhere (Passes (is_byte bar) hay) 0 n → Passed text i → Passed text (i + n)
 pass-to_bar text hay i n same h none passed = pass-free text i n h (free-from text hay i n same none) passed

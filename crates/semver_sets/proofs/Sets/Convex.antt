@@ -49,7 +49,7 @@ triple-between u v w h k t =
     let a = patch≤ u v h major' minor' in let b = patch≤ v w k major minor in let e = t.patch in omega arith in
     record { major = major; minor = minor; patch = patch }
 
--- of one triple, what is at most a prerelease is one
+-- a version of a prerelease's triple that is at most the prerelease is a prerelease too
 pub prerelease-below : (v w : VersionValue) → IsBelow v w ⊎ IsSame v w → HasSameTriple v w → IsPrerelease w
     → IsPrerelease v
 prerelease-below v w (inl (by_major h)) t p = let e = t.major in absurd (omega arith)
@@ -68,7 +68,7 @@ pub from-cmp : (v w : VersionValue) → (version_cmp v w ≡ Less) ⊎ (version_
 from-cmp v w (inl e) = inl (Less-version v w e)
 from-cmp v w (inr e) = inr (Equal-version v w e)
 
--- what is first by its value, whichever its side, has a value at most the other's
+-- a cut that is first by its value, whatever its side, has a value at most the other's
 pub by-value : (r s : Ordering) → (ordering_then r s ≡ Less) ⊎ (ordering_then r s ≡ Equal) → (r ≡ Less) ⊎ (r ≡ Equal)
 by-value Less s h = inl refl
 by-value Equal s h = inr refl
@@ -93,7 +93,7 @@ module _ (v : VersionValue) (p q : VersionValue) where
         record { major = t.major ∙ same.major; minor = t.minor ∙ same.minor; patch = t.patch ∙ same.patch },
       )
 
--- what is less or equal is no greater
+-- less or equal is not greater
 never-greater : {X : Type 0} → (Greater ≡ Less) ⊎ (Greater ≡ Equal) → X
 never-greater (inl e) = cc e
 never-greater (inr e) = cc e

@@ -1,4 +1,4 @@
--- Whether merged comparators have a cut in common, told by their ends.
+-- Whether merged comparators have a common cut is a test of their ends.
 use Rattle.std.proofs.Common.{◌≡◌, ◌∙◌, Bool, false, true, IsTrue, Option, Less, Equal, Greater, refl, subst, sym}
 use Rattle.std.specs.Ordering.{is_lt}
 use Rattle.std.specs.declared.cmp.Ordering.{Ordering}

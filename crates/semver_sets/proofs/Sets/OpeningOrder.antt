@@ -1,4 +1,4 @@
--- Openings in the order of their triples: those of one triple stand together.
+-- Openings in the order of their triples: those of one triple are together.
 use Rattle.std.proofs.Common.{◌≡◌, ℕ, zero, suc, ◌≤◌, ◌&&◌, Bool, true, false, List, [], ◌∷◌, ◌++◌, length, take, drop}
 use Rattle.std.proofs.Common.{get_or, arith, sym, ap, ◌∙◌, refl}
 use Rattle.std.specs.Prelude.{filter, not}

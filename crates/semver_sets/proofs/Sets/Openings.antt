@@ -1,4 +1,4 @@
--- Which sets open which triples, as it is kept, and what that says of a prerelease.
+-- The stored list of which sets open which triples, and what follows for a prerelease.
 use Rattle.std.proofs.Common.{◌≡◌, ◌≢◌, ◌↔◌, ◌⊎◌, ℕ, zero, suc, ◌+◌, ◌*◌, ◌^◌, ◌<◌, ◌≤◌, ◌==◌, ◌&&◌, ◌||◌, Bool, true}
 use Rattle.std.proofs.Common.{false, List, [], ◌∷◌, ◌++◌, get_or, length, map, take, Option, Some, None, if◌then◌else◌}
 use Rattle.std.proofs.Common.{IsTrue, arith, sym, ap, subst, ◌∙◌, refl, inl, inr}

@@ -18,7 +18,7 @@ use Rattle.semver_cuts.specs.Lemmas.Merging.{all_both, all_map, all_middle, all_
 
 -- ---- steps
 
--- what is left of as many steps as a number has digits, where a halved distance has not more digits than are left
+-- the remaining steps, of as many as a number has digits: a halved distance has no more digits than steps remain
 pub record IsLeft (before after digits distance : ℕ) : Type 0 where
   pub rest : ℕ
   pub sum : after + rest ≡ before + digits

@@ -36,7 +36,7 @@ more-none (c ∷ done) (s ∷ sets) a (one_more _ _ _ _ g i more) nothing =
 more-none (c ∷ done) sets a (no_more _ _ _ n more) nothing =
     no_more c (done ++ a ∷ []) sets n (more-none done sets a more nothing)
 
--- an alternative that is read, and what is made of it
+-- an alternative that is read, and the set that it gives
 pub record ReadsMore (text : List ℕ) (done : List (List Comparator)) (more : List (Ends VersionValue)) : Type 0 where
   pub comparators : List Comparator
   pub alternative : IsAlternative text comparators

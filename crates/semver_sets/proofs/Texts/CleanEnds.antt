@@ -19,7 +19,7 @@ pub true-clean : (rest : List ℕ) → IsCleanEnd rest → is_clean rest ≡ tru
 true-clean [] h = refl
 true-clean (b ∷ rest) h = h
 
--- no dot stands at a clean end
+-- a clean end begins with no dot
 pub clean-no_dot : (rest : List ℕ) → IsCleanEnd rest → BeginsWithNo (λ b. b == dot) rest
 clean-no_dot [] h = tt
 clean-no_dot (b ∷ rest) h = blank-cases (λ (c : ℕ). (c == dot) ≡ false) b h refl refl
@@ -29,7 +29,7 @@ pub blanks-clean : (blanks rest : List ℕ) → BeginsWith is_blank blanks → I
 blanks-clean [] rest h = absurd h
 blanks-clean (b ∷ blanks) rest h = h
 
--- what is read up to a clean end ends at one
+-- a reader up to a clean end leaves a rest with a clean end
 pub up_to_clean-takes : (read : ReadPartial) (r : Partial × List ℕ) → up_to_clean read ≡ Some r
     → (read ≡ Some r) × IsCleanEnd r.1
 up_to_clean-takes None r h = cc h
@@ -40,6 +40,6 @@ up_to_clean-takes (Some s) r h = elim (cases_Bool (is_clean s.1)) [
       (same, rw (← same_Some s r same) (clean-true s.1 clean))
 ]
 
--- and what ends at one is read up to it
+-- and a text that ends at one is read up to it
 pub up_to_clean-again : (p : Partial) (rest : List ℕ) → IsCleanEnd rest → up_to_clean (Some (p, rest)) ≡ Some (p, rest)
 up_to_clean-again p rest clean = rw (true-clean rest clean) refl

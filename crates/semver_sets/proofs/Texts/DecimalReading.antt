@@ -1,4 +1,4 @@
--- The decimal digits of a number as a text: they write that number, and as an identifier they stand for it.
+-- The decimal digits of a number as a text: they write that number, and as an identifier they have its value.
 use Rattle.std.proofs.Common.{◌≡◌, ◌<◌, ◌^◌, ℕ, Bool, true, List, [], ◌∷◌, length, arith, refl}
 use Rattle.std.proofs.lemmas.Bool.{and_from, and_parts, lt-ltb}
 use Rattle.std.proofs.lemmas.Fmt.{decimal_nonempty, digits_decimal, digits_value-decimal}

@@ -1,4 +1,4 @@
--- Prereleases, builds and extras: what is read is such a text, and such a text is read.
+-- Prereleases, builds and extras: the readers read exactly these texts.
 use Rattle.std.proofs.Common.{◌≡◌, ◌⊎◌, ℕ, true, false, List, [], ◌∷◌, ◌++◌, refl, sym, ap, ◌∙◌, inl, inr, subst}
 use Rattle.std.proofs.Common.{append_assoc}
 use Rattle.std.proofs.lemmas.Bool.{cases_Bool, eqb-true}
@@ -14,7 +14,7 @@ use Rattle.semver_sets.proofs.Texts.IdentifierReading.{is_of_list, list-again, l
 use Rattle.semver_sets.proofs.Texts.IdentifierReading.{pick-false, pick-true, some-values, stops-list}
 use Rattle.semver_sets.proofs.Texts.Characters.{other-no_hyphen}
 
--- what is read in each case
+-- the reader's result in each case
 pub read_list_or-some : (otherwise text : List ℕ) → begins is_identifier_character text ≡ true
     → read_list_or otherwise text ≡ (list_values text, list_rest text)
 read_list_or-some otherwise text h = pick-true _ _ _ h
@@ -23,7 +23,7 @@ pub read_list_or-none : (otherwise text : List ℕ) → begins is_identifier_cha
     → read_list_or otherwise text ≡ ([], otherwise)
 read_list_or-none otherwise text h = pick-false _ _ _ h
 
--- where no identifiers are read, none stand there
+-- if no identifiers are read, the text begins with none
 pub read_list_or-plain : (otherwise text : List ℕ) → (read_list_or otherwise text).0 ≡ []
     → begins is_identifier_character text ≡ false
 read_list_or-plain otherwise text h = elim (cases_Bool (begins is_identifier_character text)) [
@@ -33,7 +33,7 @@ read_list_or-plain otherwise text h = elim (cases_Bool (begins is_identifier_cha
       cc (sym v.2 ∙ ap (λ (p : List IdentifierValue × List ℕ). p.0) (sym (read_list_or-some otherwise text some)) ∙ h)
 ]
 
--- what is read is a prerelease text
+-- the text before the rest is a prerelease text
 pub record TakesPrerelease (text : List ℕ) (identifiers : List IdentifierValue) (rest : List ℕ) : Type 0 where
   pub taken : List ℕ
   pub whole : text ≡ taken ++ rest
@@ -111,7 +111,7 @@ prerelease-takes (b ∷ rest) = elim (cases_Bool (b == hyphen)) [
       ]
 ]
 
--- what is read is a build text
+-- the text before the rest is a build text
 pub record TakesBuild (text : List ℕ) (read : List IdentifierValue × List ℕ) : Type 0 where
   pub taken : List ℕ
   pub whole : text ≡ taken ++ read.1
@@ -145,7 +145,7 @@ build-takes (b ∷ rest) = elim (cases_Bool (b == plus)) [
       ]
 ]
 
--- what is read are extras
+-- the text before the rest is one of extras
 pub record TakesExtras (text : List ℕ) (read : (List IdentifierValue × List IdentifierValue) × List ℕ) : Type 0 where
   pub taken : List ℕ
   pub whole : text ≡ taken ++ read.1
@@ -223,7 +223,7 @@ prerelease-again text rest (i ∷ is) h ends =
     ∙ ap (λ (l : List IdentifierValue). (l, list_rest (h.0 ++ rest))) r.values
     ∙ ap (λ (l : List ℕ). (i ∷ is, l)) r.behind
 
--- extras are read, where nothing of extras stands after them
+-- extras are read, if the rest begins with none
 pub extras-again : (text rest : List ℕ) (prerelease build : List IdentifierValue) → IsExtrasText text prerelease build
     → EndsExtras rest → read_extras (text ++ rest) ≡ ((prerelease, build), rest)
 unfolding read_extras

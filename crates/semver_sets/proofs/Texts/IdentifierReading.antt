@@ -1,4 +1,4 @@
--- Lists of identifiers: what is read is such a text, and such a text is read.
+-- Lists of identifiers: the reader reads exactly these texts.
 use Rattle.std.proofs.Common.{◌≡◌, ◌⊎◌, ℕ, Bool, true, false, List, [], ◌∷◌, ◌++◌, refl, sym, ap, ◌∙◌, inl, inr, subst}
 use Rattle.std.proofs.Common.{append-nil}
 use Rattle.std.proofs.lemmas.Bool.{and_from, and_parts, cases_Bool, eqb-true}
@@ -141,7 +141,7 @@ list-takes text h =
       values = refl;
     }
 
--- a list that goes on is gone over, whatever stands after it
+-- a list that goes on is passed, whatever follows it
 pub list-through : (list rest : List ℕ) → GoOn (parts_of list)
     → (list_prefix (list ++ rest) ≡ list ++ list_prefix rest) × (list_rest (list ++ rest) ≡ list_rest rest)
 unfolding list_prefix list_rest

@@ -1,4 +1,4 @@
--- What stands in a line from a place on, where nothing lies past its end.
+-- The text of a line from a place on, with nothing past its end.
 use Rattle.std.proofs.Common.{◌≡◌, ◌∙◌, ◌≤◌, ℕ, List, ◌++◌, Option, Some, None, IfSome, append-nil, ap, codes, drop}
 use Rattle.std.proofs.Common.{if◌then◌else◌, length, sym, true}
 use Rattle.std.proofs.lemmas.List.{drop_all}

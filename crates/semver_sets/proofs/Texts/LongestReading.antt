@@ -113,7 +113,7 @@ extras-short text =
     build-short (read_prerelease text).1 in
     omega arith
 
--- after a number stands what follows its digits
+-- the rest after a number follows its digits
 number-rest_of : (text : List ℕ) (read : ℕ × List ℕ) → read_number text ≡ Ok read → read.1 ≡ rest_of is_digit text
 unfolding read_number
 number-rest_of text read h = elim (cases_Bool (begins is_digit text)) [
@@ -127,7 +127,7 @@ number-rest_of text read h = elim (cases_Bool (begins is_digit text)) [
   ]
 ]
 
--- after three numbers stands what follows the digits of the third
+-- the rest after three numbers follows the digits of the third
 numbers-rest_of : (major minor patch more : List ℕ) (a b : ℕ) (read : (ℕ × ℕ × ℕ) × List ℕ) → IsNumberText major a
     → IsNumberText minor b → AreAll is_digit patch
     → read_triple (major ++ (dot ∷ (minor ++ (dot ∷ (patch ++ more))))) ≡ Ok read → read.1 ≡ rest_of is_digit more
@@ -170,7 +170,7 @@ unmarked-longest text more rest v w t h =
     rest-longest t.extras more w.pre_release w.build (t.digits_end t.patch_text.some) t.extras_text in
     subst (λ (l : List ℕ). length l ≤ length more) (ap (λ (l : List ℕ). (read_extras l).1) (sym behind) ∙ left) short
 
--- a prefix that is a version text is no longer than what is read
+-- a prefix that is a version text is no longer than the text that is read
 pub version-longest : (text more rest : List ℕ) (v w : VersionValue)
     → IsMarked is_version_mark (IsUnmarkedVersion w) text → read_version (text ++ more) ≡ Ok (v, rest)
     → length rest ≤ length more
@@ -221,7 +221,7 @@ extras-no_digit : (text : List ℕ) → BeginsWithNo is_digit text → BeginsWit
 unfolding read_extras
 extras-no_digit text h = build-no_digit (read_prerelease text).1 (prerelease-no_digit text h)
 
--- what is left begins with no digit
+-- the rest begins with no digit
 pub version-no_digit : (text rest : List ℕ) (v : VersionValue) → read_version text ≡ Ok (v, rest)
     → BeginsWithNo is_digit rest
 unfolding read_version read_unmarked

@@ -1,4 +1,4 @@
--- What stands before an unmarked text: its mark and blanks.
+-- The mark and the blanks before an unmarked text.
 use Rattle.std.proofs.Common.{◌≡◌, ◌<◌, ℕ, Bool, List, [], ◌∷◌, ◌++◌, arith, length, refl, sym, ap, ◌∙◌, inl, inr}
 use Rattle.std.proofs.Common.{append_assoc}
 use Rattle.std.proofs.lemmas.Bool.{cases_Bool}
@@ -7,7 +7,7 @@ use Rattle.semver_sets.specs.VersionText.{IsMarked}
 use Rattle.semver_sets.specs.Private.Reading.{prefix_of, rest_of, skip_one}
 use Rattle.semver_sets.proofs.Texts.Prefixes.{prefix_of-all, prefix_of-rest_of, rest_of-again}
 
--- a text is its mark and what follows it
+-- a text is its mark and the rest
 pub mark-skip : (is_mark : ℕ → Bool) (text : List ℕ) → text ≡ mark_of is_mark text ++ skip_one is_mark text
 unfolding skip_one
 mark-skip is_mark [] = refl

@@ -1,4 +1,4 @@
--- Numbers: what is read is a number text, and a number text is read.
+-- Numbers: the reader reads exactly the number texts.
 use Rattle.std.proofs.Common.{◌≡◌, ◌≤◌, ℕ, true, List, [], ◌∷◌, ◌++◌, Ok, Err, refl, sym, ap, ◌∙◌, inl, inr, subst}
 use Rattle.std.proofs.lemmas.Bool.{cases_Bool, eqb-true, le-leb, leb-true}
 use Rattle.std.specs.Prelude.{◌==◌, Result, nat_le}
@@ -10,24 +10,24 @@ use Rattle.semver_sets.specs.declared.parse.fault.Fault.{Fault}
 use Rattle.semver_sets.proofs.Texts.Prefixes.{rest_of-again, rest_of-no, begins-append, begins-with, prefix_of-rest_of}
 use Rattle.semver_sets.proofs.Texts.Prefixes.{prefix_of-again, prefix_of-all, prefix_of-begins, with-begins}
 
--- a chain that gave an answer
+-- a chain of two readers that succeeds
 pub bind-ok : {A B : Type 0} (r : Result A Fault) (f : A → Result B Fault) (y : B) → (r >>= f) ≡ Ok y
     → (x : A) × (r ≡ Ok x) × (f x ≡ Ok y)
 bind-ok (Ok x) f y h = (x, refl, h)
 bind-ok (Err e) f y h = cc h
 
--- what stands in an answer
+-- the value of a success
 abbrev pub answer : {A : Type 0} → A → Result A Fault
 answer x = Ok x
 
--- what stands in a refusal
+-- the fault of a refusal
 abbrev pub refusal : {A : Type 0} → Fault → Result A Fault
 refusal e = Err e
 
 pub ok-value : {A : Type 0} (x y : A) → answer x ≡ answer y → x ≡ y
 ok-value x y h = cc h
 
--- what is read is a number text, and no digit stands after it
+-- the text before the rest is a number text, and the rest begins with no digit
 pub record TakesNumber (text : List ℕ) (number : ℕ) (rest : List ℕ) : Type 0 where
   pub digits : List ℕ
   pub whole : text ≡ digits ++ rest
@@ -62,7 +62,7 @@ number-takes text number rest h = elim (cases_Bool (begins is_digit text)) [
   ]
 ]
 
--- a number text is read, where no digit stands after it
+-- a number text is read, if no digit follows it
 pub number-again : (digits rest : List ℕ) (number : ℕ) → IsNumberText digits number → BeginsWithNo is_digit rest
     → read_number (digits ++ rest) ≡ Ok (number, rest)
 unfolding read_number
@@ -75,7 +75,7 @@ number-again digits rest number read ends =
     le-leb _ _ (subst (λ (n : ℕ). n ≤ MAX_SAFE_INTEGER) read.value read.limit) in
     rw (some, here, there, fits, read.value) refl
 
--- what stands before a dot
+-- a dot comes before the rest
 pub dot-takes : (text rest : List ℕ) → read_dot text ≡ Ok rest → text ≡ dot ∷ rest
 unfolding read_dot
 dot-takes [] rest h = cc h

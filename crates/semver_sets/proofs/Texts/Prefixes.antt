@@ -41,7 +41,7 @@ prefix_of-again test (b ∷ text) rest all ends =
     let parts = and_parts (test b) (list_all test text) all in
     rw parts.0 (ap (λ (l : List ℕ). b ∷ l) (prefix_of-again test text rest parts.1 ends))
 
--- and the rest stands after it
+-- and the rest follows it
 pub rest_of-again : (test : ℕ → Bool) (text rest : List ℕ) → AreAll test text → BeginsWithNo test rest
     → rest_of test (text ++ rest) ≡ rest
 unfolding rest_of
@@ -51,7 +51,7 @@ rest_of-again test (b ∷ text) rest all ends =
     let parts = and_parts (test b) (list_all test text) all in
     rw parts.0 (rest_of-again test text rest parts.1 ends)
 
--- what passes at the start is skipped, whatever stands after it
+-- the characters that pass at the start are skipped, whatever follows them
 pub rest_of-all : (test : ℕ → Bool) (text more : List ℕ) → AreAll test text
     → rest_of test (text ++ more) ≡ rest_of test more
 unfolding rest_of
@@ -100,7 +100,7 @@ pub no-append : (test : ℕ → Bool) (text rest : List ℕ) → BeginsWithNo te
 no-append test [] rest h g = g
 no-append test (b ∷ text) rest h g = h
 
--- the longest prefix is empty exactly where no character that passes stands first
+-- the longest prefix is empty exactly if the first character does not pass
 pub prefix_of-empty : (test : ℕ → Bool) (text : List ℕ) → (length (prefix_of test text) == 0) ≡ true
     → begins test text ≡ false
 unfolding prefix_of

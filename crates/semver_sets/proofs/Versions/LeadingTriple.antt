@@ -26,7 +26,7 @@ number-digit text rest number h = elim (cases_Bool (begins is_digit text)) [
   | inr none ↦ cc (rw none at h)
 ]
 
--- where a digit stands first, there is neither a mark nor a blank
+-- a text that begins with a digit begins with no mark and no blank
 pub version-begins : (text : List ℕ) → BeginsWith is_digit text
     → rest_of is_blank (skip_one is_version_mark text) ≡ text
 unfolding rest_of skip_one

@@ -1,4 +1,4 @@
--- A version text has one reading, which is what is read.
+-- A version text has one reading, which the reader returns.
 use Rattle.std.proofs.Common.{◌≡◌, ◌≤◌, ℕ, List, [], length, Ok, sym, ap, ◌∙◌, subst, append-nil}
 use Rattle.semver_sets.specs.declared.TheConstants.{MAX_LENGTH}
 use Rattle.semver_sets.specs.Private.Reading.{read_version}
@@ -13,7 +13,7 @@ pub version-read : (text : List ℕ) (v : VersionValue) → IsVersionText text v
 version-read text v h = ap (λ (l : List ℕ). read_version l) (sym (append-nil text))
     ∙ version-again text [] v h.fields tt
 
--- what is read with nothing left is a version text
+-- a text that is read with nothing left is a version text
 pub read-version : (text : List ℕ) (v : VersionValue) → length text ≤ MAX_LENGTH → read_version text ≡ Ok (v, [])
     → IsVersionText text v
 read-version text v short h =

@@ -1,4 +1,4 @@
--- Triples and versions: what is read is such a text, and such a text is read.
+-- Triples and versions: the readers read exactly these texts.
 use Rattle.std.proofs.Common.{◌≡◌, ◌<◌, ℕ, Bool, true, false, List, [], ◌∷◌, ◌++◌, arith, get_or, length, Ok, refl, sym}
 use Rattle.std.proofs.Common.{ap, ◌∙◌, subst, append_assoc}
 use Rattle.std.specs.Prelude.{◌==◌, ◌||◌}
@@ -164,7 +164,7 @@ version-takes text v rest h =
     marked-taken is_version_mark (IsUnmarkedVersion v) text t.taken rest t.whole
     (begins-some is_digit t.taken (unmarked-begins t.taken v t.read)) t.read
 
--- where a digit stands first, there is neither a mark nor a blank
+-- a text that begins with a digit begins with no mark and no blank
 pub digit-first : (text : List ℕ) → 0 < length text → is_digit (get_or text 0 0) ≡ true
     → text ≡ rest_of is_blank (skip_one is_version_mark text)
 unfolding rest_of skip_one

@@ -1,4 +1,4 @@
--- Components of a partial: what is read is a component text, and a component text is read.
+-- Components of a partial: the reader reads exactly the component texts.
 use Rattle.std.proofs.Common.{◌≡◌, ℕ, List, [], ◌∷◌, ◌++◌, Option, Some, None, Ok, Err, refl, sym, ap, ◌∙◌, inl, inr}
 use Rattle.std.proofs.Common.{subst}
 use Rattle.std.proofs.lemmas.Bool.{cases_Bool}
@@ -33,7 +33,7 @@ number_component-takes text (Ok n) component rest r h =
       ends = λ some. subst (λ (l : List ℕ). BeginsWithNo is_digit l) behind t.ends;
     }
 
--- what is read is a component
+-- the text before the rest is a component
 pub component-takes : (text : List ℕ) (component : Option ℕ) (rest : List ℕ)
     → read_component text ≡ Some (component, rest) → TakesComponent text component rest
 unfolding read_component
@@ -52,7 +52,7 @@ component-takes (b ∷ text) component rest h = elim (cases_Bool (is_x b)) [
       }
 ]
 
--- a component is read, where no digit stands after a number
+-- a component is read, if no digit follows a number
 pub component-again : (text rest : List ℕ) (component : Option ℕ) → IsComponentText text component
     → (BeginsWith is_digit text → BeginsWithNo is_digit rest) → read_component (text ++ rest) ≡ Some (component, rest)
 unfolding read_component

@@ -1,4 +1,4 @@
--- Components with dots between them: what is read is an unmarked partial, and an unmarked partial is read.
+-- Components with dots between them: the reader reads exactly the unmarked partials.
 use Rattle.std.proofs.Common.{◌≡◌, ℕ, List, [], ◌∷◌, ◌++◌, Option, Some, None, refl, sym, ap, ◌∙◌, inl, inr, subst}
 use Rattle.std.proofs.Common.{append_assoc}
 use Rattle.std.proofs.lemmas.Bool.{cases_Bool, eqb-true}
@@ -23,11 +23,11 @@ pub record TakesComponents (text : List ℕ) (p : Partial) (rest : List ℕ) : T
   pub whole : text ≡ taken ++ rest
   pub read : IsUnmarkedPartial p taken
 
--- an answer: a partial and the rest
+-- a success: a partial and the rest
 abbrev pub read_as : Partial → List ℕ → ReadPartial
 read_as p rest = Some (p, rest)
 
--- in one answer stand one partial and one rest
+-- equal results have equal partials and rests
 pub same-read : (p q : Partial) (text rest : List ℕ) → read_as p text ≡ read_as q rest → (p ≡ q) × (text ≡ rest)
 same-read p q text rest h =
     let e = same_Some (p, text) (q, rest) h in
@@ -107,7 +107,7 @@ from_patch-taken first second (b ∷ text) major minor p rest one_read two_read 
       (third-taken first second text major minor (read_component text) p rest one_read two_read refl (rw here at h))
 ]
 
--- a second component and what follows it
+-- a second component and the rest
 second-taken : (first text : List ℕ) (major : Option ℕ) (read : Component) (p : Partial) (rest : List ℕ)
     → IsComponentText first major → read_component text ≡ read → with_second major read ≡ Some (p, rest)
     → TakesComponents (first ++ (dot ∷ text)) p rest
@@ -127,7 +127,7 @@ from_minor-taken first (b ∷ text) major p rest one_read h = elim (cases_Bool (
       (second-taken first text major (read_component text) p rest one_read refl (rw here at h))
 ]
 
--- a first component and what follows it
+-- a first component and the rest
 first-taken : (text : List ℕ) (read : Component) (p : Partial) (rest : List ℕ) → read_component text ≡ read
     → with_first read ≡ Some (p, rest) → TakesComponents text p rest
 first-taken text None p rest r h = cc h
@@ -135,13 +135,13 @@ first-taken text (Some c) p rest r h =
     let t = component-takes text c.0 c.1 r in
     subst (λ (l : List ℕ). TakesComponents l p rest) (sym t.whole) (from_minor-taken t.taken c.1 c.0 p rest t.read h)
 
--- what is read is an unmarked partial
+-- the text before the rest is an unmarked partial
 pub components-takes : (text : List ℕ) (p : Partial) (rest : List ℕ) → read_components text ≡ Some (p, rest)
     → TakesComponents text p rest
 unfolding read_components
 components-takes text p rest h = first-taken text (read_component text) p rest refl h
 
--- after a component that no dot follows nothing more of a partial stands
+-- a component that no dot follows is the last of its partial
 from_patch-ends : (major minor : Option ℕ) (rest : List ℕ) → BeginsWithNo (λ b. b == dot) rest
     → read_from_patch major minor rest ≡ Some (plain_partial major minor None, rest)
 from_patch-ends major minor [] h = refl

@@ -1,4 +1,4 @@
--- Hyphen ranges: what is read is such a text, and such a text is read.
+-- Hyphen ranges: the reader reads exactly these texts.
 use Rattle.std.proofs.Common.{◌≡◌, ℕ, true, List, [], ◌∷◌, ◌++◌, Option, Some, None, refl, sym, ap, ◌∙◌, inl, inr}
 use Rattle.std.proofs.Common.{subst, append_assoc}
 use Rattle.std.proofs.lemmas.Bool.{cases_Bool, eqb-true}
@@ -35,7 +35,7 @@ blanks-taken : (text : List ℕ) → begins is_blank text ≡ true → AreBlanks
 blanks-taken text h =
     record { some = prefix_of-begins is_blank text (begins-with is_blank text h); all = prefix_of-all is_blank text }
 
--- what is read from the hyphen on
+-- the text that is read from the hyphen on
 right_at-takes : (text behind : List ℕ) (p : Partial) (rest : List ℕ) → begins is_blank text ≡ true
     → rest_of is_blank text ≡ behind → right_at behind ≡ Some (p, rest) → TakesRight text p rest
 right_at-takes text [] p rest some follows h = cc h
@@ -64,7 +64,7 @@ right_at-takes text (b ∷ behind) p rest some follows h = elim (cases_Bool (b =
   ]
 ]
 
--- what is read is such a right side
+-- the text before the rest is such a right side
 right-takes : (text : List ℕ) (p : Partial) (rest : List ℕ) → read_right text ≡ Some (p, rest) → TakesRight text p rest
 unfolding read_right
 right-takes text p rest h = elim (cases_Bool (begins is_blank text)) [
@@ -91,7 +91,7 @@ right-again left_blanks right_blanks right_text rest p left right h clean =
     ∙ partial-unblanked (right_text ++ rest) (p, rest) (partial-again right_text rest p h clean) in
     rw (some, follows, blank, read, true-clean rest clean) refl
 
--- where a partial stands, no hyphen range without a left side does
+-- a text that begins with a partial begins with no hyphen range without a left side
 right_at-none : (text : List ℕ) → BeginsWithNo (λ b. b == hyphen) text → right_at text ≡ None
 right_at-none [] h = refl
 right_at-none (b ∷ rest) h = rw h refl
@@ -114,7 +114,7 @@ pub record TakesHyphen (text : List ℕ) (comparator : Option Comparator) (rest 
   pub read : IsHyphenText taken comparator
   pub clean : IsCleanEnd rest
 
--- a left side or none, and what follows it
+-- a left side or none, and the rest
 hyphen-taken : (left_text text : List ℕ) (left : Option Partial) (read : ReadPartial) (c : Option Comparator)
     (rest : List ℕ) → IsLeftText left_text left → read_right text ≡ read → said_hyphen left read ≡ Some (c, rest)
     → TakesHyphen (left_text ++ text) c rest
@@ -160,13 +160,13 @@ either-takes : (text : List ℕ) (right : ReadPartial) (c : Option Comparator) (
 either-takes text None c rest r h = hyphen_left-takes text (read_partial text) c rest refl h
 either-takes text (Some right) c rest r h = hyphen-taken [] text None (Some right) c rest refl r h
 
--- what is read is a hyphen range with a clean end
+-- the text before the rest is a hyphen range with a clean end
 pub hyphen-takes : (text : List ℕ) (c : Option Comparator) (rest : List ℕ) → read_hyphen text ≡ Some (c, rest)
     → TakesHyphen text c rest
 unfolding read_hyphen
 hyphen-takes text c rest h = either-takes text (read_right text) c rest refl h
 
--- a left side or none, and what follows it, are read
+-- a left side or none, and the rest, are read
 hyphen-read : (left_text behind rest : List ℕ) (left : Option Partial) (right : Partial) → IsLeftText left_text left
     → IsCleanEnd behind → read_right behind ≡ Some (right, rest)
     → read_hyphen (left_text ++ behind) ≡ Some (Some (hyphen_comparator left right), rest)
@@ -188,7 +188,7 @@ hyphen-again text rest c h clean =
     let clean_left = blanks-clean h.left_blanks from_hyphen h.left_blank.some in
     rw (whole, h.says) (hyphen-read h.left_text behind rest h.left h.right h.left_read clean_left r)
 
--- a hyphen range stands for one comparator
+-- a hyphen range is one comparator
 pub one_hyphen_range : (text : List ℕ) (c d : Option Comparator) → IsHyphenText text c → IsHyphenText text d → c ≡ d
 one_hyphen_range text c d h g =
     ap (λ (w : Word). w.0) (same_Some (c, []) (d, []) (sym (hyphen-again text [] c h tt) ∙ hyphen-again text [] d g tt))

@@ -1,5 +1,5 @@
--- What stands before the partial of a word: an operator, a tilde, a caret or nothing. What is read stands there,
--- and what stands there is read.
+-- The beginning of a word, before its partial: an operator, a tilde, a caret or nothing. The reader reads exactly
+-- these.
 use Rattle.std.proofs.Common.{◌≡◌, ℕ, false, List, [], ◌∷◌, ◌++◌, Option, Some, None, refl, sym, ap, ◌∙◌, inl, inr}
 use Rattle.std.proofs.Common.{subst, append_assoc}
 use Rattle.std.proofs.lemmas.Bool.{cases_Bool, eqb-true}
@@ -16,7 +16,7 @@ use Rattle.semver_sets.proofs.Texts.Prefixes.{prefix_of-all, prefix_of-rest_of, 
 
 -- ---- no lead
 
--- no operator stands before a partial
+-- a text that begins with a partial begins with no operator
 no-operator : (text : List ℕ) (r : Partial × List ℕ) → read_partial text ≡ Some r → read_operator text ≡ None
 unfolding read_operator
 no-operator [] r h = refl
@@ -70,9 +70,9 @@ lead-not_partial text some = by_cases (read_partial text) refl
     by_cases None e = e
     by_cases (Some r) e = absurd (some (ap (λ (l : Lead × List ℕ). l.0) (lead-none text r e)))
 
--- ---- what is read
+-- ---- the reader reads only these
 
--- what is written for a lead, blanks or none, and the rest
+-- the characters of a lead, blanks or none, and the rest
 pub record IsFollowed (lead text rest : List ℕ) : Type 0 where
   pub blanks : List ℕ
   pub whole : text ≡ lead ++ (blanks ++ rest)
@@ -87,7 +87,7 @@ StandsBefore tilde_greater_lead text rest = (blanks : List ℕ) × AreAll is_bla
     × IsFollowed (tilde ∷ (blanks ++ (greater_sign ∷ []))) text rest
 StandsBefore caret_lead text rest = IsFollowed (caret ∷ []) text rest
 
--- the same of what is read
+-- the same of the reader's result
 abbrev pub Stands : List ℕ → Lead × List ℕ → Type 0
 Stands text read = StandsBefore read.0 text read.1
 
@@ -114,7 +114,7 @@ abbrev IsOperatorRead : List ℕ → Option (Operator × List ℕ) → Type 0
 IsOperatorRead text None = Unit {0}
 IsOperatorRead text (Some r) = text ≡ operator_text r.0 ++ r.1
 
--- what is read is an operator
+-- the operator that is read begins the text
 operator-takes : (text : List ℕ) → IsOperatorRead text (read_operator text)
 unfolding read_operator
 operator-takes [] = tt
@@ -160,7 +160,7 @@ tilde-takes text = by_first (rest_of is_blank text) refl
           )
     ]
 
--- what is read stands before the rest
+-- the lead that is read begins the text, before the rest
 pub lead-takes : (text : List ℕ) → Stands text (read_lead text)
 unfolding read_lead
 lead-takes [] = refl
@@ -173,7 +173,7 @@ lead-takes (b ∷ text) = elim (cases_Bool (b == caret)) [
   ]
 ]
 
--- ---- what stands there is read
+-- ---- each of these is read
 
 -- an operator of one character, where no `=` follows it
 with_equals-shorter : (longer shorter : Operator) (text : List ℕ) → BeginsWithNo (λ b. b == 61) text
@@ -206,7 +206,7 @@ pub lead-operator : (o : Operator) (behind : List ℕ) → BeginsWithNo (λ b. b
     → read_lead (operator_text o ++ behind) ≡ (operator o, rest_of is_blank behind)
 lead-operator o behind h = rw (operator_text-first o behind, operator-again o behind h) refl
 
--- after a tilde and its blanks stands no `>`
+-- no `>` follows a tilde and its blanks
 tilde_at-plain : (text : List ℕ) → BeginsWithNo (λ b. b == greater_sign) text → tilde_at text ≡ (tilde_lead, text)
 tilde_at-plain [] h = refl
 tilde_at-plain (b ∷ rest) h = rw h refl

@@ -1,4 +1,4 @@
--- A word has no `|`, if it is no hyphen range and is not thrown away.
+-- A word has no `|`, if it is no hyphen range and is not ignored.
 use Rattle.std.proofs.Common.{◌≡◌, ℕ, Bool, true, false, List, [], ◌∷◌, ◌++◌, Option, Some, None, refl, sym, ap, subst}
 use Rattle.std.proofs.Common.{◌∙◌, inl, inr}
 use Rattle.std.proofs.lemmas.Bool.{and_from, and_parts, cases_Bool, eqb-true}

@@ -1,4 +1,4 @@
--- Partials: what is read is a partial text, and a partial text is read.
+-- Partials: the reader reads exactly the partial texts.
 use Rattle.std.proofs.Common.{◌≡◌, ℕ, Bool, true, false, List, [], ◌∷◌, ◌++◌, Option, Some, None, refl, sym, ap, ◌∙◌}
 use Rattle.std.proofs.Common.{inl, inr}
 use Rattle.std.proofs.lemmas.Bool.{cases_Bool, eqb-true, or_left, or_right}
@@ -75,7 +75,7 @@ blank-no_mark b h = blank-cases (λ (c : ℕ). is_partial_mark c ≡ false) b h 
 abbrev pub TakesPartial : List ℕ → Partial → List ℕ → Type 0
 TakesPartial text p rest = TakesMarked is_partial_mark (IsUnmarkedPartial p) text rest
 
--- what is read is a partial text
+-- the text before the rest is a partial text
 pub partial-takes : (text : List ℕ) (p : Partial) (rest : List ℕ) → read_partial text ≡ Some (p, rest)
     → TakesPartial text p rest
 unfolding read_partial

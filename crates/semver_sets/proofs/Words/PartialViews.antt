@@ -29,7 +29,7 @@ pub clean-end : (text : List ℕ) → is_clean text ≡ true → IsCleanEnd text
 clean-end [] h = tt
 clean-end (b ∷ rest) h = h
 
--- no extras stand at a clean end
+-- a text at a clean end begins with no extras
 pub clean_extras : (text : List ℕ) → is_clean text ≡ true → read_extras text ≡ (([], []), text)
 clean_extras text h =
     extras-again [] text [] [] (record { prefix = []; rest = []; whole = refl; first = refl; second = refl })
@@ -37,7 +37,7 @@ clean_extras text h =
 
 -- ---- components
 
--- no dot stands first
+-- the first byte is no dot
 abbrev pub NoDot : List ℕ → Type 0
 NoDot rest = BeginsWithNo (λ b. b == dot) rest
 
@@ -54,7 +54,7 @@ no-x_first (b ∷ rest) h =
     let n = h (omega arith) in
     rw (ne_eqb b 120 n.0, ne_eqb b 88 n.1, ne_eqb b 42 n.2) refl
 
--- what stands behind the first byte
+-- the text after the first byte
 pub behind-first : (first : ℕ) (rest : List ℕ) → 0 < length rest → get_or rest 0 0 ≡ first
     → rest ≡ first ∷ take (length rest - 1) (drop 1 rest)
 behind-first first [] some h = absurd (omega arith)
@@ -74,7 +74,7 @@ unfolding read_component read_number
 component-number [] rest number h none = cc h
 component-number (b ∷ text) rest number h none = rw (none, ← h) refl
 
--- what an answer holds
+-- the value of a success
 pub read-ok : (r : Result (ℕ × Bor (List ℕ)) Fault) (x : ℕ × Bor (List ℕ)) → Some x ≡ result_ok r
     → Ok (x.0, x.1.now) ≡ seen r
 read-ok (Ok y) x h = let same : x ≡ y = cc h in rw same refl
@@ -158,7 +158,7 @@ no-component (b ∷ text) x digit = rw (x, digit) refl
 
 -- ---- full versions
 
--- where a digit stands first, there is neither a mark nor a blank
+-- a text that begins with a digit begins with no mark and no blank
 digit-begins : (text : List ℕ) → BeginsWith is_digit text → rest_of is_blank (skip_one is_partial_mark text) ≡ text
 unfolding rest_of skip_one
 digit-begins [] digit = absurd digit

@@ -1,4 +1,4 @@
--- Words of every kind but the hyphen: what is read is such a text, and such a text is read.
+-- Words of every kind but the hyphen: the reader reads exactly these texts.
 use Rattle.std.proofs.Common.{◌≡◌, ℕ, false, List, [], ◌∷◌, ◌++◌, Option, Some, None, refl, sym, ap, ◌∙◌, subst}
 use Rattle.std.proofs.Common.{append_assoc}
 use Rattle.std.proofs.lemmas.Bool.{and_parts}
@@ -75,7 +75,7 @@ said-taken lead text behind (Some p) c rest f r h =
     let taken = simple-taken lead text t.taken p.1 p.0 before t.read u.1 in
     subst (λ (w : Word). TakesSimple text w.0 w.1) e taken
 
--- what is read is such a text with a clean end
+-- the text before the rest is such a text with a clean end
 pub simple-takes : (text : List ℕ) (c : Option Comparator) (rest : List ℕ) → read_simple text ≡ Some (c, rest)
     → TakesSimple text c rest
 unfolding read_simple
@@ -145,7 +145,7 @@ simple-again text rest c (by_caret h) clean =
     rw (r.whole, h.says) (simple-read (caret ∷ r.behind) caret_lead (rest_of is_blank r.behind) rest h.partial
     (lead-caret r.behind) r.read clean)
 
--- such a text stands for one comparator
+-- such a text is one comparator
 pub one_simple : (text : List ℕ) (c d : Option Comparator) → IsSimpleText text c → IsSimpleText text d → c ≡ d
 one_simple text c d h g =
     ap (λ (w : Word). w.0) (same_Some (c, []) (d, []) (sym (simple-again text [] c h tt) ∙ simple-again text [] d g tt))

@@ -1,4 +1,4 @@
--- The word with which a text begins: what is read is such a word, and such a word is read.
+-- The word with which a text begins: the reader reads exactly these words.
 use Rattle.std.proofs.Common.{◌≡◌, ◌⊎◌, ℕ, true, List, [], ◌∷◌, ◌++◌, Option, Some, None, refl, sym, ap, subst, ◌∙◌}
 use Rattle.std.proofs.Common.{inl, inr}
 use Rattle.std.proofs.lemmas.Bool.{cases_Bool, eqb-true, or_cases}
@@ -88,12 +88,12 @@ word-takes text None None r q =
       clean = clean;
     }
 
--- what is read is a word
+-- the text before the rest is a word
 pub word-is : (text : List ℕ) → HasWord text (read_word text).0 (read_word text).1
 unfolding read_word
 word-is text = word-takes text (read_hyphen text) (read_simple text) refl refl
 
--- and a word is what is read
+-- each word is read
 pub word-again : (word rest : List ℕ) (comparator : Option Comparator) → IsWord word rest comparator
     → read_word (word ++ rest) ≡ (comparator, rest)
 unfolding read_word
@@ -159,7 +159,7 @@ word-of_partial text p found right lead read is =
     word-from text (with_left p) (said no_lead (up_to_clean p)) hyphen (simple-of_partial text p lead read)
     ∙ ap (λ (w : Option Word). or_thrown_away w text) is
 
--- where the word that begins with a blank is read, it is the one after its blanks; else the empty word is thrown away
+-- if a word that begins with a blank is read, it is the one after its blanks; else the empty word is ignored
 blank-word : (b : ℕ) (rest : List ℕ) (p : ReadPartial) (found : Option Word) → is_blank b ≡ true
     → read_right (b ∷ rest) ≡ None → read_partial (b ∷ rest) ≡ p
     → or_else (with_left p) (said no_lead (up_to_clean p)) ≡ found

@@ -55,17 +55,17 @@ plain-seen Caret h = cc h
 
 -- ---- hyphens
 
--- no right side where no blank stands first
+-- no right side if the text begins with no blank
 right-none : (text : List ℕ) → begins is_blank text ≡ false → read_right text ≡ None
 unfolding read_right
 right-none text h = rw h refl
 
--- a hyphen has a left side where no blank stands first
+-- a hyphen has a left side if the text begins with no blank
 hyphen-left : (text : List ℕ) → BeginsWithNo is_blank text → read_hyphen text ≡ with_left (read_partial text)
 unfolding read_hyphen
 hyphen-left text h = rw (right-none text (with_no-begins is_blank text h)) refl
 
--- no blank stands first where there is no clean end
+-- a text at no clean end begins with no blank
 unclean-blank : (text : List ℕ) → is_clean text ≡ false → begins is_blank text ≡ false
 unclean-blank [] h = refl
 unclean-blank (b ∷ rest) h = h

@@ -1,4 +1,4 @@
--- The comparisons of `Order` are total orders, and say what its relations do.
+-- The comparisons of `Order` are total orders, and agree with its relations.
 use Rattle.std.proofs.Common.{◌≡◌, ◌≢◌, ◌<◌, ◌↔◌, ℕ, List, [], ◌∷◌, ◌++◌, refl}
 use Rattle.std.proofs.Common.{sym, ap, subst, ◌∙◌, inl, inr, arith, Bool, IsTrue}
 use Rattle.std.specs.Ordering.{eq_by_cmp, nat_cmp, on, then_cmp, ordering_then, ordering_reverse}
@@ -189,7 +189,7 @@ identifier-IsAntisymmetric (alphanumeric s) (numeric n) e = cc e
 identifier-IsAntisymmetric (alphanumeric s) (alphanumeric t) e =
     ap alphanumeric (slice_cmp-IsAntisymmetric nat_cmp-IsAntisymmetric s t e)
 
--- `identifier_cmp` says what the relations do
+-- `identifier_cmp` agrees with the relations
 pub identifier_cmp-means : (a b : IdentifierValue) → IdentifierOrderMeans a b (identifier_cmp a b)
 identifier_cmp-means a b = record {
   below = (Less-identifier a b, identifier-Less a b);
@@ -306,7 +306,7 @@ pub version-Equal : (v w : VersionValue) → IsSame v w → version_cmp v w ≡ 
 version-Equal v w s = same-triple v w s.triple
     ∙ subst (λ l. prerelease_cmp v.pre_release l ≡ Equal) s.pre_release (tied_itself prerelease_total v.pre_release)
 
--- `version_cmp` says what the relations do
+-- `version_cmp` agrees with the relations
 pub version_cmp-means : (v w : VersionValue) → OrderMeans v w (version_cmp v w)
 version_cmp-means v w = record {
   below = (Less-version v w, version-Less v w);

@@ -27,7 +27,7 @@ unfoldable pub piece_at : List ℕ → Piece
 piece_at [] = ([], None)
 piece_at (b ∷ rest) = piece_from b (bars_after (b ∷ rest)) (piece_at rest)
 
--- ---- what a contract sees of the results of the code
+-- ---- the results of the code, as contracts see them
 
 abbrev pub some_seen : Option (Bor (List ℕ)) → Option (List ℕ)
 some_seen None = None

@@ -26,7 +26,7 @@ abbrev pub IsOneMerged : Option Comparator → Option Comparator → Option Comp
 IsOneMerged before word after = (comparators : List Comparator) → IsMerged comparators before
     → IsMerged (comparators ++ listed word) after
 
--- what a contract sees of the comparators merged so far: none before the first
+-- the comparators merged so far, as a contract sees them: none before the first
 abbrev pub merged_seen : Bool → Cut VersionValue → Cut VersionValue → Option Comparator
 merged_seen found lower upper = if found then Some (span_between lower upper) else None
 

@@ -35,7 +35,7 @@ abbrev pub seen : {A : Type 0} → Result (A × Bor (List ℕ)) Fault → Read A
 seen (Ok x) = Ok (x.0, x.1.now)
 seen (Err f) = Err f
 
--- the result of a reader is what reading gives, unless an allocation failed
+-- the reader returns the defined result, unless an allocation failed
 abbrev pub Gives : {X A : Type 0} → (X → A) → Result X Fault → Result A Fault → Type 0
 Gives view (Ok x) read = read ≡ Ok (view x)
 Gives view (Err f) read = IsWantOfMemory f ⊎ (read ≡ Err f)

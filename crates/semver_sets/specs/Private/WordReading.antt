@@ -85,7 +85,7 @@ abbrev pub up_to_clean : ReadPartial → ReadPartial
 up_to_clean None = None
 up_to_clean (Some r) = if is_clean r.1 then Some r else None
 
--- ---- what is written before the partial of a word
+-- ---- the beginning of a word, before its partial
 
 -- nothing, an operator, a tilde, a tilde and a `>`, or a caret
 pub data Lead : Type 0 where
@@ -119,7 +119,7 @@ abbrev pub tilde_at : List ℕ → Lead × List ℕ
 tilde_at [] = (tilde_lead, [])
 tilde_at (b ∷ rest) = if b == greater_sign then (tilde_greater_lead, rest_of is_blank rest) else (tilde_lead, b ∷ rest)
 
--- what is written before the partial of a word, and the rest without its leading blanks
+-- the beginning of a word, before its partial, and the rest without its leading blanks
 unfoldable pub read_lead : List ℕ → Lead × List ℕ
 read_lead [] = (no_lead, [])
 read_lead (b ∷ rest) =

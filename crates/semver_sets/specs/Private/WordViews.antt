@@ -102,7 +102,7 @@ pub record IsSound (p : CodePartial) : Type 0 where
   pub no_minor : has_minor p.shape ≡ false → p.minor ≡ 0
   pub no_patch : has_patch p.shape ≡ false → p.patch ≡ 0
 
--- ---- what is written before the partial of a word
+-- ---- the beginning of a word, before its partial
 
 -- the operator
 abbrev pub operator_seen : CodeOperator → Operator

@@ -1,4 +1,4 @@
-//! An end feeds a hasher what its version does.
+//! An end feeds a hasher as its version does.
 ghost use Rattle.semver_sets.specs.Hash.{version_writes};
 ghost use Rattle.semver_sets.specs.Lemmas.Hash.{version_alike};
 

@@ -40,7 +40,7 @@ impl Eq for Identifier {
     ghost laws = { on_equiv value_of (eq_by_cmp_equiv identifier_total) };
 }
 
-/// Returns `Some` of what `cmp` returns: any two identifiers can be compared.
+/// Returns the result of `cmp` in `Some`: any two identifiers can be compared.
 impl PartialOrd for Identifier {
     ghost partial_cmp = { λ a b. Some (on value_of identifier_cmp a b) };
 
@@ -93,8 +93,8 @@ impl Ord for Identifier {
     }
 }
 
-/// Returns the order of two prereleases of one triple. An empty list stands for the release, which is greater than each
-/// of its prereleases.
+/// Returns the order of two prereleases of one triple. An empty list means the release, which is greater than each of
+/// its prereleases.
 ///
 /// # Memory
 ///

@@ -1,3 +1,4 @@
+//! See docs/DECISIONS.md, "The fault of a text does not depend on the parser".
 ghost use Rattle.std.specs.Prelude.{◌≡◌};
 ghost use Rattle.semver_sets.specs.declared.parse.fault.Fault.TheVariants.{OutOfMemory};
 

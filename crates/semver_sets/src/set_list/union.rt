@@ -17,7 +17,7 @@ impl Sets {
     ///
     /// # Memory
     ///
-    /// Allocates the list, the identifiers of the ends, and what finds a version in the list.
+    /// Allocates the list, the identifiers of the ends, and the index of the list.
     pub fn union(&self, alloc: Global, other: &Sets) -> Result<Searched, AllocError>
         requires ones { AllByRecursion IsRangeSet (sets_seen self.now) }
         requires others { AllByRecursion IsRangeSet (sets_seen other.now) }

@@ -339,6 +339,7 @@ impl<'a> WrittenVersion<'a> {
         End::least(self.major, self.minor, self.patch)
     }
 
+    // `inline(never)`: few versions have extras, and the others then need no stack for them.
     #[inline(never)]
     #[tactic(auto, unfolding(crate::specs::Private::Reading::read_extras))]
     fn end_with_extras(&self, alloc: Global) -> Result<End, AllocError>
@@ -353,6 +354,7 @@ impl<'a> WrittenVersion<'a> {
         )
     }
 
+    // The same without the build. `inline(never)`: as above.
     #[inline(never)]
     #[tactic(auto, unfolding(crate::specs::Private::Reading::read_extras))]
     fn end_with_prerelease(&self, alloc: Global) -> Result<End, AllocError>

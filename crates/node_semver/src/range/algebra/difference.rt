@@ -1,4 +1,6 @@
 //! The part of one range outside another.
+//!
+//! See docs/DECISIONS.md, "Difference is defined by its result".
 
 ghost use Rattle.std.specs.Prelude.{◌≡◌, ◌⊎◌, ◌↔◌, IfOk, IfSome, IsNone};
 ghost use Rattle.semver_cuts.specs.declared.cut.Cut.{Cut};

@@ -1,4 +1,4 @@
--- The version is what its text says, and the answer is what the text that is asked for admits.
+-- The version is the one that its text writes, and the result is whether the text of the range admits it.
 use Rattle.std.proofs.Common.{inl, inr}
 use Rattle.node_semver_callers.proofs.lock_file.still_fits.Goals as goal
 

@@ -16,7 +16,7 @@ thrown : (text : List ℕ) → None ≡ or_else (read_hyphen text) (read_simple 
 unfolding read_word
 thrown text none = ap (λ w. or_thrown_away w text) (sym none)
 
--- what the words after it write, the text writes
+-- the text writes what the words after it write
 later-writes : (text behind : List ℕ) → read_word text ≡ (None, behind) → (comparators : List Comparator)
     → IsAlternative (rest_of is_blank behind) comparators → IsAlternative text comparators
 later-writes text behind read comparators a =

@@ -7,7 +7,7 @@ use Rattle.semver_sets.specs.Private.WordReading.{is_solid}
 use Rattle.semver_sets.proofs.Texts.Places.{rest_of-each, rest_of-first, to-end}
 use Rattle.semver_sets.proofs.parse.skip.skip_solid.Goals as goal
 
--- no blank stands before place n
+-- there is no blank before place n
 solid-before : (text : List ℕ) (n : ℕ) → Nowhere (Passes (is_byte2 32 9) text) 0 n
     → (k : ℕ) → k < n → is_solid (get_or text k 0) ≡ true
 solid-before text n none k lt = elim (cases_Bool (is_blank (get_or text k 0))) [

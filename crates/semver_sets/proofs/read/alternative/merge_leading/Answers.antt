@@ -8,7 +8,7 @@ use Rattle.semver_sets.specs.Private.WordReading.{leading_or_none, read_right}
 use Rattle.semver_sets.proofs.Texts.Prefixes.{begins-with_no, rest_of-none}
 use Rattle.semver_sets.proofs.read.alternative.merge_leading.Goals as goal
 
--- no hyphen without a left side stands where no blank does
+-- a text that begins with no blank begins with no hyphen without a left side
 no-leading : (text : List ℕ) → begins is_blank text ≡ false → leading_or_none (read_right text) text ≡ (None, text)
 unfolding read_right
 no-leading text none = rw none refl

@@ -13,7 +13,7 @@ use Rattle.semver_sets.proofs.Ranges.DivisionLemmas.{next-shorter}
 use Rattle.semver_sets.proofs.Texts.Prefixes.{rest_of-no}
 use Rattle.semver_sets.proofs.read.alternative.merge_words.Goals as goal
 
--- what is left after blanks were skipped
+-- the remaining text after its blanks
 left-is : (text rest left : List ℕ) (done : List Comparator) → Completes text done rest → left ≡ rest
     → Completes text done left
 left-is text rest left done completes skipped =

@@ -8,14 +8,14 @@ use Rattle.semver_sets.proofs.Ranges.PieceLemmas.{Passed, pass-to_bar, passed-en
 use Rattle.semver_sets.proofs.Texts.Places.{to-end}
 use Rattle.semver_sets.proofs.read.pieces.next_piece.Goals as goal
 
--- what is left after the first i characters
+-- the text after the first i characters
 abbrev left : List ℕ → ℕ → List ℕ
 left text i = take (length text - i) (drop i text)
 
 length-left : (text : List ℕ) (i : ℕ) → length (left text i) ≡ length text - i
 length-left text i = ap length (to-end text i) ∙ length-drop i text
 
--- all before the first bar of what is left is passed
+-- all before the first bar of the remaining text is passed
 to-bar : (text : List ℕ) (i n : ℕ) → i ≤ length text
     → NoneBefore (Passes (is_byte bar) (left text i)) 0 (length (left text i)) n
     → Passed text i → (i + n < length text) × Passed text (i + n)

@@ -38,7 +38,7 @@ function copyLibrary() {
     }
 }
 
-// npm tells its scripts where its node-gyp is. Else it stands in the npm beside Node.
+// npm passes the path of its node-gyp to its scripts. Otherwise it is in the npm beside Node.
 function findGyp() {
     const prefix = path.join(path.dirname(fs.realpathSync(process.execPath)), '..');
     const places = [

@@ -1,8 +1,8 @@
 // SPDX-License-Identifier: Apache-2.0
 // npm's versions and version ranges under the names of npm's `semver`, over the proved library node_semver.
 //
-// What stands for a version or a range in the native part is its key: the text, or an external for a version or a range
-// that no text writes. `undefined` stands for what is neither.
+// The native part gets a key for a version or a range: its text, or an external if no text writes it. A value that is
+// neither has the key `undefined`.
 'use strict';
 
 const native = require('./build/Release/node_semver.node');
@@ -24,7 +24,7 @@ const LONGEST_KEPT = 128;
 
 const OPTIONS = new Set(['loose', 'includePrerelease']);
 
-// Texts are always read in loose mode. Throws where an option asks for what the library does not do.
+// Texts are always read in loose mode. Throws if the library does not have an option's behaviour.
 function check(options) {
     if (typeof options !== 'object' || options === null) {
         return;
@@ -218,7 +218,7 @@ class Range {
     }
 }
 
-// The key of what was passed as a version; `undefined` where it is neither a text nor a SemVer.
+// The key of an argument for a version; `undefined` if it is neither a text nor a SemVer.
 function versionKey(version) {
     if (typeof version === 'string') {
         return trimmedVersion(version);
@@ -233,12 +233,13 @@ function rangeKey(range) {
     return range instanceof Range ? placeOf(keyOfRange(range)) : undefined;
 }
 
-// A place is asked for just before it is used: the next text that is kept may take it.
+// Call this just before the place is used: the next text that is kept may take it.
 function placeOf(key) {
     return typeof key === 'string' ? keptKey(key) : key;
 }
 
-// The key of a version for `test`. npm: what is false as a condition satisfies no range, and what is no version throws.
+// The key of a version for `test`. As in npm, a falsy value satisfies no range, and any other value that is no version
+// throws.
 function testedKey(version) {
     return version ? versionKey(version) ?? refuse(version) : null;
 }

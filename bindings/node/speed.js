@@ -8,7 +8,7 @@ const here = require('./index.js');
 const npm = createNpm();
 const ROUNDS = 7;
 
-// Versions and ranges as packages ask for them: most ranges are one caret, and 1 version in 40 is a prerelease.
+// Versions and ranges as packages write them: most ranges are one caret, and 1 version in 40 is a prerelease.
 function versions(count) {
     return Array.from({ length: count }, (_, i) => {
         const text = `${i * 7 % 11}.${i * 13 % 31}.${i * 17 % 101}`;

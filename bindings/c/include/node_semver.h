@@ -9,7 +9,7 @@
  * - Handles. A `node_semver_version` or a `node_semver_range` is a struct of one pointer, which only this library
  *   reads. It starts as NODE_SEMVER_EMPTY. A call that makes a version or a range fills an empty handle. `.._free`
  *   frees what a full handle holds: exactly once, and then neither the handle nor a copy of it is used again. Freeing
- *   an empty handle does nothing. A copy of a handle stands for the same version. Every other call reads: its handles
+ *   an empty handle does nothing. A copy of a handle points to the same version. Every other call reads: its handles
  *   are full, and no other thread frees them during the call. Versions and ranges never change, so any number of
  *   threads may read one.
  * - Pointers. A `fault` may be NULL, and then the fault is not reported. No other pointer is null, not even one to 0
@@ -47,7 +47,7 @@ typedef struct node_semver_version {
     const void *at;
 } node_semver_version;
 
-/* A range: the versions that a text asks for. */
+/* A range: the sets of versions that a text writes. */
 typedef struct node_semver_range {
     const void *at;
 } node_semver_range;
@@ -165,6 +165,39 @@ node_semver_status node_semver_range_difference(const node_semver_range *one, co
 node_semver_status node_semver_range_union(const node_semver_range *one, const node_semver_range *other,
                                            node_semver_range *answer);
 
+/* What lies at an end of a set: a cut, which is a place between versions. */
+typedef struct node_semver_cut {
+    uint32_t kind;               /* one of the kinds below */
+    node_semver_version version; /* the version of NODE_SEMVER_BEFORE and NODE_SEMVER_AFTER, else empty */
+} node_semver_cut;
+
+#define NODE_SEMVER_START 0u  /* below every version */
+#define NODE_SEMVER_BEFORE 1u /* just below the version: where `>=1.2.3` begins, and where `<1.2.3` ends */
+#define NODE_SEMVER_AFTER 2u  /* just above the version: where `>1.2.3` begins, and where `<=1.2.3` ends */
+#define NODE_SEMVER_END 3u    /* above every version */
+
+/* A set of a range: what lies from the lower cut up to the upper one. */
+typedef struct node_semver_set {
+    node_semver_cut lower;
+    node_semver_cut upper;
+} node_semver_set;
+
+/* A set with empty handles. */
+#define NODE_SEMVER_EMPTY_SET { { 0, NODE_SEMVER_EMPTY }, { 0, NODE_SEMVER_EMPTY } }
+
+/* Returns the number of sets, at least 1: `1 || 1` has two. */
+#define NODE_SEMVER_HAS_SETS 1
+size_t node_semver_range_set_count(const node_semver_range *range);
+
+/* Writes the set at a place, from 0, into a set with empty handles. Returns NODE_SEMVER_NONE for a place past the last
+ * set. The caller frees both versions with node_semver_version_free, which does nothing for an empty handle. */
+node_semver_status node_semver_range_set(const node_semver_range *range, size_t place, node_semver_set *set);
+
+/* Makes the range of these sets in their order, with copies of their versions. Returns NODE_SEMVER_NONE if there are no
+ * sets, or if one of them has a kind that is not listed above, lacks its version, has a lower cut that is not below the
+ * upper one, or ends at a version that no range text can write. Each handle is empty or full. */
+node_semver_status node_semver_range_from_sets(const node_semver_set *sets, size_t count, node_semver_range *range);
+
 /* Makes the least version that satisfies the range. Returns NODE_SEMVER_NONE if none does. */
 node_semver_status node_semver_min_version(const node_semver_range *range, node_semver_version *answer);
 
@@ -182,7 +215,7 @@ bool node_semver_min_satisfying(const node_semver_version *versions, size_t coun
                                 size_t *place);
 
 /* Writes whether the version of one text satisfies the range of the other. The range is parsed first, and the fault is
- * that of the first text that is refused. The answer counts where the status is NODE_SEMVER_OK. */
+ * that of the first text that is refused. The result is set only if the status is NODE_SEMVER_OK. */
 node_semver_status node_semver_satisfies_text(const char *range, size_t range_length, const char *version,
                                               size_t version_length, bool *answer, node_semver_fault *fault);
 

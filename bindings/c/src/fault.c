@@ -4,6 +4,8 @@
  *
  * The proved calls write the fault through a pointer that is not null. Here a fault that nobody reads takes the place
  * of a null pointer. The Makefile gives the proved calls the names that are declared here.
+ *
+ * See docs/DECISIONS.md, "A null fault pointer is replaced in C".
  */
 #include "node_semver.h"
 

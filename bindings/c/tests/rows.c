@@ -106,7 +106,7 @@ static void free_read(struct read *read) {
     }
 }
 
-/* Returns false, with the status written to the answer and nothing kept, if a text is not read. */
+/* Returns false, with the status in `answer` and nothing kept, if a text is refused. */
 static bool read_texts(struct read *read, const char *kinds, const char *const *texts, struct answer *answer) {
     *read = (struct read){{NODE_SEMVER_EMPTY, NODE_SEMVER_EMPTY}, {NODE_SEMVER_EMPTY, NODE_SEMVER_EMPTY}};
     for (int i = 0; kinds[i] != '\0'; i++) {
@@ -180,6 +180,75 @@ static void run_choice(choice *call, const char *const *texts, struct answer *an
         node_semver_version_free(versions[--count]);
     }
     node_semver_range_free(range);
+}
+
+/* Writes a cut: its kind, and its version if it has one. */
+static bool tell_cut(struct answer *answer, const node_semver_cut *cut) {
+    static const char *const kinds[] = {"start", "before ", "after ", "end"};
+    struct answer version = {""};
+    if (cut->version.at != NULL) {
+        tell_version(&version, &cut->version);
+    }
+    size_t length = strlen(answer->text);
+    snprintf(answer->text + length, sizeof answer->text - length, "%s%s", kinds[cut->kind], version.text);
+    return strcmp(version.text, "out of memory") != 0;
+}
+
+/* Reads each set of the range, makes the range of these sets again, and writes them if both ranges print alike. */
+static void run_sets(const node_semver_range *range, struct answer *answer) {
+    node_semver_set sets[4], past = NODE_SEMVER_EMPTY_SET;
+    node_semver_range again = NODE_SEMVER_EMPTY;
+    struct answer prints[2] = {{""}, {""}};
+    size_t count = node_semver_range_set_count(range), read = 0;
+    node_semver_status status = NODE_SEMVER_OK;
+    while (read < count && status == NODE_SEMVER_OK) {
+        sets[read] = (node_semver_set)NODE_SEMVER_EMPTY_SET;
+        status = node_semver_range_set(range, read, &sets[read]);
+        read += status == NODE_SEMVER_OK;
+    }
+    if (status == NODE_SEMVER_OK) {
+        status = node_semver_range_from_sets(sets, count, &again);
+    }
+    bool is_told = status == NODE_SEMVER_OK;
+    for (size_t i = 0; i < read; i++) {
+        is_told = is_told && tell_cut(answer, &sets[i].lower);
+        strcat(answer->text, i + 1 < 2 * count && is_told ? " " : "");
+        is_told = is_told && tell_cut(answer, &sets[i].upper);
+        strcat(answer->text, i + 1 < read && is_told ? ", " : "");
+        node_semver_version_free(sets[i].lower.version);
+        node_semver_version_free(sets[i].upper.version);
+    }
+    if (is_told) {
+        tell_range(&prints[0], range);
+        tell_range(&prints[1], &again);
+    }
+    if (status != NODE_SEMVER_OK) {
+        tell_status(answer, status, NULL);
+    } else if (!is_told || strcmp(prints[0].text, "out of memory") == 0 || strcmp(prints[1].text, "out of memory") == 0) {
+        tell(answer, "out of memory");
+    } else if (strcmp(prints[0].text, prints[1].text) != 0) {
+        tell(answer, prints[1].text);
+    } else if (node_semver_range_set(range, count, &past) == NODE_SEMVER_OK
+               || node_semver_range_set(range, SIZE_MAX, &past) == NODE_SEMVER_OK || past.lower.version.at != NULL
+               || past.upper.version.at != NULL) {
+        tell(answer, "a set past the last");
+    }
+    node_semver_range_free(again);
+}
+
+/* Makes a range of one set between cuts of these kinds at the version, or of no set for a first kind of 9. */
+static void run_set(const char *kinds, const node_semver_version *version, struct answer *answer) {
+    node_semver_range made = NODE_SEMVER_EMPTY;
+    node_semver_version none = NODE_SEMVER_EMPTY;
+    uint32_t lower = (uint32_t)(kinds[0] - '0'), upper = (uint32_t)(kinds[2] - '0');
+    node_semver_set set = {{lower, kinds[1] == '-' ? none : *version}, {upper, kinds[3] == '-' ? none : *version}};
+    node_semver_status status = node_semver_range_from_sets(&set, lower != 9, &made);
+    if (status == NODE_SEMVER_OK) {
+        tell_range(answer, &made);
+    } else {
+        tell_status(answer, status, NULL);
+    }
+    node_semver_range_free(made);
 }
 
 static void run_texts(const char *const *texts, struct answer *answer) {
@@ -282,6 +351,7 @@ struct row {
 
 static void run(const struct row *row, struct answer *answer) {
     struct read read;
+    answer->text[0] = '\0';
     if (!read_texts(&read, row->kinds, row->texts, answer)) {
         return;
     }
@@ -326,6 +396,10 @@ static void run(const struct row *row, struct answer *answer) {
         run_search(NULL, &read, answer);
     } else if (strcmp(row->call, "least_beyond") == 0) {
         run_search(node_semver_least_beyond, &read, answer);
+    } else if (strcmp(row->call, "sets") == 0) {
+        run_sets(&r[0], answer);
+    } else if (strcmp(row->call, "set") == 0) {
+        run_set(row->texts[1], &v[0], answer);
     } else if (strcmp(row->call, "max_satisfying") == 0) {
         run_choice(node_semver_max_satisfying, row->texts, answer);
     } else if (strcmp(row->call, "min_satisfying") == 0) {
@@ -338,8 +412,8 @@ static void run(const struct row *row, struct answer *answer) {
     free_read(&read);
 }
 
-/* Returns whether the row gives its answer and leaves no block. If a request was refused, out of memory is right too,
- * and so is the row's own answer: a call may go on without an allocation that only saves memory. */
+/* Returns whether the row gives its result and leaves no block. If a request was refused, out of memory is right too, and
+ * so is the row's own result: a call may go on without an allocation that only saves memory. */
 static bool is_right(const struct row *row) {
     struct answer answer;
     requests = 0;

@@ -1,7 +1,6 @@
 #!/usr/bin/env node
 // SPDX-License-Identifier: Apache-2.0
-// Lists each dependency of the packages in a folder whose installed version does not satisfy the range that asks for
-// it.
+// Lists each dependency of the packages in a folder whose installed version does not satisfy its range.
 //
 //     node examples/installed.js node_modules
 //
@@ -57,7 +56,7 @@ function installedVersion(folder, name, top) {
     }
 }
 
-// What a package asks for: `npm:other@range` asks for that range of another package under this name.
+// The dependencies of a package: `npm:other@range` means that range of another package under this name.
 function asked(manifest) {
     const optional = { ...manifest.optionalDependencies };
     for (const [name, { optional: is }] of Object.entries(manifest.peerDependenciesMeta ?? {})) {

@@ -1,7 +1,7 @@
 /* SPDX-License-Identifier: Apache-2.0 */
 /*
- * What the files of this folder share. `index.js` alone calls them, and gives them keys: what stands for a version or
- * for a range. A key is a JavaScript string, or an external that holds a version or a range that no text writes, or the
+ * Declarations that the files of this folder share. `index.js` alone calls them, and passes keys of versions and of
+ * ranges. A key is a JavaScript string, or an external that holds a version or a range that no text writes, or the
  * number of a place where a range is kept.
  */
 #ifndef BINDING_H
@@ -90,8 +90,8 @@ struct state *state_of(napi_env env);
 /* The range at a place. It stays there until the next call of `keep`. */
 node_semver_status kept_range(napi_env env, uint32_t number, struct range *range);
 
-/* keep(number, text): puts the range of a text at a place, and frees what was there. Where the text is refused, returns
- * false and leaves the place empty. */
+/* keep(number, text): puts the range of a text at a place, and frees the range that was there. If the text is
+ * refused, returns false and leaves the place empty. */
 napi_value keep(napi_env env, napi_callback_info info);
 
 /* ---- order.c ---- */

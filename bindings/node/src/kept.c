@@ -1,6 +1,6 @@
 /* SPDX-License-Identifier: Apache-2.0 */
 /*
- * The ranges that were read last, in a table of numbered places. `index.js` knows which text stands at which place, and
+ * The ranges that were read last, in a table of numbered places. `index.js` knows which text has which place, and
  * puts the range of a new text at the place of the oldest one, which is freed at once: so the table has one size, and
  * nothing waits for a garbage collection.
  */

@@ -1,5 +1,6 @@
 /* SPDX-License-Identifier: Apache-2.0 */
-/* The functions that `index.js` calls. Each takes keys and makes one call of node_semver, or a few. */
+/* The functions that `index.js` calls. Each takes keys and makes one call of node_semver, or a few.
+ * See docs/DECISIONS.md, "A version crosses as a text". */
 #include "binding.h"
 
 /* What `compare` and `compareBuild` return where the first key, or the second, is no version. */
@@ -200,7 +201,7 @@ static napi_value beyond(napi_env env, const node_semver_range *one, const node_
 }
 
 /* allowsAny(one, other), intersect(one, other), difference(one, other), leastBeyond(one, other): a boolean, or the key
- * of what was made, or null where there is none. */
+ * of the new range or version, or null if there is none. */
 static napi_value allows_any(napi_env env, napi_callback_info info) {
     return with_ranges(env, info, any);
 }

@@ -19,7 +19,7 @@ test("npm's own node_modules: each dependency is satisfied", () => {
     assert.deepStrictEqual([wrong, notRanges], [[], []]);
 });
 
-// The same packages, each of whose versions is another: what is wrong then is what npm's `satisfies` says is wrong.
+// The same packages with other versions: exactly those are reported that npm's `satisfies` refuses.
 test("npm's own node_modules with other versions: what npm's satisfies refuses, and nothing else", () => {
     const npm = createNpm();
     const read = fs.readFileSync;

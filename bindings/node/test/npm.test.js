@@ -27,7 +27,7 @@ const row = ({ name, example: [call, ...texts], npm: theirs, here: ours, why }) 
 
 const plain = (value) => value?.version ?? value ?? null;
 
-// The functions, by what each returns for the texts of a pair: a version, another, a range, another, and versions.
+// The functions, each called with the texts of a pair: two versions, two ranges, and a list of versions.
 const calls = {
     valid: (semver, { v }) => semver.valid(v, LOOSE),
     clean: (semver, { v }) => semver.clean(v, LOOSE),

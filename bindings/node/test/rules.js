@@ -201,7 +201,7 @@ const rules = [
         example: ['satisfies', '1.2.3-rc', '* || 1.2.3-rc'],
         npm: false,
         here: true,
-        why: 'npm drops what stands beside `*`',
+        why: 'npm drops the words beside `*`',
         range: isMadeAny,
     },
 ];

@@ -1,6 +1,8 @@
 /* SPDX-License-Identifier: Apache-2.0
  *
  * The extension module node_semver._native. It has no global state: each interpreter has types of its own.
+ *
+ * See docs/DECISIONS.md, "A C extension, not ctypes".
  */
 #include "native.h"
 

@@ -1,6 +1,6 @@
 /* SPDX-License-Identifier: Apache-2.0
  *
- * Texts: of arguments, of prints, and what Version and Range have in common about them.
+ * Texts of arguments and of prints, for both Version and Range.
  */
 #include "native.h"
 

@@ -18,7 +18,7 @@ assert SPEC is not None and SPEC.loader is not None
 installed: Any = importlib.util.module_from_spec(SPEC)
 SPEC.loader.exec_module(installed)
 
-# A folder in the project, and its package.json. `late` has its own copy of `tool`, and `tool` asks for what is absent.
+# A folder in the project, and its package.json. `late` has its own copy of `tool`, and `tool` depends on an absent package.
 MADE_UP: Dict[str, Dict[str, object]] = {
     "": {
         "name": "app",

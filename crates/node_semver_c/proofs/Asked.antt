@@ -1,4 +1,4 @@
--- What is asked of one thing is asked of another that admits the same versions.
+-- The result for one property of versions is the result for another property that the same versions have.
 use Rattle.std.proofs.Common.{◌↔◌, ℕ, List, Bool}
 use Rattle.node_semver_c.specs.Pair.{IsAsked, answered, refused}
 use Rattle.node_semver_c.specs.declared.status.Fault.{Fault}

@@ -1,4 +1,4 @@
--- An answer that was kept is one that was found.
+-- A result that was kept is one that was found.
 use Rattle.std.proofs.Common.{ℕ, sym, ap, ◌∙◌, subst, inl, inr}
 use Rattle.std.specs.Prelude.{Option, Some, None}
 use Rattle.node_semver_c.specs.Answers.{IsFound, IsMade, made, no_memory, status_found}

@@ -1,6 +1,6 @@
 -- The best version of an array that a range admits, with its place, as one version more is looked at.
 use Rattle.std.proofs.Common.{◌≡◌, suc, ◌+◌, ◌<◌, ◌∙◌, ℕ, List, [], ◌∷◌, ◌++◌, Option, Some, None, length, get_or, take}
-use Rattle.std.proofs.Common.{refl, sym, ap, subst, inl, inr, arith}
+use Rattle.std.proofs.Common.{Bool, refl, sym, ap, subst, inl, inr, arith}
 use Rattle.std.proofs.lemmas.List.{take_more, length-take-le}
 use Rattle.node_semver_c.specs.Greatest.{IsBestAtOrNone, IsBetterAt, IsGreatestAt, IsLeastAt, values}
 use Rattle.node_semver_c.specs.declared.handle.version.VersionRef.{VersionRef}
@@ -10,9 +10,9 @@ use Rattle.semver_sets.specs.Comparison.{version_cmp}
 use Rattle.semver_sets.specs.Meaning.{RangeAdmits}
 use Rattle.semver_sets.specs.Version.{VersionValue}
 use Rattle.node_semver.specs.Greatest.{AdmitsNoneIn}
-use Rattle.node_semver.specs.Private.GreatestViews.{Order, downward}
-use Rattle.node_semver.proofs.Least.GreatestLemmas.{IsOrder, as-greatest, as-least, keep-best, none-at, take-better}
-use Rattle.node_semver.proofs.Least.GreatestLemmas.{take-first}
+use Rattle.node_semver.specs.Private.GreatestViews.{Order, downward, order_of}
+use Rattle.node_semver.proofs.Least.GreatestLemmas.{IsOrder, as-greatest, as-least, each-order, keep-best, none-at}
+use Rattle.node_semver.proofs.Least.GreatestLemmas.{take-better, take-first}
 
 module _ (order : Order) (is : IsOrder order) (sets : List (Ends VersionValue)) where
   more-place : (done : List VersionValue) (place : ℕ) (v : VersionValue) (best found : Option (ℕ × VersionValue))
@@ -40,19 +40,19 @@ length-values [] = refl
 length-values (handle ∷ handles) = ap (λ (n : ℕ). suc n) (length-values handles)
 
 -- as a loop goes over the handles
-pub taken-place : (order : Order) → IsOrder order → (sets : List (Ends VersionValue)) (handles : List VersionRef)
+pub taken-place : (upward : Bool) (sets : List (Ends VersionValue)) (handles : List VersionRef)
     (k : ℕ) (handle : VersionRef) (best found : Option (ℕ × VersionValue)) → k < length handles
-    → handle ≡ get_or handles k handle → IsBestAtOrNone order sets (values (take k handles)) best
-    → IsBetterAt order sets best k handle.value found
-    → IsBestAtOrNone order sets (values (take (k + 1) handles)) found
-taken-place order is sets handles k handle best found lt at first better =
-    subst (λ (l : List VersionValue). IsBestAtOrNone order sets l found)
+    → handle ≡ get_or handles k handle → IsBestAtOrNone (order_of upward) sets (values (take k handles)) best
+    → IsBetterAt (order_of upward) sets best k handle.value found
+    → IsBestAtOrNone (order_of upward) sets (values (take (k + 1) handles)) found
+taken-place upward sets handles k handle best found lt at first better =
+    subst (λ (l : List VersionValue). IsBestAtOrNone (order_of upward) sets l found)
     (sym (ap values (take_more handles k handle lt ∙ ap (λ (h : VersionRef). take k handles ++ h ∷ []) (sym at))
     ∙ values-append (take k handles) (handle ∷ [])))
-    (more-place order is sets (values (take k handles)) k handle.value best found
+    (more-place (order_of upward) (each-order upward) sets (values (take k handles)) k handle.value best found
     (length-values (take k handles) ∙ length-take-le k handles (omega (arith, lt))) first better)
 
--- ---- what the program returns
+-- ---- the program's result
 
 pub greatest-at : (sets : List (Ends VersionValue)) (versions : List VersionValue) (place : ℕ) (v : VersionValue)
     → IsBestAtOrNone version_cmp sets versions (Some (place, v)) → IsGreatestAt sets versions place

@@ -33,8 +33,8 @@ module _ {M : Type 1} {𝓤 : Ura M} (𝓛 : Logic 𝓤) (t : Lft → Fml) (L : 
       use1 𝓛 (‵ (t (a ∷ [])) ⊛ ‵ (t (a ∷ []))) (contraction 𝓛 t L (a ∷ [])) $ split ! $
       move ! (3 ∷ 0 ∷ []) $ fjoin ! $ move ! (2 ∷ 1 ∷ []) $ fjoin ! $ done !)
 
-  -- where what is borrowed is the heap and something else, the something is let go for the lifetime, and the heap is
-  -- had at it
+  -- if the borrowed part is the heap and something else, the other part is dropped for the lifetime, and the heap is
+  -- available at it
   module _ (κ : Lft) (q : Share) (P Rest : Fml) (back : ent 𝓤 (sep 𝓤 (sem 𝓛 Rest) (sem 𝓛 Heap)) (sem 𝓛 P))
       (s : Share) where
     abbrev Again : Fml

@@ -2,7 +2,9 @@ mod Alike
 mod Asked
 mod Examples
 mod Found
+mod GivenSets
 mod GreatestPlaces
 mod Held
 mod Lent
+mod LentOrEmpty
 mod Values

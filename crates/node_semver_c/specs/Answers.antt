@@ -37,14 +37,14 @@ pub record IsSomeTold {X : Type 0} (Answers : Result X SemverError → Type 0) (
   pub promised : Answers answer
   pub told : IsTold answer status held fault
 
--- ---- what there always is
+-- ---- results that always exist
 
 -- the handle has a value that the call may return, or an allocation failed and the handle is empty
 pub data IsMade {X : Type 0} (Is : X → Type 0) (status : ℕ) (held : Option X) : Type 0 where
   made : (x : X) → Is x → status ≡ OK → held ≡ Some x → IsMade Is status held
   no_memory : status ≡ OUT_OF_MEMORY → held ≡ None → IsMade Is status held
 
--- what `Range::union` returns
+-- the result of `Range::union`
 pub record IsUnion (one other union : List (Ends VersionValue)) : Type 0 where
   pub sets : union ≡ one ++ other
   pub cuts : (cut : Cut VersionValue) → IsInSome version_cmp union cut
@@ -54,19 +54,19 @@ pub record IsUnion (one other union : List (Ends VersionValue)) : Type 0 where
       → AreSetsOfText second other → AreSetsOfText (joined_text first second) union
   pub holds : IsRangeValue union
 
--- ---- what may be none
+-- ---- results that may be none
 
 -- the status of a call that found something, or nothing
 abbrev pub status_found : {X : Type 0} → Option X → ℕ
 status_found None = NONE
 status_found (Some x) = OK
 
--- the handle has what the call returns, or an allocation failed and the handle is empty
+-- the handle has the result of the call, or an allocation failed and the handle is empty
 abbrev pub IsFound : {X : Type 0} → (Option X → Type 0) → ℕ → Option X → Type 0
 IsFound Answers status held =
     (Answers held × (status ≡ status_found held)) ⊎ ((status ≡ OUT_OF_MEMORY) × (held ≡ None))
 
--- what `Range::intersect` returns
+-- the result of `Range::intersect`
 pub record IsIntersection (one other : List (Ends VersionValue)) (answer : Option (List (Ends VersionValue)))
     : Type 0 where
   pub sets : sets_of_answer answer ≡ common_spans version_cmp one other
@@ -84,7 +84,7 @@ pub record IsIntersection (one other : List (Ends VersionValue)) (answer : Optio
       ↔ (IsInSome version_cmp (sets_of_answer answer) cut ⊎ IsInSome version_cmp rest cut)
   pub holds : IfSome answer IsRangeValue
 
--- what `Range::difference` returns
+-- the result of `Range::difference`
 pub record IsDifference (one other : List (Ends VersionValue)) (answer : Option (List (Ends VersionValue)))
     : Type 0 where
   pub sets : AreRestSpans version_cmp one other (sets_of_answer answer)
@@ -101,13 +101,13 @@ pub record IsDifference (one other : List (Ends VersionValue)) (answer : Option 
       ⊎ IsInSome version_cmp (sets_of_answer answer) cut)
   pub holds : IfSome answer IsRangeValue
 
--- what `Range::min_version` returns
+-- the result of `Range::min_version`
 pub record IsMinimum (sets : List (Ends VersionValue)) (answer : Option VersionValue) : Type 0 where
   pub least : IfSome answer (IsLeastAdmitted sets)
   pub none : IsNone answer ↔ AdmitsNone sets
   pub build : IfSome answer (HasBuildOfFirst sets)
 
--- what `Range::least_beyond` returns
+-- the result of `Range::least_beyond`
 pub record IsBeyond (one other : List (Ends VersionValue)) (answer : Option VersionValue) : Type 0 where
   pub least : IfSome answer (IsLeastBeyond one other)
   pub none : IsNone answer ↔ AdmitsNoneBeyond one other

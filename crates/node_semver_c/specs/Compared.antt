@@ -13,10 +13,10 @@ sign_of Less = negsuc 0
 sign_of Equal = pos 0
 sign_of Greater = pos 1
 
--- the hash by std's `FoldHasher`, with its fixed seed, of what a version feeds a hasher: triple and prerelease
+-- the hash by std's `FoldHasher`, with its fixed seed, of the triple and prerelease that a version feeds a hasher
 abbrev pub version_hash : VersionValue → ℕ
 version_hash v = folding.finish (fold folding.write folding.initial (version_writes v))
 
--- the same of what a range feeds a hasher: its sets, by their cuts
+-- the same of a range, which feeds a hasher its sets, by their cuts
 abbrev pub range_hash : List (Ends VersionValue) → ℕ
 range_hash sets = folding.finish (fold folding.write folding.initial (range_writes sets))

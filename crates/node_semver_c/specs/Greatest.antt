@@ -9,7 +9,7 @@ use Rattle.semver_sets.specs.Version.{VersionValue}
 use Rattle.node_semver.specs.Greatest.{AdmitsNoneIn, IsFirstBest}
 use Rattle.node_semver.specs.Private.GreatestViews.{Order}
 
--- the versions that the handles are lent
+-- the versions that the borrowed handles point to
 abbrev pub values : List VersionRef → List VersionValue
 values [] = []
 values (handle ∷ handles) = handle.value ∷ values handles

@@ -1,11 +1,12 @@
 -- What the contracts of the exports cite, beside the definitions of `node_semver`.
 
--- ---- what C passes
+-- ---- arguments from C
 pub mod Handles
--- ---- what a call returns
+-- ---- results of a call
 pub mod Status
 pub mod Answers
 pub mod Greatest
+pub mod Sets
 pub mod Compared
 pub mod Pair
 pub mod Printed

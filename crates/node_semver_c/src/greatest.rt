@@ -1,9 +1,9 @@
 //! The greatest and the least of the versions of an array that a range admits.
 ghost use Rattle.std.specs.Option.{option_map};
-ghost use Rattle.std.specs.Prelude.{◌↔◌, IsTrue};
-ghost use Rattle.semver_sets.specs.Comparison.{version_cmp};
+ghost use Rattle.std.specs.Prelude.{◌≡◌, ◌↔◌, IsTrue};
+ghost use Rattle.std.specs.declared.cmp.Ordering.TheVariants.{Less};
 ghost use Rattle.node_semver.specs.Greatest.{AdmitsNoneIn};
-ghost use Rattle.node_semver.specs.Private.GreatestViews.{downward};
+ghost use Rattle.node_semver.specs.Private.GreatestViews.{order_of};
 ghost use Rattle.node_semver_c.specs.Greatest.{IsBestAtOrNone, IsBetterAt, IsGreatestAt, IsLeastAt, values};
 
 use crate::handle::range::RangeRef;
@@ -27,47 +27,12 @@ fn place_of_greatest(versions: &[VersionRef], range: &Range, place: &mut usize) 
     ensures greatest { IsTrue result → IsGreatestAt range.now (values versions.now) place.new }
     ensures none { (¬ IsTrue result) ↔ AdmitsNoneIn range.now (values versions.now) }
 {
-    match greatest(versions, range) {
+    match best_of(versions, range, true) {
         Some((found, _)) => {
             *place = found;
             true
         }
         None => false,
-    }
-}
-
-// Returns the greatest, with its place.
-fn greatest<'a>(versions: &'a [VersionRef], range: &Range) -> Option<(usize, &'a Version)>
-    ensures { IsBestAtOrNone version_cmp range.now (values versions.now)
-        (option_map (λ b. (b.0, b.1.now)) result) }
-{
-    let mut best = None;
-    'versions: for place in 0..versions.len() {
-        best = greater(best, place, versions[place].get(), range);
-    }
-    best
-}
-
-// Returns the version and its place if the range admits it and it is above the best so far, or else the best. Inlined,
-// since it is the body of the loop.
-#[inline(always)]
-fn greater<'a>(
-    best: Option<(usize, &'a Version)>,
-    place: usize,
-    version: &'a Version,
-    range: &Range,
-) -> Option<(usize, &'a Version)>
-    ensures { IsBetterAt version_cmp range.now (option_map (λ b. (b.0, b.1.now)) best.entry) place version.now
-        (option_map (λ b. (b.0, b.1.now)) result) }
-{
-    let is_above = match best {
-        Some((_, best)) => best.cmp(version).is_lt(),
-        None => true,
-    };
-    if is_above && range.satisfies(version) {
-        Some((place, version))
-    } else {
-        best
     }
 }
 
@@ -88,7 +53,7 @@ fn place_of_least(versions: &[VersionRef], range: &Range, place: &mut usize) -> 
     ensures least { IsTrue result → IsLeastAt range.now (values versions.now) place.new }
     ensures none { (¬ IsTrue result) ↔ AdmitsNoneIn range.now (values versions.now) }
 {
-    match least(versions, range) {
+    match best_of(versions, range, false) {
         Some((found, _)) => {
             *place = found;
             true
@@ -97,37 +62,56 @@ fn place_of_least(versions: &[VersionRef], range: &Range, place: &mut usize) -> 
     }
 }
 
-// Returns the least, with its place.
-fn least<'a>(versions: &'a [VersionRef], range: &Range) -> Option<(usize, &'a Version)>
-    ensures { IsBestAtOrNone downward range.now (values versions.now)
+// Returns the greatest version that the range admits, or the least if `upward` is false, with its place. Inlined, so that
+// the order is chosen once and not at each version.
+#[inline(always)]
+fn best_of<'a>(
+    versions: &'a [VersionRef],
+    range: &Range,
+    upward: bool,
+) -> Option<(usize, &'a Version)>
+    ensures { IsBestAtOrNone (order_of upward) range.now (values versions.now)
         (option_map (λ b. (b.0, b.1.now)) result) }
 {
     let mut best = None;
     'versions: for place in 0..versions.len() {
-        best = lesser(best, place, versions[place].get(), range);
+        best = better(best, place, versions[place].get(), range, upward);
     }
     best
 }
 
-// Returns the version and its place if the range admits it and it is below the best so far, or else the best. Inlined,
-// since it is the body of the loop.
+// Returns the version and its place if it is better than the best so far and the range admits it, or else the best.
+// Inlined, since it is the body of the loop.
 #[inline(always)]
-fn lesser<'a>(
+fn better<'a>(
     best: Option<(usize, &'a Version)>,
     place: usize,
     version: &'a Version,
     range: &Range,
+    upward: bool,
 ) -> Option<(usize, &'a Version)>
-    ensures { IsBetterAt downward range.now (option_map (λ b. (b.0, b.1.now)) best.entry) place version.now
-        (option_map (λ b. (b.0, b.1.now)) result) }
+    ensures { IsBetterAt (order_of upward) range.now (option_map (λ b. (b.0, b.1.now)) best.entry) place
+        version.now (option_map (λ b. (b.0, b.1.now)) result) }
 {
-    let is_below = match best {
-        Some((_, best)) => version.cmp(best).is_lt(),
+    let is_best = match best {
+        Some((_, best)) => is_better(version, best, upward),
         None => true,
     };
-    if is_below && range.satisfies(version) {
+    if is_best && range.satisfies(version) {
         Some((place, version))
     } else {
         best
+    }
+}
+
+// Returns whether the version is greater than the best so far, or less if `upward` is false.
+#[inline(always)]
+fn is_better(version: &Version, best: &Version, upward: bool) -> bool
+    ensures { IsTrue result ↔ (order_of upward best.now version.now ≡ Less) }
+{
+    if upward {
+        best.cmp(version).is_lt()
+    } else {
+        version.cmp(best).is_lt()
     }
 }

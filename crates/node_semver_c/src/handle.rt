@@ -2,8 +2,12 @@
 //!
 //! A handle that owns its value is filled by the call that makes the value, and freed once. A handle that a call reads is
 //! borrowed for that call. `specs/Handles` says what C must keep.
+//!
+//! See docs/DECISIONS.md, "A handle is a struct of one pointer".
 
+pub(crate) mod optional;
 pub(crate) mod range;
+pub(crate) mod set;
 pub(crate) mod version;
 
 /// What a handle points to, as C sees it: an opaque value.

@@ -1,8 +1,10 @@
-//! The laws of what a call returns beside its value. Each function here does nothing: its contract is the law.
+//! The laws of statuses and faults, which a call returns beside its value. Each function here does nothing: its
+//! contract is the law.
 ghost use Rattle.std.specs.Prelude.{◌≡◌, ℕ, List};
 ghost use Rattle.node_semver.specs.Error.{context, incomplete, max_int, max_length, no_valid_ranges, other};
 ghost use Rattle.node_semver.specs.Error.{out_of_memory, parse_int};
 ghost use Rattle.node_semver_c.specs.Status.{code_of};
+ghost use Rattle.node_semver_c.specs.declared.handle.set.TheConstants.{AFTER, BEFORE, END, START};
 ghost use Rattle.node_semver_c.specs.declared.status.TheConstants.{NONE, NOT_UTF8, OK, OUT_OF_MEMORY, REFUSED};
 
 /// The statuses, as the numbers that the header gives them.
@@ -24,4 +26,12 @@ pub fn kinds()
     ensures no_valid_ranges { code_of no_valid_ranges ≡ 6 }
     ensures other { code_of other ≡ 7 }
     ensures no_memory { code_of out_of_memory ≡ 8 }
+{}
+
+/// The kinds of cuts, as the numbers that the header gives them.
+pub fn cuts()
+    ensures start { START ≡ 0 }
+    ensures before { BEFORE ≡ 1 }
+    ensures after { AFTER ≡ 2 }
+    ensures end { END ≡ 3 }
 {}

@@ -1,4 +1,6 @@
 //! Exports of `node_semver` for C. `bindings/c/include/node_semver.h` declares them.
+//!
+//! See docs/DECISIONS.md, "Exports state the clauses of their calls".
 #![tactic(auto)]
 
 mod algebra;
@@ -9,11 +11,14 @@ pub mod laws;
 mod loose;
 mod pair;
 mod range;
+mod sets;
 mod status;
 mod text;
 mod version;
 
 pub use handle::Opaque;
+pub use handle::optional::OptionalVersionRef;
 pub use handle::range::{RangeHandle, RangeRef};
+pub use handle::set::{AFTER, BEFORE, CutHandle, CutRef, END, START, SetHandle, SetRef};
 pub use handle::version::{VersionHandle, VersionRef};
 pub use status::{Fault, NONE, NOT_UTF8, OK, OUT_OF_MEMORY, REFUSED};

@@ -9,7 +9,7 @@ use crate::handle::version::VersionHandle;
 use node_semver::{Range, SemverError, SemverErrorKind, Version};
 use std::alloc::Global;
 
-/// The call did what it was called for.
+/// The call succeeded.
 pub const OK: u32 = 0;
 
 /// There is no such version, or no such range.

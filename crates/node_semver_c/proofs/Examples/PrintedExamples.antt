@@ -1,4 +1,4 @@
--- Worked examples: what is put into the caller's array.
+-- Worked examples: the bytes that are written into the caller's array.
 use Rattle.std.proofs.Common.{◌≡◌, ℕ, List, [], ◌∷◌, refl, inl, inr, arith}
 use Rattle.node_semver_c.specs.Printed.{IsPrinted, IsPut}
 

@@ -1,4 +1,4 @@
--- Worked examples: what is told of a text that is refused.
+-- Worked examples: the status and the fault of a text that is refused.
 use Rattle.std.proofs.Common.{◌≡◌, ◌↔◌, ℕ, List, codes, sym, subst}
 use Rattle.std.specs.Prelude.{Option, None, Err}
 use Rattle.semver_sets.specs.Version.{VersionValue}
@@ -13,7 +13,7 @@ abbrev pub Tells : ℕ → ℕ → ℕ → ℕ → ℕ → Option VersionValue �
 Tells wanted kind offset number status held fault =
     (status ≡ wanted) × (held ≡ None) × (fault.kind ≡ kind) × (fault.offset ≡ offset) × (fault.number ≡ number)
 
--- an error is told by this status and these numbers, and by no other
+-- this status and these numbers report an error, and no others do
 abbrev pub IsToldBy : SemverError → ℕ → ℕ → ℕ → ℕ → Type 0
 IsToldBy e wanted kind offset number = (status : ℕ) (held : Option VersionValue) (fault : Fault)
     → IsTold (Err e) status held fault ↔ Tells wanted kind offset number status held fault

@@ -78,6 +78,7 @@ impl Model for RangeRef {
 }
 
 impl RangeRef {
+    // Returns the borrowed range. `inline(always)`: nothing is computed.
     #[inline(always)]
     pub(crate) fn get(&self) -> &Range
         ensures { result.now ≡ self.now.value }

@@ -77,6 +77,7 @@ impl Model for VersionRef {
 }
 
 impl VersionRef {
+    // Returns the borrowed version. `inline(always)`: nothing is computed.
     #[inline(always)]
     pub(crate) fn get(&self) -> &Version
         ensures { result.now ≡ self.now.value }

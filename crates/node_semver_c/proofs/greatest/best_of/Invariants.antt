@@ -1,0 +1,9 @@
+use Rattle.std.proofs.Common.{take}
+use Rattle.std.specs.Option.{option_map}
+use Rattle.node_semver.specs.Private.GreatestViews.{order_of}
+use Rattle.node_semver_c.specs.Greatest.{IsBestAtOrNone, values}
+use Rattle.node_semver_c.proofs.greatest.best_of.Given as goal
+
+abbrev pub invariant-versions : goal.invariant-versions
+invariant-versions l = IsBestAtOrNone (order_of l.upward) l.range (values (take l.place l.versions))
+    (option_map (λ b. (b.0, b.1.now)) l.best)

@@ -6,7 +6,7 @@ use Rattle.std.specs.List.Sorted.{IsStrictlySortedBy}
 use Rattle.std.specs.Cmp.{IsTotalOrder}
 use Rattle.std.proofs.lemmas.Cmp.{tied_itself}
 use Rattle.semver_cuts.specs.Lemmas.Lists.{all-append}
-use Rattle.semver_cuts.specs.Lemmas.Merging.{all_map}
+use Rattle.semver_cuts.specs.Lemmas.Lists.{all_map}
 use Rattle.semver_cuts.proofs.PlacedOrder.{IsAmong, all-among}
 
 -- ---- elements of a list

@@ -8,14 +8,14 @@ use Rattle.std.specs.List.{AllByRecursion}
 use Rattle.std.specs.Ordering.{is_le}
 use Rattle.semver_cuts.specs.Cut.{cut_cmp}
 use Rattle.semver_cuts.specs.Ends.{Ends, IsCutAtMost, IsCutBelow}
-use Rattle.semver_cuts.specs.Common.{AreApart}
+use Rattle.semver_cuts.specs.SpanLists.{AreApart}
 use Rattle.semver_cuts.specs.CommonSpans.{common_of, common_with}
 use Rattle.semver_cuts.specs.Sharing.{HaveCommonCut}
 use Rattle.semver_cuts.specs.Joined.{AreRising}
-use Rattle.semver_cuts.specs.Private.Rest.{ending_above}
+use Rattle.semver_cuts.specs.Private.Difference.{ending_above}
 use Rattle.semver_cuts.specs.Lemmas.Apart.{apart-above, apart-behind, rising-behind}
 use Rattle.semver_cuts.specs.Lemmas.Ends.{at_most-below, at_most-from_le, at_most_trans, below-not-at_most, below_trans}
-use Rattle.semver_cuts.specs.Lemmas.Merging.{all_map}
+use Rattle.semver_cuts.specs.Lemmas.Lists.{all_map}
 use Rattle.semver_cuts.specs.Lemmas.TwoSpans.{common_of-cases}
 use Rattle.semver_cuts.proofs.CommonSpans.{common_with-append}
 

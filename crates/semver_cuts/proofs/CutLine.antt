@@ -6,7 +6,7 @@ use Rattle.semver_cuts.specs.declared.cut.Cut.{Cut}
 use Rattle.semver_cuts.specs.declared.cut.Cut.TheVariants.{Start, Before, After, End}
 use Rattle.semver_cuts.specs.Cut.{cut_cmp}
 use Rattle.semver_cuts.specs.Lemmas.CutOrder.{cut_total}
-use Rattle.semver_cuts.specs.CutLaws.{StandsInLine}
+use Rattle.semver_cuts.specs.CutLaws.{IsOrderOfCuts}
 
 module _ {T : Type 0} {cmp : T → T → Ordering} (o : IsTotalOrder cmp) where
   start_least : (c : Cut T) → (c ≡ Start → ⊥) → cut_cmp cmp Start c ≡ Less
@@ -21,7 +21,7 @@ module _ {T : Type 0} {cmp : T → T → Ordering} (o : IsTotalOrder cmp) where
   end_greatest (After v) h = refl
   end_greatest End h = absurd (h refl)
 
-  pub cut_cmp-stands : StandsInLine cmp (cut_cmp cmp)
+  pub cut_cmp-stands : IsOrderOfCuts cmp (cut_cmp cmp)
   cut_cmp-stands = record {
     total = cut_total o;
     start = start_least;
@@ -32,7 +32,7 @@ module _ {T : Type 0} {cmp : T → T → Ordering} (o : IsTotalOrder cmp) where
     after_same = λ v w p. p;
   }
 
-  module _ {order : Cut T → Cut T → Ordering} (l : StandsInLine cmp order) where
+  module _ {order : Cut T → Cut T → Ordering} (l : IsOrderOfCuts cmp order) where
     turn : (c d : Cut T) → order d c ≡ Less → order c d ≡ Greater
     turn c d p = l.total.antisymm c d ∙ ap ordering_reverse p
 

@@ -3,13 +3,13 @@ use Rattle.std.proofs.Common.{List, [], ◌∷◌, Ordering, inl, inr, ⊎_elim}
 use Rattle.std.specs.List.{AllByRecursion}
 use Rattle.std.specs.Cmp.{IsTotalOrder}
 use Rattle.semver_cuts.specs.declared.cut.Cut.{Cut}
-use Rattle.semver_cuts.specs.Common.{AreApart, IsInSome, IsWithin}
+use Rattle.semver_cuts.specs.SpanLists.{AreApart, IsInSome, IsWithin}
 use Rattle.semver_cuts.specs.Ends.{Ends, IsCutBelow, IsInSpan}
 use Rattle.semver_cuts.specs.Joined.{AreRising}
 use Rattle.semver_cuts.specs.Lemmas.Apart.{apart-above, apart-tail}
 use Rattle.semver_cuts.specs.Lemmas.Ends.{at_most-below, at_most-or-below, at_most_refl, at_most_trans, below-at_most}
 use Rattle.semver_cuts.specs.Lemmas.Ends.{below-not-at_most, below_irrefl, below_trans}
-use Rattle.semver_cuts.specs.Lemmas.Merging.{all_both, all_map}
+use Rattle.semver_cuts.specs.Lemmas.Lists.{all_both, all_map}
 
 module _ {T : Type 0} (cmp : T → T → Ordering) where
   -- no cut lies in spans that all begin above it

@@ -9,14 +9,14 @@ use Rattle.std.proofs.lemmas.List.Elements.{All-from_recursion, recursion_from_A
 use Rattle.std.proofs.lemmas.List.Sorted.{All-permutation, IsPermutation-sym, ranks_by, sorted_far}
 use Rattle.semver_cuts.specs.declared.cut.Cut.{Cut}
 use Rattle.semver_cuts.specs.Cut.{cut_cmp}
-use Rattle.semver_cuts.specs.Common.{IsInSome}
+use Rattle.semver_cuts.specs.SpanLists.{IsInSome}
 use Rattle.semver_cuts.specs.Ends.{Ends, IsCutBelow, IsInSpan}
-use Rattle.semver_cuts.specs.Rest.{IsFirstAt}
+use Rattle.semver_cuts.specs.Difference.{IsFirstAt}
 use Rattle.semver_cuts.specs.Joined.{AreJoined, AreRising}
 use Rattle.semver_cuts.specs.Private.Joining.{joined_in_order}
 use Rattle.semver_cuts.specs.Private.Placed.{PlacedSpan, placed_cmp, placed_from}
 use Rattle.semver_cuts.specs.Lemmas.Joined.{all_unit}
-use Rattle.semver_cuts.specs.Lemmas.Merging.{all_map}
+use Rattle.semver_cuts.specs.Lemmas.Lists.{all_map}
 use Rattle.semver_cuts.specs.Lemmas.Placed.{placed_total}
 use Rattle.semver_cuts.proofs.PlacedOrder.{AreInOrder, IsAmong, all-among}
 use Rattle.semver_cuts.proofs.Joining.{IsFirstPlaced, entries-from, new-run}

@@ -10,7 +10,7 @@ use Rattle.std.proofs.lemmas.List.{append-nil, append_assoc, drop-map, drop_all,
 use Rattle.semver_cuts.specs.declared.cut.Cut.{Cut}
 use Rattle.semver_cuts.specs.declared.cut.Cut.TheVariants.{Start, End}
 use Rattle.semver_cuts.specs.Cut.{cut_cmp}
-use Rattle.semver_cuts.specs.Common.{AreApart}
+use Rattle.semver_cuts.specs.SpanLists.{AreApart}
 use Rattle.semver_cuts.specs.Ends.{Ends, IsCutBelow, span_between}
 use Rattle.semver_cuts.specs.Joined.{AreJoined, AreMerged, AreRising}
 use Rattle.semver_cuts.specs.Places.{AreWithin, IsPlacesOf, merged_spans, span_at, span_of_places}

@@ -6,9 +6,9 @@ use Rattle.std.specs.Cmp.{IsTotalOrder}
 use Rattle.std.specs.List.{AllByRecursion}
 use Rattle.semver_cuts.specs.declared.cut.Cut.{Cut}
 use Rattle.semver_cuts.specs.Ends.{Ends, IsCutAtMost, IsCutBelow}
-use Rattle.semver_cuts.specs.Common.{AreApart}
+use Rattle.semver_cuts.specs.SpanLists.{AreApart}
 use Rattle.semver_cuts.specs.Joined.{AreRising}
-use Rattle.semver_cuts.specs.Private.Rest.{ending_above}
+use Rattle.semver_cuts.specs.Private.Difference.{ending_above}
 use Rattle.semver_cuts.specs.Lemmas.Apart.{ending_above-at, halved_above, halved_below}
 
 module _ {T : Type 0} {cmp : T → T → Ordering} (o : IsTotalOrder cmp) (spans : List (Ends T)) (cut : Cut T)

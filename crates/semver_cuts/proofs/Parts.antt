@@ -6,15 +6,16 @@ use Rattle.std.specs.Ordering.{is_lt}
 use Rattle.std.specs.Cmp.{IsTotalOrder}
 use Rattle.semver_cuts.specs.declared.cut.Cut.{Cut}
 use Rattle.semver_cuts.specs.Cut.{cut_cmp}
-use Rattle.semver_cuts.specs.Common.{AreApart, IsInSome}
+use Rattle.semver_cuts.specs.SpanLists.{AreApart, IsInSome}
 use Rattle.semver_cuts.specs.Ends.{Ends, IsCutAtMost, IsCutBelow, span_between}
-use Rattle.semver_cuts.specs.Rest.{IsFirstAt, IsPieceLower, IsPieceUpper}
+use Rattle.semver_cuts.specs.Difference.{IsFirstAt, IsPieceLower, IsPieceUpper}
 use Rattle.semver_cuts.specs.Joined.{AreRising}
-use Rattle.semver_cuts.specs.Private.Rest.{part_between, parts_between}
+use Rattle.semver_cuts.specs.SpanDifference.{span_if_any}
+use Rattle.semver_cuts.specs.Private.Difference.{pieces_between}
 use Rattle.semver_cuts.specs.Lemmas.Apart.{apart-above, apart-cons, apart-tail}
 use Rattle.semver_cuts.specs.Lemmas.Ends.{at_most-below, at_most-from_not_lt, at_most-or-below, at_most_refl}
 use Rattle.semver_cuts.specs.Lemmas.Ends.{at_most_trans, below-at_most, below-from_lt, below-not-at_most, below_trans}
-use Rattle.semver_cuts.specs.Lemmas.Merging.{all_both, all_map}
+use Rattle.semver_cuts.specs.Lemmas.Lists.{all_both, all_map}
 use Rattle.semver_cuts.proofs.Greatest.{none-above}
 
 -- the parts that the spans leave of what lies from a cut up to where one span ends
@@ -149,9 +150,9 @@ module _ {T : Type 0} {cmp : T → T → Ordering} (o : IsTotalOrder cmp) (other
       (above : AllByRecursion (λ (s : Ends T). IsCutBelow cmp span.upper s.lower) spans)
       (first : IsFirstAt cmp (λ (s : Ends T). s.lower) others span.lower)
       (go_on : IsCutBelow cmp span.upper one.upper
-      → ArePartsFrom cmp others one span.upper spans (parts_between cmp span.upper one.upper spans)) where
+      → ArePartsFrom cmp others one span.upper spans (pieces_between cmp span.upper one.upper spans)) where
     by_end : (b : Bool) → is_lt (cut_cmp cmp span.upper one.upper) ≡ b
-        → ArePartsFrom cmp others one span.upper spans (if b then parts_between cmp span.upper one.upper spans else [])
+        → ArePartsFrom cmp others one span.upper spans (if b then pieces_between cmp span.upper one.upper spans else [])
     by_end true e = go_on (below-from_lt cmp span.upper one.upper e)
     by_end false e = no-part span.upper spans (at_most-from_not_lt o span.upper one.upper e)
 
@@ -166,12 +167,12 @@ module _ {T : Type 0} {cmp : T → T → Ordering} (o : IsTotalOrder cmp) (other
     by_begin : (b : Bool) → is_lt (cut_cmp cmp span.lower one.upper) ≡ b
         → ArePartsFrom cmp others one low (span ∷ spans)
         (if b
-        then part_between cmp low span.lower
-        ++ (if is_lt (cut_cmp cmp span.upper one.upper) then parts_between cmp span.upper one.upper spans else [])
+        then span_if_any cmp low span.lower
+        ++ (if is_lt (cut_cmp cmp span.upper one.upper) then pieces_between cmp span.upper one.upper spans else [])
         else span_between low one.upper ∷ [])
     by_begin true e =
         by_room (is_lt (cut_cmp cmp low span.lower)) refl (below-from_lt cmp span.lower one.upper e)
-        (if is_lt (cut_cmp cmp span.upper one.upper) then parts_between cmp span.upper one.upper spans else [])
+        (if is_lt (cut_cmp cmp span.upper one.upper) then pieces_between cmp span.upper one.upper spans else [])
         (by_end (is_lt (cut_cmp cmp span.upper one.upper)) refl)
     by_begin false e =
         let past : IsCutAtMost cmp one.upper span.lower = at_most-from_not_lt o span.lower one.upper e in
@@ -189,7 +190,7 @@ module _ {T : Type 0} {cmp : T → T → Ordering} (o : IsTotalOrder cmp) (other
       → IsPieceLower cmp others one low → AreRising cmp spans → AreApart cmp spans
       → AllByRecursion (λ (s : Ends T). IsCutBelow cmp low s.upper) spans
       → AllByRecursion (HasFirstEnds cmp others) spans
-      → ArePartsFrom cmp others one low spans (parts_between cmp low one.upper spans)
+      → ArePartsFrom cmp others one low spans (pieces_between cmp low one.upper spans)
   found-parts low [] below least end rising apart over first = whole-part low [] below end tt
   found-parts low (span ∷ spans) below least end rising apart over first =
       let above : AllByRecursion (λ (s : Ends T). IsCutBelow cmp span.upper s.lower) spans =

@@ -6,15 +6,16 @@ use Rattle.std.specs.Ordering.{is_le}
 use Rattle.std.specs.Cmp.{IsTotalOrder}
 use Rattle.semver_cuts.specs.declared.cut.Cut.{Cut}
 use Rattle.semver_cuts.specs.Cut.{cut_cmp}
-use Rattle.semver_cuts.specs.Common.{AreApart, IsInSome}
+use Rattle.semver_cuts.specs.SpanLists.{AreApart, IsInSome}
 use Rattle.semver_cuts.specs.Ends.{Ends, IsCutAtMost, IsCutBelow, IsInSpan}
-use Rattle.semver_cuts.specs.Rest.{AreRestSpans, ArePieces, IsFirstAt, IsLeft, IsPiece, IsPieceLower, IsPieceUpper}
+use Rattle.semver_cuts.specs.Difference.{AreDifference, ArePieces, IsFirstAt, IsInDifference, IsPiece, IsPieceLower}
+use Rattle.semver_cuts.specs.Difference.{IsPieceUpper}
 use Rattle.semver_cuts.specs.Joined.{AreJoined, AreRising}
-use Rattle.semver_cuts.specs.Private.Rest.{ending_above, pieces_of, pieces_of_all}
+use Rattle.semver_cuts.specs.Private.Difference.{ending_above, pieces_of, pieces_of_all}
 use Rattle.semver_cuts.specs.Lemmas.Apart.{apart-above, apart-behind, apart-tail, rising-behind}
 use Rattle.semver_cuts.specs.Lemmas.Ends.{at_most_refl, at_most_trans, below-from_not_le, below-not-at_most}
 use Rattle.semver_cuts.specs.Lemmas.Ends.{below_trans, at_most-from_le}
-use Rattle.semver_cuts.specs.Lemmas.Merging.{all_both}
+use Rattle.semver_cuts.specs.Lemmas.Lists.{all_both}
 use Rattle.semver_cuts.proofs.Greatest.{HasGapBelow, each-in_some, ends-free, gaps-below, greatest}
 use Rattle.semver_cuts.proofs.Parts.{ArePartsFrom, HasFirstEnds, found-parts}
 
@@ -122,12 +123,12 @@ module _ {T : Type 0} {cmp : T → T → Ordering} (o : IsTotalOrder cmp) (other
         free ((are.cuts cut).0 (subst (λ spans. IsInSome cmp spans cut) (sym stands.parts)
         (in_some-behind cmp stands.front back cut is)))
 
-    left : (cut : Cut T) → IsInSome cmp (pieces_of cmp one joined) cut → IsLeft cmp others one cut
+    left : (cut : Cut T) → IsInSome cmp (pieces_of cmp one joined) cut → IsInDifference cmp others one cut
     left cut is =
         let found = parts-found.inside cut is in
         (record { lower = found.0; upper = found.1 }, not-other cut found.0 found.2)
 
-    kept : (cut : Cut T) → IsLeft cmp others one cut → IsInSome cmp (pieces_of cmp one joined) cut
+    kept : (cut : Cut T) → IsInDifference cmp others one cut → IsInSome cmp (pieces_of cmp one joined) cut
     kept cut is = parts-found.all cut is.0.lower is.0.upper (not-behind cut is.1)
 
     each-piece : (some : List (Ends T)) → AreRising cmp some
@@ -162,13 +163,13 @@ module _ {T : Type 0} {cmp : T → T → Ordering} (o : IsTotalOrder cmp) (other
     }
 
   -- and so for each span of a list
-  pub rest-found : (ones joined : List (Ends T)) → AreRising cmp ones → AreJoined cmp others joined
-      → AreRestSpans cmp ones others (pieces_of_all cmp ones joined)
-  rest-found [] joined rising are = refl
-  rest-found (one ∷ ones) joined rising are = (
+  pub difference-found : (ones joined : List (Ends T)) → AreRising cmp ones → AreJoined cmp others joined
+      → AreDifference cmp ones others (pieces_of_all cmp ones joined)
+  difference-found [] joined rising are = refl
+  difference-found (one ∷ ones) joined rising are = (
     pieces_of cmp one joined,
     pieces_of_all cmp ones joined,
     refl,
     pieces-found joined are one rising.0,
-    rest-found ones joined rising.1 are,
+    difference-found ones joined rising.1 are,
   )

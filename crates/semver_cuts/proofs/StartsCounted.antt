@@ -8,10 +8,10 @@ use Rattle.std.specs.Cmp.{IsTotalOrder}
 use Rattle.std.proofs.lemmas.List.{append-nil, append_assoc}
 use Rattle.semver_cuts.specs.declared.cut.Cut.{Cut}
 use Rattle.semver_cuts.specs.Cut.{cut_cmp}
-use Rattle.semver_cuts.specs.Common.{IsInSome}
+use Rattle.semver_cuts.specs.SpanLists.{IsInSome}
 use Rattle.semver_cuts.specs.Ends.{Ends}
 use Rattle.semver_cuts.specs.Joined.{AreJoined, AreMerged, AreRising}
-use Rattle.semver_cuts.specs.Rest.{IsFirstAt}
+use Rattle.semver_cuts.specs.Difference.{IsFirstAt}
 use Rattle.semver_cuts.specs.Starts.{begins_at, count_of_starts, count_of_starts_from, reaches}
 use Rattle.semver_cuts.specs.Lemmas.Apart.{apart-above, apart-tail}
 use Rattle.semver_cuts.specs.Lemmas.Ends.{at_most_trans, below-not-at_most, cut_cmp-equal_back, cut_cmp-equal_right}

@@ -9,13 +9,14 @@ use Rattle.std.proofs.lemmas.Bool.{cond-false, cond-true}
 use Rattle.std.proofs.lemmas.List.{append-nil, drop_all, drop_more}
 use Rattle.semver_cuts.specs.declared.cut.Cut.{Cut}
 use Rattle.semver_cuts.specs.Cut.{cut_cmp}
-use Rattle.semver_cuts.specs.Common.{AreApart}
+use Rattle.semver_cuts.specs.SpanLists.{AreApart}
 use Rattle.semver_cuts.specs.Ends.{Ends, IsCutBelow, span_between}
 use Rattle.semver_cuts.specs.Joined.{AreRising}
 use Rattle.semver_cuts.specs.Private.Joining.{ends_later, places_from, places_in_order}
 use Rattle.semver_cuts.specs.Private.Meeting.{beginning_from, pairs_along, pairs_until, places_by}
 use Rattle.semver_cuts.specs.Private.Placed.{PlacedSpan, placed_from}
-use Rattle.semver_cuts.specs.Private.Rest.{ending_above, part_between, parts_between, pieces_of}
+use Rattle.semver_cuts.specs.Private.Difference.{ending_above, pieces_between, pieces_of}
+use Rattle.semver_cuts.specs.SpanDifference.{span_if_any}
 use Rattle.semver_cuts.specs.Lemmas.Ends.{lt-from_below}
 
 -- the next element stands first of those that are left
@@ -243,32 +244,32 @@ module _ {T : Type 0} (cmp : T → T → Ordering) where
 
   pub pieces-begun : (old merged : List (Ends T)) (one : Ends T) (low high : Cut T) (k : ℕ)
       → one ≡ span_between low high → drop k merged ≡ ending_above cmp low merged
-      → old ++ parts_between cmp low high (drop k merged) ≡ old ++ pieces_of cmp one merged
+      → old ++ pieces_between cmp low high (drop k merged) ≡ old ++ pieces_of cmp one merged
   pieces-begun old merged one low high k e above =
-      ap (λ l. old ++ parts_between cmp low high l) above ∙ ap (λ s. old ++ pieces_of cmp s merged) (sym e)
+      ap (λ l. old ++ pieces_between cmp low high l) above ∙ ap (λ s. old ++ pieces_of cmp s merged) (sym e)
 
   -- what one piece adds, where there is one
   pub part-some : (old new : List (Ends T)) (low lower : Cut T) → is_lt (cut_cmp cmp low lower) ≡ true
-      → new ≡ old ++ span_between low lower ∷ [] → new ≡ old ++ part_between cmp low lower
+      → new ≡ old ++ span_between low lower ∷ [] → new ≡ old ++ span_if_any cmp low lower
   part-some old new low lower lt more =
       more ∙ ap (λ l. old ++ l) (sym (cond-true (is_lt (cut_cmp cmp low lower)) _ _ lt))
 
   pub part-none : (old new : List (Ends T)) (low lower : Cut T) → is_lt (cut_cmp cmp low lower) ≡ false
-      → new ≡ old → new ≡ old ++ part_between cmp low lower
+      → new ≡ old → new ≡ old ++ span_if_any cmp low lower
   part-none old new low lower lt same =
       same ∙ sym (append-nil old) ∙ ap (λ l. old ++ l) (sym (cond-false (is_lt (cut_cmp cmp low lower)) _ _ lt))
 
   module _ (merged : List (Ends T)) (k : ℕ) (low high : Cut T) (old total : List (Ends T))
-      (before : old ++ parts_between cmp low high (drop k merged) ≡ total) where
+      (before : old ++ pieces_between cmp low high (drop k merged) ≡ total) where
     pub parts-over : length merged ≤ k → old ++ span_between low high ∷ [] ≡ total
-    parts-over done = ap (λ l. old ++ parts_between cmp low high l) (sym (drop_all k merged done)) ∙ before
+    parts-over done = ap (λ l. old ++ pieces_between cmp low high l) (sym (drop_all k merged done)) ∙ before
 
     module _ (lower upper : Cut T) (at : drop k merged ≡ span_between lower upper ∷ drop (k + 1) merged) where
       abbrev pub after : List (Ends T)
-      after = parts_between cmp upper high (drop (k + 1) merged)
+      after = pieces_between cmp upper high (drop (k + 1) merged)
 
-      from_here : old ++ parts_between cmp low high (span_between lower upper ∷ drop (k + 1) merged) ≡ total
-      from_here = ap (λ l. old ++ parts_between cmp low high l) (sym at) ∙ before
+      from_here : old ++ pieces_between cmp low high (span_between lower upper ∷ drop (k + 1) merged) ≡ total
+      from_here = ap (λ l. old ++ pieces_between cmp low high l) (sym at) ∙ before
 
       -- the next span begins where this one ends or above
       pub parts-stopped : is_ge (cut_cmp cmp lower high) ≡ true → old ++ span_between low high ∷ [] ≡ total
@@ -277,13 +278,13 @@ module _ {T : Type 0} (cmp : T → T → Ordering) where
           (not_lt-from_ge (cut_cmp cmp lower high) ge)))
           ∙ from_here
 
-      module _ (new : List (Ends T)) (more : new ≡ old ++ part_between cmp low lower)
+      module _ (new : List (Ends T)) (more : new ≡ old ++ span_if_any cmp low lower)
           (ge : is_ge (cut_cmp cmp lower high) ≡ false) where
         begins : (left : List (Ends T))
             → (if is_lt (cut_cmp cmp upper high) then after else []) ≡ left → new ++ left ≡ total
         begins left e =
-            ap (λ l. l ++ left) more ∙ append_assoc old (part_between cmp low lower) left
-            ∙ ap (λ l. old ++ (part_between cmp low lower ++ l)) (sym e)
+            ap (λ l. l ++ left) more ∙ append_assoc old (span_if_any cmp low lower) left
+            ∙ ap (λ l. old ++ (span_if_any cmp low lower ++ l)) (sym e)
             ∙ ap (λ l. old ++ l) (sym (cond-true (is_lt (cut_cmp cmp lower high)) _ _
             (lt-from_below cmp lower high (below-from_not_ge lower high ge))))
             ∙ from_here

@@ -8,9 +8,9 @@ use Rattle.semver_cuts.specs.declared.cut.Cut.TheVariants.{Start, Before, After,
 use Rattle.semver_cuts.specs.Cut.{cut_cmp}
 use Rattle.semver_cuts.specs.CommonSpans.{common_spans}
 use Rattle.semver_cuts.specs.Ends.{Ends, IsCutAtMost, IsCutBelow, span_between}
-use Rattle.semver_cuts.specs.Merging.{IsFirstLeastUpper, IsLastGreatestLower}
+use Rattle.semver_cuts.specs.ChosenEnds.{IsFirstLeastUpper, IsLastGreatestLower}
 use Rattle.semver_cuts.specs.Places.{merged_spans}
-use Rattle.semver_cuts.specs.Rest.{IsFirstAt, IsPieceLower, IsPieceUpper}
+use Rattle.semver_cuts.specs.Difference.{IsFirstAt, IsPieceLower, IsPieceUpper}
 use Rattle.semver_cuts.specs.Private.Joining.{places_in_order}
 use Rattle.semver_cuts.specs.Private.Placed.{PlacedSpan}
 

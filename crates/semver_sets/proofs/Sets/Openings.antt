@@ -17,7 +17,7 @@ use Rattle.semver_cuts.specs.Ends.{Ends, span_between}
 use Rattle.semver_cuts.specs.Places.{span_at}
 use Rattle.semver_cuts.specs.Sharing.{AnyByRecursion}
 use Rattle.semver_cuts.specs.Lemmas.Lists.{any-at, none-more}
-use Rattle.semver_cuts.specs.Common.{IsInSome}
+use Rattle.semver_cuts.specs.SpanLists.{IsInSome}
 use Rattle.semver_cuts.specs.Cut.{cut_cmp}
 use Rattle.semver_cuts.specs.Starts.{count_of_starts}
 use Rattle.semver_cuts.specs.Lemmas.Ends.{cut_cmp-refl}

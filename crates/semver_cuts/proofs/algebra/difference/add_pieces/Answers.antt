@@ -1,8 +1,9 @@
 use Rattle.std.proofs.Common.{◌≤◌, refl, subst, sym, ◌∙◌}
 use Rattle.std.proofs.lemmas.Result.{on_ok_weaker}
 use Rattle.semver_cuts.specs.Lemmas.Ends.{below-from_lt}
-use Rattle.semver_cuts.proofs.Turns.{below-from_not_ge, part-none, part-some, parts-ended, parts-next, parts-over}
-use Rattle.semver_cuts.proofs.Turns.{parts-stopped, pieces-begun}
+use Rattle.semver_cuts.proofs.Differences.PiecesLoop.{piece-none, piece-some, pieces-ended, pieces-next, pieces-over}
+use Rattle.semver_cuts.proofs.LoopSteps.{below-from_not_ge}
+use Rattle.semver_cuts.proofs.Differences.PiecesLoop.{pieces-stopped, pieces-begun}
 use Rattle.semver_cuts.proofs.algebra.difference.add_pieces.Goals as goal
 use Rattle.semver_cuts.proofs.algebra.difference.add_pieces.Goals.{then-lt+in_ok-gather, else-lt, else-loop-number-test}
 use Rattle.semver_cuts.proofs.algebra.difference.add_pieces.Goals.{then-loop-number-test+then-ge}
@@ -32,12 +33,12 @@ loop-number-preserved g c =
     let new = g.S.Gather.gathered c.if-lt.into in
     record {
       below = below-from_not_ge g.T.Ord.cmp upper high (sym c.ge-in-loop-number.ensures ∙ c.if-ge-2.false);
-      parts = parts-next g.T.Ord.cmp c.args.others.now.merged loop.number low high old _ loop.invariant.parts lower
+      parts = pieces-next g.T.Ord.cmp c.args.others.now.merged loop.number low high old _ loop.invariant.parts lower
           upper c.ends-in-loop-number.ensures new
           (elim c.if-lt.branch [
-            | then-lt+in_ok-gather w ↦ part-some g.T.Ord.cmp old new low lower (sym c.lt.ensures ∙ w.if-lt.true)
+            | then-lt+in_ok-gather w ↦ piece-some g.T.Ord.cmp old new low lower (sym c.lt.ensures ∙ w.if-lt.true)
                 ((λ i. g.S.Gather.gathered (w.into-is i)) ∙ w.in_ok-gather.ensures)
-            | else-lt w ↦ part-none g.T.Ord.cmp old new low lower (sym c.lt.ensures ∙ w.if-lt.false)
+            | else-lt w ↦ piece-none g.T.Ord.cmp old new low lower (sym c.lt.ensures ∙ w.if-lt.false)
                 (λ i. g.S.Gather.gathered (w.into-is i))
           ])
           (sym c.ge.ensures ∙ c.if-ge.false) (sym c.ge-in-loop-number.ensures ∙ c.if-ge-2.false);
@@ -52,12 +53,12 @@ returns-then-ge-2-clause-pieces g c =
     let upper = c.ends-in-loop-number.result.1.now in
     let old = g.S.Gather.gathered loop.into in
     let new = g.S.Gather.gathered c.if-lt.into in
-    parts-ended g.T.Ord.cmp c.args.others.now.merged loop.number low high old _ loop.invariant.parts lower upper
+    pieces-ended g.T.Ord.cmp c.args.others.now.merged loop.number low high old _ loop.invariant.parts lower upper
     c.ends-in-loop-number.ensures new
     (elim c.if-lt.branch [
-      | then-lt+in_ok-gather w ↦ part-some g.T.Ord.cmp old new low lower (sym c.lt.ensures ∙ w.if-lt.true)
+      | then-lt+in_ok-gather w ↦ piece-some g.T.Ord.cmp old new low lower (sym c.lt.ensures ∙ w.if-lt.true)
           ((λ i. g.S.Gather.gathered (w.into-is i)) ∙ w.in_ok-gather.ensures)
-      | else-lt w ↦ part-none g.T.Ord.cmp old new low lower (sym c.lt.ensures ∙ w.if-lt.false)
+      | else-lt w ↦ piece-none g.T.Ord.cmp old new low lower (sym c.lt.ensures ∙ w.if-lt.false)
           (λ i. g.S.Gather.gathered (w.into-is i))
     ])
     (sym c.ge.ensures ∙ c.if-ge.false) (sym c.ge-in-loop-number.ensures ∙ c.if-ge-2.true)
@@ -73,10 +74,10 @@ returns-clause-pieces g c =
     let old = g.S.Gather.gathered loop.into in
     on_ok_weaker c.gather-2.result
     (λ more. more ∙ elim c.loop-number-test.branch [
-      | else-loop-number-test w ↦ parts-over g.T.Ord.cmp c.args.others.now.merged loop.number low high old _
+      | else-loop-number-test w ↦ pieces-over g.T.Ord.cmp c.args.others.now.merged loop.number low high old _
           loop.invariant.parts
           (subst (λ n. n ≤ loop.number) c.len-number-end.ensures.length w.loop-number-test.false)
-      | then-loop-number-test+then-ge w ↦ parts-stopped g.T.Ord.cmp c.args.others.now.merged loop.number low high old _
+      | then-loop-number-test+then-ge w ↦ pieces-stopped g.T.Ord.cmp c.args.others.now.merged loop.number low high old _
           loop.invariant.parts w.ends-in-loop-number.result.0.now w.ends-in-loop-number.result.1.now
           w.ends-in-loop-number.ensures (sym w.ge.ensures ∙ w.if-ge.true)
     ])

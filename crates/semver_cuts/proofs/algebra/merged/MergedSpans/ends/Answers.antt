@@ -2,7 +2,8 @@ use Rattle.std.proofs.Common.{◌≡◌, ◌+◌, ◌<◌, ◌==◌, ◌∷◌, 
 use mathlib.Core.Bool.{true≢false}
 use Rattle.semver_cuts.specs.Ends.{span_between}
 use Rattle.std.proofs.lemmas.Bool.{eqb-true}
-use Rattle.semver_cuts.proofs.Kept.{merged-at, merged-length_none, merged-length_some, none-merged, within-at}
+use Rattle.semver_cuts.proofs.Joining.JoinedPlaces.{merged-at, merged-length_none, merged-length_some, none-merged}
+use Rattle.semver_cuts.proofs.Joining.JoinedPlaces.{within-at}
 use Rattle.semver_cuts.proofs.algebra.merged.MergedSpans.ends.Goals as goal
 
 pub returns-else-is_empty : goal.returns-else-is_empty

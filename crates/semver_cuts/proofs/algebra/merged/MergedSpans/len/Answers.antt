@@ -3,8 +3,8 @@ use mathlib.Core.Bool.{true≢false}
 use Rattle.std.proofs.lemmas.Bool.{eqb-true}
 use Rattle.semver_cuts.specs.Places.{merged_spans}
 use Rattle.semver_cuts.specs.Starts.{count_of_starts}
-use Rattle.semver_cuts.proofs.Kept.{merged-length_none, merged-length_some}
-use Rattle.semver_cuts.proofs.StartsCounted.{starts-counted}
+use Rattle.semver_cuts.proofs.Joining.JoinedPlaces.{merged-length_none, merged-length_some}
+use Rattle.semver_cuts.proofs.Joining.StartsCounted.{starts-counted}
 use Rattle.semver_cuts.proofs.algebra.merged.MergedSpans.len.Goals as goal
 
 pub returns-then-is_empty-clause-starts : goal.returns-then-is_empty-clause-starts

@@ -5,7 +5,7 @@ use Rattle.semver_cuts.specs.Ends.{Ends}
 use Rattle.semver_cuts.specs.Difference.{AreDifference}
 use Rattle.semver_cuts.specs.Joined.{AreJoined, AreRising}
 use Rattle.semver_cuts.specs.Private.Difference.{pieces_of_all}
-use Rattle.semver_cuts.proofs.Pieces.{difference-found}
+use Rattle.semver_cuts.proofs.Differences.PiecesFound.{difference-found}
 use Rattle.semver_cuts.proofs.algebra.merged.MergedSpans.subtract_from.Goals as goal
 
 -- after the last span

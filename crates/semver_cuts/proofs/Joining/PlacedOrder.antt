@@ -1,6 +1,6 @@
--- Spans in the order of their lower ends: which begins and which ends later.
+-- Spans in the order of their lower ends: which of two begins later, and which ends later.
 use Rattle.std.proofs.Common.{◌≡◌, ◌⊎◌, ℕ, ◌<◌, ◌≤◌, List, [], ◌∷◌, Ordering, Less, Equal, Greater, true, false, refl}
-use Rattle.std.proofs.Common.{sym, ap, subst, ◌∙◌, inl, inr, ⊎_elim, arith}
+use Rattle.std.proofs.Common.{sym, ap, ◌∙◌, inl, inr, ⊎_elim, arith}
 use mathlib.Core.Bool.{true≢false}
 use Rattle.std.specs.List.{AllByRecursion}
 use Rattle.std.specs.Ordering.{is_lt, nat_cmp, ordering_then}
@@ -25,20 +25,9 @@ le-from_test x y Less e h = absurd (true≢false h)
 le-from_test x y Equal e h = let same = ranked x y Equal e in omega arith
 le-from_test x y Greater e h = let less = ranked x y Greater e in omega arith
 
--- ---- elements of a list
-
-abbrev pub IsAmong : {X : Type 0} → List X → X → Type 0
-IsAmong [] x = ⊥
-IsAmong (y ∷ ys) x = (x ≡ y) ⊎ IsAmong ys x
-
-pub all-among : {X : Type 0} (P : X → Type 0) (xs : List X) (x : X) → AllByRecursion P xs → IsAmong xs x → P x
-all-among P [] x all is = elim is [ ]
-all-among P (y ∷ xs) x all (inl same) = subst P (sym same) all.0
-all-among P (y ∷ xs) x all (inr there) = all-among P xs x all.1 there
-
 -- ---- the order
 
--- none comes before an earlier one
+-- no span comes before an earlier one of the list
 abbrev pub AreInOrder : {T : Type 0} → (T → T → Ordering) → List (PlacedSpan T) → Type 0
 AreInOrder cmp [] = Unit {0}
 AreInOrder {T} cmp (first ∷ later) =
@@ -51,14 +40,14 @@ module _ {T : Type 0} {cmp : T → T → Ordering} (o : IsTotalOrder cmp) where
   lower_by c d Equal s e h = inr (cut_cmp-equal_back o c d e)
   lower_by c d Greater s e h = inl (below-from_greater o c d e)
 
-  -- a later one begins no lower
+  -- a later span does not begin lower
   pub lower-later : (first next : PlacedSpan T) → is_lt (placed_cmp cmp next first) ≡ false
       → IsCutAtMost cmp first.span.lower next.span.lower
   lower-later first next h =
       lower_by next.span.lower first.span.lower (cut_cmp cmp next.span.lower first.span.lower)
       (nat_cmp next.place first.place) refl h
 
-  -- and where it begins at the same cut its place is no lower
+  -- and if it begins at the same cut, its place is not lower
   pub place-later : (first next : PlacedSpan T) → is_lt (placed_cmp cmp next first) ≡ false
       → cut_cmp cmp next.span.lower first.span.lower ≡ Equal → first.place ≤ next.place
   place-later first next h same =
@@ -67,7 +56,7 @@ module _ {T : Type 0} {cmp : T → T → Ordering} (o : IsTotalOrder cmp) where
 
   -- ---- which of two ends is the later
 
-  -- the span ends below the cut, or there and stands no earlier than the place
+  -- the span ends below the cut, or at the cut and does not come before the place
   abbrev pub EndsNoLater : Cut T → ℕ → PlacedSpan T → Type 0
   EndsNoLater upper place p =
       IsCutBelow cmp p.span.upper upper ⊎ ((cut_cmp cmp p.span.upper upper ≡ Equal) × (place ≤ p.place))
@@ -93,7 +82,7 @@ module _ {T : Type 0} {cmp : T → T → Ordering} (o : IsTotalOrder cmp) where
       inr (e, omega arith)
   later_by upper place next Greater e h = absurd (true≢false (sym h))
 
-  -- what ends no later than one end ends no later than a later one
+  -- a span that does not end later than one end does not end later than a later end
   pub no_later-trans : (upper upper' : Cut T) (place place' : ℕ) (p : PlacedSpan T) → EndsNoLater upper place p
       → IsCutBelow cmp upper upper' ⊎ ((cut_cmp cmp upper upper' ≡ Equal) × (place' ≤ place))
       → EndsNoLater upper' place' p

@@ -1,4 +1,4 @@
--- The first of spans that are apart to end above a cut, known by itself and the one before it.
+-- Of spans that are apart, one is the first that ends above a cut, if it does and the one before it does not.
 use Rattle.std.proofs.Common.{◌≡◌, ◌<◌, ◌+◌, ◌-◌, ℕ, List, ◌∷◌, get_or, length, take, drop, ap, subst, sym, ◌∙◌, arith}
 use Rattle.std.proofs.Common.{Ordering}
 use Rattle.std.proofs.lemmas.List.{drop_more, take-append-drop}
@@ -26,7 +26,7 @@ module _ {T : Type 0} {cmp : T → T → Ordering} (o : IsTotalOrder cmp) (spans
       (halved_above o spans rising apart cut place span lt (at place span lt e) above))
       ∙ ap (ending_above cmp cut) (take-append-drop place spans)
 
-  -- one behind a span that ends at or below the cut
+  -- the span after one that ends at or below the cut
   pub found_behind : (place : ℕ) (span last : Ends T) → place < length spans → span ≡ get_or spans place span
       → IsCutBelow cmp cut span.upper → 0 < place → last ≡ get_or spans (place - 1) last
       → IsCutAtMost cmp last.upper cut

@@ -1,4 +1,4 @@
--- What a span has in common with others that are apart: nothing with those before it and those behind it.
+-- The intersection of one span with spans that are apart: it is empty for those below the span and those above it.
 use Rattle.std.proofs.Common.{◌≡◌, ◌<◌, ◌+◌, ℕ, Bool, List, [], ◌∷◌, ◌++◌, get_or, length, take, drop, ap, subst, sym}
 use Rattle.std.proofs.Common.{refl, ◌∙◌, inl, true, false, Ordering}
 use Rattle.std.proofs.lemmas.List.{append-nil, drop_more, take-append-drop}
@@ -17,7 +17,7 @@ use Rattle.semver_cuts.specs.Lemmas.Apart.{apart-above, apart-behind, rising-beh
 use Rattle.semver_cuts.specs.Lemmas.Ends.{at_most-below, at_most-from_le, at_most_trans, below-not-at_most, below_trans}
 use Rattle.semver_cuts.specs.Lemmas.Lists.{all_map}
 use Rattle.semver_cuts.specs.Lemmas.TwoSpans.{common_of-cases}
-use Rattle.semver_cuts.proofs.CommonSpans.{common_with-append}
+use Rattle.semver_cuts.proofs.Intersections.IntersectionSteps.{common_with-append}
 
 module _ {T : Type 0} {cmp : T → T → Ordering} (o : IsTotalOrder cmp) (one : Ends T) where
   pub nothing : (other : Ends T) → ¬ HaveCommonCut cmp one other → common_of cmp one other ≡ []
@@ -43,7 +43,7 @@ module _ {T : Type 0} {cmp : T → T → Ordering} (o : IsTotalOrder cmp) (one :
       (nothing other (before other (at_most-from_le cmp other.upper one.lower h))))
   from_by other others false h e = refl
 
-  -- the others that end at or below where the span begins have nothing in common with it
+  -- those that end at or below the lower end of the span can be left out
   pub common_with-from : (others : List (Ends T))
       → common_with cmp one (ending_above cmp one.lower others) ≡ common_with cmp one others
   common_with-from [] = refl
@@ -57,7 +57,7 @@ module _ {T : Type 0} {cmp : T → T → Ordering} (o : IsTotalOrder cmp) (one :
   all_behind (other ∷ others) all =
       ap (λ spans. spans ++ common_with cmp one others) (nothing other (behind other all.0)) ∙ all_behind others all.1
 
-  -- nor do those from one on that begins where the span ends or above
+  -- and those from the first one on that begins at or above its upper end
   pub common_with-until : (others : List (Ends T)) (k : ℕ) (other : Ends T) → k < length others
       → other ≡ get_or others k other → AreApart cmp others → AreRising cmp others
       → IsCutAtMost cmp one.upper other.lower

@@ -1,4 +1,4 @@
--- Spans that are apart are the greatest ones of the cuts that lie in them: each ends at a cut that lies in none.
+-- Spans that are apart are the greatest spans of their cuts: the end of each lies in none of them.
 use Rattle.std.proofs.Common.{List, [], ◌∷◌, Ordering, inl, inr, ⊎_elim}
 use Rattle.std.specs.List.{AllByRecursion}
 use Rattle.std.specs.Cmp.{IsTotalOrder}
@@ -19,7 +19,7 @@ module _ {T : Type 0} (cmp : T → T → Ordering) where
   none-above o cut (span ∷ spans) above (inl here) = below-not-at_most o cut span.lower above.0 here.lower
   none-above o cut (span ∷ spans) above (inr there) = none-above o cut spans above.1 there
 
-  -- what lies in spans that all begin above a cut is above it
+  -- if spans all begin above a cut, the cuts in them are above it
   pub some-above : IsTotalOrder cmp → (bound cut : Cut T) (spans : List (Ends T))
       → AllByRecursion (λ (s : Ends T). IsCutBelow cmp bound s.lower) spans → IsInSome cmp spans cut
       → IsCutBelow cmp bound cut
@@ -27,7 +27,7 @@ module _ {T : Type 0} (cmp : T → T → Ordering) where
   some-above o bound cut (span ∷ spans) above (inl here) = below-at_most o bound span.lower cut above.0 here.lower
   some-above o bound cut (span ∷ spans) above (inr there) = some-above o bound cut spans above.1 there
 
-  -- what lies in a span lies in one of the list
+  -- each cut of an element of a list lies in some span of the list
   pub each-in_some : (spans : List (Ends T))
       → AllByRecursion (λ (s : Ends T). (cut : Cut T) → IsInSpan cmp s cut → IsInSome cmp spans cut) spans
   each-in_some [] = tt
@@ -42,7 +42,7 @@ module _ {T : Type 0} {cmp : T → T → Ordering} (o : IsTotalOrder cmp) where
   past_end : (span : Ends T) (cut : Cut T) → IsCutBelow cmp span.upper cut → ¬ (IsInSpan cmp span cut)
   past_end span cut h is = below-not-at_most o span.upper cut h (inl is.upper)
 
-  -- where one of them ends lies in none of them
+  -- the upper end of each span lies in none of them
   pub ends-free : (spans : List (Ends T)) → AreApart cmp spans → AreRising cmp spans
       → AllByRecursion (λ (s : Ends T). ¬ (IsInSome cmp spans s.upper)) spans
   ends-free [] apart rising = tt
@@ -61,7 +61,7 @@ module _ {T : Type 0} {cmp : T → T → Ordering} (o : IsTotalOrder cmp) where
             (ends-free spans (apart-tail cmp span spans apart) rising.1) over,
       )
 
-  -- between a cut that lies in one and the lower end of a later one there is one that lies in none
+  -- between a cut that lies in one of them and the lower end of a later one, some cut lies in none
   abbrev pub HasGapBelow : List (Ends T) → Ends T → Type 0
   HasGapBelow spans span = (cut : Cut T) → IsCutBelow cmp cut span.lower → IsInSome cmp spans cut
       → (gap : Cut T) × IsCutBelow cmp cut gap × IsCutBelow cmp gap span.lower × ¬ (IsInSome cmp spans gap)
@@ -90,7 +90,7 @@ module _ {T : Type 0} {cmp : T → T → Ordering} (o : IsTotalOrder cmp) where
             spans (gaps-below spans (apart-tail cmp span spans apart) rising.1) above,
       )
 
-  -- so a wider span whose cuts all lie in some of them is no wider
+  -- so if all cuts of a span that contains one of them lie in some of them, it is no wider
   pub greatest : (spans : List (Ends T)) (span wider : Ends T) → IsCutBelow cmp span.lower span.upper
       → ¬ (IsInSome cmp spans span.upper) → HasGapBelow spans span
       → ((cut : Cut T) → IsInSpan cmp wider cut → IsInSome cmp spans cut) → IsWithin cmp span wider

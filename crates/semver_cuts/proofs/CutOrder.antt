@@ -1,4 +1,4 @@
--- The order of cuts stands in the line of the values, and no other does.
+-- The order of cuts follows the order of the values, and is the only one that does.
 use Rattle.std.proofs.Common.{◌≡◌, refl, ap, ◌∙◌, Ordering, Less, Equal, Greater}
 use Rattle.std.specs.Ordering.{ordering_then, ordering_reverse}
 use Rattle.std.specs.Cmp.{IsTotalOrder, tied_itself}
@@ -21,8 +21,8 @@ module _ {T : Type 0} {cmp : T → T → Ordering} (o : IsTotalOrder cmp) where
   end_greatest (After v) h = refl
   end_greatest End h = absurd (h refl)
 
-  pub cut_cmp-stands : IsOrderOfCuts cmp (cut_cmp cmp)
-  cut_cmp-stands = record {
+  pub cut_cmp-order : IsOrderOfCuts cmp (cut_cmp cmp)
+  cut_cmp-order = record {
     total = cut_total o;
     start = start_least;
     end = end_greatest;

@@ -1,4 +1,4 @@
--- What is found along spans that are apart are the pieces of a span: all of them, each a greatest one.
+-- The pieces of a span that are found along spans that are apart are all its pieces, and each is a greatest one.
 use Rattle.std.proofs.Common.{◌≡◌, List, [], ◌∷◌, ◌++◌, Ordering, Bool, true, false, if◌then◌else◌, refl, sym, ap}
 use Rattle.std.proofs.Common.{subst, inl, inr}
 use Rattle.std.specs.List.{AllByRecursion}
@@ -15,14 +15,15 @@ use Rattle.semver_cuts.specs.Private.Difference.{ending_above, pieces_of, pieces
 use Rattle.semver_cuts.specs.Lemmas.Apart.{apart-above, apart-behind, apart-tail, rising-behind}
 use Rattle.semver_cuts.specs.Lemmas.Ends.{at_most_refl, at_most_trans, below-from_not_le, below-not-at_most}
 use Rattle.semver_cuts.specs.Lemmas.Ends.{below_trans, at_most-from_le}
+use Rattle.semver_cuts.specs.Lemmas.InSome.{in_some-right}
 use Rattle.semver_cuts.specs.Lemmas.Lists.{all_both}
-use Rattle.semver_cuts.proofs.Greatest.{HasGapBelow, each-in_some, ends-free, gaps-below, greatest}
-use Rattle.semver_cuts.proofs.Parts.{ArePartsFrom, HasFirstEnds, found-parts}
+use Rattle.semver_cuts.proofs.Differences.GreatestSpans.{HasGapBelow, each-in_some, ends-free, gaps-below, greatest}
+use Rattle.semver_cuts.proofs.Differences.PiecesAlong.{ArePiecesFrom, HasFirstEnds, pieces-along}
 
 -- ---- the spans that end above a cut
 
 module _ {T : Type 0} {cmp : T → T → Ordering} (o : IsTotalOrder cmp) (cut : Cut T) where
-  -- the others stand before them, and end no higher than the cut
+  -- the others come before them, and end at or below the cut
   record IsBehind (spans back : List (Ends T)) : Type 0 where
     front : List (Ends T)
     parts : spans ≡ front ++ back
@@ -68,7 +69,7 @@ module _ {T : Type 0} {cmp : T → T → Ordering} (o : IsTotalOrder cmp) (cut :
       over_by span spans rising.1 apart (ending_above-over spans rising.1 (apart-tail cmp span spans apart))
       (is_le (cut_cmp cmp span.upper cut)) refl
 
-  -- a cut that is not below lies in one of the list where it lies in one of them
+  -- a cut at or above this one that lies in a span of the list lies in one of those that end above this one
   not-before : (front back : List (Ends T)) (at : Cut T)
       → AllByRecursion (λ (s : Ends T). IsCutAtMost cmp s.upper cut) front
       → IsCutAtMost cmp cut at → IsInSome cmp (front ++ back) at → IsInSome cmp back at
@@ -76,11 +77,6 @@ module _ {T : Type 0} {cmp : T → T → Ordering} (o : IsTotalOrder cmp) (cut :
   not-before (span ∷ front) back at below l (inl here) =
       absurd (below-not-at_most o at span.upper here.upper (at_most_trans o span.upper cut at below.0 l))
   not-before (span ∷ front) back at below l (inr there) = not-before front back at below.1 l there
-
-module _ {T : Type 0} (cmp : T → T → Ordering) where
-  in_some-behind : (front back : List (Ends T)) (cut : Cut T) → IsInSome cmp back cut → IsInSome cmp (front ++ back) cut
-  in_some-behind [] back cut is = is
-  in_some-behind (span ∷ front) back cut is = inr (in_some-behind front back cut is)
 
 all_behind : {X : Type 0} (P : X → Type 0) (front back : List X) → AllByRecursion P (front ++ back)
     → AllByRecursion P back
@@ -95,41 +91,41 @@ module _ {T : Type 0} {cmp : T → T → Ordering} (o : IsTotalOrder cmp) (other
     back : List (Ends T)
     back = ending_above cmp one.lower joined
 
-    stands : IsBehind o one.lower joined back
+    split : IsBehind o one.lower joined back
     unfolding back
-    stands = ending_above-behind o one.lower joined
+    split = ending_above-behind o one.lower joined
 
-    parts-found : ArePartsFrom cmp others one one.lower back (pieces_of cmp one joined)
+    pieces-from : ArePiecesFrom cmp others one one.lower back (pieces_of cmp one joined)
     unfolding back AllOver
-    parts-found =
-        found-parts o others one one.lower back rising (at_most_refl o one.lower) (inl refl)
-        (rising-behind cmp stands.front back (subst (AreRising cmp) stands.parts are.merged.rising))
-        (apart-behind cmp stands.front back (subst (AreApart cmp) stands.parts are.merged.apart))
+    pieces-from =
+        pieces-along o others one one.lower back rising (at_most_refl o one.lower) (inl refl)
+        (rising-behind cmp split.front back (subst (AreRising cmp) split.parts are.merged.rising))
+        (apart-behind cmp split.front back (subst (AreApart cmp) split.parts are.merged.apart))
         (ending_above-over o one.lower joined are.merged.rising are.merged.apart)
-        (all_behind (HasFirstEnds cmp others) stands.front back
-        (subst (AllByRecursion (HasFirstEnds cmp others)) stands.parts
+        (all_behind (HasFirstEnds cmp others) split.front back
+        (subst (AllByRecursion (HasFirstEnds cmp others)) split.parts
         (all_both (λ (s : Ends T). IsFirstAt cmp (λ (s : Ends T). s.lower) others s.lower)
         (λ (s : Ends T). IsFirstAt cmp (λ (s : Ends T). s.upper) others s.upper) (HasFirstEnds cmp others)
         (λ s p q. (p, q)) joined are.lowers are.uppers)))
 
-    -- a cut of the span lies in one of the others just where it lies in one of those behind
+    -- a cut of the span lies in one of the others exactly if it lies in one of those that end above where it begins
     not-other : (cut : Cut T) → IsCutAtMost cmp one.lower cut → ¬ (IsInSome cmp back cut) → ¬ (IsInSome cmp others cut)
     not-other cut l free is =
-        free (not-before o one.lower stands.front back cut stands.below l
-        (subst (λ spans. IsInSome cmp spans cut) stands.parts ((are.cuts cut).1 is)))
+        free (not-before o one.lower split.front back cut split.below l
+        (subst (λ spans. IsInSome cmp spans cut) split.parts ((are.cuts cut).1 is)))
 
     not-behind : (cut : Cut T) → ¬ (IsInSome cmp others cut) → ¬ (IsInSome cmp back cut)
     not-behind cut free is =
-        free ((are.cuts cut).0 (subst (λ spans. IsInSome cmp spans cut) (sym stands.parts)
-        (in_some-behind cmp stands.front back cut is)))
+        free ((are.cuts cut).0 (subst (λ spans. IsInSome cmp spans cut) (sym split.parts)
+        (in_some-right cmp cut split.front back is)))
 
     left : (cut : Cut T) → IsInSome cmp (pieces_of cmp one joined) cut → IsInDifference cmp others one cut
     left cut is =
-        let found = parts-found.inside cut is in
+        let found = pieces-from.inside cut is in
         (record { lower = found.0; upper = found.1 }, not-other cut found.0 found.2)
 
     kept : (cut : Cut T) → IsInDifference cmp others one cut → IsInSome cmp (pieces_of cmp one joined) cut
-    kept cut is = parts-found.all cut is.0.lower is.0.upper (not-behind cut is.1)
+    kept cut is = pieces-from.all cut is.0.lower is.0.upper (not-behind cut is.1)
 
     each-piece : (some : List (Ends T)) → AreRising cmp some
         → AllByRecursion (λ (s : Ends T). (cut : Cut T) → IsInSpan cmp s cut
@@ -154,15 +150,15 @@ module _ {T : Type 0} {cmp : T → T → Ordering} (o : IsTotalOrder cmp) (other
 
     pub pieces-found : ArePieces cmp others one (pieces_of cmp one joined)
     pieces-found = record {
-      each = each-piece (pieces_of cmp one joined) parts-found.rising (each-in_some cmp (pieces_of cmp one joined))
-          (ends-free o (pieces_of cmp one joined) parts-found.apart parts-found.rising)
-          (gaps-below o (pieces_of cmp one joined) parts-found.apart parts-found.rising) parts-found.lowers
-          parts-found.uppers;
-      ascending = parts-found.apart;
+      each = each-piece (pieces_of cmp one joined) pieces-from.rising (each-in_some cmp (pieces_of cmp one joined))
+          (ends-free o (pieces_of cmp one joined) pieces-from.apart pieces-from.rising)
+          (gaps-below o (pieces_of cmp one joined) pieces-from.apart pieces-from.rising) pieces-from.lowers
+          pieces-from.uppers;
+      ascending = pieces-from.apart;
       all = kept;
     }
 
-  -- and so for each span of a list
+  -- the same for each span of a list
   pub difference-found : (ones joined : List (Ends T)) → AreRising cmp ones → AreJoined cmp others joined
       → AreDifference cmp ones others (pieces_of_all cmp ones joined)
   difference-found [] joined rising are = refl

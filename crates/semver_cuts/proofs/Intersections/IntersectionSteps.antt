@@ -1,4 +1,4 @@
--- What spans have in common, gathered along two lists.
+-- The intersection of two lists, as one more span of either list is visited.
 use Rattle.std.proofs.Common.{◌≡◌, ◌<◌, ◌+◌, ℕ, Bool, List, [], ◌∷◌, ◌++◌, get_or, length, take, append_assoc, ap, sym}
 use Rattle.std.proofs.Common.{refl, ◌∙◌, true, false, Ordering}
 use Rattle.std.proofs.lemmas.List.{append-nil, take_more}
@@ -18,7 +18,7 @@ module _ {T : Type 0} (cmp : T → T → Ordering) where
       rw same (below-from_lt cmp (common_ends cmp one other).lower (common_ends cmp one other).upper h)
   rising_by one other span false h e = cc e
 
-  -- the common span of two begins below where it ends
+  -- the intersection of two spans begins below where it ends
   pub common_of-rising : (one other span : Ends T) → span ∷ [] ≡ common_of cmp one other
       → IsCutBelow cmp span.lower span.upper
   common_of-rising one other span e =
@@ -32,7 +32,7 @@ module _ {T : Type 0} (cmp : T → T → Ordering) where
       ap (λ l. common_of cmp one x ++ l) (common_with-append one xs ys)
       ∙ sym (append_assoc (common_of cmp one x) (common_with cmp one xs) (common_with cmp one ys))
 
-  -- one more of the others
+  -- one more span of the second list
   pub common_with-more : (one : Ends T) (others : List (Ends T)) (k : ℕ) (other : Ends T) → k < length others
       → other ≡ get_or others k other
       → common_with cmp one (take (k + 1) others) ≡ common_with cmp one (take k others) ++ common_of cmp one other
@@ -49,7 +49,7 @@ module _ {T : Type 0} (cmp : T → T → Ordering) where
       ap (λ l. common_with cmp x others ++ l) (common_spans-append xs ys others)
       ∙ sym (append_assoc (common_with cmp x others) (common_spans cmp xs others) (common_spans cmp ys others))
 
-  -- one more of the first list
+  -- one more span of the first list
   pub common_spans-more : (ones others : List (Ends T)) (k : ℕ) (one : Ends T) → k < length ones
       → one ≡ get_or ones k one
       → common_spans cmp (take (k + 1) ones) others
@@ -60,7 +60,7 @@ module _ {T : Type 0} (cmp : T → T → Ordering) where
       ∙ ap (λ x. common_spans cmp (take k ones) others ++ (common_with cmp x others ++ [])) (sym e)
       ∙ ap (λ l. common_spans cmp (take k ones) others ++ l) (append-nil (common_with cmp one others))
 
-  -- what was gathered, with what one more of the others has in common
+  -- the spans gathered so far, and those of one more span of the second list
   pub gathered_with-more : (old mid new : List (Ends T)) (one : Ends T) (others : List (Ends T)) (k : ℕ)
       (other : Ends T)
       → k < length others → other ≡ get_or others k other → mid ≡ old ++ common_with cmp one (take k others)
@@ -70,7 +70,7 @@ module _ {T : Type 0} (cmp : T → T → Ordering) where
       ∙ append_assoc old (common_with cmp one (take k others)) (common_of cmp one other)
       ∙ ap (λ l. old ++ l) (sym (common_with-more one others k other lt e))
 
-  -- and with what one more of the first list has
+  -- and those of one more span of the first list
   pub gathered_spans-more : (old mid new ones others : List (Ends T)) (k : ℕ) (one : Ends T)
       → k < length ones → one ≡ get_or ones k one → mid ≡ old ++ common_spans cmp (take k ones) others
       → new ≡ mid ++ common_with cmp one others → new ≡ old ++ common_spans cmp (take (k + 1) ones) others

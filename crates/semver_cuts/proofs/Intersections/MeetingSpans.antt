@@ -1,5 +1,5 @@
--- What is found along two lists in the order of their lower ends: each pair of spans that meet, and pairs of places
--- of the two lists alone.
+-- The pairs of places that are found along two lists in the order of their lower ends: each is in the lists, and each
+-- two spans that meet are among them.
 use Rattle.std.proofs.Common.{◌≡◌, ◌⊎◌, ℕ, ◌+◌, ◌<◌, Bool, true, false, List, [], ◌∷◌, ◌++◌, ◌==◌, ◌&&◌, Ordering, drop}
 use Rattle.std.proofs.Common.{get_or, length, ap, sym, subst, refl, ◌∙◌, inl, inr, if◌then◌else◌}
 use mathlib.Core.Bool.{true≢false}
@@ -7,7 +7,7 @@ use Rattle.std.specs.List.{AllByRecursion, dedup, flat_map}
 use Rattle.std.specs.List.Sorted.{IsPermutation, IsSorted, IsStrictlySortedBy}
 use Rattle.std.specs.Ordering.{eq_by_cmp, is_lt, nat_cmp}
 use Rattle.std.specs.Cmp.{IsEquivalence, IsTotalOrder, both_tied, unsigned_ties}
-use Rattle.std.proofs.lemmas.Bool.{eqb-true}
+use Rattle.std.proofs.lemmas.Bool.{and_parts, eqb-true}
 use Rattle.std.proofs.lemmas.Cmp.{eq_by_cmp_equiv}
 use Rattle.std.proofs.lemmas.List.{append_assoc, drop_more, get_or_default}
 use Rattle.std.proofs.lemmas.List.Elements.{All-from_recursion, recursion_from_All}
@@ -26,16 +26,18 @@ use Rattle.semver_cuts.specs.Private.Placed.{PlacedSpan, placed_cmp, placed_from
 use Rattle.semver_cuts.specs.Lemmas.Ends.{at_most-below, at_most-or-below, at_most_trans, below-from_lt}
 use Rattle.semver_cuts.specs.Lemmas.Ends.{below-not-at_most, lt-from_below}
 use Rattle.semver_cuts.specs.Lemmas.Lists.{all-append}
-use Rattle.semver_cuts.proofs.AscendingLists.{among-from_contains, among-left, among-right, contains-from_among}
-use Rattle.semver_cuts.proofs.AscendingLists.{given-alike}
-use Rattle.semver_cuts.proofs.CommonAlong.{before, behind, nothing}
-use Rattle.semver_cuts.proofs.JoinedSpans.{all-moved, among-moved, map-placed, sorted-order}
-use Rattle.semver_cuts.proofs.Kept.{IsPlaced, placed-in}
-use Rattle.semver_cuts.proofs.MeetingPairs.{every, every-ascending, every-common, every-each, every-has, pair_cmp}
-use Rattle.semver_cuts.proofs.MeetingPairs.{pair_total, places-rise}
-use Rattle.semver_cuts.proofs.PlacedOrder.{AreInOrder, IsAmong, all-among, lower-later}
+use Rattle.semver_cuts.proofs.Lists.Elements.{IsAmong, all-among, all-moved, among-from_contains, among-left}
+use Rattle.semver_cuts.proofs.Lists.Elements.{among-moved, among-right, contains-from_among}
+use Rattle.semver_cuts.proofs.Lists.AscendingLists.{given-alike}
+use Rattle.semver_cuts.proofs.Intersections.AscendingSpans.{before, behind, nothing}
+use Rattle.semver_cuts.proofs.Joining.JoinedSpans.{map-placed, sorted-order}
+use Rattle.semver_cuts.proofs.Joining.JoinedPlaces.{IsPlaced, placed-in}
+use Rattle.semver_cuts.proofs.Intersections.PlacePairs.{every, every-ascending, every-common, every-each, every-has}
+use Rattle.semver_cuts.proofs.Intersections.PlacePairs.{pair_cmp}
+use Rattle.semver_cuts.proofs.Intersections.PlacePairs.{pair_total, places-rise}
+use Rattle.semver_cuts.proofs.Joining.PlacedOrder.{AreInOrder, lower-later}
 
--- ---- from a cut on
+-- ---- spans from a cut on
 
 module _ {T : Type 0} {cmp : T → T → Ordering} (o : IsTotalOrder cmp) where
   from-by : (P : List (PlacedSpan T) → Type 0) (cut : Cut T) (next : PlacedSpan T) (later : List (PlacedSpan T))
@@ -46,7 +48,7 @@ module _ {T : Type 0} {cmp : T → T → Ordering} (o : IsTotalOrder cmp) where
   from-by P cut next later true h gone stays = gone refl
   from-by P cut next later false h gone stays = stays refl
 
-  -- what begins at the cut or above stays
+  -- a span that begins at the cut or above is one of them
   from-keeps : (cut : Cut T) (spans : List (PlacedSpan T)) (p : PlacedSpan T) → IsAmong spans p
       → IsCutAtMost cmp cut p.span.lower → IsAmong (beginning_from cmp cut spans) p
   from-keeps cut [] p is above = elim is [ ]
@@ -59,7 +61,7 @@ module _ {T : Type 0} {cmp : T → T → Ordering} (o : IsTotalOrder cmp) where
       ])
       (λ h. is)
 
-  -- and nothing else comes
+  -- and each of them is a span of the list
   from-some : (cut : Cut T) (spans : List (PlacedSpan T)) (p : PlacedSpan T) → IsAmong (beginning_from cmp cut spans) p
       → IsAmong spans p
   from-some cut [] p is = elim is [ ]
@@ -76,7 +78,7 @@ module _ {T : Type 0} {cmp : T → T → Ordering} (o : IsTotalOrder cmp) where
       (λ h. from-ordered cut later order.1) (λ h. order)
 
   module _ (swapped : Bool) where
-    -- ---- up to a cut
+    -- ---- spans up to a cut
 
     until-by : (P : List (ℕ × ℕ) → Type 0) (place : ℕ) (cut : Cut T) (next : PlacedSpan T) (later : List (PlacedSpan T))
         (r : Bool)
@@ -87,7 +89,7 @@ module _ {T : Type 0} {cmp : T → T → Ordering} (o : IsTotalOrder cmp) where
     until-by P place cut next later true h more over = more refl
     until-by P place cut next later false h more over = over refl
 
-    -- what begins below the cut comes
+    -- a span that begins below the cut is one of them
     until-has : (place : ℕ) (cut : Cut T) (spans : List (PlacedSpan T)) (p : PlacedSpan T) → AreInOrder cmp spans
         → IsAmong spans p
         → IsCutBelow cmp p.span.lower cut
@@ -119,7 +121,7 @@ module _ {T : Type 0} {cmp : T → T → Ordering} (o : IsTotalOrder cmp) where
 
     -- ---- along two lists
 
-    -- the pair of two spans of which the second begins in the first
+    -- two spans such that the second begins in the first are one of the pairs
     along-has : (ones others : List (PlacedSpan T)) (one other : PlacedSpan T) → AreInOrder cmp ones
         → AreInOrder cmp others
         → IsAmong ones one → IsAmong others other → IsCutAtMost cmp one.span.lower other.span.lower
@@ -165,7 +167,7 @@ module _ {T : Type 0} {cmp : T → T → Ordering} (o : IsTotalOrder cmp) where
         (along-each P ones rest (λ next other is has. each next other (inr is)
         (from-some one.span.lower others other has)))
 
--- ---- pairs sorted, each kept once
+-- ---- the pairs, sorted and without repetitions
 
 abbrev pub same_pair : ℕ × ℕ → ℕ × ℕ → Bool
 same_pair x y = (x.0 == y.0) && (x.1 == y.1)
@@ -175,13 +177,9 @@ pair-ties x y =
     both_tied (x.0 == y.0) (x.1 == y.1) (nat_cmp x.0 y.0) (nat_cmp x.1 y.1) (unsigned_ties x.0 y.0)
     (unsigned_ties x.1 y.1)
 
-and-both : (a b : Bool) → (a && b) ≡ true → (a ≡ true) × (b ≡ true)
-and-both true b h = (refl, h)
-and-both false b h = absurd (true≢false (sym h))
-
 same-is : (x y : ℕ × ℕ) → same_pair x y ≡ true → x ≡ y
 same-is x y h =
-    let both = and-both (x.0 == y.0) (x.1 == y.1) h in
+    let both = and_parts (x.0 == y.0) (x.1 == y.1) h in
     let first : x.0 ≡ y.0 = eqb-true x.0 y.0 both.0 in
     let second : x.1 ≡ y.1 = eqb-true x.1 y.1 both.1 in
     λ i. (first i, second i)
@@ -287,7 +285,7 @@ module _ {T : Type 0} {cmp : T → T → Ordering} (o : IsTotalOrder cmp) (ones 
             ∙ (λ i. common_spans cmp (ones_are i) (others_are i));
       }
 
--- ---- what the spans at pairs of places have in common, gathered
+-- ---- the intersections of the pairs
 
 module _ {T : Type 0} (cmp : T → T → Ordering) (ones others : List (Ends T)) where
   -- one more of the pairs

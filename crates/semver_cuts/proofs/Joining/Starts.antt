@@ -1,10 +1,11 @@
--- At each cut of a list a joined span begins, or a span of the list reaches it from below.
-use Rattle.std.proofs.Common.{◌≡◌, ◌⊎◌, List, [], ◌∷◌, Bool, true, false, not, ◌&&◌, ◌||◌, Ordering, Less, Equal}
+-- For each cut of a list: either a joined span begins there, or a span of the list reaches it from below.
+use Rattle.std.proofs.Common.{◌≡◌, List, [], ◌∷◌, Bool, true, false, not, ◌&&◌, Ordering, Less, Equal}
 use Rattle.std.proofs.Common.{Greater, refl, sym, ap, ◌∙◌, inl, inr, ⊎_elim}
 use mathlib.Core.Bool.{true≢false}
 use Rattle.std.specs.List.{AllByRecursion}
 use Rattle.std.specs.Ordering.{is_eq, is_le, is_lt}
 use Rattle.std.specs.Cmp.{Equal-is, IsTotalOrder}
+use Rattle.std.proofs.lemmas.Bool.{and_parts, or_cases, or_parts}
 use Rattle.semver_cuts.specs.declared.cut.Cut.{Cut}
 use Rattle.semver_cuts.specs.Cut.{cut_cmp}
 use Rattle.semver_cuts.specs.SpanLists.{IsInSome}
@@ -19,26 +20,6 @@ use Rattle.semver_cuts.specs.Lemmas.InSome.{in_span-or_not}
 use Rattle.semver_cuts.proofs.Walks.{all-from_first, first-cut, later-above}
 
 -- ---- tests
-
-or-false : (a b : Bool) → (a || b) ≡ false → (a ≡ false) × (b ≡ false)
-or-false true b e = absurd (true≢false e)
-or-false false b e = (refl, e)
-
-pub or-true : (a b : Bool) → (a || b) ≡ true → (a ≡ true) ⊎ (b ≡ true)
-or-true true b e = inl refl
-or-true false b e = inr e
-
-pub or-left : (a b : Bool) → a ≡ true → (a || b) ≡ true
-or-left true b e = refl
-or-left false b e = absurd (true≢false (sym e))
-
-pub or-right : (a b : Bool) → b ≡ true → (a || b) ≡ true
-or-right true b e = refl
-or-right false b e = e
-
-and-true : (a b : Bool) → (a && b) ≡ true → (a ≡ true) × (b ≡ true)
-and-true true b e = (refl, e)
-and-true false b e = absurd (true≢false (sym e))
 
 and-false : (a b : Bool) → (a && b) ≡ false → a ≡ true → b ≡ true → ⊥
 and-false true true e p q = true≢false e
@@ -63,7 +44,7 @@ module _ {T : Type 0} {cmp : T → T → Ordering} (o : IsTotalOrder cmp) where
   pub equal-from : (c d : Cut T) → is_eq (cut_cmp cmp c d) ≡ true → cut_cmp cmp c d ≡ Equal
   equal-from c d h = (Equal-is (cut_cmp cmp c d)).0 h
 
-  -- the cut where one of the spans begins is above what they all begin above
+  -- if the spans all begin above a cut, the lower end of each is above it
   pub begins-above : (c cut : Cut T) (spans : List (Ends T))
       → AllByRecursion (λ (s : Ends T). IsCutBelow cmp c s.lower) spans
       → begins_at cmp spans cut ≡ true → IsCutBelow cmp c cut
@@ -71,9 +52,9 @@ module _ {T : Type 0} {cmp : T → T → Ordering} (o : IsTotalOrder cmp) where
   begins-above c cut (span ∷ spans) above h =
       ⊎_elim (λ here. below-at_most o c span.lower cut above.0 (inr (equal-from span.lower cut here)))
       (λ there. begins-above c cut spans above.1 there)
-      (or-true (is_eq (cut_cmp cmp span.lower cut)) (begins_at cmp spans cut) h)
+      (or_cases (is_eq (cut_cmp cmp span.lower cut)) (begins_at cmp spans cut) h)
 
-  -- between an earlier cut of merged spans and the cut where one begins lies one that they have not
+  -- between a cut of merged spans and a lower end above it, some cut lies in none of them
   gap-before : (spans : List (Ends T)) → AreMerged cmp spans → (cut early : Cut T) → begins_at cmp spans cut ≡ true
       → IsInSome cmp spans early → IsCutBelow cmp early cut
       → (gap : Cut T) × IsCutBelow cmp early gap × IsCutBelow cmp gap cut × ¬ IsInSome cmp spans gap
@@ -103,15 +84,15 @@ module _ {T : Type 0} {cmp : T → T → Ordering} (o : IsTotalOrder cmp) where
         ⊎_elim (λ itself. below-not-at_most o span.upper found.0 over (inl itself.upper)) (λ there'. found.3 there'),
       ))
       is)
-      (or-true (is_eq (cut_cmp cmp span.lower cut)) (begins_at cmp spans cut) h)
+      (or_cases (is_eq (cut_cmp cmp span.lower cut)) (begins_at cmp spans cut) h)
 
-  -- a cut of merged spans at which none begins has such cuts below it, with none left out between
+  -- below a cut of merged spans at which none begins, there is a cut such that all cuts between lie in the spans
   goes-on : (spans : List (Ends T)) → (cut : Cut T) → IsInSome cmp spans cut → begins_at cmp spans cut ≡ false
       → (low : Cut T) × IsCutBelow cmp low cut
       × ((c : Cut T) → IsCutAtMost cmp low c → IsCutBelow cmp c cut → IsInSome cmp spans c)
   goes-on [] cut is h = absurd is
   goes-on (span ∷ spans) cut (inl here) h =
-      let apart = or-false (is_eq (cut_cmp cmp span.lower cut)) (begins_at cmp spans cut) h in
+      let apart = or_parts (is_eq (cut_cmp cmp span.lower cut)) (begins_at cmp spans cut) h in
       ⊎_elim
       (λ lt. (
         span.lower,
@@ -120,20 +101,20 @@ module _ {T : Type 0} {cmp : T → T → Ordering} (o : IsTotalOrder cmp) where
       ))
       (λ same. absurd (true≢false (sym (ap is_eq same) ∙ apart.0))) here.lower
   goes-on (span ∷ spans) cut (inr there) h =
-      let apart = or-false (is_eq (cut_cmp cmp span.lower cut)) (begins_at cmp spans cut) h in
+      let apart = or_parts (is_eq (cut_cmp cmp span.lower cut)) (begins_at cmp spans cut) h in
       let found = goes-on spans cut there apart.1 in
       (found.0, found.1, λ c low high. inr (found.2 c low high))
 
-  -- ---- where a span of a list reaches a cut
+  -- ---- spans that reach a cut from below
 
-  -- where none reaches it from below, some cut from any lower one on lies in none
+  -- if no span reaches the cut from below, then above each lower cut some cut lies in none
   beyond : (spans : List (Ends T)) (cut : Cut T) → reaches cmp spans cut ≡ false → (low : Cut T)
       → IsCutBelow cmp low cut
       → (c : Cut T) × IsCutAtMost cmp low c × IsCutBelow cmp c cut × ¬ IsInSome cmp spans c
   beyond [] cut h low lt = (low, at_most_refl o low, lt, λ is. is)
   beyond (span ∷ spans) cut h low lt =
       let test : Bool = is_lt (cut_cmp cmp span.lower cut) && is_le (cut_cmp cmp cut span.upper) in
-      let neither = or-false test (reaches cmp spans cut) h in
+      let neither = or_parts test (reaches cmp spans cut) h in
       let found = beyond spans cut neither.1 low lt in
       ⊎_elim
       (λ inside.
@@ -152,7 +133,7 @@ module _ {T : Type 0} {cmp : T → T → Ordering} (o : IsTotalOrder cmp) where
       (λ outside. (found.0, found.1, found.2, ⊎_elim (λ itself. outside itself) (λ there. found.3 there)))
       (in_span-or_not o found.0 span)
 
-  -- a span that reaches a cut, and the cuts between
+  -- if a span reaches the cut, the cuts from its lower end up to the cut lie in it
   reached : (spans : List (Ends T)) → AreRising cmp spans → (cut : Cut T) → reaches cmp spans cut ≡ true
       → (low : Cut T) × IsInSome cmp spans low × IsCutBelow cmp low cut
       × ((c : Cut T) → IsCutBelow cmp low c → IsCutBelow cmp c cut → IsInSome cmp spans c)
@@ -161,7 +142,7 @@ module _ {T : Type 0} {cmp : T → T → Ordering} (o : IsTotalOrder cmp) where
       let test : Bool = is_lt (cut_cmp cmp span.lower cut) && is_le (cut_cmp cmp cut span.upper) in
       ⊎_elim
       (λ here.
-      let both = and-true (is_lt (cut_cmp cmp span.lower cut)) (is_le (cut_cmp cmp cut span.upper)) here in (
+      let both = and_parts (is_lt (cut_cmp cmp span.lower cut)) (is_le (cut_cmp cmp cut span.upper)) here in (
         span.lower,
         inl (first-cut o span rising.0),
         below-from_lt cmp span.lower cut both.0,
@@ -172,9 +153,9 @@ module _ {T : Type 0} {cmp : T → T → Ordering} (o : IsTotalOrder cmp) where
       ))
       (λ there. let found = reached spans rising.1 cut there in
       (found.0, inr found.1, found.2, λ c low high. inr (found.3 c low high)))
-      (or-true test (reaches cmp spans cut) h)
+      (or_cases test (reaches cmp spans cut) h)
 
-  -- ---- a cut of the list: a joined span begins there, or a span reaches it
+  -- ---- the cuts of the list
 
   pub begins-or_reached : (spans joined : List (Ends T)) → AreRising cmp spans → AreJoined cmp spans joined
       → (cut : Cut T)

@@ -1,4 +1,4 @@
--- Merged spans kept as places in a list: those of a sort are such places, and each names its span.
+-- Merged spans kept as places in a list: how a sorted list gives them, and the span at each pair of places.
 use Rattle.std.proofs.Common.{◌≡◌, ◌≢◌, ℕ, zero, suc, ◌+◌, ◌<◌, ◌≤◌, List, [], ◌∷◌, ◌++◌, Bool, true, false}
 use Rattle.std.proofs.Common.{if◌then◌else◌, Ordering, drop, get_or, length, map, refl, sym, ap, subst, ◌∙◌, inl}
 use Rattle.std.proofs.Common.{arith, length-append}
@@ -18,12 +18,13 @@ use Rattle.semver_cuts.specs.Private.Joining.{ends_later, joined_from, joined_in
 use Rattle.semver_cuts.specs.Private.Placed.{PlacedSpan, placed_cmp, placed_from}
 use Rattle.semver_cuts.specs.Lemmas.Apart.{apart-above}
 use Rattle.semver_cuts.specs.Lemmas.Ends.{below_irrefl, below_trans}
-use Rattle.semver_cuts.proofs.JoinedSpans.{all-moved, order-joined}
+use Rattle.semver_cuts.proofs.Lists.Elements.{all-moved}
+use Rattle.semver_cuts.proofs.Joining.JoinedSpans.{order-joined}
 use Rattle.semver_cuts.proofs.Walks.{first-cut, merged-behind}
 
--- ---- places of a sort
+-- ---- the places that a sorted list gives
 
--- the span stands at its place
+-- the span is the one at its place
 abbrev pub IsPlaced : {T : Type 0} → List (Ends T) → PlacedSpan T → Type 0
 IsPlaced spans p = (p.place < length spans) × (span_at spans p.place ≡ p.span)
 
@@ -40,7 +41,7 @@ placed-in front (span ∷ spans) n e =
     )
 
 module _ {T : Type 0} (cmp : T → T → Ordering) (spans : List (Ends T)) where
-  -- the span at two places, from its ends
+  -- the span of two places, from its ends
   span-at_places : (first place : ℕ) (lower upper : Cut T) → (span_at spans first).lower ≡ lower
       → (span_at spans place).upper ≡ upper → span_of_places spans (first, place) ≡ span_between lower upper
   span-at_places first place lower upper e f = λ i. span_between (e i) (f i)
@@ -99,12 +100,12 @@ module _ {T : Type 0} (cmp : T → T → Ordering) (spans : List (Ends T)) where
       (places-within later placed.1 first next.place next.span.upper e placed.0.0)
       (places-within later placed.1 first place upper e f))
 
-  -- some places stand for their spans
+  -- the merged spans, if there are places
   some-map : (pairs : List (ℕ × ℕ)) → pairs ≢ [] → merged_spans spans pairs ≡ map (span_of_places spans) pairs
   some-map [] some = absurd (some refl)
   some-map (pair ∷ pairs) some = refl
 
-  -- what has been taken when no pair is left
+  -- after the last pair of places, all merged spans were taken
   pub taken-all : (pairs : List (ℕ × ℕ)) → pairs ≢ [] → (k : ℕ) (items : List (Ends T)) → length pairs ≤ k
       → items ++ map (span_of_places spans) (drop k pairs) ≡ map (span_of_places spans) pairs
       → items ≡ merged_spans spans pairs
@@ -135,7 +136,7 @@ module _ {T : Type 0} {cmp : T → T → Ordering} (o : IsTotalOrder cmp) where
   none-joined [] rising are = tt
   none-joined (span ∷ spans) rising are = absurd ((are.cuts span.lower).1 (inl (first-cut o span rising.0)))
 
-  -- the places of a sort, of spans that are not merged as they stand
+  -- the places of spans that are not merged as they stand
   pub order-places : (spans : List (Ends T)) → AreRising cmp spans → ¬ AreApart cmp spans
       → (order : List (PlacedSpan T))
       → IsPermutation (placed_from 0 spans) order → IsSorted (placed_cmp cmp) order
@@ -158,7 +159,7 @@ module _ {T : Type 0} {cmp : T → T → Ordering} (o : IsTotalOrder cmp) where
         none = λ apart. absurd (divided apart);
       }
 
--- ---- places by number
+-- ---- a merged span by its number
 
 module _ {T : Type 0} (cmp : T → T → Ordering) where
   -- the merged span of a pair of places
@@ -175,7 +176,7 @@ module _ {T : Type 0} (cmp : T → T → Ordering) where
       ∙ ap (λ s. s ∷ map f (drop (k + 1) (p ∷ pairs))) (sym e)
       ∙ ap (λ l. span ∷ l) (sym (drop-map f (k + 1) (p ∷ pairs)))
 
-  -- each pair names two spans of the list
+  -- both places of each pair are in the list
   pub within-at : (spans : List (Ends T)) (pairs : List (ℕ × ℕ)) (k : ℕ) (d : ℕ × ℕ)
       → AllByRecursion (AreWithin spans) pairs
       → k < length pairs → AreWithin spans (get_or pairs k d)
@@ -183,7 +184,7 @@ module _ {T : Type 0} (cmp : T → T → Ordering) where
   within-at spans (p ∷ pairs) zero d within low = within.0
   within-at spans (p ∷ pairs) (suc k) d within low = within-at spans pairs k d within.1 (omega arith)
 
-  -- how many merged spans there are
+  -- the number of merged spans
   pub none-merged : (spans : List (Ends T)) (pairs : List (ℕ × ℕ)) → length pairs ≡ 0 → merged_spans spans pairs ≡ spans
   none-merged spans [] e = refl
   none-merged spans (p ∷ pairs) e = absurd (omega arith)
@@ -197,10 +198,10 @@ module _ {T : Type 0} (cmp : T → T → Ordering) where
   merged-length_some spans [] some = absurd (some refl)
   merged-length_some spans (p ∷ pairs) some = length-map (p ∷ pairs) (span_of_places spans)
 
--- ---- ends that are taken out of the list
+-- ---- moving ends out of the list
 
 module _ {T : Type 0} {cmp : T → T → Ordering} (o : IsTotalOrder cmp) (spans : List (Ends T)) where
-  -- the pair has the same span in both lists
+  -- the span of the pair is the same in both lists
   abbrev pub IsKept : List (Ends T) → ℕ × ℕ → Type 0
   IsKept now pair = span_of_places now pair ≡ span_of_places spans pair
 
@@ -232,7 +233,7 @@ module _ {T : Type 0} {cmp : T → T → Ordering} (o : IsTotalOrder cmp) (spans
     all-kept [] above rises kept = tt
     all-kept (p ∷ later) above rises kept = (one-kept p above.0 rises.0 kept.0, all-kept later above.1 rises.1 kept.1)
 
-  -- all later spans stay, where the ends of one are taken
+  -- if the ends of one merged span are moved out, the later merged spans stay the same
   pub later-kept : (now new : List (Ends T)) (pair : ℕ × ℕ) (later : List (ℕ × ℕ))
       → AreMerged cmp (map (span_of_places spans) (pair ∷ later))
       → ((k : ℕ) → k ≢ pair.0 → (span_at new k).lower ≡ (span_at now k).lower)
@@ -247,7 +248,7 @@ module _ {T : Type 0} {cmp : T → T → Ordering} (o : IsTotalOrder cmp) (spans
   itself-kept [] = tt
   itself-kept (p ∷ pairs) = (refl, itself-kept pairs)
 
-  -- what is still to be taken, where the next pair stands
+  -- the next pair of places
   module _ (now : List (Ends T)) (pairs : List (ℕ × ℕ)) (k : ℕ) (d : ℕ × ℕ) (some : pairs ≢ [])
       (are : AreMerged cmp (merged_spans spans pairs)) (low : k < length pairs)
       (kept : AllByRecursion (IsKept now) (drop k pairs)) where

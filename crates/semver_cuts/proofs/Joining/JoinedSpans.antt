@@ -1,12 +1,13 @@
--- What the spans of a list are joined to: apart, with their cuts, and of equal ends the first of the list.
+-- The spans that a list is joined to are apart, and have its cuts. Each end is that of the first span of the list that
+-- has an end at this cut.
 use Rattle.std.proofs.Common.{◌≡◌, ◌↔◌, ℕ, ◌+◌, ◌≤◌, suc, List, [], ◌∷◌, map, Ordering, Equal, Bool, false, refl, sym}
 use Rattle.std.proofs.Common.{ap, subst, ◌∙◌, inl, inr, arith, add-one}
 use Rattle.std.specs.List.{AllByRecursion}
 use Rattle.std.specs.List.Sorted.{IsPermutation, IsSorted, IsSortedBy}
 use Rattle.std.specs.Ordering.{is_lt}
 use Rattle.std.specs.Cmp.{IsStrictWeakOrder, IsTotalOrder}
-use Rattle.std.proofs.lemmas.List.Elements.{All-from_recursion, recursion_from_All}
-use Rattle.std.proofs.lemmas.List.Sorted.{All-permutation, IsPermutation-sym, ranks_by, sorted_far}
+use Rattle.std.proofs.lemmas.List.Elements.{recursion_from_All}
+use Rattle.std.proofs.lemmas.List.Sorted.{IsPermutation-sym, ranks_by, sorted_far}
 use Rattle.semver_cuts.specs.declared.cut.Cut.{Cut}
 use Rattle.semver_cuts.specs.Cut.{cut_cmp}
 use Rattle.semver_cuts.specs.SpanLists.{IsInSome}
@@ -18,29 +19,14 @@ use Rattle.semver_cuts.specs.Private.Placed.{PlacedSpan, placed_cmp, placed_from
 use Rattle.semver_cuts.specs.Lemmas.Joined.{all_unit}
 use Rattle.semver_cuts.specs.Lemmas.Lists.{all_map}
 use Rattle.semver_cuts.specs.Lemmas.Placed.{placed_total}
-use Rattle.semver_cuts.proofs.PlacedOrder.{AreInOrder, IsAmong, all-among}
-use Rattle.semver_cuts.proofs.Joining.{IsFirstPlaced, entries-from, new-run}
+use Rattle.semver_cuts.proofs.Lists.Elements.{IsAmong, all-among, all-moved, among-itself, among-moved}
+use Rattle.semver_cuts.proofs.Joining.PlacedOrder.{AreInOrder}
+use Rattle.semver_cuts.proofs.Joining.JoinedRuns.{IsFirstPlaced, entries-from, new-run}
 
--- ---- places in the list and places in the order
-
-module _ {X : Type 0} where
-  among-more : (x : X) (xs : List X) → AllByRecursion (λ (y : X). IsAmong xs y) xs
-      → AllByRecursion (λ (y : X). IsAmong (x ∷ xs) y) xs
-  among-more x xs all = all_map (λ (y : X). IsAmong xs y) (λ (y : X). IsAmong (x ∷ xs) y) (λ y h. inr h) xs all
-
-  pub among-itself : (xs : List X) → AllByRecursion (λ (y : X). IsAmong xs y) xs
-  among-itself [] = tt
-  among-itself (x ∷ xs) = (inl refl, among-more x xs (among-itself xs))
-
-  pub all-moved : (P : X → Type 0) (xs ys : List X) → IsPermutation xs ys → AllByRecursion P xs → AllByRecursion P ys
-  all-moved P xs ys moves all = recursion_from_All P ys (All-permutation P xs ys moves (All-from_recursion P xs all))
-
-  pub among-moved : (xs ys : List X) → IsPermutation xs ys → (x : X) → IsAmong ys x → IsAmong xs x
-  among-moved xs ys moves x is =
-      all-among (λ (y : X). IsAmong xs y) ys x (all-moved (λ (y : X). IsAmong xs y) xs ys moves (among-itself xs)) is
+-- ---- spans with their places, and a permutation of them
 
 module _ {T : Type 0} {cmp : T → T → Ordering} (o : IsTotalOrder cmp) where
-  -- a cut that lies in one of them
+  -- a cut lies in some of the spans exactly if it lies in one of them
   some-among : (ps : List (PlacedSpan T)) (cut : Cut T) → IsInSome cmp (map (λ (p : PlacedSpan T). p.span) ps) cut
       → (p : PlacedSpan T) × IsAmong ps p × IsInSpan cmp p.span cut
   some-among [] cut is = elim is [ ]
@@ -73,7 +59,7 @@ module _ {T : Type 0} {cmp : T → T → Ordering} (o : IsTotalOrder cmp) where
   place-from n (span ∷ spans) p (inl same) = let e = ap (λ (q : PlacedSpan T). q.place) same in omega arith
   place-from n (span ∷ spans) p (inr there) = let h = place-from (n + 1) spans p there in omega arith
 
-  -- the end with the lowest place is the first of the list
+  -- of equal ends, that with the lowest place is the first of the list
   first-placed : (end : Ends T → Cut T) (cut : Cut T) (n : ℕ) (spans : List (Ends T)) (p : PlacedSpan T)
       → IsAmong (placed_from n spans) p → end p.span ≡ cut
       → ((q : PlacedSpan T) → IsAmong (placed_from n spans) q → cut_cmp cmp (end q.span) cut

@@ -1,41 +1,13 @@
 -- Strictly ascending lists: one that leaves out only what gives nothing gives the same.
-use Rattle.std.proofs.Common.{◌≡◌, ◌⊎◌, ℕ, zero, suc, ◌<◌, List, [], ◌∷◌, ◌++◌, Ordering, Less, get_or, length, ap, sym}
-use Rattle.std.proofs.Common.{subst, refl, ◌∙◌, inl, inr, arith}
-use Rattle.std.specs.List.{AllByRecursion, Contains, flat_map}
+use Rattle.std.proofs.Common.{◌≡◌, ◌⊎◌, List, [], ◌∷◌, ◌++◌, Ordering, Less, ap, sym}
+use Rattle.std.proofs.Common.{subst, refl, ◌∙◌, inl, inr}
+use Rattle.std.specs.List.{AllByRecursion, flat_map}
 use Rattle.std.specs.List.Sorted.{IsStrictlySortedBy}
 use Rattle.std.specs.Cmp.{IsTotalOrder}
 use Rattle.std.proofs.lemmas.Cmp.{tied_itself}
 use Rattle.semver_cuts.specs.Lemmas.Lists.{all-append}
 use Rattle.semver_cuts.specs.Lemmas.Lists.{all_map}
-use Rattle.semver_cuts.proofs.PlacedOrder.{IsAmong, all-among}
-
--- ---- elements of a list
-
-module _ {X : Type 0} where
-  pub among-left : (xs ys : List X) (x : X) → IsAmong xs x → IsAmong (xs ++ ys) x
-  among-left [] ys x is = elim is [ ]
-  among-left (y ∷ xs) ys x (inl same) = inl same
-  among-left (y ∷ xs) ys x (inr there) = inr (among-left xs ys x there)
-
-  pub among-right : (xs ys : List X) (x : X) → IsAmong ys x → IsAmong (xs ++ ys) x
-  among-right [] ys x is = is
-  among-right (y ∷ xs) ys x is = inr (among-right xs ys x is)
-
-  pub contains-from_among : (xs : List X) (x : X) → IsAmong xs x → Contains xs x
-  contains-from_among [] x is = elim is [ ]
-  contains-from_among (y ∷ xs) x (inl same) = (0, omega arith, sym same)
-  contains-from_among (y ∷ xs) x (inr there) =
-      let h = contains-from_among xs x there in
-      let low : suc h.0 < suc (length xs) = omega (arith, h.1) in
-      (suc h.0, low, h.2)
-
-  among-at : (xs : List X) (x : X) (k : ℕ) → k < length xs → get_or xs k x ≡ x → IsAmong xs x
-  among-at [] x k low at = absurd (omega arith)
-  among-at (y ∷ xs) x zero low at = inl (sym at)
-  among-at (y ∷ xs) x (suc k) low at = inr (among-at xs x k (omega arith) at)
-
-  pub among-from_contains : (xs : List X) (x : X) → Contains xs x → IsAmong xs x
-  among-from_contains xs x h = among-at xs x h.0 h.1 h.2
+use Rattle.semver_cuts.proofs.Lists.Elements.{IsAmong, all-among}
 
 -- ---- two strictly ascending lists
 

@@ -1,4 +1,4 @@
--- As many spans begin where nothing goes on as there are spans that the list is joined to.
+-- The number of joined spans is the number of spans whose lower end no earlier span has, and that no span reaches.
 use Rattle.std.proofs.Common.{◌≡◌, ℕ, ◌+◌, List, [], ◌∷◌, ◌++◌, Bool, true, false, not, ◌&&◌, ◌||◌, if◌then◌else◌}
 use Rattle.std.proofs.Common.{Ordering, Equal, length, refl, sym, ap, ◌∙◌, inl, inr, ⊎_elim, arith}
 use mathlib.Core.Bool.{true≢false}
@@ -6,6 +6,7 @@ use Rattle.std.specs.List.{AllByRecursion}
 use Rattle.std.specs.Ordering.{is_eq}
 use Rattle.std.specs.Cmp.{IsTotalOrder}
 use Rattle.std.proofs.lemmas.List.{append-nil, append_assoc}
+use Rattle.std.proofs.lemmas.Bool.{or_cases, or_left, or_right}
 use Rattle.semver_cuts.specs.declared.cut.Cut.{Cut}
 use Rattle.semver_cuts.specs.Cut.{cut_cmp}
 use Rattle.semver_cuts.specs.SpanLists.{IsInSome}
@@ -16,12 +17,11 @@ use Rattle.semver_cuts.specs.Starts.{begins_at, count_of_starts, count_of_starts
 use Rattle.semver_cuts.specs.Lemmas.Apart.{apart-above, apart-tail}
 use Rattle.semver_cuts.specs.Lemmas.Ends.{at_most_trans, below-not-at_most, cut_cmp-equal_back, cut_cmp-equal_right}
 use Rattle.semver_cuts.specs.Lemmas.Ends.{cut_cmp-refl}
-use Rattle.semver_cuts.proofs.Starts.{begins-above, begins-or_reached, equal-from, not_equal, or-left, or-right}
-use Rattle.semver_cuts.proofs.Starts.{or-true}
+use Rattle.semver_cuts.proofs.Joining.Starts.{begins-above, begins-or_reached, equal-from, not_equal}
 use Rattle.semver_cuts.proofs.Walks.{first-cut}
 
 module _ {T : Type 0} (cmp : T → T → Ordering) where
-  -- of the later spans those that are the first to begin where one of some spans does
+  -- the number of later spans that are the first to begin at the lower end of one of `firsts`
   count_first : List (Ends T) → List (Ends T) → List (Ends T) → ℕ
   count_first firsts earlier [] = 0
   count_first firsts earlier (span ∷ later) =
@@ -59,7 +59,7 @@ module _ {T : Type 0} (cmp : T → T → Ordering) where
   add-if false false true k m n h e = omega arith
   add-if false false false k m n h e = omega arith
 
-  -- one span more of which none of the others begins at its cut
+  -- one more span in `firsts`, if no other of them has its lower end
   count-more : (first : Ends T) (firsts earlier later : List (Ends T))
       → ((c : Cut T) → is_eq (cut_cmp cmp first.lower c) ≡ true → begins_at cmp firsts c ≡ true → ⊥)
       → count_first (first ∷ firsts) earlier later
@@ -91,16 +91,16 @@ module _ {T : Type 0} (cmp : T → T → Ordering) where
       → begins_at cmp (ones ++ others) cut ≡ true
   begins-left cut [] others h = absurd (true≢false (sym h))
   begins-left cut (one ∷ ones) others h =
-      ⊎_elim (λ here. or-left (is_eq (cut_cmp cmp one.lower cut)) (begins_at cmp (ones ++ others) cut) here)
-      (λ there. or-right (is_eq (cut_cmp cmp one.lower cut)) (begins_at cmp (ones ++ others) cut)
+      ⊎_elim (λ here. or_left (is_eq (cut_cmp cmp one.lower cut)) (begins_at cmp (ones ++ others) cut) here)
+      (λ there. or_right (is_eq (cut_cmp cmp one.lower cut)) (begins_at cmp (ones ++ others) cut)
       (begins-left cut ones others there))
-      (or-true (is_eq (cut_cmp cmp one.lower cut)) (begins_at cmp ones cut) h)
+      (or_cases (is_eq (cut_cmp cmp one.lower cut)) (begins_at cmp ones cut) h)
 
   begins-last : (cut : Cut T) (ones : List (Ends T)) (span : Ends T) → is_eq (cut_cmp cmp span.lower cut) ≡ true
       → begins_at cmp (ones ++ span ∷ []) cut ≡ true
-  begins-last cut [] span h = or-left (is_eq (cut_cmp cmp span.lower cut)) false h
+  begins-last cut [] span h = or_left (is_eq (cut_cmp cmp span.lower cut)) false h
   begins-last cut (one ∷ ones) span h =
-      or-right (is_eq (cut_cmp cmp one.lower cut)) (begins_at cmp (ones ++ span ∷ []) cut) (begins-last cut ones span h)
+      or_right (is_eq (cut_cmp cmp one.lower cut)) (begins_at cmp (ones ++ span ∷ []) cut) (begins-last cut ones span h)
 
   none-begins : (cut : Cut T) (spans : List (Ends T))
       → AllByRecursion (λ (s : Ends T). ¬ (cut_cmp cmp s.lower cut ≡ Equal)) spans
@@ -115,7 +115,7 @@ module _ {T : Type 0} {cmp : T → T → Ordering} (o : IsTotalOrder cmp) where
   begins-same c d e [] = refl
   begins-same c d e (span ∷ spans) = λ i. is_eq (cut_cmp-equal_right o c d span.lower e i) || begins-same c d e spans i
 
-  -- once a span has begun at the cut no later one is the first
+  -- after a span that begins at the cut, no later one is the first
   begun-none : (first : Ends T) (earlier later : List (Ends T)) → begins_at cmp earlier first.lower ≡ true
       → count_first cmp (first ∷ []) earlier later ≡ 0
   unfolding count_first
@@ -126,7 +126,7 @@ module _ {T : Type 0} {cmp : T → T → Ordering} (o : IsTotalOrder cmp) where
       (λ same. sym (begins-same first.lower span.lower (equal-from o first.lower span.lower same) earlier) ∙ h)
       (begun-none first (earlier ++ span ∷ []) later (begins-left cmp first.lower earlier (span ∷ []) h))
 
-  -- and none of those that begin elsewhere
+  -- and no span is that begins at another cut
   others-passed : (first : Ends T) (earlier before rest : List (Ends T))
       → AllByRecursion (λ (s : Ends T). ¬ (cut_cmp cmp s.lower first.lower ≡ Equal)) before
       → count_first cmp (first ∷ []) earlier (before ++ rest) ≡ count_first cmp (first ∷ []) (earlier ++ before) rest
@@ -139,7 +139,7 @@ module _ {T : Type 0} {cmp : T → T → Ordering} (o : IsTotalOrder cmp) where
       ∙ others-passed first (earlier ++ span ∷ []) before rest none.1
       ∙ ap (λ l. count_first cmp (first ∷ []) l rest) (append_assoc earlier (span ∷ []) before)
 
-  -- so of all spans one is
+  -- so exactly one of all spans is
   one-counted : (first : Ends T) (spans : List (Ends T)) → IsFirstAt cmp (λ (s : Ends T). s.lower) spans first.lower
       → count_first cmp (first ∷ []) [] spans ≡ 1
   unfolding count_first
@@ -185,7 +185,7 @@ module _ {T : Type 0} {cmp : T → T → Ordering} (o : IsTotalOrder cmp) where
     all-in spans part P (λ c is. within c (inr is)) rising.1 holds,
   )
 
-  -- the number of joined spans, counted over the list
+  -- the number of joined spans
   pub starts-counted : (spans joined : List (Ends T)) → AreRising cmp spans → AreJoined cmp spans joined
       → length joined ≡ count_of_starts cmp spans
   starts-counted spans joined rising are =

@@ -16,7 +16,7 @@ module _ {T : Type 0} {cmp : T → T → Ordering} (o : IsTotalOrder cmp) where
   equal-by c d (inl lt) le = absurd (below-not-at_most o c d lt le)
   equal-by c d (inr same) le = same
 
-  -- the first span of one ends no lower than that of the other
+  -- the first span of one list does not end lower than that of the other
   ends-no_lower : (one : Ends T) (ones : List (Ends T)) (other : Ends T) → AreMerged cmp (one ∷ ones)
       → ((cut : Cut T) → IsInSpan cmp other cut → IsInSome cmp (one ∷ ones) cut) → IsCutAtMost cmp other.lower one.lower
       → IsCutAtMost cmp other.upper one.upper
@@ -45,7 +45,7 @@ module _ {T : Type 0} {cmp : T → T → Ordering} (o : IsTotalOrder cmp) where
   tail-merged : (one : Ends T) (ones : List (Ends T)) → AreMerged cmp (one ∷ ones) → AreMerged cmp ones
   tail-merged one ones are = record { rising = are.rising.1; apart = apart-tail cmp one ones are.apart }
 
-  -- they have the same spans
+  -- merged lists with the same cuts have the same spans
   pub same-spans : (ones others : List (Ends T)) → AreMerged cmp ones → AreMerged cmp others
       → ((cut : Cut T) → IsInSome cmp ones cut ↔ IsInSome cmp others cut) → AreSameSpans cmp ones others
   same-spans [] [] are others_are same = tt

@@ -1,4 +1,4 @@
--- All pairs of places of two lists, in ascending order: what each pair of spans has in common is what the lists have.
+-- All pairs of places of two lists, in ascending order: the intersections of the pairs are that of the lists.
 use Rattle.std.proofs.Common.{◌≡◌, ℕ, ◌+◌, ◌<◌, List, [], ◌∷◌, ◌++◌, map, Ordering, Less, Equal, Greater, ap, subst}
 use Rattle.std.proofs.Common.{refl, ◌∙◌, inl, inr, arith}
 use Rattle.std.specs.List.{AllByRecursion, flat_map}
@@ -13,9 +13,9 @@ use Rattle.semver_cuts.specs.Places.{span_at}
 use Rattle.semver_cuts.specs.Private.Meeting.{common_at}
 use Rattle.semver_cuts.specs.Private.Placed.{PlacedSpan, placed_from}
 use Rattle.semver_cuts.specs.Lemmas.Lists.{all-append}
-use Rattle.semver_cuts.proofs.AscendingLists.{among-left, among-right, ascending-append}
-use Rattle.semver_cuts.proofs.Kept.{IsPlaced}
-use Rattle.semver_cuts.proofs.PlacedOrder.{IsAmong}
+use Rattle.semver_cuts.proofs.Lists.Elements.{IsAmong, among-left, among-right}
+use Rattle.semver_cuts.proofs.Lists.AscendingLists.{ascending-append}
+use Rattle.semver_cuts.proofs.Joining.JoinedPlaces.{IsPlaced}
 
 -- ---- the order of pairs
 
@@ -145,7 +145,7 @@ module _ {T : Type 0} where
       (row-ascending one others rises)
       (every-ascending ones others rise.1 rises) (row-below one ones others others rise.0)
 
-  -- ---- what they have in common
+  -- ---- the intersection
 
   module _ (cmp : T → T → Ordering) (ones others : List (Ends T)) where
     row-common : (one : PlacedSpan T) (qs : List (PlacedSpan T)) → span_at ones one.place ≡ one.span

@@ -4,5 +4,5 @@ pub mod RangeAlgebra
 pub mod AlgebraBounds
 pub mod TreeSets
 pub mod TreeAnswers
-pub mod RestUnique
+pub mod DifferenceUnique
 pub mod TreeUnique

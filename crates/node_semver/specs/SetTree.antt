@@ -5,10 +5,10 @@
 -- `>=1.6.0-0 <2.0.0-0` and `>=3.0.0 <4.0.0-0`.
 use Rattle.std.specs.Prelude.{◌≡◌, ◌≢◌, ◌⊎◌, ◌↔◌, ℕ, List, [], string_bytes}
 use Rattle.semver_cuts.specs.declared.cut.Cut.{Cut}
-use Rattle.semver_cuts.specs.Common.{IsInEvery}
+use Rattle.semver_cuts.specs.SpanLists.{IsInEvery}
 use Rattle.semver_cuts.specs.CommonSpans.{common_spans}
 use Rattle.semver_cuts.specs.Ends.{Ends}
-use Rattle.semver_cuts.specs.Rest.{AreRestSpans}
+use Rattle.semver_cuts.specs.Difference.{AreDifference}
 use Rattle.semver_sets.specs.Comparator.{Comparator}
 use Rattle.semver_sets.specs.Comparison.{version_cmp}
 use Rattle.semver_sets.specs.Division.{IsWritten}
@@ -54,7 +54,7 @@ AreSetsOfTree (both one other) sets =
 AreSetsOfTree (without one other) sets =
     (AreSetsOfTree one [] × (sets ≡ []))
     ⊎ ((ones others : List (Ends VersionValue)) × AreSetsOfTree one ones × AreSetsOfTree other others
-    × AreRestSpans version_cmp ones others sets)
+    × AreDifference version_cmp ones others sets)
 
 -- ---- laws
 

@@ -2,9 +2,9 @@
 ghost use Rattle.std.specs.Prelude.{◌≡◌, ◌↔◌, IfOk, IfSome, IsNone};
 ghost use Rattle.semver_cuts.specs.declared.cut.Cut.{Cut};
 ghost use Rattle.semver_cuts.specs.declared.cut.Cut.TheVariants.{Before};
-ghost use Rattle.semver_cuts.specs.Common.{IsInSome};
+ghost use Rattle.semver_cuts.specs.SpanLists.{IsInSome};
 ghost use Rattle.semver_cuts.specs.CommonSpans.{common_spans};
-ghost use Rattle.semver_cuts.specs.Rest.{AreRestSpans};
+ghost use Rattle.semver_cuts.specs.Difference.{AreDifference};
 ghost use Rattle.semver_sets.specs.Comparison.{version_cmp};
 ghost use Rattle.semver_sets.specs.Meaning.{RangeAdmits};
 ghost use Rattle.semver_sets.specs.Merging.{AreSetsOfText};
@@ -85,7 +85,7 @@ impl SetTree {
                 None => Ok(None),
             },
             SetTree::Without(one, other) => match one.evaluate(alloc)? {
-                Some(one) => rest(alloc, one, other.evaluate(alloc)?),
+                Some(one) => difference(alloc, one, other.evaluate(alloc)?),
                 None => Ok(None),
             },
         }
@@ -119,8 +119,9 @@ fn common(alloc: Global, one: Range, other: Option<Range>) -> Result<Option<Rang
 }
 
 // The part of a range outside another, or outside none.
-fn rest(alloc: Global, one: Range, other: Option<Range>) -> Result<Option<Range>, AllocError>
-    ensures sets { IfOk result (λ answer. AreRestSpans version_cmp one (sets_of_answer other) (sets_of_answer answer)) }
+fn difference(alloc: Global, one: Range, other: Option<Range>) -> Result<Option<Range>, AllocError>
+    ensures sets { IfOk result (λ answer.
+        AreDifference version_cmp one (sets_of_answer other) (sets_of_answer answer)) }
     ensures holds { IfOk result (λ answer. IfSome answer IsRangeValue) }
 {
     match other {

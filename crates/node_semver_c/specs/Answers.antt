@@ -5,10 +5,10 @@ use Rattle.node_semver_c.specs.declared.status.Fault.{Fault}
 use Rattle.node_semver_c.specs.declared.status.TheConstants.{OK, NONE, OUT_OF_MEMORY}
 use Rattle.node_semver_c.specs.Status.{IsKept, IsRefusalTold}
 use Rattle.semver_cuts.specs.declared.cut.Cut.{Cut}
-use Rattle.semver_cuts.specs.Common.{IsInSome}
+use Rattle.semver_cuts.specs.SpanLists.{IsInSome}
 use Rattle.semver_cuts.specs.CommonSpans.{common_spans}
 use Rattle.semver_cuts.specs.Ends.{Ends}
-use Rattle.semver_cuts.specs.Rest.{AreRestSpans}
+use Rattle.semver_cuts.specs.Difference.{AreDifference}
 use Rattle.semver_cuts.specs.Sharing.{ShareCut}
 use Rattle.semver_sets.specs.Comparison.{version_cmp}
 use Rattle.semver_sets.specs.Meaning.{RangeAdmits}
@@ -77,17 +77,17 @@ pub record IsIntersection (one other : List (Ends VersionValue)) (answer : Optio
   pub releases : (v : VersionValue) → ¬ IsPrerelease v
       → RangeAdmits (sets_of_answer answer) v ↔ (RangeAdmits one v × RangeAdmits other v)
   pub prereleases : (v : VersionValue) → IsPrerelease v → RangeAdmits (sets_of_answer answer) v ↔ PairAdmits one other v
-  pub disjoint : (rest : List (Ends VersionValue)) → AreRestSpans version_cmp one other rest → (cut : Cut VersionValue)
-      → ¬ (IsInSome version_cmp (sets_of_answer answer) cut × IsInSome version_cmp rest cut)
-  pub together : (rest : List (Ends VersionValue)) → AreRestSpans version_cmp one other rest → (cut : Cut VersionValue)
-      → IsInSome version_cmp one cut
-      ↔ (IsInSome version_cmp (sets_of_answer answer) cut ⊎ IsInSome version_cmp rest cut)
+  pub disjoint : (spans : List (Ends VersionValue)) → AreDifference version_cmp one other spans
+      → (cut : Cut VersionValue) → ¬ (IsInSome version_cmp (sets_of_answer answer) cut × IsInSome version_cmp spans cut)
+  pub together : (spans : List (Ends VersionValue)) → AreDifference version_cmp one other spans
+      → (cut : Cut VersionValue) → IsInSome version_cmp one cut
+      ↔ (IsInSome version_cmp (sets_of_answer answer) cut ⊎ IsInSome version_cmp spans cut)
   pub holds : IfSome answer IsRangeValue
 
 -- the result of `Range::difference`
 pub record IsDifference (one other : List (Ends VersionValue)) (answer : Option (List (Ends VersionValue)))
     : Type 0 where
-  pub sets : AreRestSpans version_cmp one other (sets_of_answer answer)
+  pub sets : AreDifference version_cmp one other (sets_of_answer answer)
   pub cuts : (cut : Cut VersionValue) → IsInSome version_cmp (sets_of_answer answer) cut
       ↔ (IsInSome version_cmp one cut × ¬ IsInSome version_cmp other cut)
   pub none : IsNone answer

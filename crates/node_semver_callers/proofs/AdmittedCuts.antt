@@ -1,7 +1,7 @@
 -- What is admitted, by the cut before the version.
 use Rattle.std.proofs.Common.{◌≡◌, ◌≢◌, ◌↔◌, ℕ, List, [], ◌∷◌, Option, inl, inr}
 use Rattle.semver_cuts.specs.declared.cut.Cut.TheVariants.{Before}
-use Rattle.semver_cuts.specs.Common.{IsInEvery, IsInSome}
+use Rattle.semver_cuts.specs.SpanLists.{IsInEvery, IsInSome}
 use Rattle.semver_cuts.specs.Ends.{Ends}
 use Rattle.semver_cuts.specs.Lemmas.Lists.{any-map}
 use Rattle.semver_sets.specs.Comparator.{Comparator}

@@ -14,7 +14,7 @@ pub(crate) fn answers(alloc: Global, one: &Range, other: &Range, wanted: &str) -
     match wanted.split_once("; ") {
         Some((both, left)) => {
             is_made(alloc, Made::Common, one, other, both)
-                && is_made(alloc, Made::Rest, one, other, left)
+                && is_made(alloc, Made::Difference, one, other, left)
                 && any(one, other) == Some(both != "None")
         }
         None => false,
@@ -199,6 +199,6 @@ const WHOLE: [&str; 2] = [">=1.0.0; 2.0.0-0; no", ">=2.0.0-a; 2.0.0-0; no"];
 
 #[test]
 fn prereleases_of_what_is_left(rt: HostRuntime) {
-    each(&rt, Question::RestAdmits, &LEFT);
+    each(&rt, Question::DifferenceAdmits, &LEFT);
     each(&rt, Question::Admits, &WHOLE);
 }

@@ -20,7 +20,7 @@ pub(crate) fn range(alloc: Global, text: &str) -> Option<Range> {
 #[derive(Clone, Copy)]
 pub(crate) enum Made {
     Common,
-    Rest,
+    Difference,
 }
 
 pub(crate) fn make(
@@ -31,7 +31,7 @@ pub(crate) fn make(
 ) -> Result<Option<Range>, AllocError> {
     match made {
         Made::Common => one.intersect(alloc, other),
-        Made::Rest => one.difference(alloc, other),
+        Made::Difference => one.difference(alloc, other),
     }
 }
 
@@ -71,7 +71,7 @@ fn of_ranges(alloc: Global, question: Question, one: &Range, other: &Range, want
         Question::Union => is_union(alloc, one, other, wanted),
         Question::UnionAdmits => union_admits(alloc, one, other, wanted),
         Question::CommonAdmits => made_admits(alloc, Made::Common, one, other, wanted),
-        Question::RestAdmits => made_admits(alloc, Made::Rest, one, other, wanted),
+        Question::DifferenceAdmits => made_admits(alloc, Made::Difference, one, other, wanted),
         _ => answer(alloc, question, one, other) == Some(is_yes(wanted)),
     }
 }

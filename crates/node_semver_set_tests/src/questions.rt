@@ -32,7 +32,7 @@ pub(crate) enum Question {
     // Two range texts, and a version that their intersection admits.
     CommonAdmits,
     // Two range texts, and a version that the difference of the first and the second admits.
-    RestAdmits,
+    DifferenceAdmits,
     // A range text, a version, and whether the range admits it.
     Admits,
     // Versions with blanks between, a range text, and the greatest of the versions that it admits.

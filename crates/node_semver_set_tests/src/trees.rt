@@ -25,7 +25,7 @@ fn joined(
 ) -> Option<Box<SetTree>> {
     let tree = match made {
         Made::Common => SetTree::Both(one, other),
-        Made::Rest => SetTree::Without(one, other),
+        Made::Difference => SetTree::Without(one, other),
     };
     Box::new(alloc, tree).ok()
 }
@@ -58,7 +58,7 @@ pub(crate) fn joins(alloc: Global, one: &str, other: &str, wanted: &str) -> bool
     match wanted.split_once("; ") {
         Some((common, rest)) => {
             is_joined(alloc, Made::Common, one, other, common)
-                && is_joined(alloc, Made::Rest, one, other, rest)
+                && is_joined(alloc, Made::Difference, one, other, rest)
         }
         None => false,
     }
@@ -79,8 +79,13 @@ fn twice_joined(
 fn joins_texts_and_trees(rt: HostRuntime) {
     let alloc = rt.alloc();
     each(&rt, Question::Joins, &PAIRS);
-    let tree = twice_joined(alloc, Made::Common, Made::Rest, (">=1", "<3", "2"));
+    let tree = twice_joined(alloc, Made::Common, Made::Difference, (">=1", "<3", "2"));
     assert!(rt; is_print(tree_print(alloc, tree), ">=1.0.0 <2.0.0||>=3.0.0-0 <3.0.0"));
-    let tree = twice_joined(alloc, Made::Rest, Made::Common, (">=1", "2", "2 || 3"));
+    let tree = twice_joined(
+        alloc,
+        Made::Difference,
+        Made::Common,
+        (">=1", "2", "2 || 3"),
+    );
     assert!(rt; is_print(tree_print(alloc, tree), ">=3.0.0 <4.0.0-0"));
 }

@@ -1,21 +1,18 @@
-pub mod CommonAlong
-pub mod CommonSpans
-pub mod CutLine
-pub mod Greatest
-pub mod Near
-pub mod Parts
-pub mod Pieces
-pub mod PlacedOrder
-pub mod AscendingLists
+-- Lemmas, by subject. Each subject has a list of its files in reading order. The other folders hold the proofs of
+-- functions, by module.
+-- ---- the order of cuts
+pub mod CutOrder
+-- ---- lists: their elements, and ascending lists
+pub mod Lists
+-- ---- a step of a loop along a list
+pub mod LoopSteps
+-- ---- joining the spans of a list: their order, the joined spans, their places and their number
 pub mod Joining
-pub mod JoinedSpans
+-- ---- walks along the merged spans of two lists
 pub mod Walks
-pub mod Kept
-pub mod MeetingPairs
-pub mod Meeting
-pub mod TakenEnds
-pub mod Turns
-pub mod Starts
-pub mod StartsCounted
-pub mod MergedLists
+-- ---- the intersection of two lists: along ascending spans, and by the pairs of spans that meet
+pub mod Intersections
+-- ---- the difference of two lists: the pieces of each span
+pub mod Differences
+-- ---- worked examples, which compute
 mod Examples

@@ -1,12 +1,11 @@
--- Along two lists of merged spans: which of two stands past the other, and what is left to ask.
+-- Walks along the merged spans of two lists: a span that ends below the next span of the other list can be passed.
 use Rattle.std.proofs.Common.{◌≡◌, ◌⊎◌, ◌↔◌, ℕ, ◌+◌, ◌<◌, ◌≤◌, List, [], ◌∷◌, ◌++◌, Ordering, Bool, IsTrue, get_or}
 use Rattle.std.proofs.Common.{take, drop, length, sym, ap, subst, ◌∙◌, inl, inr, ⊎_elim, arith}
-use Rattle.std.specs.List.{AllByRecursion}
 use Rattle.std.specs.Cmp.{IsTotalOrder}
 use Rattle.std.proofs.lemmas.List.{drop_all, drop_more, take-append-drop}
 use Rattle.semver_cuts.specs.declared.cut.Cut.{Cut}
 use Rattle.semver_cuts.specs.declared.cut.Cut.TheVariants.{Start, End}
-use Rattle.semver_cuts.specs.Common.{AreApart, IsInSome, IsWithin}
+use Rattle.semver_cuts.specs.SpanLists.{AreApart, IsInSome, IsWithin}
 use Rattle.semver_cuts.specs.Ends.{Ends, IsCutAtMost, IsCutBelow, IsInSpan, span_between}
 use Rattle.semver_cuts.specs.Joined.{AreJoined, AreMerged, AreRising}
 use Rattle.semver_cuts.specs.Places.{span_at}
@@ -14,9 +13,10 @@ use Rattle.semver_cuts.specs.Sharing.{CoversAll, HaveCommonCut, ShareCut}
 use Rattle.semver_cuts.specs.Lemmas.Apart.{apart-above, apart-behind, rising-behind}
 use Rattle.semver_cuts.specs.Lemmas.Ends.{at_most-or-below, at_most_refl, at_most_trans, below-at_most}
 use Rattle.semver_cuts.specs.Lemmas.Ends.{below-not-at_most, below_trans}
+use Rattle.semver_cuts.proofs.Differences.GreatestSpans.{some-above}
 
 module _ {T : Type 0} (cmp : T → T → Ordering) where
-  -- what stands at a place and behind it is merged
+  -- the spans of a merged list from a place on are merged
   pub merged-behind : (spans : List (Ends T)) (place : ℕ) (back : List (Ends T)) → AreMerged cmp spans
       → drop place spans ≡ back
       → AreMerged cmp back
@@ -28,7 +28,7 @@ module _ {T : Type 0} (cmp : T → T → Ordering) where
         apart = apart-behind cmp (take place spans) back (subst (AreApart cmp) parts are.apart);
       }
 
-  -- the cuts of what two lists are joined to are theirs
+  -- two lists share a cut exactly if their joined spans do, and one covers the other exactly if its joined spans do
   pub share-joined : (ones others joined others_joined : List (Ends T)) → AreJoined cmp ones joined
       → AreJoined cmp others others_joined → ShareCut cmp joined others_joined ↔ ShareCut cmp ones others
   share-joined ones others joined others_joined are others_are = (
@@ -44,20 +44,14 @@ module _ {T : Type 0} (cmp : T → T → Ordering) where
   )
 
 module _ {T : Type 0} {cmp : T → T → Ordering} (o : IsTotalOrder cmp) where
-  in_some-over : (c : Cut T) (spans : List (Ends T)) (cut : Cut T)
-      → AllByRecursion (λ (s : Ends T). IsCutBelow cmp c s.lower) spans → IsInSome cmp spans cut → IsCutBelow cmp c cut
-  in_some-over c [] cut above is = absurd is
-  in_some-over c (span ∷ spans) cut above (inl here) = below-at_most o c span.lower cut above.0 here.lower
-  in_some-over c (span ∷ spans) cut above (inr there) = in_some-over c spans cut above.1 there
-
-  -- a cut in one of the later spans stands above where the first one ends
+  -- a cut in one of the later spans is above the end of the first one
   pub later-above : (span : Ends T) (spans : List (Ends T)) (cut : Cut T) → AreMerged cmp (span ∷ spans)
       → IsInSome cmp spans cut
       → IsCutBelow cmp span.upper cut
   later-above span spans cut are is =
-      in_some-over span.upper spans cut (apart-above o span spans are.apart are.rising.1) is
+      some-above cmp o span.upper cut spans (apart-above o span spans are.apart are.rising.1) is
 
-  -- and each at or above where the first one begins
+  -- and each cut is at or above the lower end of the first one
   pub all-from_first : (span : Ends T) (spans : List (Ends T)) (cut : Cut T) → AreMerged cmp (span ∷ spans)
       → IsInSome cmp (span ∷ spans) cut → IsCutAtMost cmp span.lower cut
   all-from_first span spans cut are (inl here) = here.lower
@@ -67,7 +61,7 @@ module _ {T : Type 0} {cmp : T → T → Ordering} (o : IsTotalOrder cmp) where
   pub first-cut : (span : Ends T) → IsCutBelow cmp span.lower span.upper → IsInSpan cmp span span.lower
   first-cut span rising = record { lower = at_most_refl o span.lower; upper = rising }
 
-  -- ---- two lists, each from a span on
+  -- ---- two merged lists, by their first spans
 
   module _ (one : Ends T) (ones : List (Ends T)) (other : Ends T) (others : List (Ends T))
       (are : AreMerged cmp (one ∷ ones)) (others_are : AreMerged cmp (other ∷ others)) where
@@ -127,7 +121,7 @@ module _ {T : Type 0} {cmp : T → T → Ordering} (o : IsTotalOrder cmp) where
         (at_most_refl o one.upper))
         (covers one.upper (inl (record { lower = inl begun; upper = high })))
 
-  -- ---- the same at two places
+  -- ---- the same from two places on
 
   module _ (ms ws : List (Ends T)) (ms_are : AreMerged cmp ms) (ws_are : AreMerged cmp ws) (i j : ℕ)
       (one other : Ends T)
@@ -203,7 +197,7 @@ module _ {T : Type 0} {cmp : T → T → Ordering} (o : IsTotalOrder cmp) where
         missed-above one (drop (i + 1) ms) other (drop (j + 1) ws) are' others_are' begun high
         (into (CoversAll cmp) (left.0 covers))
 
-  -- ---- where one list ends
+  -- ---- the end of one of the lists
 
   none-shared_left : (others : List (Ends T)) → ¬ ShareCut cmp [] others
   none-shared_left others shared = shared.1
@@ -233,7 +227,7 @@ module _ {T : Type 0} {cmp : T → T → Ordering} (o : IsTotalOrder cmp) where
       subst (λ l. IsInSome cmp l other.lower) (drop_all i ms h)
       (left.0 covers other.lower (subst (λ l. IsInSome cmp l other.lower) (sym here) (inl (first-cut other rising))))
 
--- ---- one span with one span
+-- ---- one span and one span
 
 module _ {T : Type 0} (cmp : T → T → Ordering) where
   pub covers-one : (one other : Ends T) → IsWithin cmp other one ↔ CoversAll cmp (one ∷ []) (other ∷ [])
@@ -247,7 +241,7 @@ module _ {T : Type 0} (cmp : T → T → Ordering) where
   one-list (y ∷ []) x l e = ap (λ z. z ∷ []) (sym e)
   one-list (y ∷ z ∷ xs) x l e = absurd (omega arith)
 
-  -- the same of two lists with one span each
+  -- the same for two lists of one span each
   pub covers-lone : (ones others : List (Ends T)) (one other : Ends T) (r : Bool) → length ones ≡ 1
       → one ≡ get_or ones 0 one
       → length others ≡ 1 → other ≡ get_or others 0 other → IsTrue r ↔ IsWithin cmp other one

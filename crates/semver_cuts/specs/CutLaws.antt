@@ -7,7 +7,7 @@ use Rattle.semver_cuts.specs.declared.cut.Cut.{Cut}
 use Rattle.semver_cuts.specs.declared.cut.Cut.TheVariants.{Start, Before, After, End}
 
 -- the order of cuts: `Start` first, `End` last, and the two cuts of a value between those of lesser and greater values
-pub record StandsInLine {T : Type 0} (cmp : T → T → Ordering) (order : Cut T → Cut T → Ordering) : Type 0 where
+pub record IsOrderOfCuts {T : Type 0} (cmp : T → T → Ordering) (order : Cut T → Cut T → Ordering) : Type 0 where
   pub total : IsTotalOrder order
   pub start : (cut : Cut T) → cut ≢ Start → order Start cut ≡ Less
   pub end : (cut : Cut T) → cut ≢ End → order cut End ≡ Less

@@ -28,7 +28,7 @@ pub record IsInSpan {T : Type 0} (cmp : T → T → Ordering) (span : Ends T) (c
   pub lower : IsCutAtMost cmp span.lower cut
   pub upper : IsCutBelow cmp cut span.upper
 
--- some cut lies in the span: one does in `Before 3` to `After 3`, none in `After 3` to `Before 3`
+-- some cut lies in the span: `Before 3` lies in `Before 3` to `After 3`, and no cut lies in `After 3` to `Before 3`
 abbrev pub HoldsCut : {T : Type 0} → (T → T → Ordering) → Ends T → Type 0
 HoldsCut {T} cmp span = (cut : Cut T) × IsInSpan cmp span cut
 

@@ -4,8 +4,8 @@ use Rattle.std.specs.List.{AllByRecursion}
 use Rattle.std.specs.declared.cmp.Ordering.{Ordering}
 use Rattle.semver_cuts.specs.declared.cut.Cut.{Cut}
 use Rattle.semver_cuts.specs.Ends.{AreSameEnds, Ends, IsCutBelow}
-use Rattle.semver_cuts.specs.Common.{AreApart, IsInSome}
-use Rattle.semver_cuts.specs.Rest.{IsFirstAt}
+use Rattle.semver_cuts.specs.SpanLists.{AreApart, IsInSome}
+use Rattle.semver_cuts.specs.Difference.{IsFirstAt}
 
 -- each span begins below where it ends, so it contains a cut
 abbrev pub AreRising : {T : Type 0} → (T → T → Ordering) → List (Ends T) → Type 0

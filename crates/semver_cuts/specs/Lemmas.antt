@@ -5,7 +5,7 @@ pub mod CutOrder
 -- less and at most, and the tests of them
 pub mod Ends
 -- the chosen ends of a list of spans, and the intersection of the spans
-pub mod Merging
+pub mod ChosenEnds
 -- facts of some element and of each element of a list
 pub mod Lists
 -- cuts in some span of a list
@@ -13,11 +13,11 @@ pub mod InSome
 -- the intersection of two spans, and when one lies in the other
 pub mod TwoSpans
 -- the part of one span outside another
-pub mod SpanRest
+pub mod SpanDifference
 -- the intersection of two lists of spans
 pub mod CommonSpans
 -- the part of one list of spans outside another
-pub mod Rest
+pub mod Difference
 -- when two lists share a cut
 pub mod Sharing
 -- spans that are apart

@@ -11,16 +11,16 @@ pub mod Ends
 -- what cuts and spans feed to a hasher
 pub mod Hash
 -- the cuts in every span and in some span of a list
-pub mod Common
+pub mod SpanLists
 -- the ends of the intersection of the spans of a list
-pub mod Merging
+pub mod ChosenEnds
 -- the part of one span outside another
-pub mod SpanRest
+pub mod SpanDifference
 -- ---- Algebra of lists of spans
 -- the intersection of two lists
 pub mod CommonSpans
 -- the part of one list outside another
-pub mod Rest
+pub mod Difference
 -- whether two lists share a cut, and whether one contains all cuts of the other
 pub mod Sharing
 -- the spans that a list is joined to

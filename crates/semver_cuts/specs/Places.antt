@@ -4,7 +4,7 @@ use Rattle.std.specs.List.{AllByRecursion}
 use Rattle.std.specs.declared.cmp.Ordering.{Ordering}
 use Rattle.semver_cuts.specs.declared.cut.Cut.TheVariants.{Start, End}
 use Rattle.semver_cuts.specs.Ends.{Ends, span_between}
-use Rattle.semver_cuts.specs.Common.{AreApart}
+use Rattle.semver_cuts.specs.SpanLists.{AreApart}
 use Rattle.semver_cuts.specs.Joined.{AreJoined, AreRising}
 
 -- the span at a place of a list, and the span of all cuts if the list is shorter
@@ -34,6 +34,6 @@ pub record IsPlacesOf {T : Type 0} (cmp : T → T → Ordering) (spans : List (E
   pub none : AreApart cmp spans → places ≡ []
 
 -- a list of spans, and the spans that it is joined to
-pub record MergedValue (T : Type 0) : Type 0 where
+pub record MergedSpansValue (T : Type 0) : Type 0 where
   pub list : List (Ends T)
   pub merged : List (Ends T)

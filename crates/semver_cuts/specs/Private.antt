@@ -1,7 +1,7 @@
 -- What private functions compute, in this crate and in those above it.
 
--- which of two ends is kept if two spans are merged
-pub mod Merging
+-- which of two ends is kept if two spans are intersected
+pub mod KeptEnds
 -- spans with their places, sorted by their lower ends
 pub mod Placed
 -- how sorted spans are joined
@@ -9,4 +9,4 @@ pub mod Joining
 -- which spans of two lists meet, found along both lists sorted
 pub mod Meeting
 -- the pieces of a span outside spans that are apart
-pub mod Rest
+pub mod Difference

@@ -1,5 +1,5 @@
--- The number of spans that a list is joined to, counted over the list: the spans that begin where no other span goes
--- on.
+-- The number of spans that a list is joined to. It is the number of spans in the list whose lower end no earlier span
+-- has, and that no span of the list reaches from below.
 use Rattle.std.specs.Prelude.{ℕ, ◌+◌, Bool, ◌&&◌, ◌||◌, not, false, List, [], ◌∷◌, ◌++◌, if◌then◌else◌}
 use Rattle.std.specs.Ordering.{is_eq, is_le, is_lt}
 use Rattle.std.specs.declared.cmp.Ordering.{Ordering}

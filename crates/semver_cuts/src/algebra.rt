@@ -1,28 +1,29 @@
-//! The algebra of lists of spans: the intersection of two lists, the part of one list outside the other, and questions
-//! about two lists.
+//! The algebra of lists of spans: their intersection and difference, whether they share a cut, and whether one contains
+//! all cuts of the other.
 ghost use Rattle.std.specs.Prelude.{◌≡◌, ◌++◌, ◌∷◌, [], List, OnOk};
 ghost use Rattle.semver_cuts.specs.Ends.{Ends, IsCutBelow, span_between};
 
 mod common;
+mod difference;
 mod joined;
 mod meeting;
 mod merged;
 mod near;
 mod placed;
 mod places;
-mod rest;
 mod walks;
 
 use crate::Cut;
 pub use joined::join;
-pub use merged::Merged;
+pub use merged::MergedSpans;
 pub use places::{Places, are_merged};
 use std::alloc::AllocError;
 pub use walks::covers;
 
-/// Receives the spans of a result one after another, each as a pair of its ends, and keeps them, or copies of them.
+/// Receives the spans of a result one after another, each as a pair of references to its ends.
 ///
-/// The ends are references into the lists that the algebra was called with, and live as long as those lists.
+/// The references point into the lists that the algebra was called with, and live as long as those lists. An
+/// implementation can keep them, or clone the ends.
 pub trait Gather<'a, T: Ord> {
     /// The spans received so far, in the order in which they came.
     ghost gathered: { Self → List (Ends T) };

@@ -1,3 +1,6 @@
+//! Cuts and their order.
+//!
+//! `#[inline]`: a comparison of two cuts is in the inner loop of each search and each walk along spans.
 ghost use Rattle.std.specs.Cmp.{partial_equiv_from_equiv, eq_by_cmp_equiv, partial_order_from_total};
 ghost use Rattle.std.specs.Ordering.{eq_by_cmp, as_partial_cmp};
 ghost use Rattle.std.proofs.Common.{refl};

@@ -1,14 +1,14 @@
-//! The laws of the order of cuts and of lists of spans. The functions here do nothing: the contract of each is a law
-//! that is proved for every type with a total order.
+//! Laws of the order of cuts and of lists of spans. The functions here do nothing. The contract of each is a law, which
+//! is proved for every type with a total order.
 ghost use Rattle.std.specs.Prelude.{◌≡◌, ◌≢◌, ◌↔◌, ◌⊎◌, List, [], length};
 ghost use Rattle.std.specs.declared.cmp.Ordering.{Ordering};
 ghost use Rattle.semver_cuts.specs.declared.cut.Cut.{Cut};
 ghost use Rattle.semver_cuts.specs.Cut.{cut_cmp};
-ghost use Rattle.semver_cuts.specs.CutLaws.{StandsInLine, NoneBetween};
+ghost use Rattle.semver_cuts.specs.CutLaws.{IsOrderOfCuts, NoneBetween};
 ghost use Rattle.semver_cuts.specs.Ends.{Ends};
-ghost use Rattle.semver_cuts.specs.Common.{IsInSome};
+ghost use Rattle.semver_cuts.specs.SpanLists.{IsInSome};
 ghost use Rattle.semver_cuts.specs.CommonSpans.{common_spans};
-ghost use Rattle.semver_cuts.specs.Rest.{AreRestSpans};
+ghost use Rattle.semver_cuts.specs.Difference.{AreDifference};
 ghost use Rattle.semver_cuts.specs.Joined.{AreJoined, AreMerged, AreRising, AreSameSpans};
 ghost use Rattle.semver_cuts.specs.Sharing.{ShareCut};
 ghost use Rattle.semver_cuts.specs.Starts.{count_of_starts};
@@ -19,29 +19,29 @@ ghost use Rattle.semver_cuts.specs.Starts.{count_of_starts};
 /// Values that compare as equal have the same two cuts, and no cut lies between these two. No other order of the cuts
 /// has these properties.
 pub fn cuts_stand_in_order<T: Ord>()
-    ensures order { StandsInLine T.cmp (cut_cmp T.cmp) }
-    ensures only { (order : Cut T → Cut T → Ordering) → StandsInLine T.cmp order →
+    ensures order { IsOrderOfCuts T.cmp (cut_cmp T.cmp) }
+    ensures only { (order : Cut T → Cut T → Ordering) → IsOrderOfCuts T.cmp order →
         (c d : Cut T) → order c d ≡ cut_cmp T.cmp c d }
     ensures between { (v : T) → NoneBetween (cut_cmp T.cmp) v }
 {}
 
-/// The intersection of two lists and the part of the first outside the second divide the cuts of the first list: each
-/// of its cuts lies in one of the two, and none in both.
+/// The intersection of two lists and their difference divide the cuts of the first list: each of its cuts lies in one
+/// of the two, and none in both.
 ///
-/// The intersection is empty exactly if no cut lies in a span of each list. The part outside is empty exactly if each
-/// cut of the first list lies in a span of the second.
-pub fn common_and_rest_part_the_cuts<T: Ord>()
+/// The intersection is empty exactly if no cut lies in a span of each list. The difference is empty exactly if each cut
+/// of the first list lies in a span of the second.
+pub fn common_and_difference_part_the_cuts<T: Ord>()
     ensures common { (ones others : List (Ends T)) (cut : Cut T) → IsInSome T.cmp (common_spans T.cmp ones others) cut
         ↔ IsInSome T.cmp ones cut × IsInSome T.cmp others cut }
-    ensures rest { (ones others rest : List (Ends T)) → AreRestSpans T.cmp ones others rest → (cut : Cut T)
-        → IsInSome T.cmp rest cut ↔ IsInSome T.cmp ones cut × ¬ IsInSome T.cmp others cut }
-    ensures together { (ones others rest : List (Ends T)) → AreRestSpans T.cmp ones others rest → (cut : Cut T)
-        → (IsInSome T.cmp (common_spans T.cmp ones others) cut ⊎ IsInSome T.cmp rest cut) ↔ IsInSome T.cmp ones cut }
-    ensures disjoint { (ones others rest : List (Ends T)) → AreRestSpans T.cmp ones others rest → (cut : Cut T)
-        → IsInSome T.cmp (common_spans T.cmp ones others) cut → ¬ IsInSome T.cmp rest cut }
+    ensures difference { (ones others spans : List (Ends T)) → AreDifference T.cmp ones others spans → (cut : Cut T)
+        → IsInSome T.cmp spans cut ↔ IsInSome T.cmp ones cut × ¬ IsInSome T.cmp others cut }
+    ensures together { (ones others spans : List (Ends T)) → AreDifference T.cmp ones others spans → (cut : Cut T)
+        → (IsInSome T.cmp (common_spans T.cmp ones others) cut ⊎ IsInSome T.cmp spans cut) ↔ IsInSome T.cmp ones cut }
+    ensures disjoint { (ones others spans : List (Ends T)) → AreDifference T.cmp ones others spans → (cut : Cut T)
+        → IsInSome T.cmp (common_spans T.cmp ones others) cut → ¬ IsInSome T.cmp spans cut }
     ensures no_common { (ones others : List (Ends T)) → common_spans T.cmp ones others ≡ []
         ↔ ¬ ShareCut T.cmp ones others }
-    ensures no_rest { (ones others rest : List (Ends T)) → AreRestSpans T.cmp ones others rest → rest ≡ []
+    ensures no_difference { (ones others spans : List (Ends T)) → AreDifference T.cmp ones others spans → spans ≡ []
         ↔ ((cut : Cut T) → IsInSome T.cmp ones cut → IsInSome T.cmp others cut) }
 {}
 

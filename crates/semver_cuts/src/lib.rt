@@ -8,8 +8,8 @@
 //! A [`Span`] is a pair of such ends with at least one cut between them.
 //!
 //! [`join`] joins the spans of a list to spans that do not touch, and [`covers`] returns whether one such list contains
-//! all cuts of another. The module [`algebra`] has the intersection of two lists of spans, and the part of one list
-//! outside another. The module [`laws`] holds what is proved of the order of cuts and of lists of spans.
+//! all cuts of another. The module [`algebra`] has the intersection and the difference of two lists of spans. The
+//! module [`laws`] has laws of the order of cuts and of lists of spans.
 #![tactic(auto)]
 
 pub mod algebra;

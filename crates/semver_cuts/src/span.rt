@@ -1,3 +1,6 @@
+//! Spans: pairs of cuts with a cut between them.
+//!
+//! `#[inline]`: the functions have one or two comparisons or none, and are in the inner loops of the algebra.
 ghost use Rattle.std.specs.Prelude.{◌≡◌, ◌↔◌, IfSome, IsSome, IsTrue};
 ghost use Rattle.semver_cuts.specs.declared.cut.Cut.TheVariants.{Before, End, Start};
 ghost use Rattle.semver_cuts.specs.Ends.{HoldsCut, IsCutAtMost, IsCutBelow, IsInSpan, span_between};
@@ -11,11 +14,12 @@ use std::mem;
 
 /// The cuts from a lower one up to but not including an upper one. A span contains at least one cut: its lower end.
 ///
-/// A value lies in a span if the cut before the value does. So 3, 5 and the values between them lie from `Before(3)` up
-/// to `After(5)`, and neither 3 nor 5 lies from `After(3)` up to `Before(5)`. A span from `Start` has no lower limit,
-/// and a span to `End` no upper one.
+/// A value lies in a span if the cut before the value does. So 3, 5 and the values between them lie in the span from
+/// `Before(3)` up to `After(5)`, and neither 3 nor 5 lies in the span from `After(3)` up to `Before(5)`. A span from
+/// `Start` has no lower limit, and a span to `End` no upper one.
 ///
-/// A span contains a cut, and may still contain no value: no whole number lies from `After(3)` up to `Before(4)`.
+/// A span contains a cut, and may still contain no value: no whole number lies in the span from `After(3)` up to
+/// `Before(4)`.
 ///
 /// # Memory
 ///
@@ -107,7 +111,7 @@ impl<T: Ord> Span<T> {
         &self.upper
     }
 
-    /// Returns both ends, the lower one first. The contract adds that it is less than the upper one.
+    /// Returns both ends, the lower one first. The contract adds that the lower end is less than the upper one.
     ///
     /// # Memory
     ///
@@ -121,7 +125,7 @@ impl<T: Ord> Span<T> {
         (lower, upper)
     }
 
-    // Moves the lower end out, and puts `Start` in its place.
+    // Moves the lower end out of the span, and puts `Start` in its place.
     pub(crate) fn take_lower(&mut self) -> Cut<T>
         ensures taken { result ≡ self.old.lower }
         ensures left { self.new ≡ span_between Start self.old.upper }
@@ -129,7 +133,7 @@ impl<T: Ord> Span<T> {
         mem::replace(&mut self.lower, Cut::Start)
     }
 
-    // Moves the upper end out, and puts `End` in its place.
+    // Moves the upper end out of the span, and puts `End` in its place.
     pub(crate) fn take_upper(&mut self) -> Cut<T>
         ensures taken { result ≡ self.old.upper }
         ensures left { self.new ≡ span_between self.old.lower End }
@@ -155,7 +159,7 @@ impl<T: Ord> Span<T> {
     }
 }
 
-// Returns `true` if the cut is less than the one before the value, or equal to it.
+// Returns `true` if the cut is less than the cut before the value, or equal to it.
 #[inline]
 fn begins_before<T: Ord>(cut: &Cut<T>, value: &T) -> bool
     ensures { IsTrue result ↔ IsCutAtMost T.cmp cut.now (Before value.now) }
@@ -168,7 +172,7 @@ fn begins_before<T: Ord>(cut: &Cut<T>, value: &T) -> bool
     }
 }
 
-// Returns `true` if the cut before the value is less than this one.
+// Returns `true` if the cut before the value is less than this cut.
 #[inline]
 fn ends_after<T: Ord>(cut: &Cut<T>, value: &T) -> bool
     ensures { IsTrue result ↔ IsCutBelow T.cmp (Before value.now) cut.now }

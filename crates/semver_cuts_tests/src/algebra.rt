@@ -2,11 +2,11 @@ ghost use Rattle.std.specs.Prelude.{map};
 ghost use Rattle.semver_cuts.specs.Ends.{span_between};
 
 use crate::spans::are_before;
-use semver_cuts::algebra::{Gather, Merged, Places, are_merged};
+use semver_cuts::algebra::{Gather, MergedSpans, Places, are_merged};
 use semver_cuts::{Cut, Span, covers, join};
 use std::alloc::{AllocError, Global};
 
-// The ends of the spans that were taken.
+// Keeps the ends of the spans that it receives.
 #[derive(Drop)]
 struct Taken<'a> {
     ends: Vec<(&'a Cut<u64>, &'a Cut<u64>)>,
@@ -21,7 +21,7 @@ impl<'a> Gather<'a, u64> for Taken<'a> {
     }
 }
 
-// A list of spans by two numbers each: from before the first up to before the second.
+// A list of spans, each given by two numbers: from before the first up to before the second.
 fn spans_of(alloc: Global, pairs: &[(u64, u64)]) -> Result<Vec<Span<u64>>, AllocError> {
     let mut spans = Vec::new(alloc);
     for (low, high) in pairs {
@@ -32,11 +32,11 @@ fn spans_of(alloc: Global, pairs: &[(u64, u64)]) -> Result<Vec<Span<u64>>, Alloc
     Ok(spans)
 }
 
-// What is computed for two lists: their intersection, or the difference of the first and the second.
+// What is computed for two lists: their intersection or their difference.
 #[derive(Clone, Copy)]
 enum Operation {
     Common,
-    Rest,
+    Difference,
 }
 
 fn gathered<'a>(
@@ -49,15 +49,15 @@ fn gathered<'a>(
         ends: Vec::new(alloc),
     };
     let places = Places::of(alloc, others)?;
-    let merged = Merged::with(others, &places);
+    let merged = MergedSpans::with(others, &places);
     match operation {
         Operation::Common => merged.common_with(alloc, ones, &mut taken),
-        Operation::Rest => merged.rest_of(ones, &mut taken),
+        Operation::Difference => merged.subtract_from(ones, &mut taken),
     }?;
     Ok(taken)
 }
 
-// Whether these are the cuts before the two numbers of each pair.
+// Returns `true` if these are the cuts before the two numbers of each pair.
 fn are_ends(taken: &[(&Cut<u64>, &Cut<u64>)], pairs: &[(u64, u64)]) -> bool {
     if taken.len() != pairs.len() {
         return false;
@@ -102,15 +102,15 @@ const ROWS: &[Row] = &[
 ];
 
 #[test]
-fn hands_over_what_two_lists_have_in_common(rt: HostRuntime) {
+fn passes_the_intersection_of_two_lists(rt: HostRuntime) {
     for row in ROWS {
         assert!(rt; gathers(rt.alloc(), Operation::Common, row).unwrap_or(false));
     }
 }
 
-// Two lists, and the difference of the first and the second. The spans of the second descend, overlap, touch or ascend
-// apart, or there are none.
-const REST_ROWS: &[Row] = &[
+// Two lists, and their difference. The spans of the second list descend, overlap, touch or ascend apart, or there are
+// none.
+const DIFFERENCE_ROWS: &[Row] = &[
     (&[(1, 9)], &[(5, 6), (2, 3)], &[(1, 2), (3, 5), (6, 9)]),
     (
         &[(1, 9)],
@@ -128,14 +128,14 @@ const REST_ROWS: &[Row] = &[
 ];
 
 #[test]
-fn hands_over_what_one_list_has_and_another_has_not(rt: HostRuntime) {
-    for row in REST_ROWS {
-        assert!(rt; gathers(rt.alloc(), Operation::Rest, row).unwrap_or(false));
+fn passes_the_difference_of_two_lists(rt: HostRuntime) {
+    for row in DIFFERENCE_ROWS {
+        assert!(rt; gathers(rt.alloc(), Operation::Difference, row).unwrap_or(false));
     }
 }
 
-// Thirteen spans that begin in any order, and may overlap, repeat and lie in one another: `step` tells the order, and
-// `width` how far each reaches.
+// Thirteen spans that begin in any order, and may overlap, repeat and lie in one another. `step` sets their order, and
+// `width` their lengths.
 fn long_list(alloc: Global, step: u64, width: u64) -> Result<Vec<Span<u64>>, AllocError> {
     let mut spans = Vec::new(alloc);
     for k in 0..13u64 {
@@ -175,7 +175,7 @@ fn gathers_long(alloc: Global, one: &(u64, u64), other: &(u64, u64)) -> Result<b
 }
 
 #[test]
-fn hands_over_what_long_lists_have_in_common(rt: HostRuntime) {
+fn passes_the_intersection_of_long_lists(rt: HostRuntime) {
     for one in LONG_ROWS {
         for other in LONG_ROWS {
             assert!(rt; gathers_long(rt.alloc(), one, other).unwrap_or(false));
@@ -183,8 +183,8 @@ fn hands_over_what_long_lists_have_in_common(rt: HostRuntime) {
     }
 }
 
-// Lists, and their joined spans: spans that touch, overlap, descend, repeat and nest, one list that is merged already,
-// and none.
+// Lists, and their joined spans: spans that touch, overlap, descend, repeat and nest, a list that is merged already, and
+// the empty list.
 const JOIN_ROWS: &[(Pairs, Pairs)] = &[
     (&[(1, 2), (2, 3)], &[(1, 3)]),
     (&[(2, 5), (0, 1), (4, 7)], &[(0, 1), (2, 7)]),
@@ -195,8 +195,8 @@ const JOIN_ROWS: &[(Pairs, Pairs)] = &[
     (&[], &[]),
 ];
 
-// Whether the merged spans are from before the first number up to before the second, of each pair.
-fn has_ends(merged: &Merged<'_, '_, u64>, joined: &[(u64, u64)]) -> bool {
+// Returns `true` if each merged span goes from before the first number of its pair up to before the second.
+fn has_ends(merged: &MergedSpans<'_, '_, u64>, joined: &[(u64, u64)]) -> bool {
     if merged.len() != joined.len() {
         return false;
     }
@@ -212,8 +212,8 @@ fn merges(alloc: Global, spans: &[Span<u64>], pairs: &[(u64, u64)]) -> Result<bo
     let places = Places::of(alloc, spans)?;
     let copy = places.clone()?;
     Ok(
-        has_ends(&Merged::with(spans, &places), pairs)
-            && has_ends(&Merged::with(spans, &copy), pairs),
+        has_ends(&MergedSpans::with(spans, &places), pairs)
+            && has_ends(&MergedSpans::with(spans, &copy), pairs),
     )
 }
 
@@ -239,72 +239,79 @@ fn joins_spans_and_keeps_their_places(rt: HostRuntime) {
     }
 }
 
-// A test of two lists: whether they share a cut, or whether the first has all cuts of the second.
+// A question about two lists: whether they share a cut, or whether the first contains all cuts of the second.
 #[derive(Clone, Copy)]
-enum Asked {
+enum Question {
     Share,
     Cover,
 }
 
-fn merged_answer(
-    asked: Asked,
-    one: &Merged<'_, '_, u64>,
-    other: &Merged<'_, '_, u64>,
+fn is_answered(
+    question: Question,
+    one: &MergedSpans<'_, '_, u64>,
+    other: &MergedSpans<'_, '_, u64>,
     wanted: bool,
 ) -> bool {
-    match asked {
-        Asked::Share => one.share_cut(other) == wanted && other.share_cut(one) == wanted,
-        Asked::Cover => one.covers(other) == wanted,
+    match question {
+        Question::Share => one.shares_cut(other) == wanted && other.shares_cut(one) == wanted,
+        Question::Cover => one.covers(other) == wanted,
     }
 }
 
-// If both lists are merged already, `covers` can be tested without merging them.
-fn stand_covered(asked: Asked, ones: &[Span<u64>], others: &[Span<u64>], wanted: bool) -> bool {
-    if matches!(asked, Asked::Cover) && are_merged(ones) && are_merged(others) {
+// If both lists are merged as they stand, `covers` must return the same for the lists themselves.
+fn is_covered(question: Question, ones: &[Span<u64>], others: &[Span<u64>], wanted: bool) -> bool {
+    if matches!(question, Question::Cover) && are_merged(ones) && are_merged(others) {
         covers(ones, others) == wanted
     } else {
         true
     }
 }
 
-fn spans_answer(
+fn are_answered(
     alloc: Global,
-    asked: Asked,
+    question: Question,
     ones: &[Span<u64>],
     others: &[Span<u64>],
     wanted: bool,
 ) -> Result<bool, AllocError> {
     let places = Places::of(alloc, ones)?;
     let other_places = Places::of(alloc, others)?;
-    let one = Merged::with(ones, &places);
-    let other = Merged::with(others, &other_places);
-    Ok(merged_answer(asked, &one, &other, wanted) && stand_covered(asked, ones, others, wanted))
+    let one = MergedSpans::with(ones, &places);
+    let other = MergedSpans::with(others, &other_places);
+    Ok(is_answered(question, &one, &other, wanted) && is_covered(question, ones, others, wanted))
 }
 
-// Returns `true` if two lists, made from their numbers, give the wanted result.
-fn answer(
+// Returns `true` if the result for two lists, made from their numbers, is the wanted one.
+fn gives(
     alloc: Global,
-    asked: Asked,
+    question: Question,
     ones: &[(u64, u64)],
     others: &[(u64, u64)],
     wanted: bool,
 ) -> Result<bool, AllocError> {
     let ones = spans_of(alloc, ones)?;
     let others = spans_of(alloc, others)?;
-    spans_answer(alloc, asked, &ones, &others, wanted)
+    are_answered(alloc, question, &ones, &others, wanted)
 }
 
 #[test]
-fn asks_whether_lists_share(rt: HostRuntime) {
+fn finds_whether_lists_share_a_cut(rt: HostRuntime) {
     for (ones, others, common) in ROWS {
         assert!(rt;
-            answer(rt.alloc(), Asked::Share, ones, others, !common.is_empty()).unwrap_or(false)
+            gives(
+                rt.alloc(),
+                Question::Share,
+                ones,
+                others,
+                !common.is_empty()
+            )
+            .unwrap_or(false)
         );
     }
 }
 
-// Two lists, and whether the first has all cuts of the second: not where a gap lies between, however far its ends
-// reach.
+// Two lists, and whether the first contains all cuts of the second. It does not if one of them lies in a gap of the
+// first.
 const COVER_ROWS: &[(Pairs, Pairs, bool)] = &[
     (&[(1, 5), (7, 9)], &[(2, 5), (8, 9)], true),
     (&[(1, 5), (7, 9)], &[(2, 6)], false),
@@ -322,8 +329,8 @@ const COVER_ROWS: &[(Pairs, Pairs, bool)] = &[
 ];
 
 #[test]
-fn asks_of_merged_lists_whether_they_cover(rt: HostRuntime) {
+fn finds_whether_a_list_covers_another(rt: HostRuntime) {
     for (ones, others, covered) in COVER_ROWS {
-        assert!(rt; answer(rt.alloc(), Asked::Cover, ones, others, *covered).unwrap_or(false));
+        assert!(rt; gives(rt.alloc(), Question::Cover, ones, others, *covered).unwrap_or(false));
     }
 }

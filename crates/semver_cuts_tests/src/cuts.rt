@@ -2,7 +2,7 @@ use semver_cuts::Cut;
 use std::cmp::Ordering;
 use std::hash::{DefaultHasher, Hash, Hasher};
 
-// The cut at a place of the line of the cuts of 3 and 5, which has six places, the lowest first.
+// The six cuts of 3 and 5, in ascending order.
 pub(crate) fn cut_at(place: usize) -> Cut<u64> {
     match place {
         0 => Cut::Start,
@@ -18,7 +18,7 @@ fn ordering_of<T: Ord>(first: &T, second: &T) -> Ordering {
     first.cmp(second)
 }
 
-// Whether each way to compare them says the same as the order of their places.
+// Returns `true` if each way to compare the cuts gives the order of their places.
 fn are_ordered(first: &Cut<u64>, second: &Cut<u64>, wanted: Ordering) -> bool {
     first.cmp(second) == wanted
         && ordering_of(first, second) == wanted

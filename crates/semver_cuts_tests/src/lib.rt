@@ -1,5 +1,4 @@
-//! Tests of `semver_cuts`, through its public calls alone: cuts, spans, lists of spans, and values that are stepped
-//! through.
+//! Tests of the public calls of `semver_cuts`: cuts, spans, lists of spans, and types with a next value.
 #![tactic(auto)]
 
 #[cfg(test)]

@@ -1,17 +1,17 @@
 use crate::cuts::{cut_at, hash_of};
 use semver_cuts::{Cut, Span};
 
-// Whether the span lies between these two places of the line of cuts.
+// Returns `true` if the span goes from the one of the six cuts up to the other.
 fn has_ends(span: &Span<u64>, i: usize, j: usize) -> bool {
     *span.lower() == cut_at(i) && *span.upper() == cut_at(j)
 }
 
-// The span between two places of the line, if there is one.
+// The span from one of the six cuts up to another, if there is one.
 fn span_at(i: usize, j: usize) -> Option<Span<u64>> {
     Span::new(cut_at(i), cut_at(j))
 }
 
-// Whether there is a span just where the first place is the lower one, with these ends.
+// Returns `true` if there is a span exactly if the first cut is the lower one, and it has these ends.
 fn is_made(i: usize, j: usize) -> bool {
     match span_at(i, j) {
         Some(span) => i < j && has_ends(&span, i, j),
@@ -28,7 +28,7 @@ fn makes_a_span_where_a_cut_lies_between(rt: HostRuntime) {
     }
 }
 
-// Whether the span is the one between these two places.
+// Returns `true` if the span is equal to the one between these two cuts.
 fn is_between(span: &Span<u64>, i: usize, j: usize) -> bool {
     has_ends(span, i, j)
         && match &span_at(i, j) {
@@ -47,10 +47,10 @@ fn makes_a_span_between_two_cuts(rt: HostRuntime) {
     assert!(rt; is_between(&from_three_to_five, 2, 3));
 }
 
-// Values, and of each the last place of the line that is below it.
+// Values, and for each the place of the last of the six cuts below it.
 const VALUES: &[(u64, usize)] = &[(2, 0), (3, 1), (4, 2), (5, 3), (6, 4)];
 
-// Whether the span contains just the values between these two places.
+// Returns `true` if the span contains exactly the values between these two cuts.
 fn contains_just(span: &Span<u64>, i: usize, j: usize) -> bool {
     for (value, place) in VALUES {
         if span.contains(value) != (i <= *place && *place < j) {
@@ -77,12 +77,12 @@ fn contains_the_values_between_its_ends(rt: HostRuntime) {
     }
 }
 
-// Whether these spans are equal and hash alike, or neither.
+// Returns `true` if these spans are equal and hash alike, or neither.
 fn are_the_same(one: &Span<u64>, other: &Span<u64>, same: bool) -> bool {
     (one == other) == same && (one != other) == !same && (hash_of(one) == hash_of(other)) == same
 }
 
-// The places of each span between two of the line.
+// The places of the ends of each span between two of the six cuts.
 const PLACES: &[(usize, usize)] = &[
     (0, 1),
     (0, 2),
@@ -125,7 +125,7 @@ fn equals_and_hashes_by_its_ends(rt: HostRuntime) {
     }
 }
 
-// Two spans between numbers, their intersection, and the parts of the first below and above the second.
+// Two spans between numbers, their intersection, and the two pieces of their difference.
 type Pair = (u64, u64);
 
 const PAIRS: &[(Pair, Pair, Option<Pair>, Option<Pair>, Option<Pair>)] = &[
@@ -138,12 +138,12 @@ const PAIRS: &[(Pair, Pair, Option<Pair>, Option<Pair>, Option<Pair>)] = &[
     ((3, 5), (1, 3), None, Some((3, 5)), None),
 ];
 
-// Whether these are the cuts before two numbers.
+// Returns `true` if these are the cuts before the two numbers.
 pub(crate) fn are_before(ends: (&Cut<u64>, &Cut<u64>), pair: &Pair) -> bool {
     *ends.0 == Cut::Before(pair.0) && *ends.1 == Cut::Before(pair.1)
 }
 
-fn is_lent(ends: Option<(&Cut<u64>, &Cut<u64>)>, pair: &Option<Pair>) -> bool {
+fn are_ends(ends: Option<(&Cut<u64>, &Cut<u64>)>, pair: &Option<Pair>) -> bool {
     match (ends, pair) {
         (Some(ends), Some(pair)) => are_before(ends, pair),
         (None, None) => true,
@@ -155,24 +155,28 @@ fn span_of(pair: &Pair) -> Option<Span<u64>> {
     Span::new(Cut::Before(pair.0), Cut::Before(pair.1))
 }
 
-fn lends(
+fn has_intersection_and_difference(
     one: &Span<u64>,
     other: &Span<u64>,
     common: &Option<Pair>,
     below: &Option<Pair>,
     above: &Option<Pair>,
 ) -> bool {
-    let rest = one.rest(other);
-    is_lent(one.common(other), common) && is_lent(rest.0, below) && is_lent(rest.1, above)
+    let difference = one.difference(other);
+    are_ends(one.common(other), common)
+        && are_ends(difference.0, below)
+        && are_ends(difference.1, above)
 }
 
 #[test]
-fn lends_what_two_spans_have_in_common_and_the_rest(rt: HostRuntime) {
+fn returns_the_intersection_and_the_difference_of_two_spans(rt: HostRuntime) {
     for (one, other, common, below, above) in PAIRS {
-        let lent = match (span_of(one), span_of(other)) {
-            (Some(one), Some(other)) => lends(&one, &other, common, below, above),
+        let passes = match (span_of(one), span_of(other)) {
+            (Some(one), Some(other)) => has_intersection_and_difference(
+                &one, &other, common, below, above,
+            ),
             _ => false,
         };
-        assert!(rt; lent);
+        assert!(rt; passes);
     }
 }

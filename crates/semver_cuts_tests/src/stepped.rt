@@ -25,7 +25,7 @@ impl Stepped for Byte {
     }
 }
 
-// The third value of an order, if it has so many.
+// The third value of a type, if it has three.
 fn third<T: Stepped + Drop>(alloc: Global) -> Result<Option<T>, AllocError> {
     let least = T::least(alloc)?;
     least.known();

@@ -6,4 +6,4 @@ pub mod Merging
 pub mod Convex
 pub mod AlternativeSets
 pub mod SetLemmas
-pub mod MergedSpans
+pub mod CommonSpan

@@ -11,7 +11,7 @@ use Rattle.std.specs.Prelude.{◌≢◌, ◌⊎◌, ℕ, List, []}
 use Rattle.std.specs.List.{AllByRecursion}
 use Rattle.semver_cuts.specs.declared.cut.Cut.{Cut}
 use Rattle.semver_cuts.specs.declared.cut.Cut.TheVariants.{Start, Before, After, End}
-use Rattle.semver_cuts.specs.Common.{HasCutInEvery}
+use Rattle.semver_cuts.specs.SpanLists.{HasCutInEvery}
 use Rattle.semver_cuts.specs.Ends.{Ends, IsInSpan}
 pub use Rattle.semver_cuts.specs.Sharing.{AnyByRecursion}
 use Rattle.semver_sets.specs.Comparator.{Comparator}

@@ -7,7 +7,7 @@ use Rattle.std.specs.Prelude.{◌≡◌, ◌≢◌, ◌↔◌, ℕ, List, [], �
 use Rattle.std.specs.List.{AllByRecursion}
 use Rattle.semver_cuts.specs.declared.cut.Cut.TheVariants.{Start, End}
 use Rattle.semver_cuts.specs.Ends.{Ends}
-use Rattle.semver_cuts.specs.Merging.{IsLastGreatestLower, IsFirstLeastUpper}
+use Rattle.semver_cuts.specs.ChosenEnds.{IsLastGreatestLower, IsFirstLeastUpper}
 use Rattle.semver_sets.specs.Comparator.{Comparator}
 use Rattle.semver_sets.specs.Comparison.{version_cmp}
 use Rattle.semver_sets.specs.Division.{IsWritten}

@@ -1,4 +1,4 @@
-//! Comparators: the span of versions that one word of a range text gives, and the merging of several words of an
+//! Comparators: the span of versions that one word of a range text gives, and the common span of the words of an
 //! alternative.
 //!
 //! `#[inline(always)]`: the comparators of most words have an end that no other word limits, which is one test. The
@@ -6,10 +6,10 @@
 //!
 //! See docs/DECISIONS.md, "Ties between equal ends are settled by position".
 ghost use Rattle.std.specs.Prelude.{◌≡◌, ◌↔◌, ◌++◌, ◌∷◌, [], IsTrue, List, None};
-ghost use Rattle.semver_cuts.specs.Private.Merging.{IsEarlierLeast, IsLaterGreatest};
+ghost use Rattle.semver_cuts.specs.Private.KeptEnds.{IsEarlierLeast, IsLaterGreatest};
 ghost use Rattle.semver_sets.specs.Comparator.{Comparator};
 ghost use Rattle.semver_sets.specs.Comparison.{version_cmp};
-ghost use Rattle.semver_sets.specs.Private.RangeViews.{HasSpan, IsMerged, IsSpanOf};
+ghost use Rattle.semver_sets.specs.Private.RangeViews.{HasSpan, IsCommonSpan, IsSpanOf};
 
 use crate::end::End;
 use semver_cuts::{Cut, Span};
@@ -32,46 +32,47 @@ impl Model for Comparator {
     ghost view = { λ c. record { lower = c.lower; upper = c.upper } };
 }
 
-// The comparators merged so far, and whether there was one.
+// The span that the comparators so far have in common, and whether there was a comparator. It may contain no cut.
 #[derive(Drop)]
-pub(crate) struct Merged {
+pub(crate) struct CommonSpan {
     found: bool,
     lower: Cut<End>,
     upper: Cut<End>,
 }
 
-impl Model for Merged {
+impl Model for CommonSpan {
     ghost use Rattle.std.specs.Prelude.{◌≡◌, false, Option};
     ghost use Rattle.semver_cuts.specs.declared.cut.Cut.TheVariants.{Start, End};
     ghost use Rattle.semver_cuts.specs.Ends.{Ends};
-    ghost use Rattle.semver_sets.specs.Private.RangeViews.{merged_seen};
+    ghost use Rattle.semver_sets.specs.Private.RangeViews.{common_seen};
     ghost use Rattle.semver_sets.specs.Version.{VersionValue};
 
     ghost Value = { Option (Ends VersionValue) };
 
-    ghost view = { λ m. merged_seen m.found m.lower m.upper };
+    ghost view = { λ m. common_seen m.found m.lower m.upper };
 
     ghost invariant = { λ m. m.found ≡ false → (m.lower ≡ Start) × (m.upper ≡ End) };
 }
 
-impl Merged {
+impl CommonSpan {
     // No comparator so far: the span of all cuts.
     #[inline(always)]
-    pub(crate) fn new() -> Merged
+    pub(crate) fn new() -> CommonSpan
         ensures { result ≡ None }
     {
-        Merged {
+        CommonSpan {
             found: false,
             lower: Cut::Start,
             upper: Cut::End,
         }
     }
 
-    // Merges one more comparator. Of equal lower ends the later is kept, and of equal upper ends the earlier.
+    // Intersects the span with one more comparator. Of equal lower ends the later is kept, and of equal upper ends the
+    // earlier.
     #[inline(always)]
-    pub(crate) fn merge(&mut self, later: Comparator)
-        ensures { (comparators : List Comparator) → IsMerged comparators self.old
-            → IsMerged (comparators ++ later ∷ []) self.new }
+    pub(crate) fn narrow(&mut self, later: Comparator)
+        ensures { (comparators : List Comparator) → IsCommonSpan comparators self.old
+            → IsCommonSpan (comparators ++ later ∷ []) self.new }
     {
         keep_greatest(&mut self.lower, later.lower);
         keep_least(&mut self.upper, later.upper);

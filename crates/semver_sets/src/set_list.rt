@@ -21,7 +21,7 @@ use crate::end::End;
 use crate::set::{Asked, admits};
 use crate::set_list::searched::Searched;
 use semver_cuts::Span;
-use semver_cuts::algebra::Merged;
+use semver_cuts::algebra::MergedSpans;
 
 /// The sets of a range: at least one. A contract sees them as a list, `sets_seen`.
 ///
@@ -48,13 +48,13 @@ impl Sets {
 
     /// Returns the sets with their merged spans.
     #[inline(always)]
-    pub fn merged(&self) -> Merged<'_, '_, End>
+    pub fn merged(&self) -> MergedSpans<'_, '_, End>
         ensures { result.list ≡ sets_seen self.now }
     {
         match self {
             Sets::One(set) => {
                 let _ends = set.ends();
-                Merged::itself(std::slice::from_ref(set))
+                MergedSpans::itself(std::slice::from_ref(set))
             }
             Sets::Many(sets) => sets.merged(),
         }
@@ -62,7 +62,7 @@ impl Sets {
 
     /// Returns `true` if some cut lies both in a set of this list and in a set of the other.
     #[inline(always)]
-    pub fn share_cut(&self, other: &Sets) -> bool
+    pub fn shares_cut(&self, other: &Sets) -> bool
         ensures { IsTrue result ↔ ShareCut version_cmp (sets_seen self.now) (sets_seen other.now) }
     {
         match (self, other) {
@@ -76,7 +76,7 @@ impl Sets {
     fn share_merged_cut(&self, other: &Sets) -> bool
         ensures { IsTrue result ↔ ShareCut version_cmp (sets_seen self.now) (sets_seen other.now) }
     {
-        self.merged().share_cut(&other.merged())
+        self.merged().shares_cut(&other.merged())
     }
 
     /// Returns `true` if one of the sets admits the version, and adds the comparisons that this takes to `comparisons`.

@@ -4,11 +4,11 @@ use Rattle.std.specs.Prelude.{IfSome, IsNone, IsSome}
 use Rattle.std.specs.List.{AllByRecursion}
 use Rattle.semver_cuts.specs.declared.cut.Cut.{Cut}
 use Rattle.semver_cuts.specs.Ends.{Ends, HoldsCut}
-use Rattle.semver_cuts.specs.Common.{IsInSome}
+use Rattle.semver_cuts.specs.SpanLists.{IsInSome}
 use Rattle.semver_cuts.specs.CommonSpans.{common_spans}
-use Rattle.semver_cuts.specs.Rest.{AreRestSpans}
+use Rattle.semver_cuts.specs.Difference.{AreDifference}
 use Rattle.semver_cuts.specs.Lemmas.CommonSpans.{common_spans-ends, common_spans-hold}
-use Rattle.semver_cuts.specs.Lemmas.Rest.{rest_spans-ends, rest_spans-hold}
+use Rattle.semver_cuts.specs.Lemmas.Difference.{difference-ends, difference-hold}
 use Rattle.semver_sets.specs.Comparison.{version_cmp}
 use Rattle.semver_sets.specs.Lemmas.Order.{version_total}
 use Rattle.semver_sets.specs.RangeSets.{IsRangeSet, IsRangeValue, IsReadCut}
@@ -42,12 +42,12 @@ common-bounded ones others all all' =
     (common_spans-ends version_total IsReadCut IsReadCut ones others (ends-read ones all) (ends-read others all'))
 
 -- and so are those of a difference
-pub rest-bounded : (ones others rest : List (Ends VersionValue)) → AreRestSpans version_cmp ones others rest
-    → AllByRecursion IsRangeSet ones → AllByRecursion IsRangeSet others → AllByRecursion IsRangeSet rest
+pub difference-bounded : (ones others spans : List (Ends VersionValue)) → AreDifference version_cmp ones others spans
+    → AllByRecursion IsRangeSet ones → AllByRecursion IsRangeSet others → AllByRecursion IsRangeSet spans
 unfolding HasReadEnds
-rest-bounded ones others rest are all all' =
-    sets-held rest (rest_spans-hold version_cmp ones others rest are)
-    (rest_spans-ends version_cmp IsReadCut IsReadCut ones others rest (ends-read ones all) (ends-read others all') are)
+difference-bounded ones others spans are all all' =
+    sets-held spans (difference-hold version_cmp ones others spans are)
+    (difference-ends version_cmp IsReadCut IsReadCut ones others spans (ends-read ones all) (ends-read others all') are)
 
 -- ---- where there is no range
 

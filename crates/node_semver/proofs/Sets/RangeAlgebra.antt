@@ -5,14 +5,14 @@ use Rattle.semver_cuts.specs.declared.cut.Cut.{Cut}
 use Rattle.semver_cuts.specs.declared.cut.Cut.TheVariants.{Before}
 use Rattle.semver_cuts.specs.Cut.{cut_cmp}
 use Rattle.semver_cuts.specs.Ends.{Ends}
-use Rattle.semver_cuts.specs.Common.{IsInSome}
+use Rattle.semver_cuts.specs.SpanLists.{IsInSome}
 use Rattle.semver_cuts.specs.CommonSpans.{common_ends, common_spans}
-use Rattle.semver_cuts.specs.Private.Merging.{IsEarlierLeast, IsLaterGreatest}
+use Rattle.semver_cuts.specs.Private.KeptEnds.{IsEarlierLeast, IsLaterGreatest}
 use Rattle.semver_cuts.specs.Lemmas.Ends.{at_most-from_not_lt, below-from_lt}
 use Rattle.semver_cuts.specs.Sharing.{HaveCommonCut}
 use Rattle.semver_cuts.specs.Lemmas.CommonSpans.{common_spans-cuts, common_spans-some}
-use Rattle.semver_cuts.specs.Rest.{AreRestSpans}
-use Rattle.semver_cuts.specs.Lemmas.Rest.{rest_spans-cuts}
+use Rattle.semver_cuts.specs.Difference.{AreDifference}
+use Rattle.semver_cuts.specs.Lemmas.Difference.{difference-cuts}
 use Rattle.semver_cuts.specs.Lemmas.Lists.{any-map}
 use Rattle.semver_sets.specs.Comparison.{version_cmp}
 use Rattle.semver_sets.specs.Lemmas.Order.{version_total}
@@ -96,13 +96,13 @@ common-releases ones others v release =
     )
 
 -- a difference admits a release exactly where the first range does and the second does not
-pub rest-releases : (ones others rest : List (Ends VersionValue)) → AreRestSpans version_cmp ones others rest
-    → (v : VersionValue) → ¬ IsPrerelease v → RangeAdmits rest v ↔ (RangeAdmits ones v × (¬ RangeAdmits others v))
-rest-releases ones others rest are v release =
-    let left = release-admitted rest v release in
+pub difference-releases : (ones others spans : List (Ends VersionValue)) → AreDifference version_cmp ones others spans
+    → (v : VersionValue) → ¬ IsPrerelease v → RangeAdmits spans v ↔ (RangeAdmits ones v × (¬ RangeAdmits others v))
+difference-releases ones others spans are v release =
+    let left = release-admitted spans v release in
     let one = release-admitted ones v release in
     let other = release-admitted others v release in
-    let cuts = rest_spans-cuts version_cmp ones others rest are (Before v) in (
+    let cuts = difference-cuts version_cmp ones others spans are (Before v) in (
       λ admits. let inside = cuts.0 (left.0 admits) in (one.1 inside.0, λ admits'. inside.1 (other.0 admits')),
       λ admits. left.1 (cuts.1 (one.0 admits.0, λ inside. admits.1 (other.1 inside))),
     )

@@ -1,9 +1,9 @@
 -- The cuts of a text: those of the sets that it writes, and none where it is refused.
 use Rattle.std.proofs.Common.{◌≢◌, ◌↔◌, ℕ, List, [], ◌∷◌, subst, inl, inr}
 use Rattle.semver_cuts.specs.declared.cut.Cut.{Cut}
-use Rattle.semver_cuts.specs.Common.{IsInEvery, IsInSome}
+use Rattle.semver_cuts.specs.SpanLists.{IsInEvery, IsInSome}
 use Rattle.semver_cuts.specs.Ends.{Ends}
-use Rattle.semver_cuts.specs.Lemmas.Merging.{in_every-between}
+use Rattle.semver_cuts.specs.Lemmas.ChosenEnds.{in_every-between}
 use Rattle.semver_sets.specs.Comparator.{Comparator}
 use Rattle.semver_sets.specs.Comparison.{version_cmp}
 use Rattle.semver_sets.specs.Meaning.{AnyByRecursion, IsRefused}

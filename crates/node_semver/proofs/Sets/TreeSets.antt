@@ -3,12 +3,12 @@ use Rattle.std.proofs.Common.{◌≡◌, ◌↔◌, ℕ, List, [], ◌∷◌, Op
 use Rattle.std.specs.Prelude.{IfOk}
 use Rattle.std.specs.List.{AllByRecursion}
 use Rattle.semver_cuts.specs.declared.cut.Cut.{Cut}
-use Rattle.semver_cuts.specs.Common.{IsInSome}
+use Rattle.semver_cuts.specs.SpanLists.{IsInSome}
 use Rattle.semver_cuts.specs.CommonSpans.{common_spans}
 use Rattle.semver_cuts.specs.Ends.{Ends}
-use Rattle.semver_cuts.specs.Rest.{ArePieces, AreRestSpans}
+use Rattle.semver_cuts.specs.Difference.{AreDifference, ArePieces}
 use Rattle.semver_cuts.specs.Lemmas.CommonSpans.{common_spans-cuts}
-use Rattle.semver_cuts.specs.Lemmas.Rest.{rest_spans-cuts}
+use Rattle.semver_cuts.specs.Lemmas.Difference.{difference-cuts}
 use Rattle.semver_sets.specs.Comparator.{Comparator}
 use Rattle.semver_sets.specs.Comparison.{version_cmp}
 use Rattle.semver_sets.specs.Meaning.{GiveSet, IsRefused}
@@ -64,9 +64,10 @@ own-piece set is = record {
 }
 
 -- and leave each set as it is
-pub rest-without_none : (sets : Sets) → AllByRecursion IsRangeSet sets → AreRestSpans version_cmp sets [] sets
-rest-without_none [] all = refl
-rest-without_none (set ∷ sets) all = (set ∷ [], sets, refl, own-piece set all.0, rest-without_none sets all.1)
+pub difference-without_none : (sets : Sets) → AllByRecursion IsRangeSet sets → AreDifference version_cmp sets [] sets
+difference-without_none [] all = refl
+difference-without_none (set ∷ sets) all =
+    (set ∷ [], sets, refl, own-piece set all.0, difference-without_none sets all.1)
 
 -- ---- what a tree is evaluated to
 
@@ -85,7 +86,7 @@ both-sets tree one other ones others (Ok answer) same has has' is =
 -- what the sets of the left side have and those of the right one have not
 pub without-sets : {E : Type 0} (tree one other : Formula) (ones others : Sets) (result : Result (Option Sets) E)
     → tree ≡ without one other → AreSetsOfTree one ones → AreSetsOfTree other others
-    → IfOk result (λ answer. AreRestSpans version_cmp ones others (sets_of_answer answer)) → HasSetsOf tree result
+    → IfOk result (λ answer. AreDifference version_cmp ones others (sets_of_answer answer)) → HasSetsOf tree result
 without-sets tree one other ones others (Err e) same has has' is = tt
 without-sets tree one other ones others (Ok answer) same has has' is =
     subst (λ t. AreSetsOfTree t (sets_of_answer answer)) (sym same) (inr (ones, others, has, has', is))
@@ -107,9 +108,9 @@ shared-cuts one other ones others has has' cut =
 
 -- the cuts that the sets of one tree have and those of another have not are those of the one without the other
 left-cuts : (one other : Formula) (ones others sets : Sets) → HaveCutsOf one ones → HaveCutsOf other others
-    → AreRestSpans version_cmp ones others sets → HaveCutsOf (without one other) sets
-left-cuts one other ones others sets has has' rest cut =
-    let is = rest_spans-cuts version_cmp ones others sets rest cut in (
+    → AreDifference version_cmp ones others sets → HaveCutsOf (without one other) sets
+left-cuts one other ones others sets has has' spans cut =
+    let is = difference-cuts version_cmp ones others sets spans cut in (
       λ h. let left = is.0 h in ((has cut).0 left.0, λ o. left.1 ((has' cut).1 o)),
       λ h. is.1 ((has cut).1 h.0, λ o. h.1 ((has' cut).0 o)),
     )

@@ -1,7 +1,7 @@
 -- A tree has one list of sets, and which versions the sets of both sides admit.
 use Rattle.std.proofs.Common.{◌≡◌, ◌↔◌, ◌∙◌, [], refl, sym, ap, subst, inl, inr}
 use Rattle.semver_cuts.specs.CommonSpans.{common_spans}
-use Rattle.semver_cuts.specs.Rest.{AreRestSpans}
+use Rattle.semver_cuts.specs.Difference.{AreDifference}
 use Rattle.semver_sets.specs.Comparison.{version_cmp}
 use Rattle.semver_sets.specs.Lemmas.Order.{version_total}
 use Rattle.semver_sets.specs.Meaning.{RangeAdmits}
@@ -10,15 +10,15 @@ use Rattle.semver_sets.proofs.Sets.SetLemmas.{one-merging}
 use Rattle.node_semver.specs.RangeAlgebra.{PairAdmits}
 use Rattle.node_semver.specs.SetTree.{AdmitInPairs, AreSetsOfTree, Formula, HasOneListOfSets, both, of_text, without}
 use Rattle.node_semver.proofs.Sets.RangeAlgebra.{common-admits}
-use Rattle.node_semver.proofs.Sets.RestUnique.{rest-unique}
+use Rattle.node_semver.proofs.Sets.DifferenceUnique.{difference-unique}
 use Rattle.node_semver.proofs.Sets.TreeSets.{Sets}
 
 -- no sets have nothing in common with any, and nothing is left of none
 common-none : (ones others sets : Sets) → ones ≡ [] → sets ≡ common_spans version_cmp ones others → sets ≡ []
 common-none ones others sets empty is = is ∙ ap (λ (l : Sets). common_spans version_cmp l others) empty
 
-rest-none : (ones others sets : Sets) → ones ≡ [] → AreRestSpans version_cmp ones others sets → sets ≡ []
-rest-none ones others sets empty is = subst (λ (l : Sets). AreRestSpans version_cmp l others sets) empty is
+difference-none : (ones others sets : Sets) → ones ≡ [] → AreDifference version_cmp ones others sets → sets ≡ []
+difference-none ones others sets empty is = subst (λ (l : Sets). AreDifference version_cmp l others sets) empty is
 
 pub tree-unique : (tree : Formula) → HasOneListOfSets tree
 tree-unique (of_text t) sets sets' are are' = one-merging t sets sets' are are'
@@ -33,16 +33,16 @@ tree-unique (both one other) sets sets' (inr made) (inr made') =
     made.4 ∙ (λ i. common_spans version_cmp (first i) (second i)) ∙ sym made'.4
 tree-unique (without one other) sets sets' (inl none) (inl none') = none.1 ∙ sym none'.1
 tree-unique (without one other) sets sets' (inl none) (inr made) =
-    none.1 ∙ sym (rest-none made.0 made.1 sets' (tree-unique one made.0 [] made.2 none.0) made.4)
+    none.1 ∙ sym (difference-none made.0 made.1 sets' (tree-unique one made.0 [] made.2 none.0) made.4)
 tree-unique (without one other) sets sets' (inr made) (inl none) =
-    rest-none made.0 made.1 sets (tree-unique one made.0 [] made.2 none.0) made.4 ∙ sym none.1
+    difference-none made.0 made.1 sets (tree-unique one made.0 [] made.2 none.0) made.4 ∙ sym none.1
 tree-unique (without one other) sets sets' (inr made) (inr made') =
     let first : made.0 ≡ made'.0 = tree-unique one made.0 made'.0 made.2 made'.2 in
     let second : made.1 ≡ made'.1 = tree-unique other made.1 made'.1 made.3 made'.3 in
-    let moved : AreRestSpans version_cmp made'.0 made'.1 sets =
-    subst (λ (l : Sets). AreRestSpans version_cmp l made'.1 sets) first
-    (subst (λ (l : Sets). AreRestSpans version_cmp made.0 l sets) second made.4) in
-    rest-unique version_total made'.0 made'.1 sets sets' moved made'.4
+    let moved : AreDifference version_cmp made'.0 made'.1 sets =
+    subst (λ (l : Sets). AreDifference version_cmp l made'.1 sets) first
+    (subst (λ (l : Sets). AreDifference version_cmp made.0 l sets) second made.4) in
+    difference-unique version_total made'.0 made'.1 sets sets' moved made'.4
 
 -- the sets of both sides are the intersection of the two lists
 both-common : (one other : Formula) (sets ones others : Sets) → AreSetsOfTree (both one other) sets

@@ -2,10 +2,10 @@
 
 ghost use Rattle.std.specs.Prelude.{◌≡◌, ◌≢◌, ◌⊎◌, ◌↔◌, List, [], IfOk, IfSome, IsNone, IsSome, IsTrue};
 ghost use Rattle.semver_cuts.specs.declared.cut.Cut.{Cut};
-ghost use Rattle.semver_cuts.specs.Common.{IsInSome};
+ghost use Rattle.semver_cuts.specs.SpanLists.{IsInSome};
 ghost use Rattle.semver_cuts.specs.CommonSpans.{common_spans};
 ghost use Rattle.semver_cuts.specs.Ends.{Ends};
-ghost use Rattle.semver_cuts.specs.Rest.{AreRestSpans};
+ghost use Rattle.semver_cuts.specs.Difference.{AreDifference};
 ghost use Rattle.semver_cuts.specs.Sharing.{CoversAll, ShareCut};
 ghost use Rattle.semver_sets.specs.Comparison.{version_cmp};
 ghost use Rattle.semver_sets.specs.Meaning.{RangeAdmits};
@@ -61,13 +61,13 @@ impl Range {
             RangeAdmits (sets_of_answer answer) v ↔ (RangeAdmits self.now v × RangeAdmits other.now v)) }
         ensures prereleases { IfOk result (λ answer. (v : VersionValue) → IsPrerelease v →
             RangeAdmits (sets_of_answer answer) v ↔ PairAdmits self.now other.now v) }
-        ensures disjoint { IfOk result (λ answer. (rest : List (Ends VersionValue)) →
-            AreRestSpans version_cmp self.now other.now rest → (cut : Cut VersionValue) →
-            ¬ (IsInSome version_cmp (sets_of_answer answer) cut × IsInSome version_cmp rest cut)) }
-        ensures together { IfOk result (λ answer. (rest : List (Ends VersionValue)) →
-            AreRestSpans version_cmp self.now other.now rest → (cut : Cut VersionValue) →
+        ensures disjoint { IfOk result (λ answer. (spans : List (Ends VersionValue)) →
+            AreDifference version_cmp self.now other.now spans → (cut : Cut VersionValue) →
+            ¬ (IsInSome version_cmp (sets_of_answer answer) cut × IsInSome version_cmp spans cut)) }
+        ensures together { IfOk result (λ answer. (spans : List (Ends VersionValue)) →
+            AreDifference version_cmp self.now other.now spans → (cut : Cut VersionValue) →
             IsInSome version_cmp self.now cut
-            ↔ (IsInSome version_cmp (sets_of_answer answer) cut ⊎ IsInSome version_cmp rest cut)) }
+            ↔ (IsInSome version_cmp (sets_of_answer answer) cut ⊎ IsInSome version_cmp spans cut)) }
         ensures holds { IfOk result (λ answer. IfSome answer IsRangeValue) }
     {
         let mut sets = Gathered::new(alloc);
@@ -97,7 +97,7 @@ impl Range {
         ensures symmetric { IsTrue result ↔ ShareCut version_cmp other.now self.now }
         ensures intersection { IsTrue result ↔ (common_spans version_cmp self.now other.now ≢ []) }
     {
-        self.sets.share_cut(&other.sets)
+        self.sets.shares_cut(&other.sets)
     }
 
     /// Returns `true` if `self` contains every cut of `other`.
@@ -122,8 +122,8 @@ impl Range {
     /// - `<1.2.3` does not allow `<=1.2.3`.
     pub fn allows_all(&self, other: &Range) -> bool
         ensures covered { IsTrue result ↔ CoversAll version_cmp self.now other.now }
-        ensures difference { (rest : List (Ends VersionValue)) → AreRestSpans version_cmp other.now self.now rest →
-            IsTrue result ↔ (rest ≡ []) }
+        ensures difference { (spans : List (Ends VersionValue)) → AreDifference version_cmp other.now self.now spans →
+            IsTrue result ↔ (spans ≡ []) }
     {
         self.sets.merged().covers(&other.sets.merged())
     }

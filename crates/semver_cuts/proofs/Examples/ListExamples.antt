@@ -1,4 +1,4 @@
--- Lists of spans of numbers: how many spans they are joined to, and what one has of another.
+-- Lists of spans of numbers: how many spans they are joined to, their places, and whether one covers another.
 use Rattle.std.proofs.Common.{◌≡◌, ℕ, [], ◌∷◌, Less, Equal, Greater, refl, inl, inr, ⊎_elim}
 use Rattle.std.specs.Cmp.{nat_cmp_total}
 use Rattle.std.specs.Ordering.{nat_cmp}
@@ -62,7 +62,7 @@ not-touching covers =
     ⊎_elim (λ here. equal-not_less here.upper) (λ there. absurd there)
     (covers (Before 1) (inl (record { lower = inr refl; upper = refl })))
 
--- a gap between two spans of the first is not covered, whatever lies around
+-- a gap between two spans of the first is not covered
 not-hull : ¬ CoversAll nat_cmp (from_to 1 3 ∷ from_to 5 9 ∷ []) (from_to 2 8 ∷ [])
 not-hull covers =
     ⊎_elim (λ low. greater-not_less low.upper)

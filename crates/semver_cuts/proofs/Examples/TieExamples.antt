@@ -1,4 +1,4 @@
--- Which end stands where several touch one cut. The values are numbers with a mark, which the order does not see.
+-- Which end is chosen if several are equal. The values are numbers with a mark, which the order ignores.
 use Rattle.std.proofs.Common.{◌≡◌, ◌⊎◌, ℕ, List, [], ◌∷◌, ◌++◌, Ordering, Less, Equal, refl, ap, subst, sym, ◌∙◌, inl}
 use Rattle.std.proofs.Common.{inr, ⊎_elim, arith}
 use Rattle.std.specs.List.{AllByRecursion}
@@ -8,9 +8,9 @@ use Rattle.semver_cuts.specs.declared.cut.Cut.TheVariants.{Start, Before, After,
 use Rattle.semver_cuts.specs.Cut.{cut_cmp}
 use Rattle.semver_cuts.specs.CommonSpans.{common_spans}
 use Rattle.semver_cuts.specs.Ends.{Ends, IsCutAtMost, IsCutBelow, span_between}
-use Rattle.semver_cuts.specs.Merging.{IsFirstLeastUpper, IsLastGreatestLower}
+use Rattle.semver_cuts.specs.ChosenEnds.{IsFirstLeastUpper, IsLastGreatestLower}
 use Rattle.semver_cuts.specs.Places.{merged_spans}
-use Rattle.semver_cuts.specs.Rest.{IsFirstAt, IsPieceLower, IsPieceUpper}
+use Rattle.semver_cuts.specs.Difference.{IsFirstAt, IsPieceLower, IsPieceUpper}
 use Rattle.semver_cuts.specs.Private.Joining.{places_in_order}
 use Rattle.semver_cuts.specs.Private.Placed.{PlacedSpan}
 
@@ -24,7 +24,7 @@ marked_cmp = on (λ (v : Marked). v.0) nat_cmp
 abbrev from_to : ℕ → ℕ → ℕ → Ends Marked
 from_to mark low high = span_between (Before (low, mark)) (Before (high, mark))
 
--- ---- what two lists have in common: of equal lower ends the second one's, of equal upper ends the first one's
+-- ---- the intersection of two lists: of equal lower ends that of the second, of equal upper ends that of the first
 
 common-ties : common_spans marked_cmp (from_to 1 3 5 ∷ []) (from_to 2 3 5 ∷ [])
     ≡ span_between (Before (3, 2)) (Before (5, 1)) ∷ []
@@ -35,7 +35,7 @@ common-order : common_spans marked_cmp (from_to 1 6 9 ∷ from_to 1 0 5 ∷ []) 
     ∷ span_between (Before (0, 3)) (Before (2, 3)) ∷ []
 common-order = refl
 
--- ---- what one list has and another has not: of several ends at a cut that of the first
+-- ---- the difference of two lists: of several ends at a cut that of the first span
 
 equal-not_less : Equal ≡ Less → ⊥
 equal-not_less e = cc
@@ -61,7 +61,7 @@ tail-same x y xs ys e = cc
 not-none : {X : Type 0} (x : X) (xs : List X) → ¬ ([] ≡ x ∷ xs)
 not-none x xs e = cc
 
--- the mark of a cut's number, and 3 where there is none
+-- the mark of a cut's number, and 3 if it has no number
 abbrev mark_of : Cut Marked → ℕ
 mark_of (Before v) = v.1
 mark_of (After v) = v.1
@@ -81,7 +81,7 @@ stands-by end first spans cut same (other ∷ before) span after parts at earlie
     absurd (earlier.0 (subst (λ s. cut_cmp marked_cmp (end s) cut ≡ Equal)
     (head-same first other spans (before ++ span ∷ after) parts) same))
 
--- where the first of a list has its end at the cut, that end is the one
+-- if the first span of a list has its end at the cut, that end is chosen
 first-stands : (end : Ends Marked → Cut Marked) (first : Ends Marked) (spans : List (Ends Marked)) (cut : Cut Marked)
     → cut_cmp marked_cmp (end first) cut ≡ Equal → IsFirstAt marked_cmp end (first ∷ spans) cut → end first ≡ cut
 first-stands end first spans cut same at =
@@ -137,7 +137,7 @@ ends-not_at_second (inr at) =
     one-not_two (ap mark_of (first-stands (λ s. s.lower) (from_to 1 5 6) (from_to 2 5 7 ∷ [])
     (Before (5, 2)) refl at.1))
 
--- ---- what all of a list have in common: of equal lower ends the last, of equal upper ends the first
+-- ---- the intersection of the spans of a list: of equal lower ends the last, of equal upper ends the first
 
 chosen-by : (end : Ends Marked → Cut Marked) (P Q : Cut Marked → Cut Marked → Type 0) (one two : Ends Marked)
     (cut : Cut Marked)
@@ -199,7 +199,7 @@ not-last_upper at =
     (chosen-by (λ s. s.upper) (λ c d. IsCutBelow marked_cmp d c) (λ c d. IsCutAtMost marked_cmp d c) (from_to 1 3 5)
     (from_to 2 3 5) (Before (5, 2)) at.before at.span at.after at.parts at.end_of at.earlier at.later)
 
--- ---- what a list is joined to: of equal ends the first of the list
+-- ---- the spans that a list is joined to: of equal ends the first of the list
 
 -- 1 to 3, 3 to 5 and 1 to 5, in the order of their lower ends
 abbrev touching : List (Ends Marked)

@@ -8,12 +8,12 @@ use Rattle.std.specs.List.{AllByRecursion}
 use Rattle.std.specs.Ordering.{is_le}
 use Rattle.std.proofs.lemmas.List.{drop_more, take_more, take-append-drop}
 use Rattle.semver_cuts.specs.declared.cut.Cut.{Cut}
-use Rattle.semver_cuts.specs.Common.{AreApart}
+use Rattle.semver_cuts.specs.SpanLists.{AreApart}
 use Rattle.semver_cuts.specs.Ends.{Ends, IsCutAtMost, IsCutBelow}
 use Rattle.semver_cuts.specs.Joined.{AreRising}
-use Rattle.semver_cuts.specs.Private.Rest.{ending_above}
+use Rattle.semver_cuts.specs.Private.Difference.{ending_above}
 use Rattle.semver_cuts.specs.Lemmas.Ends.{below-at_most, below_trans, greater-from_below, le-from_at_most}
-use Rattle.semver_cuts.specs.Lemmas.Merging.{all_both, all_map, all_middle, all_push}
+use Rattle.semver_cuts.specs.Lemmas.Lists.{all_both, all_map, all_middle, all_push}
 
 module _ {T : Type 0} (cmp : T → T → Ordering) where
   -- without the first span the others are apart

@@ -9,7 +9,7 @@ use Rattle.std.specs.List.{AllByRecursion}
 use Rattle.semver_cuts.specs.declared.cut.Cut.{Cut}
 use Rattle.semver_cuts.specs.Cut.{cut_cmp}
 use Rattle.semver_cuts.specs.Ends.{Ends, HoldsCut, IsInSpan}
-use Rattle.semver_cuts.specs.Common.{IsInSome}
+use Rattle.semver_cuts.specs.SpanLists.{IsInSome}
 use Rattle.semver_cuts.specs.CommonSpans.{common_ends, common_of, common_spans, common_with, greater_cut, lesser_cut}
 use Rattle.semver_cuts.specs.Sharing.{AnyByRecursion, HaveCommonCut, ShareCut}
 use Rattle.semver_cuts.specs.Lemmas.InSome.{in_some-either, in_some-left, in_some-right, none_held}
@@ -95,7 +95,7 @@ module _ {T : Type 0} {cmp : T → T → Ordering} (o : IsTotalOrder cmp) where
         all-append Q (common_of cmp one other) (common_with cmp one others) (of-all one other p all.0)
         (with-all one others p all.1)
 
-    -- what follows for the common ends of each two spans that share a cut is true of each common span
+    -- a fact of the common ends of each two spans that share a cut is a fact of each common span
     pub common_spans-each : (ones others : List (Ends T)) → AllByRecursion P ones → AllByRecursion P' others
         → AllByRecursion Q (common_spans cmp ones others)
     common_spans-each [] others all all' = tt
@@ -111,7 +111,7 @@ module _ {T : Type 0} {cmp : T → T → Ordering} (o : IsTotalOrder cmp) where
       ones others (all-always (λ (one : Ends T). Unit {0}) (λ one. tt) ones)
       (all-always (λ (other : Ends T). Unit {0}) (λ other. tt) others)
 
-  -- what is true of all lower ends, and of all upper ends, is true of those of the common spans
+  -- a fact of all lower ends, and one of all upper ends, are facts of those of the common spans
   pub common_spans-ends : (Lower Upper : Cut T → Type 0) (ones others : List (Ends T))
       → AllByRecursion (λ (span : Ends T). Lower span.lower × Upper span.upper) ones
       → AllByRecursion (λ (span : Ends T). Lower span.lower × Upper span.upper) others
@@ -177,7 +177,7 @@ module _ {T : Type 0} {cmp : T → T → Ordering} (o : IsTotalOrder cmp) where
     spans-some (one ∷ ones) others (inr there) =
         any-right Q (common_with cmp one others) (common_spans cmp ones others) (spans-some ones others there)
 
-    -- it is true of some common span if it is true of the common ends of some two spans that share a cut
+    -- a fact of the common ends of some two spans that share a cut is a fact of some common span
     pub common_spans-some : (ones others : List (Ends T)) → AnyByRecursion Q (common_spans cmp ones others)
         ↔ AnyByRecursion (λ (one : Ends T). AnyByRecursion (λ (other : Ends T).
         HaveCommonCut cmp one other × Q (common_ends cmp one other)) others) ones

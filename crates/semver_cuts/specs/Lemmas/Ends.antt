@@ -52,7 +52,7 @@ module _ {T : Type 0} {cmp : T → T → Ordering} (o : IsTotalOrder cmp) where
   pub below_irrefl : (c : Cut T) → ¬ (IsCutBelow cmp c c)
   below_irrefl c p = less≢equal (cut_cmp cmp c c) p (cut_cmp-refl c)
 
-  -- below goes on from cut to cut
+  -- below is transitive
   pub below_trans : (c d e : Cut T) → IsCutBelow cmp c d → IsCutBelow cmp d e → IsCutBelow cmp c e
   below_trans c d e p q = (cut_total o).trans c d e p q
 
@@ -70,7 +70,7 @@ module _ {T : Type 0} {cmp : T → T → Ordering} (o : IsTotalOrder cmp) where
   at_most-below c d e (inl p) q = below_trans c d e p q
   at_most-below c d e (inr p) q = cut_cmp-equal_left c d e p ∙ q
 
-  -- at most goes on from cut to cut
+  -- at most is transitive
   pub at_most_trans : (c d e : Cut T) → IsCutAtMost cmp c d → IsCutAtMost cmp d e → IsCutAtMost cmp c e
   at_most_trans c d e (inl p) q = inl (below-at_most c d e p q)
   at_most_trans c d e (inr p) (inl q) = inl (cut_cmp-equal_left c d e p ∙ q)
@@ -81,11 +81,11 @@ module _ {T : Type 0} {cmp : T → T → Ordering} (o : IsTotalOrder cmp) where
   either_by c d Equal p = inl (inr p)
   either_by c d Greater p = inr (below-from_greater c d p)
 
-  -- any two cuts compare
+  -- of two cuts one is at most the other, or the other is below it
   pub at_most-or-below : (c d : Cut T) → IsCutAtMost cmp c d ⊎ IsCutBelow cmp d c
   at_most-or-below c d = either_by c d (cut_cmp cmp c d) refl
 
-  -- and only one way
+  -- and not both
   pub below-not-at_most : (c d : Cut T) → IsCutBelow cmp c d → ¬ (IsCutAtMost cmp d c)
   below-not-at_most c d p q = below_irrefl c (below-at_most c d c p q)
 
@@ -153,7 +153,7 @@ module _ {T : Type 0} (cmp : T → T → Ordering) where
   pub lt-from_below : (c d : Cut T) → IsCutBelow cmp c d → is_lt (cut_cmp cmp c d) ≡ true
   lt-from_below c d p = ap is_lt p
 
-  -- the same of the test `c <= d`
+  -- the same for the test `c <= d`
   pub le-from_at_most : (c d : Cut T) → IsCutAtMost cmp c d → is_le (cut_cmp cmp c d) ≡ true
   le-from_at_most c d (inl p) = ap is_le p
   le-from_at_most c d (inr p) = ap is_le p
@@ -167,7 +167,7 @@ module _ {T : Type 0} (cmp : T → T → Ordering) where
   test-from_ends : (one other : Ends T) → AreSameEnds cmp one other → are_same_ends cmp one other ≡ true
   test-from_ends one other same = λ i. is_eq (same.lower i) && is_eq (same.upper i)
 
-  -- the test of the same two ends says just this
+  -- the test of the same two ends is true exactly if they are the same
   pub span_same : (one other : Ends T) (r : Bool) → r ≡ are_same_ends cmp one other
       → IsTrue r ↔ AreSameEnds cmp one other
   span_same one other r e =

@@ -22,6 +22,6 @@ module _ {T : Type 0} (cmp : T → T → Ordering) {writes : T → HashWrites}
       (λ v w p. ap (λ (r : HashWrites). fed.u8 2 ++ r) (alike v w (ap is_eq p)))
       refl c d ((Equal-is (cut_cmp cmp c d)).0 e)
 
-  -- and so are equal spans
+  -- and equal spans do
   pub span_alike : (s t : Ends T) → are_same_ends cmp s t ≡ true → span_writes writes s ≡ span_writes writes t
   span_alike s t e = λ i. cut_alike s.lower t.lower (first_so _ _ e) i ++ cut_alike s.upper t.upper (second_so _ _ e) i

@@ -6,7 +6,7 @@ use Rattle.std.specs.Cmp.{IsTotalOrder}
 use Rattle.std.specs.List.{AllByRecursion}
 use Rattle.semver_cuts.specs.declared.cut.Cut.{Cut}
 use Rattle.semver_cuts.specs.Ends.{Ends, HoldsCut, IsInSpan}
-use Rattle.semver_cuts.specs.Common.{IsInSome}
+use Rattle.semver_cuts.specs.SpanLists.{IsInSome}
 use Rattle.semver_cuts.specs.Sharing.{AnyByRecursion}
 use Rattle.semver_cuts.specs.Lemmas.Ends.{at_most-or-below, below-not-at_most}
 
@@ -34,7 +34,7 @@ module _ {T : Type 0} (cmp : T → T → Ordering) (cut : Cut T) where
   in_some-left (one ∷ ones) others (inl here) = inl here
   in_some-left (one ∷ ones) others (inr there) = inr (in_some-left ones others there)
 
-  -- and so with the second
+  -- and the same for the second
   pub in_some-right : (ones others : List (Ends T)) → IsInSome cmp others cut → IsInSome cmp (ones ++ others) cut
   in_some-right [] others is = is
   in_some-right (one ∷ ones) others is = inr (in_some-right ones others is)
@@ -67,7 +67,7 @@ module _ {T : Type 0} {cmp : T → T → Ordering} (o : IsTotalOrder cmp) (cut :
     | inr early ↦ inr (λ is. below-not-at_most o cut span.lower early is.lower)
   ]
 
-  -- and so with some span of a list
+  -- and it lies in some span of a list, or in none
   pub in_some-or_not : (spans : List (Ends T)) → IsInSome cmp spans cut ⊎ (¬ IsInSome cmp spans cut)
   in_some-or_not [] = inr (λ is. is)
   in_some-or_not (span ∷ spans) = elim (in_span-or_not span) [

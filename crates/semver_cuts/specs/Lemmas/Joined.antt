@@ -9,14 +9,14 @@ use Rattle.std.specs.Cmp.{IsTotalOrder}
 use Rattle.std.proofs.lemmas.List.{append_assoc}
 use Rattle.semver_cuts.specs.declared.cut.Cut.{Cut}
 use Rattle.semver_cuts.specs.Cut.{cut_cmp}
-use Rattle.semver_cuts.specs.Common.{AreApart}
+use Rattle.semver_cuts.specs.SpanLists.{AreApart}
 use Rattle.semver_cuts.specs.Ends.{Ends, IsCutBelow}
 use Rattle.semver_cuts.specs.Joined.{AreJoined, AreMerged, AreRising}
 use Rattle.semver_cuts.specs.Places.{IsPlacesOf}
-use Rattle.semver_cuts.specs.Rest.{IsFirstAt}
+use Rattle.semver_cuts.specs.Difference.{IsFirstAt}
 use Rattle.semver_cuts.specs.Lemmas.Apart.{apart-before}
 use Rattle.semver_cuts.specs.Lemmas.Ends.{below-not-at_most, below_trans, cut_cmp-equal_back}
-use Rattle.semver_cuts.specs.Lemmas.Merging.{all_both, all_map, all_middle}
+use Rattle.semver_cuts.specs.Lemmas.Lists.{all_both, all_map, all_middle}
 
 pub all_unit : {X : Type 0} (xs : List X) → AllByRecursion (λ (x : X). Unit {0}) xs
 all_unit [] = tt

@@ -12,10 +12,38 @@ module _ {X : Type 0} (P : X → Type 0) where
   all-always f [] = tt
   all-always f (x ∷ xs) = (f x, all-always f xs)
 
-  -- it is true of each element of two lists together if it is of each of both
+  -- what is true of each element of two lists is true of each element of the two together
   pub all-append : (xs ys : List X) → AllByRecursion P xs → AllByRecursion P ys → AllByRecursion P (xs ++ ys)
   all-append [] ys a b = b
   all-append (x ∷ xs) ys a b = (a.0, all-append xs ys a.1 b)
+
+  -- one more element at the end
+  pub all_push : (xs : List X) (x : X) → AllByRecursion P xs → P x → AllByRecursion P (xs ++ x ∷ [])
+  all_push [] x a p = (p, tt)
+  all_push (y ∷ xs) x a p = (a.0, all_push xs x a.1 p)
+
+  -- an element in the middle of a list
+  pub all_middle : (before after : List X) (x : X) → AllByRecursion P (before ++ x ∷ after) → P x
+  all_middle [] after x a = a.0
+  all_middle (y ∷ before) after x a = all_middle before after x a.1
+
+  -- a list from the elements before one of its elements, this one, and those after it
+  pub all_join : (before after : List X) (x : X) → AllByRecursion P before → P x → AllByRecursion P after
+      → AllByRecursion P (before ++ x ∷ after)
+  all_join [] after x a p b = (p, b)
+  all_join (y ∷ before) after x a p b = (a.0, all_join before after x a.1 p b)
+
+  module _ (Q : X → Type 0) where
+    -- what follows for every value follows for each element
+    pub all_map : ((x : X) → P x → Q x) → (xs : List X) → AllByRecursion P xs → AllByRecursion Q xs
+    all_map f [] a = tt
+    all_map f (x ∷ xs) a = (f x a.0, all_map f xs a.1)
+
+    -- the same from two facts of each element
+    pub all_both : (R : X → Type 0) → ((x : X) → P x → Q x → R x) → (xs : List X)
+        → AllByRecursion P xs → AllByRecursion Q xs → AllByRecursion R xs
+    all_both R f [] a b = tt
+    all_both R f (x ∷ xs) a b = (f x a.0 b.0, all_both R f xs a.1 b.1)
 
   -- some element of the first of two lists
   pub any-left : (xs ys : List X) → AnyByRecursion P xs → AnyByRecursion P (xs ++ ys)
@@ -37,7 +65,7 @@ module _ {X : Type 0} (P : X → Type 0) where
     | inr r ↦ inr r
   ]
 
-  -- the element at which a walk stops
+  -- the element at a place
   pub any-at : (xs : List X) (k : ℕ) (x : X) → k < length xs → x ≡ get_or xs k x → P x → AnyByRecursion P xs
   any-at [] k x lt e p = absurd (omega arith)
   any-at (y ∷ xs) zero x lt e p = inl (subst P e p)
@@ -55,7 +83,7 @@ module _ {X : Type 0} (P : X → Type 0) where
     | inr there ↦ passed_one xs k x (omega arith) e (λ earlier. none (inr earlier)) other there
   ]
 
-  -- one more element of which it is not true
+  -- if it is true of no element so far, and not of the next one, it is true of none up to there
   pub none-more : (xs : List X) (k : ℕ) (x : X) → k < length xs → x ≡ get_or xs k x
       → ¬ AnyByRecursion P (take k xs) → ¬ P x → ¬ AnyByRecursion P (take (k + 1) xs)
   none-more xs k x lt e none other =
@@ -69,7 +97,7 @@ module _ {X : Type 0} (P Q : X → Type 0) where
   any-map f (x ∷ xs) (inl p) = inl (f x p)
   any-map f (x ∷ xs) (inr a) = inr (any-map f xs a)
 
-  -- if one thing is true of some element, and another of each, then both are of some element
+  -- if one fact is true of some element and another of each, then both are true of some element
   pub any-with_all : (R : X → Type 0) → ((x : X) → P x → Q x → R x) → (xs : List X)
       → AnyByRecursion P xs → AllByRecursion Q xs → AnyByRecursion R xs
   any-with_all R f [] a b = absurd a

@@ -6,5 +6,5 @@ use Rattle.semver_cuts.specs.Sharing.{ShareCut}
 
 module _ {T : Type 0} (cmp : T → T → Ordering) where
   -- two lists share a cut either way round
-  pub share_cut-back : (ones others : List (Ends T)) → ShareCut cmp ones others → ShareCut cmp others ones
-  share_cut-back ones others shared = (shared.0, shared.2, shared.1)
+  pub shares_cut-back : (ones others : List (Ends T)) → ShareCut cmp ones others → ShareCut cmp others ones
+  shares_cut-back ones others shared = (shared.0, shared.2, shared.1)

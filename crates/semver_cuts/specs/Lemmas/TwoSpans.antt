@@ -9,18 +9,18 @@ use Rattle.std.specs.Cmp.{IsTotalOrder}
 use Rattle.semver_cuts.specs.declared.cut.Cut.{Cut}
 use Rattle.semver_cuts.specs.Cut.{cut_cmp}
 use Rattle.semver_cuts.specs.Ends.{Ends, HoldsCut, IsCutAtMost, IsCutBelow, IsInSpan, span_between}
-use Rattle.semver_cuts.specs.Common.{IsInSome, IsWithin}
+use Rattle.semver_cuts.specs.SpanLists.{IsInSome, IsWithin}
 use Rattle.semver_cuts.specs.CommonSpans.{common_ends, common_of, greater_cut, lesser_cut}
 use Rattle.semver_cuts.specs.Sharing.{HaveCommonCut}
 use Rattle.semver_cuts.specs.Lemmas.Ends.{at_most-from_le, at_most-from_not_lt, at_most-or-below, at_most_refl}
 use Rattle.semver_cuts.specs.Lemmas.Ends.{at_most_trans, at_most-below, below-at_most, below-from_lt, below-not-at_most}
 use Rattle.semver_cuts.specs.Lemmas.Ends.{below_irrefl, below_trans, le-from_at_most, lt-from_below}
 
--- a test does not return both `true` and `false`
+-- no test is both `true` and `false`
 both_ways : {P : Type 0} (r : Bool) → r ≡ true → r ≡ false → P
 both_ways r p q = absurd (true≢false (sym p ∙ q))
 
--- two tests are equal if each returns `true` where the other does
+-- two tests are equal if each is `true` if the other is
 alike : (r s : Bool) → (r ≡ true → s ≡ true) → (s ≡ true → r ≡ true) → r ≡ s
 alike true s f g = sym (f refl)
 alike false true f g = g refl
@@ -150,7 +150,7 @@ module _ {T : Type 0} {cmp : T → T → Ordering} (o : IsTotalOrder cmp) where
       (λ p. lt-from_below cmp one.lower (lesser_cut cmp one.upper other.upper)
       ((below-lesser one.upper other.upper one.lower).1 (held, below-from_lt cmp one.lower other.upper p)))
 
-  -- and if the second does
+  -- and if the second span begins last
   pub shares-from_second : (one other : Ends T) → IsCutBelow cmp other.lower other.upper
       → is_lt (cut_cmp cmp other.lower (lesser_cut cmp one.upper other.upper))
       ≡ is_lt (cut_cmp cmp other.lower one.upper)
@@ -200,7 +200,7 @@ module _ {T : Type 0} {cmp : T → T → Ordering} (o : IsTotalOrder cmp) where
     λ h. both_ways _ (le-from_at_most cmp one.lower other.lower ((within-ends other one held).0 h).0) first,
   )
 
-  -- ---- the common span, as a list of it or of nothing
+  -- ---- the common span, as a list of one span or none
 
   common_by : (one other : Ends T) (P : List (Ends T) → Type 0) (r : Bool)
       → is_lt (cut_cmp cmp (common_ends cmp one other).lower (common_ends cmp one other).upper) ≡ r
@@ -233,7 +233,7 @@ module _ {T : Type 0} {cmp : T → T → Ordering} (o : IsTotalOrder cmp) where
       ))
       (λ apart. (λ is. absurd is, λ both. absurd (apart (cut, both.0, both.1))))
 
-  -- ---- the common span by the tests of a program
+  -- ---- the common span by the tests that the program makes
 
   first_begins_last : (one other : Ends T) → IsCutBelow cmp one.lower one.upper
       → is_lt (cut_cmp cmp other.lower one.lower) ≡ true → common_of cmp one other

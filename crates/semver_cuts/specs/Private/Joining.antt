@@ -11,7 +11,7 @@ use Rattle.semver_cuts.specs.Private.Placed.{PlacedSpan}
 abbrev pub ends_later : {T : Type 0} → (T → T → Ordering) → Cut T → ℕ → PlacedSpan T → Ordering
 ends_later cmp upper place next = ordering_then (cut_cmp cmp upper next.span.upper) (nat_cmp next.place place)
 
--- the spans joined to the part from `lower` up to `upper`, where `upper` is the end of the span at the place
+-- the spans joined to a span from `lower` up to `upper`, where `upper` is the end of the span at the place
 abbrev pub joined_from : {T : Type 0} → (T → T → Ordering) → Cut T → Cut T → ℕ → List (PlacedSpan T) → List (Ends T)
 joined_from cmp lower upper place [] = span_between lower upper ∷ []
 joined_from cmp lower upper place (next ∷ later) =
@@ -21,12 +21,12 @@ joined_from cmp lower upper place (next ∷ later) =
     then joined_from cmp lower next.span.upper next.place later
     else joined_from cmp lower upper place later)
 
--- the spans joined
+-- the joined spans
 abbrev pub joined_in_order : {T : Type 0} → (T → T → Ordering) → List (PlacedSpan T) → List (Ends T)
 joined_in_order cmp [] = []
 joined_in_order cmp (first ∷ later) = joined_from cmp first.span.lower first.span.upper first.place later
 
--- the same as places: that of the span where the current one began, and that of the span where it ends
+-- the same as pairs of places: of the span where the joined span begins, and of the span where it ends
 abbrev pub places_from : {T : Type 0} → (T → T → Ordering) → ℕ → Cut T → ℕ → List (PlacedSpan T) → List (ℕ × ℕ)
 places_from cmp first upper place [] = (first, place) ∷ []
 places_from cmp first upper place (next ∷ later) =
@@ -36,6 +36,7 @@ places_from cmp first upper place (next ∷ later) =
     then places_from cmp first next.span.upper next.place later
     else places_from cmp first upper place later)
 
+-- the places of the joined spans
 abbrev pub places_in_order : {T : Type 0} → (T → T → Ordering) → List (PlacedSpan T) → List (ℕ × ℕ)
 places_in_order cmp [] = []
 places_in_order cmp (first ∷ later) = places_from cmp first.place first.span.upper first.place later

@@ -1,4 +1,4 @@
--- A span of a list with its place there, and the order of such: by lower ends, then by places.
+-- A span of a list with its place in it, and the order of such spans: by lower ends, then by places.
 use Rattle.std.specs.Prelude.{ℕ, ◌+◌, List, [], ◌∷◌}
 use Rattle.std.specs.Ordering.{nat_cmp, on, then_cmp}
 use Rattle.std.specs.declared.cmp.Ordering.{Ordering}

@@ -1,7 +1,7 @@
 //! The intersection of two lists of spans.
 ghost use Rattle.std.specs.Prelude.{◌≡◌, ◌++◌, OnOk};
 ghost use Rattle.std.specs.List.{AllByRecursion, flat_map};
-ghost use Rattle.semver_cuts.specs.Common.{AreApart};
+ghost use Rattle.semver_cuts.specs.SpanLists.{AreApart};
 ghost use Rattle.semver_cuts.specs.Joined.{AreRising};
 ghost use Rattle.semver_cuts.specs.CommonSpans.{common_of, common_spans, common_with};
 ghost use Rattle.semver_cuts.specs.Private.Meeting.{AreBothWithin, common_at};
@@ -9,7 +9,7 @@ ghost use Rattle.semver_cuts.specs.Private.Meeting.{AreBothWithin, common_at};
 use crate::Span;
 use crate::algebra::Gather;
 use crate::algebra::meeting::meeting;
-use crate::algebra::merged::Merged;
+use crate::algebra::merged::MergedSpans;
 use crate::algebra::near::first_near;
 use std::alloc::{AllocError, Global};
 
@@ -19,8 +19,8 @@ const FEW: usize = 3;
 // If there are at most so many pairs of spans, and the merged list is not in order, each pair is tried.
 const FEW_PAIRS: usize = 128;
 
-impl<'a, 'p, T: Ord> Merged<'a, 'p, T> {
-    /// Passes the intersection of a list with this one to `into`: for each span of `ones` and each span of this list,
+impl<'a, 'p, T: Ord> MergedSpans<'a, 'p, T> {
+    /// Passes the intersection of `ones` and this list to `into`: for each span of `ones` and each span of this list,
     /// the span from the greater of their lower ends up to the lesser of their upper ends, if it contains a cut.
     ///
     /// The pairs of the first span of `ones` come first, in the order of this list. If two lower ends are equal, the
@@ -67,8 +67,8 @@ impl<'a, 'p, T: Ord> Merged<'a, 'p, T> {
     }
 }
 
-// Passes the intersection of the pairs of spans that meet, which it finds first. `inline(never)`: long lists out of
-// order are rare, and the lists that this allocates then take no stack in `common_with`.
+// Finds the pairs of spans that meet, and passes the intersection of each pair. `inline(never)`: long lists out of
+// order are rare, and `common_with` then has no stack for the lists that this function allocates.
 #[inline(never)]
 fn common_of_meeting<'a, T: Ord, S: Gather<'a, T>>(
     alloc: Global,
@@ -114,7 +114,8 @@ fn common_of_all<'a, T: Ord, S: Gather<'a, T>>(
     Ok(())
 }
 
-// The same if the others are apart: for each span, the walk starts near where the one before it ended.
+// The same if the others are apart: for each span, the walk begins near the place where the walk for the one before it
+// began.
 fn common_ascending<'a, T: Ord, S: Gather<'a, T>>(
     ones: &'a [Span<T>],
     others: &'a [Span<T>],
@@ -131,7 +132,7 @@ fn common_ascending<'a, T: Ord, S: Gather<'a, T>>(
     Ok(())
 }
 
-// Passes the intersection of two spans, if it contains a cut. `inline(always)`: the body of the inner loops.
+// Passes the intersection of two spans, if it contains a cut. `inline(always)`: it is the body of the inner loops.
 #[inline(always)]
 fn common_of<'a, T: Ord, S: Gather<'a, T>>(
     one: &'a Span<T>,
@@ -146,7 +147,8 @@ fn common_of<'a, T: Ord, S: Gather<'a, T>>(
     }
 }
 
-// Passes the intersection of one span with each of the others. `inline(always)`: the inner loop of `common_of_all`.
+// Passes the intersection of one span with each of the others. `inline(always)`: it is the inner loop of
+// `common_of_all`.
 #[inline(always)]
 fn common_with<'a, T: Ord, S: Gather<'a, T>>(
     one: &'a Span<T>,
@@ -161,8 +163,9 @@ fn common_with<'a, T: Ord, S: Gather<'a, T>>(
     Ok(())
 }
 
-// The same if the others are apart: starts at the first that ends above where the span begins, looked for near `place`,
-// and returns its place. `inline(never)`: one call for each span, so that the loop over the spans stays small.
+// The same if the others are apart. Begins at the first of them that ends above where the span begins, which it looks
+// for near `place`, and returns its place. `inline(never)`: it is one call for each span, and the loop over the spans
+// stays small.
 #[inline(never)]
 fn common_along<'a, T: Ord, S: Gather<'a, T>>(
     one: &'a Span<T>,
@@ -179,7 +182,7 @@ fn common_along<'a, T: Ord, S: Gather<'a, T>>(
     Ok(first)
 }
 
-// The same, up to the first that begins where the span ends or above.
+// The same, up to the first of the others that begins where the span ends or above. `inline`: it has one caller.
 #[inline]
 fn common_until<'a, T: Ord, S: Gather<'a, T>>(
     one: &'a Span<T>,

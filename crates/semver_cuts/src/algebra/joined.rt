@@ -40,7 +40,7 @@ pub fn join<T: Ord + Drop>(
     taken_at(alloc, &mut spans, places.as_slice())
 }
 
-// The merged spans at the places, with each end moved out of the list.
+// Returns the merged spans at the places. Their ends are moved out of the list.
 fn taken_at<T: Ord + Drop>(
     alloc: Global,
     spans: &mut [Span<T>],
@@ -57,7 +57,8 @@ fn taken_at<T: Ord + Drop>(
     Ok(joined)
 }
 
-// The span from where one span of the list begins up to where another ends. Moves these two ends out, and no others.
+// Returns the span from where one span of the list begins up to where another ends. Moves these two ends out of the
+// list, and no others.
 fn take_between<T: Ord + Drop>(spans: &mut [Span<T>], begins: usize, ends: usize) -> Span<T>
     requires begins { begins < length spans.old }
     requires ends { ends < length spans.old }

@@ -1,4 +1,4 @@
-//! Which spans of two lists meet, found by one walk along both in the order of their lower ends.
+//! Finds which spans of two lists meet, by one walk along both lists in the order of their lower ends.
 ghost use Rattle.std.specs.Prelude.{◌≡◌, ◌++◌, IfOk, OnOk};
 ghost use Rattle.semver_cuts.specs.Private.Meeting.{AreMeeting, beginning_from, pairs_along, pairs_until, places_by};
 
@@ -6,9 +6,9 @@ use crate::algebra::placed::{Placed, in_order};
 use crate::{Cut, Span};
 use std::alloc::{AllocError, Global};
 
-// The places of each two spans, one of each list, that meet. Sorted by the place in `ones`, then by that in `others`.
-// Of two spans that meet, one begins in the other: so both lists are walked for spans that begin in a span of the
-// other.
+// Returns the places of each two spans that meet, one of each list, sorted by the place in `ones` and then by the place
+// in `others`. Of two spans that meet, one begins in the other. So there are two walks: one for the spans of `others`
+// that begin in a span of `ones`, and one the other way round.
 pub(crate) fn meeting<T: Ord>(
     alloc: Global,
     ones: &[Span<T>],
@@ -26,7 +26,7 @@ pub(crate) fn meeting<T: Ord>(
     Ok(pairs)
 }
 
-// Adds, for each span, its place with that of each of the others that begins in it.
+// Adds, for each of the ones, its place with the place of each of the others that begins in it.
 fn add_pairs<T: Ord>(
     pairs: &mut Vec<(usize, usize)>,
     ones: &[Placed<T>],
@@ -44,7 +44,7 @@ fn add_pairs<T: Ord>(
     Ok(())
 }
 
-// The spans from the first one on that begins at the cut or above.
+// Returns the spans from the first one on that begins at the cut or above.
 fn beginning_from<'s, 'a, T: Ord>(spans: &'s [Placed<'a, T>], cut: &Cut<T>) -> &'s [Placed<'a, T>]
     ensures { result.now ≡ beginning_from T.cmp cut.now spans.now }
 {
@@ -57,7 +57,7 @@ fn beginning_from<'s, 'a, T: Ord>(spans: &'s [Placed<'a, T>], cut: &Cut<T>) -> &
     &[]
 }
 
-// Adds a place with that of each span up to the first one that begins at the cut or above.
+// Adds a place with the place of each span before the first one that begins at the cut or above.
 fn add_pairs_until<T: Ord>(
     pairs: &mut Vec<(usize, usize)>,
     place: usize,
@@ -78,7 +78,7 @@ fn add_pairs_until<T: Ord>(
     Ok(())
 }
 
-// The pair of the two places, in this order or swapped. `inline(always)`: one test in the inner loop.
+// Returns the pair of the two places, in this order or swapped. `inline(always)`: it is one test in the inner loop.
 #[inline(always)]
 fn places_by(swapped: bool, place: usize, other: usize) -> (usize, usize)
     ensures { result ≡ places_by swapped place other }

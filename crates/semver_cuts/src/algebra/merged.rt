@@ -1,10 +1,12 @@
 //! A list of spans together with its merged spans, which are kept as places in the list.
+//!
+//! `#[inline]`: the functions copy two slices or read one element, and are in the loops of walks and searches.
 ghost use Rattle.std.specs.Prelude.{◌≡◌, ◌<◌, ◌≤◌, ◌+◌, ◌∷◌, IsTrue, length, drop};
 ghost use Rattle.semver_cuts.specs.Ends.{span_between};
 ghost use Rattle.semver_cuts.specs.Joined.{AreJoined, AreMerged};
 ghost use Rattle.semver_cuts.specs.Places.{AreWithin, IsPlacesOf, merged_spans, span_of_places};
 ghost use Rattle.semver_cuts.specs.Starts.{count_of_starts};
-ghost use Rattle.semver_cuts.specs.Private.Rest.{ending_above};
+ghost use Rattle.semver_cuts.specs.Private.Difference.{ending_above};
 
 use crate::algebra::places::Places;
 use crate::{Cut, Span};
@@ -24,34 +26,34 @@ use std::marker::Model;
 ///
 /// The merged spans of 2 to 5, 0 to 1 and 4 to 7 are 0 to 1 and 2 to 7.
 #[derive(Debug, Drop)]
-pub struct Merged<'a, 'p, T: Ord> {
+pub struct MergedSpans<'a, 'p, T: Ord> {
     spans: &'a [Span<T>],
     places: &'p [(usize, usize)],
 }
 
-impl<'a, 'p, T: Ord> Model for Merged<'a, 'p, T> {
-    ghost use Rattle.semver_cuts.specs.Places.{IsPlacesOf, MergedValue, merged_spans};
+impl<'a, 'p, T: Ord> Model for MergedSpans<'a, 'p, T> {
+    ghost use Rattle.semver_cuts.specs.Places.{IsPlacesOf, MergedSpansValue, merged_spans};
 
-    ghost Value = { MergedValue T };
+    ghost Value = { MergedSpansValue T };
 
     ghost view = { λ m. record { list = m.spans.now; merged = merged_spans m.spans.now m.places.now } };
 
     ghost invariant = { λ m. IsPlacesOf T.cmp m.spans.now m.places.now };
 }
 
-impl<'a, 'p, T: Ord> Merged<'a, 'p, T> {
+impl<'a, 'p, T: Ord> MergedSpans<'a, 'p, T> {
     /// Returns the list with its merged spans, given by their places.
     ///
     /// # Memory
     ///
     /// Does not allocate.
     #[inline]
-    pub fn with(spans: &'a [Span<T>], places: &'p Places) -> Merged<'a, 'p, T>
+    pub fn with(spans: &'a [Span<T>], places: &'p Places) -> MergedSpans<'a, 'p, T>
         requires { IsPlacesOf T.cmp spans.now places.now }
         ensures list { result.list ≡ spans.now }
         ensures merged { result.merged ≡ merged_spans spans.now places.now }
     {
-        Merged {
+        MergedSpans {
             spans,
             places: places.as_slice(),
         }
@@ -63,12 +65,12 @@ impl<'a, 'p, T: Ord> Merged<'a, 'p, T> {
     ///
     /// Does not allocate.
     #[inline]
-    pub fn itself(spans: &'a [Span<T>]) -> Merged<'a, 'p, T>
+    pub fn itself(spans: &'a [Span<T>]) -> MergedSpans<'a, 'p, T>
         requires { AreMerged T.cmp spans.now }
         ensures list { result.list ≡ spans.now }
         ensures merged { result.merged ≡ spans.now }
     {
-        Merged { spans, places: &[] }
+        MergedSpans { spans, places: &[] }
     }
 
     /// Returns the number of merged spans. It is the number of spans in the list whose lower end no earlier span has,
@@ -116,7 +118,7 @@ impl<'a, 'p, T: Ord> Merged<'a, 'p, T> {
         }
     }
 
-    // The number of the first merged span that ends above the cut, found by binary search.
+    // Returns the number of the first merged span that ends above the cut, found by binary search.
     pub(crate) fn first_above(&self, cut: &Cut<T>) -> usize
         ensures place { result ≤ length self.now.merged }
         ensures above { drop result self.now.merged ≡ ending_above T.cmp cut.now self.now.merged }
@@ -135,7 +137,7 @@ impl<'a, 'p, T: Ord> Merged<'a, 'p, T> {
         low
     }
 
-    // The list as it stands.
+    // Returns the list itself.
     #[inline]
     pub(crate) fn spans(&self) -> &'a [Span<T>]
         ensures list { result.now ≡ self.now.list }
@@ -153,7 +155,7 @@ impl<'a, 'p, T: Ord> Merged<'a, 'p, T> {
     }
 }
 
-// The ends of the span at a place of a list.
+// Returns the ends of the span at a place of a list.
 #[inline]
 fn ends_at<'a, T: Ord>(spans: &'a [Span<T>], place: usize) -> (&'a Cut<T>, &'a Cut<T>)
     requires { place < length spans.now }
@@ -162,7 +164,7 @@ fn ends_at<'a, T: Ord>(spans: &'a [Span<T>], place: usize) -> (&'a Cut<T>, &'a C
     spans[place].ends()
 }
 
-// The lower end of the span at the first place, and the upper end of the span at the second.
+// Returns the lower end of the span at the first place, and the upper end of the span at the second.
 #[inline]
 fn ends_between<'a, T: Ord>(
     spans: &'a [Span<T>],

@@ -1,13 +1,16 @@
-//! In a list of spans that are apart, the first that ends above a cut, looked for near a place.
+//! A search for the first span that ends above a cut, in a list of spans that are apart. It begins near a place.
+//!
+//! `#[inline]`: it is called once for each span of a list, and the first test usually succeeds.
 ghost use Rattle.std.specs.Prelude.{◌≡◌, ◌≤◌, IsTrue, length, drop};
-ghost use Rattle.semver_cuts.specs.Common.{AreApart};
+ghost use Rattle.semver_cuts.specs.SpanLists.{AreApart};
 ghost use Rattle.semver_cuts.specs.Joined.{AreRising};
-ghost use Rattle.semver_cuts.specs.Private.Rest.{ending_above};
+ghost use Rattle.semver_cuts.specs.Private.Difference.{ending_above};
 
-use crate::algebra::merged::Merged;
+use crate::algebra::merged::MergedSpans;
 use crate::{Cut, Span};
 
-// The place of the first span that ends above the cut. Tries `place`, then the one after it, and then a binary search.
+// Returns the place of the first span that ends above the cut. Tries `place`, then the next one, and then a binary
+// search.
 #[inline]
 pub(crate) fn first_near<T: Ord>(spans: &[Span<T>], place: usize, cut: &Cut<T>) -> usize
     requires apart { AreApart T.cmp spans.now }
@@ -22,7 +25,7 @@ pub(crate) fn first_near<T: Ord>(spans: &[Span<T>], place: usize, cut: &Cut<T>) 
     if is_first_above(spans, next, cut) {
         return next;
     }
-    Merged::itself(spans).first_above(cut)
+    MergedSpans::itself(spans).first_above(cut)
 }
 
 // Returns `true` only if the span at the place is the first that ends above the cut.

@@ -31,7 +31,7 @@ impl<'a, T: Ord> Model for Placed<'a, T> {
 }
 
 impl<'a, T: Ord> Placed<'a, T> {
-    // The two ends of the span.
+    // Returns the two ends of the span.
     pub(crate) fn ends(&self) -> (&'a Cut<T>, &'a Cut<T>)
         ensures ends { self.now.span ≡ span_between result.0.now result.1.now }
         ensures rising { IsCutBelow T.cmp result.0.now result.1.now }
@@ -39,7 +39,7 @@ impl<'a, T: Ord> Placed<'a, T> {
         self.span.ends()
     }
 
-    // The place of the span in its list.
+    // Returns the place of the span in its list.
     pub(crate) fn place(&self) -> usize
         ensures { result ≡ self.now.place }
     {
@@ -88,7 +88,7 @@ impl<'a, T: Ord> Ord for Placed<'a, T> {
     }
 }
 
-// The spans sorted by their lower ends. Of those with equal lower ends, the first of the list comes first.
+// Returns the spans sorted by their lower ends. Spans with equal lower ends stay in the order of the list.
 pub(crate) fn in_order<'a, T: Ord>(
     alloc: Global,
     spans: &'a [Span<T>],

@@ -1,8 +1,10 @@
 //! The merged spans of a list, kept as places in that list.
+//!
+//! `#[inline]`: the functions make or return one slice.
 ghost use Rattle.std.specs.Prelude.{◌≡◌, ◌↔◌, ◌∷◌, [], IfOk, IsTrue};
 ghost use Rattle.std.specs.Ordering.{is_lt, nat_cmp, ordering_then};
 ghost use Rattle.semver_cuts.specs.Cut.{cut_cmp};
-ghost use Rattle.semver_cuts.specs.Common.{AreApart};
+ghost use Rattle.semver_cuts.specs.SpanLists.{AreApart};
 ghost use Rattle.semver_cuts.specs.Joined.{AreMerged, AreRising};
 ghost use Rattle.semver_cuts.specs.Places.{IsPlacesOf};
 ghost use Rattle.semver_cuts.specs.Private.Joining.{places_in_order};
@@ -95,7 +97,7 @@ impl Places {
         })
     }
 
-    // The pairs of places.
+    // Returns the pairs of places.
     #[inline]
     pub(crate) fn as_slice(&self) -> &[(usize, usize)]
         ensures { result.now ≡ self.now }
@@ -138,8 +140,8 @@ fn are_apart<T: Ord>(spans: &[Span<T>]) -> bool
     true
 }
 
-// The places of the merged spans, from the spans sorted by their lower ends. Of equal ends, that of the first span of
-// the list is chosen.
+// Returns the places of the merged spans, from the spans sorted by their lower ends. Of equal ends, the place of the
+// first span of the list is chosen.
 fn places_in_order<T: Ord>(
     alloc: Global,
     order: &[Placed<T>],
@@ -171,7 +173,7 @@ fn places_in_order<T: Ord>(
 }
 
 // Returns `true` if the second end is greater than the first, or equal to it and in an earlier span of the list.
-// `inline(always)`: two comparisons in the inner loop.
+// `inline(always)`: it has two comparisons, and is in the inner loop.
 #[inline(always)]
 fn ends_later<T: Ord>(upper: &Cut<T>, place: usize, end: &Cut<T>, found: usize) -> bool
     ensures { result ≡ is_lt (ordering_then (cut_cmp T.cmp upper.now end.now) (nat_cmp found place)) }

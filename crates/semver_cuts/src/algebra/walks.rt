@@ -1,10 +1,11 @@
-//! Questions about two lists of spans, each decided by one walk along the merged spans of both.
+//! Whether two lists of spans share a cut, and whether one contains all cuts of the other: each is decided by one walk
+//! along the merged spans of both.
 ghost use Rattle.std.specs.Prelude.{◌↔◌, IsTrue};
 ghost use Rattle.semver_cuts.specs.Joined.{AreMerged};
 ghost use Rattle.semver_cuts.specs.Sharing.{CoversAll, ShareCut};
 
 use crate::Span;
-use crate::algebra::merged::Merged;
+use crate::algebra::merged::MergedSpans;
 
 /// Returns `true` if each cut in some span of the second list lies in some span of the first. Both lists must be
 /// merged.
@@ -24,10 +25,10 @@ pub fn covers<T: Ord>(ones: &[Span<T>], others: &[Span<T>]) -> bool
     requires others { AreMerged T.cmp others.now }
     ensures { IsTrue result ↔ CoversAll T.cmp ones.now others.now }
 {
-    Merged::itself(ones).covers(&Merged::itself(others))
+    MergedSpans::itself(ones).covers(&MergedSpans::itself(others))
 }
 
-impl<'a, 'p, T: Ord> Merged<'a, 'p, T> {
+impl<'a, 'p, T: Ord> MergedSpans<'a, 'p, T> {
     /// Returns `true` if each cut in some span of the other list lies in some span of this one.
     ///
     /// # Memory
@@ -37,7 +38,7 @@ impl<'a, 'p, T: Ord> Merged<'a, 'p, T> {
     /// # Examples
     ///
     /// 5 to 9 and 1 to 5 cover 2 to 8.
-    pub fn covers(&self, other: &Merged<'_, '_, T>) -> bool
+    pub fn covers(&self, other: &MergedSpans<'_, '_, T>) -> bool
         ensures { IsTrue result ↔ CoversAll T.cmp self.now.list other.now.list }
     {
         if let ([this], [that]) = (self.spans(), other.spans()) {
@@ -48,7 +49,7 @@ impl<'a, 'p, T: Ord> Merged<'a, 'p, T> {
 
     /// Returns `true` if some cut lies both in a span of this list and in a span of the other.
     ///
-    /// Spans that touch share no cut. `a.share_cut(&b)` equals `b.share_cut(&a)`.
+    /// Spans that touch share no cut. `a.shares_cut(&b)` equals `b.shares_cut(&a)`.
     ///
     /// # Memory
     ///
@@ -57,7 +58,7 @@ impl<'a, 'p, T: Ord> Merged<'a, 'p, T> {
     /// # Examples
     ///
     /// 5 to 9 and 1 to 3 share a cut with 2 to 4, and none with 3 to 5.
-    pub fn share_cut(&self, other: &Merged<'_, '_, T>) -> bool
+    pub fn shares_cut(&self, other: &MergedSpans<'_, '_, T>) -> bool
         ensures { IsTrue result ↔ ShareCut T.cmp self.now.list other.now.list }
     {
         if let ([this], [that]) = (self.spans(), other.spans()) {
@@ -67,8 +68,8 @@ impl<'a, 'p, T: Ord> Merged<'a, 'p, T> {
     }
 }
 
-// The same, by one walk along the merged spans of both: each turn is done with one of them.
-fn covers_along<T: Ord>(ones: &Merged<'_, '_, T>, others: &Merged<'_, '_, T>) -> bool
+// The same as `MergedSpans::covers`, by one walk along the merged spans of both. Each step passes a span of one list.
+fn covers_along<T: Ord>(ones: &MergedSpans<'_, '_, T>, others: &MergedSpans<'_, '_, T>) -> bool
     ensures { IsTrue result ↔ CoversAll T.cmp ones.now.list others.now.list }
 {
     let count = ones.len();
@@ -92,8 +93,8 @@ fn covers_along<T: Ord>(ones: &Merged<'_, '_, T>, others: &Merged<'_, '_, T>) ->
     true
 }
 
-// The same, by one walk along the merged spans of both: each turn is done with one of them.
-fn shares_along<T: Ord>(ones: &Merged<'_, '_, T>, others: &Merged<'_, '_, T>) -> bool
+// The same as `MergedSpans::shares_cut`, by such a walk.
+fn shares_along<T: Ord>(ones: &MergedSpans<'_, '_, T>, others: &MergedSpans<'_, '_, T>) -> bool
     ensures { IsTrue result ↔ ShareCut T.cmp ones.now.list others.now.list }
 {
     let count = ones.len();

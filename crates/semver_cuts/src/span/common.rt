@@ -1,11 +1,13 @@
-//! The intersection of two spans, and the part of one outside the other, as references to the ends of the two.
+//! The intersection and the difference of two spans, as references to their ends.
+//!
+//! `#[inline]`: the functions have a few comparisons, and are in the inner loops of the algebra.
 ghost use Rattle.std.specs.Prelude.{◌≡◌, ◌↔◌, ◌++◌, IsTrue, option_map, option_to_list};
 ghost use Rattle.semver_cuts.specs.declared.cut.Cut.{Cut};
 ghost use Rattle.semver_cuts.specs.Ends.{IsInSpan, span_between};
-ghost use Rattle.semver_cuts.specs.Common.{IsInSome, IsWithin};
+ghost use Rattle.semver_cuts.specs.SpanLists.{IsInSome, IsWithin};
 ghost use Rattle.semver_cuts.specs.CommonSpans.{common_of, lesser_cut};
 ghost use Rattle.semver_cuts.specs.Sharing.{HaveCommonCut};
-ghost use Rattle.semver_cuts.specs.SpanRest.{piece_above, piece_below, span_if_any};
+ghost use Rattle.semver_cuts.specs.SpanDifference.{piece_above, piece_below, span_if_any};
 
 use crate::{Cut, Span};
 
@@ -36,8 +38,8 @@ impl<T: Ord> Span<T> {
         self.ends_in_common(other)
     }
 
-    /// Returns the part of this span outside the other: the ends of the piece below the other and of the piece above
-    /// it, each `None` if it contains no cut.
+    /// Returns the difference, which is the part of this span outside the other: the ends of the piece below the other
+    /// and of the piece above it, each `None` if no cut lies there.
     ///
     /// The ends are borrowed from the spans: the outer ends from `self`, the inner ends from `other`. If the two share
     /// no cut, the first piece is the whole of `self`, even if `self` lies above `other`.
@@ -48,10 +50,10 @@ impl<T: Ord> Span<T> {
     ///
     /// # Examples
     ///
-    /// The part of `Before(1)` up to `Before(9)` outside `Before(3)` up to `Before(5)` is `Before(1)` up to `Before(3)`
-    /// and `Before(5)` up to `Before(9)`. The part of `Before(3)` up to `Before(5)` outside `Before(1)` up to
-    /// `Before(9)` is nothing.
-    pub fn rest<'a>(
+    /// `Before(1)` up to `Before(9)` without `Before(3)` up to `Before(5)` is `Before(1)` up to `Before(3)` and
+    /// `Before(5)` up to `Before(9)`. `Before(3)` up to `Before(5)` without `Before(1)` up to `Before(9)` is `None` and
+    /// `None`.
+    pub fn difference<'a>(
         &'a self,
         other: &'a Span<T>,
     ) -> (
@@ -76,8 +78,8 @@ impl<T: Ord> Span<T> {
         }
     }
 
-    // From the greater lower end up to the lesser upper end, if a cut lies there. `inline(always)`: the body of the
-    // inner loops of the algebra.
+    // Returns the ends of the intersection, or `None` if the two spans share no cut. `inline(always)`: it is the body
+    // of the inner loops of the algebra.
     #[inline(always)]
     pub(crate) fn ends_in_common<'a>(
         &'a self,
@@ -111,7 +113,7 @@ impl<T: Ord> Span<T> {
     ///
     /// `Before(1)` up to `Before(3)` shares a cut with `After(1)` up to `Before(5)`, and none with `Before(3)` up to
     /// `Before(5)`.
-    // `inline(always)`: two comparisons, in the inner loops of callers.
+    // `inline(always)`: it has two comparisons, and is in the inner loops of callers.
     #[inline(always)]
     pub fn shares_cut(&self, other: &Span<T>) -> bool
         ensures { IsTrue result ↔ HaveCommonCut T.cmp self.now other.now }
@@ -119,7 +121,7 @@ impl<T: Ord> Span<T> {
         self.lower < other.upper && other.lower < self.upper
     }
 
-    // Returns `true` if each cut of the other span lies in this one. `inline(always)`: two comparisons.
+    // Returns `true` if each cut of the other span lies in this one. `inline(always)`: it has two comparisons.
     #[inline(always)]
     pub(crate) fn covers(&self, other: &Span<T>) -> bool
         ensures { IsTrue result ↔ IsWithin T.cmp other.now self.now }
@@ -128,7 +130,7 @@ impl<T: Ord> Span<T> {
     }
 }
 
-// The lesser of two cuts, and the first if they are equal.
+// Returns the lesser of two cuts, and the first if they are equal.
 #[inline]
 fn lesser<'a, T: Ord>(one: &'a Cut<T>, other: &'a Cut<T>) -> &'a Cut<T>
     ensures { result.now ≡ lesser_cut T.cmp one.now other.now }
@@ -136,7 +138,7 @@ fn lesser<'a, T: Ord>(one: &'a Cut<T>, other: &'a Cut<T>) -> &'a Cut<T>
     if other < one { other } else { one }
 }
 
-// The two cuts, if the first is less than the second.
+// Returns the two cuts if the first is less than the second.
 #[inline]
 fn ends_if_any<'a, T: Ord>(lower: &'a Cut<T>, upper: &'a Cut<T>) -> Option<(&'a Cut<T>, &'a Cut<T>)>
     ensures { option_to_list (option_map (λ lent. span_between lent.0.now lent.1.now) result)

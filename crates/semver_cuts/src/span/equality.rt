@@ -1,4 +1,6 @@
 //! Equality and hashing of spans.
+//!
+//! `#[inline]`: equality is two comparisons.
 
 ghost use Rattle.std.specs.Prelude.{◌≡◌, ◌↔◌, IsTrue};
 ghost use Rattle.std.proofs.Common.{◌∙◌};

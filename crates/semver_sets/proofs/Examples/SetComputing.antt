@@ -8,7 +8,7 @@ use Rattle.std.specs.Prelude.{map, ◌&&◌, if◌then◌else◌}
 use Rattle.semver_cuts.specs.declared.cut.Cut.{Cut}
 use Rattle.semver_cuts.specs.Cut.{cut_cmp}
 use Rattle.semver_cuts.specs.Ends.{Ends, IsCutAtMost, IsCutBelow, span_between}
-use Rattle.semver_cuts.specs.Merging.{IsChosenEnd, IsFirstLeastUpper, IsLastGreatestLower}
+use Rattle.semver_cuts.specs.ChosenEnds.{IsChosenEnd, IsFirstLeastUpper, IsLastGreatestLower}
 use Rattle.semver_cuts.specs.Lemmas.Ends.{at_most-from_le, below-from_lt, le-from_at_most, lt-from_below}
 use Rattle.semver_sets.specs.Comparator.{Comparator}
 use Rattle.semver_sets.specs.Comparison.{version_cmp}

@@ -3,7 +3,7 @@ use Rattle.std.proofs.Common.{◌≢◌, ℕ, List, [], ◌∷◌, ◌++◌, Opt
 use Rattle.std.specs.List.{AllByRecursion}
 use Rattle.semver_cuts.specs.declared.cut.Cut.TheVariants.{Start}
 use Rattle.semver_cuts.specs.Ends.{Ends, HoldsCut, IsCutBelow}
-use Rattle.semver_cuts.specs.Lemmas.Merging.{all_middle}
+use Rattle.semver_cuts.specs.Lemmas.Lists.{all_middle}
 use Rattle.semver_cuts.specs.Lemmas.TwoSpans.{holds-below}
 use Rattle.semver_sets.specs.Comparator.{Comparator}
 use Rattle.semver_sets.specs.Comparison.{version_cmp}

@@ -6,16 +6,17 @@ use Rattle.std.proofs.lemmas.List.{append-nil, append_assoc}
 use Rattle.semver_cuts.specs.declared.cut.Cut.{Cut}
 use Rattle.semver_cuts.specs.declared.cut.Cut.TheVariants.{Start, Before, After, End}
 use Rattle.semver_cuts.specs.Ends.{Ends, HoldsCut, IsCutAtMost, span_between}
-use Rattle.semver_cuts.specs.Private.Merging.{IsEarlierLeast, IsLaterGreatest}
+use Rattle.semver_cuts.specs.Private.KeptEnds.{IsEarlierLeast, IsLaterGreatest}
 use Rattle.semver_cuts.specs.Lemmas.Ends.{at_most-or-below, below-not-at_most}
-use Rattle.semver_cuts.specs.Lemmas.Merging.{chosen_lower-above, chosen_lower-one, chosen_lower-push, chosen_lower-some}
-use Rattle.semver_cuts.specs.Lemmas.Merging.{chosen_lower-unique, chosen_upper-below, chosen_upper-one}
-use Rattle.semver_cuts.specs.Lemmas.Merging.{chosen_upper-push, chosen_upper-unique, common-holds, in_every-between}
+use Rattle.semver_cuts.specs.Lemmas.ChosenEnds.{chosen_lower-above, chosen_lower-one, chosen_lower-push}
+use Rattle.semver_cuts.specs.Lemmas.ChosenEnds.{chosen_lower-some, chosen_lower-unique, chosen_upper-below}
+use Rattle.semver_cuts.specs.Lemmas.ChosenEnds.{chosen_upper-one, chosen_upper-push, chosen_upper-unique, common-holds}
+use Rattle.semver_cuts.specs.Lemmas.ChosenEnds.{in_every-between}
 use Rattle.semver_sets.specs.Comparator.{Comparator}
 use Rattle.semver_sets.specs.Comparison.{version_cmp}
 use Rattle.semver_sets.specs.Meaning.{AnyByRecursion, GiveSet, HasOpenEnd, IsInside, Opens}
 use Rattle.semver_sets.specs.Merging.{AdmitsTheSame, HasOneSet, IsSetOf, LosesNothing}
-use Rattle.semver_sets.specs.Private.RangeViews.{IsMerged, merged_seen}
+use Rattle.semver_sets.specs.Private.RangeViews.{IsCommonSpan, common_seen}
 use Rattle.semver_sets.specs.Version.{IsPrerelease, VersionValue}
 use Rattle.semver_sets.specs.Lemmas.Order.{version_total}
 use Rattle.semver_sets.proofs.Sets.Convex.{convex-lower, convex-upper}
@@ -55,7 +56,7 @@ upper-from_end End kept (inr h) = h.1
 pub merged-push : (found : Bool) (lower upper greatest least : Cut VersionValue) (later : Comparator)
     → (found ≡ false → (lower ≡ Start) × (upper ≡ End)) → IsLaterGreatest version_cmp lower later.lower greatest
     → IsEarlierLeast version_cmp upper later.upper least → (comparators : List Comparator)
-    → IsMerged comparators (merged_seen found lower upper)
+    → IsCommonSpan comparators (common_seen found lower upper)
     → IsSetOf (comparators ++ later ∷ []) (span_between greatest least)
 merged-push true lower upper greatest least later all l u comparators merged =
     set-push comparators (span_between lower upper) later (span_between greatest least) merged l u

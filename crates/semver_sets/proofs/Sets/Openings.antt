@@ -1,5 +1,5 @@
 -- The stored list of which sets open which triples, and what follows for a prerelease.
-use Rattle.std.proofs.Common.{◌≡◌, ◌≢◌, ◌↔◌, ◌⊎◌, ℕ, zero, suc, ◌+◌, ◌*◌, ◌^◌, ◌<◌, ◌≤◌, ◌==◌, ◌&&◌, ◌||◌, Bool, true}
+use Rattle.std.proofs.Common.{◌≡◌, ◌≢◌, ◌↔◌, ℕ, zero, suc, ◌+◌, ◌*◌, ◌^◌, ◌<◌, ◌≤◌, ◌==◌, ◌&&◌, ◌||◌, Bool, true}
 use Rattle.std.proofs.Common.{false, List, [], ◌∷◌, ◌++◌, get_or, length, map, take, Option, Some, None, if◌then◌else◌}
 use Rattle.std.proofs.Common.{IsTrue, arith, sym, ap, subst, ◌∙◌, refl, inl, inr}
 use Rattle.std.specs.Prelude.{cond, filter, not}
@@ -7,8 +7,8 @@ use Rattle.std.specs.Ordering.{is_le, is_lt}
 use Rattle.std.specs.declared.cmp.Ordering.{Ordering}
 use Rattle.std.specs.declared.cmp.Ordering.TheVariants.{Less, Equal, Greater}
 use Rattle.std.specs.List.{AllByRecursion}
-use Rattle.std.proofs.lemmas.Bool.{eqb-true}
-use Rattle.std.proofs.lemmas.List.{length-map, map-append}
+use Rattle.std.proofs.lemmas.Bool.{and_from, and_parts, eqb-true, or_cases, or_left, or_right}
+use Rattle.std.proofs.lemmas.List.{append_assoc, get_or_at, get_or_default, length-append, length-map, map-append}
 use Rattle.std.proofs.lemmas.List.Elements.{filter-append}
 use Rattle.std.proofs.lemmas.List.Recursion.{is_count_by}
 use Rattle.semver_cuts.specs.declared.cut.Cut.{Cut}
@@ -17,7 +17,7 @@ use Rattle.semver_cuts.specs.Ends.{Ends, span_between}
 use Rattle.semver_cuts.specs.Places.{span_at}
 use Rattle.semver_cuts.specs.Sharing.{AnyByRecursion}
 use Rattle.semver_cuts.specs.Lemmas.Lists.{any-at, none-more}
-use Rattle.semver_cuts.specs.Common.{IsInSome}
+use Rattle.semver_cuts.specs.SpanLists.{IsInSome}
 use Rattle.semver_cuts.specs.Cut.{cut_cmp}
 use Rattle.semver_cuts.specs.Starts.{count_of_starts}
 use Rattle.semver_cuts.specs.Lemmas.Ends.{cut_cmp-refl}
@@ -36,14 +36,6 @@ use Rattle.semver_sets.proofs.Sets.SomeElement.{all-at}
 
 -- ---- tests
 
-both : (a b : Bool) → IsTrue (a && b) → IsTrue a × IsTrue b
-both true b h = (refl, h)
-both false b h = absurd (cc h)
-
-and-true : (a b : Bool) → IsTrue a → IsTrue b → IsTrue (a && b)
-and-true true b p q = q
-and-true false b p q = absurd (cc p)
-
 equal-self : (n : ℕ) → IsTrue (n == n)
 equal-self n = grind arith
 
@@ -54,16 +46,16 @@ identifiers-test (i ∷ is) = (λ h e. cc e, λ some. refl)
 triple-test : (v w : VersionValue) → IsTrue (has_same_triple v w) ↔ HasSameTriple v w
 triple-test v w = (
   λ h.
-      let front = both ((v.major == w.major) && (v.minor == w.minor)) (v.patch == w.patch) h in
-      let first = both (v.major == w.major) (v.minor == w.minor) front.0 in
+      let front = and_parts ((v.major == w.major) && (v.minor == w.minor)) (v.patch == w.patch) h in
+      let first = and_parts (v.major == w.major) (v.minor == w.minor) front.0 in
       record {
         major = eqb-true v.major w.major first.0;
         minor = eqb-true v.minor w.minor first.1;
         patch = eqb-true v.patch w.patch front.1;
       },
   λ same.
-      and-true ((v.major == w.major) && (v.minor == w.minor)) (v.patch == w.patch)
-      (and-true (v.major == w.major) (v.minor == w.minor)
+      and_from ((v.major == w.major) && (v.minor == w.minor)) (v.patch == w.patch)
+      (and_from (v.major == w.major) (v.minor == w.minor)
       (subst (λ n. IsTrue (v.major == n)) same.major (equal-self v.major))
       (subst (λ n. IsTrue (v.minor == n)) same.minor (equal-self v.minor)))
       (subst (λ n. IsTrue (v.patch == n)) same.patch (equal-self v.patch)),
@@ -73,10 +65,10 @@ opened-test : (p v : VersionValue)
     → IsTrue (has_identifiers p.pre_release && has_same_triple p v) ↔ (IsPrerelease p × HasSameTriple p v)
 opened-test p v = (
   λ h.
-      let parts = both (has_identifiers p.pre_release) (has_same_triple p v) h in
+      let parts = and_parts (has_identifiers p.pre_release) (has_same_triple p v) h in
       ((identifiers-test p.pre_release).0 parts.0, (triple-test p v).0 parts.1),
   λ is.
-      and-true (has_identifiers p.pre_release) (has_same_triple p v)
+      and_from (has_identifiers p.pre_release) (has_same_triple p v)
       ((identifiers-test p.pre_release).1 is.0) ((triple-test p v).1 is.1),
 )
 
@@ -86,27 +78,15 @@ opens-test (Before p) v = opened-test p v
 opens-test (After p) v = opened-test p v
 opens-test End v = (λ h. absurd (cc h), λ is. absurd is)
 
-either : (a b : Bool) → IsTrue (a || b) → IsTrue a ⊎ IsTrue b
-either true b h = inl refl
-either false b h = inr h
-
-or-left : (a b : Bool) → IsTrue a → IsTrue (a || b)
-or-left true b h = refl
-or-left false b h = absurd (cc h)
-
-or-right : (a b : Bool) → IsTrue b → IsTrue (a || b)
-or-right true b h = refl
-or-right false b h = h
-
 pub open_end-test : (v : VersionValue) (set : Ends VersionValue) → IsTrue (has_open_end v set) ↔ HasOpenEnd v set
 open_end-test v set = (
-  λ h. elim (either (opens set.lower v) (opens set.upper v) h) [
+  λ h. elim (or_cases (opens set.lower v) (opens set.upper v) h) [
     | inl lower ↦ inl ((opens-test set.lower v).0 lower)
     | inr upper ↦ inr ((opens-test set.upper v).0 upper)
   ],
   λ is. elim is [
-    | inl lower ↦ or-left (opens set.lower v) (opens set.upper v) ((opens-test set.lower v).1 lower)
-    | inr upper ↦ or-right (opens set.lower v) (opens set.upper v) ((opens-test set.upper v).1 upper)
+    | inl lower ↦ or_left (opens set.lower v) (opens set.upper v) ((opens-test set.lower v).1 lower)
+    | inr upper ↦ or_right (opens set.lower v) (opens set.upper v) ((opens-test set.upper v).1 upper)
   ],
 )
 
@@ -132,8 +112,8 @@ fits-opens v End = refl
 
 same-is : (t u : Triple) → IsTrue (same_triples t u) → t ≡ u
 same-is t u h =
-    let front = both ((t.major == u.major) && (t.minor == u.minor)) (t.patch == u.patch) h in
-    let first = both (t.major == u.major) (t.minor == u.minor) front.0 in
+    let front = and_parts ((t.major == u.major) && (t.minor == u.minor)) (t.patch == u.patch) h in
+    let first = and_parts (t.major == u.major) (t.minor == u.minor) front.0 in
     let a = eqb-true t.major u.major first.0 in
     let b = eqb-true t.minor u.minor first.1 in
     let c = eqb-true t.patch u.patch front.1 in
@@ -141,8 +121,8 @@ same-is t u h =
 
 same-self : (t : Triple) → IsTrue (same_triples t t)
 same-self t =
-    and-true ((t.major == t.major) && (t.minor == t.minor)) (t.patch == t.patch)
-    (and-true (t.major == t.major) (t.minor == t.minor) (equal-self t.major) (equal-self t.minor)) (equal-self t.patch)
+    and_from ((t.major == t.major) && (t.minor == t.minor)) (t.patch == t.patch)
+    (and_from (t.major == t.major) (t.minor == t.minor) (equal-self t.major) (equal-self t.minor)) (equal-self t.patch)
 
 -- the places of those of the version's triple
 named : VersionValue → List Opening → List ℕ
@@ -274,20 +254,6 @@ module _ (v : VersionValue) (prerelease : IsPrerelease v) where
   abbrev IsInsideAt : List (Ends VersionValue) → ℕ → Type 0
   IsInsideAt all place = IsInside v (span_at all place)
 
-  at-length : (front back : List (Ends VersionValue)) (set : Ends VersionValue)
-      → span_at (front ++ set ∷ back) (length front) ≡ set
-  at-length [] back set = refl
-  at-length (first ∷ front) back set = at-length front back set
-
-  shift : (front back : List (Ends VersionValue)) (set : Ends VersionValue)
-      → (front ++ set ∷ []) ++ back ≡ front ++ set ∷ back
-  shift [] back set = refl
-  shift (first ∷ front) back set = ap (λ (l : List (Ends VersionValue)). first ∷ l) (shift front back set)
-
-  longer : (front : List (Ends VersionValue)) (set : Ends VersionValue) → length (front ++ set ∷ []) ≡ length front + 1
-  longer [] set = refl
-  longer (first ∷ front) set = let e = longer front set in omega arith
-
   abbrev Means : List (Ends VersionValue) → List ℕ → List (Ends VersionValue) → Type 0
   Means all places sets = AllByRecursion (λ place. place < length all) places
       × (AnyByRecursion (IsInsideAt all) places ↔ RangeAdmits sets v)
@@ -320,21 +286,17 @@ module _ (v : VersionValue) (prerelease : IsPrerelease v) where
     ),
   )
 
-  short : (front back : List (Ends VersionValue)) (set : Ends VersionValue)
-      → length front < length (front ++ set ∷ back)
-  short [] back set = omega arith
-  short (first ∷ front) back set = let h = short front back set in omega arith
-
   placed : (front sets : List (Ends VersionValue)) → Means (front ++ sets) (places_opening v (length front) sets) sets
   placed front [] = (tt, (λ is. is, λ is. is))
   placed front (set ∷ sets) =
       let all : List (Ends VersionValue) = front ++ set ∷ sets in
       let later : Means all (places_opening v (length front + 1) sets) sets =
-      subst (λ l. Means l (places_opening v (length front + 1) sets) sets) (shift front sets set)
-      (subst (λ n. Means ((front ++ set ∷ []) ++ sets) (places_opening v n sets) sets) (longer front set)
+      subst (λ l. Means l (places_opening v (length front + 1) sets) sets) (append_assoc front (set ∷ []) sets)
+      (subst (λ n. Means ((front ++ set ∷ []) ++ sets) (places_opening v n sets) sets) (length-append front (set ∷ []))
       (placed (front ++ set ∷ []) sets)) in
       meant all (length front) set sets (places_opening v (length front + 1) sets) (has_open_end v set) refl
-      (short front sets set) (at-length front sets set) later
+      (omega (arith, length-append front (set ∷ sets)))
+      (get_or_at front set sets (span_between Start End) (length front) refl) later
 
   -- the places lie in the list
   pub places-within : (sets : List (Ends VersionValue))
@@ -388,21 +350,16 @@ module _ (v : VersionValue) (prerelease : IsPrerelease v) (sets : List (Ends Ver
 
 -- ---- an opening at a place of the list
 
-default-alike : {X : Type 0} (xs : List X) (k : ℕ) (d e : X) → k < length xs → get_or xs k d ≡ get_or xs k e
-default-alike [] k d e within = absurd (omega arith)
-default-alike (x ∷ xs) zero d e within = refl
-default-alike (x ∷ xs) (suc k) d e within = default-alike xs k d e (omega arith)
-
 module _ (v : VersionValue) (sets : List (Ends VersionValue)) (openings : List Opening) (k : ℕ) (o : Opening)
     (other set : Ends VersionValue) (within : k < length openings)
     (all : AllByRecursion (λ (o : Opening). o.place < length sets) openings)
     (at : set ≡ get_or sets (get_or openings k o).place other) where
   opening-is : get_or openings k o ≡ get_or openings k (get_or openings k o)
-  opening-is = default-alike openings k o (get_or openings k o) within
+  opening-is = get_or_default openings k o (get_or openings k o) within
 
   set-is : set ≡ span_at sets (get_or openings k o).place
   set-is =
-      at ∙ default-alike sets (get_or openings k o).place other (span_between Start End)
+      at ∙ get_or_default sets (get_or openings k o).place other (span_between Start End)
       (all-at (λ (o : Opening). o.place < length sets) openings k (get_or openings k o) within opening-is all)
 
   pub opening-inside : IsInside v set → AnyByRecursion (λ (o : Opening). IsInside v (span_at sets o.place)) openings

@@ -8,13 +8,13 @@ use Rattle.std.specs.List.{AllByRecursion}
 use Rattle.std.proofs.Math.Nat.{pow-succ'}
 use Rattle.std.proofs.lemmas.List.{drop_more, take_more, take-append-drop}
 use Rattle.semver_cuts.specs.declared.cut.Cut.{Cut}
-use Rattle.semver_cuts.specs.Common.{AreApart, IsInSome}
+use Rattle.semver_cuts.specs.SpanLists.{AreApart, IsInSome}
 use Rattle.semver_cuts.specs.Ends.{Ends, IsCutAtMost, IsCutBelow, IsInSpan}
 use Rattle.semver_cuts.specs.Joined.{AreMerged, AreRising}
 use Rattle.semver_cuts.specs.Lemmas.Apart.{apart-above, apart-before, apart-behind, rising-behind}
 use Rattle.semver_cuts.specs.Lemmas.Ends.{at_most-or-below, below-at_most, below-not-at_most, below_trans}
 use Rattle.semver_cuts.specs.Lemmas.InSome.{in_some-either, in_some-right}
-use Rattle.semver_cuts.specs.Lemmas.Merging.{all_both, all_map, all_middle, all_push}
+use Rattle.semver_cuts.specs.Lemmas.Lists.{all_both, all_map, all_middle, all_push}
 
 -- ---- steps
 

@@ -1,7 +1,7 @@
 -- Prereleases, builds and extras: the readers read exactly these texts.
 use Rattle.std.proofs.Common.{◌≡◌, ◌⊎◌, ℕ, true, false, List, [], ◌∷◌, ◌++◌, refl, sym, ap, ◌∙◌, inl, inr, subst}
 use Rattle.std.proofs.Common.{append_assoc}
-use Rattle.std.proofs.lemmas.Bool.{cases_Bool, eqb-true}
+use Rattle.std.proofs.lemmas.Bool.{cases_Bool, eqb-true, or_parts}
 use Rattle.std.specs.Prelude.{◌==◌}
 use Rattle.semver_sets.specs.Characters.{BeginsWith, BeginsWithNo, hyphen, is_identifier_character, plus, dot}
 use Rattle.semver_sets.specs.IdentifierText.{IsBuildText, IsExtrasText, IsIdentifierList, IsPrereleaseText}
@@ -10,7 +10,7 @@ use Rattle.semver_sets.specs.Private.Reading.{skip_one, skip_plus, begins, read_
 use Rattle.semver_sets.specs.Private.Reading.{list_prefix, read_list_or, list_values, read_prerelease}
 use Rattle.semver_sets.proofs.Texts.Prefixes.{begins-append, with-begins}
 use Rattle.semver_sets.proofs.Texts.IdentifierReading.{EndsExtras, ends-list, ends-plus, first-stays, goes_on-character}
-use Rattle.semver_sets.proofs.Texts.IdentifierReading.{is_of_list, list-again, list-takes, list-whole, or-left}
+use Rattle.semver_sets.proofs.Texts.IdentifierReading.{is_of_list, list-again, list-takes, list-whole}
 use Rattle.semver_sets.proofs.Texts.IdentifierReading.{pick-false, pick-true, some-values, stops-list}
 use Rattle.semver_sets.proofs.Texts.Characters.{other-no_hyphen}
 
@@ -215,7 +215,7 @@ pub prerelease-again : (text rest : List ℕ) (identifiers : List IdentifierValu
 unfolding read_prerelease skip_one
 prerelease-again text [] [] h ends = rw h refl
 prerelease-again text (c ∷ rest) [] h ends =
-    let none : is_identifier_character c ≡ false = or-left (is_identifier_character c) (c == dot) ends in
+    let none = (or_parts (is_identifier_character c) (c == dot) ends).0 in
     rw h (read_prerelease-other c rest (other-no_hyphen c none) ∙ read_list_or-none (c ∷ rest) (c ∷ rest) none)
 prerelease-again text rest (i ∷ is) h ends =
     let r = list-again h.0 rest (i ∷ is) h.2 (stops-list rest ends) in

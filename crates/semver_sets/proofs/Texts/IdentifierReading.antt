@@ -1,7 +1,7 @@
 -- Lists of identifiers: the reader reads exactly these texts.
 use Rattle.std.proofs.Common.{◌≡◌, ◌⊎◌, ℕ, Bool, true, false, List, [], ◌∷◌, ◌++◌, refl, sym, ap, ◌∙◌, inl, inr, subst}
 use Rattle.std.proofs.Common.{append-nil}
-use Rattle.std.proofs.lemmas.Bool.{and_from, and_parts, cases_Bool, eqb-true}
+use Rattle.std.proofs.lemmas.Bool.{and_from, and_parts, cases_Bool, eqb-true, or_parts}
 use Rattle.std.specs.Prelude.{◌==◌, ◌||◌, if◌then◌else◌, map}
 use Rattle.std.specs.List.{AllByRecursion, list_all}
 use Rattle.semver_sets.specs.Characters.{AreAll, BeginsWith, BeginsWithNo, is_identifier_character, plus, dot}
@@ -230,26 +230,19 @@ EndsExtras rest = BeginsWithNo is_of_extras rest
 abbrev pub is_of_list : ℕ → Bool
 is_of_list b = is_identifier_character b || (b == dot)
 
-pub or-left : (x y : Bool) → (x || y) ≡ false → x ≡ false
-or-left true y h = cc h
-or-left false y h = refl
-
-or-right : (x y : Bool) → (x || y) ≡ false → y ≡ false
-or-right true y h = cc h
-or-right false y h = h
-
 pub ends-list : (rest : List ℕ) → EndsExtras rest → BeginsWithNo is_of_list rest
 ends-list [] h = tt
-ends-list (b ∷ rest) h = or-left (is_of_list b) (b == plus) h
+ends-list (b ∷ rest) h = (or_parts (is_of_list b) (b == plus) h).0
 
 pub ends-plus : (rest : List ℕ) → EndsExtras rest → BeginsWithNo (λ b. b == plus) rest
 ends-plus [] h = tt
-ends-plus (b ∷ rest) h = or-right (is_of_list b) (b == plus) h
+ends-plus (b ∷ rest) h = (or_parts (is_of_list b) (b == plus) h).1
 
 pub stops-list : (rest : List ℕ) → BeginsWithNo is_of_list rest → goes_on rest ≡ false
 stops-list [] h = refl
 stops-list (b ∷ rest) h =
-    rw (or-left (is_identifier_character b) (b == dot) h, or-right (is_identifier_character b) (b == dot) h) refl
+    let parts = or_parts (is_identifier_character b) (b == dot) h in
+    rw (parts.0, parts.1) refl
 
 -- the identifiers of a text that begins with one are some
 pub some-values : (text : List ℕ)

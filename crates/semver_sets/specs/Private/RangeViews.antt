@@ -16,35 +16,35 @@ use Rattle.semver_sets.specs.Private.WordViews.{listed}
 use Rattle.semver_sets.specs.Private.WordReading.{Lead, lead_comparator, read_partial}
 use Rattle.semver_sets.specs.declared.TheConstants.{MAX_SAFE_INTEGER}
 
--- the comparators merged into one, or none if there are none
-abbrev pub IsMerged : List Comparator → Option Comparator → Type 0
-IsMerged comparators None = comparators ≡ []
-IsMerged comparators (Some merged) = IsSetOf comparators merged
+-- the common span of the comparators, or none if there are none
+abbrev pub IsCommonSpan : List Comparator → Option Comparator → Type 0
+IsCommonSpan comparators None = comparators ≡ []
+IsCommonSpan comparators (Some common) = IsSetOf comparators common
 
--- one more word, whose comparator is merged if it gives one
-abbrev pub IsOneMerged : Option Comparator → Option Comparator → Option Comparator → Type 0
-IsOneMerged before word after = (comparators : List Comparator) → IsMerged comparators before
-    → IsMerged (comparators ++ listed word) after
+-- the common span before and after one more word, which narrows it if it gives a comparator
+abbrev pub IsNarrowed : Option Comparator → Option Comparator → Option Comparator → Type 0
+IsNarrowed before word after = (comparators : List Comparator) → IsCommonSpan comparators before
+    → IsCommonSpan (comparators ++ listed word) after
 
--- the comparators merged so far, as a contract sees them: none before the first
-abbrev pub merged_seen : Bool → Cut VersionValue → Cut VersionValue → Option Comparator
-merged_seen found lower upper = if found then Some (span_between lower upper) else None
+-- the common span of the comparators so far, as a contract sees it: none before the first
+abbrev pub common_seen : Bool → Cut VersionValue → Cut VersionValue → Option Comparator
+common_seen found lower upper = if found then Some (span_between lower upper) else None
 
 -- there was a comparator, and a cut lies in all of them
 abbrev pub HasSpan : Option Comparator → Type 0
 HasSpan None = ⊥
-HasSpan (Some merged) = HoldsCut version_cmp merged
+HasSpan (Some common) = HoldsCut version_cmp common
 
--- the span of merged comparators, or none if there are none or no cut lies between their ends
+-- the same span if a cut lies in it; otherwise, or if there are no comparators, none
 abbrev pub IsSpanOf : Option Comparator → Option (Ends VersionValue) → Type 0
 IsSpanOf None span = span ≡ None
-IsSpanOf (Some merged) span =
-    (IsSome span ↔ HoldsCut version_cmp merged) × IfSome span (λ ends. ends ≡ merged)
+IsSpanOf (Some common) span =
+    (IsSome span ↔ HoldsCut version_cmp common) × IfSome span (λ ends. ends ≡ common)
 
--- the merged comparators of an alternative
-abbrev pub IsMergedAlternative : List ℕ → Option Comparator → Type 0
-IsMergedAlternative text merged = (comparators : List Comparator) × IsAlternative text comparators
-    × IsMerged comparators merged
+-- the common span of the comparators of an alternative
+abbrev pub IsSpanOfAlternative : List ℕ → Option Comparator → Type 0
+IsSpanOfAlternative text common = (comparators : List Comparator) × IsAlternative text comparators
+    × IsCommonSpan comparators common
 
 -- the set of an alternative, or none if its comparators give none
 pub data IsSetOfAlternative (text : List ℕ) (set : Option (Ends VersionValue)) : Type 0 where

@@ -1,13 +1,13 @@
-//! Reading one alternative of a range text: its words are merged as they are read.
+//! Reading one alternative of a range text: the comparators of its words are merged as they are read.
 ghost use Rattle.std.specs.Prelude.{◌≡◌, IfOk, None, OnOk};
 ghost use Rattle.semver_sets.specs.Characters.{BeginsWithNo, is_blank};
-ghost use Rattle.semver_sets.specs.Private.RangeViews.{IsMergedAlternative, IsOneMerged, IsSetOfAlternative};
+ghost use Rattle.semver_sets.specs.Private.RangeViews.{IsNarrowed, IsSetOfAlternative, IsSpanOfAlternative};
 ghost use Rattle.semver_sets.specs.Private.Reading.{rest_of};
 ghost use Rattle.semver_sets.specs.Private.WordReading as Reading;
 ghost use Rattle.semver_sets.specs.Private.WordReading.{leading_or_none, read_right};
 ghost use Rattle.semver_sets.specs.Private.WordViews.{ends_seen, word_seen};
 
-use crate::comparator::Merged;
+use crate::comparator::CommonSpan;
 use crate::end::End;
 use crate::parse::{skip_blanks, skip_solid, skip_some_blanks};
 use crate::word::{WordEnds, begins_comparator, nothing, read_leading_hyphen, read_word};
@@ -19,19 +19,19 @@ use std::alloc::{AllocError, Global};
 pub(crate) fn read_set(alloc: Global, text: &[u8]) -> Result<Option<Span<End>>, AllocError>
     ensures { IfOk result (λ set. IsSetOfAlternative text.now set) }
 {
-    let mut merged = Merged::new();
-    merge_words(alloc, text, &mut merged)?;
-    Ok(merged.into_set())
+    let mut common = CommonSpan::new();
+    merge_words(alloc, text, &mut common)?;
+    Ok(common.into_set())
 }
 
 // Merges the comparators of an alternative into one.
-fn merge_words(alloc: Global, text: &[u8], merged: &mut Merged) -> Result<(), AllocError>
-    requires { merged.old ≡ None }
-    ensures { OnOk result (IsMergedAlternative text.now merged.new) }
+fn merge_words(alloc: Global, text: &[u8], common: &mut CommonSpan) -> Result<(), AllocError>
+    requires { common.old ≡ None }
+    ensures { OnOk result (IsSpanOfAlternative text.now common.new) }
 {
-    let mut rest = merge_leading(alloc, text, merged)?;
+    let mut rest = merge_leading(alloc, text, common)?;
     while !rest.is_empty() {
-        rest = merge_next(alloc, rest, merged)?;
+        rest = merge_next(alloc, rest, common)?;
     }
     Ok(())
 }
@@ -42,15 +42,15 @@ fn merge_words(alloc: Global, text: &[u8], merged: &mut Merged) -> Result<(), Al
 fn merge_leading<'a>(
     alloc: Global,
     text: &'a [u8],
-    merged: &mut Merged,
+    common: &mut CommonSpan,
 ) -> Result<&'a [u8], AllocError>
     ensures rest { IfOk result (λ rest. rest.now
         ≡ rest_of is_blank (leading_or_none (read_right text.now) text.now).1) }
-    ensures merged { OnOk result (IsOneMerged merged.old (leading_or_none (read_right text.now) text.now).0
-        merged.new) }
+    ensures common { OnOk result (IsNarrowed common.old (leading_or_none (read_right text.now) text.now).0
+        common.new) }
 {
     match skip_some_blanks(text) {
-        Some(_) => merge_leading_hyphen(alloc, text, merged),
+        Some(_) => merge_leading_hyphen(alloc, text, common),
         None => Ok(text),
     }
 }
@@ -60,15 +60,15 @@ fn merge_leading<'a>(
 fn merge_leading_hyphen<'a>(
     alloc: Global,
     text: &'a [u8],
-    merged: &mut Merged,
+    common: &mut CommonSpan,
 ) -> Result<&'a [u8], AllocError>
     ensures rest { IfOk result (λ rest. rest.now
         ≡ rest_of is_blank (leading_or_none (read_right text.now) text.now).1) }
-    ensures merged { OnOk result (IsOneMerged merged.old (leading_or_none (read_right text.now) text.now).0
-        merged.new) }
+    ensures common { OnOk result (IsNarrowed common.old (leading_or_none (read_right text.now) text.now).0
+        common.new) }
 {
     let (ends, rest) = skip_leading_hyphen(text);
-    keep(alloc, merged, ends)?;
+    keep(alloc, common, ends)?;
     Ok(skip_blanks(rest))
 }
 
@@ -79,14 +79,14 @@ fn merge_leading_hyphen<'a>(
 fn merge_next<'a>(
     alloc: Global,
     text: &'a [u8],
-    merged: &mut Merged,
+    common: &mut CommonSpan,
 ) -> Result<&'a [u8], AllocError>
     requires { BeginsWithNo is_blank text.now }
     ensures rest { IfOk result (λ rest. rest.now ≡ rest_of is_blank (Reading.read_word text.now).1) }
-    ensures merged { OnOk result (IsOneMerged merged.old (Reading.read_word text.now).0 merged.new) }
+    ensures common { OnOk result (IsNarrowed common.old (Reading.read_word text.now).0 common.new) }
 {
     if begins_comparator(text) {
-        merge_word(alloc, text, merged)
+        merge_word(alloc, text, common)
     } else {
         Ok(skip_blanks(skip_solid(text)))
     }
@@ -97,25 +97,25 @@ fn merge_next<'a>(
 fn merge_word<'a>(
     alloc: Global,
     text: &'a [u8],
-    merged: &mut Merged,
+    common: &mut CommonSpan,
 ) -> Result<&'a [u8], AllocError>
     requires { BeginsWithNo is_blank text.now }
     ensures rest { IfOk result (λ rest. rest.now ≡ rest_of is_blank (Reading.read_word text.now).1) }
-    ensures merged { OnOk result (IsOneMerged merged.old (Reading.read_word text.now).0 merged.new) }
+    ensures common { OnOk result (IsNarrowed common.old (Reading.read_word text.now).0 common.new) }
 {
     let (ends, rest) = read_word(text);
-    keep(alloc, merged, ends)?;
+    keep(alloc, common, ends)?;
     Ok(skip_blanks(rest))
 }
 
 // Merges the comparator of a word, if it gives one.
 // `inline(always)`: the ends of a word never leave the stack of `merge_word`.
 #[inline(always)]
-fn keep(alloc: Global, merged: &mut Merged, ends: WordEnds) -> Result<(), AllocError>
-    ensures { OnOk result (IsOneMerged merged.old (ends_seen ends.entry) merged.new) }
+fn keep(alloc: Global, common: &mut CommonSpan, ends: WordEnds) -> Result<(), AllocError>
+    ensures { OnOk result (IsNarrowed common.old (ends_seen ends.entry) common.new) }
 {
     if !ends.is_nothing() {
-        merged.merge(ends.comparator(alloc)?);
+        common.narrow(ends.comparator(alloc)?);
     }
     Ok(())
 }

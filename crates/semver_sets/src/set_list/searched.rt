@@ -4,7 +4,7 @@
 ghost use Rattle.std.specs.Prelude.{◌≡◌, ◌↔◌, ℕ, ◌+◌, ◌*◌, ◌≤◌, ◌<◌, IfOk, IsTrue, length};
 ghost use Rattle.std.specs.List.{AllByRecursion};
 ghost use Rattle.semver_cuts.specs.declared.cut.Cut.TheVariants.{Before};
-ghost use Rattle.semver_cuts.specs.Common.{IsInSome};
+ghost use Rattle.semver_cuts.specs.SpanLists.{IsInSome};
 ghost use Rattle.semver_cuts.specs.Places.{IsPlacesOf, span_at};
 ghost use Rattle.semver_cuts.specs.Starts.{count_of_starts};
 ghost use Rattle.semver_sets.specs.Comparison.{version_cmp};
@@ -19,7 +19,7 @@ use crate::set::{Asked, has_inside, is_begun};
 use crate::set_list::copy::copies_of;
 use crate::set_list::opened::{Opening, Triple, openings, openings_at};
 use semver_cuts::Span;
-use semver_cuts::algebra::{Merged, Places};
+use semver_cuts::algebra::{MergedSpans, Places};
 use std::alloc::{AllocError, Global};
 use std::marker::Model;
 
@@ -83,10 +83,10 @@ impl Searched {
 
     // The list with its merged spans. `inline(always)`: it only passes two slices on.
     #[inline(always)]
-    pub(crate) fn merged(&self) -> Merged<'_, '_, End>
+    pub(crate) fn merged(&self) -> MergedSpans<'_, '_, End>
         ensures { result.list ≡ self.now }
     {
-        Merged::with(&self.sets, &self.places)
+        MergedSpans::with(&self.sets, &self.places)
     }
 
     /// Returns a copy of the list and its index.
@@ -137,7 +137,7 @@ impl Searched {
 // Returns `true` if the version lies in one of the spans. A binary search finds the last merged span that begins below
 // the version: it lies in that one, or in none.
 fn is_in_some<V: Asked, C: Counts>(
-    spans: &Merged<'_, '_, End>,
+    spans: &MergedSpans<'_, '_, End>,
     version: &V,
     comparisons: &mut C,
 ) -> bool

@@ -4,9 +4,9 @@
 
 ghost use Rattle.std.specs.Prelude.{◌≡◌, ◌⊎◌, ◌↔◌, IfOk, IfSome, IsNone};
 ghost use Rattle.semver_cuts.specs.declared.cut.Cut.{Cut};
-ghost use Rattle.semver_cuts.specs.Common.{IsInSome};
+ghost use Rattle.semver_cuts.specs.SpanLists.{IsInSome};
 ghost use Rattle.semver_cuts.specs.CommonSpans.{common_spans};
-ghost use Rattle.semver_cuts.specs.Rest.{AreRestSpans};
+ghost use Rattle.semver_cuts.specs.Difference.{AreDifference};
 ghost use Rattle.semver_cuts.specs.Sharing.{CoversAll};
 ghost use Rattle.semver_sets.specs.Comparison.{version_cmp};
 ghost use Rattle.semver_sets.specs.Meaning.{RangeAdmits};
@@ -46,7 +46,7 @@ impl Range {
     /// - `>=1` without `5 || 2` is `>=1.0.0 <2.0.0||>=3.0.0-0 <5.0.0||>=6.0.0-0`.
     /// - `>=1.2.3` without `>1.0.0` is `None`.
     pub fn difference(&self, alloc: Global, other: &Range) -> Result<Option<Range>, AllocError>
-        ensures sets { IfOk result (λ answer. AreRestSpans version_cmp self.now other.now (sets_of_answer answer)) }
+        ensures sets { IfOk result (λ answer. AreDifference version_cmp self.now other.now (sets_of_answer answer)) }
         ensures cuts { IfOk result (λ answer. (cut : Cut VersionValue)
             → IsInSome version_cmp (sets_of_answer answer) cut
             ↔ (IsInSome version_cmp self.now cut × ¬ IsInSome version_cmp other.now cut)) }
@@ -67,7 +67,7 @@ impl Range {
         other
             .sets
             .merged()
-            .rest_of(self.sets.as_slice(), &mut sets)?;
+            .subtract_from(self.sets.as_slice(), &mut sets)?;
         Ok(sets.into_range()?)
     }
 }

@@ -1,5 +1,5 @@
-use Rattle.semver_cuts.proofs.StartsCounted.{starts-counted}
-use Rattle.semver_cuts.proofs.MergedLists.{same-spans}
+use Rattle.semver_cuts.proofs.Joining.StartsCounted.{starts-counted}
+use Rattle.semver_cuts.proofs.Joining.SameSpans.{same-spans}
 use Rattle.semver_cuts.proofs.laws.merged_spans_are_fixed_by_their_cuts.Goals as goal
 
 pub returns-clause-same : goal.returns-clause-same

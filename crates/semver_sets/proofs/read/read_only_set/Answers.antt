@@ -8,7 +8,7 @@ use Rattle.semver_sets.specs.Private.PieceReading.{piece_at, some_seen}
 use Rattle.semver_sets.specs.Private.RangeViews.{IsSetOfAlternative}
 use Rattle.semver_sets.proofs.Ranges.RangeReading.{none-left, none-read, one-read}
 use Rattle.semver_sets.proofs.Ranges.DivisionLemmas.{completes-end, completes-nothing}
-use Rattle.semver_sets.proofs.Sets.AlternativeSets.{later-set, merged-set}
+use Rattle.semver_sets.proofs.Sets.AlternativeSets.{common-set, later-set}
 use Rattle.semver_sets.proofs.read.read_only_set.Goals as goal
 
 -- nothing follows the first piece
@@ -25,7 +25,7 @@ words-none (b ∷ words) r is none =
 
 -- then there is no set
 nothing-given : IsSetOfAlternative [] None
-nothing-given = merged-set [] None None ([], completes-end [] [] (completes-nothing []), refl) refl
+nothing-given = common-set [] None None ([], completes-end [] [] (completes-nothing []), refl) refl
 
 pub returns-then-is_empty-clause-refused : goal.returns-then-is_empty-clause-refused
 returns-then-is_empty-clause-refused c =

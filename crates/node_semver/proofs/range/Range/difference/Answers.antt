@@ -1,29 +1,29 @@
 use Rattle.std.proofs.Common.{rules, subst}
-use Rattle.semver_cuts.specs.Common.{IsInSome}
-use Rattle.semver_cuts.specs.Rest.{AreRestSpans}
-use Rattle.semver_cuts.specs.Lemmas.Rest.{common_rest-disjoint, common_rest-together, rest_spans-covered}
-use Rattle.semver_cuts.specs.Lemmas.Rest.{rest_spans-cuts}
+use Rattle.semver_cuts.specs.SpanLists.{IsInSome}
+use Rattle.semver_cuts.specs.Difference.{AreDifference}
+use Rattle.semver_cuts.specs.Lemmas.Difference.{common_difference-disjoint, common_difference-together}
+use Rattle.semver_cuts.specs.Lemmas.Difference.{difference-covered, difference-cuts}
 use Rattle.semver_sets.specs.Comparison.{version_cmp}
 use Rattle.semver_sets.specs.Lemmas.Order.{version_total}
 use Rattle.semver_sets.specs.RangeSets.{IsRangeValue}
 use Rattle.node_semver.specs.RangeAlgebra.{sets_of_answer}
-use Rattle.node_semver.proofs.Sets.AlgebraBounds.{none-exactly, none-listed, rest-bounded}
-use Rattle.node_semver.proofs.Sets.RangeAlgebra.{rest-releases}
+use Rattle.node_semver.proofs.Sets.AlgebraBounds.{difference-bounded, none-exactly, none-listed}
+use Rattle.node_semver.proofs.Sets.RangeAlgebra.{difference-releases}
 use Rattle.node_semver.proofs.range.Range.difference.Goals as goal
 
 pub into_range-requires : goal.into_range-requires
 into_range-requires c =
-    let rest : AreRestSpans version_cmp c.args.self.now c.args.other.now c.rest_of.new.into = search rules in
+    let spans : AreDifference version_cmp c.args.self.now c.args.other.now c.subtract_from.new.into = search rules in
     let ones : IsRangeValue c.args.self.now = subst IsRangeValue c.self.view_is c.self.invariant in
     let others : IsRangeValue c.args.other.now = subst IsRangeValue c.other.view_is c.other.invariant in
-    rest-bounded c.args.self.now c.args.other.now c.rest_of.new.into rest ones.each others.each
+    difference-bounded c.args.self.now c.args.other.now c.subtract_from.new.into spans ones.each others.each
 
 pub returns-clause-cuts : goal.returns-clause-cuts
 returns-clause-cuts c =
-    let answered : AreRestSpans version_cmp c.args.self.now c.args.other.now
+    let answered : AreDifference version_cmp c.args.self.now c.args.other.now
     (sets_of_answer c.in_ok-into_range.field-0) =
     search rules in
-    rest_spans-cuts version_cmp _ _ _ answered
+    difference-cuts version_cmp _ _ _ answered
 
 pub returns-clause-none : goal.returns-clause-none
 returns-clause-none c =
@@ -33,31 +33,31 @@ returns-clause-none c =
 
 pub returns-clause-releases : goal.returns-clause-releases
 returns-clause-releases c =
-    let answered : AreRestSpans version_cmp c.args.self.now c.args.other.now
+    let answered : AreDifference version_cmp c.args.self.now c.args.other.now
     (sets_of_answer c.in_ok-into_range.field-0) =
     search rules in
-    rest-releases _ _ _ answered
+    difference-releases _ _ _ answered
 
 pub returns-clause-disjoint : goal.returns-clause-disjoint
 returns-clause-disjoint c =
-    let answered : AreRestSpans version_cmp c.args.self.now c.args.other.now
+    let answered : AreDifference version_cmp c.args.self.now c.args.other.now
     (sets_of_answer c.in_ok-into_range.field-0) =
     search rules in
-    λ cut both. common_rest-disjoint version_total _ _ _ answered cut both.0 both.1
+    λ cut both. common_difference-disjoint version_total _ _ _ answered cut both.0 both.1
 
 pub returns-clause-together : goal.returns-clause-together
 returns-clause-together c =
-    let answered : AreRestSpans version_cmp c.args.self.now c.args.other.now
+    let answered : AreDifference version_cmp c.args.self.now c.args.other.now
     (sets_of_answer c.in_ok-into_range.field-0) =
     search rules in
     λ cut.
-    let either = common_rest-together version_total _ _ _ answered cut in (either.1, either.0)
+    let either = common_difference-together version_total _ _ _ answered cut in (either.1, either.0)
 
 pub returns-clause-covered : goal.returns-clause-covered
 returns-clause-covered c =
-    let answered : AreRestSpans version_cmp c.args.self.now c.args.other.now
+    let answered : AreDifference version_cmp c.args.self.now c.args.other.now
     (sets_of_answer c.in_ok-into_range.field-0) =
     search rules in
-    let law = rest_spans-covered version_total _ _ _ answered in
+    let law = difference-covered version_total _ _ _ answered in
     let none = none-listed c.in_ok-into_range.field-0 c.in_ok-into_range.ensures.holds in
     (λ is. law.0 (none.0 is), λ covers. none.1 (law.1 covers))

@@ -1,9 +1,9 @@
 use Rattle.std.proofs.Common.{rules, ◌≡◌, sym, subst}
 use Rattle.std.specs.List.{AllByRecursion}
-use Rattle.semver_cuts.specs.Common.{IsInSome}
+use Rattle.semver_cuts.specs.SpanLists.{IsInSome}
 use Rattle.semver_cuts.specs.CommonSpans.{common_spans}
 use Rattle.semver_cuts.specs.Lemmas.CommonSpans.{common_spans-cuts}
-use Rattle.semver_cuts.specs.Lemmas.Rest.{common_rest-disjoint, common_rest-together}
+use Rattle.semver_cuts.specs.Lemmas.Difference.{common_difference-disjoint, common_difference-together}
 use Rattle.semver_sets.specs.Lemmas.Order.{version_total}
 use Rattle.semver_sets.specs.Comparison.{version_cmp}
 use Rattle.semver_sets.specs.RangeSets.{IsRangeSet, IsRangeValue}
@@ -65,15 +65,15 @@ returns-clause-disjoint c =
     let answered : sets_of_answer c.in_ok-into_range.field-0
     ≡ common_spans version_cmp c.args.self.now c.args.other.now =
     search rules in
-    λ rest are cut.
+    λ spans are cut.
     rw answered
-    (λ both. common_rest-disjoint version_total c.args.self.now c.args.other.now rest are cut both.0 both.1)
+    (λ both. common_difference-disjoint version_total c.args.self.now c.args.other.now spans are cut both.0 both.1)
 
 pub returns-clause-together : goal.returns-clause-together
 returns-clause-together c =
     let answered : sets_of_answer c.in_ok-into_range.field-0
     ≡ common_spans version_cmp c.args.self.now c.args.other.now =
     search rules in
-    λ rest are cut.
-    let either = common_rest-together version_total c.args.self.now c.args.other.now rest are cut in
+    λ spans are cut.
+    let either = common_difference-together version_total c.args.self.now c.args.other.now spans are cut in
     rw answered (either.1, either.0)

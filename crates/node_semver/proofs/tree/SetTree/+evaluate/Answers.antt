@@ -31,11 +31,11 @@ returns-in_ok-evaluate-in-Some-2 t c =
     let tree = formula_of c.args.self.now in
     let one = formula_of c.deref-in-Without.result.now in
     let other = formula_of c.deref-in-Some-2.result.now in
-    let found = c.rest.result in
+    let found = c.difference.result in
     let others = sets_of_answer c.in_ok-evaluate-in-Some-2.field-0 in
     let same : tree ≡ without one other =
     cc (c.in-Without.is, c.deref-in-Without.ensures, c.deref-in-Some-2.ensures) in
     let has = subst (λ answer. AreSetsOfTree one (sets_of_answer answer)) c.in-Some-2.is
     c.in_ok-one-in-Without.ensures.sets in
     answered tree found (without-sets tree one other c.in-Some-2.one others found same has
-    c.in_ok-evaluate-in-Some-2.ensures.sets c.rest.ensures.sets) c.rest.ensures.holds
+    c.in_ok-evaluate-in-Some-2.ensures.sets c.difference.ensures.sets) c.difference.ensures.holds

@@ -1,11 +1,11 @@
 use Rattle.std.proofs.Common.{◌≡◌, ◌-◌, ap, drop, length, refl, subst, sym, take, ◌∙◌, ◌++◌}
 use Rattle.std.proofs.lemmas.List.{take-append-drop, take_rest}
-use Rattle.semver_cuts.specs.Common.{AreApart}
+use Rattle.semver_cuts.specs.SpanLists.{AreApart}
 use Rattle.semver_cuts.specs.CommonSpans.{common_with}
 use Rattle.semver_cuts.specs.Joined.{AreRising}
-use Rattle.semver_cuts.specs.Private.Rest.{ending_above}
+use Rattle.semver_cuts.specs.Private.Difference.{ending_above}
 use Rattle.semver_cuts.specs.Lemmas.Apart.{apart-behind, rising-behind}
-use Rattle.semver_cuts.proofs.CommonAlong.{common_with-from}
+use Rattle.semver_cuts.proofs.Intersections.AscendingSpans.{common_with-from}
 use Rattle.semver_cuts.proofs.algebra.common.common_along.Goals as goal
 
 pub common_until-requires : goal.common_until-requires

@@ -1,4 +1,4 @@
-use Rattle.semver_cuts.proofs.CommonSpans.{gathered_spans-more}
+use Rattle.semver_cuts.proofs.Intersections.IntersectionSteps.{gathered_spans-more}
 use Rattle.semver_cuts.proofs.algebra.common.common_ascending.Goals as goal
 
 pub loop-one-preserved : goal.loop-one-preserved

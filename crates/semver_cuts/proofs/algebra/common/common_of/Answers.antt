@@ -1,6 +1,6 @@
 use Rattle.std.proofs.Common.{refl}
 use Rattle.semver_cuts.specs.Ends.{span_between}
-use Rattle.semver_cuts.proofs.CommonSpans.{common_of-rising}
+use Rattle.semver_cuts.proofs.Intersections.IntersectionSteps.{common_of-rising}
 use Rattle.semver_cuts.proofs.algebra.common.common_of.Goals as goal
 
 pub gather-requires : goal.gather-requires

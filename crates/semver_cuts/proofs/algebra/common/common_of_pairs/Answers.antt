@@ -3,7 +3,7 @@ use Rattle.std.specs.List.{flat_map}
 use Rattle.std.proofs.lemmas.List.{append-nil, drop_all}
 use Rattle.std.proofs.lemmas.List.Elements.{All-from_recursion}
 use Rattle.semver_cuts.specs.Private.Meeting.{AreBothWithin, common_at}
-use Rattle.semver_cuts.proofs.Meeting.{gathered_pairs-more}
+use Rattle.semver_cuts.proofs.Intersections.MeetingSpans.{gathered_pairs-more}
 use Rattle.semver_cuts.proofs.algebra.common.common_of_pairs.Goals as goal
 
 pub loop-pair-preserved : goal.loop-pair-preserved

@@ -1,7 +1,7 @@
 use Rattle.std.proofs.Common.{◌++◌, ap, sym, ◌∙◌}
 use Rattle.semver_cuts.specs.Lemmas.Ends.{at_most-from_le}
-use Rattle.semver_cuts.proofs.CommonAlong.{common_with-until}
-use Rattle.semver_cuts.proofs.CommonSpans.{gathered_with-more}
+use Rattle.semver_cuts.proofs.Intersections.AscendingSpans.{common_with-until}
+use Rattle.semver_cuts.proofs.Intersections.IntersectionSteps.{gathered_with-more}
 use Rattle.semver_cuts.proofs.algebra.common.common_until.Goals as goal
 
 pub loop-other-preserved : goal.loop-other-preserved

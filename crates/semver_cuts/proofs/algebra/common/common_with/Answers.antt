@@ -1,4 +1,4 @@
-use Rattle.semver_cuts.proofs.CommonSpans.{gathered_with-more}
+use Rattle.semver_cuts.proofs.Intersections.IntersectionSteps.{gathered_with-more}
 use Rattle.semver_cuts.proofs.algebra.common.common_with.Goals as goal
 
 pub loop-other-preserved : goal.loop-other-preserved

@@ -1,10 +1,10 @@
-use Rattle.std.proofs.Common.{◌≡◌, ◌==◌, ℕ, [], ap, length, subst, sym, ◌∙◌}
+use Rattle.std.proofs.Common.{◌≡◌, ◌==◌, [], ap, length, subst, sym, ◌∙◌}
 use mathlib.Core.Bool.{true≢false}
 use Rattle.std.proofs.lemmas.Bool.{eqb-true}
 use Rattle.std.proofs.lemmas.Result.{IfOk-weaker}
 use Rattle.semver_cuts.specs.Joined.{AreJoined}
 use Rattle.semver_cuts.specs.Places.{IsPlacesOf, merged_spans}
-use Rattle.semver_cuts.proofs.Kept.{none-merged}
+use Rattle.semver_cuts.proofs.Joining.JoinedPlaces.{none-merged}
 use Rattle.semver_cuts.proofs.algebra.joined.join.Goals as goal
 
 pub returns-then-is_empty : goal.returns-then-is_empty

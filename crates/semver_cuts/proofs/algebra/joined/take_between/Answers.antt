@@ -2,7 +2,7 @@ use Rattle.std.proofs.Common.{ap, arith, set, ◌∙◌}
 use Rattle.std.proofs.lemmas.List.{length-set}
 use Rattle.semver_cuts.specs.Cut.{cut_cmp}
 use Rattle.semver_cuts.specs.Ends.{span_between}
-use Rattle.semver_cuts.proofs.TakenEnds.{end-at, end-kept, end-read, end-unset}
+use Rattle.semver_cuts.proofs.Joining.TakenEnds.{end-at, end-kept, end-read, end-unset}
 use Rattle.semver_cuts.proofs.algebra.joined.take_between.Goals as goal
 
 pub bounds-spans-begins : goal.bounds-spans-begins

@@ -1,6 +1,7 @@
 use Rattle.std.proofs.Common.{◌+◌, ◌++◌, ap, arith, drop, map, ◌∙◌}
 use Rattle.semver_cuts.specs.Places.{span_of_places}
-use Rattle.semver_cuts.proofs.Kept.{itself-kept, next-done, next-left, next-rising, taken-all, within-at}
+use Rattle.semver_cuts.proofs.Joining.JoinedPlaces.{itself-kept, next-done, next-left, next-rising, taken-all}
+use Rattle.semver_cuts.proofs.Joining.JoinedPlaces.{within-at}
 use Rattle.semver_cuts.proofs.algebra.joined.taken_at.Goals as goal
 
 pub loop-begins-init : goal.loop-begins-init

@@ -1,4 +1,4 @@
-use Rattle.semver_cuts.proofs.Turns.{along-next, along-over}
+use Rattle.semver_cuts.proofs.Intersections.PairsLoop.{along-next, along-over}
 use Rattle.semver_cuts.proofs.algebra.meeting.add_pairs.Goals as goal
 
 pub loop-one-preserved : goal.loop-one-preserved

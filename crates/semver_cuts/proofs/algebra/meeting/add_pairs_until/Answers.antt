@@ -1,5 +1,5 @@
 use Rattle.std.proofs.Common.{ap, sym, ◌∙◌}
-use Rattle.semver_cuts.proofs.Turns.{pairs-next, pairs-over, pairs-stopped}
+use Rattle.semver_cuts.proofs.Intersections.PairsLoop.{pairs-next, pairs-over, pairs-stopped}
 use Rattle.semver_cuts.specs.Private.Meeting.{places_by}
 use Rattle.semver_cuts.proofs.algebra.meeting.add_pairs_until.Goals as goal
 

@@ -2,7 +2,7 @@ use Rattle.std.proofs.Common.{◌≡◌, ◌++◌, true, false, subst, rules}
 use Rattle.std.specs.List.Sorted.{IsPermutation}
 use Rattle.std.proofs.lemmas.List.Filters.{dedup_is}
 use Rattle.semver_cuts.specs.Private.Meeting.{pairs_along}
-use Rattle.semver_cuts.proofs.Meeting.{are-meeting, same_pair}
+use Rattle.semver_cuts.proofs.Intersections.MeetingSpans.{are-meeting, same_pair}
 use Rattle.semver_cuts.proofs.algebra.meeting.meeting.Goals as goal
 
 pub returns : goal.returns

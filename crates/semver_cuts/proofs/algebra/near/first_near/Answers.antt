@@ -1,5 +1,5 @@
 use Rattle.std.proofs.Common.{◌≡◌, ◌≤◌, drop, length, subst}
-use Rattle.semver_cuts.specs.Private.Rest.{ending_above}
+use Rattle.semver_cuts.specs.Private.Difference.{ending_above}
 use Rattle.semver_cuts.proofs.algebra.near.first_near.Goals as goal
 
 pub returns-then-is_first_above-clause-place : goal.returns-then-is_first_above-clause-place

@@ -1,6 +1,6 @@
 use Rattle.std.proofs.Common.{arith, sym, ◌∙◌}
 use Rattle.semver_cuts.specs.Lemmas.Ends.{at_most-from_le, below-from_not_le}
-use Rattle.semver_cuts.proofs.Near.{found_behind}
+use Rattle.semver_cuts.proofs.Intersections.FirstAbove.{found_behind}
 use Rattle.semver_cuts.proofs.algebra.near.is_first_above.Goals as goal
 
 pub returns-clause-above : goal.returns-clause-above

@@ -2,7 +2,7 @@ use Rattle.std.proofs.Common.{◌++◌, ap, subst, sym}
 use Rattle.std.proofs.lemmas.List.{drop_all}
 use Rattle.semver_cuts.specs.Joined.{AreRising}
 use Rattle.semver_cuts.specs.Private.Placed.{placed_from}
-use Rattle.semver_cuts.proofs.Turns.{placed-moved, placed-next, placed-rising}
+use Rattle.semver_cuts.proofs.Joining.PlacedLoop.{placed-moved, placed-next, placed-rising}
 use Rattle.semver_cuts.proofs.algebra.placed.in_order.Goals as goal
 
 pub loop-place-init : goal.loop-place-init

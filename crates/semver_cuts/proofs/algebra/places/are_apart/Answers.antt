@@ -1,7 +1,7 @@
 use Rattle.std.proofs.Common.{refl, sym, ◌∙◌}
 use mathlib.Core.Bool.{true≢false}
 use Rattle.semver_cuts.specs.Ends.{span_between}
-use Rattle.semver_cuts.proofs.Turns.{seen-all, seen-first, seen-next, seen-touching}
+use Rattle.semver_cuts.proofs.Joining.ApartLoop.{seen-all, seen-first, seen-next, seen-touching}
 use Rattle.semver_cuts.proofs.algebra.places.are_apart.Goals as goal
 
 pub loop-span-init : goal.loop-span-init

@@ -1,5 +1,5 @@
 use Rattle.std.proofs.Common.{◌↔◌, ◌∷◌, drop}
-use Rattle.semver_cuts.specs.Common.{AreApart}
+use Rattle.semver_cuts.specs.SpanLists.{AreApart}
 use Rattle.semver_cuts.specs.Ends.{span_between}
 use Rattle.semver_cuts.specs.Joined.{AreRising}
 use Rattle.semver_cuts.proofs.algebra.places.are_apart.Given as goal

@@ -1,5 +1,6 @@
 use Rattle.std.proofs.Common.{sym, ◌∙◌}
-use Rattle.semver_cuts.proofs.Turns.{places-begun, places-longer, places-next, places-none, places-over, places-same}
+use Rattle.semver_cuts.proofs.Joining.PlacesLoop.{places-begun, places-longer, places-next, places-none, places-over}
+use Rattle.semver_cuts.proofs.Joining.PlacesLoop.{places-same}
 use Rattle.semver_cuts.proofs.algebra.places.places_in_order.Goals as goal
 use Rattle.semver_cuts.proofs.algebra.places.places_in_order.Goals.{then-lt+in_ok-push, else-lt+then-ends_later}
 use Rattle.semver_cuts.proofs.algebra.places.places_in_order.Goals.{else-lt+else-ends_later}

@@ -2,7 +2,7 @@ use Rattle.std.proofs.Common.{◌≡◌, ℕ, List, None, false, refl, sym, subs
 use Rattle.std.proofs.lemmas.List.{append-nil}
 use Rattle.semver_sets.specs.Characters.{is_blank}
 use Rattle.semver_sets.specs.Comparator.{Comparator}
-use Rattle.semver_sets.specs.Private.RangeViews.{IsMerged}
+use Rattle.semver_sets.specs.Private.RangeViews.{IsCommonSpan}
 use Rattle.semver_sets.specs.Private.Reading.{begins}
 use Rattle.semver_sets.specs.Private.WordReading.{leading_or_none, read_right}
 use Rattle.semver_sets.proofs.Texts.Prefixes.{begins-with_no, rest_of-none}
@@ -19,6 +19,6 @@ returns-in-None-clause-rest c =
     rw (no-leading text c.in-None.ensures.none)
     (sym (rest_of-none is_blank text (begins-with_no is_blank text c.in-None.ensures.none)))
 
-pub returns-in-None-clause-merged : goal.returns-in-None-clause-merged
-returns-in-None-clause-merged c = rw (no-leading c.args.text.now c.in-None.ensures.none) (λ comparators merged.
-    subst (λ (l : List Comparator). IsMerged l c.args.merged.now) (sym (append-nil comparators)) merged)
+pub returns-in-None-clause-common : goal.returns-in-None-clause-common
+returns-in-None-clause-common c = rw (no-leading c.args.text.now c.in-None.ensures.none) (λ comparators common.
+    subst (λ (l : List Comparator). IsCommonSpan l c.args.common.now) (sym (append-nil comparators)) common)

@@ -1,8 +1,9 @@
 use Rattle.std.proofs.Common.{subst}
-use Rattle.semver_sets.specs.Private.RangeViews.{IsOneMerged}
+use Rattle.semver_sets.specs.Private.RangeViews.{IsNarrowed}
 use Rattle.semver_sets.specs.Private.WordReading.{Word}
 use Rattle.semver_sets.proofs.read.alternative.merge_leading_hyphen.Goals as goal
 
-pub returns-clause-merged : goal.returns-clause-merged
-returns-clause-merged c =
-    subst (λ (w : Word). IsOneMerged c.args.merged.now w.0 c.keep.new.merged) c.skip_leading_hyphen.ensures c.in_ok-keep.ensures
+pub returns-clause-common : goal.returns-clause-common
+returns-clause-common c =
+    subst (λ (w : Word). IsNarrowed c.args.common.now w.0 c.keep.new.common) c.skip_leading_hyphen.ensures
+    c.in_ok-keep.ensures

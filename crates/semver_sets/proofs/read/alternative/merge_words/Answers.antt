@@ -4,7 +4,7 @@ use Rattle.std.specs.Prelude.{◌==◌}
 use Rattle.std.proofs.lemmas.Bool.{eqb-true}
 use Rattle.semver_sets.specs.Characters.{BeginsWithNo, is_blank}
 use Rattle.semver_sets.specs.Comparator.{Comparator}
-use Rattle.semver_sets.specs.Private.RangeViews.{IsMerged}
+use Rattle.semver_sets.specs.Private.RangeViews.{IsCommonSpan}
 use Rattle.semver_sets.specs.Private.Reading.{rest_of}
 use Rattle.semver_sets.specs.Private.WordReading.{leading_or_none, read_right, read_word}
 use Rattle.semver_sets.specs.Private.WordViews.{listed}
@@ -24,9 +24,9 @@ no-blank : (rest left : List ℕ) → left ≡ rest_of is_blank rest → BeginsW
 no-blank rest left skipped = subst (λ (l : List ℕ). BeginsWithNo is_blank l) (sym skipped) (rest_of-no is_blank rest)
 
 -- none of no comparators
-none-merged : (merged : Option Comparator) → merged ≡ None → IsMerged [] merged
-none-merged None none = refl
-none-merged (Some merged) none = absurd (cc none)
+none-common : (common : Option Comparator) → common ≡ None → IsCommonSpan [] common
+none-common None none = refl
+none-common (Some common) none = absurd (cc none)
 
 pub loop-rest-init : goal.loop-rest-init
 loop-rest-init c =
@@ -36,7 +36,7 @@ loop-rest-init c =
       done = listed word.0;
       read = left-is c.args.text.now (rest_of is_blank word.1) c.in_ok-rest.rest.now (listed word.0) start
           c.in_ok-rest.ensures.rest;
-      are_merged = c.in_ok-rest.ensures.merged [] (none-merged c.args.merged.now c.requires);
+      is_common = c.in_ok-rest.ensures.common [] (none-common c.args.common.now c.requires);
       solid = no-blank word.1 c.in_ok-rest.rest.now c.in_ok-rest.ensures.rest;
     }
 
@@ -71,7 +71,7 @@ loop-rest-preserved c =
       done = done ++ listed word.0;
       read = left-is c.args.text.now (rest_of is_blank word.1) c.in_ok-rest-2.rest.now (done ++ listed word.0) more
           c.in_ok-rest-2.ensures.rest;
-      are_merged = c.in_ok-rest-2.ensures.merged done c.loop-rest.invariant.are_merged;
+      is_common = c.in_ok-rest-2.ensures.common done c.loop-rest.invariant.is_common;
       solid = no-blank word.1 c.in_ok-rest-2.rest.now c.in_ok-rest-2.ensures.rest;
     }
 
@@ -83,5 +83,5 @@ returns c =
       done,
       completes-end c.args.text.now done
           (subst (λ (l : List ℕ). Completes c.args.text.now done l) none c.loop-rest.invariant.read),
-      c.loop-rest.invariant.are_merged,
+      c.loop-rest.invariant.is_common,
     )

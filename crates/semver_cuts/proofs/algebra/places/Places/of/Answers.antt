@@ -2,7 +2,7 @@ use Rattle.std.proofs.Common.{ap, subst, sym, ◌∙◌}
 use Rattle.semver_cuts.specs.Lemmas.Joined.{places_of-merged}
 use Rattle.semver_cuts.specs.Places.{IsPlacesOf}
 use Rattle.semver_cuts.specs.Private.Joining.{places_in_order}
-use Rattle.semver_cuts.proofs.Kept.{order-places}
+use Rattle.semver_cuts.proofs.Joining.JoinedPlaces.{order-places}
 use Rattle.semver_cuts.proofs.algebra.places.Places.of.Goals as goal
 
 pub returns-then-are_merged : goal.returns-then-are_merged

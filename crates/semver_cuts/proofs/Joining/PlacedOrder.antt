@@ -1,0 +1,95 @@
+-- Spans in the order of their lower ends: which of two begins later, and which ends later.
+use Rattle.std.proofs.Common.{◌≡◌, ◌⊎◌, ℕ, ◌<◌, ◌≤◌, List, [], ◌∷◌, Ordering, Less, Equal, Greater, true, false, refl}
+use Rattle.std.proofs.Common.{sym, ap, ◌∙◌, inl, inr, ⊎_elim, arith}
+use mathlib.Core.Bool.{true≢false}
+use Rattle.std.specs.List.{AllByRecursion}
+use Rattle.std.specs.Ordering.{is_lt, nat_cmp, ordering_then}
+use Rattle.std.specs.Cmp.{IsTotalOrder}
+use Rattle.std.proofs.lemmas.Cmp.{ranked}
+use Rattle.semver_cuts.specs.declared.cut.Cut.{Cut}
+use Rattle.semver_cuts.specs.Cut.{cut_cmp}
+use Rattle.semver_cuts.specs.Ends.{IsCutAtMost, IsCutBelow}
+use Rattle.semver_cuts.specs.Private.Placed.{PlacedSpan, placed_cmp}
+use Rattle.semver_cuts.specs.Lemmas.Ends.{at_most-below, below-at_most, below-from_greater, cut_cmp-equal_back}
+use Rattle.semver_cuts.specs.Lemmas.Ends.{cut_cmp-equal_left}
+
+-- ---- tests of numbers
+
+lt-from_test : (x y : ℕ) (r : Ordering) → r ≡ nat_cmp x y → is_lt r ≡ true → x < y
+lt-from_test x y Less e h = ranked x y Less e
+lt-from_test x y Equal e h = absurd (true≢false (sym h))
+lt-from_test x y Greater e h = absurd (true≢false (sym h))
+
+le-from_test : (x y : ℕ) (r : Ordering) → r ≡ nat_cmp x y → is_lt r ≡ false → y ≤ x
+le-from_test x y Less e h = absurd (true≢false h)
+le-from_test x y Equal e h = let same = ranked x y Equal e in omega arith
+le-from_test x y Greater e h = let less = ranked x y Greater e in omega arith
+
+-- ---- the order
+
+-- no span comes before an earlier one of the list
+abbrev pub AreInOrder : {T : Type 0} → (T → T → Ordering) → List (PlacedSpan T) → Type 0
+AreInOrder cmp [] = Unit {0}
+AreInOrder {T} cmp (first ∷ later) =
+    AllByRecursion (λ (next : PlacedSpan T). is_lt (placed_cmp cmp next first) ≡ false) later × AreInOrder cmp later
+
+module _ {T : Type 0} {cmp : T → T → Ordering} (o : IsTotalOrder cmp) where
+  lower_by : (c d : Cut T) (r s : Ordering) → cut_cmp cmp c d ≡ r → is_lt (ordering_then r s) ≡ false
+      → IsCutAtMost cmp d c
+  lower_by c d Less s e h = absurd (true≢false h)
+  lower_by c d Equal s e h = inr (cut_cmp-equal_back o c d e)
+  lower_by c d Greater s e h = inl (below-from_greater o c d e)
+
+  -- a later span does not begin lower
+  pub lower-later : (first next : PlacedSpan T) → is_lt (placed_cmp cmp next first) ≡ false
+      → IsCutAtMost cmp first.span.lower next.span.lower
+  lower-later first next h =
+      lower_by next.span.lower first.span.lower (cut_cmp cmp next.span.lower first.span.lower)
+      (nat_cmp next.place first.place) refl h
+
+  -- and if it begins at the same cut, its place is not lower
+  pub place-later : (first next : PlacedSpan T) → is_lt (placed_cmp cmp next first) ≡ false
+      → cut_cmp cmp next.span.lower first.span.lower ≡ Equal → first.place ≤ next.place
+  place-later first next h same =
+      le-from_test next.place first.place (nat_cmp next.place first.place) refl
+      (sym (ap (λ r. is_lt (ordering_then r (nat_cmp next.place first.place))) same) ∙ h)
+
+  -- ---- which of two ends is the later
+
+  -- the span ends below the cut, or at the cut and does not come before the place
+  abbrev pub EndsNoLater : Cut T → ℕ → PlacedSpan T → Type 0
+  EndsNoLater upper place p =
+      IsCutBelow cmp p.span.upper upper ⊎ ((cut_cmp cmp p.span.upper upper ≡ Equal) × (place ≤ p.place))
+
+  pub no_later_by : (upper : Cut T) (place : ℕ) (next : PlacedSpan T) (r : Ordering)
+      → cut_cmp cmp upper next.span.upper ≡ r
+      → is_lt (ordering_then r (nat_cmp next.place place)) ≡ false → EndsNoLater upper place next
+  no_later_by upper place next Less e h = absurd (true≢false h)
+  no_later_by upper place next Equal e h =
+      inr (
+        cut_cmp-equal_back o upper next.span.upper e,
+        le-from_test next.place place (nat_cmp next.place place) refl h,
+      )
+  no_later_by upper place next Greater e h = inl (below-from_greater o upper next.span.upper e)
+
+  pub later_by : (upper : Cut T) (place : ℕ) (next : PlacedSpan T) (r : Ordering)
+      → cut_cmp cmp upper next.span.upper ≡ r
+      → is_lt (ordering_then r (nat_cmp next.place place)) ≡ true
+      → IsCutBelow cmp upper next.span.upper ⊎ ((cut_cmp cmp upper next.span.upper ≡ Equal) × (next.place ≤ place))
+  later_by upper place next Less e h = inl e
+  later_by upper place next Equal e h =
+      let less : next.place < place = lt-from_test next.place place (nat_cmp next.place place) refl h in
+      inr (e, omega arith)
+  later_by upper place next Greater e h = absurd (true≢false (sym h))
+
+  -- a span that does not end later than one end does not end later than a later end
+  pub no_later-trans : (upper upper' : Cut T) (place place' : ℕ) (p : PlacedSpan T) → EndsNoLater upper place p
+      → IsCutBelow cmp upper upper' ⊎ ((cut_cmp cmp upper upper' ≡ Equal) × (place' ≤ place))
+      → EndsNoLater upper' place' p
+  no_later-trans upper upper' place place' p (inl below) step =
+      inl (below-at_most o p.span.upper upper upper' below (⊎_elim (λ h. inl h) (λ h. inr h.0) step))
+  no_later-trans upper upper' place place' p (inr at) (inl below) =
+      inl (at_most-below o p.span.upper upper upper' (inr at.0) below)
+  no_later-trans upper upper' place place' p (inr at) (inr same) =
+      let le : place' ≤ p.place = omega (arith, at.1, same.1) in
+      inr (cut_cmp-equal_left o p.span.upper upper upper' at.0 ∙ same.0, le)

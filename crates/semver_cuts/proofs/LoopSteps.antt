@@ -1,0 +1,30 @@
+-- A step of a loop along a list: the elements that are left, and what follows from a test that is false.
+use Rattle.std.proofs.Common.{◌≡◌, ℕ, ◌+◌, ◌<◌, List, ◌∷◌, Ordering, Less, Equal, Greater, true, false}
+use Rattle.std.proofs.Common.{drop, get_or, length, refl, sym, ap, ◌∙◌}
+use Rattle.std.specs.Ordering.{is_ge, is_lt}
+use mathlib.Core.Bool.{true≢false}
+use Rattle.std.proofs.lemmas.List.{drop_more}
+use Rattle.semver_cuts.specs.declared.cut.Cut.{Cut}
+use Rattle.semver_cuts.specs.Cut.{cut_cmp}
+use Rattle.semver_cuts.specs.Ends.{IsCutBelow}
+
+-- the elements from a place on begin with the element at the place
+pub here : {X : Type 0} (xs : List X) (k : ℕ) (x : X) → k < length xs → x ≡ get_or xs k x
+    → drop k xs ≡ x ∷ drop (k + 1) xs
+here xs k x low at = drop_more xs k x low ∙ ap (λ y. y ∷ drop (k + 1) xs) (sym at)
+
+-- what follows if the test `>=` is false, and if it is true
+less-from_not_ge : (r : Ordering) → is_ge r ≡ false → r ≡ Less
+less-from_not_ge Less e = refl
+less-from_not_ge Equal e = absurd (true≢false e)
+less-from_not_ge Greater e = absurd (true≢false e)
+
+pub not_lt-from_ge : (r : Ordering) → is_ge r ≡ true → is_lt r ≡ false
+not_lt-from_ge Less e = absurd (true≢false (sym e))
+not_lt-from_ge Equal e = refl
+not_lt-from_ge Greater e = refl
+
+module _ {T : Type 0} (cmp : T → T → Ordering) where
+  -- what follows if the test `c >= d` is false
+  pub below-from_not_ge : (c d : Cut T) → is_ge (cut_cmp cmp c d) ≡ false → IsCutBelow cmp c d
+  below-from_not_ge c d e = less-from_not_ge (cut_cmp cmp c d) e

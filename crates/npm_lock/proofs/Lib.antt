@@ -1,1 +1,5 @@
+pub mod Groups
 pub mod LockRows
+pub mod MoreFindings
+pub mod NameLists
+pub mod Reports

@@ -1,7 +1,7 @@
 -- What the definitions say of some lock files.
-use Rattle.std.proofs.Common.{◌≡◌, Bool, true, false, codes, refl, Some, None}
+use Rattle.std.proofs.Common.{◌≡◌, true, false, codes, refl, Some, None}
 use Rattle.serde_json.specs.Data.{Data, Members, boolean, member, no_members, object, string}
-use Rattle.npm_lock.specs.Asked.{AskedValue, asked_of}
+use Rattle.npm_lock.specs.Asked.{asked_of}
 use Rattle.npm_lock.specs.Folders.{is_modules, place_in}
 use Rattle.npm_lock.specs.Packages.{package_at}
 use Rattle.npm_lock.specs.RangeText.{is_tag, range_text}

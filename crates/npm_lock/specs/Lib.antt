@@ -8,4 +8,7 @@ pub mod Asked  -- what a package depends on
 pub mod RangeText  -- which specs are ranges
 pub mod Verdict  -- whether a version is what a spec asks for
 pub mod Outcomes  -- what is wrong with a dependency, and with the version of Node
+pub mod Findings  -- all problems of a lock file in their order, and the counts
 pub mod ProblemJson  -- a problem as a JSON object
+-- ---- not part of any public contract: what private functions compute
+pub mod Private

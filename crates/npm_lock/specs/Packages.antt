@@ -1,7 +1,7 @@
 -- Where the name of a dependency is found: npm's "folders", "Cycles, Conflicts, and Folder Parsimony".
 use Rattle.std.specs.Prelude.{◌≡◌, ◌⊎◌, ℕ, List, [], Bool, true, false, if◌then◌else◌, Option, Some, None, option_map}
 use Rattle.std.specs.Prelude.{option_and_then, unwrap_or, codes}
-use Rattle.serde_json.specs.Data.{Data, null, boolean, number, string, array, object}
+use Rattle.serde_json.specs.Data.{Data}
 use Rattle.serde_json.specs.Find.{as_bool, as_str, get}
 use Rattle.npm_lock.specs.Folders.{IsAbove, is_modules, place_in}
 

@@ -1,6 +1,6 @@
 //! Values that are no lock file.
 ghost use Rattle.std.specs.Prelude.{◌≡◌, IfErr, IfOk, None, Some, codes};
-ghost use Rattle.serde_json.specs.Find.{get};
+ghost use Rattle.serde_json.specs.Find.{as_object, get};
 ghost use Rattle.serde_json.specs.View.{members_view, view};
 ghost use Rattle.npm_lock.specs.Faults as Faults;
 
@@ -34,10 +34,12 @@ pub enum Fault {
     Spec,
 }
 
-/// The member `packages` of a lock file, whose members are looked at too.
-pub(crate) fn packages_of(lock: &Value) -> Result<&Value, Fault>
-    ensures sound { IfOk result (λ packages. (Faults.lock_fault (view lock.now) ≡ None)
-        × (get (codes "packages") (view lock.now) ≡ Some (view packages.now))) }
+/// The member `packages` of a lock file, and its members, which are looked at too.
+pub(crate) fn packages_of(lock: &Value) -> Result<(&Value, &Map<String, Value>), Fault>
+    ensures sound { IfOk result (λ found. Faults.lock_fault (view lock.now) ≡ None) }
+    ensures packages { IfOk result (λ found. get (codes "packages") (view lock.now) ≡ Some (view found.0.now)) }
+    ensures members { IfOk result (λ found. as_object (view found.0.now)
+        ≡ Some (members_view found.1.now.entries)) }
     ensures refused { IfErr result (λ fault. Faults.lock_fault (view lock.now) ≡ Some fault) }
 {
     if !has_format(lock) {
@@ -46,9 +48,12 @@ pub(crate) fn packages_of(lock: &Value) -> Result<&Value, Fault>
     let Some(packages) = lock.get("packages") else {
         return Err(Fault::Packages);
     };
-    match packages_fault(packages) {
+    let Some(members) = packages.as_object() else {
+        return Err(Fault::Packages);
+    };
+    match members_fault(packages, members) {
         Some(fault) => Err(fault),
-        None => Ok(packages),
+        None => Ok((packages, members)),
     }
 }
 
@@ -60,13 +65,10 @@ fn has_format(lock: &Value) -> bool
     matches!(version, Some(2 | 3))
 }
 
-/// The fault of `packages`: that of its first member that has one.
-fn packages_fault(packages: &Value) -> Option<Fault>
-    ensures { result ≡ Faults.packages_fault (view packages.now) }
+/// The fault of the first member of `packages` that has one.
+fn members_fault(packages: &Value, members: &Map<String, Value>) -> Option<Fault>
+    ensures { result ≡ Faults.members_fault (view packages.now) (members_view members.now.entries) }
 {
-    let Some(members) = packages.as_object() else {
-        return Some(Fault::Packages);
-    };
     for (_, member) in members.iter() {
         if let Some(fault) = member_fault(packages, member) {
             return Some(fault);

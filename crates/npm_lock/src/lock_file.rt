@@ -1,10 +1,14 @@
 //! The problems of all packages.
-ghost use Rattle.std.specs.Prelude.{◌≡◌, ◌↔◌, IfOk, IsErrOf, Some, option_map};
+ghost use Rattle.std.specs.Prelude.{◌≡◌, ◌↔◌, List, [], ◌∷◌, IfOk, IsErrOf, OnOk, Some, option_map};
+ghost use Rattle.std.specs.List.{AllZip};
 ghost use Rattle.serde_json.specs.View.{view};
 ghost use Rattle.npm_lock.specs.Faults as Faults;
+ghost use Rattle.npm_lock.specs.Findings.{AreDependencyFindings, AreMemberFindings, Finding, IsChecked};
+ghost use Rattle.npm_lock.specs.Findings.{IsDependencyFinding, IsNodeOutcome};
 ghost use Rattle.npm_lock.specs.declared.fault.Fault.{Fault};
 ghost use Rattle.npm_lock.specs.Outcomes as Outcomes;
 ghost use Rattle.npm_lock.specs.Outcomes.{IsEngineOutcome, problem_value};
+ghost use Rattle.npm_lock.specs.Private.Adding.{Adds, asked_names};
 
 use crate::asked::asked_of;
 use crate::error::CheckError;
@@ -27,15 +31,14 @@ use std::alloc::{AllocError, Global};
 /// - `Refused`: the value is no lock file of version 2 or 3, or a member that counts has the wrong type.
 /// - `Memory`: an allocation failed.
 pub fn check(alloc: Global, lock: &Value, node: Option<&Version>) -> Result<Problems, CheckError>
+    ensures found { IfOk result (IsChecked (view lock.now) (option_map (λ version. version.now) node.entry)) }
     ensures refused { (fault : Fault) → IsErrOf result (CheckError.Refused fault)
         ↔ (Faults.lock_fault (view lock.now) ≡ Some fault) }
 {
-    let packages = packages_of(lock)?;
+    let (packages, members) = packages_of(lock)?;
     let mut problems = Problems::new(alloc);
-    if let Some(members) = packages.as_object() {
-        for (folder, asker) in members.iter() {
-            check_member(alloc, packages, folder.as_str(), asker, node, &mut problems)?;
-        }
+    for (folder, asker) in members.iter() {
+        check_member(alloc, packages, folder.as_str(), asker, node, &mut problems)?;
     }
     Ok(problems)
 }
@@ -48,7 +51,12 @@ fn check_member(
     asker: &Value,
     node: Option<&Version>,
     problems: &mut Problems,
-) -> Result<(), AllocError> {
+) -> Result<(), AllocError>
+    ensures { OnOk result ((found : List Finding)
+        × AreMemberFindings (view packages.now) (option_map (λ version. version.now) node.entry) folder.now
+        (view asker.now) found
+        × Adds problems.old problems.new found) }
+{
     if is_link(asker) {
         return Ok(());
     }
@@ -64,16 +72,47 @@ fn check_dependencies(
     folder: &str,
     asker: &Value,
     problems: &mut Problems,
-) -> Result<(), AllocError> {
+) -> Result<(), AllocError>
+    ensures { OnOk result ((found : List Finding)
+        × AreDependencyFindings (view packages.now) folder.now (view asker.now) found
+        × Adds problems.old problems.new found) }
+{
     let is_installed = is_installed(folder);
     let names = names_of(alloc, asker)?;
     for name in names.iter() {
-        if let Some(asked) = asked_of(asker, is_installed, name.as_str()) {
-            let outcome = outcome_of(alloc, packages, folder, is_installed, name.as_str(), asked)?;
-            problems.add_dependency(outcome)?;
-        }
+        check_name(
+            alloc,
+            packages,
+            folder,
+            is_installed,
+            asker,
+            name.as_str(),
+            problems,
+        )?;
     }
     Ok(())
+}
+
+/// Adds the problem of a package's dependency on a name, if it depends on it.
+fn check_name(
+    alloc: Global,
+    packages: &Value,
+    folder: &str,
+    is_installed: bool,
+    asker: &Value,
+    name: &str,
+    problems: &mut Problems,
+) -> Result<(), AllocError>
+    ensures { OnOk result ((found : List Finding)
+        × AllZip (IsDependencyFinding (view packages.now) folder.now (view asker.now) is_installed)
+        (asked_names (view asker.now) is_installed (name.now ∷ [])) found
+        × Adds problems.old problems.new found) }
+{
+    let Some(asked) = asked_of(asker, is_installed, name) else {
+        return Ok(());
+    };
+    let outcome = outcome_of(alloc, packages, folder, is_installed, name, asked)?;
+    problems.add_dependency(outcome)
 }
 
 /// The problem of a package with the version of Node, if one is given.
@@ -82,7 +121,10 @@ fn node_problem(
     folder: &str,
     asker: &Value,
     node: Option<&Version>,
-) -> Result<Option<Problem>, AllocError> {
+) -> Result<Option<Problem>, AllocError>
+    ensures { IfOk result (λ problem. IsNodeOutcome (option_map (λ version. version.now) node.entry) folder.now
+        (view asker.now) (option_map problem_value problem)) }
+{
     match node {
         Some(version) => engine_problem(alloc, folder, asker, version),
         None => Ok(None),

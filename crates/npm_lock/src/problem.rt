@@ -1,8 +1,10 @@
 //! What is wrong with an installed package, and its JSON object.
-ghost use Rattle.std.specs.Prelude.{◌≡◌, IfOk, OnOk};
+ghost use Rattle.std.specs.Prelude.{◌≡◌, [], ◌∷◌, ◌++◌, IfOk, OnOk, map, option_map, option_to_list};
 ghost use Rattle.serde_json.specs.Data.{put as with_member, string};
 ghost use Rattle.serde_json.specs.View.{members_view, view};
+ghost use Rattle.npm_lock.specs.Findings.{IsReport, of_dependency, of_package};
 ghost use Rattle.npm_lock.specs.Outcomes.{problem_value};
+ghost use Rattle.npm_lock.specs.Private.Adding.{Adds};
 ghost use Rattle.npm_lock.specs.ProblemJson.{kind_text, problem_data};
 
 use crate::outcome::Outcome;
@@ -100,7 +102,9 @@ pub struct Problems {
 }
 
 impl Problems {
-    pub(crate) fn new(alloc: Global) -> Problems {
+    pub(crate) fn new(alloc: Global) -> Problems
+        ensures { IsReport [] result }
+    {
         Problems {
             list: Vec::new(alloc),
             packages: 0,
@@ -110,27 +114,38 @@ impl Problems {
     }
 
     /// Adds a package, and its problem with the version of Node.
-    pub(crate) fn add_package(&mut self, problem: Option<Problem>) -> Result<(), AllocError> {
+    pub(crate) fn add_package(&mut self, problem: Option<Problem>) -> Result<(), AllocError>
+        ensures { OnOk result (Adds self.old self.new (of_package (option_map problem_value problem) ∷ [])) }
+    {
         self.packages = self.packages.saturating_add(1);
-        if let Some(problem) = problem {
-            self.list.push(problem)?;
-        }
-        Ok(())
+        self.push(problem)
     }
 
-    /// Adds what is said of one dependency.
-    pub(crate) fn add_dependency(&mut self, outcome: Outcome) -> Result<(), AllocError> {
+    /// Adds what is found out about one dependency.
+    pub(crate) fn add_dependency(&mut self, outcome: Outcome) -> Result<(), AllocError>
+        ensures { OnOk result (Adds self.old self.new
+            (of_dependency (option_map problem_value outcome.problem) outcome.is_unchecked ∷ [])) }
+    {
         let Outcome {
             problem,
             is_unchecked,
         } = outcome;
         self.dependencies = self.dependencies.saturating_add(1);
-        if is_unchecked {
-            self.unchecked = self.unchecked.saturating_add(1);
+        self.unchecked = self.unchecked.saturating_add(usize::from(is_unchecked));
+        self.push(problem)
+    }
+
+    /// Adds a problem to the list, if there is one.
+    fn push(&mut self, problem: Option<Problem>) -> Result<(), AllocError>
+        ensures list { OnOk result (map problem_value self.new.list.items
+            ≡ map problem_value self.old.list.items ++ option_to_list (option_map problem_value problem)) }
+        ensures packages { self.new.packages ≡ self.old.packages }
+        ensures dependencies { self.new.dependencies ≡ self.old.dependencies }
+        ensures unchecked { self.new.unchecked ≡ self.old.unchecked }
+    {
+        match problem {
+            Some(problem) => Ok(self.list.push(problem)?),
+            None => Ok(()),
         }
-        if let Some(problem) = problem {
-            self.list.push(problem)?;
-        }
-        Ok(())
     }
 }

@@ -1,6 +1,6 @@
 -- The last `/` ends the folder above.
-use Rattle.std.proofs.Common.{◌≡◌, ◌≢◌, ◌<◌, ◌+◌, ℕ, List, [], ◌∷◌, ◌++◌, length, get_or, take, drop, suc, codes}
-use Rattle.std.proofs.Common.{arith, inl, inr, refl, sym, ap, ◌∙◌, length-drop, drop-cons, add-one, rules}
+use Rattle.std.proofs.Common.{◌≡◌, ◌≢◌, ◌<◌, ◌+◌, ℕ, List, [], ◌++◌, length, get_or, take, drop, codes}
+use Rattle.std.proofs.Common.{arith, inl, inr, refl, sym, ◌∙◌, length-drop, drop-cons, add-one, rules}
 use native.Mathlib.Numerals.{unary_clauses}
 use Rattle.std.proofs.lemmas.List.{get_or-drop, take-append-drop}
 use Rattle.std.proofs.lemmas.Str.Pattern.{rfind_char}

@@ -1,4 +1,4 @@
-use Rattle.std.proofs.Common.{◌≡◌, ◌∙◌, true, ap, option_map, sym, rules}
+use Rattle.std.proofs.Common.{◌≡◌, ◌∙◌, true, ap, option_map, sym}
 use Rattle.npm_lock.specs.Outcomes.{admitted, engine, unsaid}
 use Rattle.npm_lock.specs.Verdict.{IsAdmittedBy}
 use Rattle.npm_lock.proofs.lock_file.engine_problem.Goals as goal

@@ -1,4 +1,4 @@
-use Rattle.std.proofs.Common.{◌≡◌, Bool, true, false, None, refl, rules, subst}
+use Rattle.std.proofs.Common.{◌≡◌, Bool, true, false, refl, rules, subst}
 use Rattle.serde_json.specs.View.{view}
 use Rattle.npm_lock.specs.Packages.{IsPassed, above, here, nowhere}
 use Rattle.npm_lock.proofs.place.find.Goals as goal

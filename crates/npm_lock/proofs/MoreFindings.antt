@@ -1,0 +1,70 @@
+-- What is found out about one name and one package, as the contracts say it.
+use Rattle.std.proofs.Common.{◌≡◌, ℕ, List, [], ◌∷◌, Bool, false, Option, Some, refl, ap, ◌∙◌}
+use Rattle.std.proofs.Common.{String, Global, codes, string_cmp}
+use Rattle.std.specs.List.{AllZip}
+use Rattle.std.specs.List.Sorted.{IsStrictlySortedBy}
+use Rattle.std.specs.Map.{keys_of as tree_keys}
+use Rattle.serde_json.specs.Data.{Data, object}
+use Rattle.serde_json.specs.Find.{as_object, get}
+use Rattle.serde_json.specs.View.{members_view}
+use Rattle.serde_json.specs.declared.value.Value.{Value}
+use Rattle.semver_sets.specs.Version.{VersionValue}
+use Rattle.npm_lock.specs.Asked.{AskedValue, asked_of}
+use Rattle.npm_lock.specs.Findings.{AreDependencyFindings, AreMemberFindings, Finding, IsDependencyFinding}
+use Rattle.npm_lock.specs.Findings.{AreFindings, IsChecked, IsReport}
+use Rattle.npm_lock.specs.Findings.{IsNodeOutcome, dependency, of_dependency, of_package}
+use Rattle.npm_lock.specs.Outcomes.{IsOutcome, ProblemValue}
+use Rattle.npm_lock.specs.Packages.{is_link}
+use Rattle.npm_lock.specs.Private.Adding.{Adds, asked_names}
+use Rattle.npm_lock.specs.declared.problem.Problems.{Problems}
+use Rattle.npm_lock.proofs.Groups.{is_object_of}
+use Rattle.npm_lock.proofs.NameLists.{sorted_keys}
+use Rattle.npm_lock.proofs.Reports.{adds_both}
+
+pub name_found : (packages : Data) (folder : List ℕ) (asker : Data) (is_installed : Bool) (name : List ℕ)
+    (old new : Problems) (asked : AskedValue) (problem : Option ProblemValue) (is_unchecked : Bool)
+    → asked_of asker is_installed name ≡ Some asked
+    → IsOutcome packages folder is_installed name asked problem is_unchecked
+    → Adds old new (of_dependency problem is_unchecked ∷ [])
+    → (found : List Finding)
+    × AllZip (IsDependencyFinding packages folder asker is_installed) (asked_names asker is_installed (name ∷ [])) found
+    × Adds old new found
+name_found packages folder asker is_installed name old new asked problem is_unchecked asks outcome adds =
+    rw asks (
+      of_dependency problem is_unchecked ∷ [],
+      (dependency asked problem is_unchecked asks outcome, tt),
+      adds,
+    )
+
+pub member_found : (packages : Data) (version : Option VersionValue) (folder : List ℕ) (asker : Data)
+    (old between new : Problems) (problem : Option ProblemValue) → is_link asker ≡ false
+    → IsNodeOutcome version folder asker problem → Adds old between (of_package problem ∷ [])
+    → (found : List Finding) × AreDependencyFindings packages folder asker found × Adds between new found
+    → (found : List Finding) × AreMemberFindings packages version folder asker found × Adds old new found
+member_found packages version folder asker old between new problem no_link of_node first rest = (
+  of_package problem ∷ rest.0,
+  rw no_link (record {
+    problem = problem;
+    dependencies = rest.0;
+    of_node = of_node;
+    of_dependencies = rest.1;
+    whole = refl;
+  }),
+  adds_both old between new (of_package problem ∷ []) rest.0 first rest.2,
+)
+
+pub checked_by : (lock packages : Data) (entries : List (String Global × Value)) (version : Option VersionValue)
+    (problems : Problems) → get (codes "packages") lock ≡ Some packages
+    → as_object packages ≡ Some (members_view entries) → IsStrictlySortedBy string_cmp (tree_keys entries)
+    → (found : List Finding) × AreFindings packages version (members_view entries) found × IsReport found problems
+    → IsChecked lock version problems
+checked_by lock packages entries version problems at_packages is_object sorted all =
+    let same : packages ≡ object (members_view entries) = is_object_of packages (members_view entries) is_object in
+    record {
+      members = members_view entries;
+      packages = at_packages ∙ ap Some same;
+      ascending = sorted_keys entries sorted;
+      found = all.0;
+      findings = rw same at all.1;
+      report = all.2;
+    }

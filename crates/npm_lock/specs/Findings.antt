@@ -1,0 +1,118 @@
+-- Which problems a lock file has, in which order, and what is counted: npm's "npm ls" and "package-lock.json", "packages".
+use Rattle.std.specs.Prelude.{◌≡◌, ◌↔◌, ◌-◌, ◌^◌, ℕ, List, [], ◌∷◌, ◌++◌, Bool, true, false, IsTrue, min, Option, Some, None}
+use Rattle.std.specs.Prelude.{IsSome, codes, map, count_by}
+use Rattle.std.specs.Bool.{MatchBool}
+use Rattle.std.specs.Cmp.Lexicographic.{slice_cmp}
+use Rattle.std.specs.List.{AllZip, Contains, filter_map}
+use Rattle.std.specs.List.Sorted.{IsStrictlySortedBy}
+use Rattle.std.specs.Ordering.{nat_cmp}
+use Rattle.serde_json.specs.Data.{Data, Members, member, no_members, object}
+use Rattle.serde_json.specs.Find.{get}
+use Rattle.semver_sets.specs.Version.{VersionValue}
+use Rattle.npm_lock.specs.Asked.{AskedValue, asked_of}
+use Rattle.npm_lock.specs.Folders.{IsInstalled}
+use Rattle.npm_lock.specs.Outcomes.{IsEngineOutcome, IsOutcome, ProblemValue, problem_value}
+use Rattle.npm_lock.specs.Packages.{is_link}
+use Rattle.npm_lock.specs.declared.problem.Problems.{Problems}
+
+-- what is found out about a package, and about a dependency
+pub data Finding : Type 0 where
+  of_package : (problem : Option ProblemValue) → Finding
+  of_dependency : (problem : Option ProblemValue) → (is_unchecked : Bool) → Finding
+
+-- ---- a dependency, and all of one package
+
+-- what is found out about the dependency of the package in this folder on a name
+pub data IsDependencyFinding (packages : Data) (folder : List ℕ) (asker : Data) (is_installed : Bool) (name : List ℕ)
+    : Finding → Type 0 where
+  dependency : (asked : AskedValue) (problem : Option ProblemValue) (is_unchecked : Bool)
+      → asked_of asker is_installed name ≡ Some asked
+      → IsOutcome packages folder is_installed name asked problem is_unchecked
+      → IsDependencyFinding packages folder asker is_installed name (of_dependency problem is_unchecked)
+
+-- the names that a package depends on: each once, in the order of their bytes
+pub record AreNames (asker : Data) (is_installed : Bool) (names : List (List ℕ)) : Type 0 where
+  pub ascending : IsStrictlySortedBy (slice_cmp nat_cmp) names
+  pub all : (name : List ℕ) → Contains names name ↔ IsSome (asked_of asker is_installed name)
+
+-- what is found out about the dependencies of the package in this folder: one finding for each name, in their order
+pub record AreDependencyFindings (packages : Data) (folder : List ℕ) (asker : Data) (found : List Finding) : Type 0 where
+  pub is_installed : Bool
+  pub installed : IsTrue is_installed ↔ IsInstalled folder
+  pub names : List (List ℕ)
+  pub are_names : AreNames asker is_installed names
+  pub each : AllZip (IsDependencyFinding packages folder asker is_installed) names found
+
+-- ---- a package, and all of them
+
+-- the problem with the version of Node, if one is given
+abbrev pub IsNodeOutcome : (node : Option VersionValue) → (folder : List ℕ) → (asker : Data) → Option ProblemValue → Type 0
+IsNodeOutcome None folder asker problem = problem ≡ None
+IsNodeOutcome (Some node) folder asker problem = IsEngineOutcome node folder asker problem
+
+-- of a package first the version of Node, and then its dependencies
+pub record ArePackageFindings (packages : Data) (node : Option VersionValue) (folder : List ℕ) (asker : Data)
+    (found : List Finding) : Type 0 where
+  pub problem : Option ProblemValue
+  pub dependencies : List Finding
+  pub of_node : IsNodeOutcome node folder asker problem
+  pub of_dependencies : AreDependencyFindings packages folder asker dependencies
+  pub whole : found ≡ of_package problem ∷ dependencies
+
+-- a link is no package, and nothing is found out about it
+abbrev pub AreMemberFindings : (packages : Data) → (node : Option VersionValue) → (folder : List ℕ) → (entry : Data)
+    → (found : List Finding) → Type 0
+AreMemberFindings packages version folder entry found =
+    MatchBool (is_link entry) (found ≡ []) (ArePackageFindings packages version folder entry found)
+
+-- the findings of one member after another
+abbrev pub AreFindings : (packages : Data) → (node : Option VersionValue) → Members → (found : List Finding) → Type 0
+AreFindings packages version no_members found = found ≡ []
+AreFindings packages version (member folder entry others) found = (here : List Finding) × (later : List Finding)
+    × AreMemberFindings packages version folder entry here × AreFindings packages version others later
+    × (found ≡ here ++ later)
+
+-- the keys of an object
+abbrev pub keys_of : Members → List (List ℕ)
+keys_of no_members = []
+keys_of (member key value others) = key ∷ keys_of others
+
+-- ---- the list of problems, and the counts
+
+abbrev pub problem_of : Finding → Option ProblemValue
+problem_of (of_package problem) = problem
+problem_of (of_dependency problem is_unchecked) = problem
+
+abbrev pub is_package : Finding → Bool
+is_package (of_package problem) = true
+is_package (of_dependency problem is_unchecked) = false
+
+abbrev pub is_dependency : Finding → Bool
+is_dependency (of_package problem) = false
+is_dependency (of_dependency problem is_unchecked) = true
+
+abbrev pub is_unchecked_finding : Finding → Bool
+is_unchecked_finding (of_package problem) = false
+is_unchecked_finding (of_dependency problem is_unchecked) = is_unchecked
+
+-- a count in 64 bits, which stops at their greatest number
+abbrev pub counted : ℕ → ℕ
+counted n = min n (2 ^ 64 - 1)
+
+-- the problems and counts of these findings
+pub record IsReport (found : List Finding) (problems : Problems) : Type 0 where
+  pub list : map problem_value problems.list.items ≡ filter_map problem_of found
+  pub packages : problems.packages ≡ counted (count_by is_package found)
+  pub dependencies : problems.dependencies ≡ counted (count_by is_dependency found)
+  pub unchecked : problems.unchecked ≡ counted (count_by is_unchecked_finding found)
+
+-- ---- a lock file
+
+-- the problems and counts of a lock file, whose `packages` are in the order of their folders' bytes
+pub record IsChecked (lock : Data) (node : Option VersionValue) (problems : Problems) : Type 0 where
+  pub members : Members
+  pub packages : get (codes "packages") lock ≡ Some (object members)
+  pub ascending : IsStrictlySortedBy (slice_cmp nat_cmp) (keys_of members)
+  pub found : List Finding
+  pub findings : AreFindings (object members) node members found
+  pub report : IsReport found problems

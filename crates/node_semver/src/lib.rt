@@ -50,6 +50,8 @@ pub use comparisons::Comparisons;
 pub use error::{SemverError, SemverErrorKind, SourceSpan};
 pub use json::JsonError;
 pub use range::{Range, max_satisfying, min_satisfying};
+pub use semver_sets::set::AsVersion;
 pub use semver_sets::{Identifier, MAX_LENGTH, MAX_SAFE_INTEGER};
 pub use tree::SetTree;
 pub use version::Version;
+pub use version::as_version::OrderedVersion;

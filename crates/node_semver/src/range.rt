@@ -16,7 +16,7 @@ mod print;
 mod read;
 mod sets;
 
-use crate::{Comparisons, SemverError, Version};
+use crate::{AsVersion, Comparisons, SemverError, Version};
 pub use equality::ranges_are_equal_where_their_cuts_are;
 pub use greatest::{max_satisfying, min_satisfying};
 use read::{FullLead, caret_range, exact_range, read_full, read_range, tilde_range};
@@ -151,6 +151,8 @@ impl Range {
     /// A version satisfies the range if it lies inside one of its sets and, if it is a prerelease, an end of that set
     /// is a prerelease of the same triple. So `1.0.1-0` and `1.0.0` satisfy `<1.0.1-beta`, and `1.0.0-a` does not.
     ///
+    /// The version can be of any type with the trait [`AsVersion`].
+    ///
     /// # Memory
     ///
     /// Does not allocate.
@@ -163,8 +165,8 @@ impl Range {
     /// # Source
     ///
     /// npm's `semver`, "Prerelease Tags".
-    pub fn satisfies(&self, version: &Version) -> bool
-        ensures { IsTrue result ↔ RangeAdmits self.now version.now }
+    pub fn satisfies<V: AsVersion>(&self, version: &V) -> bool
+        ensures { IsTrue result ↔ RangeAdmits self.now (V.seen version.now) }
     {
         self.satisfies_counted(version, &mut Comparisons::new())
     }
@@ -187,9 +189,13 @@ impl Range {
     /// The sets of `1 || 3 || 5` have three merged spans, so a release takes at most three comparisons. The sets of
     /// `1 || 1.5 - 3 || 2` have one, `>=1.0.0 <4.0.0-0`, so a release takes at most two.
     #[inline]
-    pub fn satisfies_counted(&self, version: &Version, comparisons: &mut Comparisons) -> bool
-        ensures answer { IsTrue result ↔ RangeAdmits self.now version.now }
-        ensures short { IsShortSearch self.now version.now comparisons.old comparisons.new }
+    pub fn satisfies_counted<V: AsVersion>(
+        &self,
+        version: &V,
+        comparisons: &mut Comparisons,
+    ) -> bool
+        ensures answer { IsTrue result ↔ RangeAdmits self.now (V.seen version.now) }
+        ensures short { IsShortSearch self.now (V.seen version.now) comparisons.old comparisons.new }
     {
         self.sets.admits(version, comparisons)
     }

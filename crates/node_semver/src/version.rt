@@ -1,7 +1,7 @@
 ghost use Rattle.std.specs.Prelude.{◌≡◌, ◌↔◌, IfOk, IsTrue};
 ghost use Rattle.semver_sets.specs.Version.{IsPrerelease, release, with_pre_release};
 
-mod asked;
+pub(crate) mod as_version;
 mod copy;
 pub(crate) mod display;
 mod hash;

@@ -4,17 +4,17 @@
 //! See docs/DECISIONS.md, "Most ends and most ranges need no memory".
 ghost use Rattle.std.specs.Prelude.{◌≡◌, ◌↔◌, IfOk, IsTrue};
 ghost use Rattle.semver_sets.specs.Identifier.{values_of};
-ghost use Rattle.semver_sets.specs.Private.EndViews.{lent_seen};
+ghost use Rattle.semver_sets.specs.Private.EndViews.{borrowed_seen};
 ghost use Rattle.semver_sets.specs.Version as Versions;
 ghost use Rattle.semver_sets.specs.Version.{HasSameTriple, IsPrerelease};
 
+mod borrowed;
 mod copy;
 mod hash;
-mod lent;
 mod order;
 
 use crate::Identifier;
-pub use lent::{Lent, Zero};
+pub use borrowed::{BorrowedIdentifiers, Zero};
 use std::alloc::{AllocError, Global};
 use std::marker::Model;
 
@@ -170,13 +170,13 @@ impl End {
 
     /// Returns the identifiers of the prerelease, without allocating.
     #[inline]
-    pub fn pre_release(&self) -> Lent<'_>
-        ensures { lent_seen result ≡ self.now.pre_release }
+    pub fn pre_release(&self) -> BorrowedIdentifiers<'_>
+        ensures { borrowed_seen result ≡ self.now.pre_release }
     {
         match &self.extras {
-            Extras::Nothing => Lent::List(&[]),
-            Extras::Zero => Lent::Zero,
-            Extras::Lists(lists) => Lent::List(&lists.pre_release),
+            Extras::Nothing => BorrowedIdentifiers::List(&[]),
+            Extras::Zero => BorrowedIdentifiers::Zero,
+            Extras::Lists(lists) => BorrowedIdentifiers::List(&lists.pre_release),
         }
     }
 

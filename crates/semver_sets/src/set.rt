@@ -3,7 +3,7 @@
 //! `#[inline(always)]`: the functions here are the steps of a search, and most versions are releases, for which only
 //! triples are compared.
 //!
-//! See docs/DECISIONS.md, "Candidates are searched like versions".
+//! See docs/DECISIONS.md, "All kinds of versions are searched alike".
 ghost use Rattle.std.specs.Prelude.{◌≡◌, ◌≤◌, ◌+◌, ◌↔◌, IsTrue};
 ghost use Rattle.semver_cuts.specs.declared.cut.Cut.TheVariants.{Before, Start};
 ghost use Rattle.semver_cuts.specs.Ends.{IsCutAtMost};
@@ -17,25 +17,30 @@ use crate::end::End;
 use semver_cuts::{Cut, Span};
 use std::cmp::Ordering;
 
-/// A version that can be checked against sets: a `Version`, or a candidate for which no memory has been allocated.
+/// A value that is seen as a version, so that ranges can be asked about it.
 ///
-/// A contract sees it as a version value, `asked`.
-pub trait Asked {
-    ghost asked: { Self → VersionValue };
+/// `Version`, `VersionRef` and the candidates of `least_beyond` have this trait. A contract sees the value as a version
+/// value, `seen`. Values that are seen as the same version satisfy the same ranges.
+///
+/// # Memory
+///
+/// No function allocates.
+pub trait AsVersion {
+    ghost seen: { Self → VersionValue };
 
     /// Returns `true` if the version has a prerelease.
     fn is_prerelease(&self) -> bool
-        ensures { IsTrue result ↔ IsPrerelease (asked self.now) };
+        ensures { IsTrue result ↔ IsPrerelease (seen self.now) };
 
-    /// Returns its major, minor and patch.
+    /// Returns the major, minor and patch.
     fn triple(&self) -> (u64, u64, u64)
-        ensures major { result.0 ≡ (asked self.now).major }
-        ensures minor { result.1 ≡ (asked self.now).minor }
-        ensures patch { result.2 ≡ (asked self.now).patch };
+        ensures major { result.0 ≡ (seen self.now).major }
+        ensures minor { result.1 ≡ (seen self.now).minor }
+        ensures patch { result.2 ≡ (seen self.now).patch };
 
     /// Returns the order of what follows the triple in `end` and in the version, for an `end` with the same triple.
     fn cmp_extras(&self, end: &End) -> Ordering
-        ensures { result ≡ prerelease_cmp end.now.pre_release (asked self.now).pre_release };
+        ensures { result ≡ prerelease_cmp end.now.pre_release (seen self.now).pre_release };
 }
 
 /// Returns `true` if the set admits the version, and adds the comparisons that this takes to `comparisons`.
@@ -43,12 +48,12 @@ pub trait Asked {
 /// A release is admitted if it lies inside the set. A prerelease also needs an end that is a prerelease of its triple.
 /// If there is none, it is not compared at all.
 #[inline(always)]
-pub fn admits<V: Asked, C: Counts>(set: &Span<End>, version: &V, comparisons: &mut C) -> bool
-    ensures answer { IsTrue result ↔ SetAdmits set.now (V.asked version.now) }
+pub fn admits<V: AsVersion, C: Counts>(set: &Span<End>, version: &V, comparisons: &mut C) -> bool
+    ensures answer { IsTrue result ↔ SetAdmits set.now (V.seen version.now) }
     ensures adds { C.count comparisons.old ≤ C.count comparisons.new }
     ensures short { C.count comparisons.new ≤ C.count comparisons.old + 2 }
     ensures admitted { IsTrue result → C.count comparisons.old + 2 ≤ C.count comparisons.new }
-    ensures unopened { IsPrerelease (V.asked version.now) → ¬ HasOpenEnd (V.asked version.now) set.now
+    ensures unopened { IsPrerelease (V.seen version.now) → ¬ HasOpenEnd (V.seen version.now) set.now
         → C.count comparisons.new ≡ C.count comparisons.old }
 {
     if version.is_prerelease() {
@@ -60,41 +65,46 @@ pub fn admits<V: Asked, C: Counts>(set: &Span<End>, version: &V, comparisons: &m
 
 // The same for a prerelease. `inline(never)`: releases are checked most often.
 #[inline(never)]
-fn admits_prerelease<V: Asked, C: Counts>(set: &Span<End>, version: &V, comparisons: &mut C) -> bool
-    requires { IsPrerelease (V.asked version.now) }
-    ensures answer { IsTrue result ↔ SetAdmits set.now (V.asked version.now) }
+fn admits_prerelease<V: AsVersion, C: Counts>(
+    set: &Span<End>,
+    version: &V,
+    comparisons: &mut C,
+) -> bool
+    requires { IsPrerelease (V.seen version.now) }
+    ensures answer { IsTrue result ↔ SetAdmits set.now (V.seen version.now) }
     ensures adds { C.count comparisons.old ≤ C.count comparisons.new }
     ensures short { C.count comparisons.new ≤ C.count comparisons.old + 2 }
     ensures admitted { IsTrue result → C.count comparisons.old + 2 ≤ C.count comparisons.new }
-    ensures unopened { ¬ HasOpenEnd (V.asked version.now) set.now → C.count comparisons.new ≡ C.count comparisons.old }
+    ensures unopened { ¬ HasOpenEnd (V.seen version.now) set.now → C.count comparisons.new ≡ C.count comparisons.old }
 {
     has_open_end(set, version) && has_inside(set, version, comparisons)
 }
 
 // Returns `true` if the version lies inside the set.
 #[inline(always)]
-pub(crate) fn has_inside<V: Asked, C: Counts>(
+pub(crate) fn has_inside<V: AsVersion, C: Counts>(
     set: &Span<End>,
     version: &V,
     comparisons: &mut C,
 ) -> bool
-    ensures inside { IsTrue result ↔ IsInside (V.asked version.now) set.now }
+    ensures inside { IsTrue result ↔ IsInside (V.seen version.now) set.now }
     ensures adds { C.count comparisons.old ≤ C.count comparisons.new }
     ensures short { C.count comparisons.new ≤ C.count comparisons.old + 2 }
     ensures admitted { IsTrue result → C.count comparisons.old + 2 ≤ C.count comparisons.new }
 {
-    is_begun(set.lower(), version, comparisons) && !is_begun(set.upper(), version, comparisons)
+    is_at_or_before(set.lower(), version, comparisons)
+        && !is_at_or_before(set.upper(), version, comparisons)
 }
 
 // Returns `true` if the cut is less than the one just before the version, or equal to it. This is the only function
 // that compares a version with a cut, and it counts the comparison.
 #[inline(always)]
-pub(crate) fn is_begun<V: Asked, C: Counts>(
+pub(crate) fn is_at_or_before<V: AsVersion, C: Counts>(
     cut: &Cut<End>,
     version: &V,
     comparisons: &mut C,
 ) -> bool
-    ensures begun { IsTrue result ↔ IsCutAtMost version_cmp cut.now (Before (V.asked version.now)) }
+    ensures order { IsTrue result ↔ IsCutAtMost version_cmp cut.now (Before (V.seen version.now)) }
     ensures counted { C.count comparisons.new ≡ C.count comparisons.old + 1 }
 {
     comparisons.add_one();
@@ -104,8 +114,8 @@ pub(crate) fn is_begun<V: Asked, C: Counts>(
 // The same without the count. Most cuts are at an end whose triple differs from the version's, so only triples are
 // compared.
 #[inline(always)]
-fn is_at_most<V: Asked>(cut: &Cut<End>, version: &V) -> bool
-    ensures { IsTrue result ↔ IsCutAtMost version_cmp cut.now (Before (V.asked version.now)) }
+fn is_at_most<V: AsVersion>(cut: &Cut<End>, version: &V) -> bool
+    ensures { IsTrue result ↔ IsCutAtMost version_cmp cut.now (Before (V.seen version.now)) }
 {
     match cut {
         Cut::Before(end) | Cut::After(end) => {
@@ -127,9 +137,9 @@ fn is_at_most<V: Asked>(cut: &Cut<End>, version: &V) -> bool
 
 // The same for a cut at an end with the version's triple.
 #[inline(always)]
-fn is_at_most_in_triple<V: Asked>(cut: &Cut<End>, version: &V) -> bool
-    requires { IsAtTriple cut.now (V.asked version.now) }
-    ensures { IsTrue result ↔ IsCutAtMost version_cmp cut.now (Before (V.asked version.now)) }
+fn is_at_most_in_triple<V: AsVersion>(cut: &Cut<End>, version: &V) -> bool
+    requires { IsAtTriple cut.now (V.seen version.now) }
+    ensures { IsTrue result ↔ IsCutAtMost version_cmp cut.now (Before (V.seen version.now)) }
 {
     match cut {
         Cut::Before(end) => version.cmp_extras(end).is_le(),
@@ -150,8 +160,8 @@ fn is_start(cut: &Cut<End>) -> bool
 
 // Returns `true` if an end of the set is a prerelease of the version's triple.
 #[inline(always)]
-fn has_open_end<V: Asked>(set: &Span<End>, version: &V) -> bool
-    ensures { IsTrue result ↔ HasOpenEnd (V.asked version.now) set.now }
+fn has_open_end<V: AsVersion>(set: &Span<End>, version: &V) -> bool
+    ensures { IsTrue result ↔ HasOpenEnd (V.seen version.now) set.now }
 {
     let triple = version.triple();
     opens(set.lower(), triple) || opens(set.upper(), triple)

@@ -18,7 +18,7 @@ mod union;
 
 use crate::Counts;
 use crate::end::End;
-use crate::set::{Asked, admits};
+use crate::set::{AsVersion, admits};
 use crate::set_list::searched::Searched;
 use semver_cuts::Span;
 use semver_cuts::algebra::MergedSpans;
@@ -81,9 +81,9 @@ impl Sets {
 
     /// Returns `true` if one of the sets admits the version, and adds the comparisons that this takes to `comparisons`.
     #[inline(always)]
-    pub fn admits<V: Asked, C: Counts>(&self, version: &V, comparisons: &mut C) -> bool
-        ensures answer { IsTrue result ↔ RangeAdmits (sets_seen self.now) (V.asked version.now) }
-        ensures short { IsShortSearch (sets_seen self.now) (V.asked version.now) (C.count comparisons.old)
+    pub fn admits<V: AsVersion, C: Counts>(&self, version: &V, comparisons: &mut C) -> bool
+        ensures answer { IsTrue result ↔ RangeAdmits (sets_seen self.now) (V.seen version.now) }
+        ensures short { IsShortSearch (sets_seen self.now) (V.seen version.now) (C.count comparisons.old)
             (C.count comparisons.new) }
     {
         match self {

@@ -1,7 +1,8 @@
 -- The best version of a list that a range admits, as one version more is looked at: the greatest, or the least.
 use Rattle.std.proofs.Common.{◌≡◌, ◌↔◌, ◌+◌, ◌<◌, ◌∙◌, ℕ, List, [], ◌∷◌, ◌++◌, Option, Some, None, IfSome, IsNone}
-use Rattle.std.proofs.Common.{Bool, true, false, length, get_or, take, refl, sym, ap, subst, inl, inr, Less, append_assoc}
-use Rattle.std.proofs.lemmas.List.{take_more}
+use Rattle.std.proofs.Common.{Bool, true, false, length, get_or, map, take, refl, sym, ap, subst, inl, inr, Less}
+use Rattle.std.proofs.Common.{append_assoc}
+use Rattle.std.proofs.lemmas.List.{map-append, take_more}
 use Rattle.std.specs.Cmp.{alike_right}
 use Rattle.std.specs.Option.{option_map}
 use Rattle.semver_cuts.specs.Ends.{Ends}
@@ -117,13 +118,16 @@ module _ (order : Order) (is : IsOrder order) (sets : List (Ends VersionValue)) 
       subst (IsBestOrNone order sets (done ++ v ∷ [])) (sym kept) (keep-best done best v first not)
 
   -- as a loop goes over the versions
-  pub taken-best : (versions : List VersionValue) (k : ℕ) (v : VersionValue) (best found : Option VersionValue)
-      → k < length versions → v ≡ get_or versions k v → IsBestOrNone order sets (take k versions) best
-      → IsBetterOf order sets best v found → IsBestOrNone order sets (take (k + 1) versions) found
-  taken-best versions k v best found lt at first better =
-      subst (λ (l : List VersionValue). IsBestOrNone order sets l found)
-      (sym (take_more versions k v lt ∙ ap (λ (w : VersionValue). take k versions ++ w ∷ []) (sym at)))
-      (more-best (take k versions) v best found first better)
+  pub taken-best : {T : Type 0} (seen : T → VersionValue) (versions : List T) (k : ℕ) (v : T)
+      (best found : Option VersionValue) → k < length versions → v ≡ get_or versions k v
+      → IsBestOrNone order sets (map seen (take k versions)) best → IsBetterOf order sets best (seen v) found
+      → IsBestOrNone order sets (map seen (take (k + 1) versions)) found
+  taken-best {T} seen versions k v best found lt at first better =
+      subst (λ (l : List T). IsBestOrNone order sets (map seen l) found)
+      (sym (take_more versions k v lt ∙ ap (λ (w : T). take k versions ++ w ∷ []) (sym at)))
+      (subst (λ (l : List VersionValue). IsBestOrNone order sets l found)
+      (sym (map-append seen (take k versions) (v ∷ [])))
+      (more-best (map seen (take k versions)) (seen v) best found first better))
 
 -- ---- the program's result
 

@@ -10,7 +10,7 @@ use Rattle.semver_sets.specs.declared.TheConstants.{MAX_LENGTH}
 use Rattle.semver_sets.specs.Characters.{BeginsWith, is_digit}
 use Rattle.semver_sets.specs.NumberText.{number_of}
 use Rattle.semver_sets.specs.Private.Reading.{Read, prefix_of, read_version}
-use Rattle.semver_sets.specs.Private.ReadingViews.{IsPlainOk, IsWantOfMemory}
+use Rattle.semver_sets.specs.Private.ReadingViews.{IsPlainOk, IsMemoryFault}
 use Rattle.semver_sets.specs.declared.parse.fault.Fault.TheVariants.{TooLarge}
 use Rattle.semver_sets.specs.Version.{VersionValue, release}
 use Rattle.semver_sets.specs.Private.RangeViews.{IsFullText}
@@ -45,7 +45,7 @@ left-no_version text v w rest read some h =
 
 -- nothing was read
 pub whole-fault : (text : List ℕ) (f : Fault) → length text ≤ MAX_LENGTH
-    → IsWantOfMemory f ⊎ (read_version text ≡ Err f) → IsMemoryOr text f
+    → IsMemoryFault f ⊎ (read_version text ≡ Err f) → IsMemoryOr text f
 whole-fault text f short (inl memory) = inl memory
 whole-fault text f short (inr read) = inr (fault-takes text f short read)
 

@@ -3,7 +3,7 @@ use Rattle.std.specs.Prelude.{◌-◌, ◌⊎◌, List, ℕ, codes, drop, length
 use Rattle.semver_sets.specs.Characters.{is_digit}
 use Rattle.semver_sets.specs.NumberText.{number_of}
 use Rattle.semver_sets.specs.Private.Reading.{prefix_of}
-use Rattle.semver_sets.specs.Private.ReadingViews.{IsWantOfMemory, left_of}
+use Rattle.semver_sets.specs.Private.ReadingViews.{IsMemoryFault, left_of}
 use Rattle.semver_sets.specs.declared.parse.fault.Fault.{Fault}
 use Rattle.semver_sets.specs.declared.parse.fault.Fault.TheVariants.{LeftOver, Missing, OutOfMemory, TooLarge, TooLong}
 use Rattle.node_semver.specs.Error.{IsOutOfMemory, IsRefusalAt, Kind, context, max_length, other, out_of_memory}
@@ -20,9 +20,9 @@ kind_in text OutOfMemory = out_of_memory
 
 -- an allocation failed, or the fault is that of the text
 abbrev pub IsMemoryOr : List ℕ → Fault → Type 0
-IsMemoryOr text f = IsWantOfMemory f ⊎ IsFault text (kind_in text f) (length text - left_of f)
+IsMemoryOr text f = IsMemoryFault f ⊎ IsFault text (kind_in text f) (length text - left_of f)
 
 -- the error for this fault of the text; if an allocation failed, the error that reports that
 pub record IsErrorOf (text : List ℕ) (f : Fault) (e : SemverError) : Type 0 where
-  pub memory : IsWantOfMemory f → IsOutOfMemory e
+  pub memory : IsMemoryFault f → IsOutOfMemory e
   pub fault : IsOutOfMemory e ⊎ IsRefusalAt text (kind_in text f) (length text - left_of f) e

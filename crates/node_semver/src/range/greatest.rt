@@ -1,16 +1,17 @@
 //! The greatest and the least version of a list that satisfies a range.
 ghost use Rattle.std.specs.Option.{option_map};
-ghost use Rattle.std.specs.Prelude.{◌≡◌, ◌↔◌, IfSome, IsNone, IsTrue};
+ghost use Rattle.std.specs.Prelude.{◌≡◌, ◌↔◌, IfSome, IsNone, IsTrue, map};
 ghost use Rattle.std.specs.declared.cmp.Ordering.TheVariants.{Less};
 ghost use Rattle.node_semver.specs.Greatest.{AdmitsNoneIn, IsGreatestAdmitted, IsLeastAdmittedIn};
 ghost use Rattle.node_semver.specs.Private.GreatestViews.{IsBestOrNone, IsBetterOf, order_of};
 
-use crate::{Range, Version};
+use crate::{OrderedVersion, Range};
 
 /// Returns the greatest version of the list that satisfies the range, or `None` if none does. Of equal versions it
 /// returns the first.
 ///
 /// Equal versions can differ in the build. The returned version is borrowed from the list, which need not be sorted.
+/// The versions can be of any type with the trait [`OrderedVersion`].
 ///
 /// # Memory
 ///
@@ -24,9 +25,9 @@ use crate::{Range, Version};
 /// # Source
 ///
 /// npm's `semver`, `maxSatisfying`.
-pub fn max_satisfying<'a>(versions: &'a [Version], range: &Range) -> Option<&'a Version>
-    ensures greatest { IfSome result (λ v. IsGreatestAdmitted range.now versions.now v.now) }
-    ensures none { IsNone result ↔ AdmitsNoneIn range.now versions.now }
+pub fn max_satisfying<'a, V: OrderedVersion>(versions: &'a [V], range: &Range) -> Option<&'a V>
+    ensures greatest { IfSome result (λ v. IsGreatestAdmitted range.now (map V.seen versions.now) (V.seen v.now)) }
+    ensures none { IsNone result ↔ AdmitsNoneIn range.now (map V.seen versions.now) }
 {
     best_of(versions, range, true)
 }
@@ -35,6 +36,7 @@ pub fn max_satisfying<'a>(versions: &'a [Version], range: &Range) -> Option<&'a 
 /// the first.
 ///
 /// Equal versions can differ in the build. The returned version is borrowed from the list, which need not be sorted.
+/// The versions can be of any type with the trait [`OrderedVersion`].
 ///
 /// # Memory
 ///
@@ -48,18 +50,19 @@ pub fn max_satisfying<'a>(versions: &'a [Version], range: &Range) -> Option<&'a 
 /// # Source
 ///
 /// npm's `semver`, `minSatisfying`.
-pub fn min_satisfying<'a>(versions: &'a [Version], range: &Range) -> Option<&'a Version>
-    ensures least { IfSome result (λ v. IsLeastAdmittedIn range.now versions.now v.now) }
-    ensures none { IsNone result ↔ AdmitsNoneIn range.now versions.now }
+pub fn min_satisfying<'a, V: OrderedVersion>(versions: &'a [V], range: &Range) -> Option<&'a V>
+    ensures least { IfSome result (λ v. IsLeastAdmittedIn range.now (map V.seen versions.now) (V.seen v.now)) }
+    ensures none { IsNone result ↔ AdmitsNoneIn range.now (map V.seen versions.now) }
 {
     best_of(versions, range, false)
 }
 
-// Returns the greatest version of those that satisfy the range, or the least if `upward` is false. `inline(always)`: the
-// order is then chosen once, and not at each version.
+// Returns the greatest version of those that satisfy the range, or the least if `upward` is false. `inline(always)`:
+// the order is then chosen once, and not at each version.
 #[inline(always)]
-fn best_of<'a>(versions: &'a [Version], range: &Range, upward: bool) -> Option<&'a Version>
-    ensures { IsBestOrNone (order_of upward) range.now versions.now (option_map (λ v. v.now) result) }
+fn best_of<'a, V: OrderedVersion>(versions: &'a [V], range: &Range, upward: bool) -> Option<&'a V>
+    ensures { IsBestOrNone (order_of upward) range.now (map V.seen versions.now)
+        (option_map (λ v. V.seen v.now) result) }
 {
     let mut best = None;
     'versions: for version in versions {
@@ -71,14 +74,14 @@ fn best_of<'a>(versions: &'a [Version], range: &Range, upward: bool) -> Option<&
 // The version if it is better than the best so far and satisfies the range, else the best so far. The order is compared
 // first, which is less work. `inline(always)`: the body of the loop over the list.
 #[inline(always)]
-fn better<'a>(
-    best: Option<&'a Version>,
-    version: &'a Version,
+fn better<'a, V: OrderedVersion>(
+    best: Option<&'a V>,
+    version: &'a V,
     range: &Range,
     upward: bool,
-) -> Option<&'a Version>
-    ensures { IsBetterOf (order_of upward) range.now (option_map (λ v. v.now) best.entry) version.now
-        (option_map (λ v. v.now) result) }
+) -> Option<&'a V>
+    ensures { IsBetterOf (order_of upward) range.now (option_map (λ v. V.seen v.now) best.entry)
+        (V.seen version.now) (option_map (λ v. V.seen v.now) result) }
 {
     let is_best = match best {
         Some(best) => is_better(version, best, upward),
@@ -93,12 +96,12 @@ fn better<'a>(
 
 // Returns whether the version is greater than the best so far, or less if `upward` is false.
 #[inline(always)]
-fn is_better(version: &Version, best: &Version, upward: bool) -> bool
-    ensures { IsTrue result ↔ (order_of upward best.now version.now ≡ Less) }
+fn is_better<V: OrderedVersion>(version: &V, best: &V, upward: bool) -> bool
+    ensures { IsTrue result ↔ (order_of upward (V.seen best.now) (V.seen version.now) ≡ Less) }
 {
     if upward {
-        best.cmp(version).is_lt()
+        best.cmp_version(version).is_lt()
     } else {
-        version.cmp(best).is_lt()
+        version.cmp_version(best).is_lt()
     }
 }

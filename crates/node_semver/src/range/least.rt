@@ -16,7 +16,7 @@ pub(crate) mod unbuilt;
 
 use crate::{Identifier, Range, Version};
 use semver_cuts::{Cut, Span};
-use semver_sets::end::{End, Lent};
+use semver_sets::end::{BorrowedIdentifiers, End};
 use semver_sets::set::opens;
 use std::alloc::{AllocError, Global};
 use unbuilt::Unbuilt;
@@ -199,7 +199,7 @@ fn least_of_triple<'a>(
         major,
         minor,
         patch,
-        identifiers: Lent::List(&[]),
+        identifiers: BorrowedIdentifiers::List(&[]),
         zero: opens(upper, triple),
         build,
     }

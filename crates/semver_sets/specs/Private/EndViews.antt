@@ -4,8 +4,9 @@ use Rattle.semver_cuts.specs.declared.cut.Cut.{Cut}
 use Rattle.semver_cuts.specs.declared.cut.Cut.TheVariants.{After, Before, End, Start}
 use Rattle.semver_sets.specs.Identifier.{values_of}
 use Rattle.semver_sets.specs.IdentifierValue.{IdentifierValue, numeric}
-use Rattle.semver_sets.specs.declared.end.lent.Lent.{Lent}
-use Rattle.semver_sets.specs.declared.end.lent.Lent.TheVariants.{List as ListLent, Zero as ZeroLent}
+use Rattle.semver_sets.specs.declared.end.borrowed.BorrowedIdentifiers.{BorrowedIdentifiers}
+use Rattle.semver_sets.specs.declared.end.borrowed.BorrowedIdentifiers.TheVariants.{List as BorrowedList}
+use Rattle.semver_sets.specs.declared.end.borrowed.BorrowedIdentifiers.TheVariants.{Zero as BorrowedZero}
 use Rattle.semver_sets.specs.declared.end.Extras.{Extras}
 use Rattle.semver_sets.specs.declared.end.Extras.TheVariants.{Lists, Nothing, Zero}
 use Rattle.semver_sets.specs.Version.{HasSameTriple, VersionValue}
@@ -23,9 +24,9 @@ build_seen Zero = []
 build_seen (Lists lists) = values_of lists.value.build.items
 
 -- the borrowed identifiers
-abbrev pub lent_seen : Lent → List IdentifierValue
-lent_seen (ListLent identifiers) = values_of identifiers.now
-lent_seen ZeroLent = numeric 0 ∷ []
+abbrev pub borrowed_seen : BorrowedIdentifiers → List IdentifierValue
+borrowed_seen (BorrowedList identifiers) = values_of identifiers.now
+borrowed_seen BorrowedZero = numeric 0 ∷ []
 
 -- the cut is just before or just after a version with the same triple
 abbrev pub IsAtTriple : Cut VersionValue → VersionValue → Type 0

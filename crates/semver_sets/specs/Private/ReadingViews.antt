@@ -27,8 +27,8 @@ left_of (LeftOver left) = left
 left_of OutOfMemory = 0
 
 -- no fault of the text: an allocation failed
-abbrev pub IsWantOfMemory : Fault → Type 0
-IsWantOfMemory f = f ≡ OutOfMemory
+abbrev pub IsMemoryFault : Fault → Type 0
+IsMemoryFault f = f ≡ OutOfMemory
 
 -- the result of a reader that does not allocate
 abbrev pub seen : {A : Type 0} → Result (A × Bor (List ℕ)) Fault → Read A
@@ -38,7 +38,7 @@ seen (Err f) = Err f
 -- the reader returns the defined result, unless an allocation failed
 abbrev pub Gives : {X A : Type 0} → (X → A) → Result X Fault → Result A Fault → Type 0
 Gives view (Ok x) read = read ≡ Ok (view x)
-Gives view (Err f) read = IsWantOfMemory f ⊎ (read ≡ Err f)
+Gives view (Err f) read = IsMemoryFault f ⊎ (read ≡ Err f)
 
 -- the text without the dot that it begins with
 abbrev pub dot_seen : Result (Bor (List ℕ)) Fault → Result (List ℕ) Fault

@@ -15,7 +15,7 @@ ghost use Rattle.semver_sets.specs.Private.SearchViews.{AreOpeningsOf};
 
 use crate::Counts;
 use crate::end::End;
-use crate::set::{Asked, has_inside, is_begun};
+use crate::set::{AsVersion, has_inside, is_at_or_before};
 use crate::set_list::copy::copies_of;
 use crate::set_list::opened::{Opening, Triple, openings, openings_at};
 use semver_cuts::Span;
@@ -115,9 +115,9 @@ impl Searched {
     // Returns `true` if one of the sets admits the version. Looks for a release among the merged spans, and for a
     // prerelease in the sets with an end that is a prerelease of its triple. `inline(never)`: see `set_list.rt`.
     #[inline(never)]
-    pub(crate) fn admits<V: Asked, C: Counts>(&self, version: &V, comparisons: &mut C) -> bool
-        ensures answer { IsTrue result ↔ RangeAdmits self.now (V.asked version.now) }
-        ensures short { IsShortSearch self.now (V.asked version.now) (C.count comparisons.old)
+    pub(crate) fn admits<V: AsVersion, C: Counts>(&self, version: &V, comparisons: &mut C) -> bool
+        ensures answer { IsTrue result ↔ RangeAdmits self.now (V.seen version.now) }
+        ensures short { IsShortSearch self.now (V.seen version.now) (C.count comparisons.old)
             (C.count comparisons.new) }
     {
         if !version.is_prerelease() {
@@ -136,12 +136,12 @@ impl Searched {
 
 // Returns `true` if the version lies in one of the spans. A binary search finds the last merged span that begins below
 // the version: it lies in that one, or in none.
-fn is_in_some<V: Asked, C: Counts>(
+fn is_in_some<V: AsVersion, C: Counts>(
     spans: &MergedSpans<'_, '_, End>,
     version: &V,
     comparisons: &mut C,
 ) -> bool
-    ensures inside { IsTrue result ↔ IsInSome version_cmp spans.now.list (Before (V.asked version.now)) }
+    ensures inside { IsTrue result ↔ IsInSome version_cmp spans.now.list (Before (V.seen version.now)) }
     ensures adds { C.count comparisons.old ≤ C.count comparisons.new }
     ensures short { (digits : ℕ) → HasDigits (count_of_starts version_cmp spans.now.list) digits →
         C.count comparisons.new ≤ C.count comparisons.old + digits + 1 }
@@ -152,7 +152,7 @@ fn is_in_some<V: Asked, C: Counts>(
     while low < high {
         let middle = low + (high - low) / 2;
         let (lower, _) = spans.ends(middle);
-        if is_begun(lower, version, comparisons) {
+        if is_at_or_before(lower, version, comparisons) {
             low = middle + 1;
         } else {
             high = middle;
@@ -162,11 +162,11 @@ fn is_in_some<V: Asked, C: Counts>(
         return false;
     }
     let (_, upper) = spans.ends(low - 1);
-    !is_begun(upper, version, comparisons)
+    !is_at_or_before(upper, version, comparisons)
 }
 
 // Returns `true` if the version lies in one of the sets at these places.
-fn is_in_opened<V: Asked, C: Counts>(
+fn is_in_opened<V: AsVersion, C: Counts>(
     sets: &[Span<End>],
     openings: &[Opening],
     version: &V,
@@ -174,7 +174,7 @@ fn is_in_opened<V: Asked, C: Counts>(
 ) -> bool
     requires { AllByRecursion (λ o. o.place < length sets.now) openings.now }
     ensures inside { IsTrue result
-        ↔ AnyByRecursion (λ o. IsInside (V.asked version.now) (span_at sets.now o.place)) openings.now }
+        ↔ AnyByRecursion (λ o. IsInside (V.seen version.now) (span_at sets.now o.place)) openings.now }
     ensures adds { C.count comparisons.old ≤ C.count comparisons.new }
     ensures short { C.count comparisons.new ≤ C.count comparisons.old + 2 * length openings.now }
     ensures admitted { IsTrue result → C.count comparisons.old + 2 ≤ C.count comparisons.new }

@@ -12,12 +12,12 @@ ghost use Rattle.node_semver.specs.Private.BeyondViews.{AreSetsTried, AreUppersT
 ghost use Rattle.node_semver.specs.Private.BeyondViews.{IsLeastBeyondOrNone, IsLeastOpened, IsOpenTrial, IsSetTrial};
 ghost use Rattle.node_semver.specs.Private.BeyondViews.{IsShut, IsTrial};
 
-use crate::range::least::candidates::Release;
+use crate::range::least::candidates::ReleaseCandidate;
 use crate::range::least::unbuilt::Unbuilt;
 use crate::{Comparisons, Range, Version};
 use semver_cuts::{Cut, Span};
 use semver_sets::end::End;
-use semver_sets::set::{Asked, admits};
+use semver_sets::set::{AsVersion, admits};
 use std::alloc::{AllocError, Global};
 
 impl Range {
@@ -121,7 +121,7 @@ fn try_cut<'a>(best: &mut Option<Unbuilt<'a>>, cut: &'a Cut<End>, range: &Range,
     ensures { IsCutTrial range.now other.now best.old cut.now best.new }
 {
     match cut {
-        Cut::Start => try_release(best, Release::of(0, 0, 0), range, other),
+        Cut::Start => try_release(best, ReleaseCandidate::of(0, 0, 0), range, other),
         Cut::Before(end) => try_before(best, end, range, other),
         Cut::After(end) => try_after(best, end, range, other),
         Cut::End => {}
@@ -137,7 +137,7 @@ fn try_before<'a>(best: &mut Option<Unbuilt<'a>>, end: &'a End, range: &Range, o
         try_candidate(best, least, range, other);
         try_release(
             best,
-            Release::of(end.major, end.minor, end.patch),
+            ReleaseCandidate::of(end.major, end.minor, end.patch),
             range,
             other,
         );
@@ -145,7 +145,7 @@ fn try_before<'a>(best: &mut Option<Unbuilt<'a>>, end: &'a End, range: &Range, o
     }
     try_release(
         best,
-        Release::of(end.major, end.minor, end.patch),
+        ReleaseCandidate::of(end.major, end.minor, end.patch),
         range,
         other,
     );
@@ -161,7 +161,7 @@ fn try_after<'a>(best: &mut Option<Unbuilt<'a>>, end: &'a End, range: &Range, ot
         try_candidate(best, least, range, other);
         try_release(
             best,
-            Release::of(end.major, end.minor, end.patch),
+            ReleaseCandidate::of(end.major, end.minor, end.patch),
             range,
             other,
         );
@@ -169,7 +169,7 @@ fn try_after<'a>(best: &mut Option<Unbuilt<'a>>, end: &'a End, range: &Range, ot
     }
     try_release(
         best,
-        Release::of(end.major, end.minor, end.patch + 1),
+        ReleaseCandidate::of(end.major, end.minor, end.patch + 1),
         range,
         other,
     );
@@ -254,7 +254,12 @@ fn try_candidate<'a>(
 
 // The same for a release: only its triple is compared.
 #[inline(always)]
-fn try_release(best: &mut Option<Unbuilt<'_>>, candidate: Release, range: &Range, other: &Range)
+fn try_release(
+    best: &mut Option<Unbuilt<'_>>,
+    candidate: ReleaseCandidate,
+    range: &Range,
+    other: &Range,
+)
     ensures { IsTrial range.now other.now best.old (release candidate.major candidate.minor candidate.patch) best.new }
 {
     if candidate.is_below_best(best) {
@@ -264,7 +269,12 @@ fn try_release(best: &mut Option<Unbuilt<'_>>, candidate: Release, range: &Range
 
 // The same for a release that is less than the best so far.
 #[inline(never)]
-fn try_lower(best: &mut Option<Unbuilt<'_>>, candidate: Release, range: &Range, other: &Range)
+fn try_lower(
+    best: &mut Option<Unbuilt<'_>>,
+    candidate: ReleaseCandidate,
+    range: &Range,
+    other: &Range,
+)
     requires { IsBelowBest best.old (release candidate.major candidate.minor candidate.patch) }
     ensures { IsTrial range.now other.now best.old (release candidate.major candidate.minor candidate.patch) best.new }
 {
@@ -275,8 +285,8 @@ fn try_lower(best: &mut Option<Unbuilt<'_>>, candidate: Release, range: &Range, 
 
 // Returns `true` if `range` admits the candidate and `other` does not.
 #[inline(always)]
-fn is_beyond<V: Asked>(candidate: &V, range: &Range, other: &Range) -> bool
-    ensures { IsTrue result ↔ AdmitsBeyond range.now other.now (V.asked candidate.now) }
+fn is_beyond<V: AsVersion>(candidate: &V, range: &Range, other: &Range) -> bool
+    ensures { IsTrue result ↔ AdmitsBeyond range.now other.now (V.seen candidate.now) }
 {
     range.sets.admits(candidate, &mut Comparisons::new())
         && !other.sets.admits(candidate, &mut Comparisons::new())

@@ -9,8 +9,8 @@ ghost use Rattle.semver_sets.specs.Version.{least_of, release, without_build};
 ghost use Rattle.node_semver.specs.Private.BeyondViews.{IsBelowBest};
 
 use crate::range::least::unbuilt::Unbuilt;
-use semver_sets::end::{End, Lent};
-use semver_sets::set::Asked;
+use semver_sets::end::{BorrowedIdentifiers, End};
+use semver_sets::set::AsVersion;
 use std::cmp::Ordering;
 
 impl<'a> Unbuilt<'a> {
@@ -23,7 +23,7 @@ impl<'a> Unbuilt<'a> {
             major,
             minor,
             patch,
-            identifiers: Lent::List(&[]),
+            identifiers: BorrowedIdentifiers::List(&[]),
             zero: false,
             build: &[],
         }
@@ -60,8 +60,8 @@ impl<'a> Unbuilt<'a> {
     }
 }
 
-impl<'a> Asked for Unbuilt<'a> {
-    ghost asked = { λ version. version };
+impl<'a> AsVersion for Unbuilt<'a> {
+    ghost seen = { λ version. version };
 
     #[inline(always)]
     fn is_prerelease(&self) -> bool {
@@ -97,18 +97,18 @@ fn cmp_prereleases(end: &End, version: &Unbuilt<'_>) -> Ordering
 
 // A release, given by its triple alone.
 #[derive(Clone, Copy)]
-pub(crate) struct Release {
+pub(crate) struct ReleaseCandidate {
     pub(crate) major: u64,
     pub(crate) minor: u64,
     pub(crate) patch: u64,
 }
 
-impl Release {
+impl ReleaseCandidate {
     #[inline(always)]
-    pub(crate) fn of(major: u64, minor: u64, patch: u64) -> Release
+    pub(crate) fn of(major: u64, minor: u64, patch: u64) -> ReleaseCandidate
         ensures { release result.major result.minor result.patch ≡ release major minor patch }
     {
-        Release {
+        ReleaseCandidate {
             major,
             minor,
             patch,
@@ -142,8 +142,8 @@ impl Release {
     }
 }
 
-impl Asked for Release {
-    ghost asked = { λ version. release version.major version.minor version.patch };
+impl AsVersion for ReleaseCandidate {
+    ghost seen = { λ version. release version.major version.minor version.patch };
 
     #[inline(always)]
     fn is_prerelease(&self) -> bool {

@@ -14,7 +14,7 @@ ghost use Rattle.node_semver.specs.Private.LeastViews.{IsInsideOrNone, with_zero
 
 use crate::{Identifier, Version};
 use semver_cuts::Cut;
-use semver_sets::end::{End, Lent, Zero};
+use semver_sets::end::{BorrowedIdentifiers, End, Zero};
 use semver_sets::identifier::copy::{copies_of, copies_with_zero};
 use semver_sets::identifier::order::cmp_prereleases;
 use std::alloc::{AllocError, Global};
@@ -26,14 +26,14 @@ pub(crate) struct Unbuilt<'a> {
     pub(crate) major: u64,
     pub(crate) minor: u64,
     pub(crate) patch: u64,
-    pub(crate) identifiers: Lent<'a>,
+    pub(crate) identifiers: BorrowedIdentifiers<'a>,
     pub(crate) zero: bool,
     pub(crate) build: &'a [Identifier],
 }
 
 impl<'a> Model for Unbuilt<'a> {
     ghost use Rattle.semver_sets.specs.Identifier.{values_of};
-    ghost use Rattle.semver_sets.specs.Private.EndViews.{lent_seen};
+    ghost use Rattle.semver_sets.specs.Private.EndViews.{borrowed_seen};
     ghost use Rattle.node_semver.specs.Private.LeastViews.{with_zeros};
     ghost use Rattle.semver_sets.specs.Version.{VersionValue};
 
@@ -43,7 +43,7 @@ impl<'a> Model for Unbuilt<'a> {
       major = v.major;
       minor = v.minor;
       patch = v.patch;
-      pre_release = with_zeros (lent_seen v.identifiers) v.zero;
+      pre_release = with_zeros (borrowed_seen v.identifiers) v.zero;
       build = values_of v.build.now;
     } };
 }

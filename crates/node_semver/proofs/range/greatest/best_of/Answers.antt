@@ -1,19 +1,19 @@
-use Rattle.std.proofs.Common.{List, subst}
+use Rattle.std.proofs.Common.{List, map, subst}
 use Rattle.std.proofs.lemmas.List.{take_all}
 use Rattle.std.specs.Option.{option_map}
-use Rattle.semver_sets.specs.Version.{VersionValue}
 use Rattle.node_semver.specs.Private.GreatestViews.{IsBestOrNone, order_of}
 use Rattle.node_semver.proofs.Least.GreatestLemmas.{each-order, taken-best}
 use Rattle.node_semver.proofs.range.greatest.best_of.Goals as goal
 
 pub versions-preserved : goal.versions-preserved
-versions-preserved c =
-    taken-best (order_of c.args.upward) (each-order c.args.upward) c.args.range.now c.args.versions.now
-    c.versions.version-index c.version-item.result (option_map (λ v. v.now) c.versions.best)
-    (option_map (λ v. v.now) c.better-best.result) c.versions-test.true c.version-item.is c.versions.invariant
-    c.better-best.ensures
+versions-preserved g c =
+    taken-best (order_of c.args.upward) (each-order c.args.upward) c.args.range.now g.V.AsVersion.seen
+    c.args.versions.now c.versions.version-index c.version-item.result
+    (option_map (λ v. g.V.AsVersion.seen v.now) c.versions.best)
+    (option_map (λ v. g.V.AsVersion.seen v.now) c.better-best.result) c.versions-test.true c.version-item.is
+    c.versions.invariant c.better-best.ensures
 
 pub returns : goal.returns
-returns c = subst (λ (l : List VersionValue). IsBestOrNone (order_of c.args.upward) c.args.range.now l
-    (option_map (λ v. v.now) c.versions.best))
+returns g c = subst (λ (l : List _). IsBestOrNone (order_of c.args.upward) c.args.range.now
+    (map g.V.AsVersion.seen l) (option_map (λ v. g.V.AsVersion.seen v.now) c.versions.best))
     (take_all c.versions.version-index c.args.versions.now c.versions-test.false) c.versions.invariant

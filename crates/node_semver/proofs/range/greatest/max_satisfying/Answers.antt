@@ -1,11 +1,14 @@
+use Rattle.std.proofs.Common.{map}
 use Rattle.semver_sets.specs.Comparison.{version_cmp}
 use Rattle.node_semver.proofs.Least.GreatestLemmas.{greatest-found, none-found}
 use Rattle.node_semver.proofs.range.greatest.max_satisfying.Goals as goal
 
 pub returns-clause-greatest : goal.returns-clause-greatest
-returns-clause-greatest c =
-    greatest-found c.best_of.result (λ v. v.now) c.args.range.now c.args.versions.now c.best_of.ensures
+returns-clause-greatest g c =
+    greatest-found c.best_of.result (λ v. g.V.AsVersion.seen v.now) c.args.range.now
+    (map g.V.AsVersion.seen c.args.versions.now) c.best_of.ensures
 
 pub returns-clause-none : goal.returns-clause-none
-returns-clause-none c =
-    none-found version_cmp c.best_of.result (λ v. v.now) c.args.range.now c.args.versions.now c.best_of.ensures
+returns-clause-none g c =
+    none-found version_cmp c.best_of.result (λ v. g.V.AsVersion.seen v.now) c.args.range.now
+    (map g.V.AsVersion.seen c.args.versions.now) c.best_of.ensures

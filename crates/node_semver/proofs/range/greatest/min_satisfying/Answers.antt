@@ -1,11 +1,14 @@
+use Rattle.std.proofs.Common.{map}
 use Rattle.node_semver.specs.Private.GreatestViews.{downward}
 use Rattle.node_semver.proofs.Least.GreatestLemmas.{least-found, none-found}
 use Rattle.node_semver.proofs.range.greatest.min_satisfying.Goals as goal
 
 pub returns-clause-least : goal.returns-clause-least
-returns-clause-least c =
-    least-found c.best_of.result (λ v. v.now) c.args.range.now c.args.versions.now c.best_of.ensures
+returns-clause-least g c =
+    least-found c.best_of.result (λ v. g.V.AsVersion.seen v.now) c.args.range.now
+    (map g.V.AsVersion.seen c.args.versions.now) c.best_of.ensures
 
 pub returns-clause-none : goal.returns-clause-none
-returns-clause-none c =
-    none-found downward c.best_of.result (λ v. v.now) c.args.range.now c.args.versions.now c.best_of.ensures
+returns-clause-none g c =
+    none-found downward c.best_of.result (λ v. g.V.AsVersion.seen v.now) c.args.range.now
+    (map g.V.AsVersion.seen c.args.versions.now) c.best_of.ensures

@@ -8,7 +8,7 @@ use Rattle.semver_sets.proofs.set_list.Sets.admits.Goals as goal
 
 pub returns-in-One-clause-short : goal.returns-in-One-clause-short
 returns-in-One-clause-short g c =
-    let v = g.V.Asked.asked c.args.version.now in
+    let v = g.V.AsVersion.seen c.args.version.now in
     let one : sets_seen c.args.self.now ≡ c.in-One.set ∷ [] = ap sets_seen c.in-One.is in
     let count = g.C.Counts.count in
     subst (λ (l : List (Ends VersionValue)). IsShortSearch l v (count c.args.comparisons.now)

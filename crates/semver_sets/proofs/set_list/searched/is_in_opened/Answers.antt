@@ -8,7 +8,7 @@ use Rattle.semver_sets.proofs.set_list.searched.is_in_opened.Goals as goal
 
 pub returns-then-has_inside-clause-inside : goal.returns-then-has_inside-clause-inside
 returns-then-has_inside-clause-inside g c = (
-  λ h. opening-inside (g.V.Asked.asked c.args.version.now) c.args.sets.now c.args.openings.now
+  λ h. opening-inside (g.V.AsVersion.seen c.args.version.now) c.args.sets.now c.args.openings.now
       c.openings.opening-index _ _ _
       c.openings-test.true c.requires c.index-sets-opening.is (c.has_inside.ensures.inside.0 c.if-has_inside.true),
   λ some. refl,
@@ -16,7 +16,7 @@ returns-then-has_inside-clause-inside g c = (
 
 pub openings-preserved : goal.openings-preserved
 openings-preserved g c = record {
-  none = opening-outside (g.V.Asked.asked c.args.version.now) c.args.sets.now c.args.openings.now
+  none = opening-outside (g.V.AsVersion.seen c.args.version.now) c.args.sets.now c.args.openings.now
       c.openings.opening-index _ _ _
       c.openings-test.true c.requires c.index-sets-opening.is c.openings.invariant.none
       (λ inside. cc (c.if-has_inside.false, c.has_inside.ensures.inside.1 inside));
@@ -28,6 +28,6 @@ pub returns-clause-inside : goal.returns-clause-inside
 returns-clause-inside g c =
     let whole = take_all c.openings.opening-index c.args.openings.now c.openings-test.false in
     let none = subst (λ (l : List Opening). ¬ AnyByRecursion
-    (λ o. IsInside (g.V.Asked.asked c.args.version.now) (span_at c.args.sets.now o.place)) l) whole
+    (λ o. IsInside (g.V.AsVersion.seen c.args.version.now) (span_at c.args.sets.now o.place)) l) whole
     c.openings.invariant.none in
     (λ h. absurd (cc h), λ some. absurd (none some))

@@ -15,19 +15,20 @@ pub loop-low-init : goal.loop-low-init
 loop-low-init g c =
     let spans = c.args.spans.now.merged in
     let Above : List (Ends VersionValue) → Type 0 =
-    AllByRecursion (λ s. IsCutBelow version_cmp (Before (g.V.Asked.asked c.args.version.now)) s.lower) in
+    AllByRecursion (λ s. IsCutBelow version_cmp (Before (g.V.AsVersion.seen c.args.version.now)) s.lower) in
     record {
       ordered = omega arith;
       within = omega arith;
       below = tt;
       above = subst Above (sym (drop_all c.len-high.result spans (omega arith))) tt;
-      steps = λ digits fits. left-first (g.C.Counts.count c.args.comparisons.now) digits (c.len-high.result - 0) (omega arith);
+      steps = λ digits fits. left-first (g.C.Counts.count c.args.comparisons.now) digits (c.len-high.result - 0)
+          (omega arith);
       adds = omega arith;
       begun = λ some. absurd (omega arith);
     }
 
-pub loop-low-preserved-then-is_begun : goal.loop-low-preserved-then-is_begun
-loop-low-preserved-then-is_begun g c =
+pub loop-low-preserved-then-is_at_or_before : goal.loop-low-preserved-then-is_at_or_before
+loop-low-preserved-then-is_at_or_before g c =
     let spans = c.args.spans.now.merged in
     let low = c.loop-low.low in
     let high = c.loop-low.high in
@@ -38,12 +39,14 @@ loop-low-preserved-then-is_begun g c =
       ordered = omega arith;
       within = omega arith;
       below = begun_below version_total (Before
-          (g.V.Asked.asked c.args.version.now)) spans c.len-high.ensures.joined.merged middle span within
-          c.ends.ensures (c.is_begun.ensures.begun.0 c.if-is_begun.true);
+          (g.V.AsVersion.seen c.args.version.now)) spans c.len-high.ensures.joined.merged middle span within
+          c.ends.ensures (c.is_at_or_before.ensures.order.0 c.if-is_at_or_before.true);
       above = c.loop-low.invariant.above;
       steps = λ digits fits.
-          subst (λ n. IsLeft (g.C.Counts.count c.args.comparisons.now) n digits (high - (middle + 1))) (sym c.is_begun.ensures.counted)
-          (left-step (g.C.Counts.count c.args.comparisons.now) (g.C.Counts.count c.loop-low.comparisons) digits (high - low) (high - (middle + 1))
+          subst (λ n. IsLeft (g.C.Counts.count c.args.comparisons.now) n digits (high - (middle + 1)))
+          (sym c.is_at_or_before.ensures.counted)
+          (left-step (g.C.Counts.count c.args.comparisons.now) (g.C.Counts.count c.loop-low.comparisons) digits (high - low)
+          (high - (middle + 1))
           (omega arith)
           (omega arith) (c.loop-low.invariant.steps digits fits));
       adds = omega arith;
@@ -63,14 +66,16 @@ loop-low-preserved g c =
       within = omega arith;
       below = c.loop-low.invariant.below;
       above = begun_above version_total (Before
-          (g.V.Asked.asked c.args.version.now)) spans c.len-high.ensures.joined.merged middle span within
+          (g.V.AsVersion.seen c.args.version.now)) spans c.len-high.ensures.joined.merged middle span within
           c.ends.ensures
-          ((not-begun version_total (Before (g.V.Asked.asked c.args.version.now)) c.is_begun.result
-          span.lower c.is_begun.ensures.begun).0
-          (ap not c.if-is_begun.false));
+          ((not-begun version_total (Before (g.V.AsVersion.seen c.args.version.now)) c.is_at_or_before.result
+          span.lower c.is_at_or_before.ensures.order).0
+          (ap not c.if-is_at_or_before.false));
       steps = λ digits fits.
-          subst (λ n. IsLeft (g.C.Counts.count c.args.comparisons.now) n digits (middle - low)) (sym c.is_begun.ensures.counted)
-          (left-step (g.C.Counts.count c.args.comparisons.now) (g.C.Counts.count c.loop-low.comparisons) digits (high - low) (middle - low) (omega arith)
+          subst (λ n. IsLeft (g.C.Counts.count c.args.comparisons.now) n digits (middle - low))
+          (sym c.is_at_or_before.ensures.counted)
+          (left-step (g.C.Counts.count c.args.comparisons.now) (g.C.Counts.count c.loop-low.comparisons) digits (high - low)
+          (middle - low) (omega arith)
           (omega arith) (c.loop-low.invariant.steps digits fits));
       adds = omega arith;
       begun = λ _. omega arith;
@@ -79,10 +84,10 @@ loop-low-preserved g c =
 pub returns-then-low-eq0-clause-inside : goal.returns-then-low-eq0-clause-inside
 returns-then-low-eq0-clause-inside g c =
     let spans = c.args.spans.now.merged in
-    let cut = Before (g.V.Asked.asked c.args.version.now) in
+    let cut = Before (g.V.AsVersion.seen c.args.version.now) in
     let all : c.loop-low.high ≡ 0 = omega arith in
     let above = subst (λ k. AllByRecursion (λ s. IsCutBelow version_cmp
-    (Before (g.V.Asked.asked c.args.version.now)) s.lower) (drop k spans)) all
+    (Before (g.V.AsVersion.seen c.args.version.now)) s.lower) (drop k spans)) all
     c.loop-low.invariant.above in (
       λ h. absurd (cc h),
       λ is. absurd (none-begun version_total cut spans above ((c.len-high.ensures.joined.cuts cut).1 is)),
@@ -91,7 +96,7 @@ returns-then-low-eq0-clause-inside g c =
 pub returns-clause-inside : goal.returns-clause-inside
 returns-clause-inside g c =
     let spans = c.args.spans.now.merged in
-    let cut = Before (g.V.Asked.asked c.args.version.now) in
+    let cut = Before (g.V.AsVersion.seen c.args.version.now) in
     let place : ℕ = c.loop-low.low - 1 in
     let span = span_between c.ends-2.result.0.now c.ends-2.result.1.now in
     let some : 0 < c.loop-low.low = grind (arith, c.if-low-eq0.false) in
@@ -99,14 +104,15 @@ returns-clause-inside g c =
     let next : c.loop-low.low ≡ place + 1 = omega arith in
     let end : c.loop-low.high ≡ place + 1 = omega arith in
     let begun = begun_last version_total cut spans c.len-high.ensures.joined.merged place span within c.ends-2.ensures
-    (subst (λ k. AllByRecursion (λ s. IsCutAtMost version_cmp s.lower (Before (g.V.Asked.asked c.args.version.now)))
+    (subst (λ k. AllByRecursion (λ s. IsCutAtMost version_cmp s.lower (Before (g.V.AsVersion.seen c.args.version.now)))
     (take k spans)) next
     c.loop-low.invariant.below) in
     let above = subst (λ k. AllByRecursion (λ s. IsCutBelow version_cmp
-    (Before (g.V.Asked.asked c.args.version.now)) s.lower) (drop k spans)) end
+    (Before (g.V.AsVersion.seen c.args.version.now)) s.lower) (drop k spans)) end
     c.loop-low.invariant.above in
     let inside = last_begun version_total cut spans c.len-high.ensures.joined.merged place span within
     c.ends-2.ensures begun above in
-    let not_begun = not-begun version_total cut c.is_begun-2.result span.upper c.is_begun-2.ensures.begun in
+    let not_begun = not-begun version_total cut c.is_at_or_before-2.result span.upper
+    c.is_at_or_before-2.ensures.order in
     let cuts = c.len-high.ensures.joined.cuts cut in
     (λ h. cuts.0 (inside.1 (not_begun.0 h)), λ is. not_begun.1 (inside.0 (cuts.1 is)))

@@ -10,9 +10,9 @@ abbrev pub invariant-loop-low : goal.invariant-loop-low
 invariant-loop-low g l = record {
   ordered : l.low ≤ l.high;
   within : l.high ≤ length l.spans.merged;
-  below : AllByRecursion (λ s. IsCutAtMost version_cmp s.lower (Before (g.V.Asked.asked l.version)))
+  below : AllByRecursion (λ s. IsCutAtMost version_cmp s.lower (Before (g.V.AsVersion.seen l.version)))
       (take l.low l.spans.merged);
-  above : AllByRecursion (λ s. IsCutBelow version_cmp (Before (g.V.Asked.asked l.version)) s.lower)
+  above : AllByRecursion (λ s. IsCutBelow version_cmp (Before (g.V.AsVersion.seen l.version)) s.lower)
       (drop l.high l.spans.merged);
   steps : (digits : ℕ) → length l.spans.merged < 2 ^ digits
       → IsLeft (g.C.Counts.count l.fn.comparisons) (g.C.Counts.count l.comparisons) digits (l.high - l.low);

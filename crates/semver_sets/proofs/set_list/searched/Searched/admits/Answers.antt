@@ -16,7 +16,7 @@ use Rattle.semver_sets.proofs.set_list.searched.Searched.admits.Goals as goal
 
 pub returns-then-not-is_prerelease-clause-answer : goal.returns-then-not-is_prerelease-clause-answer
 returns-then-not-is_prerelease-clause-answer g c =
-    let v = g.V.Asked.asked c.args.version.now in
+    let v = g.V.AsVersion.seen c.args.version.now in
     let sets : List (Ends VersionValue) = c.args.self.now in
     let release : ¬ IsPrerelease v = λ pre. cc (c.if-not-is_prerelease.true, c.is_prerelease.ensures.1 pre) in
     let admits = release-admits v release sets in
@@ -27,7 +27,7 @@ returns-then-not-is_prerelease-clause-answer g c =
 
 pub returns-then-not-is_prerelease-clause-short : goal.returns-then-not-is_prerelease-clause-short
 returns-then-not-is_prerelease-clause-short g c =
-    let release : ¬ IsPrerelease (g.V.Asked.asked c.args.version.now) =
+    let release : ¬ IsPrerelease (g.V.AsVersion.seen c.args.version.now) =
     λ pre. cc (c.if-not-is_prerelease.true, c.is_prerelease.ensures.1 pre) in
     record {
       adds = c.is_in_some.ensures.adds;
@@ -41,7 +41,7 @@ returns-then-not-is_prerelease-clause-short g c =
 
 pub is_in_opened-requires : goal.is_in_opened-requires
 is_in_opened-requires g c =
-    let v = g.V.Asked.asked c.args.version.now in
+    let v = g.V.AsVersion.seen c.args.version.now in
     let found : c.openings_at-openings.result.now ≡ filter
     (is_opening_of v) c.self.inside.openings.items = search rules in
     let places : map (λ (o : Opening). o.place) c.openings_at-openings.result.now ≡ places_opening v 0 c.args.self.now =
@@ -54,7 +54,7 @@ is_in_opened-requires g c =
 
 pub returns-clause-answer : goal.returns-clause-answer
 returns-clause-answer g c =
-    let v = g.V.Asked.asked c.args.version.now in
+    let v = g.V.AsVersion.seen c.args.version.now in
     let found = c.openings_at-openings.result.now in
     let filtered : found ≡ filter (is_opening_of v) c.self.inside.openings.items = search rules in
     let places : map (λ (o : Opening). o.place) found ≡ places_opening v 0 c.args.self.now =
@@ -68,7 +68,7 @@ returns-clause-answer g c =
 
 pub returns-clause-short : goal.returns-clause-short
 returns-clause-short g c =
-    let v = g.V.Asked.asked c.args.version.now in
+    let v = g.V.AsVersion.seen c.args.version.now in
     let found = c.openings_at-openings.result.now in
     let filtered : found ≡ filter (is_opening_of v) c.self.inside.openings.items = search rules in
     let places : map (λ (o : Opening). o.place) found ≡ places_opening v 0 c.args.self.now =

@@ -5,29 +5,29 @@
 ghost use Rattle.std.specs.Prelude.{◌≡◌, ◌↔◌, ◌∷◌, [], IsTrue};
 ghost use Rattle.semver_sets.specs.Identifier.{values_of};
 ghost use Rattle.semver_sets.specs.IdentifierValue.{numeric};
-ghost use Rattle.semver_sets.specs.Private.EndViews.{lent_seen};
+ghost use Rattle.semver_sets.specs.Private.EndViews.{borrowed_seen};
 
 use crate::Identifier;
 use std::marker::Model;
 
 /// The identifiers of a prerelease: a borrowed list, or the number 0 alone.
 #[derive(Clone, Copy)]
-pub enum Lent<'a> {
+pub enum BorrowedIdentifiers<'a> {
     /// a borrowed list
     List(&'a [Identifier]),
     /// the number 0 alone
     Zero,
 }
 
-impl<'a> Lent<'a> {
+impl<'a> BorrowedIdentifiers<'a> {
     /// Returns `true` if there are no identifiers.
     #[inline(always)]
     pub fn is_empty(self) -> bool
-        ensures { IsTrue result ↔ (lent_seen self.entry ≡ []) }
+        ensures { IsTrue result ↔ (borrowed_seen self.entry ≡ []) }
     {
         match self {
-            Lent::List(identifiers) => identifiers.is_empty(),
-            Lent::Zero => false,
+            BorrowedIdentifiers::List(identifiers) => identifiers.is_empty(),
+            BorrowedIdentifiers::Zero => false,
         }
     }
 
@@ -36,16 +36,16 @@ impl<'a> Lent<'a> {
     pub fn as_slice<'b>(self, zero: &'b Zero) -> &'b [Identifier]
     where
         'a: 'b,
-        ensures { values_of result.now ≡ lent_seen self.entry }
+        ensures { values_of result.now ≡ borrowed_seen self.entry }
     {
         match self {
-            Lent::List(identifiers) => identifiers,
-            Lent::Zero => zero.as_slice(),
+            BorrowedIdentifiers::List(identifiers) => identifiers,
+            BorrowedIdentifiers::Zero => zero.as_slice(),
         }
     }
 }
 
-/// The identifier 0, kept by a caller for [`Lent::as_slice`] to borrow.
+/// The identifier 0, kept by a caller for [`BorrowedIdentifiers::as_slice`] to borrow.
 #[derive(Drop)]
 pub struct Zero {
     identifier: Identifier,

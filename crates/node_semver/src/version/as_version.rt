@@ -1,0 +1,53 @@
+//! Versions as what ranges are asked about. `#[inline(always)]`: each function is one load, test or call in the search.
+//!
+//! See docs/DECISIONS.md, "All kinds of versions are searched alike".
+ghost use Rattle.std.specs.Prelude.{◌≡◌};
+ghost use Rattle.semver_sets.specs.Comparison.{version_cmp};
+
+use crate::Version;
+use semver_sets::end::End;
+use semver_sets::set::AsVersion;
+use std::cmp::Ordering;
+
+/// A version that can be compared with others of its type by precedence.
+///
+/// [`max_satisfying`](crate::max_satisfying) and [`min_satisfying`](crate::min_satisfying) take any type with this
+/// trait. The order is that of the versions that the values are seen as.
+///
+/// # Memory
+///
+/// Does not allocate.
+pub trait OrderedVersion: AsVersion {
+    /// Returns the order of precedence of the two versions. The build is ignored.
+    fn cmp_version(&self, other: &Self) -> Ordering
+        ensures { result ≡ version_cmp (Self.seen self.now) (Self.seen other.now) };
+}
+
+impl AsVersion for Version {
+    ghost seen = { λ version. version };
+
+    #[inline(always)]
+    fn is_prerelease(&self) -> bool {
+        !self.pre_release.is_empty()
+    }
+
+    #[inline(always)]
+    fn triple(&self) -> (u64, u64, u64) {
+        (self.major, self.minor, self.patch)
+    }
+
+    #[inline(always)]
+    fn cmp_extras(&self, end: &End) -> Ordering {
+        if self.pre_release.is_empty() {
+            return end.cmp_release();
+        }
+        end.cmp_pre_release(&self.pre_release)
+    }
+}
+
+impl OrderedVersion for Version {
+    #[inline(always)]
+    fn cmp_version(&self, other: &Version) -> Ordering {
+        self.cmp(other)
+    }
+}

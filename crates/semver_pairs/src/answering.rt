@@ -55,7 +55,7 @@ pub(crate) fn answer_pairs<'b, W: Write>(
     Ok(rest)
 }
 
-/// The first pair, if it is complete.
+/// Returns the first pair if it is complete.
 fn first_pair(bytes: &[u8], is_ascii: bool) -> Option<Pair<'_>>
     ensures found { IfSome result (λ pair. BeginsWithPair bytes.now pair.range.now pair.version.now pair.rest.now) }
     ensures fewer { IfSome result (λ pair. length pair.rest.now < length bytes.now) }
@@ -106,8 +106,8 @@ pub(crate) fn answer_range<'b, W: Write>(
     }
 }
 
-/// The same when the range line has been read: `range` is `None` if it is a bad one.
-// `inline(never)`: one call for each range line, so that the loop over versions has a stack of its own.
+/// The same after the range line was parsed: `range` is `None` if the line is no range.
+// `inline(never)`: it is one call for each range line, and the loop over versions has a stack of its own.
 #[inline(never)]
 #[tactic(auto, using(crate::proofs::MoveLemmas::version_steps))]
 fn answer_versions<'b, W: Write>(
@@ -145,7 +145,7 @@ fn answer_versions<'b, W: Write>(
     }
 }
 
-/// The version line of the first pair and the bytes after it, if the pair is complete and has this range line.
+/// Returns the version line of the first pair and the bytes after it, if the pair is complete and has this range line.
 fn next_version<'b>(bytes: &'b [u8], range: &[u8]) -> Option<(&'b [u8], &'b [u8])>
     requires { HasNoNewline range.now }
     ensures found { IfSome result (λ pair. BeginsWithPair bytes.now range.now pair.0.now pair.1.now) }
@@ -156,7 +156,7 @@ fn next_version<'b>(bytes: &'b [u8], range: &[u8]) -> Option<(&'b [u8], &'b [u8]
     Some((without_return(version), rest))
 }
 
-/// The answer for a range (or for none, if the range line is bad) and a version line, with a newline.
+/// Returns the answer for a range and a version line, with a newline. `range` is `None` if the range line is no range.
 fn answer_of(
     alloc: Global,
     range: Option<&Range>,

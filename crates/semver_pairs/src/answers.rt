@@ -1,4 +1,4 @@
-//! Answers that are collected, so that many are written at once.
+//! A list of answers, so that many are written at once.
 ghost use Rattle.std.specs.Prelude.{◌≡◌, ◌↔◌, ℕ, List, ◌+◌, ◌≤◌, [], ◌++◌, length, take, OnOk, OnErr, IfErr, IsErr};
 ghost use Rattle.std.specs.Io.KnownBytes.{Appends};
 ghost use Rattle.semver_pairs.specs.GaugeValue.{HasFailed};
@@ -26,7 +26,7 @@ impl Model for Answers {
 }
 
 impl Answers {
-    /// No answers.
+    /// Returns an empty list.
     pub(crate) fn new() -> Answers
         ensures { result ≡ [] }
     {
@@ -36,7 +36,7 @@ impl Answers {
         }
     }
 
-    /// Adds one more answer. If it does not fit, writes the others first.
+    /// Adds one more answer. If it does not fit, all answers before it are written first.
     pub(crate) fn put<W: Write>(
         &mut self,
         writer: &mut Gauge<W>,
@@ -58,7 +58,7 @@ impl Answers {
         Ok(())
     }
 
-    /// Writes all answers.
+    /// Writes all answers, and empties the list.
     pub(crate) fn flush<W: Write>(&mut self, writer: &mut Gauge<W>) -> Result<(), RunError>
         requires { ¬ HasFailed writer.old }
         ensures all { OnOk result (Appends (W.contents writer.old.inner) (W.contents writer.new.inner) self.old) }
@@ -73,7 +73,7 @@ impl Answers {
         Ok(())
     }
 
-    /// Adds an answer that fits.
+    /// Adds an answer for which there is room.
     fn append(&mut self, line: &[u8])
         requires { length self.old + length line.now ≤ 4096 }
         ensures { self.new ≡ self.old ++ line.now }

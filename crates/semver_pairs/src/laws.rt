@@ -20,7 +20,7 @@ pub fn answers_stay_as_the_input_goes_on()
         → BeginsAnswers (pairs_read is_end (read ++ more)) written }
 {}
 
-/// The ended lines, each with a newline byte after it, and the rest are the bytes.
+/// The ended lines, each followed by a newline byte, and then the rest, are the bytes.
 pub fn joined_lines_are_the_bytes()
     ensures { (bytes : List ℕ) → joined (divided bytes).ended (divided bytes).rest ≡ bytes }
 {}

@@ -6,7 +6,7 @@ ghost use Rattle.memchr.specs.Find.{IsFirstByte, is_byte};
 ghost use Rattle.node_semver.specs.ErrorLocation.{newline};
 ghost use Rattle.semver_pairs.specs.Private.Splitting.{BeginsWithLine, HasNoNewline};
 
-/// The bytes before the first newline byte, and the bytes after it.
+/// Returns the bytes before the first newline byte, and the bytes after it.
 #[tactic(auto, using(crate::proofs::LineLemmas::first_line))]
 pub(crate) fn split_line(bytes: &[u8]) -> Option<(&[u8], &[u8])>
     ensures split { IfSome result (λ pair. BeginsWithLine bytes.now pair.0.now pair.1.now) }
@@ -18,7 +18,7 @@ pub(crate) fn split_line(bytes: &[u8]) -> Option<(&[u8], &[u8])>
     Some((&bytes[..at], &bytes[at + 1..]))
 }
 
-/// The index of the first newline byte. Most lines are too short for a vector search to help.
+/// Returns the index of the first newline byte. It looks at one byte after another, since most lines are short.
 fn newline_place(bytes: &[u8]) -> Option<usize>
     ensures { IsFirstByte (is_byte newline) bytes.now result }
 {
@@ -30,14 +30,14 @@ fn newline_place(bytes: &[u8]) -> Option<usize>
     None
 }
 
-/// The bytes after a line and its newline byte, if the bytes begin with these.
+/// Returns the bytes after a line and its newline byte, if the bytes begin with both.
 pub(crate) fn past_line<'b>(bytes: &'b [u8], line: &[u8]) -> Option<&'b [u8]>
     ensures { IfSome result (λ rest. bytes.now ≡ line.now ++ (newline ∷ rest.now)) }
 {
     bytes.strip_prefix(line)?.strip_prefix(b"\n")
 }
 
-/// A line without one carriage return at its end, if it has one.
+/// Returns the line without one carriage return at its end, if it has one.
 #[inline]
 pub(crate) fn without_return(line: &[u8]) -> &[u8]
     ensures line { result.now ≡ strip_carriage_return line.now }

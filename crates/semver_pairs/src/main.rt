@@ -1,5 +1,5 @@
-//! Reads lines from standard input, by turns a range and a version. Writes for each two lines whether the version
-//! satisfies the range: `yes`, `no`, `bad range`, `bad version` or `missing version`.
+//! Reads pairs of lines from standard input: a range and a version. Writes for each pair whether the version satisfies
+//! the range: `yes`, `no`, `bad range`, `bad version` or `missing version`.
 #![tactic(auto)]
 
 mod answering;

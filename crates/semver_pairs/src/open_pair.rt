@@ -19,7 +19,7 @@ pub(crate) struct OpenPair {
 }
 
 impl OpenPair {
-    /// Nothing of a pair.
+    /// Returns an open pair of which nothing was read.
     pub(crate) fn new(alloc: Global) -> OpenPair
         ensures lines { IsOpen result }
         ensures none { open_bytes result ≡ [] }
@@ -31,7 +31,7 @@ impl OpenPair {
         }
     }
 
-    /// Returns `true` if nothing of it was read.
+    /// Returns `true` if nothing of the pair was read.
     #[tactic(auto, using(crate::proofs::OpenPairLemmas::open_pair))]
     pub(crate) fn is_empty(&self) -> bool
         ensures { IsTrue result ↔ (open_bytes self.now ≡ []) }
@@ -40,21 +40,21 @@ impl OpenPair {
         !is_range_ended && self.range.is_empty()
     }
 
-    /// Returns `true` if its range line is ended, and something of its version line was read.
+    /// Returns `true` if the range line is ended, and something of the version line was read.
     pub(crate) fn has_version(&self) -> bool
         ensures { IsTrue result ↔ ((self.now.is_range_ended ≡ true) × (self.now.version.items ≢ [])) }
     {
         self.is_range_ended && !self.version.is_empty()
     }
 
-    /// Its range line, or the part that was read.
+    /// Returns the range line, or the part of it that was read.
     pub(crate) fn range(&self) -> &[u8]
         ensures { result.now ≡ self.now.range.items }
     {
         &self.range
     }
 
-    /// The part of its version line that was read.
+    /// Returns the part of the version line that was read.
     pub(crate) fn version(&self) -> &[u8]
         ensures { result.now ≡ self.now.version.items }
     {
@@ -131,7 +131,7 @@ impl OpenPair {
         }
     }
 
-    /// Starts another pair with these bytes.
+    /// Begins a new pair with these bytes.
     #[tactic(auto, using(crate::proofs::OpenPairLemmas::open_pair))]
     pub(crate) fn begin(&mut self, bytes: &[u8]) -> Result<(), RunError>
         requires { pairs_read false bytes.now ≡ [] }

@@ -1,4 +1,4 @@
-//! The answers for what one read returned, and for what is left at the end.
+//! The answers for the bytes of one read, and for the bytes that are left at the end of the input.
 ghost use Rattle.std.specs.Prelude.{◌≡◌, ◌↔◌, [], ◌++◌, IfOk, IfSome, IfNone, OnOk, OnErr, IsErrOf};
 ghost use Rattle.semver_pairs.specs.GaugeValue.{HasFailed};
 ghost use Rattle.semver_pairs.specs.Private.Answering.{AnswersAll, AnswersAllSome, AnswersPast, AnswersSome};
@@ -13,7 +13,7 @@ use crate::run_error::RunError;
 use std::alloc::Global;
 use std::io::Write;
 
-/// Adds the answers for the pairs that a piece completes.
+/// Adds the answers for the pairs that a piece of the input completes.
 #[tactic(auto, using(crate::proofs::MoveLemmas::piece_steps))]
 pub(crate) fn answer_piece<W: Write>(
     alloc: Global,
@@ -82,7 +82,7 @@ fn answer_open<'b, W: Write>(
     Ok(Some(rest))
 }
 
-/// Adds the answer for the last pair, after the end was read.
+/// Adds the answer for the last pair, after the end of the input was read.
 #[tactic(auto, using(crate::proofs::RunLemmas::last_steps))]
 pub(crate) fn answer_last<W: Write>(
     alloc: Global,

@@ -4,7 +4,7 @@ ghost use Rattle.std.specs.Str.{IsAscii};
 
 use std::str;
 
-/// The text of a line, or `None` if it is not UTF-8. A line that is known to be ASCII is not tested again.
+/// Returns the text of a line, or `None` if it is not UTF-8. A line that is known to be ASCII is not tested again.
 // `inline(always)` in this file: most lines are known to be ASCII, which is then one test.
 #[inline(always)]
 pub(crate) fn text_of(line: &[u8], is_ascii: bool) -> Option<&str>
@@ -18,7 +18,7 @@ pub(crate) fn text_of(line: &[u8], is_ascii: bool) -> Option<&str>
     str::from_utf8(line).ok()
 }
 
-/// Returns `true` if a line is ASCII, which can be known already.
+/// Returns `true` if a line is ASCII. It is not tested if that is known.
 #[inline(always)]
 fn is_ascii_line(line: &[u8], is_known: bool) -> bool
     requires { IsTrue is_known → IsAscii line.now }

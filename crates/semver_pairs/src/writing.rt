@@ -1,4 +1,4 @@
-//! Writing the whole of a text.
+//! Writing a whole text.
 ghost use Rattle.std.specs.Prelude.{◌≡◌, ◌↔◌, ℕ, take, OnOk, OnErr, IfErr, IsErr};
 ghost use Rattle.std.specs.Io.KnownBytes.{Appends};
 ghost use Rattle.semver_pairs.specs.GaugeValue.{HasFailed};
@@ -7,7 +7,7 @@ use crate::gauge::Gauge;
 use crate::run_error::RunError;
 use std::io::Write;
 
-/// Writes all of the text, in as many calls as it takes.
+/// Writes the whole text, with as many calls of `write` as are needed.
 #[tactic(auto, using(crate::proofs::ByteLemmas::known_bytes))]
 pub(crate) fn write_all<W: Write>(writer: &mut Gauge<W>, text: &[u8]) -> Result<(), RunError>
     requires { ¬ HasFailed writer.old }

@@ -1,0 +1,5 @@
+-- What the contracts of this program say, in reading order.
+
+pub mod Arguments  -- what the arguments ask for
+pub mod Output  -- what is read, and what is written for it
+pub mod Errors  -- the error for an error of the check

@@ -1,33 +1,37 @@
 //! The arguments of the program.
+ghost use Rattle.std.specs.Prelude.{◌≡◌, ◌↔◌, [], ◌∷◌, IsTrue, codes, map, string_bytes};
+ghost use Rattle.node_semver.specs.Error.{out_of_memory, refusal_of};
+ghost use Rattle.npm_lock_check.specs.Arguments.{IsNodeOf};
+
 use crate::run_error::RunError;
-use node_semver::{SemverErrorKind, Version};
+use node_semver::{SemverError, SemverErrorKind, Version};
 use std::alloc::Global;
 
-/// Returns the version of Node that the arguments name, if they name one. The first of them comes after the program's
-/// name.
-pub fn node_of(
-    alloc: Global,
-    option: Option<&String>,
-    version: Option<&String>,
-    more: bool,
-) -> Result<Option<Version>, RunError> {
-    let Some(option) = option else {
-        return Ok(None);
-    };
-    match version {
-        Some(version) if option.as_str() == "--node" && !more => version_of(
-            alloc,
-            version.as_str(),
-        ),
+/// Returns the version of Node that the words after the program's name ask for, if there are any.
+pub fn node_of(alloc: Global, words: &[String]) -> Result<Option<Version>, RunError>
+    ensures { IsNodeOf (map string_bytes words.now) result }
+{
+    match words {
+        [] => Ok(None),
+        [option, text] if option.as_str() == "--node" => version_of(alloc, text.as_str()),
         _ => Err(RunError::Arguments),
     }
 }
 
-/// The version of a text.
-fn version_of(alloc: Global, text: &str) -> Result<Option<Version>, RunError> {
+/// The version of the text after `--node`.
+fn version_of(alloc: Global, text: &str) -> Result<Option<Version>, RunError>
+    ensures { IsNodeOf (codes "--node" ∷ text.now ∷ []) result }
+{
     match Version::parse(alloc, text) {
         Ok(version) => Ok(Some(version)),
-        Err(error) if matches!(error.kind(), SemverErrorKind::OutOfMemory) => Err(RunError::Memory),
+        Err(error) if is_memory(&error) => Err(RunError::Memory),
         Err(_) => Err(RunError::NodeVersion),
     }
+}
+
+/// Returns `true` if a text was not read because an allocation failed.
+fn is_memory(error: &SemverError) -> bool
+    ensures { IsTrue result ↔ ((refusal_of error.now).kind ≡ out_of_memory) }
+{
+    matches!(error.kind(), SemverErrorKind::OutOfMemory)
 }

@@ -7,50 +7,39 @@
 #![tactic(auto)]
 
 mod arguments;
+mod ending;
 mod output;
 mod run_error;
 
 use arguments::node_of;
+use ending::status_of;
+use npm_lock::Problems;
 use output::run;
-use run_error::RunError;
+use run_error::{RunError, read_error};
 use std::env;
 use std::process::ExitCode;
 
-/// Ends with the status that the head of this file names. A line on standard error that cannot be written is dropped.
+/// Ends with the status of `status_of`. A line on standard error that cannot be written is dropped.
 fn main(rt: HostRuntime) -> ExitCode {
-    let alloc = rt.alloc();
-    let node = match env::args(&rt) {
-        Ok(mut words) => {
-            // The first word is the program's name.
-            let _ = words.next();
-            let (option, version) = (words.next(), words.next());
-            node_of(
-                alloc,
-                option.as_ref(),
-                version.as_ref(),
-                words.next().is_some(),
-            )
-        }
-        Err(_) => Err(RunError::Arguments),
+    let outcome = checked(&rt);
+    let _ = match &outcome {
+        Ok(problems) => eprintln!(rt;
+            "{} packages, {} dependencies, {} problems, {} not checked",
+            problems.packages,
+            problems.dependencies,
+            problems.list.len(),
+            problems.unchecked
+        ),
+        Err(error) => eprintln!(rt; "npm_lock_check: {error}"),
     };
-    let outcome = match node {
-        Ok(node) => run(alloc, &mut rt.stdin(), &mut rt.stdout(), node.as_ref()),
-        Err(error) => Err(error),
-    };
-    match outcome {
-        Ok(problems) => {
-            let _ = eprintln!(rt;
-                "{} packages, {} dependencies, {} problems, {} not checked",
-                problems.packages,
-                problems.dependencies,
-                problems.list.len(),
-                problems.unchecked
-            );
-            ExitCode::from(if problems.list.is_empty() { 0 } else { 1 })
-        }
-        Err(error) => {
-            let _ = eprintln!(rt; "npm_lock_check: {error}");
-            ExitCode::from(2)
-        }
-    }
+    ExitCode::from(status_of(&outcome))
+}
+
+/// Checks standard input, with what the arguments ask for.
+fn checked(rt: &HostRuntime) -> Result<Problems, RunError> {
+    let words = env::args(rt).map_err(|error| read_error(&error))?;
+    // The first word is the program's name.
+    let words: Vec<String> = words.skip(1).collect(rt.alloc())?;
+    let node = node_of(rt.alloc(), &words)?;
+    run(rt.alloc(), &mut rt.stdin(), &mut rt.stdout(), node.as_ref())
 }

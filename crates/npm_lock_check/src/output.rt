@@ -1,5 +1,11 @@
 //! What the program writes.
-use crate::run_error::RunError;
+ghost use Rattle.std.specs.Prelude.{◌≡◌, ◌≢◌, List, ℕ, IfErr, IfOk, map, option_map, string_bytes};
+ghost use Rattle.std.specs.Io.KnownBytes.{Keeps};
+ghost use Rattle.serde_json.specs.View.{view};
+ghost use Rattle.npm_lock.specs.Outcomes.{problem_value};
+ghost use Rattle.npm_lock_check.specs.Output.{IsChecked, IsInput, IsRefused, lines};
+
+use crate::run_error::{RunError, read_error};
 use node_semver::Version;
 use npm_lock::{Problem, Problems, check};
 use serde_json::Value;
@@ -16,7 +22,13 @@ pub fn run<R: Read, W: Write>(
     reader: &mut R,
     writer: &mut W,
     node: Option<&Version>,
-) -> Result<Problems, RunError> {
+) -> Result<Problems, RunError>
+    ensures checked { IfOk result (IsChecked (R.remaining reader.old) (R.remaining reader.new)
+        (W.contents writer.old) (W.contents writer.new) (option_map (λ version. version.now) node.entry)) }
+    ensures refused { IfErr result (IsRefused (R.remaining reader.old) (R.remaining reader.new)) }
+    ensures unwritten { IfErr result (λ error. error ≢ RunError.Write
+        → Keeps (W.contents writer.old) (W.contents writer.new)) }
+{
     let lock = read_lock(alloc, reader)?;
     let problems = check(alloc, &lock, node)?;
     let lines = lines_of(alloc, &problems.list)?;
@@ -27,10 +39,14 @@ pub fn run<R: Read, W: Write>(
 }
 
 /// Reads a JSON value.
-fn read_lock<R: Read>(alloc: Global, reader: &mut R) -> Result<Value, RunError> {
+fn read_lock<R: Read>(alloc: Global, reader: &mut R) -> Result<Value, RunError>
+    ensures value { IfOk result (λ lock. IsInput (R.remaining reader.old) (R.remaining reader.new) (view lock)) }
+    ensures refused { IfErr result (IsRefused (R.remaining reader.old) (R.remaining reader.new)) }
+    ensures unwritten { IfErr result (λ error. error ≢ RunError.Write) }
+{
     let mut bytes = Vec::new(alloc);
-    if reader.read_to_end(&mut bytes).is_err() {
-        return Err(RunError::Read);
+    if let Err(error) = reader.read_to_end(&mut bytes) {
+        return Err(read_error(&error));
     }
     match Value::from_slice(alloc, bytes.as_slice()) {
         Ok(value) => Ok(value),
@@ -40,7 +56,9 @@ fn read_lock<R: Read>(alloc: Global, reader: &mut R) -> Result<Value, RunError> 
 }
 
 /// The lines of problems.
-fn lines_of(alloc: Global, problems: &[Problem]) -> Result<String, AllocError> {
+fn lines_of(alloc: Global, problems: &[Problem]) -> Result<String, AllocError>
+    ensures { IfOk result (λ text. string_bytes text ≡ lines (map problem_value problems.now)) }
+{
     let mut lines = String::new(alloc);
     for problem in problems {
         let text = problem.to_json(alloc)?.to_string(alloc)?;

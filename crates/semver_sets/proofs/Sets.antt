@@ -6,4 +6,5 @@ pub mod Merging
 pub mod Convex
 pub mod AlternativeSets
 pub mod SetLemmas
+pub mod FewSets
 pub mod MergedSpans

@@ -68,6 +68,23 @@ fn admits_prerelease<V: Asked, C: Counts>(set: &Span<End>, version: &V, comparis
     ensures admitted { IsTrue result → C.count comparisons.old + 2 ≤ C.count comparisons.new }
     ensures unopened { ¬ HasOpenEnd (V.asked version.now) set.now → C.count comparisons.new ≡ C.count comparisons.old }
 {
+    admits_opened(set, version, comparisons)
+}
+
+// The same, inlined.
+#[inline(always)]
+pub(crate) fn admits_opened<V: Asked, C: Counts>(
+    set: &Span<End>,
+    version: &V,
+    comparisons: &mut C,
+) -> bool
+    requires { IsPrerelease (V.asked version.now) }
+    ensures answer { IsTrue result ↔ SetAdmits set.now (V.asked version.now) }
+    ensures adds { C.count comparisons.old ≤ C.count comparisons.new }
+    ensures short { C.count comparisons.new ≤ C.count comparisons.old + 2 }
+    ensures admitted { IsTrue result → C.count comparisons.old + 2 ≤ C.count comparisons.new }
+    ensures unopened { ¬ HasOpenEnd (V.asked version.now) set.now → C.count comparisons.new ≡ C.count comparisons.old }
+{
     has_open_end(set, version) && has_inside(set, version, comparisons)
 }
 

@@ -25,11 +25,11 @@ use std::alloc::{AllocError, Global};
 use std::marker::Model;
 
 // The greatest number of sets that have no list of openings: a prerelease is then looked for in each of them.
-const FEW: usize = 8;
+const FEW: usize = 4;
 
 /// A list of sets, with an index to find a version in it. The index has two parts: the merged spans of the sets, as
 /// places in the list, and for each triple of which a prerelease is at an end, the sets that have such an end. The
-/// second part is empty for up to eight sets.
+/// second part is empty for up to four sets.
 ///
 /// A contract sees the list alone.
 #[derive(Debug, Drop)]
@@ -65,7 +65,7 @@ impl Searched {
     ///
     /// # Memory
     ///
-    /// Allocates the index. It has no places if the sets ascend and do not touch, and no triples for up to eight sets, or
+    /// Allocates the index. It has no places if the sets ascend and do not touch, and no triples for up to four sets, or
     /// if no end is a prerelease.
     pub fn of(alloc: Global, sets: Vec<Span<End>>) -> Result<Searched, AllocError>
         ensures { IfOk result (λ searched. searched ≡ sets.items) }

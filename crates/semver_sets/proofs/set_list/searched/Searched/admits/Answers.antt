@@ -42,7 +42,7 @@ returns-then-not-is_prerelease-clause-short g c =
 pub is_in_opened-requires : goal.is_in_opened-requires
 is_in_opened-requires g c =
     let v = g.V.Asked.asked c.args.version.now in
-    let many : 8 < length c.self.inside.sets.items =
+    let many : 4 < length c.self.inside.sets.items =
     omega (arith, c.deref-3.ensures.len, ap length c.deref-3.ensures.value, c.len.ensures, c.if-len-le-FEW.false) in
     let found : c.openings_at-openings.result.now ≡ filter
     (is_opening_of v) c.self.inside.openings.items = search rules in
@@ -57,7 +57,7 @@ is_in_opened-requires g c =
 pub returns-clause-answer : goal.returns-clause-answer
 returns-clause-answer g c =
     let v = g.V.Asked.asked c.args.version.now in
-    let many : 8 < length c.self.inside.sets.items =
+    let many : 4 < length c.self.inside.sets.items =
     omega (arith, c.deref-3.ensures.len, ap length c.deref-3.ensures.value, c.len.ensures, c.if-len-le-FEW.false) in
     let found = c.openings_at-openings.result.now in
     let filtered : found ≡ filter (is_opening_of v) c.self.inside.openings.items = search rules in
@@ -73,7 +73,7 @@ returns-clause-answer g c =
 pub returns-clause-short : goal.returns-clause-short
 returns-clause-short g c =
     let v = g.V.Asked.asked c.args.version.now in
-    let many : 8 < length c.self.inside.sets.items =
+    let many : 4 < length c.self.inside.sets.items =
     omega (arith, c.deref-3.ensures.len, ap length c.deref-3.ensures.value, c.len.ensures, c.if-len-le-FEW.false) in
     let found = c.openings_at-openings.result.now in
     let filtered : found ≡ filter (is_opening_of v) c.self.inside.openings.items = search rules in

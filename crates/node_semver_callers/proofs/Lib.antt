@@ -4,5 +4,5 @@ mod AdmittedCuts
 mod LeastOfText
 -- one version more of a list of which a range text hits some
 mod MoreHits
--- what a range admits beyond the union of two others
+-- what a range admits beyond the union of others
 mod UnionHits

@@ -1,5 +1,7 @@
 -- The definitions that the contracts of this crate use beside those of `node_semver`.
 
+-- what an advisory of several ranges hits and spares
+pub mod Advisory
 -- why a call has no result
 pub mod Failure
 -- which versions of a list a range text admits

@@ -10,7 +10,8 @@
 //! | the least version that a manifest allows | [`least::least_allowed`] |
 //! | one range for two dependents | [`common::shared_range`] |
 //! | which installed versions an advisory's range hits | [`advisory::versions_hit`] |
-//! | the least version that a manifest allows and an advisory of two ranges spares | [`spared::least_spared`] |
+//! | the least version that a range admits and an advisory of several ranges spares | [`spared::least_spared`] |
+//! | does an advisory of several ranges cover a range | [`spared::is_covered`] |
 //! | a range from JSON, with the line and column of its error | [`package::range_of_member`] |
 //! | a tree of ranges: the versions that two dependents accept and an advisory does not hit | [`tree::unhit_range`] |
 #![tactic(auto)]

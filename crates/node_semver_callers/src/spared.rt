@@ -1,53 +1,117 @@
-//! Whether an advisory of two ranges hits all that a manifest allows, and the least version that it spares.
+//! An advisory of several ranges: whether it covers another range, and the least version that it spares.
 
-ghost use Rattle.std.specs.Prelude.{◌⊎◌, ◌↔◌, IfErr, IfOk, IfSome, IsNone};
-ghost use Rattle.node_semver_callers.specs.Failure.{IsFailureOf};
-ghost use Rattle.semver_sets.specs.Meaning.{TextAdmits};
-ghost use Rattle.semver_sets.specs.Order.{IsBelow};
+ghost use Rattle.std.specs.Prelude.{◌≡◌, ◌≢◌, ◌↔◌, [], IfOk, IfSome, IsNone, IsTrue};
+ghost use Rattle.node_semver_callers.specs.Advisory.{HasCut, IsHit, IsSpared};
+ghost use Rattle.semver_cuts.specs.declared.cut.Cut.{Cut};
+ghost use Rattle.semver_cuts.specs.Common.{IsInSome};
+ghost use Rattle.semver_sets.specs.Comparison.{version_cmp};
+ghost use Rattle.semver_sets.specs.Meaning.{RangeAdmits};
 ghost use Rattle.semver_sets.specs.Version.{VersionValue};
+ghost use Rattle.node_semver.specs.Least.{IsLeastOf, IsNoneOf};
+ghost use Rattle.node_semver.specs.RangeAlgebra.{sets_of_answer};
 
-use crate::Failure;
 use node_semver::{Range, Version};
-use std::alloc::Global;
+use std::alloc::{AllocError, Global};
 
-/// Returns the least version that the manifest's range admits and neither of the advisory's ranges does, or `None` if
-/// the advisory hits every version that the manifest allows.
+/// Returns the least version that the range admits and none of the advisory's ranges does, or `None` if the advisory
+/// hits every version of the range.
 pub fn least_spared(
     alloc: Global,
-    asked: &str,
-    one: &str,
-    other: &str,
-) -> Result<Option<Version>, Failure>
-    ensures spared { IfOk result (λ found. IfSome found (λ least.
-        TextAdmits asked.now least × ¬ (TextAdmits one.now least ⊎ TextAdmits other.now least))) }
-    ensures least { IfOk result (λ found. IfSome found (λ least. (v : VersionValue) → TextAdmits asked.now v
-        → ¬ (TextAdmits one.now v ⊎ TextAdmits other.now v) → ¬ IsBelow v least)) }
-    ensures none { IfOk result (λ found. IsNone found ↔ ((v : VersionValue) → TextAdmits asked.now v
-        → ¬ ¬ (TextAdmits one.now v ⊎ TextAdmits other.now v))) }
-    ensures refused { IfErr result (λ failure.
-        IsFailureOf asked.now failure ⊎ (IsFailureOf one.now failure ⊎ IsFailureOf other.now failure)) }
+    range: &Range,
+    advisory: &[Range],
+) -> Result<Option<Version>, AllocError>
+    ensures least { IfOk result (λ found. IfSome found (IsLeastOf (IsSpared range.now advisory.now))) }
+    ensures none { IfOk result (λ found. IsNone found ↔ IsNoneOf (IsSpared range.now advisory.now)) }
 {
-    let range = Range::parse(alloc, asked)?;
-    let hit = Range::parse(alloc, one)?;
-    let also_hit = Range::parse(alloc, other)?;
-    let advisory = hit.union(alloc, &also_hit)?;
-    Ok(range.least_beyond(alloc, &advisory)?)
+    match union_of(alloc, advisory)? {
+        Some(hit) => Ok(range.least_beyond(alloc, &hit)?),
+        None => Ok(range.min_version(alloc)?),
+    }
+}
+
+/// Returns `true` if the advisory has a range, and each cut of the other range lies in one of its ranges.
+///
+/// This counts prereleases that lie in a range and that it does not admit. [`least_spared`] does not.
+pub fn is_covered(alloc: Global, range: &Range, advisory: &[Range]) -> Result<bool, AllocError>
+    ensures { IfOk result (λ covered. IsTrue covered ↔ ((advisory.now ≢ [])
+        × ((cut : Cut VersionValue) → IsInSome version_cmp range.now cut → HasCut advisory.now cut))) }
+{
+    match union_of(alloc, advisory)? {
+        Some(hit) => Ok(hit.allows_all(range)),
+        None => Ok(false),
+    }
+}
+
+/// Returns the union of the ranges, or `None` if there are none. Each step copies the sets so far.
+pub fn union_of(alloc: Global, ranges: &[Range]) -> Result<Option<Range>, AllocError>
+    ensures none { IfOk result (λ union. IsNone union ↔ (ranges.now ≡ [])) }
+    ensures admitted { IfOk result (λ union. (v : VersionValue) →
+        RangeAdmits (sets_of_answer union) v ↔ IsHit ranges.now v) }
+    ensures cuts { IfOk result (λ union. (cut : Cut VersionValue) →
+        IsInSome version_cmp (sets_of_answer union) cut ↔ HasCut ranges.now cut) }
+{
+    let Some((first, others)) = ranges.split_first() else {
+        return Ok(None);
+    };
+    let mut union = first.clone()?;
+    for range in others {
+        union = union.union(alloc, range)?;
+    }
+    Ok(Some(union))
 }
 
 #[cfg(test)]
 mod tests {
-    use super::least_spared;
+    use super::{is_covered, least_spared};
     use crate::checks::is_found;
+    use node_semver::{Range, SemverError};
     use std::alloc::Global;
 
     #[test]
     fn finds_the_least_version_that_is_spared(rt: HostRuntime) {
         let alloc = rt.alloc();
-        assert!(rt; is_spared(alloc, "^4", "<3.10.2", ">=4 <4.17.21", Some("4.17.21")));
-        assert!(rt; is_spared(alloc, "^4.17.20", ">=4.17.21", "<4.17.21", None));
+        let advisory = ["<3.10.2", ">=4 <4.17.21", ">=5.0.0-0 <5.0.1"];
+        assert!(rt; is_spared(alloc, "^4", &advisory, Some("4.17.21")));
+        assert!(rt; is_spared(alloc, "^4.17.20", &[">=4.17.21", "<4.17.21"], None));
+        assert!(rt; is_spared(alloc, "^4", &[], Some("4.0.0")));
     }
 
-    fn is_spared(alloc: Global, asked: &str, one: &str, other: &str, print: Option<&str>) -> bool {
-        is_found(alloc, &least_spared(alloc, asked, one, other), print)
+    #[test]
+    fn compares_cuts_with_all_ranges_together(rt: HostRuntime) {
+        let alloc = rt.alloc();
+        assert!(rt; is_answered(alloc, "^4.17.20", &[">=4.17.21", "<4.17.21"], true));
+        assert!(rt; is_answered(alloc, "^4.17.20", &[">4.17.21", "<4.17.21"], false));
+        assert!(rt; is_answered(alloc, "^4.17.20", &[], false));
+    }
+
+    fn ranges_of(alloc: Global, texts: &[&str]) -> Result<Vec<Range>, SemverError> {
+        let mut ranges = Vec::new(alloc);
+        for text in texts {
+            ranges.push(Range::parse(alloc, text)?)?;
+        }
+        Ok(ranges)
+    }
+
+    fn is_spared(alloc: Global, range: &str, advisory: &[&str], print: Option<&str>) -> bool {
+        let Ok(range) = Range::parse(alloc, range) else {
+            return false;
+        };
+        let Ok(advisory) = ranges_of(alloc, advisory) else {
+            return false;
+        };
+        is_found(alloc, &least_spared(alloc, &range, &advisory), print)
+    }
+
+    fn is_answered(alloc: Global, range: &str, advisory: &[&str], covered: bool) -> bool {
+        let Ok(range) = Range::parse(alloc, range) else {
+            return false;
+        };
+        let Ok(advisory) = ranges_of(alloc, advisory) else {
+            return false;
+        };
+        match is_covered(alloc, &range, &advisory) {
+            Ok(answer) => answer == covered,
+            Err(_) => false,
+        }
     }
 }

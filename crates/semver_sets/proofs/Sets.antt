@@ -7,3 +7,4 @@ pub mod Convex
 pub mod AlternativeSets
 pub mod SetLemmas
 pub mod CommonSpan
+pub mod FewSets

@@ -77,6 +77,23 @@ fn admits_prerelease<V: AsVersion, C: Counts>(
     ensures admitted { IsTrue result → C.count comparisons.old + 2 ≤ C.count comparisons.new }
     ensures unopened { ¬ HasOpenEnd (V.seen version.now) set.now → C.count comparisons.new ≡ C.count comparisons.old }
 {
+    admits_opened(set, version, comparisons)
+}
+
+// The same, inlined.
+#[inline(always)]
+pub(crate) fn admits_opened<V: AsVersion, C: Counts>(
+    set: &Span<End>,
+    version: &V,
+    comparisons: &mut C,
+) -> bool
+    requires { IsPrerelease (V.seen version.now) }
+    ensures answer { IsTrue result ↔ SetAdmits set.now (V.seen version.now) }
+    ensures adds { C.count comparisons.old ≤ C.count comparisons.new }
+    ensures short { C.count comparisons.new ≤ C.count comparisons.old + 2 }
+    ensures admitted { IsTrue result → C.count comparisons.old + 2 ≤ C.count comparisons.new }
+    ensures unopened { ¬ HasOpenEnd (V.seen version.now) set.now → C.count comparisons.new ≡ C.count comparisons.old }
+{
     has_open_end(set, version) && has_inside(set, version, comparisons)
 }
 

@@ -1,11 +1,13 @@
 -- Spans in the order of their lower ends: which of two begins later, and which ends later.
 use Rattle.std.proofs.Common.{◌≡◌, ◌⊎◌, ℕ, ◌<◌, ◌≤◌, List, [], ◌∷◌, Ordering, Less, Equal, Greater, true, false, refl}
-use Rattle.std.proofs.Common.{sym, ap, ◌∙◌, inl, inr, ⊎_elim, arith}
+use Rattle.std.proofs.Common.{sym, ap, subst, ◌∙◌, inl, inr, ⊎_elim, arith, zero, suc, get_or, length, lit<}
 use mathlib.Core.Bool.{true≢false}
 use Rattle.std.specs.List.{AllByRecursion}
-use Rattle.std.specs.Ordering.{is_lt, nat_cmp, ordering_then}
+use Rattle.std.specs.List.Sorted.{IsPermutation, IsSorted}
+use Rattle.std.specs.Ordering.{is_lt, nat_cmp, ordering_reverse, ordering_then}
 use Rattle.std.specs.Cmp.{IsTotalOrder}
 use Rattle.std.proofs.lemmas.Cmp.{ranked}
+use Rattle.std.proofs.lemmas.List.Sorted.{IsPermutation-swap}
 use Rattle.semver_cuts.specs.declared.cut.Cut.{Cut}
 use Rattle.semver_cuts.specs.Cut.{cut_cmp}
 use Rattle.semver_cuts.specs.Ends.{IsCutAtMost, IsCutBelow}
@@ -93,3 +95,34 @@ module _ {T : Type 0} {cmp : T → T → Ordering} (o : IsTotalOrder cmp) where
   no_later-trans upper upper' place place' p (inr at) (inr same) =
       let le : place' ≤ p.place = omega (arith, at.1, same.1) in
       inr (cut_cmp-equal_left o p.span.upper upper upper' at.0 ∙ same.0, le)
+
+-- ---- two spans
+
+-- the elements of a list of two
+pub two-items : {X : Type 0} (xs : List X) (one other : X) → 2 ≤ length xs → length xs < 3 → one ≡ get_or xs 0 one
+    → other ≡ get_or xs 1 other → xs ≡ one ∷ other ∷ []
+two-items [] one other least below a b = absurd (omega arith)
+two-items (x ∷ []) one other least below a b = absurd (omega arith)
+two-items (x ∷ y ∷ []) one other least below a b = λ i. sym a i ∷ sym b i ∷ []
+two-items (x ∷ y ∷ z ∷ xs) one other least below a b = absurd (omega arith)
+
+-- two are sorted if the second is not less than the first
+pub two-sorted : {X : Type 0} (cmp : X → X → Ordering) (one other : X) → is_lt (cmp other one) ≡ false
+    → IsSorted cmp (one ∷ other ∷ [])
+two-sorted cmp one other h zero d from below = h
+two-sorted cmp one other h (suc k) d from below = absurd (omega arith)
+
+not_above : (r : Ordering) → is_lt r ≡ true → is_lt (ordering_reverse r) ≡ false
+not_above Less e = refl
+not_above Equal e = absurd (true≢false (sym e))
+not_above Greater e = absurd (true≢false (sym e))
+
+-- and the other way round if it is
+pub two-turned : {X : Type 0} (cmp : X → X → Ordering) → IsTotalOrder cmp → (one other : X)
+    → is_lt (cmp other one) ≡ true → IsSorted cmp (other ∷ one ∷ [])
+two-turned cmp o one other h =
+    two-sorted cmp other one (ap is_lt (o.antisymm one other) ∙ not_above (cmp other one) h)
+
+pub two-moved : {X : Type 0} (one other : X) → IsPermutation (one ∷ other ∷ []) (other ∷ one ∷ [])
+two-moved one other =
+    IsPermutation-swap (one ∷ other ∷ []) (other ∷ one ∷ []) 0 1 (lit< tt) (lit< tt) refl

@@ -1,5 +1,5 @@
 //! The spans of a list with their places, sorted by their lower ends.
-ghost use Rattle.std.specs.Prelude.{◌≡◌, OnOk, IfOk};
+ghost use Rattle.std.specs.Prelude.{◌≡◌, ◌∷◌, [], OnOk, IfOk};
 ghost use Rattle.std.proofs.Common.{refl};
 ghost use Rattle.std.specs.Cmp.{eq_by_cmp_equiv, nat_cmp_total, on_total, partial_equiv_from_equiv};
 ghost use Rattle.std.specs.Cmp.{partial_order_from_total, then_total};
@@ -104,4 +104,28 @@ pub(crate) fn in_order<'a, T: Ord>(
     }
     order.sort_unstable();
     Ok(order)
+}
+
+// The same for a list of two spans. Does not allocate.
+#[inline]
+pub(crate) fn two_in_order<'a, T: Ord>(one: &'a Span<T>, other: &'a Span<T>) -> [Placed<'a, T>; 2]
+    ensures same { IsPermutation (placed_from 0 (one.now ∷ other.now ∷ [])) result }
+    ensures sorted { IsSorted (placed_cmp T.cmp) result }
+    ensures rising { AreRising T.cmp (one.now ∷ other.now ∷ []) }
+{
+    let _one = one.ends();
+    let _other = other.ends();
+    let first = Placed {
+        span: one,
+        place: 0,
+    };
+    let second = Placed {
+        span: other,
+        place: 1,
+    };
+    if second < first {
+        [second, first]
+    } else {
+        [first, second]
+    }
 }

@@ -9,7 +9,7 @@ ghost use Rattle.semver_cuts.specs.Joined.{AreMerged, AreRising};
 ghost use Rattle.semver_cuts.specs.Places.{IsPlacesOf};
 ghost use Rattle.semver_cuts.specs.Private.Joining.{places_in_order};
 
-use crate::algebra::placed::{Placed, in_order};
+use crate::algebra::placed::{Placed, in_order, two_in_order};
 use crate::{Cut, Span};
 use std::alloc::{AllocError, Global};
 use std::marker::Model;
@@ -22,7 +22,7 @@ use std::marker::Model;
 ///
 /// # Memory
 ///
-/// Two numbers for each merged span, in one list. None if the list is merged as it stands.
+/// Room for at most four numbers for each merged span, in one list. None if the list is merged as it stands.
 ///
 /// # Examples
 ///
@@ -64,7 +64,7 @@ impl Places {
     /// # Memory
     ///
     /// Does not allocate if the spans are merged as they stand, as one span always is. Otherwise allocates the places,
-    /// and for the time of the call room for the spans in sorted order.
+    /// and, for more than two spans, room for the spans in sorted order for the time of the call.
     ///
     /// # Examples
     ///
@@ -74,6 +74,11 @@ impl Places {
     {
         if are_merged(spans) {
             return Ok(Places::none(alloc));
+        }
+        if let [one, other] = spans {
+            let order = two_in_order(one, other);
+            let pairs = places_in_order(alloc, &order)?;
+            return Ok(Places { pairs });
         }
         let order = in_order(alloc, spans)?;
         let pairs = places_in_order(alloc, &order)?;
@@ -168,8 +173,19 @@ fn places_in_order<T: Ord>(
         }
     }
     pairs.push((begun, place))?;
-    pairs.shrink_to_fit();
+    shrink(&mut pairs);
     Ok(pairs)
+}
+
+// Gives back the room that is not used, if it is more than the room that is. A call of the allocator for less costs
+// more than it saves: the two sets of a union often meet.
+#[inline]
+fn shrink(pairs: &mut Vec<(usize, usize)>)
+    ensures { pairs.new.items ≡ pairs.old.items }
+{
+    if pairs.len() < pairs.capacity() / 2 {
+        pairs.shrink_to_fit();
+    }
 }
 
 // Returns `true` if the second end is greater than the first, or equal to it and in an earlier span of the list.

@@ -1,6 +1,6 @@
 -- Openings in the order of their triples: those of one triple are together.
 use Rattle.std.proofs.Common.{◌≡◌, ℕ, zero, suc, ◌≤◌, ◌&&◌, Bool, true, false, List, [], ◌∷◌, ◌++◌, length, take, drop}
-use Rattle.std.proofs.Common.{get_or, arith, sym, ap, ◌∙◌, refl}
+use Rattle.std.proofs.Common.{◌+◌, ◌<◌, get_or, arith, sym, ap, ◌∙◌, refl, subst}
 use Rattle.std.specs.Prelude.{filter, not}
 use Rattle.std.specs.List.{AllByRecursion, AllWithin}
 use Rattle.std.specs.List.Sorted.{IsPartitionedBy, IsPartitionPoint, IsSortedByKey, IsNonDecreasingBy, ties}
@@ -8,9 +8,10 @@ use Rattle.std.specs.Cmp.{IsTotalOrder, nat_cmp_total, on_total, then_total, uns
 use Rattle.std.specs.Ordering.{is_eq, is_le, is_lt, nat_cmp, ordering_index, ordering_reverse, ordering_then}
 use Rattle.std.specs.declared.cmp.Ordering.{Ordering}
 use Rattle.std.specs.declared.cmp.Ordering.TheVariants.{Less, Equal, Greater}
-use Rattle.std.proofs.lemmas.List.{append-nil, take-append-drop}
+use Rattle.std.proofs.lemmas.List.{append-nil, take-append-drop, take_more}
 use Rattle.std.proofs.lemmas.List.Elements.{filter-append}
 use Rattle.std.proofs.lemmas.List.Sorted.{searchable_from_sorted}
+use Rattle.semver_cuts.specs.Lemmas.Lists.{all-append}
 use Rattle.semver_sets.specs.Version.{VersionValue}
 use Rattle.semver_sets.specs.Private.SearchViews.{is_opening_of, same_triples, triple_cmp, triple_of}
 use Rattle.semver_sets.specs.declared.set_list.opened.Opening.{Opening}
@@ -95,6 +96,32 @@ parted-drop p (suc i) [] h = h
 parted-drop p (suc i) (x ∷ xs) h =
     parted-drop p i xs (λ a b d below within e. h (suc a) (suc b) d (omega arith) (omega arith) e)
 
+-- ---- a list of which the first elements pass
+
+module _ {X : Type 0} (p : X → Bool) (xs : List X) where
+  -- one more passes
+  pub passed-more : (k : ℕ) (d : X) → k < length xs → p (get_or xs k d) ≡ true
+      → AllByRecursion (λ x. p x ≡ true) (take k xs) → AllByRecursion (λ x. p x ≡ true) (take (k + 1) xs)
+  passed-more k d within here before =
+      subst (AllByRecursion (λ x. p x ≡ true)) (sym (take_more xs k d within))
+      (all-append (λ x. p x ≡ true) (take k xs) (get_or xs k d ∷ []) before (here, tt))
+
+  same-at : (ys : List X) (k : ℕ) (d e : X) → k < length ys → get_or ys k d ≡ get_or ys k e
+  same-at [] k d e within = absurd (omega arith)
+  same-at (y ∷ ys) zero d e within = refl
+  same-at (y ∷ ys) (suc k) d e within = same-at ys k d e (omega arith)
+
+  not-true : (b : Bool) → ¬ (b ≡ true) → b ≡ false
+  not-true true never = absurd (never refl)
+  not-true false never = refl
+
+  -- none passes from the first that does not
+  pub failed-from : (k : ℕ) (d : X) → k < length xs → IsPartitionedBy p xs → p (get_or xs k d) ≡ false
+      → AllByRecursion (λ x. p x ≡ false) (drop k xs)
+  failed-from k d within parted here =
+      left (λ x. p x ≡ false) xs k (λ j e from below. not-true (p (get_or xs j e)) (λ passes.
+      absurd (cc (parted k j e from below passes, ap p (same-at xs k d e within), here))))
+
 -- ---- those of one triple
 
 module _ (t : Triple) where
@@ -171,17 +198,16 @@ module _ (t : Triple) where
       simp (alike o ∙ between (triple_cmp o.triple t) low.0 high.0)
       (ap (λ (l : List Opening). o ∷ l) (all-of xs low.1 high.1))
 
-  module _ (xs : List Opening) (i j : ℕ) (most : i ≤ length xs) (more : j ≤ length (drop i xs))
+  module _ (xs : List Opening) (i j : ℕ) (most : i ≤ length xs)
       (first : IsPartitionPoint (λ o. is_below o ≡ true) (λ o. is_below o ≡ false) xs i)
-      (second : IsPartitionPoint (λ o. is_at_most o ≡ true) (λ o. is_at_most o ≡ false) (drop i xs) j) where
+      (high : AllByRecursion (λ o. is_at_most o ≡ true) (take j (drop i xs)))
+      (past : AllByRecursion (λ o. is_at_most o ≡ false) (drop j (drop i xs))) where
     -- from the first that is not below to the last that is not above
     pub found-openings : take j (drop i xs) ≡ filter is_same xs
     found-openings =
         let others : List Opening = drop i xs in
         let low = taken (λ o. is_below o ≡ true) xs i most first.0 in
         let from = left (λ o. is_below o ≡ false) xs i first.1 in
-        let high = taken (λ o. is_at_most o ≡ true) others j more second.0 in
-        let past = left (λ o. is_at_most o ≡ false) others j second.1 in
         let here = all-of (take j others) (all-taken (λ o. is_below o ≡ false) others j from) high in
         let whole = ap (filter is_same) (take-append-drop i xs) in
         let rest = ap (filter is_same) (take-append-drop j others) in

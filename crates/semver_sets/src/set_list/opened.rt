@@ -1,7 +1,10 @@
 //! Which sets of a range have a prerelease at an end, and so *open* its triple: only they can admit other prereleases
 //! of it.
-ghost use Rattle.std.specs.Prelude.{◌≡◌, ◌≤◌, ◌*◌, ◌++◌, ◌↔◌, IfOk, OnOk, IsTrue, filter, length};
-ghost use Rattle.std.specs.List.Sorted.{IsSortedByKey};
+ghost use Rattle.std.specs.Prelude.{◌≡◌, ◌≤◌, ◌*◌, ◌++◌, ◌↔◌, IfOk, OnOk, IsTrue, drop, false, filter, length, take};
+ghost use Rattle.std.specs.Prelude.{true};
+ghost use Rattle.std.specs.List.{AllByRecursion};
+ghost use Rattle.std.specs.List.Sorted.{IsPartitionedBy, IsSortedByKey};
+ghost use Rattle.std.specs.Ordering.{is_le};
 ghost use Rattle.semver_sets.specs.Private.SearchViews.{AreOpeningsOf, opened_triple, openings_of, other_than};
 ghost use Rattle.semver_sets.specs.Private.SearchViews.{same_triples, triple_at, triple_cmp};
 
@@ -130,6 +133,23 @@ pub(crate) fn openings_at(openings: &[Opening], triple: Triple) -> &[Opening]
 {
     let begin = openings.partition_point(|opening| opening.triple < triple);
     let others = &openings[begin..];
-    let end = others.partition_point(|opening| opening.triple <= triple);
+    let end = count_at_most(others, triple);
     &others[..end]
+}
+
+// The number of openings before the first with a greater triple. Few sets open the same triple, so a loop takes fewer
+// steps than a binary search.
+#[inline]
+fn count_at_most(openings: &[Opening], triple: Triple) -> usize
+    requires { IsPartitionedBy (λ o. is_le (triple_cmp o.triple triple)) openings.now }
+    ensures bound { result ≤ length openings.now }
+    ensures first { AllByRecursion (λ o. is_le (triple_cmp o.triple triple) ≡ true) (take result openings.now) }
+    ensures others { AllByRecursion (λ o. is_le (triple_cmp o.triple triple) ≡ false) (drop result openings.now) }
+{
+    for (place, opening) in openings.iter().enumerate() {
+        if !opening.triple.cmp(&triple).is_le() {
+            return place;
+        }
+    }
+    openings.len()
 }

@@ -10,12 +10,13 @@ ghost use Rattle.semver_cuts.specs.Starts.{count_of_starts};
 ghost use Rattle.semver_sets.specs.Comparison.{version_cmp};
 ghost use Rattle.semver_sets.specs.Meaning.{AnyByRecursion, IsInside, RangeAdmits};
 ghost use Rattle.semver_sets.specs.RangeSets.{IsRangeSet};
-ghost use Rattle.semver_sets.specs.Searching.{HasDigits, IsShortSearch};
+ghost use Rattle.semver_sets.specs.Searching.{HasDigits, IsShortSearch, count_of_opening};
+ghost use Rattle.semver_sets.specs.Version.{IsPrerelease};
 ghost use Rattle.semver_sets.specs.Private.SearchViews.{AreOpeningsOf};
 
 use crate::Counts;
 use crate::end::End;
-use crate::set::{AsVersion, has_inside, is_at_or_before};
+use crate::set::{AsVersion, admits_opened, has_inside, is_at_or_before};
 use crate::set_list::copy::copies_of;
 use crate::set_list::opened::{Opening, Triple, openings, openings_at};
 use semver_cuts::Span;
@@ -23,8 +24,12 @@ use semver_cuts::algebra::{MergedSpans, Places};
 use std::alloc::{AllocError, Global};
 use std::marker::Model;
 
+// The greatest number of sets that have no list of openings: a prerelease is then looked for in each of them.
+const FEW: usize = 4;
+
 /// A list of sets, with an index to find a version in it. The index has two parts: the merged spans of the sets, as
-/// places in the list, and for each triple of which a prerelease is at an end, the sets that have such an end.
+/// places in the list, and for each triple of which a prerelease is at an end, the sets that have such an end. The
+/// second part is empty for up to four sets.
 ///
 /// A contract sees the list alone.
 #[derive(Debug, Drop)]
@@ -35,19 +40,20 @@ pub struct Searched {
 }
 
 impl Model for Searched {
-    ghost use Rattle.std.specs.Prelude.{List};
+    ghost use Rattle.std.specs.Prelude.{◌<◌, List, length};
     ghost use Rattle.semver_cuts.specs.Ends.{Ends};
     ghost use Rattle.semver_cuts.specs.Places.{IsPlacesOf};
     ghost use Rattle.semver_sets.specs.Comparison.{version_cmp};
     ghost use Rattle.semver_sets.specs.Private.SearchViews.{AreOpeningsOf};
     ghost use Rattle.semver_sets.specs.Version.{VersionValue};
+    ghost use Rattle.semver_sets.specs.declared.set_list.searched.TheConstants.{FEW};
 
     ghost Value = { List (Ends VersionValue) };
 
     ghost view = { λ s. s.sets.items };
 
     ghost invariant = { λ s. IsPlacesOf version_cmp s.sets.items s.places
-        × AreOpeningsOf s.sets.items s.openings.items };
+        × (FEW < length s.sets.items → AreOpeningsOf s.sets.items s.openings.items) };
 }
 
 impl Searched {
@@ -59,13 +65,13 @@ impl Searched {
     ///
     /// # Memory
     ///
-    /// Allocates the index. It has no places if the sets ascend and do not touch, and no triples if no end is a
-    /// prerelease.
+    /// Allocates the index. It has no places if the sets ascend and do not touch, and no triples for up to four sets, or
+    /// if no end is a prerelease.
     pub fn of(alloc: Global, sets: Vec<Span<End>>) -> Result<Searched, AllocError>
         ensures { IfOk result (λ searched. searched ≡ sets.items) }
     {
         let places = Places::of(alloc, &sets)?;
-        let openings = openings(alloc, &sets)?;
+        let openings = openings_of_many(alloc, &sets)?;
         Ok(Searched {
             sets,
             places,
@@ -123,6 +129,9 @@ impl Searched {
         if !version.is_prerelease() {
             return is_in_some(&self.merged(), version, comparisons);
         }
+        if self.sets.len() <= FEW {
+            return is_in_few(&self.sets, version, comparisons);
+        }
         let (major, minor, patch) = version.triple();
         let triple = Triple {
             major,
@@ -132,6 +141,35 @@ impl Searched {
         let openings = openings_at(&self.openings, triple);
         is_in_opened(&self.sets, openings, version, comparisons)
     }
+}
+
+// The openings of more than a few sets, and none of fewer. Does not allocate for these.
+#[inline]
+fn openings_of_many(alloc: Global, sets: &[Span<End>]) -> Result<Vec<Opening>, AllocError>
+    ensures { IfOk result (λ openings. FEW < length sets.now → AreOpeningsOf sets.now openings.items) }
+{
+    if sets.len() <= FEW {
+        Ok(Vec::new(alloc))
+    } else {
+        openings(alloc, sets)
+    }
+}
+
+// Returns `true` if one of the sets admits the prerelease.
+fn is_in_few<V: AsVersion, C: Counts>(sets: &[Span<End>], version: &V, comparisons: &mut C) -> bool
+    requires { IsPrerelease (V.seen version.now) }
+    ensures answer { IsTrue result ↔ RangeAdmits sets.now (V.seen version.now) }
+    ensures adds { C.count comparisons.old ≤ C.count comparisons.new }
+    ensures short { C.count comparisons.new
+        ≤ C.count comparisons.old + 2 * count_of_opening (V.seen version.now) sets.now }
+    ensures admitted { IsTrue result → C.count comparisons.old + 2 ≤ C.count comparisons.new }
+{
+    'sets: for set in sets {
+        if admits_opened(set, version, comparisons) {
+            return true;
+        }
+    }
+    false
 }
 
 // Returns `true` if the version lies in one of the spans. A binary search finds the last merged span that begins below

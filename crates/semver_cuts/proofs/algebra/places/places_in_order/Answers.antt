@@ -43,6 +43,6 @@ loop-next-preserved g c =
 
 pub returns : goal.returns
 returns g c =
-    c.shrink_to_fit.ensures.items ∙ c.in_ok-push-2.ensures.items
+    c.shrink.ensures ∙ c.in_ok-push-2.ensures.items
     ∙ places-over g.T.Ord.cmp c.in-Some.later.now c.loop-next.next-index c.loop-next.pairs.items _ c.loop-next.begun
     c.loop-next.place c.loop-next.upper.now c.loop-next.invariant c.loop-next-test.false

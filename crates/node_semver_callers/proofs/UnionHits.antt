@@ -4,7 +4,7 @@ use Rattle.std.proofs.Common.{◌≤◌, ◌∙◌, ap, get_or, length, subst, s
 use Rattle.std.proofs.lemmas.List.{take_all, take_more}
 use Rattle.std.specs.Prelude.{◌⊎◌}
 use Rattle.semver_cuts.specs.declared.cut.Cut.{Cut}
-use Rattle.semver_cuts.specs.Common.{IsInSome}
+use Rattle.semver_cuts.specs.SpanLists.{IsInSome}
 use Rattle.semver_cuts.specs.Ends.{Ends}
 use Rattle.semver_cuts.specs.Lemmas.Lists.{any-either, any-left, any-right}
 use Rattle.semver_sets.specs.Comparison.{version_cmp}

@@ -3,7 +3,7 @@
 ghost use Rattle.std.specs.Prelude.{◌≡◌, ◌≢◌, ◌↔◌, [], IfOk, IfSome, IsNone, IsTrue};
 ghost use Rattle.node_semver_callers.specs.Advisory.{HasCut, IsHit, IsSpared};
 ghost use Rattle.semver_cuts.specs.declared.cut.Cut.{Cut};
-ghost use Rattle.semver_cuts.specs.Common.{IsInSome};
+ghost use Rattle.semver_cuts.specs.SpanLists.{IsInSome};
 ghost use Rattle.semver_sets.specs.Comparison.{version_cmp};
 ghost use Rattle.semver_sets.specs.Meaning.{RangeAdmits};
 ghost use Rattle.semver_sets.specs.Version.{VersionValue};

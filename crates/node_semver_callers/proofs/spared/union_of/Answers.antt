@@ -1,5 +1,5 @@
 -- Each step adds what one range more admits.
-use Rattle.semver_cuts.specs.Common.{IsInSome}
+use Rattle.semver_cuts.specs.SpanLists.{IsInSome}
 use Rattle.semver_sets.specs.Comparison.{version_cmp}
 use Rattle.semver_sets.specs.Meaning.{RangeAdmits}
 use Rattle.node_semver_callers.proofs.UnionHits.{of-all, of-first, of-next}

@@ -71,21 +71,21 @@ mark_of End = 3
 abbrev NotAt : (Ends Marked → Cut Marked) → Cut Marked → Ends Marked → Type 0
 NotAt end cut other = ¬ (cut_cmp marked_cmp (end other) cut ≡ Equal)
 
-stands-by : (end : Ends Marked → Cut Marked) (first : Ends Marked) (spans : List (Ends Marked)) (cut : Cut Marked)
+first-by : (end : Ends Marked → Cut Marked) (first : Ends Marked) (spans : List (Ends Marked)) (cut : Cut Marked)
     → cut_cmp marked_cmp (end first) cut ≡ Equal
     → (before : List (Ends Marked)) (span : Ends Marked) (after : List (Ends Marked))
     → first ∷ spans ≡ before ++ span ∷ after → end span ≡ cut → AllByRecursion (NotAt end cut) before → end first ≡ cut
-stands-by end first spans cut same [] span after parts at earlier =
+first-by end first spans cut same [] span after parts at earlier =
     ap end (head-same first span spans after parts) ∙ at
-stands-by end first spans cut same (other ∷ before) span after parts at earlier =
+first-by end first spans cut same (other ∷ before) span after parts at earlier =
     absurd (earlier.0 (subst (λ s. cut_cmp marked_cmp (end s) cut ≡ Equal)
     (head-same first other spans (before ++ span ∷ after) parts) same))
 
 -- if the first span of a list has its end at the cut, that end is chosen
-first-stands : (end : Ends Marked → Cut Marked) (first : Ends Marked) (spans : List (Ends Marked)) (cut : Cut Marked)
+first-chosen : (end : Ends Marked → Cut Marked) (first : Ends Marked) (spans : List (Ends Marked)) (cut : Cut Marked)
     → cut_cmp marked_cmp (end first) cut ≡ Equal → IsFirstAt marked_cmp end (first ∷ spans) cut → end first ≡ cut
-first-stands end first spans cut same at =
-    stands-by end first spans cut same at.before at.span at.after at.parts at.end_of at.earlier
+first-chosen end first spans cut same at =
+    first-by end first spans cut same at.before at.span at.after at.parts at.end_of at.earlier
 
 -- from 0 on
 abbrev whole : Ends Marked
@@ -111,7 +111,7 @@ begins-at_first = inr (
 not-at_second : ¬ IsPieceLower marked_cmp ending_together whole (Before (2, 2))
 not-at_second (inl e) = two-not_three (ap mark_of e)
 not-at_second (inr at) =
-    one-not_two (ap mark_of (first-stands (λ s. s.upper) (from_to 1 1 2) (from_to 2 0 2 ∷ [])
+    one-not_two (ap mark_of (first-chosen (λ s. s.upper) (from_to 1 1 2) (from_to 2 0 2 ∷ [])
     (Before (2, 2)) refl at.1))
 
 abbrev beginning_together : List (Ends Marked)
@@ -134,7 +134,7 @@ ends-at_first = inr (
 ends-not_at_second : ¬ IsPieceUpper marked_cmp beginning_together whole (Before (5, 2))
 ends-not_at_second (inl e) = two-not_three (ap mark_of e)
 ends-not_at_second (inr at) =
-    one-not_two (ap mark_of (first-stands (λ s. s.lower) (from_to 1 5 6) (from_to 2 5 7 ∷ [])
+    one-not_two (ap mark_of (first-chosen (λ s. s.lower) (from_to 1 5 6) (from_to 2 5 7 ∷ [])
     (Before (5, 2)) refl at.1))
 
 -- ---- the intersection of the spans of a list: of equal lower ends the last, of equal upper ends the first

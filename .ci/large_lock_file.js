@@ -1,5 +1,8 @@
-// Writes a lock file of 2,000 packages and about 12,000 dependencies, whose graph is like a real one: each package
-// depends mostly on packages that come after it, so that cycles are few.
+// node large_lock_file.js [tree]: writes a lock file of 2,001 packages.
+// Without `tree` a package has six dependencies, mostly on packages that come after it: about 12,000 in all, at random.
+// With `tree` the graph is like a real one: a package is a dependency of one package before it, each second package
+// depends also on one of 200 packages that many share, and each hundredth on a package before it, which makes a cycle.
+const isTree = process.argv[2] === 'tree'
 let seed = 20111
 const below = n => {
   seed = (seed * 1103515245 + 12345) % 2147483648
@@ -12,8 +15,21 @@ const ranges = i =>
 const range = i => ranges(i)[below(6)]
 
 const count = 2000
+const direct = 60
+const shared = 200
+function * others (i) {
+  if (isTree) {
+    for (let j = direct + 3 * i; j < direct + 3 * i + 3 && j < count; j++) yield j
+    if (i % 2 && i < count - shared) yield count - shared + below(shared)
+    if (i % 100 === 99) yield below(i)
+    return
+  }
+  for (let k = 0; k < 6 && i + 1 < count; k++) {
+    yield below(50) === 0 ? below(count) : i + 1 + below(Math.min(300, count - i - 1))
+  }
+}
 const packages = { '': { name: 'large', version: '1.0.0', dependencies: {} } }
-for (let i = 0; i < 60; i++) packages[''].dependencies[name(i)] = range(i)
+for (let i = 0; i < direct; i++) packages[''].dependencies[name(i)] = range(i)
 for (let i = 0; i < count; i++) {
   const member = {
     version: version(i),
@@ -23,10 +39,7 @@ for (let i = 0; i < count; i++) {
     dependencies: {},
     engines: { node: '>=14' }
   }
-  for (let k = 0; k < 6 && i + 1 < count; k++) {
-    const j = below(50) === 0 ? below(count) : i + 1 + below(Math.min(300, count - i - 1))
-    member.dependencies[name(j)] = range(j)
-  }
+  for (const j of others(i)) member.dependencies[name(j)] = range(j)
   packages[`node_modules/${name(i)}`] = member
 }
 console.log(JSON.stringify({ name: 'large', version: '1.0.0', lockfileVersion: 3, requires: true, packages }, null, 2))

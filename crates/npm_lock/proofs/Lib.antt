@@ -1,3 +1,4 @@
+pub mod FindingRows
 pub mod Groups
 pub mod LockRows
 pub mod MoreFindings

@@ -1,6 +1,7 @@
--- Which problems a lock file has, in which order, and what is counted: npm's "npm ls" and "package-lock.json", "packages".
-use Rattle.std.specs.Prelude.{◌≡◌, ◌↔◌, ◌-◌, ◌^◌, ℕ, List, [], ◌∷◌, ◌++◌, Bool, true, false, IsTrue, min, Option, Some, None}
-use Rattle.std.specs.Prelude.{IsSome, codes, map, count_by}
+-- Which problems a lock file has, in which order, and what is counted: npm's "npm ls" and "package-lock.json",
+-- "packages".
+use Rattle.std.specs.Prelude.{◌≡◌, ◌↔◌, ◌-◌, ◌^◌, ℕ, List, [], ◌∷◌, ◌++◌, Bool, true, false, IsTrue, min, Option, Some}
+use Rattle.std.specs.Prelude.{None, IsSome, codes, map, count_by}
 use Rattle.std.specs.Bool.{MatchBool}
 use Rattle.std.specs.Cmp.Lexicographic.{slice_cmp}
 use Rattle.std.specs.List.{AllZip, Contains, filter_map}
@@ -36,7 +37,8 @@ pub record AreNames (asker : Data) (is_installed : Bool) (names : List (List ℕ
   pub all : (name : List ℕ) → Contains names name ↔ IsSome (asked_of asker is_installed name)
 
 -- what is found out about the dependencies of the package in this folder: one finding for each name, in their order
-pub record AreDependencyFindings (packages : Data) (folder : List ℕ) (asker : Data) (found : List Finding) : Type 0 where
+pub record AreDependencyFindings (packages : Data) (folder : List ℕ) (asker : Data) (found : List Finding)
+    : Type 0 where
   pub is_installed : Bool
   pub installed : IsTrue is_installed ↔ IsInstalled folder
   pub names : List (List ℕ)
@@ -46,7 +48,8 @@ pub record AreDependencyFindings (packages : Data) (folder : List ℕ) (asker : 
 -- ---- a package, and all of them
 
 -- the problem with the version of Node, if one is given
-abbrev pub IsNodeOutcome : (node : Option VersionValue) → (folder : List ℕ) → (asker : Data) → Option ProblemValue → Type 0
+abbrev pub IsNodeOutcome : (node : Option VersionValue) → (folder : List ℕ) → (asker : Data)
+    → Option ProblemValue → Type 0
 IsNodeOutcome None folder asker problem = problem ≡ None
 IsNodeOutcome (Some node) folder asker problem = IsEngineOutcome node folder asker problem
 

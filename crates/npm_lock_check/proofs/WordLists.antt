@@ -1,5 +1,6 @@
 -- The words after the program's name, by their number.
-use Rattle.std.proofs.Common.{◌≡◌, ◌≢◌, ℕ, ◌<◌, ◌≤◌, List, [], ◌∷◌, length, get_or, map, refl, arith, ap, sym, ◌∙◌, codes, Err}
+use Rattle.std.proofs.Common.{◌≡◌, ◌≢◌, ℕ, ◌<◌, ◌≤◌, List, [], ◌∷◌, length, get_or, map}
+use Rattle.std.proofs.Common.{Err, ap, arith, codes, refl, sym, ◌∙◌}
 use Rattle.std.proofs.Common.{String, Global, string_bytes}
 use Rattle.std.proofs.lemmas.List.{length-map}
 use Rattle.npm_lock_check.specs.Arguments.{IsNodeOf, unknown}

@@ -11,5 +11,6 @@ invariant-loop-folder l = (later : List Finding) (new : Problems)
     → AreFindings (view l.packages) (option_map (λ version. version.now) l.node) (members_view l.folder-iterator) later
     → Adds l.problems new later
     → (found : List Finding)
-    × AreFindings (view l.packages) (option_map (λ version. version.now) l.node) (members_view l.initial.folder-iterator) found
+    × AreFindings (view l.packages) (option_map (λ version. version.now) l.node)
+    (members_view l.initial.folder-iterator) found
     × IsReport found new

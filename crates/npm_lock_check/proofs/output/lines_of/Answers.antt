@@ -8,7 +8,8 @@ use Rattle.npm_lock_check.proofs.output.lines_of.Goals as goal
 pub loop-problem-preserved : goal.loop-problem-preserved
 loop-problem-preserved c =
     let text : string_bytes c.in_ok-text.text ≡ compact_text (problem_data (problem_value c.problem-item.result)) =
-    rw c.in_ok-to_json.ensures at (c.in_ok-text.ensures.text (rw c.in_ok-to_json.ensures (no_float (problem_value c.problem-item.result)))) in
+    rw c.in_ok-to_json.ensures
+    at (c.in_ok-text.ensures.text (rw c.in_ok-to_json.ensures (no_float (problem_value c.problem-item.result)))) in
     let line = c.as_str.ensures.value ∙ text in
     let more : string_bytes c.push.new.self
     ≡ (string_bytes c.loop-problem.lines ++ c.as_str.result.now) ++ (10 ∷ []) =

@@ -1,2 +1,2 @@
 pub mod PrintedExamples
-pub mod ToldExamples
+pub mod ReportExamples

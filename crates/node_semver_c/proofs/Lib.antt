@@ -1,5 +1,5 @@
 mod Alike
-mod Asked
+mod Answered
 mod Examples
 mod Found
 mod GivenSets

@@ -3,7 +3,7 @@ use Rattle.std.specs.Prelude.{◌≡◌, ◌⊎◌, ◌↔◌, ◌++◌, ℕ, Li
 use Rattle.std.specs.Prelude.{Option, Some, None, IfSome, IsNone, IsSome, Result, MatchResult}
 use Rattle.node_semver_c.specs.declared.status.Fault.{Fault}
 use Rattle.node_semver_c.specs.declared.status.TheConstants.{OK, NONE, OUT_OF_MEMORY}
-use Rattle.node_semver_c.specs.Status.{IsKept, IsRefusalTold}
+use Rattle.node_semver_c.specs.Status.{IsKept, IsRefusalReported}
 use Rattle.semver_cuts.specs.declared.cut.Cut.{Cut}
 use Rattle.semver_cuts.specs.SpanLists.{IsInSome}
 use Rattle.semver_cuts.specs.CommonSpans.{common_spans}
@@ -26,16 +26,16 @@ use Rattle.node_semver.specs.RangeAlgebra.{PairAdmits, sets_of_answer}
 
 -- the result of parsing is passed on: its value is in the handle, or its error in status and fault and the handle is
 -- empty
-abbrev pub IsTold : {X : Type 0} → Result X SemverError → ℕ → Option X → Fault → Type 0
-IsTold answer status held fault =
-    MatchResult answer (λ x. IsKept x status held) (λ e. IsRefusalTold (refusal_of e) status fault × (held ≡ None))
+abbrev pub IsReported : {X : Type 0} → Result X SemverError → ℕ → Option X → Fault → Type 0
+IsReported answer status held fault =
+    MatchResult answer (λ x. IsKept x status held) (λ e. IsRefusalReported (refusal_of e) status fault × (held ≡ None))
 
 -- a result that the call may return is passed on
-pub record IsSomeTold {X : Type 0} (Answers : Result X SemverError → Type 0) (status : ℕ) (held : Option X)
+pub record IsSomeReported {X : Type 0} (Answers : Result X SemverError → Type 0) (status : ℕ) (held : Option X)
     (fault : Fault) : Type 0 where
   pub answer : Result X SemverError
   pub promised : Answers answer
-  pub told : IsTold answer status held fault
+  pub reported : IsReported answer status held fault
 
 -- ---- results that always exist
 

@@ -2,7 +2,7 @@
 use Rattle.std.specs.Prelude.{◌≡◌, ◌⊎◌, ◌↔◌, ℕ, List, Bool, IsTrue}
 use Rattle.node_semver_c.specs.declared.status.Fault.{Fault}
 use Rattle.node_semver_c.specs.declared.status.TheConstants.{OK}
-use Rattle.node_semver_c.specs.Status.{IsRefusalTold}
+use Rattle.node_semver_c.specs.Status.{IsRefusalReported}
 use Rattle.semver_cuts.specs.Ends.{Ends}
 use Rattle.semver_sets.specs.Meaning.{IsRefused, RangeAdmits, TextAdmits}
 use Rattle.semver_sets.specs.Version.{VersionValue}
@@ -12,26 +12,27 @@ use Rattle.node_semver.specs.Error.{IsOutOfMemory, IsRefusalAt, no_valid_ranges,
 use Rattle.node_semver.specs.Fault.{IsFaultOf}
 
 -- status and fault are those of an error of which this holds
-pub record IsErrorTold (Is : SemverError → Type 0) (status : ℕ) (fault : Fault) : Type 0 where
+pub record IsErrorReported (Is : SemverError → Type 0) (status : ℕ) (fault : Fault) : Type 0 where
   pub error : SemverError
   pub is : Is error
-  pub told : IsRefusalTold (refusal_of error) status fault
+  pub reported : IsRefusalReported (refusal_of error) status fault
 
 -- the text was parsed as a version: whether that version is admitted, or the fault of the text
-pub data IsAsked (Admits : VersionValue → Type 0) (text : List ℕ) (status : ℕ) (answer : Bool) (fault : Fault)
+pub data IsAnswered (Admits : VersionValue → Type 0) (text : List ℕ) (status : ℕ) (answer : Bool) (fault : Fault)
     : Type 0 where
   answered : (v : VersionValue) → IsVersionText text v → status ≡ OK → (IsTrue answer ↔ Admits v)
-      → IsAsked Admits text status answer fault
-  refused : IsErrorTold (λ e. IsOutOfMemory e ⊎ IsFaultOf text e) status fault → IsAsked Admits text status answer fault
+      → IsAnswered Admits text status answer fault
+  refused : IsErrorReported (λ e. IsOutOfMemory e ⊎ IsFaultOf text e) status fault
+      → IsAnswered Admits text status answer fault
 
 -- the same with a range that admits
-abbrev pub IsVersionTold : List (Ends VersionValue) → List ℕ → ℕ → Bool → Fault → Type 0
-IsVersionTold sets text status answer fault = IsAsked (RangeAdmits sets) text status answer fault
+abbrev pub IsVersionReported : List (Ends VersionValue) → List ℕ → ℕ → Bool → Fault → Type 0
+IsVersionReported sets text status answer fault = IsAnswered (RangeAdmits sets) text status answer fault
 
 -- the range text is refused, or an allocation failed; or it is not refused, and the other text was parsed as a version
-pub data IsPairTold (range version : List ℕ) (status : ℕ) (answer : Bool) (fault : Fault) : Type 0 where
+pub data IsPairReported (range version : List ℕ) (status : ℕ) (answer : Bool) (fault : Fault) : Type 0 where
   range_refused :
-      IsErrorTold (λ e. IsOutOfMemory e ⊎ (IsRefusalAt range no_valid_ranges 0 e × IsRefused range)) status fault
-      → IsPairTold range version status answer fault
-  asked : ¬ IsRefused range → IsAsked (TextAdmits range) version status answer fault
-      → IsPairTold range version status answer fault
+      IsErrorReported (λ e. IsOutOfMemory e ⊎ (IsRefusalAt range no_valid_ranges 0 e × IsRefused range)) status fault
+      → IsPairReported range version status answer fault
+  accepted : ¬ IsRefused range → IsAnswered (TextAdmits range) version status answer fault
+      → IsPairReported range version status answer fault

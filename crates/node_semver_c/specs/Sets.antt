@@ -40,8 +40,8 @@ IsSetOrNone None status written = (status ≡ NONE) × IsEmptySet written
 IsSetOrNone (Some set) status written = (status ≡ OK) × IsSetWritten set written
 
 -- the same; or an allocation failed, and the handles are empty
-abbrev pub IsSetTold : Option (Ends VersionValue) → ℕ → SetHandle → Type 0
-IsSetTold set status written =
+abbrev pub IsSetReported : Option (Ends VersionValue) → ℕ → SetHandle → Type 0
+IsSetReported set status written =
     IsSetOrNone set status written ⊎ ((status ≡ OUT_OF_MEMORY) × IsEmptySet written)
 
 -- ---- what is read

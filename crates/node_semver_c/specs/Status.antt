@@ -39,7 +39,7 @@ status_of other = REFUSED
 status_of out_of_memory = OUT_OF_MEMORY
 
 -- status and fault are those of this refusal
-pub record IsRefusalTold (refusal : Refusal) (status : ℕ) (fault : Fault) : Type 0 where
+pub record IsRefusalReported (refusal : Refusal) (status : ℕ) (fault : Fault) : Type 0 where
   pub status_is : status ≡ status_of refusal.kind
   pub kind : fault.kind ≡ code_of refusal.kind
   pub offset : fault.offset ≡ refusal.offset

@@ -1,9 +1,9 @@
 //! Two texts in one call.
 ghost use Rattle.std.specs.Prelude.{IsUtf8, ◌≡◌};
-ghost use Rattle.node_semver_c.specs.Pair.{IsPairTold, IsVersionTold};
+ghost use Rattle.node_semver_c.specs.Pair.{IsPairReported, IsVersionReported};
 ghost use Rattle.node_semver_c.specs.declared.status.TheConstants.{NOT_UTF8};
 
-use crate::status::{Fault, NOT_UTF8, OK, tell};
+use crate::status::{Fault, NOT_UTF8, OK, report};
 use node_semver::{Range, Version};
 use std::alloc::Global;
 
@@ -18,8 +18,8 @@ pub extern "C" fn node_semver_satisfies_text(
     answer: &mut bool,
     fault: &mut Fault,
 ) -> u32
-    ensures told { IsUtf8 range.now → IsUtf8 version.now
-        → IsPairTold range.now version.now result answer.new fault.new }
+    ensures reported { IsUtf8 range.now → IsUtf8 version.now
+        → IsPairReported range.now version.now result answer.new fault.new }
     ensures range_not_utf8 { ¬ IsUtf8 range.now → result ≡ NOT_UTF8 }
     ensures version_not_utf8 { ¬ IsUtf8 version.now → result ≡ NOT_UTF8 }
 {
@@ -33,11 +33,11 @@ pub extern "C" fn node_semver_satisfies_text(
 }
 
 fn satisfies(alloc: Global, range: &str, version: &str, answer: &mut bool, fault: &mut Fault) -> u32
-    ensures { IsPairTold range.now version.now result answer.new fault.new }
+    ensures { IsPairReported range.now version.now result answer.new fault.new }
 {
     match Range::parse(alloc, range) {
         Ok(range) => satisfies_range(alloc, &range, version, answer, fault),
-        Err(error) => tell(&error, fault),
+        Err(error) => report(&error, fault),
     }
 }
 
@@ -48,13 +48,13 @@ fn satisfies_range(
     answer: &mut bool,
     fault: &mut Fault,
 ) -> u32
-    ensures { IsVersionTold range.now version.now result answer.new fault.new }
+    ensures { IsVersionReported range.now version.now result answer.new fault.new }
 {
     match Version::parse(alloc, version) {
         Ok(version) => {
             *answer = range.satisfies(&version);
             OK
         }
-        Err(error) => tell(&error, fault),
+        Err(error) => report(&error, fault),
     }
 }

@@ -1,6 +1,6 @@
 //! Exports on ranges.
 ghost use Rattle.std.specs.Prelude.{◌≡◌, ◌≢◌, ◌↔◌, List, [], IsTrue, IsUtf8, None, true};
-ghost use Rattle.node_semver_c.specs.Answers.{IsSomeTold};
+ghost use Rattle.node_semver_c.specs.Answers.{IsSomeReported};
 ghost use Rattle.node_semver_c.specs.Compared.{range_hash};
 ghost use Rattle.node_semver_c.specs.Printed.{IsPrinted};
 ghost use Rattle.node_semver_c.specs.declared.status.TheConstants.{NOT_UTF8};
@@ -16,7 +16,7 @@ ghost use Rattle.node_semver.specs.RangeAnswer.{IsRangeAnswer};
 
 use crate::handle::range::{RangeHandle, RangeRef};
 use crate::handle::version::VersionRef;
-use crate::status::{Fault, NOT_UTF8, keep_range, tell};
+use crate::status::{Fault, NOT_UTF8, keep_range, report};
 use crate::text::put;
 use node_semver::Range;
 use std::alloc::Global;
@@ -31,7 +31,7 @@ pub extern "C" fn node_semver_range_parse(
     fault: &mut Fault,
 ) -> u32
     requires empty { range.old.value ≡ None }
-    ensures parsed { IsUtf8 text.now → IsSomeTold (IsRangeAnswer text.now) result range.new.value fault.new }
+    ensures parsed { IsUtf8 text.now → IsSomeReported (IsRangeAnswer text.now) result range.new.value fault.new }
     ensures not_utf8 { ¬ IsUtf8 text.now → (result ≡ NOT_UTF8) × (range.new.value ≡ None) }
 {
     match std::str::from_utf8(text) {
@@ -42,11 +42,11 @@ pub extern "C" fn node_semver_range_parse(
 
 fn read(alloc: Global, text: &str, range: &mut RangeHandle, fault: &mut Fault) -> u32
     requires { range.old.value ≡ None }
-    ensures { IsSomeTold (IsRangeAnswer text.now) result range.new.value fault.new }
+    ensures { IsSomeReported (IsRangeAnswer text.now) result range.new.value fault.new }
 {
     match Range::parse(alloc, text) {
         Ok(read) => keep_range(alloc, read, range),
-        Err(error) => tell(&error, fault),
+        Err(error) => report(&error, fault),
     }
 }
 

@@ -4,7 +4,7 @@ ghost use Rattle.std.specs.List.{slice_get};
 ghost use Rattle.node_semver_c.specs.Answers.{IsFound};
 ghost use Rattle.node_semver_c.specs.Sets.{AreNoRange, AreSetsGiven, IsCutGiven, IsCutWritten, IsEmptySet};
 ghost use Rattle.node_semver_c.specs.Sets.{IsNoCut, IsNoSet, IsRangeOf, IsRangeWith, IsSetGiven};
-ghost use Rattle.node_semver_c.specs.Sets.{IsSetTold, value_in};
+ghost use Rattle.node_semver_c.specs.Sets.{IsSetReported, value_in};
 
 use crate::handle::range::{RangeHandle, RangeRef};
 use crate::handle::set::{AFTER, BEFORE, CutHandle, CutRef, END, START, SetHandle, SetRef};
@@ -31,14 +31,14 @@ pub extern "C" fn node_semver_range_set(
     set: &mut SetHandle,
 ) -> u32
     requires empty { IsEmptySet set.old }
-    ensures { IsSetTold (slice_get range.now.value place) result set.new }
+    ensures { IsSetReported (slice_get range.now.value place) result set.new }
 {
     set_at(alloc, range.get(), place, set)
 }
 
 fn set_at(alloc: Global, range: &Range, place: usize, set: &mut SetHandle) -> u32
     requires { IsEmptySet set.old }
-    ensures { IsSetTold (slice_get range.now place) result set.new }
+    ensures { IsSetReported (slice_get range.now place) result set.new }
 {
     match range.set(alloc, place) {
         Ok(Some(span)) => keep_set(alloc, &span, set),
@@ -50,7 +50,7 @@ fn set_at(alloc: Global, range: &Range, place: usize, set: &mut SetHandle) -> u3
 // Writes a set, if there is memory for its versions.
 fn keep_set(alloc: Global, span: &Span<Version>, set: &mut SetHandle) -> u32
     requires { IsEmptySet set.old }
-    ensures { IsSetTold (Some span.now) result set.new }
+    ensures { IsSetReported (Some span.now) result set.new }
 {
     let (lower, upper) = span.ends();
     let Ok((lower_kind, lower)) = kept(alloc, lower) else {

@@ -1,7 +1,7 @@
 //! What a call returns beside its value: its status, and the fault of a text that it refuses.
 ghost use Rattle.std.specs.Prelude.{◌≡◌, Some, None};
 ghost use Rattle.node_semver.specs.Error.{kind_of, refusal_of};
-ghost use Rattle.node_semver_c.specs.Status.{IsKept, IsKeptAnswer, IsRefusalTold};
+ghost use Rattle.node_semver_c.specs.Status.{IsKept, IsKeptAnswer, IsRefusalReported};
 ghost use Rattle.node_semver_c.specs.Status.{code_of, number_in, status_of};
 
 use crate::handle::range::RangeHandle;
@@ -37,10 +37,10 @@ pub struct Fault {
 }
 
 // Writes the fault of an error, and returns its status.
-pub(crate) fn tell(error: &SemverError, fault: &mut Fault) -> u32
-    ensures { IsRefusalTold (refusal_of error.now) result fault.new }
+pub(crate) fn report(error: &SemverError, fault: &mut Fault) -> u32
+    ensures { IsRefusalReported (refusal_of error.now) result fault.new }
 {
-    let (status, kind, number) = told_kind(error.kind());
+    let (status, kind, number) = kind_parts(error.kind());
     *fault = Fault {
         kind,
         offset: error.offset(),
@@ -50,7 +50,7 @@ pub(crate) fn tell(error: &SemverError, fault: &mut Fault) -> u32
 }
 
 // Returns the status, the code and the number of a kind.
-fn told_kind(kind: &SemverErrorKind) -> (u32, u32, u64)
+fn kind_parts(kind: &SemverErrorKind) -> (u32, u32, u64)
     ensures status { result.0 ≡ status_of (kind_of kind.now) }
     ensures code { result.1 ≡ code_of (kind_of kind.now) }
     ensures number { result.2 ≡ number_in (kind_of kind.now) }

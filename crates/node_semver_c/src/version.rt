@@ -1,7 +1,7 @@
 //! Exports on versions.
 ghost use Rattle.std.specs.Prelude.{◌≡◌, ◌↔◌, IsTrue, IsUtf8, None, true};
 ghost use Rattle.std.specs.Ordering.{eq_by_cmp};
-ghost use Rattle.node_semver_c.specs.Answers.{IsSomeTold};
+ghost use Rattle.node_semver_c.specs.Answers.{IsSomeReported};
 ghost use Rattle.node_semver_c.specs.Compared.{sign_of, version_hash};
 ghost use Rattle.node_semver_c.specs.Printed.{IsPrinted};
 ghost use Rattle.node_semver_c.specs.declared.status.TheConstants.{NOT_UTF8};
@@ -12,7 +12,7 @@ ghost use Rattle.semver_sets.specs.Version.{IsPrerelease, VersionValue};
 ghost use Rattle.node_semver.specs.Json.{IsVersionAnswer};
 
 use crate::handle::version::{VersionHandle, VersionRef};
-use crate::status::{Fault, NOT_UTF8, keep_version, tell};
+use crate::status::{Fault, NOT_UTF8, keep_version, report};
 use crate::text::put;
 use node_semver::Version;
 use std::alloc::Global;
@@ -29,7 +29,7 @@ pub extern "C" fn node_semver_version_parse(
 ) -> u32
     requires empty { version.old.value ≡ None }
     ensures parsed { IsUtf8 text.now
-        → IsSomeTold (IsVersionAnswer text.now) result version.new.value fault.new }
+        → IsSomeReported (IsVersionAnswer text.now) result version.new.value fault.new }
     ensures not_utf8 { ¬ IsUtf8 text.now → (result ≡ NOT_UTF8) × (version.new.value ≡ None) }
 {
     match std::str::from_utf8(text) {
@@ -40,11 +40,11 @@ pub extern "C" fn node_semver_version_parse(
 
 fn read(alloc: Global, text: &str, version: &mut VersionHandle, fault: &mut Fault) -> u32
     requires { version.old.value ≡ None }
-    ensures { IsSomeTold (IsVersionAnswer text.now) result version.new.value fault.new }
+    ensures { IsSomeReported (IsVersionAnswer text.now) result version.new.value fault.new }
 {
     match Version::parse(alloc, text) {
         Ok(read) => keep_version(alloc, read, version),
-        Err(error) => tell(&error, fault),
+        Err(error) => report(&error, fault),
     }
 }
 

@@ -77,7 +77,7 @@ mod tests {
     fn tells(alloc: Global, name: &str, text: Option<&str>) -> bool {
         match &Value::from_str(alloc, PACKAGE) {
             Ok(package) => match package.get(name) {
-                Some(member) => is_told(alloc, member, text),
+                Some(member) => is_reported(alloc, member, text),
                 None => false,
             },
             Err(_) => false,
@@ -85,7 +85,7 @@ mod tests {
     }
 
     // `None` means that a range is read.
-    fn is_told(alloc: Global, member: &Value, text: Option<&str>) -> bool {
+    fn is_reported(alloc: Global, member: &Value, text: Option<&str>) -> bool {
         match &range_of_member(alloc, member) {
             Ok(_) => text.is_none(),
             Err(error) => prints(alloc, error, text),

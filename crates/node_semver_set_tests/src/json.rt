@@ -13,7 +13,7 @@ pub(crate) fn text_of(alloc: Global, written: Result<Value, AllocError>) -> Opti
 }
 
 // The parts of an error, and its print.
-fn told(alloc: Global, error: &JsonError) -> Option<String> {
+fn described(alloc: Global, error: &JsonError) -> Option<String> {
     match error {
         JsonError::NotAString => format!(in alloc; "NotAString: {error}").ok(),
         JsonError::Semver(refusal) => {
@@ -27,14 +27,14 @@ fn told(alloc: Global, error: &JsonError) -> Option<String> {
 fn version_read(alloc: Global, value: &Value) -> Option<String> {
     match &Version::from_json(alloc, value) {
         Ok(version) => version.to_string(alloc).ok(),
-        Err(error) => told(alloc, error),
+        Err(error) => described(alloc, error),
     }
 }
 
 fn range_read(alloc: Global, value: &Value) -> Option<String> {
     match &Range::from_json(alloc, value) {
         Ok(range) => range.to_string(alloc).ok(),
-        Err(error) => told(alloc, error),
+        Err(error) => described(alloc, error),
     }
 }
 

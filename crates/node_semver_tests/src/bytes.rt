@@ -1,5 +1,5 @@
 use crate::checks::{NO_RANGE, is_print};
-use crate::told::{range_print, version_print};
+use crate::print_or_error::{range_print, version_print};
 use std::alloc::Global;
 
 // The bytes of ASCII: `d` is a digit, `x` an `x` or `X`, `i` another identifier character, `*` itself and `.` every

@@ -28,6 +28,8 @@ mod order;
 #[cfg(test)]
 mod prerelease_tags;
 #[cfg(test)]
+mod print_or_error;
+#[cfg(test)]
 mod prints;
 #[cfg(test)]
 mod questions;
@@ -43,8 +45,6 @@ mod search;
 mod spread;
 #[cfg(test)]
 mod tildes;
-#[cfg(test)]
-mod told;
 #[cfg(test)]
 mod versions;
 #[cfg(test)]

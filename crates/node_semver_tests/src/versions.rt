@@ -1,7 +1,7 @@
 use crate::checks::is_print;
 use crate::order::texts_compare;
+use crate::print_or_error::version_print;
 use crate::questions::{Question, each};
-use crate::told::version_print;
 use node_semver::{Identifier, Version};
 use std::alloc::Global;
 use std::cmp::Ordering;

@@ -82,9 +82,10 @@ fn are_equal(one: &Range, other: &Range) -> bool {
 fn is_located(error: &SemverError) -> bool {
     let span = error.span();
     let located = span.offset() == error.offset() && span.len() == 0;
-    let told = error.input().len() >= error.offset() && error.location() == (0, error.offset());
+    let is_described = error.input().len() >= error.offset()
+        && error.location() == (0, error.offset());
     let copied = error.kind().clone().is_ok_and(|kind| kind == *error.kind());
-    located && told && copied && error == error
+    located && is_described && copied && error == error
 }
 
 /// Whether two spans have an intersection, and the first has a part outside the second.

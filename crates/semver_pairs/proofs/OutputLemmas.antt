@@ -4,7 +4,7 @@ use Rattle.std.proofs.Common.{ap, refl, subst, sym, ◌∙◌}
 use Rattle.std.proofs.Common.{append_assoc, append-nil, take-append-drop, Result, Ok, Err, OnErr}
 use Rattle.std.specs.Io.KnownBytes.{Appends, IsAtEnd}
 use Rattle.std.proofs.KnownBytes.{Appends-nil, Appends-trans, Consumes-nil}
-use Rattle.semver_pairs.specs.GaugeValue.{GaugeValue, HasFailed, HasToldEnd}
+use Rattle.semver_pairs.specs.GaugeValue.{GaugeValue, HasFailed, HasReportedEnd}
 use Rattle.semver_pairs.specs.Output.{AreAnswers, BeginsAnswers, Exchanges, HasEnded, IsOutputBeforeEnd}
 use Rattle.semver_pairs.specs.Output.{IsOutputPrefix}
 use Rattle.semver_pairs.specs.Pairs.{pairs_read}
@@ -96,7 +96,7 @@ on_err-of (Err e) holds = holds
 
 -- a read gave no byte although there was room
 pub has_ended : {R : Type 0} (remaining : R → Option (List ℕ)) (gauge : GaugeValue R) (piece : List ℕ) (count : ℕ)
-    → count ≡ 0 → 0 < length piece → (HasToldEnd gauge ↔ ((count ≡ 0) × (piece ≢ [])))
+    → count ≡ 0 → 0 < length piece → (HasReportedEnd gauge ↔ ((count ≡ 0) × (piece ≢ [])))
     → (count ≡ 0 → 0 < length piece → IsAtEnd (remaining gauge.inner)) → ¬ HasFailed gauge → HasEnded remaining gauge
 has_ended remaining gauge piece count no_byte room told at_end unfailed = (
   told.1 (no_byte, λ empty. let none : length piece ≡ 0 = ap length empty in omega arith),

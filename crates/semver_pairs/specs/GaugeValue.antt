@@ -12,8 +12,8 @@ abbrev pub HasFailed : {T : Type 0} → GaugeValue T → Type 0
 HasFailed gauge = IsTrue gauge.failed
 
 -- the last read through the gauge reported the end
-abbrev pub HasToldEnd : {T : Type 0} → GaugeValue T → Type 0
-HasToldEnd gauge = IsTrue gauge.ended
+abbrev pub HasReportedEnd : {T : Type 0} → GaugeValue T → Type 0
+HasReportedEnd gauge = IsTrue gauge.ended
 
 -- the write of this piece returned an error, or wrote no byte although there was one
 abbrev pub IsFailedWrite : {E : Type 0} → List ℕ → Result ℕ E → Type 0

@@ -3,7 +3,7 @@ use Rattle.std.specs.Prelude.{◌≡◌, ℕ, List, [], ◌∷◌, ◌++◌, Boo
 use Rattle.std.specs.Io.KnownBytes.{Appends, Consumes, IsAtEnd}
 use Rattle.node_semver.specs.ErrorLocation.{newline}
 use Rattle.semver_pairs.specs.Answer.{IsAnswer}
-use Rattle.semver_pairs.specs.GaugeValue.{GaugeValue, HasFailed, HasToldEnd}
+use Rattle.semver_pairs.specs.GaugeValue.{GaugeValue, HasFailed, HasReportedEnd}
 use Rattle.semver_pairs.specs.Pairs.{Pair, both, lone, pairs_read}
 
 -- the answer for a pair. A last line without a version line has the answer `missing version`, whatever it is
@@ -31,7 +31,7 @@ IsOutputBeforeEnd read written = AreAnswers (pairs_read false read) written
 
 -- the last read reported the end: nothing is left to read, and no read has failed
 abbrev pub HasEnded : {R : Type 0} → (R → Option (List ℕ)) → GaugeValue R → Type 0
-HasEnded remaining gauge = HasToldEnd gauge × IsAtEnd (remaining gauge.inner) × (¬ HasFailed gauge)
+HasEnded remaining gauge = HasReportedEnd gauge × IsAtEnd (remaining gauge.inner) × (¬ HasFailed gauge)
 
 -- the beginning of the answers for the pairs that were completely read
 abbrev pub IsOutputPrefix : (Ended : Type 0) → (read written : List ℕ) → Type 0

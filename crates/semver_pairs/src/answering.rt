@@ -100,7 +100,7 @@ pub(crate) fn answer_range<'b, W: Write>(
         return answer_versions(alloc, None, &pair, answers, writer);
     };
     match &Range::parse(alloc, text) {
-        Err(error) if is_want_of_memory(error) => Err(RunError::Memory),
+        Err(error) if is_out_of_memory(error) => Err(RunError::Memory),
         Err(_) => answer_versions(alloc, None, &pair, answers, writer),
         Ok(range) => answer_versions(alloc, Some(range), &pair, answers, writer),
     }
@@ -179,13 +179,13 @@ fn answer_of(
     match &Version::parse(alloc, text) {
         Ok(version) if range.satisfies(version) => Ok("yes\n"),
         Ok(_) => Ok("no\n"),
-        Err(error) if is_want_of_memory(error) => Err(RunError::Memory),
+        Err(error) if is_out_of_memory(error) => Err(RunError::Memory),
         Err(_) => Ok("bad version\n"),
     }
 }
 
 /// Returns `true` if the error is that an allocation failed.
-fn is_want_of_memory(error: &SemverError) -> bool
+fn is_out_of_memory(error: &SemverError) -> bool
     ensures { IsTrue result ↔ ((refusal_of error.now).kind ≡ out_of_memory) }
 {
     matches!(error.kind(), SemverErrorKind::OutOfMemory)

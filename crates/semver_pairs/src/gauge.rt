@@ -2,7 +2,7 @@
 ghost use Rattle.std.specs.Prelude.{◌≡◌, ◌↔◌, false, IsTrue, IsErr};
 ghost use Rattle.std.specs.Io.{ReadsAtMost, WritesAtMost};
 ghost use Rattle.std.specs.Io.KnownBytes.{ReadConsumes, WriteAppends};
-ghost use Rattle.semver_pairs.specs.GaugeValue.{GaugeValue, HasFailed, HasToldEnd, IsEnd, IsFailedWrite};
+ghost use Rattle.semver_pairs.specs.GaugeValue.{GaugeValue, HasFailed, HasReportedEnd, IsEnd, IsFailedWrite};
 
 use std::io;
 use std::io::{Read, Write};
@@ -38,7 +38,7 @@ impl<T> Gauge<T> {
     pub fn new(inner: T) -> Gauge<T>
         ensures held { result.inner ≡ inner }
         ensures unfailed { ¬ HasFailed result }
-        ensures unread { ¬ HasToldEnd result }
+        ensures unread { ¬ HasReportedEnd result }
     {
         Gauge {
             inner,
@@ -95,7 +95,7 @@ impl<R: Read> Gauge<R> {
         ensures bytes { ReadConsumes (R.remaining self.old.inner) (R.remaining self.new.inner)
             result piece.new }
         ensures mark { HasFailed self.new ↔ IsErr result }
-        ensures end { HasToldEnd self.new ↔ IsEnd piece.new result }
+        ensures end { HasReportedEnd self.new ↔ IsEnd piece.new result }
     {
         let result = self.inner.read(piece);
         self.failed = result.is_err();

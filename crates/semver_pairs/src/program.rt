@@ -55,11 +55,11 @@ pub fn run<R: Read, W: Write>(
     ensures answered { OnOk result (Exchanges IsOutput (R.remaining reader.old.inner)
         (R.remaining reader.new.inner) (W.contents writer.old.inner) (W.contents writer.new.inner)) }
     ensures ended { OnOk result (HasEnded R.remaining reader.new) }
-    ensures begun { OnErr result (Exchanges (IsOutputPrefix (HasEnded R.remaining reader.new))
+    ensures beginning { OnErr result (Exchanges (IsOutputPrefix (HasEnded R.remaining reader.new))
         (R.remaining reader.old.inner) (R.remaining reader.new.inner)
         (W.contents writer.old.inner) (W.contents writer.new.inner)) }
     // After a failed read, no answer is missing.
-    ensures all_begun { IsErrOf result RunError.Read → Exchanges IsOutputBeforeEnd
+    ensures complete { IsErrOf result RunError.Read → Exchanges IsOutputBeforeEnd
         (R.remaining reader.old.inner) (R.remaining reader.new.inner)
         (W.contents writer.old.inner) (W.contents writer.new.inner) }
 

@@ -256,7 +256,7 @@ fn ends_with_a_status_and_a_line(rt: HostRuntime) {
 }
 
 /// Errors and their texts.
-const TOLD: &[(RunError, &str)] = &[
+const MESSAGES: &[(RunError, &str)] = &[
     (RunError::Read, "read failed"),
     (RunError::Write, "write failed"),
     (RunError::Memory, "out of memory"),
@@ -265,14 +265,14 @@ const TOLD: &[(RunError, &str)] = &[
 
 #[test]
 fn tells_why_it_stopped(rt: HostRuntime) {
-    for (error, text) in TOLD {
+    for (error, text) in MESSAGES {
         assert!(rt; tells(rt.alloc(), error, text), "{text}");
     }
 }
 
 fn tells(alloc: Global, error: &RunError, text: &str) -> bool {
     match &error.to_string(alloc) {
-        Ok(told) => told.as_str() == text,
+        Ok(message) => message.as_str() == text,
         Err(_) => false,
     }
 }

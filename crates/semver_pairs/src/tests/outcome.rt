@@ -29,20 +29,20 @@ impl Outcome {
 
     /// Returns `true` if the run ended with a failed read, and no write has failed.
     pub(crate) fn has_stopped_reading(&self) -> bool {
-        let is_told = self.result == Err(RunError::Read);
-        is_told && self.has_read_failed && !self.has_write_failed
+        let is_reported = self.result == Err(RunError::Read);
+        is_reported && self.has_read_failed && !self.has_write_failed
     }
 
     /// Returns `true` if the run ended with a failed write, and no read has failed.
     pub(crate) fn has_stopped_writing(&self) -> bool {
-        let is_told = self.result == Err(RunError::Write);
-        is_told && !self.has_read_failed && self.has_write_failed
+        let is_reported = self.result == Err(RunError::Write);
+        is_reported && !self.has_read_failed && self.has_write_failed
     }
 
     /// Returns `true` if the run ended because an allocation failed, and no read and no write has failed.
     pub(crate) fn is_out_of_memory(&self) -> bool {
-        let is_told = self.result == Err(RunError::Memory);
-        is_told && !self.has_read_failed && !self.has_write_failed
+        let is_reported = self.result == Err(RunError::Memory);
+        is_reported && !self.has_read_failed && !self.has_write_failed
     }
 }
 
@@ -90,14 +90,14 @@ pub(crate) fn leaves_both_alone(
     if has_written && writer.write(b"no").is_ok() {
         return false;
     }
-    let is_told = match run(alloc, &mut reader, &mut writer) {
+    let is_reported = match run(alloc, &mut reader, &mut writer) {
         Err(RunError::Read) => has_read,
         Err(RunError::Write) => !has_read,
         _ => false,
     };
     // No failed call was made again.
     let calls = (reader.into_inner().calls, writer.into_inner().calls);
-    is_told && calls == (usize::from(has_read), usize::from(has_written))
+    is_reported && calls == (usize::from(has_read), usize::from(has_written))
 }
 
 /// No bytes if the first call is to fail.

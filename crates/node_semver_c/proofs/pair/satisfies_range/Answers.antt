@@ -6,4 +6,4 @@ pub returns-in-Ok : goal.returns-in-Ok
 returns-in-Ok c = answered c.in-Ok.version c.in-Ok.ensures.found refl c.satisfies.ensures
 
 pub returns-in-Err : goal.returns-in-Err
-returns-in-Err c = refused record { error = c.in-Err.error; is = c.in-Err.ensures.fault; told = c.tell.ensures }
+returns-in-Err c = refused record { error = c.in-Err.error; is = c.in-Err.ensures.fault; reported = c.report.ensures }

@@ -41,8 +41,8 @@ returns-clause-answer c = λ line reads.
       codes "bad version",
       bad_version range.0 (inr (λ v h.
           let memory = rw c.in-Err.is at (c.parse.ensures.only v (rw text.0 h)) in
-          let told : c.is_want_of_memory.result ≡ true =
-          c.is_want_of_memory.ensures.1 (ap (λ (refusal : Refusal). refusal.kind) memory) in
-          cc (told, c.if-is_want_of_memory.false))),
+          let told : c.is_out_of_memory.result ≡ true =
+          c.is_out_of_memory.ensures.1 (ap (λ (refusal : Refusal). refusal.kind) memory) in
+          cc (told, c.if-is_out_of_memory.false))),
       refl,
     )

@@ -28,22 +28,22 @@ on_ok-none : {T E : Type 0} (r : Result T E) (P : Type 0) → IsErr r → OnOk r
 on_ok-none (Ok x) P is = cc is
 on_ok-none (Err e) P is = tt
 
-pub returns-then-failed-clause-begun : goal.returns-then-failed-clause-begun
-returns-then-failed-clause-begun g c = exchanges-nothing _ _ _
+pub returns-then-failed-clause-beginning : goal.returns-then-failed-clause-beginning
+returns-then-failed-clause-beginning g c = exchanges-nothing _ _ _
 
-pub returns-then-failed-2-clause-begun : goal.returns-then-failed-2-clause-begun
-returns-then-failed-2-clause-begun g c = exchanges-nothing _ _ _
+pub returns-then-failed-2-clause-beginning : goal.returns-then-failed-2-clause-beginning
+returns-then-failed-2-clause-beginning g c = exchanges-nothing _ _ _
 
-pub returns-in-Err-clause-begun : goal.returns-in-Err-clause-begun
-returns-in-Err-clause-begun g c =
+pub returns-in-Err-clause-beginning : goal.returns-in-Err-clause-beginning
+returns-in-Err-clause-beginning g c =
     run_stop (HasEnded g.R.Read.remaining c.read.new.self) _ _ _ _ _ _ _ c.reads.invariant.0 c.in-Err.ensures.bytes
 
-pub returns-in-Err-clause-all_begun : goal.returns-in-Err-clause-all_begun
-returns-in-Err-clause-all_begun g c = λ is.
+pub returns-in-Err-clause-complete : goal.returns-in-Err-clause-complete
+returns-in-Err-clause-complete g c = λ is.
     run_stop_all _ _ _ _ _ _ _ c.reads.invariant.0 c.reads.invariant.1 c.in-Err.ensures.bytes
 
-pub returns-clause-begun : goal.returns-clause-begun
-returns-clause-begun g c =
+pub returns-clause-beginning : goal.returns-clause-beginning
+returns-clause-beginning g c =
     run_stop (HasEnded g.R.Read.remaining c.reads.reader) _ _ _ _ _ _ _ c.reads.invariant.0 (Keeps-refl _)
 
 pub returns-in-Ok-eq0-clause-answered : goal.returns-in-Ok-eq0-clause-answered
@@ -51,8 +51,8 @@ returns-in-Ok-eq0-clause-answered g c =
     let taken = rw c.in-Ok-eq0.field-0-test at c.in-Ok-eq0.ensures.bytes.0 in
     on_ok_weaker _ (λ all. run_end _ _ _ _ _ _ _ _ c.reads.invariant.0 taken all) c.answer_last.ensures.answers
 
-pub returns-in-Ok-eq0-clause-begun : goal.returns-in-Ok-eq0-clause-begun
-returns-in-Ok-eq0-clause-begun g c =
+pub returns-in-Ok-eq0-clause-beginning : goal.returns-in-Ok-eq0-clause-beginning
+returns-in-Ok-eq0-clause-beginning g c =
     let room : 0 < length c.read.new.piece = omega arith in
     let ended = has_ended g.R.Read.remaining c.read.new.self c.read.new.piece _ c.in-Ok-eq0.field-0-test room
     c.in-Ok-eq0.ensures.end c.in-Ok-eq0.ensures.bytes.1 (λ failed. cc (c.in-Ok-eq0.ensures.mark.0 failed)) in
@@ -60,8 +60,8 @@ returns-in-Ok-eq0-clause-begun g c =
     on_err_weaker _ (λ some. run_end_part (HasEnded g.R.Read.remaining c.read.new.self)
     _ _ _ _ _ _ _ _ c.reads.invariant.0 taken ended some) c.answer_last.ensures.part
 
-pub returns-in_err-answer_piece-in-Ok-clause-begun : goal.returns-in_err-answer_piece-in-Ok-clause-begun
-returns-in_err-answer_piece-in-Ok-clause-begun g c =
+pub returns-in_err-answer_piece-in-Ok-clause-beginning : goal.returns-in_err-answer_piece-in-Ok-clause-beginning
+returns-in_err-answer_piece-in-Ok-clause-beginning g c =
     let some = run_part (HasEnded g.R.Read.remaining c.read.new.self) _ _ _ _ _ _ _ _ _ c.reads.invariant.0
     c.in-Ok.ensures.bytes.0 c.in_err-answer_piece-in-Ok.ensures.part in
     on_err-of _ some
@@ -84,8 +84,8 @@ returns-then-failed-clause-answered g c = tt
 pub returns-then-failed-clause-ended : goal.returns-then-failed-clause-ended
 returns-then-failed-clause-ended g c = tt
 
-pub returns-then-failed-clause-all_begun : goal.returns-then-failed-clause-all_begun
-returns-then-failed-clause-all_begun g c = λ is. exchanges-none_back _ _
+pub returns-then-failed-clause-complete : goal.returns-then-failed-clause-complete
+returns-then-failed-clause-complete g c = λ is. exchanges-none_back _ _
 
 pub returns-then-failed-clause-endless : goal.returns-then-failed-clause-endless
 returns-then-failed-clause-endless g c = λ is. cc is
@@ -99,8 +99,8 @@ returns-then-failed-2-clause-answered g c = tt
 pub returns-then-failed-2-clause-ended : goal.returns-then-failed-2-clause-ended
 returns-then-failed-2-clause-ended g c = tt
 
-pub returns-then-failed-2-clause-all_begun : goal.returns-then-failed-2-clause-all_begun
-returns-then-failed-2-clause-all_begun g c = λ is. cc is
+pub returns-then-failed-2-clause-complete : goal.returns-then-failed-2-clause-complete
+returns-then-failed-2-clause-complete g c = λ is. cc is
 
 pub returns-then-failed-2-clause-read : goal.returns-then-failed-2-clause-read
 returns-then-failed-2-clause-read g c = (
@@ -124,8 +124,8 @@ returns-in-Ok-eq0-clause-ended g c =
     c.in-Ok-eq0.ensures.end c.in-Ok-eq0.ensures.bytes.1 (λ failed. cc (c.in-Ok-eq0.ensures.mark.0 failed)) in
     on_ok_weaker _ (λ all. ended) c.answer_last.ensures.answers
 
-pub returns-in-Ok-eq0-clause-all_begun : goal.returns-in-Ok-eq0-clause-all_begun
-returns-in-Ok-eq0-clause-all_begun g c = λ is. absurd (c.answer_last.ensures.never.0 is)
+pub returns-in-Ok-eq0-clause-complete : goal.returns-in-Ok-eq0-clause-complete
+returns-in-Ok-eq0-clause-complete g c = λ is. absurd (c.answer_last.ensures.never.0 is)
 
 pub returns-in-Ok-eq0-clause-read : goal.returns-in-Ok-eq0-clause-read
 returns-in-Ok-eq0-clause-read g c = (
@@ -144,8 +144,8 @@ returns-in-Ok-eq0-clause-untouched g c =
     neither (λ failed. let told = c.failed.ensures.1 failed in cc (told, c.if-failed.false))
     (λ failed. let told = c.failed-2.ensures.1 failed in cc (told, c.if-failed-2.false))
 
-pub returns-in_err-answer_piece-in-Ok-clause-all_begun : goal.returns-in_err-answer_piece-in-Ok-clause-all_begun
-returns-in_err-answer_piece-in-Ok-clause-all_begun g c = λ is.
+pub returns-in_err-answer_piece-in-Ok-clause-complete : goal.returns-in_err-answer_piece-in-Ok-clause-complete
+returns-in_err-answer_piece-in-Ok-clause-complete g c = λ is.
     let never = c.answer_piece.ensures.never.0 in
     absurd (never-of _ _ _ _ c.from_residual.ensures.1 c.in_err-answer_piece-in-Ok.was never is)
 
@@ -170,8 +170,8 @@ returns-clause-answered g c = tt
 pub returns-clause-ended : goal.returns-clause-ended
 returns-clause-ended g c = tt
 
-pub returns-clause-all_begun : goal.returns-clause-all_begun
-returns-clause-all_begun g c = λ is. cc is
+pub returns-clause-complete : goal.returns-clause-complete
+returns-clause-complete g c = λ is. cc is
 
 pub returns-clause-read : goal.returns-clause-read
 returns-clause-read g c = (λ is. cc is, λ failed. absurd (c.reads.invariant.3 failed))

@@ -3,7 +3,7 @@ use node_semver::{Range, SemverError, Version};
 use std::alloc::Global;
 
 // The kind, byte offset, line and column of an error of this text, if its span agrees with them.
-fn told(alloc: Global, error: &SemverError, text: &str) -> Option<String> {
+fn described(alloc: Global, error: &SemverError, text: &str) -> Option<String> {
     if !holds(error, text) {
         return None;
     }
@@ -16,7 +16,7 @@ fn told(alloc: Global, error: &SemverError, text: &str) -> Option<String> {
 pub(crate) fn version_print(alloc: Global, text: &str) -> Option<String> {
     match Version::parse(alloc, text) {
         Ok(version) => version.to_string(alloc).ok(),
-        Err(error) => told(alloc, &error, text),
+        Err(error) => described(alloc, &error, text),
     }
 }
 
@@ -24,6 +24,6 @@ pub(crate) fn version_print(alloc: Global, text: &str) -> Option<String> {
 pub(crate) fn range_print(alloc: Global, text: &str) -> Option<String> {
     match Range::parse(alloc, text) {
         Ok(range) => range.to_string(alloc).ok(),
-        Err(error) => told(alloc, &error, text),
+        Err(error) => described(alloc, &error, text),
     }
 }

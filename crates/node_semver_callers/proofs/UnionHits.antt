@@ -21,10 +21,13 @@ IsOfSome P union ranges = P union ↔ AnyByRecursion P ranges
 module _ {X : Type 0} (P : X → Type 0) where
   -- of the first alone
   pub of-one : (one : X) → IsOfSome P one (one ∷ [])
-  of-one one = (λ p. inl p, λ some. elim some [
-    | inl p ↦ p
-    | inr none ↦ absurd none
-  ])
+  of-one one = (
+    λ p. inl p,
+    λ some. elim some [
+      | inl p ↦ p
+      | inr none ↦ absurd none
+    ],
+  )
 
   -- of one range more
   of-more : (before : List X) (union range next : X) → IsOfSome P union before → (P next ↔ (P union ⊎ P range))

@@ -19,8 +19,9 @@ const UNIONS: [&str; 12] = [
     "0.0.8; {1000*#.1.0||}0.0.9; 0.0.8||{1000*#.1.0||}0.0.9",
 ];
 
-// Two ranges, a version, and whether their union admits it.
-const ADMITTED: [&str; 8] = [
+// Two ranges, a version, and whether their union admits it. A range of four sets and one of five store differently
+// which prereleases they admit.
+const ADMITTED: [&str; 20] = [
     "^1; ^3; 1.9.0; yes",
     "^1; ^3; 3.0.0; yes",
     "^1; ^3; 2.0.0; no",
@@ -29,6 +30,18 @@ const ADMITTED: [&str; 8] = [
     "^1.2.3-rc.4; >=3; 1.2.4-rc.5; no",
     ">=1.0.0-a; <2.0.0; 1.0.0-b; yes",
     ">1.0.0-a; <2.0.0; 1.0.0-a; no",
+    "1 - 3; 2 - 4; 4.5.0; yes",
+    "2 - 4; 1 - 3; 1.5.0; yes",
+    "2 - 4; 1 - 3; 5.0.0; no",
+    "1 - 5; 2 - 3; 4.0.0; yes",
+    "2 - 3; 1 - 5; 4.0.0; yes",
+    ">=3; 1; 2.0.0; no",
+    ">=3; 1; 1.5.0; yes",
+    "1; 1; 1.5.0; yes",
+    "^1.0.0-a || ^2.0.0-a; ^3.0.0-a || ^4.0.0-a; 4.0.0-b; yes",
+    "^1.0.0-a || ^2.0.0-a; ^3.0.0-a || ^4.0.0-a; 4.0.1-b; no",
+    "^1.0.0-a || ^2.0.0-a; ^3.0.0-a || ^4.0.0-a || ^4.0.0-b; 4.0.0-b; yes",
+    "^1.0.0-a || ^2.0.0-a; ^3.0.0-a || ^4.0.0-a || ^4.0.0-b; 4.0.1-b; no",
 ];
 
 // Two texts, and the range of both with `||` between. This is their union, except where the first ends in `|`, or the

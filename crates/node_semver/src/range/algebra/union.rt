@@ -29,8 +29,8 @@ impl Range {
     ///
     /// # Memory
     ///
-    /// Allocates a list of the sets, the identifiers of their ends, and a list of the triples that they open. If a set
-    /// does not end below the next one, it allocates the order of the sets too.
+    /// Allocates a list of the sets, the identifiers of their ends, and for more than four sets a list of the triples
+    /// that they open. If a set does not end below the next one, it allocates the order of the sets too.
     ///
     /// # Examples
     ///

@@ -3,6 +3,7 @@ ghost use Rattle.semver_sets.specs.Comparison.{prerelease_cmp};
 ghost use Rattle.semver_sets.specs.Version.{IsPrerelease};
 
 mod fault;
+mod order;
 mod read;
 
 pub use fault::VersionFault;

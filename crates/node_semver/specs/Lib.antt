@@ -4,6 +4,7 @@
 -- ---- errors, and the fault of a text that is no version text
 pub mod Error
 pub mod Fault
+pub mod VersionFault
 -- ---- versions: the least one and the next
 pub mod VersionSteps
 -- ---- ranges: the least and the greatest version, and set algebra

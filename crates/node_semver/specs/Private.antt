@@ -2,6 +2,7 @@
 
 -- faults, and the results of reading texts
 pub mod FaultViews
+pub mod RefViews
 pub mod AnswerViews
 -- the least and the greatest version
 pub mod LeastViews

@@ -45,13 +45,15 @@ pub mod laws;
 mod range;
 mod tree;
 mod version;
+mod version_ref;
 
 pub use comparisons::Comparisons;
 pub use error::{SemverError, SemverErrorKind, SourceSpan};
 pub use json::JsonError;
 pub use range::{Range, max_satisfying, min_satisfying};
 pub use semver_sets::set::AsVersion;
-pub use semver_sets::{Identifier, MAX_LENGTH, MAX_SAFE_INTEGER};
+pub use semver_sets::{Identifier, IdentifierRef, Identifiers, MAX_LENGTH, MAX_SAFE_INTEGER};
 pub use tree::SetTree;
 pub use version::Version;
 pub use version::as_version::OrderedVersion;
+pub use version_ref::{VersionFault, VersionRef};

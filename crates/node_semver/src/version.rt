@@ -7,7 +7,7 @@ pub(crate) mod display;
 mod hash;
 pub(crate) mod order;
 mod parse;
-mod read;
+pub(crate) mod read;
 mod stepped;
 
 use crate::Identifier;

@@ -8,6 +8,7 @@ pub mod Digits
 pub mod NumberReading
 pub mod IdentifierReading
 pub mod ListReading
+pub mod ListedTexts
 pub mod ExtrasReading
 pub mod LongestReading
 pub mod LineText

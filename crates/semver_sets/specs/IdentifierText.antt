@@ -46,3 +46,16 @@ pub record IsExtrasText (text : List ℕ) (prerelease build : List IdentifierVal
   pub whole : text ≡ prefix ++ rest
   pub first : IsPrereleaseText prefix prerelease
   pub second : IsBuildText rest build
+
+-- the texts between the dots, and none for the empty text
+abbrev pub texts_of : List ℕ → List (List ℕ)
+texts_of [] = []
+texts_of (b ∷ rest) = parts_of (b ∷ rest)
+
+-- nothing, or identifiers with dots between them: ``, `alpha.1`
+abbrev pub IsListed : List ℕ → Type 0
+IsListed text = AllByRecursion IsIdentifierText (texts_of text)
+
+-- the identifiers that such a text writes
+abbrev pub identifiers_of : List ℕ → List IdentifierValue
+identifiers_of text = map identifier_of (texts_of text)

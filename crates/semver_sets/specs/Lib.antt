@@ -32,6 +32,7 @@ pub mod RangePrint
 pub mod RangeEquality
 -- ---- how a contract sees values of the program
 pub mod Identifier
+pub mod IdentifierRef
 -- ---- not part of any public contract of `node_semver`: what private functions compute, and lemmas
 pub mod Private
 pub mod Lemmas

@@ -3,6 +3,7 @@
 -- how characters, numbers, identifiers and triples are read
 pub mod Reading
 pub mod ReadingViews
+pub mod ListedViews
 -- how words, alternatives and sets are read
 pub mod WordReading
 pub mod WordViews

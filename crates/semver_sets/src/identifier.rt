@@ -1,3 +1,4 @@
+pub mod borrowed;
 pub mod copy;
 mod display;
 mod hash;

@@ -22,6 +22,7 @@ mod word;
 
 pub use comparisons::Counts;
 pub use identifier::Identifier;
+pub use identifier::borrowed::{IdentifierRef, Identifiers};
 
 /// The greatest major, minor or patch that is read from a text: 2 to the power 53, minus 1.
 ///

@@ -6,7 +6,8 @@
 mod extras;
 mod fault;
 mod full;
-mod identifiers;
+pub(crate) mod identifiers;
+pub mod listed;
 mod number;
 mod partial;
 mod skip;

@@ -13,16 +13,17 @@ use crate::parse::skip::begins_clean;
 fn goes_on(text: &[u8]) -> bool
     ensures { result ≡ Reading.goes_on text.now }
 {
+    // Most bytes of a list are identifier characters.
     match text {
+        [first, ..] if is_identifier_character(*first) => true,
         [b'.', rest @ ..] => begins_identifier(rest),
-        [first, ..] => is_identifier_character(*first),
-        [] => false,
+        _ => false,
     }
 }
 
 // `+5` of `alpha.1+5`
 #[tactic(auto, unfolding(crate::specs::Private::Reading::list_rest))]
-fn skip_identifiers(text: &[u8]) -> &[u8]
+pub(crate) fn skip_identifiers(text: &[u8]) -> &[u8]
     ensures { result.now ≡ Reading.list_rest text.now }
 {
     let mut rest = text;

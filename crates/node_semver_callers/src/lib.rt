@@ -11,6 +11,7 @@
 //! | one range for two dependents | [`common::shared_range`] |
 //! | which installed versions an advisory's range hits | [`advisory::versions_hit`] |
 //! | the least version that a manifest allows and an advisory of two ranges spares | [`spared::least_spared`] |
+//! | which texts are versions that a mirror copies, without allocating | [`mirror::keep_mirrored`] |
 //! | a range from JSON, with the line and column of its error | [`package::range_of_member`] |
 //! | a tree of ranges: the versions that two dependents accept and an advisory does not hit | [`tree::unhit_range`] |
 #![tactic(auto)]
@@ -23,6 +24,7 @@ pub mod common;
 mod failure;
 pub mod least;
 pub mod lock_file;
+pub mod mirror;
 pub mod package;
 pub mod spared;
 pub mod tree;

@@ -9,4 +9,5 @@ pub answered_as : (One Other : VersionValue → Type 0) (text : List ℕ) (statu
     → IsAnswered Other text status answer fault
 answered_as One Other text status answer fault same (answered v is ok reported) =
     answered v is ok ((λ t. (same v).0 (reported.0 t)), λ a. reported.1 ((same v).1 a))
-answered_as One Other text status answer fault same (refused reported) = refused reported
+answered_as One Other text status answer fault same (refused kind offset is reported) =
+    refused kind offset is reported

@@ -2,14 +2,14 @@
 use Rattle.std.specs.Prelude.{◌≡◌, ◌⊎◌, ◌↔◌, ℕ, List, Bool, IsTrue}
 use Rattle.node_semver_c.specs.declared.status.Fault.{Fault}
 use Rattle.node_semver_c.specs.declared.status.TheConstants.{OK}
-use Rattle.node_semver_c.specs.Status.{IsRefusalReported}
+use Rattle.node_semver_c.specs.Status.{IsFaultReported, IsRefusalReported}
 use Rattle.semver_cuts.specs.Ends.{Ends}
 use Rattle.semver_sets.specs.Meaning.{IsRefused, RangeAdmits, TextAdmits}
 use Rattle.semver_sets.specs.Version.{VersionValue}
 use Rattle.semver_sets.specs.VersionText.{IsVersionText}
 use Rattle.node_semver.specs.declared.error.SemverError.{SemverError}
-use Rattle.node_semver.specs.Error.{IsOutOfMemory, IsRefusalAt, no_valid_ranges, refusal_of}
-use Rattle.node_semver.specs.Fault.{IsFaultOf}
+use Rattle.node_semver.specs.Error.{IsOutOfMemory, IsRefusalAt, Kind, no_valid_ranges, refusal_of}
+use Rattle.node_semver.specs.Fault.{IsFault}
 
 -- status and fault are those of an error of which this holds
 pub record IsErrorReported (Is : SemverError → Type 0) (status : ℕ) (fault : Fault) : Type 0 where
@@ -22,7 +22,7 @@ pub data IsAnswered (Admits : VersionValue → Type 0) (text : List ℕ) (status
     : Type 0 where
   answered : (v : VersionValue) → IsVersionText text v → status ≡ OK → (IsTrue answer ↔ Admits v)
       → IsAnswered Admits text status answer fault
-  refused : IsErrorReported (λ e. IsOutOfMemory e ⊎ IsFaultOf text e) status fault
+  refused : (kind : Kind) (offset : ℕ) → IsFault text kind offset → IsFaultReported kind offset status fault
       → IsAnswered Admits text status answer fault
 
 -- the same with a range that admits

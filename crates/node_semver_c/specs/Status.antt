@@ -38,12 +38,16 @@ status_of no_valid_ranges = REFUSED
 status_of other = REFUSED
 status_of out_of_memory = OUT_OF_MEMORY
 
+-- status and fault are those of a fault of this kind at this offset
+pub record IsFaultReported (of : Kind) (at : ℕ) (status : ℕ) (fault : Fault) : Type 0 where
+  pub status_is : status ≡ status_of of
+  pub kind : fault.kind ≡ code_of of
+  pub offset : fault.offset ≡ at
+  pub number : fault.number ≡ number_in of
+
 -- status and fault are those of this refusal
-pub record IsRefusalReported (refusal : Refusal) (status : ℕ) (fault : Fault) : Type 0 where
-  pub status_is : status ≡ status_of refusal.kind
-  pub kind : fault.kind ≡ code_of refusal.kind
-  pub offset : fault.offset ≡ refusal.offset
-  pub number : fault.number ≡ number_in refusal.kind
+abbrev pub IsRefusalReported : Refusal → ℕ → Fault → Type 0
+IsRefusalReported refusal = IsFaultReported refusal.kind refusal.offset
 
 -- the value is in the handle, or an allocation failed and the handle is empty
 abbrev pub IsKept : {X : Type 0} → X → ℕ → Option X → Type 0

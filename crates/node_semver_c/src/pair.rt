@@ -3,13 +3,14 @@ ghost use Rattle.std.specs.Prelude.{IsUtf8, ◌≡◌};
 ghost use Rattle.node_semver_c.specs.Pair.{IsPairReported, IsVersionReported};
 ghost use Rattle.node_semver_c.specs.declared.status.TheConstants.{NOT_UTF8};
 
-use crate::status::{Fault, NOT_UTF8, OK, report};
-use node_semver::{Range, Version};
+use crate::status::{Fault, NOT_UTF8, OK, report, report_at};
+use node_semver::{Range, VersionRef};
 use std::alloc::Global;
 
 /// `Range::parse`, `Version::parse` and `satisfies`: whether the version of one text satisfies the range of another.
 ///
-/// The range is parsed first. If both texts are refused, the fault is that of the range.
+/// The range is parsed first. If both texts are refused, the fault is that of the range. Parsing the version does not
+/// allocate.
 #[unsafe(no_mangle)]
 pub extern "C" fn node_semver_satisfies_text(
     alloc: Global,
@@ -36,25 +37,20 @@ fn satisfies(alloc: Global, range: &str, version: &str, answer: &mut bool, fault
     ensures { IsPairReported range.now version.now result answer.new fault.new }
 {
     match Range::parse(alloc, range) {
-        Ok(range) => satisfies_range(alloc, &range, version, answer, fault),
+        Ok(range) => satisfies_range(&range, version, answer, fault),
         Err(error) => report(&error, fault),
     }
 }
 
-fn satisfies_range(
-    alloc: Global,
-    range: &Range,
-    version: &str,
-    answer: &mut bool,
-    fault: &mut Fault,
-) -> u32
+// Does not allocate.
+fn satisfies_range(range: &Range, version: &str, answer: &mut bool, fault: &mut Fault) -> u32
     ensures { IsVersionReported range.now version.now result answer.new fault.new }
 {
-    match Version::parse(alloc, version) {
+    match VersionRef::parse(version) {
         Ok(version) => {
             *answer = range.satisfies(&version);
             OK
         }
-        Err(error) => report(&error, fault),
+        Err(error) => report_at(&error.kind(), error.offset(), fault),
     }
 }

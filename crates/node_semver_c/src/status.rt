@@ -1,7 +1,7 @@
 //! What a call returns beside its value: its status, and the fault of a text that it refuses.
 ghost use Rattle.std.specs.Prelude.{◌≡◌, Some, None};
 ghost use Rattle.node_semver.specs.Error.{kind_of, refusal_of};
-ghost use Rattle.node_semver_c.specs.Status.{IsKept, IsKeptAnswer, IsRefusalReported};
+ghost use Rattle.node_semver_c.specs.Status.{IsFaultReported, IsKept, IsKeptAnswer, IsRefusalReported};
 ghost use Rattle.node_semver_c.specs.Status.{code_of, number_in, status_of};
 
 use crate::handle::range::RangeHandle;
@@ -40,10 +40,17 @@ pub struct Fault {
 pub(crate) fn report(error: &SemverError, fault: &mut Fault) -> u32
     ensures { IsRefusalReported (refusal_of error.now) result fault.new }
 {
-    let (status, kind, number) = kind_parts(error.kind());
+    report_at(error.kind(), error.offset(), fault)
+}
+
+// Writes a fault of this kind at this byte offset, and returns its status.
+pub(crate) fn report_at(kind: &SemverErrorKind, offset: usize, fault: &mut Fault) -> u32
+    ensures { IsFaultReported (kind_of kind.now) offset result fault.new }
+{
+    let (status, kind, number) = kind_parts(kind);
     *fault = Fault {
         kind,
-        offset: error.offset(),
+        offset,
         number,
     };
     status

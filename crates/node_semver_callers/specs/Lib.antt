@@ -6,5 +6,7 @@ pub mod Advisory
 pub mod Failure
 -- which versions of a list a range text admits
 pub mod Hits
+-- which texts of a list are versions that a range admits
+pub mod Mirrored
 -- errors with their line and column
 pub mod Places

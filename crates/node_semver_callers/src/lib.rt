@@ -12,6 +12,7 @@
 //! | which installed versions an advisory's range hits | [`advisory::versions_hit`] |
 //! | the least version that a range admits and an advisory of several ranges spares | [`spared::least_spared`] |
 //! | does an advisory of several ranges cover a range | [`spared::is_covered`] |
+//! | which texts are versions that a mirror copies, without allocating | [`mirror::keep_mirrored`] |
 //! | a range from JSON, with the line and column of its error | [`package::range_of_member`] |
 //! | a tree of ranges: the versions that two dependents accept and an advisory does not hit | [`tree::unhit_range`] |
 #![tactic(auto)]
@@ -24,6 +25,7 @@ pub mod common;
 mod failure;
 pub mod least;
 pub mod lock_file;
+pub mod mirror;
 pub mod package;
 pub mod spared;
 pub mod tree;

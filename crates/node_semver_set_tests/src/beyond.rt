@@ -1,7 +1,7 @@
 use crate::checks::is_print;
 use crate::pairs::range;
 use crate::questions::{Question, each};
-use node_semver::{Range, Version, max_satisfying, min_satisfying};
+use node_semver::{Range, Version, VersionRef, max_satisfying, min_satisfying};
 use std::alloc::Global;
 
 // The first range, the second, and the least version that the first admits and the second does not: the empty text
@@ -99,16 +99,57 @@ fn is_found(alloc: Global, found: Option<&Version>, wanted: &str) -> bool {
     }
 }
 
+fn read_borrowed<'a>(alloc: Global, texts: &'a str) -> Option<Vec<VersionRef<'a>>> {
+    let mut versions = Vec::new(alloc);
+    for text in texts.split_whitespace() {
+        versions.push(VersionRef::parse(text).ok()?).ok()?;
+    }
+    Some(versions)
+}
+
+// Whether the greatest and the least of the versions that borrow their texts are those of the versions.
+fn are_borrowed_alike(alloc: Global, texts: &str, versions: &[Version], range: &Range) -> bool {
+    let Some(borrowed) = &read_borrowed(alloc, texts) else {
+        return false;
+    };
+    is_same_print(
+        alloc,
+        max_satisfying(borrowed, range),
+        max_satisfying(versions, range),
+    ) && is_same_print(
+        alloc,
+        min_satisfying(borrowed, range),
+        min_satisfying(versions, range),
+    )
+}
+
+fn is_same_print(alloc: Global, one: Option<&VersionRef<'_>>, other: Option<&Version>) -> bool {
+    match (one, other) {
+        (Some(one), Some(other)) => match other.to_string(alloc) {
+            Ok(print) => is_print(one.to_string(alloc).ok(), print.as_str()),
+            Err(_) => false,
+        },
+        (None, None) => true,
+        _ => false,
+    }
+}
+
 pub(crate) fn is_greatest(alloc: Global, versions: &str, text: &str, greatest: &str) -> bool {
     match (&read_versions(alloc, versions), &range(alloc, text)) {
-        (Some(versions), Some(range)) => is_found(alloc, max_satisfying(versions, range), greatest),
+        (Some(read), Some(range)) => {
+            is_found(alloc, max_satisfying(read, range), greatest)
+                && are_borrowed_alike(alloc, versions, read, range)
+        }
         _ => false,
     }
 }
 
 pub(crate) fn is_least_listed(alloc: Global, versions: &str, text: &str, least: &str) -> bool {
     match (&read_versions(alloc, versions), &range(alloc, text)) {
-        (Some(versions), Some(range)) => is_found(alloc, min_satisfying(versions, range), least),
+        (Some(read), Some(range)) => {
+            is_found(alloc, min_satisfying(read, range), least)
+                && are_borrowed_alike(alloc, versions, read, range)
+        }
         _ => false,
     }
 }

@@ -1,4 +1,4 @@
-use node_semver::{Identifier, Range, SemverError, Version};
+use node_semver::{Identifier, Range, SemverError, Version, VersionRef};
 use std::alloc::Global;
 
 // Each function returns a plain value and drops what it made, and uses `let .. else` and `match` in place of `?`, which
@@ -17,9 +17,17 @@ fn answer(range: &Range, version: &Version, wanted: bool) -> bool {
     range.satisfies(version) == wanted && version.satisfies(range) == wanted
 }
 
-fn answer_text(alloc: Global, range: &Range, version: &str, wanted: bool) -> bool {
-    match Version::parse(alloc, version) {
-        Ok(version) => answer(range, &version, wanted),
+// The same for a version that borrows its text.
+fn answer_borrowed(range: &Range, version: &str, wanted: bool) -> bool {
+    match &VersionRef::parse(version) {
+        Ok(version) => range.satisfies(version) == wanted,
+        Err(_) => false,
+    }
+}
+
+fn answer_text(alloc: Global, range: &Range, text: &str, wanted: bool) -> bool {
+    match Version::parse(alloc, text) {
+        Ok(version) => answer(range, &version, wanted) && answer_borrowed(range, text, wanted),
         Err(_) => false,
     }
 }

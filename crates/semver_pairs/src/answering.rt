@@ -17,7 +17,7 @@ use crate::gauge::Gauge;
 use crate::lines::{past_line, split_line, without_return};
 use crate::run_error::RunError;
 use crate::text::text_of;
-use node_semver::{Range, SemverError, SemverErrorKind, Version};
+use node_semver::{Range, SemverError, SemverErrorKind, VersionRef};
 use std::alloc::Global;
 use std::io::Write;
 
@@ -97,12 +97,12 @@ pub(crate) fn answer_range<'b, W: Write>(
     ensures never { (¬ IsErrOf result RunError.Read) × (¬ IsErrOf result RunError.Endless) }
 {
     let Some(text) = text_of(without_return(pair.range), pair.is_ascii) else {
-        return answer_versions(alloc, None, &pair, answers, writer);
+        return answer_versions(None, &pair, answers, writer);
     };
     match &Range::parse(alloc, text) {
         Err(error) if is_out_of_memory(error) => Err(RunError::Memory),
-        Err(_) => answer_versions(alloc, None, &pair, answers, writer),
-        Ok(range) => answer_versions(alloc, Some(range), &pair, answers, writer),
+        Err(_) => answer_versions(None, &pair, answers, writer),
+        Ok(range) => answer_versions(Some(range), &pair, answers, writer),
     }
 }
 
@@ -111,7 +111,6 @@ pub(crate) fn answer_range<'b, W: Write>(
 #[inline(never)]
 #[tactic(auto, using(crate::proofs::MoveLemmas::version_steps))]
 fn answer_versions<'b, W: Write>(
-    alloc: Global,
     range: Option<&Range>,
     pair: &Pair<'b>,
     answers: &mut Answers,
@@ -135,7 +134,7 @@ fn answer_versions<'b, W: Write>(
     let mut version = pair.version;
     let mut rest = pair.rest;
     'versions: loop {
-        let answer = answer_of(alloc, range, version, pair.is_ascii)?;
+        let answer = answer_of(range, version, pair.is_ascii);
         answers.put(writer, answer.as_bytes())?;
         let Some((next, others)) = next_version(rest, pair.range) else {
             return Ok(rest);
@@ -157,30 +156,24 @@ fn next_version<'b>(bytes: &'b [u8], range: &[u8]) -> Option<(&'b [u8], &'b [u8]
 }
 
 /// Returns the answer for a range and a version line, with a newline. `range` is `None` if the range line is no range.
-fn answer_of(
-    alloc: Global,
-    range: Option<&Range>,
-    version: &[u8],
-    is_ascii: bool,
-) -> Result<&'static str, RunError>
+/// Does not allocate.
+fn answer_of(range: Option<&Range>, version: &[u8], is_ascii: bool) -> &'static str
     requires { IsTrue is_ascii → IsAscii version.now }
-    ensures answer { IfOk result (λ answer. (line : List ℕ)
+    ensures answer { (line : List ℕ)
         → MatchOption range.entry (IsBadRange line) (λ r. IsReadAs line (RangeAdmits r.now))
-        → IsAnswerLine line version.now answer.now) }
-    ensures short { IfOk result (λ answer. length answer.now ≤ 4096) }
-    ensures memory { IfErr result (λ e. e ≡ RunError.Memory) }
+        → IsAnswerLine line version.now result.now }
+    ensures short { length result.now ≤ 4096 }
 {
     let Some(range) = range else {
-        return Ok("bad range\n");
+        return "bad range\n";
     };
     let Some(text) = text_of(version, is_ascii) else {
-        return Ok("bad version\n");
+        return "bad version\n";
     };
-    match &Version::parse(alloc, text) {
-        Ok(version) if range.satisfies(version) => Ok("yes\n"),
-        Ok(_) => Ok("no\n"),
-        Err(error) if is_out_of_memory(error) => Err(RunError::Memory),
-        Err(_) => Ok("bad version\n"),
+    match &VersionRef::parse(text) {
+        Ok(version) if range.satisfies(version) => "yes\n",
+        Ok(_) => "no\n",
+        Err(_) => "bad version\n",
     }
 }
 

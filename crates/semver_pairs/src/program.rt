@@ -36,7 +36,7 @@ use std::io::{Read, Write};
 ///
 /// # Memory
 ///
-/// Allocates for one range and one version at a time, and for the pair that is not completely read: as much as the
+/// Allocates for one range at a time, and for the pair that is not completely read: as much as the
 /// longest pair so far that took more than one read.
 ///
 /// # Examples

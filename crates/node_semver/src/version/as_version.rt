@@ -4,7 +4,7 @@
 ghost use Rattle.std.specs.Prelude.{◌≡◌};
 ghost use Rattle.semver_sets.specs.Comparison.{version_cmp};
 
-use crate::Version;
+use crate::{Version, VersionRef};
 use semver_sets::end::End;
 use semver_sets::set::AsVersion;
 use std::cmp::Ordering;
@@ -42,6 +42,32 @@ impl AsVersion for Version {
             return end.cmp_release();
         }
         end.cmp_pre_release(&self.pre_release)
+    }
+}
+
+impl<'a> AsVersion for VersionRef<'a> {
+    ghost seen = { λ version. version };
+
+    #[inline(always)]
+    fn is_prerelease(&self) -> bool {
+        VersionRef::is_prerelease(self)
+    }
+
+    #[inline(always)]
+    fn triple(&self) -> (u64, u64, u64) {
+        (self.major(), self.minor(), self.patch())
+    }
+
+    #[inline(always)]
+    fn cmp_extras(&self, end: &End) -> Ordering {
+        VersionRef::cmp_extras(self, end)
+    }
+}
+
+impl<'a> OrderedVersion for VersionRef<'a> {
+    #[inline(always)]
+    fn cmp_version(&self, other: &VersionRef<'a>) -> Ordering {
+        self.cmp(other)
     }
 }
 

@@ -6,4 +6,5 @@ pub returns-in-Ok : goal.returns-in-Ok
 returns-in-Ok c = answered c.in-Ok.version c.in-Ok.ensures.found refl c.satisfies.ensures
 
 pub returns-in-Err : goal.returns-in-Err
-returns-in-Err c = refused record { error = c.in-Err.error; is = c.in-Err.ensures.fault; reported = c.report.ensures }
+returns-in-Err c =
+    refused _ _ c.in-Err.ensures.fault (rw c.kind.ensures at (rw c.offset.ensures at c.report_at.ensures))

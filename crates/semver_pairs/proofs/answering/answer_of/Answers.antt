@@ -34,15 +34,11 @@ returns-in-Ok-2-clause-answer c = λ line reads.
       refl,
     )
 
-pub returns-clause-answer : goal.returns-clause-answer
-returns-clause-answer c = λ line reads.
+pub returns-in-Err-clause-answer : goal.returns-in-Err-clause-answer
+returns-in-Err-clause-answer c = λ line reads.
     let range = rw c.in-Some.is at reads in
     let text = c.in-Some-text_of.ensures.text in (
       codes "bad version",
-      bad_version range.0 (inr (λ v h.
-          let memory = rw c.in-Err.is at (c.parse.ensures.only v (rw text.0 h)) in
-          let told : c.is_out_of_memory.result ≡ true =
-          c.is_out_of_memory.ensures.1 (ap (λ (refusal : Refusal). refusal.kind) memory) in
-          cc (told, c.if-is_out_of_memory.false))),
+      bad_version range.0 (inr (λ v h. rw c.in-Err.is at (c.parse.ensures.only v (rw text.0 h)))),
       refl,
     )

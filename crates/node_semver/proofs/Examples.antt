@@ -1,6 +1,3 @@
-pub mod CharacterExamples
-pub mod FaultExamples
-pub mod ErrorExamples
 pub mod AlgebraExamples
 pub mod DifferenceExamples
 pub mod LeastExamples

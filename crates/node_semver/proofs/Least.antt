@@ -5,4 +5,4 @@ pub mod BeyondCandidates
 pub mod BeyondLemmas
 pub mod BeyondSteps
 pub mod BeyondAnswers
-pub mod GreatestLemmas
+pub mod ZeroLists

@@ -1,2 +1,1 @@
 pub mod RangeAnswers
-pub mod FullRange

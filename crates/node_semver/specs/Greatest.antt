@@ -6,8 +6,8 @@ use Rattle.std.specs.Prelude.{◌≡◌, List, ◌∷◌, ◌++◌}
 use Rattle.std.specs.List.{AllByRecursion}
 use Rattle.semver_cuts.specs.Ends.{Ends}
 use Rattle.semver_sets.specs.Meaning.{RangeAdmits}
-use Rattle.semver_sets.specs.Order.{IsBelow, IsSame}
-use Rattle.semver_sets.specs.Version.{VersionValue}
+use Rattle.semver_versions.specs.Order.{IsBelow, IsSame}
+use Rattle.semver_versions.specs.Version.{VersionValue}
 
 -- the version is in the list and the range admits it. No admitted version of the list is better, and no admitted one
 -- before it has the same precedence

@@ -1,10 +1,7 @@
 -- What private functions compute.
 
--- faults, and the results of reading texts
-pub mod FaultViews
-pub mod RefViews
+-- the results of reading texts
 pub mod AnswerViews
--- the least and the greatest version
+-- the least version
 pub mod LeastViews
 pub mod BeyondViews
-pub mod GreatestViews

@@ -1,15 +1,21 @@
 -- The result of `Range::parse` for a text, by the facts that its contract states.
-use Rattle.std.specs.Prelude.{◌≡◌, ◌⊎◌, ◌↔◌, ℕ, List, Result, IfErr, IfOk, OnOk}
+use Rattle.std.specs.Prelude.{◌≡◌, ◌⊎◌, ◌↔◌, ℕ, List, Result, Ok, Err, IfErr, IfOk, OnOk}
 use Rattle.std.specs.List.{AllByRecursion}
 use Rattle.semver_cuts.specs.Ends.{Ends}
 use Rattle.semver_sets.specs.Meaning.{IsRefused, RangeAdmits, TextAdmits}
 use Rattle.semver_sets.specs.Merging.{AreSetsOfText}
+use Rattle.semver_sets.specs.RangeEquality.{AreSameCuts}
 use Rattle.semver_sets.specs.RangePrint.{range_text}
 use Rattle.semver_sets.specs.RangeSets.{IsRangeValue}
-use Rattle.semver_sets.specs.Version.{VersionValue}
-use Rattle.node_semver.specs.declared.error.SemverError.{SemverError}
-use Rattle.node_semver.specs.Error.{IsOutOfMemory, IsRefusalAt, no_valid_ranges}
-use Rattle.node_semver.specs.ReadingBack.{IsPlainlyBounded, IsReadAsRange, RangeReadsBack}
+use Rattle.semver_versions.specs.Version.{VersionValue}
+use Rattle.semver_versions.specs.declared.error.SemverError.{SemverError}
+use Rattle.semver_versions.specs.Error.{IsOutOfMemory, IsRefusalAt, no_valid_ranges}
+use Rattle.semver_sets.specs.ReadingBack.{IsPlainlyBounded, RangeReadsBack}
+
+-- the result is a range equal to these sets, or the error that an allocation failed
+abbrev pub IsReadAsRange : List (Ends VersionValue) → Result (List (Ends VersionValue)) SemverError → Type 0
+IsReadAsRange sets (Ok r) = AreSameCuts r sets
+IsReadAsRange sets (Err e) = IsOutOfMemory e
 
 -- unless it is out of memory, the text is refused exactly where no alternative has a comparator and a cut common to all
 -- its comparators; otherwise a version satisfies the range exactly where the text admits it

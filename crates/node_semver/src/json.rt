@@ -1,51 +1,73 @@
-//! Versions and ranges as JSON strings.
-ghost use Rattle.std.specs.Prelude.{◌≡◌, ◌↔◌, IsTrue};
-ghost use Rattle.node_semver.specs.declared.json.JsonError.{JsonError};
-ghost use Rattle.node_semver.specs.Json.{json_error_text, json_error_value};
+//! Ranges as JSON strings.
+ghost use Rattle.std.specs.Prelude.{◌≡◌, ◌↔◌, Err, IfOk, IfSome, None};
+ghost use Rattle.serde_json.specs.Data.{string};
+ghost use Rattle.serde_json.specs.Find.{as_str};
+ghost use Rattle.serde_json.specs.View.{view};
+ghost use Rattle.semver_sets.specs.RangePrint.{range_text};
+ghost use Rattle.semver_versions.specs.declared.json.JsonError.TheVariants.{NotAString};
+ghost use Rattle.semver_versions.specs.Json.{PassesOn};
+ghost use Rattle.node_semver.specs.RangeAnswer.{IsRangeAnswer};
 
-mod range;
-mod version;
+use crate::{JsonError, Range};
+use serde_json::Value;
+use std::alloc::{AllocError, Global};
 
-use crate::SemverError;
-use crate::laws::errors_are_equal_where_their_parts_are;
-use std::fmt;
-use thiserror::Error;
+impl Range {
+    /// Returns the JSON string with the range's print.
+    ///
+    /// [`Range::from_json`] reads it as an equal range, if no set of the range contains all cuts, and no major, minor
+    /// or patch of an end is greater than `MAX_SAFE_INTEGER`.
+    ///
+    /// # Errors
+    ///
+    /// Returns `AllocError` if the allocation of the text fails.
+    ///
+    /// # Memory
+    ///
+    /// Allocates the text.
+    ///
+    /// # Examples
+    ///
+    /// The string `<1.2.3` for `<1.2.3`. The string `*` for [`Range::any`], which is read as `>=0.0.0`, a range that is
+    /// not equal to it.
+    ///
+    /// # Source
+    ///
+    /// The Rust crate `node-semver` 2.2.0, `Serialize`.
+    pub fn to_json(&self, alloc: Global) -> Result<Value, AllocError>
+        ensures { IfOk result (λ value. view value ≡ string (range_text self.now)) }
+    {
+        Ok(Value::String(format!(in alloc; "{self}")?))
+    }
 
-/// Why reading a JSON value failed.
-///
-/// Two errors are equal exactly if they are the same variant with equal fields. If an allocation fails, the error is
-/// `Semver` with the kind `OutOfMemory`.
-///
-/// # Examples
-///
-/// The number `1` fails with `NotAString`, which prints `expected a string`. The string `1.2` fails as a version with
-/// `Semver`, which prints as its error does: `Failed to parse version.`
-#[derive(Debug, Drop, PartialEq, Eq, Error)]
-pub enum JsonError {
-    /// The JSON value is no string: it is null, a Boolean, a number, an array or an object.
-    NotAString,
-    /// The string failed to parse, with this error.
-    Semver(SemverError),
-}
-
-/// Prints `expected a string`, or the error inside. Format options such as a width are ignored.
-impl fmt::Display for JsonError {
-    ghost output = { json_error_text };
-
-    fn fmt<W: fmt::Write>(&self, f: &mut fmt::Formatter<W>) -> fmt::Result {
-        match self {
-            JsonError::NotAString => f.write_str("expected a string"),
-            JsonError::Semver(error) => error.fmt(f),
+    /// Reads a range from a JSON string, as [`Range::parse`] does from its text.
+    ///
+    /// # Errors
+    ///
+    /// - null, a Boolean, a number, an array, an object: `NotAString`;
+    /// - a string: `Semver` with the error of `Range::parse`. For the empty string, it is `NoValidRanges` at 0.
+    ///
+    /// # Memory
+    ///
+    /// As `Range::parse` does for the text. Does not allocate for `NotAString`.
+    ///
+    /// # Examples
+    ///
+    /// The string `^1.2.3` is read. The number `1` fails.
+    ///
+    /// # Source
+    ///
+    /// The Rust crate `node-semver` 2.2.0, `Deserialize`.
+    pub fn from_json(alloc: Global, value: &Value) -> Result<Range, JsonError>
+        ensures other { (result ≡ Err NotAString) ↔ (as_str (view value.now) ≡ None) }
+        ensures text { IfSome (as_str (view value.now)) (λ text. PassesOn (IsRangeAnswer text) result) }
+    {
+        let Some(text) = value.as_str() else {
+            return Err(JsonError::NotAString);
+        };
+        match Range::parse(alloc, text) {
+            Ok(range) => Ok(range),
+            Err(error) => Err(JsonError::Semver(error)),
         }
     }
-}
-
-/// Two JSON errors are equal if they are the same variant and the errors inside are equal.
-///
-/// This function does nothing: its contract is the law.
-pub fn json_errors_are_equal_where_their_parts_are()
-    ensures { (e f : JsonError) →
-        IsTrue (⟦<JsonError as PartialEq>⟧.eq e f) ↔ (json_error_value e ≡ json_error_value f) }
-{
-    errors_are_equal_where_their_parts_are();
 }

@@ -5,8 +5,8 @@
 //! least of them. Two ranges have an intersection and a difference, and a [`SetTree`] nests these operations.
 //!
 //! Each public call has a contract, and the checker proves that its result meets the contract. The definitions in the
-//! contracts are in `specs/`, here and in `semver_sets`, the crate that reads texts as sets. `docs/PROMISES.md` lists
-//! the clauses. [`laws`] has what follows from the definitions alone. A call that can allocate takes the allocator as
+//! contracts are in `specs/`, here and in the crates below, and a caller names all of them from here. `docs/PROMISES.md`
+//! lists the clauses. [`laws`] has what follows from the definitions alone. A call that can allocate takes the allocator as
 //! an argument, or uses the one that a value holds. If an allocation fails, the call returns an error.
 //!
 //! # Examples
@@ -39,21 +39,16 @@
 #![tactic(auto)]
 
 mod comparisons;
-mod error;
 mod json;
 pub mod laws;
 mod range;
 mod tree;
-mod version;
-mod version_ref;
 
 pub use comparisons::Comparisons;
-pub use error::{SemverError, SemverErrorKind, SourceSpan};
-pub use json::JsonError;
 pub use range::{Range, max_satisfying, min_satisfying};
-pub use semver_sets::set::AsVersion;
-pub use semver_sets::{Identifier, IdentifierRef, Identifiers, MAX_LENGTH, MAX_SAFE_INTEGER};
+pub use semver_versions::{
+    Admits, AsVersion, Identifier, IdentifierRef, Identifiers, JsonError, MAX_LENGTH,
+    MAX_SAFE_INTEGER, OrderedVersion, SemverError, SemverErrorKind, SourceSpan, Version,
+    VersionFault, VersionRef,
+};
 pub use tree::SetTree;
-pub use version::Version;
-pub use version::as_version::OrderedVersion;
-pub use version_ref::{VersionFault, VersionRef};

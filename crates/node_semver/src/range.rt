@@ -19,11 +19,14 @@ mod sets;
 use crate::{AsVersion, Comparisons, SemverError, Version};
 pub use equality::ranges_are_equal_where_their_cuts_are;
 pub use greatest::{max_satisfying, min_satisfying};
-use read::{FullLead, caret_range, exact_range, read_full, read_range, tilde_range};
+use read::read_range;
 use semver_cuts::{Cut, Span};
-use semver_sets::end::End;
+use semver_sets::laws::{a_text_means_its_sets, prints_are_read_back};
+use semver_sets::read::full::{FullLead, caret_set, exact_set, read_full, tilde_set};
 use semver_sets::set_list::Sets;
 use semver_sets::set_list::searched::Searched;
+use semver_versions::Admits;
+use semver_versions::end::End;
 use std::alloc::{AllocError, Global};
 use std::marker::Model;
 
@@ -72,7 +75,7 @@ impl Model for Range {
     ghost use Rattle.std.specs.Prelude.{List};
     ghost use Rattle.semver_cuts.specs.Ends.{Ends};
     ghost use Rattle.semver_sets.specs.RangeSets.{IsRangeValue, sets_seen};
-    ghost use Rattle.semver_sets.specs.Version.{VersionValue};
+    ghost use Rattle.semver_versions.specs.Version.{VersionValue};
 
     ghost Value = { List (Ends VersionValue) };
 
@@ -111,10 +114,18 @@ impl Range {
     pub fn parse(alloc: Global, text: &str) -> Result<Range, SemverError>
         ensures { IsRangeAnswer text.now result }
     {
+        a_text_means_its_sets();
+        prints_are_read_back();
         match read_full(text.as_bytes()) {
-            Some((FullLead::Caret, major, minor, patch)) => Ok(caret_range(major, minor, patch)),
-            Some((FullLead::Tilde, major, minor, patch)) => Ok(tilde_range(major, minor, patch)),
-            Some((FullLead::Nothing, major, minor, patch)) => Ok(exact_range(major, minor, patch)),
+            Some((FullLead::Caret, major, minor, patch)) => {
+                Ok(Range::of_set(caret_set(major, minor, patch)))
+            }
+            Some((FullLead::Tilde, major, minor, patch)) => {
+                Ok(Range::of_set(tilde_set(major, minor, patch)))
+            }
+            Some((FullLead::Nothing, major, minor, patch)) => {
+                Ok(Range::of_set(exact_set(major, minor, patch)))
+            }
             None => read_range(alloc, text),
         }
     }
@@ -138,7 +149,7 @@ impl Range {
     /// # Source
     ///
     /// The Rust crate `node-semver` 2.2.0.
-    #[tactic(auto, using(semver_sets::proofs::Ranges::RangeBounds::all_cuts_bounded))]
+    #[tactic(auto, using(semver_sets::specs::Lemmas::Bounds::all_cuts_bounded))]
     pub fn any(_alloc: Global) -> Result<Range, AllocError>
         ensures all { IfOk result (λ r. r ≡ all_cuts ∷ []) }
         ensures holds { IfOk result IsRangeValue }
@@ -235,19 +246,13 @@ impl Range {
     }
 }
 
-impl Version {
-    /// Returns `true` if the version satisfies the range, as [`Range::satisfies`] does.
-    ///
-    /// # Memory
-    ///
-    /// Does not allocate.
-    ///
-    /// # Examples
-    ///
-    /// `1.2.3+b` satisfies `=1.2.3+a`, because builds are ignored. `1.2.4` does not.
-    pub fn satisfies(&self, range: &Range) -> bool
-        ensures { IsTrue result ↔ RangeAdmits range.now self.now }
-    {
-        range.satisfies(self)
+/// What [`Version::satisfies`] checks: `version.satisfies(&range)` is `range.satisfies(&version)`.
+impl Admits for Range {
+    ghost admits = { RangeAdmits };
+
+    // `inline(always)`: this call is the other.
+    #[inline(always)]
+    fn admits_version(&self, version: &Version) -> bool {
+        self.satisfies(version)
     }
 }

@@ -5,15 +5,16 @@ ghost use Rattle.semver_cuts.specs.declared.cut.Cut.TheVariants.{Before};
 ghost use Rattle.semver_cuts.specs.SpanLists.{IsInSome};
 ghost use Rattle.semver_cuts.specs.CommonSpans.{common_spans};
 ghost use Rattle.semver_cuts.specs.Difference.{AreDifference};
-ghost use Rattle.semver_sets.specs.Comparison.{version_cmp};
+ghost use Rattle.semver_versions.specs.Comparison.{version_cmp};
 ghost use Rattle.semver_sets.specs.Meaning.{RangeAdmits};
 ghost use Rattle.semver_sets.specs.Merging.{AreSetsOfText};
 ghost use Rattle.semver_sets.specs.RangeSets.{IsRangeValue};
-ghost use Rattle.semver_sets.specs.Version.{IsPrerelease, VersionValue};
+ghost use Rattle.semver_versions.specs.Version.{IsPrerelease, VersionValue};
 ghost use Rattle.node_semver.specs.RangeAlgebra.{sets_of_answer};
 ghost use Rattle.node_semver.specs.SetTree.{AreSetsOfTree, InFormula, formula_of};
 
 use crate::{Range, SemverErrorKind};
+use semver_sets::laws::every_range_text_is_written_one_way;
 use std::alloc::{AllocError, Global};
 
 /// Range texts joined by intersection and difference.
@@ -78,6 +79,7 @@ impl SetTree {
             RangeAdmits (sets_of_answer answer) v ↔ InFormula (formula_of self.now) (Before v)) }
         ensures holds { IfOk result (λ answer. IfSome answer IsRangeValue) }
     {
+        every_range_text_is_written_one_way();
         match self {
             SetTree::Text(text) => range_of(alloc, text.as_str()),
             SetTree::Both(one, other) => match one.evaluate(alloc)? {

@@ -6,13 +6,13 @@ use Rattle.node_semver_c.specs.Greatest.{IsBestAtOrNone, IsBetterAt, IsGreatestA
 use Rattle.node_semver_c.specs.declared.handle.version.VersionRef.{VersionRef}
 use Rattle.semver_cuts.specs.Ends.{Ends}
 use Rattle.semver_cuts.specs.Lemmas.Lists.{all-append}
-use Rattle.semver_sets.specs.Comparison.{version_cmp}
+use Rattle.semver_versions.specs.Comparison.{version_cmp}
 use Rattle.semver_sets.specs.Meaning.{RangeAdmits}
-use Rattle.semver_sets.specs.Version.{VersionValue}
+use Rattle.semver_versions.specs.Version.{VersionValue}
 use Rattle.node_semver.specs.Greatest.{AdmitsNoneIn}
-use Rattle.node_semver.specs.Private.GreatestViews.{Order, downward, order_of}
-use Rattle.node_semver.proofs.Least.GreatestLemmas.{IsOrder, as-greatest, as-least, each-order, keep-best, none-at}
-use Rattle.node_semver.proofs.Least.GreatestLemmas.{take-better, take-first}
+use Rattle.node_semver.specs.Lemmas.GreatestViews.{Order, downward, order_of}
+use Rattle.node_semver.specs.Lemmas.GreatestLemmas.{IsOrder, as-greatest, as-least, each-order, keep-best, none-at}
+use Rattle.node_semver.specs.Lemmas.GreatestLemmas.{take-better, take-first}
 
 module _ (order : Order) (is : IsOrder order) (sets : List (Ends VersionValue)) where
   more-place : (done : List VersionValue) (place : ℕ) (v : VersionValue) (best found : Option (ℕ × VersionValue))

@@ -3,9 +3,9 @@
 use Rattle.std.proofs.Common.{◌≡◌, ℕ, List, [], ◌∷◌, refl, sym, subst}
 use seplogic.Ra.Ura.{Ura}
 use base.Logic.{ent, sep}
-use base.Fml.{Fml, ftrue, fsep, fex}
+use base.Fml.{ftrue}
 use types.Logic.{Logic, sem}
-use types.Kit.{Item, Goal, Seq, ‵, ◌⊛◌, ◌$◌, ◌∵◌, !, qed, move, drop, use0, use1, split, fjoin, fpick, fpack, done}
+use types.Kit.{Item, Goal, Seq, ‵, ◌⊛◌, ◌$◌, ◌∵◌, !, qed, move, drop, use1, split, fpick, fpack, done}
 use denote.RattleType.{RowLaws, RattleType}
 use denote.RawPtr.{Ptr, Testable, null_ptr}
 use denote.Struct.Lending.{lent_at, lent_at_shr_laws}

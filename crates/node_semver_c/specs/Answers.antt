@@ -10,14 +10,14 @@ use Rattle.semver_cuts.specs.CommonSpans.{common_spans}
 use Rattle.semver_cuts.specs.Ends.{Ends}
 use Rattle.semver_cuts.specs.Difference.{AreDifference}
 use Rattle.semver_cuts.specs.Sharing.{ShareCut}
-use Rattle.semver_sets.specs.Comparison.{version_cmp}
+use Rattle.semver_versions.specs.Comparison.{version_cmp}
 use Rattle.semver_sets.specs.Meaning.{RangeAdmits}
 use Rattle.semver_sets.specs.Merging.{AreSetsOfText}
 use Rattle.semver_sets.specs.RangeSets.{IsRangeValue}
 use Rattle.semver_sets.specs.Union.{AreJoinable, joined_text}
-use Rattle.semver_sets.specs.Version.{IsPrerelease, VersionValue}
-use Rattle.node_semver.specs.declared.error.SemverError.{SemverError}
-use Rattle.node_semver.specs.Error.{refusal_of}
+use Rattle.semver_versions.specs.Version.{IsPrerelease, VersionValue}
+use Rattle.semver_versions.specs.declared.error.SemverError.{SemverError}
+use Rattle.semver_versions.specs.Error.{refusal_of}
 use Rattle.node_semver.specs.Least.{AdmitsNone, AdmitsNoneBeyond, HasBuildOfFirst, IsAdmittedBy}
 use Rattle.node_semver.specs.Least.{IsLeastAdmitted, IsLeastBeyond}
 use Rattle.node_semver.specs.RangeAlgebra.{PairAdmits, sets_of_answer}

@@ -4,8 +4,9 @@ use Rattle.std.specs.Hash.FoldHasher as folding
 use Rattle.std.specs.declared.cmp.Ordering.{Ordering}
 use Rattle.std.specs.declared.cmp.Ordering.TheVariants.{Less, Equal, Greater}
 use Rattle.semver_cuts.specs.Ends.{Ends}
-use Rattle.semver_sets.specs.Hash.{range_writes, version_writes}
-use Rattle.semver_sets.specs.Version.{VersionValue}
+use Rattle.semver_sets.specs.RangeHash.{range_writes}
+use Rattle.semver_versions.specs.Hash.{version_writes}
+use Rattle.semver_versions.specs.Version.{VersionValue}
 
 -- -1, 0 or 1
 abbrev pub sign_of : Ordering → ℤ

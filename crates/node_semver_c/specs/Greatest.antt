@@ -4,10 +4,10 @@ use Rattle.std.specs.declared.cmp.Ordering.TheVariants.{Less}
 use Rattle.node_semver_c.specs.declared.handle.version.VersionRef.{VersionRef}
 use Rattle.semver_cuts.specs.Ends.{Ends}
 use Rattle.semver_sets.specs.Meaning.{RangeAdmits}
-use Rattle.semver_sets.specs.Order.{IsBelow}
-use Rattle.semver_sets.specs.Version.{VersionValue}
+use Rattle.semver_versions.specs.Order.{IsBelow}
+use Rattle.semver_versions.specs.Version.{VersionValue}
 use Rattle.node_semver.specs.Greatest.{AdmitsNoneIn, IsFirstBest}
-use Rattle.node_semver.specs.Private.GreatestViews.{Order}
+use Rattle.node_semver.specs.Lemmas.GreatestViews.{Order}
 
 -- the versions that the borrowed handles point to
 abbrev pub values : List VersionRef → List VersionValue

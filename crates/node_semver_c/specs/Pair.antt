@@ -5,11 +5,11 @@ use Rattle.node_semver_c.specs.declared.status.TheConstants.{OK}
 use Rattle.node_semver_c.specs.Status.{IsFaultReported, IsRefusalReported}
 use Rattle.semver_cuts.specs.Ends.{Ends}
 use Rattle.semver_sets.specs.Meaning.{IsRefused, RangeAdmits, TextAdmits}
-use Rattle.semver_sets.specs.Version.{VersionValue}
-use Rattle.semver_sets.specs.VersionText.{IsVersionText}
-use Rattle.node_semver.specs.declared.error.SemverError.{SemverError}
-use Rattle.node_semver.specs.Error.{IsOutOfMemory, IsRefusalAt, Kind, no_valid_ranges, refusal_of}
-use Rattle.node_semver.specs.Fault.{IsFault}
+use Rattle.semver_versions.specs.Version.{VersionValue}
+use Rattle.semver_versions.specs.VersionText.{IsVersionText}
+use Rattle.semver_versions.specs.declared.error.SemverError.{SemverError}
+use Rattle.semver_versions.specs.Error.{IsOutOfMemory, IsRefusalAt, Kind, no_valid_ranges, refusal_of}
+use Rattle.semver_versions.specs.Fault.{IsFault}
 
 -- status and fault are those of an error of which this holds
 pub record IsErrorReported (Is : SemverError → Type 0) (status : ℕ) (fault : Fault) : Type 0 where

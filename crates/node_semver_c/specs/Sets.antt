@@ -1,8 +1,6 @@
 -- The sets of a range as C has them: at each end a cut, which is a kind and, for two of the kinds, a version.
 use Rattle.std.specs.Prelude.{◌≡◌, ◌⊎◌, ◌↔◌, ℕ, List, [], ◌∷◌, Option, Some, None, IfSome, IsNone, IsSome}
-use Rattle.std.specs.List.{slice_get}
 use Rattle.node_semver_c.specs.declared.handle.set.TheConstants.{AFTER, BEFORE, END, START}
-use Rattle.node_semver_c.specs.declared.handle.set.CutHandle.{CutHandle}
 use Rattle.node_semver_c.specs.declared.handle.set.CutRef.{CutRef}
 use Rattle.node_semver_c.specs.declared.handle.set.SetHandle.{SetHandle}
 use Rattle.node_semver_c.specs.declared.handle.set.SetRef.{SetRef}
@@ -11,9 +9,9 @@ use Rattle.node_semver_c.specs.declared.status.TheConstants.{NONE, OK, OUT_OF_ME
 use Rattle.semver_cuts.specs.declared.cut.Cut.{Cut}
 use Rattle.semver_cuts.specs.declared.cut.Cut.TheVariants.{Start, Before, After, End}
 use Rattle.semver_cuts.specs.Ends.{Ends, HoldsCut}
-use Rattle.semver_sets.specs.Comparison.{version_cmp}
+use Rattle.semver_versions.specs.Comparison.{version_cmp}
 use Rattle.semver_sets.specs.RangeSets.{IsRangeValue}
-use Rattle.semver_sets.specs.Version.{VersionValue}
+use Rattle.semver_versions.specs.Version.{VersionValue}
 
 -- ---- what is written
 

@@ -1,7 +1,7 @@
 -- What a call returns beside its value: a status, and the fault of a text that is refused.
 use Rattle.std.specs.Prelude.{◌≡◌, ◌⊎◌, ℕ, Option, Some, None}
-use Rattle.node_semver.specs.Error.{Kind, Refusal, max_length, incomplete, parse_int, max_int, context}
-use Rattle.node_semver.specs.Error.{no_valid_ranges, other, out_of_memory}
+use Rattle.semver_versions.specs.Error.{Kind, Refusal, max_length, incomplete, parse_int, max_int, context}
+use Rattle.semver_versions.specs.Error.{no_valid_ranges, other, out_of_memory}
 use Rattle.node_semver_c.specs.declared.status.TheConstants.{OK, NONE, REFUSED, OUT_OF_MEMORY}
 use Rattle.node_semver_c.specs.declared.status.Fault.{Fault}
 

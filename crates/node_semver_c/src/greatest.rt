@@ -3,7 +3,7 @@ ghost use Rattle.std.specs.Option.{option_map};
 ghost use Rattle.std.specs.Prelude.{◌≡◌, ◌↔◌, IsTrue};
 ghost use Rattle.std.specs.declared.cmp.Ordering.TheVariants.{Less};
 ghost use Rattle.node_semver.specs.Greatest.{AdmitsNoneIn};
-ghost use Rattle.node_semver.specs.Private.GreatestViews.{order_of};
+ghost use Rattle.node_semver.specs.Lemmas.GreatestViews.{order_of};
 ghost use Rattle.node_semver_c.specs.Greatest.{IsBestAtOrNone, IsBetterAt, IsGreatestAt, IsLeastAt, values};
 
 use crate::handle::range::RangeRef;

@@ -1,8 +1,8 @@
 //! The laws of statuses and faults, which a call returns beside its value. Each function here does nothing: its
 //! contract is the law.
 ghost use Rattle.std.specs.Prelude.{◌≡◌, ℕ, List};
-ghost use Rattle.node_semver.specs.Error.{context, incomplete, max_int, max_length, no_valid_ranges, other};
-ghost use Rattle.node_semver.specs.Error.{out_of_memory, parse_int};
+ghost use Rattle.semver_versions.specs.Error.{context, incomplete, max_int, max_length, no_valid_ranges, other};
+ghost use Rattle.semver_versions.specs.Error.{out_of_memory, parse_int};
 ghost use Rattle.node_semver_c.specs.Status.{code_of};
 ghost use Rattle.node_semver_c.specs.declared.handle.set.TheConstants.{AFTER, BEFORE, END, START};
 ghost use Rattle.node_semver_c.specs.declared.status.TheConstants.{NONE, NOT_UTF8, OK, OUT_OF_MEMORY, REFUSED};

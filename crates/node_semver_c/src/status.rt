@@ -1,6 +1,6 @@
 //! What a call returns beside its value: its status, and the fault of a text that it refuses.
 ghost use Rattle.std.specs.Prelude.{◌≡◌, Some, None};
-ghost use Rattle.node_semver.specs.Error.{kind_of, refusal_of};
+ghost use Rattle.semver_versions.specs.Error.{kind_of, refusal_of};
 ghost use Rattle.node_semver_c.specs.Status.{IsFaultReported, IsKept, IsKeptAnswer, IsRefusalReported};
 ghost use Rattle.node_semver_c.specs.Status.{code_of, number_in, status_of};
 

@@ -5,11 +5,11 @@ ghost use Rattle.node_semver_c.specs.Answers.{IsSomeReported};
 ghost use Rattle.node_semver_c.specs.Compared.{sign_of, version_hash};
 ghost use Rattle.node_semver_c.specs.Printed.{IsPrinted};
 ghost use Rattle.node_semver_c.specs.declared.status.TheConstants.{NOT_UTF8};
-ghost use Rattle.semver_sets.specs.Comparison.{version_cmp};
-ghost use Rattle.semver_sets.specs.Order.{OrderMeans};
-ghost use Rattle.semver_sets.specs.Print.{version_text};
-ghost use Rattle.semver_sets.specs.Version.{IsPrerelease, VersionValue};
-ghost use Rattle.node_semver.specs.Json.{IsVersionAnswer};
+ghost use Rattle.semver_versions.specs.Comparison.{version_cmp};
+ghost use Rattle.semver_versions.specs.Order.{OrderMeans};
+ghost use Rattle.semver_versions.specs.Print.{version_text};
+ghost use Rattle.semver_versions.specs.Version.{IsPrerelease, VersionValue};
+ghost use Rattle.semver_versions.specs.Json.{IsVersionAnswer};
 
 use crate::handle::version::{VersionHandle, VersionRef};
 use crate::status::{Fault, NOT_UTF8, keep_version, report};

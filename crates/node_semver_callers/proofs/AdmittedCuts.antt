@@ -4,10 +4,10 @@ use Rattle.semver_cuts.specs.declared.cut.Cut.TheVariants.{Before}
 use Rattle.semver_cuts.specs.SpanLists.{IsInEvery, IsInSome}
 use Rattle.semver_cuts.specs.Ends.{Ends}
 use Rattle.semver_cuts.specs.Lemmas.Lists.{any-map}
-use Rattle.semver_sets.specs.Comparator.{Comparator}
-use Rattle.semver_sets.specs.Comparison.{version_cmp}
-use Rattle.semver_sets.specs.Meaning.{Admit, RangeAdmits, TextAdmits}
-use Rattle.semver_sets.specs.Version.{IsPrerelease, VersionValue}
+use Rattle.node_semver.specs.Ranges.{Comparator}
+use Rattle.node_semver.specs.Versions.{version_cmp}
+use Rattle.node_semver.specs.Ranges.{Admit, RangeAdmits, TextAdmits}
+use Rattle.node_semver.specs.Versions.{IsPrerelease, VersionValue}
 use Rattle.node_semver.specs.RangeAlgebra.{sets_of_answer}
 use Rattle.node_semver.specs.SetTree.{Formula, InFormula, TextHasCut, both, of_text, without}
 

@@ -2,9 +2,9 @@
 use Rattle.std.proofs.Common.{◌↔◌, ℕ, List, Option, None, Some}
 use Rattle.std.specs.Option.{IfSome}
 use Rattle.semver_cuts.specs.Ends.{Ends}
-use Rattle.semver_sets.specs.Meaning.{RangeAdmits, TextAdmits}
-use Rattle.semver_sets.specs.Order.{IsBelow}
-use Rattle.semver_sets.specs.Version.{VersionValue}
+use Rattle.node_semver.specs.Ranges.{RangeAdmits, TextAdmits}
+use Rattle.node_semver.specs.Versions.{IsBelow}
+use Rattle.node_semver.specs.Versions.{VersionValue}
 use Rattle.node_semver.specs.Least.{IsLeastAdmitted}
 
 module _ (text : List ℕ) (sets : List (Ends VersionValue))

@@ -2,8 +2,8 @@
 use Rattle.std.proofs.Common.{◌≡◌, ◌<◌, ◌+◌, ℕ, List, [], ◌∷◌, ◌++◌, get_or, length, map, take}
 use Rattle.std.proofs.lemmas.List.{map-append, take_more}
 use Rattle.node_semver_callers.specs.Hits.{AreHits, hit, none, spared}
-use Rattle.semver_sets.specs.Meaning.{TextAdmits}
-use Rattle.semver_sets.specs.Version.{VersionValue}
+use Rattle.node_semver.specs.Ranges.{TextAdmits}
+use Rattle.node_semver.specs.Versions.{VersionValue}
 
 module _ (text : List ℕ) (v : VersionValue) where
   -- one that is hit is one hit more

@@ -7,9 +7,9 @@ use Rattle.semver_cuts.specs.declared.cut.Cut.{Cut}
 use Rattle.semver_cuts.specs.SpanLists.{IsInSome}
 use Rattle.semver_cuts.specs.Ends.{Ends}
 use Rattle.semver_cuts.specs.Lemmas.Lists.{any-either, any-left, any-right}
-use Rattle.semver_sets.specs.Comparison.{version_cmp}
-use Rattle.semver_sets.specs.Meaning.{AnyByRecursion, RangeAdmits}
-use Rattle.semver_sets.specs.Version.{VersionValue}
+use Rattle.node_semver.specs.Versions.{version_cmp}
+use Rattle.node_semver.specs.Ranges.{AnyByRecursion, RangeAdmits}
+use Rattle.node_semver.specs.Versions.{VersionValue}
 use Rattle.node_semver.specs.Least.{AdmitsBeyond, IsLeastOf, IsNoneOf}
 use Rattle.node_semver.specs.RangeAlgebra.{sets_of_answer}
 use Rattle.node_semver_callers.specs.Advisory.{HasCut, IsHit, IsSpared}

@@ -3,9 +3,9 @@ use Rattle.std.specs.Prelude.{List}
 use Rattle.semver_cuts.specs.declared.cut.Cut.{Cut}
 use Rattle.semver_cuts.specs.SpanLists.{IsInSome}
 use Rattle.semver_cuts.specs.Ends.{Ends}
-use Rattle.semver_sets.specs.Comparison.{version_cmp}
-use Rattle.semver_sets.specs.Meaning.{AnyByRecursion, RangeAdmits}
-use Rattle.semver_sets.specs.Version.{VersionValue}
+use Rattle.node_semver.specs.Versions.{version_cmp}
+use Rattle.node_semver.specs.Ranges.{AnyByRecursion, RangeAdmits}
+use Rattle.node_semver.specs.Versions.{VersionValue}
 
 -- one of the ranges admits the version
 abbrev pub IsHit : List (List (Ends VersionValue)) → VersionValue → Type 0

@@ -2,9 +2,9 @@
 use Rattle.std.specs.Prelude.{◌≡◌, ◌⊎◌, ℕ, List}
 use Rattle.node_semver_callers.specs.declared.package.MemberError.{MemberError}
 use Rattle.node_semver_callers.specs.declared.package.MemberError.TheVariants.{NotAString, Refused}
-use Rattle.semver_sets.specs.Meaning.{IsRefused}
-use Rattle.node_semver.specs.Error.{IsOutOfMemory, IsRefusalAt, no_valid_ranges, refusal_of}
-use Rattle.node_semver.specs.ErrorLocation.{column_at, lines_before}
+use Rattle.node_semver.specs.Ranges.{IsRefused}
+use Rattle.node_semver.specs.Errors.{IsOutOfMemory, IsRefusalAt, no_valid_ranges, refusal_of}
+use Rattle.node_semver.specs.Errors.{column_at, lines_before}
 
 -- the error for this text, or that an allocation failed, with the line and the column of its offset
 abbrev pub IsPlacedIn : List ℕ → MemberError → Type 0

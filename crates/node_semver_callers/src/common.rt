@@ -2,8 +2,8 @@
 
 ghost use Rattle.std.specs.Prelude.{◌⊎◌, ◌↔◌, IfErr, IfOk, IsNone};
 ghost use Rattle.node_semver_callers.specs.Failure.{IsFailureOf};
-ghost use Rattle.semver_sets.specs.Meaning.{RangeAdmits, TextAdmits};
-ghost use Rattle.semver_sets.specs.Version.{IsPrerelease, VersionValue};
+ghost use Rattle.node_semver.specs.Ranges.{RangeAdmits, TextAdmits};
+ghost use Rattle.node_semver.specs.Versions.{IsPrerelease, VersionValue};
 ghost use Rattle.node_semver.specs.RangeAlgebra.{sets_of_answer};
 
 use crate::Failure;

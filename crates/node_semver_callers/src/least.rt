@@ -2,9 +2,9 @@
 
 ghost use Rattle.std.specs.Prelude.{◌↔◌, IfErr, IfOk, IfSome, IsNone};
 ghost use Rattle.node_semver_callers.specs.Failure.{IsFailureOf};
-ghost use Rattle.semver_sets.specs.Meaning.{TextAdmits};
-ghost use Rattle.semver_sets.specs.Order.{IsBelow};
-ghost use Rattle.semver_sets.specs.Version.{VersionValue};
+ghost use Rattle.node_semver.specs.Ranges.{TextAdmits};
+ghost use Rattle.node_semver.specs.Versions.{IsBelow};
+ghost use Rattle.node_semver.specs.Versions.{VersionValue};
 
 use crate::Failure;
 use node_semver::{Range, Version};

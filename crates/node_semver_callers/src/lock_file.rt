@@ -1,11 +1,11 @@
 //! Does the version in a lock file still satisfy the range in the manifest?
 
 ghost use Rattle.std.specs.Prelude.{◌⊎◌, ◌↔◌, IfErr, IfOk, IsTrue};
-ghost use Rattle.semver_sets.specs.Meaning.{IsRefused, TextAdmits};
-ghost use Rattle.semver_sets.specs.Version.{VersionValue};
-ghost use Rattle.semver_sets.specs.VersionText.{IsVersionText};
-ghost use Rattle.node_semver.specs.Error.{IsOutOfMemory, IsRefusalAt, no_valid_ranges};
-ghost use Rattle.node_semver.specs.Fault.{IsFaultOf};
+ghost use Rattle.node_semver.specs.Ranges.{IsRefused, TextAdmits};
+ghost use Rattle.node_semver.specs.Versions.{VersionValue};
+ghost use Rattle.node_semver.specs.Versions.{IsVersionText};
+ghost use Rattle.node_semver.specs.Errors.{IsOutOfMemory, IsRefusalAt, no_valid_ranges};
+ghost use Rattle.node_semver.specs.Errors.{IsFaultOf};
 
 use node_semver::{Range, SemverError, Version};
 use std::alloc::Global;

@@ -5,8 +5,8 @@ ghost use Rattle.serde_json.specs.Find.{as_str};
 ghost use Rattle.serde_json.specs.View.{view};
 ghost use Rattle.node_semver_callers.specs.declared.package.MemberError.TheVariants.{NotAString};
 ghost use Rattle.node_semver_callers.specs.Places.{IsPlacedIn};
-ghost use Rattle.semver_sets.specs.Meaning.{RangeAdmits, TextAdmits};
-ghost use Rattle.semver_sets.specs.Version.{VersionValue};
+ghost use Rattle.node_semver.specs.Ranges.{RangeAdmits, TextAdmits};
+ghost use Rattle.node_semver.specs.Versions.{VersionValue};
 
 use node_semver::{JsonError, Range, SemverError};
 use serde_json::Value;

@@ -4,9 +4,9 @@ ghost use Rattle.std.specs.Prelude.{◌≡◌, ◌≢◌, ◌↔◌, [], IfOk, I
 ghost use Rattle.node_semver_callers.specs.Advisory.{HasCut, IsHit, IsSpared};
 ghost use Rattle.semver_cuts.specs.declared.cut.Cut.{Cut};
 ghost use Rattle.semver_cuts.specs.SpanLists.{IsInSome};
-ghost use Rattle.semver_sets.specs.Comparison.{version_cmp};
-ghost use Rattle.semver_sets.specs.Meaning.{RangeAdmits};
-ghost use Rattle.semver_sets.specs.Version.{VersionValue};
+ghost use Rattle.node_semver.specs.Versions.{version_cmp};
+ghost use Rattle.node_semver.specs.Ranges.{RangeAdmits};
+ghost use Rattle.node_semver.specs.Versions.{VersionValue};
 ghost use Rattle.node_semver.specs.Least.{IsLeastOf, IsNoneOf};
 ghost use Rattle.node_semver.specs.RangeAlgebra.{sets_of_answer};
 
@@ -63,8 +63,9 @@ pub fn union_of(alloc: Global, ranges: &[Range]) -> Result<Option<Range>, AllocE
 #[cfg(test)]
 mod tests {
     use super::{is_covered, least_spared};
+    use crate::Failure;
     use crate::checks::is_found;
-    use node_semver::{Range, SemverError};
+    use node_semver::Range;
     use std::alloc::Global;
 
     #[test]
@@ -84,7 +85,7 @@ mod tests {
         assert!(rt; is_answered(alloc, "^4.17.20", &[], false));
     }
 
-    fn ranges_of(alloc: Global, texts: &[&str]) -> Result<Vec<Range>, SemverError> {
+    fn ranges_of(alloc: Global, texts: &[&str]) -> Result<Vec<Range>, Failure> {
         let mut ranges = Vec::new(alloc);
         for text in texts {
             ranges.push(Range::parse(alloc, text)?)?;

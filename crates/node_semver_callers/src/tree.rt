@@ -1,8 +1,8 @@
 //! A tree of ranges: the versions that two dependents accept and an advisory does not hit.
 
 ghost use Rattle.std.specs.Prelude.{◌≡◌, ◌↔◌, IfOk};
-ghost use Rattle.semver_sets.specs.Meaning.{RangeAdmits, TextAdmits};
-ghost use Rattle.semver_sets.specs.Version.{IsPrerelease, VersionValue};
+ghost use Rattle.node_semver.specs.Ranges.{RangeAdmits, TextAdmits};
+ghost use Rattle.node_semver.specs.Versions.{IsPrerelease, VersionValue};
 ghost use Rattle.node_semver.specs.RangeAlgebra.{sets_of_answer};
 ghost use Rattle.node_semver.specs.SetTree.{formula_of, of_text};
 

@@ -1,7 +1,7 @@
 //! Does a version satisfy a range text?
 
 ghost use Rattle.std.specs.Prelude.{◌↔◌, IfOk, IsTrue};
-ghost use Rattle.semver_sets.specs.Meaning.{TextAdmits};
+ghost use Rattle.node_semver.specs.Ranges.{TextAdmits};
 
 use node_semver::{Range, SemverError, Version};
 use std::alloc::Global;

@@ -89,8 +89,11 @@ of_p = record {
     installed = ((λ _. inl refl), (λ _. refl));
     names = codes "a" ∷ [];
     are_names = one_name;
-    each = (dependency (record { spec = codes "^1"; is_needed = true; is_peer = false }) (Some problem) false refl
-        (missing nowhere_found refl), tt);
+    each = (
+      dependency (record { spec = codes "^1"; is_needed = true; is_peer = false }) (Some problem) false refl
+          (missing nowhere_found refl),
+      tt,
+    );
   };
   whole = refl;
 }

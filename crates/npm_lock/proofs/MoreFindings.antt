@@ -8,7 +8,7 @@ use Rattle.serde_json.specs.Data.{Data, object}
 use Rattle.serde_json.specs.Find.{as_object, get}
 use Rattle.serde_json.specs.View.{members_view}
 use Rattle.serde_json.specs.declared.value.Value.{Value}
-use Rattle.semver_sets.specs.Version.{VersionValue}
+use Rattle.node_semver.specs.Versions.{VersionValue}
 use Rattle.npm_lock.specs.Asked.{AskedValue, asked_of}
 use Rattle.npm_lock.specs.Findings.{AreDependencyFindings, AreMemberFindings, Finding, IsDependencyFinding}
 use Rattle.npm_lock.specs.Findings.{AreFindings, IsChecked, IsReport}

@@ -3,8 +3,8 @@ use Rattle.std.specs.Prelude.{◌≡◌, ℕ, List, Bool, true, false, Option, S
 use Rattle.std.specs.Prelude.{string_bytes, codes}
 use Rattle.serde_json.specs.Data.{Data}
 use Rattle.serde_json.specs.Find.{as_str, get}
-use Rattle.semver_sets.specs.Print.{version_text}
-use Rattle.semver_sets.specs.Version.{VersionValue}
+use Rattle.node_semver.specs.Versions.{version_text}
+use Rattle.node_semver.specs.Versions.{VersionValue}
 use Rattle.npm_lock.specs.declared.problem.Kind.{Kind}
 use Rattle.npm_lock.specs.declared.problem.Kind.TheVariants.{Engine, Invalid, Missing, PeerLocal}
 use Rattle.npm_lock.specs.declared.problem.Problem.{Problem}

@@ -1,9 +1,9 @@
 -- Whether a version satisfies a dependency's spec.
 use Rattle.std.specs.Prelude.{◌≡◌, ◌==◌, ◌||◌, ℕ, List, Bool, true, false, Option, Some, None, IfSome, bytes_eq}
 use Rattle.std.specs.Prelude.{codes, length}
-use Rattle.semver_sets.specs.Meaning.{IsRefused, TextAdmits}
-use Rattle.semver_sets.specs.Version.{VersionValue}
-use Rattle.semver_sets.specs.VersionText.{IsVersionText}
+use Rattle.node_semver.specs.Ranges.{IsRefused, TextAdmits}
+use Rattle.node_semver.specs.Versions.{VersionValue}
+use Rattle.node_semver.specs.Versions.{IsVersionText}
 use Rattle.npm_lock.specs.RangeText.{is_tag, range_text}
 use Rattle.npm_lock.specs.declared.verdict.Verdict.{Verdict}
 use Rattle.npm_lock.specs.declared.verdict.Verdict.TheVariants.{Invalid, Unchecked, Valid}

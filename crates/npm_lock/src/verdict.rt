@@ -1,8 +1,8 @@
 //! Whether a version satisfies a dependency's spec.
 ghost use Rattle.std.specs.Prelude.{◌≡◌, ◌↔◌, false, IfOk, IsTrue, List, ℕ, option_map};
-ghost use Rattle.node_semver.specs.Error.{out_of_memory, refusal_of};
-ghost use Rattle.semver_sets.specs.Meaning.{IsRefused, RangeAdmits, TextAdmits};
-ghost use Rattle.semver_sets.specs.Version.{VersionValue};
+ghost use Rattle.node_semver.specs.Errors.{out_of_memory, refusal_of};
+ghost use Rattle.node_semver.specs.Ranges.{IsRefused, RangeAdmits, TextAdmits};
+ghost use Rattle.node_semver.specs.Versions.{VersionValue};
 ghost use Rattle.npm_lock.specs.Verdict as Verdicts;
 ghost use Rattle.npm_lock.specs.Verdict.{IsAdmittedBy, IsVerdict, IsVerdictOfText};
 

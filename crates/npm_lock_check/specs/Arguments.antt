@@ -1,7 +1,7 @@
 -- What the arguments of the program ask for.
 use Rattle.std.specs.Prelude.{◌≡◌, ◌≢◌, ℕ, List, [], ◌∷◌, Option, Some, None, Result, Ok, Err, codes}
-use Rattle.semver_sets.specs.Version.{VersionValue}
-use Rattle.semver_sets.specs.VersionText.{IsVersionText}
+use Rattle.node_semver.specs.Versions.{VersionValue}
+use Rattle.node_semver.specs.Versions.{IsVersionText}
 use Rattle.npm_lock_check.specs.declared.run_error.RunError.{RunError}
 use Rattle.npm_lock_check.specs.declared.run_error.RunError.TheVariants.{Arguments, Memory, NodeVersion}
 

@@ -1,6 +1,6 @@
 //! The arguments of the program.
 ghost use Rattle.std.specs.Prelude.{◌≡◌, ◌↔◌, [], ◌∷◌, IsTrue, codes, map, string_bytes};
-ghost use Rattle.node_semver.specs.Error.{out_of_memory, refusal_of};
+ghost use Rattle.node_semver.specs.Errors.{out_of_memory, refusal_of};
 ghost use Rattle.npm_lock_check.specs.Arguments.{IsNodeOf};
 
 use crate::run_error::RunError;

@@ -14,6 +14,8 @@ pub mod Hash
 pub mod SpanLists
 -- the ends of the intersection of the spans of a list
 pub mod ChosenEnds
+-- which of two ends is kept if two spans are intersected
+pub mod KeptEnds
 -- the part of one span outside another
 pub mod SpanDifference
 -- ---- Algebra of lists of spans

@@ -1,7 +1,5 @@
 -- What private functions compute, in this crate and in those above it.
 
--- which of two ends is kept if two spans are intersected
-pub mod KeptEnds
 -- spans with their places, sorted by their lower ends
 pub mod Placed
 -- how sorted spans are joined

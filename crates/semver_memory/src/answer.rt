@@ -1,6 +1,6 @@
 //! The results of calls.
 use node_semver::{Identifier, JsonError, Range, SemverError, SemverErrorKind, Version};
-use semver_cuts::Span;
+use semver_cuts::{Cut, Span};
 use serde_json::Value;
 use std::alloc::{AllocError, Global};
 
@@ -14,6 +14,7 @@ pub(crate) enum Answer {
     Identifier(Identifier),
     Version(Version),
     Range(Range),
+    Set(Span<Version>),
     Refusal(SemverError),
     Json(Value),
     NotAString,
@@ -30,10 +31,20 @@ impl Answer {
             Answer::Identifier(identifier) => identifier.to_string(alloc),
             Answer::Version(version) => version.to_string(alloc),
             Answer::Range(range) => range.to_string(alloc),
+            Answer::Set(set) => print_of_set(alloc, set),
             Answer::Refusal(error) => print_of_error(alloc, error),
             Answer::Json(value) => value.to_string(alloc),
             Answer::NotAString => String::from_str(alloc, "no string"),
         }
+    }
+}
+
+/// The versions at the ends of a set that contains the cut just before its lower version, and not the one before its
+/// upper version.
+fn print_of_set(alloc: Global, set: &Span<Version>) -> Result<String, AllocError> {
+    match set.ends() {
+        (Cut::Before(lower), Cut::Before(upper)) => format!(in alloc; "{lower} to {upper}"),
+        _ => String::from_str(alloc, "another set"),
     }
 }
 
@@ -100,6 +111,14 @@ pub(crate) fn range(found: Result<Range, AllocError>) -> Answer {
 pub(crate) fn count(found: Result<Vec<Span<Version>>, AllocError>) -> Answer {
     match found {
         Ok(sets) => Answer::Count(sets.len()),
+        Err(_) => Answer::OutOfMemory,
+    }
+}
+
+pub(crate) fn set_if_any(found: Result<Option<Span<Version>>, AllocError>) -> Answer {
+    match found {
+        Ok(Some(set)) => Answer::Set(set),
+        Ok(None) => Answer::Nothing,
         Err(_) => Answer::OutOfMemory,
     }
 }

@@ -25,6 +25,7 @@ pub(crate) enum Call {
     Difference(Range, Range),
     Union(Range, Range),
     Sets(Range),
+    Set(Range),
     FromSets(Range),
     MinVersion(Range),
     LeastBeyond(Range, Range),
@@ -54,6 +55,7 @@ impl Call {
             Call::Difference(one, other) => answer::range_if_any(one.difference(alloc, other)),
             Call::Union(one, other) => answer::range(one.union(alloc, other)),
             Call::Sets(range) => answer::count(range.sets(alloc)),
+            Call::Set(range) => answer::set_if_any(range.set(alloc, 1)),
             Call::FromSets(range) => from_sets(alloc, range),
             Call::MinVersion(range) => answer::version_if_any(range.min_version(alloc)),
             Call::LeastBeyond(one, other) => answer::version_if_any(one.least_beyond(alloc, other)),
@@ -79,6 +81,7 @@ impl Call {
             Call::CopyVersion(version) | Call::VersionToJson(version) => version.to_string(alloc),
             Call::CopyRange(range)
             | Call::Sets(range)
+            | Call::Set(range)
             | Call::FromSets(range)
             | Call::MinVersion(range)
             | Call::RangeToJson(range) => range.to_string(alloc),
@@ -178,6 +181,7 @@ fn call_of_value(alloc: Global, name: &str, one: &str, other: &str) -> Result<Ca
         | "Range::min_version"
         | "Range::to_json"
         | "Range::sets"
+        | "Range::set"
         | "Range::from_sets" => call_of_range(alloc, name, one),
         "Range::intersect" | "Range::difference" | "Range::union" | "Range::least_beyond" => {
             call_of_ranges(alloc, name, one, other)
@@ -210,6 +214,7 @@ fn call_of_range(alloc: Global, name: &str, text: &str) -> Result<Call, Fault> {
         "Range::clone" => Call::CopyRange(range),
         "Range::min_version" => Call::MinVersion(range),
         "Range::sets" => Call::Sets(range),
+        "Range::set" => Call::Set(range),
         "Range::from_sets" => Call::FromSets(range),
         _ => Call::RangeToJson(range),
     })

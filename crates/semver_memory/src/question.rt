@@ -72,10 +72,11 @@ fn are_same(one: &Version, other: &Version) -> bool {
     same && one.is_prerelease() && other.is_prerelease()
 }
 
-/// Whether two ranges are equal and contain a cut.
+/// Whether two ranges are equal, with as many sets, and contain a cut.
 fn are_equal(one: &Range, other: &Range) -> bool {
     let same = one == other && hash_of(one) == hash_of(other);
-    same && one.allows_any(other) && one.allows_all(other)
+    let count = one.set_count() == other.set_count();
+    same && count && one.allows_any(other) && one.allows_all(other)
 }
 
 /// Whether the error has a place on the first line, and a copy of its kind is equal to the kind.

@@ -10,7 +10,7 @@ use denote.Ref.{Bor}
 use Rattle.std.proofs.lemmas.Bool.{cases_Bool}
 use Rattle.std.proofs.lemmas.List.{take_rest}
 use Rattle.memchr.specs.Find.{NoneBefore, Nowhere, Passes, is_byte}
-use Rattle.node_semver.specs.ErrorLocation.{newline}
+use Rattle.semver_versions.specs.ErrorLocation.{newline}
 use Rattle.semver_pairs.specs.Lines.{divided, joined, with_byte, with_line}
 use Rattle.semver_pairs.specs.Private.Splitting.{BeginsWithLine, HasNoNewline}
 

@@ -10,7 +10,7 @@ ghost use Rattle.semver_pairs.specs.Private.Answering.{AnswersPast, AnswersRange
 ghost use Rattle.semver_pairs.specs.Private.Answering.{IsAnswerLine, IsReadAs};
 ghost use Rattle.semver_pairs.specs.Private.Splitting.{BeginsWithPair, HasNoNewline};
 ghost use Rattle.semver_sets.specs.Meaning.{RangeAdmits};
-ghost use Rattle.node_semver.specs.Error.{out_of_memory, refusal_of};
+ghost use Rattle.semver_versions.specs.Error.{out_of_memory, refusal_of};
 
 use crate::answers::Answers;
 use crate::gauge::Gauge;

@@ -1,5 +1,3 @@
-mod OrderExamples
-mod PrintExamples
 pub mod WordExamples
 pub mod RangeComputing
 pub mod RangeExamples
@@ -7,3 +5,4 @@ pub mod SetComputing
 pub mod SetExamples
 pub mod LimitExamples
 mod SearchExamples
+mod CharacterExamples

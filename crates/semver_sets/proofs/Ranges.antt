@@ -8,3 +8,4 @@ pub mod RangeBounds
 pub mod OnlyWord
 pub mod OnlySet
 pub mod JoinedTexts
+pub mod FullRange

@@ -3,7 +3,6 @@ pub mod Searching
 pub mod OpeningOrder
 pub mod Openings
 pub mod Merging
-pub mod Convex
 pub mod AlternativeSets
 pub mod SetLemmas
 pub mod CommonSpan

@@ -1,15 +1,2 @@
-pub mod ByteTable
-pub mod Characters
-pub mod Prefixes
-pub mod Places
 pub mod CleanEnds
-pub mod Marks
-pub mod Digits
-pub mod NumberReading
-pub mod IdentifierReading
-pub mod ListReading
-pub mod ListedTexts
-pub mod ExtrasReading
-pub mod LongestReading
 pub mod LineText
-pub mod DecimalReading

@@ -1,9 +1,9 @@
 -- A partial after a caret: npm's "Caret Ranges".
 use Rattle.std.specs.Prelude.{◌≡◌, ℕ, ◌+◌, zero, suc, List, [], ◌∷◌, Option, Some, None}
-use Rattle.semver_sets.specs.Characters.{caret}
+use Rattle.semver_versions.specs.Characters.{caret}
 use Rattle.semver_sets.specs.Comparator.{Comparator, below, from_up_to, with_major}
 use Rattle.semver_sets.specs.PartialText.{IsLed, Partial, zeroed}
-use Rattle.semver_sets.specs.Version.{VersionValue, least_of, release, without_build}
+use Rattle.semver_versions.specs.Version.{VersionValue, least_of, release, without_build}
 
 -- By the components of a partial, and the version z with 0 for each absent one. The leftmost number that is not 0 is
 -- raised:

@@ -1,9 +1,9 @@
 -- How a range text is divided: npm's "Range Grammar", in its loose form.
 -- See docs/DECISIONS.md, "A word is defined by its text, not by how it is found".
-use Rattle.std.specs.Prelude.{◌≡◌, ℕ, true, not, List, [], ◌∷◌, ◌++◌, Option, None}
+use Rattle.std.specs.Prelude.{◌≡◌, ℕ, not, List, [], ◌∷◌, ◌++◌, Option, None}
 use Rattle.std.specs.List.{filter_map}
 use Rattle.semver_sets.specs.CaretRanges.{IsCaretText}
-use Rattle.semver_sets.specs.Characters.{AreAll, AreBlanks, BeginsWithNo, bar, is_blank}
+use Rattle.semver_versions.specs.Characters.{IsCleanEnd, AreAll, AreBlanks, BeginsWithNo, bar, is_blank}
 use Rattle.semver_sets.specs.Comparator.{Comparator}
 use Rattle.semver_sets.specs.HyphenRanges.{IsHyphenText}
 use Rattle.semver_sets.specs.Operators.{IsOperatorText, IsPlainText}
@@ -15,11 +15,6 @@ pub data IsSimpleText (text : List ℕ) (comparator : Option Comparator) : Type 
   plain : IsPlainText text comparator → IsSimpleText text comparator
   by_tilde : IsTildeText text comparator → IsSimpleText text comparator
   by_caret : IsCaretText text comparator → IsSimpleText text comparator
-
--- nothing follows, or a blank does
-abbrev pub IsCleanEnd : List ℕ → Type 0
-IsCleanEnd [] = Unit {0}
-IsCleanEnd (b ∷ rest) = is_blank b ≡ true
 
 -- no prefix that ends before a clean end is a text of this kind
 abbrev pub NoneAt : (List ℕ → Option Comparator → Type 0) → List ℕ → Type 0

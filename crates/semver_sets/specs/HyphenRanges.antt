@@ -2,10 +2,10 @@
 use Rattle.std.specs.Prelude.{◌≡◌, ℕ, ◌+◌, List, [], ◌∷◌, ◌++◌, Option, Some, None}
 use Rattle.semver_cuts.specs.declared.cut.Cut.{Cut}
 use Rattle.semver_cuts.specs.declared.cut.Cut.TheVariants.{Start, Before, After}
-use Rattle.semver_sets.specs.Characters.{AreBlanks, hyphen}
+use Rattle.semver_versions.specs.Characters.{AreBlanks, hyphen}
 use Rattle.semver_sets.specs.Comparator.{Comparator}
 use Rattle.semver_sets.specs.PartialText.{IsPartialText, Partial, zeroed}
-use Rattle.semver_sets.specs.Version.{VersionValue, least_of}
+use Rattle.semver_versions.specs.Version.{VersionValue, least_of}
 
 -- where it begins: `1.2 - ` at `>=1.2.0`; without a left side there is no lower end
 abbrev pub left_cut : Option Partial → Cut VersionValue

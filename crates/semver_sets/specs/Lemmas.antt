@@ -1,2 +1,6 @@
-pub mod Hash
-pub mod Order
+pub mod Bounds
+pub mod Convex
+pub mod Merging
+pub mod RangeHash
+-- ---- definitions that compute, for worked examples
+pub mod Deciding

@@ -2,7 +2,7 @@
 use Rattle.std.specs.Prelude.{◌≡◌, ℕ, ◌+◌, List, Option, Some, None, codes, unwrap_or}
 use Rattle.semver_sets.specs.Comparator.{Comparator, above, at_least, at_most, below, exactly, with_major, with_minor}
 use Rattle.semver_sets.specs.PartialText.{IsLed, IsPartialText, Partial, zeroed}
-use Rattle.semver_sets.specs.Version.{VersionValue, least_of, release, without_build}
+use Rattle.semver_versions.specs.Version.{VersionValue, least_of, release, without_build}
 
 -- the five operators
 pub data Operator : Type 0 where

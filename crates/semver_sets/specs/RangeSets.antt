@@ -1,15 +1,14 @@
 -- A range as a contract sees it, the list of its sets, and the properties of every range: it has at least one set, each
 -- set contains a cut, and a range text can write its ends.
-use Rattle.std.specs.Prelude.{◌≡◌, ◌≢◌, ℕ, ◌≤◌, ◌+◌, List, [], ◌∷◌}
+use Rattle.std.specs.Prelude.{◌≢◌, ◌≤◌, ◌+◌, List, [], ◌∷◌}
 use Rattle.std.specs.List.{AllByRecursion}
 use Rattle.semver_cuts.specs.declared.cut.Cut.{Cut}
 use Rattle.semver_cuts.specs.declared.cut.Cut.TheVariants.{Start, Before, After, End}
 use Rattle.semver_cuts.specs.Ends.{Ends, HoldsCut}
-use Rattle.semver_sets.specs.declared.TheConstants.{MAX_SAFE_INTEGER}
-use Rattle.semver_sets.specs.Comparison.{version_cmp}
-use Rattle.semver_sets.specs.IdentifierText.{IsIdentifierText, identifier_of}
-use Rattle.semver_sets.specs.IdentifierValue.{IdentifierValue}
-use Rattle.semver_sets.specs.Version.{VersionValue}
+use Rattle.semver_versions.specs.declared.TheConstants.{MAX_SAFE_INTEGER}
+use Rattle.semver_versions.specs.Comparison.{version_cmp}
+use Rattle.semver_versions.specs.IdentifierText.{IsReadIdentifier}
+use Rattle.semver_versions.specs.Version.{VersionValue}
 use Rattle.semver_sets.specs.declared.set_list.Sets.{Sets}
 use Rattle.semver_sets.specs.declared.set_list.Sets.TheVariants.{One, Many}
 
@@ -17,10 +16,6 @@ use Rattle.semver_sets.specs.declared.set_list.Sets.TheVariants.{One, Many}
 abbrev pub sets_seen : Sets → List (Ends VersionValue)
 sets_seen (One set) = set ∷ []
 sets_seen (Many sets) = sets
-
--- the value of some identifier text: a number below 2^64, or a text that does not write such a number
-abbrev pub IsReadIdentifier : IdentifierValue → Type 0
-IsReadIdentifier identifier = (text : List ℕ) × IsIdentifierText text × (identifier_of text ≡ identifier)
 
 -- a version at an end: its numbers are those of a text, or one greater, as the 2 of `<2.0.0-0`, where `^1` ends
 pub record IsReadVersion (v : VersionValue) : Type 0 where

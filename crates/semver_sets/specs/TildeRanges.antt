@@ -1,9 +1,9 @@
 -- A partial after a tilde: npm's "Tilde Ranges".
 use Rattle.std.specs.Prelude.{◌≡◌, ℕ, ◌+◌, List, [], ◌∷◌, ◌++◌, Option, Some, None}
-use Rattle.semver_sets.specs.Characters.{AreAll, greater_sign, is_blank, tilde}
+use Rattle.semver_versions.specs.Characters.{AreAll, greater_sign, is_blank, tilde}
 use Rattle.semver_sets.specs.Comparator.{Comparator, from_up_to, with_major, with_minor}
 use Rattle.semver_sets.specs.PartialText.{IsLed, Partial, zeroed}
-use Rattle.semver_sets.specs.Version.{VersionValue, least_of, without_build}
+use Rattle.semver_versions.specs.Version.{VersionValue, least_of, without_build}
 
 -- By the components of a partial, and the version z with 0 for each absent one:
 

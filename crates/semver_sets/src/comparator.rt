@@ -6,13 +6,13 @@
 //!
 //! See docs/DECISIONS.md, "Ties between equal ends are settled by position".
 ghost use Rattle.std.specs.Prelude.{◌≡◌, ◌↔◌, ◌++◌, ◌∷◌, [], IsTrue, List, None};
-ghost use Rattle.semver_cuts.specs.Private.KeptEnds.{IsEarlierLeast, IsLaterGreatest};
+ghost use Rattle.semver_cuts.specs.KeptEnds.{IsEarlierLeast, IsLaterGreatest};
 ghost use Rattle.semver_sets.specs.Comparator.{Comparator};
-ghost use Rattle.semver_sets.specs.Comparison.{version_cmp};
+ghost use Rattle.semver_versions.specs.Comparison.{version_cmp};
 ghost use Rattle.semver_sets.specs.Private.RangeViews.{HasSpan, IsCommonSpan, IsSpanOf};
 
-use crate::end::End;
 use semver_cuts::{Cut, Span};
+use semver_versions::end::End;
 use std::marker::Model;
 
 // Where a comparator begins and ends: `>=1.2.3` goes from just before 1.2.3 to the end. It may contain no cut, as ` - `
@@ -25,7 +25,7 @@ pub(crate) struct Comparator {
 
 impl Model for Comparator {
     ghost use Rattle.semver_cuts.specs.Ends.{Ends};
-    ghost use Rattle.semver_sets.specs.Version.{VersionValue};
+    ghost use Rattle.semver_versions.specs.Version.{VersionValue};
 
     ghost Value = { Ends VersionValue };
 
@@ -45,7 +45,7 @@ impl Model for CommonSpan {
     ghost use Rattle.semver_cuts.specs.declared.cut.Cut.TheVariants.{Start, End};
     ghost use Rattle.semver_cuts.specs.Ends.{Ends};
     ghost use Rattle.semver_sets.specs.Private.RangeViews.{common_seen};
-    ghost use Rattle.semver_sets.specs.Version.{VersionValue};
+    ghost use Rattle.semver_versions.specs.Version.{VersionValue};
 
     ghost Value = { Option (Ends VersionValue) };
 

@@ -1,78 +1,63 @@
-//! Texts that are written into one array, from its end: so a printed version or set is one write to the formatter.
-ghost use Rattle.std.specs.Prelude.{◌≡◌, ◌+◌, ◌≤◌, ◌∷◌, ◌++◌, decimal, drop};
-ghost use Rattle.semver_sets.specs.Characters.{dot};
-ghost use Rattle.semver_sets.specs.declared.line.TheConstants.{NUMBER_ROOM, ROOM, TRIPLE_ROOM};
+//! The text of a set in one array, for sets whose ends have no lists.
+ghost use Rattle.std.specs.Prelude.{◌≡◌, ◌+◌, ◌≤◌, ◌∷◌, ◌++◌, IfSome, codes, drop};
+ghost use Rattle.semver_versions.specs.Print.{version_text};
+ghost use Rattle.semver_sets.specs.RangePrint.{set_text};
+ghost use Rattle.semver_versions.specs.declared.line.TheConstants.{ROOM, VERSION_ROOM};
 
-pub mod set;
-
-use itoa::write_digits;
+use semver_cuts::{Cut, Span};
+use semver_versions::end::End;
+use semver_versions::line::{ROOM, put_byte, put_version};
 use std::str;
 
-// The longest number has this many digits.
-pub(crate) const NUMBER_ROOM: usize = 20;
-
-// The length of the longest triple: three numbers and two dots.
-pub(crate) const TRIPLE_ROOM: usize = 62;
-
-// The length of the longest version without lists: a triple, a hyphen and a number.
-pub(crate) const VERSION_ROOM: usize = 83;
-
-/// Room for two versions, their operators and a space.
-pub const ROOM: usize = 176;
-
-/// Writes `1.2.3` into the array and returns it.
+/// Writes the set's text into the array and returns it.
+///
+/// Returns `None` if the set has another form than `>=1.2.3 <2.0.0-0`, `1.2.3` or `>=1.2.3`, or if an end has a build
+/// or a prerelease other than `0`.
 #[inline]
-pub fn triple_text(line: &mut [u8; ROOM], major: u64, minor: u64, patch: u64) -> &str
-    ensures { result.now ≡ decimal major ++ (dot ∷ (decimal minor ++ (dot ∷ decimal patch))) }
+pub fn line_of<'a>(line: &'a mut [u8; ROOM], set: &Span<End>) -> Option<&'a str>
+    ensures { IfSome result (λ text. text.now ≡ set_text set.now) }
 {
-    let start = put_triple_last(line, (major, minor, patch));
-    let text = &line[start..];
-    // Safe: digits and dots are ASCII.
-    unsafe { str::from_utf8_unchecked(text) }
+    let start = put_set(line, set)?;
+    str::from_utf8(&line[start..]).ok()
 }
 
-// Writes `1.2.3` to the end of the line, and returns where it begins.
+// Writes the set's text to the end of the line, and returns where it begins.
 #[inline]
-fn put_triple_last(line: &mut [u8; ROOM], triple: (u64, u64, u64)) -> usize
-    ensures place { result ≤ ROOM }
-    ensures text { drop result line.new ≡ decimal triple.0 ++ (dot ∷ (decimal triple.1 ++ (dot ∷ decimal triple.2))) }
+fn put_set(line: &mut [u8; ROOM], set: &Span<End>) -> Option<usize>
+    ensures place { IfSome result (λ start. start ≤ ROOM) }
+    ensures text { IfSome result (λ start. drop start line.new ≡ set_text set.now) }
 {
-    put_triple(line, ROOM, triple)
+    match (set.lower(), set.upper()) {
+        (Cut::Before(low), Cut::Before(high)) => {
+            let at = put_below(line, high)?;
+            let at = put_byte(line, at, b' ');
+            put_at_least(line, at, low)
+        }
+        (Cut::Before(low), Cut::After(high)) if low == high => put_version(line, ROOM, low),
+        (Cut::Before(low), Cut::End) => put_at_least(line, ROOM, low),
+        _ => None,
+    }
 }
 
-// Writes `1.2.3` so that it ends at `end`, and returns where it begins.
+// `>=1.2.3`
 #[inline]
-pub(crate) fn put_triple(line: &mut [u8; ROOM], end: usize, triple: (u64, u64, u64)) -> usize
-    requires { (TRIPLE_ROOM ≤ end) × (end ≤ ROOM) }
-    ensures place { (result ≤ end) × (end ≤ result + TRIPLE_ROOM) }
-    ensures text { drop result line.new
-        ≡ decimal triple.0 ++ (dot ∷ (decimal triple.1 ++ (dot ∷ (decimal triple.2 ++ drop end line.old)))) }
+fn put_at_least(line: &mut [u8; ROOM], end: usize, version: &End) -> Option<usize>
+    requires { (VERSION_ROOM + 2 ≤ end) × (end ≤ ROOM) }
+    ensures place { IfSome result (λ start. start ≤ end) }
+    ensures text { IfSome result (λ start.
+        drop start line.new ≡ codes ">=" ++ (version_text version.now ++ drop end line.old)) }
 {
-    let (major, minor, patch) = triple;
-    let at = put_number(line, end, patch);
-    let at = put_byte(line, at, b'.');
-    let at = put_number(line, at, minor);
-    let at = put_byte(line, at, b'.');
-    put_number(line, at, major)
+    let at = put_version(line, end, version)?;
+    let at = put_byte(line, at, b'=');
+    Some(put_byte(line, at, b'>'))
 }
 
-// Writes the digits of a number so that they end at `end`. `inline(always)`: part of each print's only loop.
-#[inline(always)]
-pub(crate) fn put_number(line: &mut [u8; ROOM], end: usize, n: u64) -> usize
-    requires { (NUMBER_ROOM ≤ end) × (end ≤ ROOM) }
-    ensures place { (result ≤ end) × (end ≤ result + NUMBER_ROOM) }
-    ensures text { drop result line.new ≡ decimal n ++ drop end line.old }
+// `<2.0.0-0`, at the end of the line
+#[inline]
+fn put_below(line: &mut [u8; ROOM], version: &End) -> Option<usize>
+    ensures place { IfSome result (λ start. (ROOM ≤ start + VERSION_ROOM + 1) × (start ≤ ROOM)) }
+    ensures text { IfSome result (λ start. drop start line.new ≡ codes "<" ++ version_text version.now) }
 {
-    write_digits(n, line, end)
-}
-
-// Writes one byte before `end`. `inline(always)`: one store.
-#[inline(always)]
-pub(crate) fn put_byte(line: &mut [u8; ROOM], end: usize, byte: u8) -> usize
-    requires { (1 ≤ end) × (end ≤ ROOM) }
-    ensures place { result + 1 ≡ end }
-    ensures text { drop result line.new ≡ byte ∷ drop end line.old }
-{
-    line[end - 1] = byte;
-    end - 1
+    let at = put_version(line, ROOM, version)?;
+    Some(put_byte(line, at, b'<'))
 }

@@ -1,23 +1,11 @@
-//! The readers that versions and ranges share. Each reader gets the bytes that are left of a text.
-//!
-//! A function `read_..` returns a value and the bytes after it, and `skip_..` returns only the bytes after it. What
-//! each of them computes is defined under the same name in `specs/Private/Reading`, on lists of bytes.
+//! The readers of partials, and of texts that are three numbers and nothing else. Each reader gets the bytes that are
+//! left of a text. What each of them computes is defined under the same name in `specs/Private/WordReading`, on lists of
+//! bytes.
 
-mod extras;
-mod fault;
 mod full;
-pub(crate) mod identifiers;
-pub mod listed;
-mod number;
 mod partial;
 mod skip;
-mod triple;
-pub mod written;
 
-pub use fault::Fault;
 pub use full::read_full_triple;
-pub(crate) use identifiers::read_prerelease;
-pub use number::leading_digits;
 pub(crate) use partial::{Partial, Shape, read_partial};
-pub(crate) use skip::{begins_clean, skip_blanks, skip_solid, skip_some_blanks};
-pub use triple::{read_extras, read_leading_triple, read_major, read_minor_and_patch};
+pub(crate) use skip::skip_solid;

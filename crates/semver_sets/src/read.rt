@@ -4,17 +4,19 @@
 ghost use Rattle.std.specs.Prelude.{◌≡◌, ◌∷◌, [], IfErr, IfOk};
 ghost use Rattle.semver_sets.specs.Meaning.{IsRefused};
 ghost use Rattle.semver_sets.specs.Merging.{AreSetsOfText};
+ghost use Rattle.semver_sets.specs.RangeSets.{IsRangeSet};
 ghost use Rattle.semver_sets.specs.declared.read.Unread.TheVariants.{Refused};
 
 mod alternative;
+pub mod full;
 mod pieces;
 mod sets;
 
-use crate::end::End;
 use crate::word::skip_thrown_away;
 use alternative::read_set;
 use pieces::next_piece;
 use semver_cuts::Span;
+use semver_versions::end::End;
 pub use sets::read_sets;
 use std::alloc::Global;
 
@@ -42,6 +44,7 @@ pub enum Unread {
 #[inline(always)]
 pub fn read_only_set(alloc: Global, text: &[u8]) -> Result<Span<End>, Unread>
     ensures set { IfOk result (λ set. AreSetsOfText text.now (set ∷ [])) }
+    ensures holds { IfOk result IsRangeSet }
     ensures refused { IfErr result (λ unread. unread ≡ Refused → IsRefused text.now) }
 {
     let (piece, left) = next_piece(text);

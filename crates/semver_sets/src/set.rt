@@ -7,41 +7,16 @@
 ghost use Rattle.std.specs.Prelude.{◌≡◌, ◌≤◌, ◌+◌, ◌↔◌, IsTrue};
 ghost use Rattle.semver_cuts.specs.declared.cut.Cut.TheVariants.{Before, Start};
 ghost use Rattle.semver_cuts.specs.Ends.{IsCutAtMost};
-ghost use Rattle.semver_sets.specs.Comparison.{prerelease_cmp, version_cmp};
+ghost use Rattle.semver_versions.specs.Comparison.{prerelease_cmp, version_cmp};
 ghost use Rattle.semver_sets.specs.Meaning.{HasOpenEnd, IsInside, Opens, SetAdmits};
-ghost use Rattle.semver_sets.specs.Private.EndViews.{IsAtTriple};
-ghost use Rattle.semver_sets.specs.Version.{IsPrerelease, VersionValue, release};
+ghost use Rattle.semver_versions.specs.EndViews.{IsAtTriple};
+ghost use Rattle.semver_versions.specs.Version.{IsPrerelease, VersionValue, release};
 
 use crate::Counts;
-use crate::end::End;
 use semver_cuts::{Cut, Span};
+use semver_versions::AsVersion;
+use semver_versions::end::End;
 use std::cmp::Ordering;
-
-/// A value that is seen as a version, so that ranges can be asked about it.
-///
-/// `Version`, `VersionRef` and the candidates of `least_beyond` have this trait. A contract sees the value as a version
-/// value, `seen`. Values that are seen as the same version satisfy the same ranges.
-///
-/// # Memory
-///
-/// No function allocates.
-pub trait AsVersion {
-    ghost seen: { Self → VersionValue };
-
-    /// Returns `true` if the version has a prerelease.
-    fn is_prerelease(&self) -> bool
-        ensures { IsTrue result ↔ IsPrerelease (seen self.now) };
-
-    /// Returns the major, minor and patch.
-    fn triple(&self) -> (u64, u64, u64)
-        ensures major { result.0 ≡ (seen self.now).major }
-        ensures minor { result.1 ≡ (seen self.now).minor }
-        ensures patch { result.2 ≡ (seen self.now).patch };
-
-    /// Returns the order of what follows the triple in `end` and in the version, for an `end` with the same triple.
-    fn cmp_extras(&self, end: &End) -> Ordering
-        ensures { result ≡ prerelease_cmp end.now.pre_release (seen self.now).pre_release };
-}
 
 /// Returns `true` if the set admits the version, and adds the comparisons that this takes to `comparisons`.
 ///

@@ -6,7 +6,7 @@
 //! See docs/DECISIONS.md, "Most ends and most ranges need no memory".
 ghost use Rattle.std.specs.Prelude.{◌≡◌, ◌↔◌, IsTrue};
 ghost use Rattle.semver_cuts.specs.Sharing.{ShareCut};
-ghost use Rattle.semver_sets.specs.Comparison.{version_cmp};
+ghost use Rattle.semver_versions.specs.Comparison.{version_cmp};
 ghost use Rattle.semver_sets.specs.Meaning.{RangeAdmits};
 ghost use Rattle.semver_sets.specs.RangeSets.{sets_seen};
 ghost use Rattle.semver_sets.specs.Searching.{IsShortSearch};
@@ -17,11 +17,12 @@ pub mod searched;
 mod union;
 
 use crate::Counts;
-use crate::end::End;
-use crate::set::{AsVersion, admits};
+use crate::set::admits;
 use crate::set_list::searched::Searched;
 use semver_cuts::Span;
 use semver_cuts::algebra::MergedSpans;
+use semver_versions::AsVersion;
+use semver_versions::end::End;
 
 /// The sets of a range: at least one. A contract sees them as a list, `sets_seen`.
 ///

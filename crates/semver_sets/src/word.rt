@@ -6,7 +6,7 @@
 ghost use Rattle.std.specs.Prelude.{◌≡◌, List, None, Some, false};
 ghost use Rattle.semver_sets.specs.Comparator.{Comparator};
 ghost use Rattle.semver_sets.specs.Division.{IsAlternative};
-ghost use Rattle.semver_sets.specs.Characters.{BeginsWithNo, is_blank};
+ghost use Rattle.semver_versions.specs.Characters.{BeginsWithNo, is_blank};
 ghost use Rattle.semver_sets.specs.Private.WordReading as Reading;
 ghost use Rattle.semver_sets.specs.Private.WordViews.{IsSound, ends_seen, partial_seen, some_word_seen, word_seen};
 
@@ -18,12 +18,13 @@ mod operator;
 mod plain;
 mod tilde;
 
-use crate::parse::{Partial, begins_clean, read_partial, skip_blanks, skip_solid};
+use crate::parse::{Partial, read_partial, skip_solid};
 pub(crate) use ends::{WordEnds, nothing};
 pub(crate) use hyphen::read_leading_hyphen;
 use hyphen::{hyphen_ends, read_right};
 use lead::{Lead, lead_ends, read_lead};
 use plain::plain_ends;
+use semver_versions::parse::{begins_clean, skip_blanks};
 
 // `>=1.2.3` of `>=1.2.3 <2`, or nothing for `foo`, and the rest
 #[inline(always)]

@@ -4,16 +4,16 @@ use Rattle.std.specs.List.{AllByRecursion}
 use Rattle.semver_cuts.specs.declared.cut.Cut.TheVariants.{Before, After}
 use Rattle.semver_cuts.specs.Ends.{Ends, IsCutAtMost, span_between}
 use Rattle.semver_sets.specs.Comparator.{at_least}
-use Rattle.semver_sets.specs.Comparison.{version_cmp}
-use Rattle.semver_sets.specs.IdentifierValue.{IdentifierValue, alphanumeric, numeric}
+use Rattle.semver_versions.specs.Comparison.{version_cmp}
+use Rattle.semver_versions.specs.IdentifierValue.{IdentifierValue, alphanumeric, numeric}
 use Rattle.semver_sets.specs.Meaning.{SetAdmits}
-use Rattle.semver_sets.specs.Order.{IsBelow, before_release}
-use Rattle.semver_sets.specs.Version.{VersionValue, least_of, release}
-use Rattle.semver_sets.specs.Lemmas.Order.{version-Less}
+use Rattle.semver_versions.specs.Order.{IsBelow, before_release}
+use Rattle.semver_versions.specs.Version.{VersionValue, least_of, release}
+use Rattle.semver_versions.specs.Lemmas.Order.{version-Less}
 use Rattle.node_semver.specs.Least.{AdmitsNone, HasBuildOfFirst, IsLeastAdmitted, build_at}
-use Rattle.node_semver.specs.VersionSteps.{HasGreatestPatch, next_version}
+use Rattle.semver_versions.specs.VersionSteps.{HasGreatestPatch, next_version}
 use Rattle.node_semver.proofs.Least.LeastLemmas.{after-floor}
-use Rattle.node_semver.proofs.Versions.VersionSteps.{next-above, none-before_next}
+use Rattle.semver_versions.specs.Lemmas.Versions.VersionSteps.{next-above, none-before_next}
 
 -- ---- steps
 

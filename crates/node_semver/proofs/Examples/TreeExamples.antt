@@ -1,19 +1,35 @@
 -- Worked examples: which cuts lie in some trees, and which do not. Each is computed over the definitions.
+use Rattle.std.proofs.Common.{inl, inr}
 use Rattle.std.proofs.Common.{◌≡◌, ◌↔◌, ℕ, true, false, List, [], ◌∷◌, Some, codes, refl, subst}
 use Rattle.std.proofs.lemmas.Bool.{and_from, and_parts}
 use Rattle.std.specs.List.{list_all}
 use Rattle.semver_cuts.specs.declared.cut.Cut.{Cut}
 use Rattle.semver_cuts.specs.declared.cut.Cut.TheVariants.{Before}
 use Rattle.semver_sets.specs.Comparator.{Comparator, at_least, below, with_major}
-use Rattle.semver_sets.specs.Meaning.{AnyByRecursion}
-use Rattle.semver_sets.specs.Version.{VersionValue, least_of, release}
+use Rattle.semver_sets.specs.Meaning.{AnyByRecursion, IsRefused}
+use Rattle.semver_versions.specs.Version.{VersionValue, least_of, release}
 use Rattle.semver_sets.proofs.Ranges.AlternativeLemmas.{written-unique}
-use Rattle.semver_sets.proofs.Examples.RangeComputing.{Holds, all-iff, alternatives_in, any-iff, elements-iff}
-use Rattle.semver_sets.proofs.Examples.RangeComputing.{has_elements, holds, holds-iff, lies_in, lies_in_some}
+use Rattle.semver_sets.proofs.Ranges.MeaningLemmas.{NoneGive, none-from_refused}
+use Rattle.semver_sets.proofs.Examples.RangeComputing.{alternatives_in}
+use Rattle.semver_sets.specs.Lemmas.Deciding.{Holds, all-iff, any-iff, elements-iff}
+use Rattle.semver_sets.proofs.Examples.RangeComputing.{lies_in, lies_in_some}
+use Rattle.semver_sets.specs.Lemmas.Deciding.{has_elements, holds, holds-iff}
 use Rattle.semver_sets.proofs.Examples.RangeComputing.{refused-by, written-by}
 use Rattle.semver_sets.proofs.Examples.RangeExamples.{no_word}
 use Rattle.node_semver.specs.SetTree.{Formula, InFormula, TextHasCut, both, of_text, without}
-use Rattle.node_semver.proofs.Sets.TextCuts.{HasCutSome, refused-cut}
+use Rattle.node_semver.proofs.Sets.TextCuts.{HasCutSome}
+
+-- where no alternative gives a set, none has the cut
+none-has : (alternatives : List (List Comparator)) (cut : Cut VersionValue) → NoneGive alternatives
+    → ¬ AnyByRecursion (HasCutSome cut) alternatives
+none-has [] cut nothing some = some
+none-has (c ∷ alternatives) cut nothing (inl here) = nothing.0 (record { some = here.0; common = (cut, here.1) })
+none-has (c ∷ alternatives) cut nothing (inr there) = none-has alternatives cut nothing.1 there
+
+-- a refused text has no cut
+pub refused-cut : (text : List ℕ) → IsRefused text → (cut : Cut VersionValue) → ¬ TextHasCut text cut
+refused-cut text refused cut has =
+    none-has has.alternatives cut (none-from_refused text has.alternatives has.written refused) has.common
 
 -- ---- a test that computes
 

@@ -4,8 +4,8 @@ use Rattle.std.proofs.lemmas.Bool.{cases_Bool}
 use Rattle.std.specs.List.{list_any}
 use Rattle.semver_cuts.specs.Ends.{Ends}
 use Rattle.semver_sets.specs.Meaning.{RangeAdmits, SetAdmits}
-use Rattle.semver_sets.specs.Version.{VersionValue}
-use Rattle.semver_sets.proofs.Examples.RangeComputing.{admit, admit-iff, any-iff}
+use Rattle.semver_versions.specs.Version.{VersionValue}
+use Rattle.semver_sets.specs.Lemmas.Deciding.{admit, admit-iff, any-iff}
 use Rattle.node_semver.specs.Least.{AdmitsNoneBeyond, IsAdmittedBy}
 use Rattle.node_semver.specs.Private.BeyondViews.{AreUppersTried, IsLeastBeyondOrNone}
 use Rattle.node_semver.proofs.Least.BeyondLemmas.{best-least}

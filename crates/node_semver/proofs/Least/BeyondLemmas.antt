@@ -6,21 +6,22 @@ use Rattle.semver_cuts.specs.declared.cut.Cut.{Cut}
 use Rattle.semver_cuts.specs.declared.cut.Cut.TheVariants.{Before}
 use Rattle.semver_cuts.specs.Ends.{Ends, IsCutAtMost, IsCutBelow}
 use Rattle.semver_cuts.specs.Lemmas.Ends.{at_most-below, at_most-or-below, at_most_trans}
-use Rattle.semver_sets.specs.Comparison.{version_cmp}
-use Rattle.semver_sets.specs.IdentifierValue.{IdentifierValue}
+use Rattle.semver_versions.specs.Comparison.{version_cmp}
+use Rattle.semver_versions.specs.IdentifierValue.{IdentifierValue}
 use Rattle.semver_sets.specs.Meaning.{Opens, SetAdmits}
-use Rattle.semver_sets.specs.Version.{IsPrerelease, VersionValue}
-use Rattle.semver_sets.specs.Lemmas.Order.{Less-version, version-Less, version_total}
+use Rattle.semver_versions.specs.Version.{IsPrerelease, VersionValue}
+use Rattle.semver_versions.specs.Lemmas.Order.{Less-version, version-Less, version_total}
 use Rattle.node_semver.specs.Least.{AdmitsBeyond}
 use Rattle.node_semver.specs.Private.BeyondViews.{IsBest, IsCutTried, IsLeastBeyondOrNone, IsNotBelow, IsSetTried}
 use Rattle.node_semver.specs.Private.BeyondViews.{IsTried, candidates_at}
 use Rattle.node_semver.proofs.Least.BeyondCandidates.{least_of_triple, prerelease-candidate, release-candidate}
 use Rattle.node_semver.proofs.Least.BeyondCandidates.{shut-below}
-use Rattle.node_semver.proofs.Least.HighestCut.{AskAlike, all-map, beyond-between, both_prereleases, both_releases}
+use Rattle.node_semver.proofs.Least.HighestCut.{AskAlike, beyond-between, both_prereleases, both_releases}
+use Rattle.node_semver.specs.Lemmas.GreatestLemmas.{all-map}
 use Rattle.node_semver.proofs.Least.HighestCut.{highest, set-between, some-along}
 use Rattle.node_semver.proofs.Least.LeastLemmas.{at-least}
 use Rattle.node_semver.proofs.Least.LeastOfSets.{not-below}
-use Rattle.node_semver.proofs.Versions.VersionSteps.{none-below_least}
+use Rattle.semver_versions.specs.Lemmas.Versions.VersionSteps.{none-below_least}
 
 -- ---- a candidate that is not above the version
 

@@ -7,17 +7,17 @@ use Rattle.std.specs.List.{AllByRecursion}
 use Rattle.semver_cuts.specs.declared.cut.Cut.TheVariants.{Start, Before, After, End}
 use Rattle.semver_cuts.specs.Ends.{Ends}
 use Rattle.semver_cuts.specs.Lemmas.Lists.{all-append}
-use Rattle.semver_sets.specs.Comparison.{version_cmp}
-use Rattle.semver_sets.specs.IdentifierValue.{IdentifierValue}
+use Rattle.semver_versions.specs.Comparison.{version_cmp}
+use Rattle.semver_versions.specs.IdentifierValue.{IdentifierValue}
 use Rattle.semver_sets.specs.Meaning.{SetAdmits}
-use Rattle.semver_sets.specs.Version.{IsPrerelease, VersionValue, least_of, release, without_build}
-use Rattle.semver_sets.specs.Lemmas.Order.{version_total}
+use Rattle.semver_versions.specs.Version.{IsPrerelease, VersionValue, least_of, release, without_build}
+use Rattle.semver_versions.specs.Lemmas.Order.{version_total}
 use Rattle.node_semver.specs.Least.{AdmitsBeyond}
-use Rattle.node_semver.specs.VersionSteps.{with_zero}
+use Rattle.semver_versions.specs.VersionSteps.{with_zero}
 use Rattle.node_semver.specs.Private.BeyondViews.{AreSetsTried, AreUppersTried, IsBelowBest, IsCutTrial, IsCutTried}
 use Rattle.node_semver.specs.Private.BeyondViews.{IsLeastOpened, IsOpenTrial, IsSetTrial, IsSetTried, IsShut, IsStep}
 use Rattle.node_semver.specs.Private.BeyondViews.{IsTrial, IsTried, after_by, before_by, candidates_at}
-use Rattle.node_semver.proofs.Least.HighestCut.{all-map}
+use Rattle.node_semver.specs.Lemmas.GreatestLemmas.{all-map}
 
 never-below_itself : (v : VersionValue) → ¬ (version_cmp v v ≡ Less)
 never-below_itself v less = cc (less, tied_itself version_total v)

@@ -6,19 +6,14 @@ use Rattle.semver_cuts.specs.declared.cut.Cut.TheVariants.{Start, Before, After,
 use Rattle.semver_cuts.specs.Ends.{Ends, IsCutAtMost}
 use Rattle.semver_cuts.specs.Lemmas.Ends.{at_most-below, at_most-or-below, at_most_refl, at_most_trans}
 use Rattle.semver_cuts.specs.Lemmas.Ends.{below-not-at_most}
-use Rattle.semver_sets.specs.Comparison.{version_cmp}
+use Rattle.semver_versions.specs.Comparison.{version_cmp}
 use Rattle.semver_sets.specs.Meaning.{AnyByRecursion, HasOpenEnd, Opens, SetAdmits}
-use Rattle.semver_sets.specs.Version.{HasSameTriple, IsPrerelease, VersionValue}
-use Rattle.semver_sets.specs.Lemmas.Order.{version_total}
-use Rattle.semver_sets.proofs.Sets.Convex.{triple-back}
+use Rattle.semver_versions.specs.Version.{HasSameTriple, IsPrerelease, VersionValue}
+use Rattle.semver_versions.specs.Lemmas.Order.{version_total}
+use Rattle.semver_versions.specs.Lemmas.Versions.Between.{triple-back}
 use Rattle.node_semver.specs.Least.{AdmitsBeyond}
 
 -- ---- lists
-
-pub all-map : {X : Type 0} (P Q : X → Type 0) (xs : List X) → ((x : X) → P x → Q x) → AllByRecursion P xs
-    → AllByRecursion Q xs
-all-map P Q [] f all = tt
-all-map P Q (x ∷ xs) f all = (f x all.0, all-map P Q xs f all.1)
 
 -- what some element is together with what all are
 pub any-along : {X : Type 0} (R P Q : X → Type 0) (xs : List X) → ((x : X) → R x → P x → Q x) → AllByRecursion R xs

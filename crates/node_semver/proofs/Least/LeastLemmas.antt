@@ -7,18 +7,19 @@ use Rattle.semver_cuts.specs.declared.cut.Cut.{Cut}
 use Rattle.semver_cuts.specs.declared.cut.Cut.TheVariants.{Start, Before, After, End}
 use Rattle.semver_cuts.specs.Ends.{Ends, HoldsCut, IsCutAtMost, IsCutBelow}
 use Rattle.semver_cuts.specs.Lemmas.Ends.{at_most-below, at_most_trans}
-use Rattle.semver_sets.specs.Comparison.{version_cmp}
-use Rattle.semver_sets.specs.IdentifierValue.{IdentifierValue, numeric}
+use Rattle.semver_versions.specs.Comparison.{version_cmp}
+use Rattle.semver_versions.specs.IdentifierValue.{IdentifierValue, numeric}
 use Rattle.semver_sets.specs.Meaning.{HasOpenEnd, Opens, SetAdmits}
-use Rattle.semver_sets.specs.Order.{IsBelow}
-use Rattle.semver_sets.specs.Version.{HasSameTriple, IsPrerelease, VersionValue, least_of, release}
-use Rattle.semver_sets.specs.Lemmas.Order.{Greater-turned, Less-version, version-Equal, version-Less, version_total}
-use Rattle.semver_sets.proofs.Sets.Convex.{from-cmp, triple-between}
+use Rattle.semver_versions.specs.Order.{IsBelow}
+use Rattle.semver_versions.specs.Version.{HasSameTriple, IsPrerelease, VersionValue, least_of, release}
+use Rattle.semver_versions.specs.Lemmas.Order.{Greater-turned, Less-version, version-Equal, version-Less, version_total}
+use Rattle.semver_sets.specs.Lemmas.Convex.{from-cmp}
+use Rattle.semver_versions.specs.Lemmas.Versions.Between.{triple-between}
 use Rattle.node_semver.specs.Least.{build_at}
-use Rattle.node_semver.specs.VersionSteps.{with_zero}
+use Rattle.semver_versions.specs.VersionSteps.{with_zero}
 use Rattle.node_semver.specs.Private.LeastViews.{IsInsideOrNone, IsLeastInSet, IsLeastOfSet, IsLeastOfTriple}
-use Rattle.node_semver.proofs.Versions.VersionSteps.{none-below_first, none-between_patches, none-between_zeros}
-use Rattle.node_semver.proofs.Versions.VersionSteps.{patch-above, prerelease-from_below, with_zero-above}
+use Rattle.semver_versions.specs.Lemmas.Versions.VersionSteps.{none-below_first, none-between_patches, none-between_zeros}
+use Rattle.semver_versions.specs.Lemmas.Versions.VersionSteps.{patch-above, prerelease-from_below, with_zero-above}
 
 -- ---- versions and ends
 

@@ -8,11 +8,11 @@ use Rattle.std.specs.List.{AllByRecursion}
 use Rattle.std.specs.Prelude.{Result}
 use Rattle.semver_cuts.specs.declared.cut.Cut.TheVariants.{Before}
 use Rattle.semver_cuts.specs.Ends.{Ends}
-use Rattle.semver_sets.specs.Comparison.{version_cmp}
+use Rattle.semver_versions.specs.Comparison.{version_cmp}
 use Rattle.semver_sets.specs.Meaning.{RangeAdmits, SetAdmits}
 use Rattle.semver_sets.specs.RangeSets.{IsRangeSet}
-use Rattle.semver_sets.specs.Version.{VersionValue}
-use Rattle.semver_sets.specs.Lemmas.Order.{Less-version, version-Less, version_total}
+use Rattle.semver_versions.specs.Version.{VersionValue}
+use Rattle.semver_versions.specs.Lemmas.Order.{Less-version, version-Less, version_total}
 use Rattle.node_semver.specs.Least.{AdmitsNone, HasBuildOfFirst, IsLeastAdmitted}
 use Rattle.node_semver.specs.Private.LeastViews.{IsLeastInSet, IsLeastOfSet, IsLeastOfSets, IsLesser}
 use Rattle.node_semver.proofs.Least.LeastLemmas.{at-least, before-least}

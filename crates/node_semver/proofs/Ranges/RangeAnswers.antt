@@ -1,33 +1,63 @@
 -- The result of parsing a range text, from the sets that are read.
-use Rattle.std.proofs.Common.{ℕ, List, Ok, Err}
-use Rattle.std.specs.Prelude.{Result}
+use Rattle.std.proofs.Common.{◌≡◌, ◌⊎◌, ℕ, List, Ok, Err, IfOk, inl, inr, subst, sym}
+use Rattle.std.specs.List.{AllByRecursion}
+use Rattle.std.specs.Prelude.{IfErr, Result}
 use Rattle.semver_cuts.specs.Ends.{Ends}
-use Rattle.semver_sets.specs.Version.{VersionValue}
-use Rattle.semver_sets.proofs.Ranges.RangeBounds.{text-bounded}
-use Rattle.semver_sets.proofs.Sets.SetLemmas.{empty-from_refused, text-admits}
-use Rattle.node_semver.specs.RangeAnswer.{IsRangeAnswer}
+use Rattle.semver_versions.specs.Error.{IsOutOfMemory, IsRefusalAt, no_valid_ranges}
+use Rattle.semver_versions.specs.Version.{VersionValue}
+use Rattle.semver_versions.specs.declared.error.SemverError.{SemverError}
+use Rattle.semver_sets.specs.Meaning.{IsRefused}
+use Rattle.semver_sets.specs.Merging.{AreSetsOfText}
+use Rattle.semver_sets.specs.RangeLaws.{MeansItsSets}
+use Rattle.semver_sets.specs.RangePrint.{range_text}
+use Rattle.semver_sets.specs.RangeSets.{IsRangeValue}
+use Rattle.semver_sets.specs.ReadingBack.{IsPlainlyBounded, RangeReadsBack}
+use Rattle.node_semver.specs.RangeAnswer.{IsRangeAnswer, IsReadAsRange}
 use Rattle.node_semver.specs.Private.AnswerViews.{IsReadRange}
-use Rattle.node_semver.specs.declared.error.SemverError.{SemverError}
-use Rattle.node_semver.proofs.Prints.RangePrintReading.{print-read, range-reads_back}
+
+-- what the laws of texts and of prints say
+abbrev pub TextsMeanTheirSets : Type 0
+TextsMeanTheirSets = (text : List ℕ) (sets : List (Ends VersionValue)) → AreSetsOfText text sets
+    → MeansItsSets text sets
+
+abbrev pub PrintsAreReadBack : Type 0
+PrintsAreReadBack = (sets : List (Ends VersionValue)) → IsRangeValue sets → RangeReadsBack sets
+
+-- the text is not refused, or memory is
+abbrev pub IsRefusal : List ℕ → SemverError → Type 0
+IsRefusal text e = IsOutOfMemory e ⊎ (IsRefusalAt text no_valid_ranges 0 e × IsRefused text)
+
+-- a text that is the print of a range is read as an equal one
+print-read : PrintsAreReadBack → (text : List ℕ) (answer : Result (List (Ends VersionValue)) SemverError)
+    → IfErr answer (IsRefusal text) → IfOk answer (AreSetsOfText text) → (sets : List (Ends VersionValue))
+    → IsRangeValue sets → AllByRecursion IsPlainlyBounded sets → range_text sets ≡ text → IsReadAsRange sets answer
+print-read back text (Ok r) refused found sets is plainly print =
+    (back sets is plainly).equal r (subst (λ (l : List ℕ). AreSetsOfText l r) (sym print) found)
+print-read back text (Err e) (inl memory) found sets is plainly print = memory
+print-read back text (Err e) (inr refused) found sets is plainly print =
+    absurd ((back sets is plainly).accepted (subst IsRefused (sym print) refused.1))
 
 -- each fact that is promised of it
-pub read-answer : (text : List ℕ) (r : Result (List (Ends VersionValue)) SemverError) → IsReadRange text r
-    → IsRangeAnswer text r
-read-answer text (Ok sets) read = record {
-  refused = tt;
-  accepted = λ refused. read.1 (empty-from_refused text sets read.0 refused);
-  means = text-admits text sets read.0;
-  sets = read.0;
-  holds = text-bounded text sets read.0 read.1;
-  print = range-reads_back sets (text-bounded text sets read.0 read.1);
-  printed = print-read text (Ok sets) tt read.0;
-}
-read-answer text (Err e) read = record {
+pub read-answer : TextsMeanTheirSets → PrintsAreReadBack → (text : List ℕ)
+    (r : Result (List (Ends VersionValue)) SemverError) → IsReadRange text r → IsRangeAnswer text r
+read-answer mean back text (Ok sets) read =
+    let law = mean text sets read.0 in
+    let holds = law.holds read.1 in
+    record {
+      refused = tt;
+      accepted = λ refused. read.1 (law.refused.0 refused);
+      means = law.admits;
+      sets = read.0;
+      holds = holds;
+      print = back sets holds;
+      printed = print-read back text (Ok sets) tt read.0;
+    }
+read-answer mean back text (Err e) read = record {
   refused = read;
   accepted = tt;
   means = tt;
   sets = tt;
   holds = tt;
   print = tt;
-  printed = print-read text (Err e) read tt;
+  printed = print-read back text (Err e) read tt;
 }

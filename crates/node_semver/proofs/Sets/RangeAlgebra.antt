@@ -7,19 +7,19 @@ use Rattle.semver_cuts.specs.Cut.{cut_cmp}
 use Rattle.semver_cuts.specs.Ends.{Ends}
 use Rattle.semver_cuts.specs.SpanLists.{IsInSome}
 use Rattle.semver_cuts.specs.CommonSpans.{common_ends, common_spans}
-use Rattle.semver_cuts.specs.Private.KeptEnds.{IsEarlierLeast, IsLaterGreatest}
+use Rattle.semver_cuts.specs.KeptEnds.{IsEarlierLeast, IsLaterGreatest}
 use Rattle.semver_cuts.specs.Lemmas.Ends.{at_most-from_not_lt, below-from_lt}
 use Rattle.semver_cuts.specs.Sharing.{HaveCommonCut}
 use Rattle.semver_cuts.specs.Lemmas.CommonSpans.{common_spans-cuts, common_spans-some}
 use Rattle.semver_cuts.specs.Difference.{AreDifference}
 use Rattle.semver_cuts.specs.Lemmas.Difference.{difference-cuts}
 use Rattle.semver_cuts.specs.Lemmas.Lists.{any-map}
-use Rattle.semver_sets.specs.Comparison.{version_cmp}
-use Rattle.semver_sets.specs.Lemmas.Order.{version_total}
+use Rattle.semver_versions.specs.Comparison.{version_cmp}
+use Rattle.semver_versions.specs.Lemmas.Order.{version_total}
 use Rattle.semver_sets.specs.Meaning.{Admit, AnyByRecursion, RangeAdmits, SetAdmits}
 use Rattle.semver_sets.specs.Merging.{IsSetOf}
-use Rattle.semver_sets.specs.Version.{IsPrerelease, VersionValue}
-use Rattle.semver_sets.proofs.Sets.Merging.{merged-admits, set-one, set-push}
+use Rattle.semver_versions.specs.Version.{IsPrerelease, VersionValue}
+use Rattle.semver_sets.specs.Lemmas.Merging.{merged-admits, set-one, set-push}
 use Rattle.node_semver.specs.RangeAlgebra.{PairAdmits}
 
 -- ---- releases

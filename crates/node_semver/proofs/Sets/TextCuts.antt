@@ -5,30 +5,17 @@ use Rattle.semver_cuts.specs.SpanLists.{IsInEvery, IsInSome}
 use Rattle.semver_cuts.specs.Ends.{Ends}
 use Rattle.semver_cuts.specs.Lemmas.ChosenEnds.{in_every-between}
 use Rattle.semver_sets.specs.Comparator.{Comparator}
-use Rattle.semver_sets.specs.Comparison.{version_cmp}
-use Rattle.semver_sets.specs.Meaning.{AnyByRecursion, IsRefused}
+use Rattle.semver_versions.specs.Comparison.{version_cmp}
+use Rattle.semver_sets.specs.Meaning.{AnyByRecursion}
 use Rattle.semver_sets.specs.Merging.{AreSetsOf, AreSetsOfText, no_more, none, one_more}
-use Rattle.semver_sets.specs.Version.{VersionValue}
-use Rattle.semver_sets.specs.Lemmas.Order.{version_total}
-use Rattle.semver_sets.proofs.Ranges.AlternativeLemmas.{written-unique}
-use Rattle.semver_sets.proofs.Ranges.MeaningLemmas.{NoneGive, none-from_refused}
+use Rattle.semver_versions.specs.Version.{VersionValue}
+use Rattle.semver_versions.specs.Lemmas.Order.{version_total}
+use Rattle.semver_sets.specs.RangeLaws.{IsWrittenOneWay}
 use Rattle.node_semver.specs.SetTree.{TextHasCut}
 
 -- the alternative is not empty, and the cut lies in all of its comparators
 abbrev pub HasCutSome : Cut VersionValue → List Comparator → Type 0
 HasCutSome cut comparators = (comparators ≢ []) × IsInEvery version_cmp comparators cut
-
--- where no alternative gives a set, none has the cut
-none-has : (alternatives : List (List Comparator)) (cut : Cut VersionValue) → NoneGive alternatives
-    → ¬ AnyByRecursion (HasCutSome cut) alternatives
-none-has [] cut nothing some = some
-none-has (c ∷ alternatives) cut nothing (inl here) = nothing.0 (record { some = here.0; common = (cut, here.1) })
-none-has (c ∷ alternatives) cut nothing (inr there) = none-has alternatives cut nothing.1 there
-
--- a refused text has no cut
-pub refused-cut : (text : List ℕ) → IsRefused text → (cut : Cut VersionValue) → ¬ TextHasCut text cut
-refused-cut text refused cut has =
-    none-has has.alternatives cut (none-from_refused text has.alternatives has.written refused) has.common
 
 -- the cuts of sets are those of the alternatives from which they are merged
 sets-cut : (alternatives : List (List Comparator)) (sets : List (Ends VersionValue)) (cut : Cut VersionValue)
@@ -51,11 +38,12 @@ sets-cut (c ∷ alternatives) sets cut (no_more _ _ _ n more) =
     )
 
 -- the cuts of the sets that a text writes are those of the text
-pub text-cut : (text : List ℕ) (sets : List (Ends VersionValue)) → AreSetsOfText text sets → (cut : Cut VersionValue)
+pub text-cut : (text : List ℕ) (sets : List (Ends VersionValue)) → IsWrittenOneWay text → AreSetsOfText text sets
+    → (cut : Cut VersionValue)
     → IsInSome version_cmp sets cut ↔ TextHasCut text cut
-text-cut text sets m cut =
+text-cut text sets one_way m cut =
     let same = sets-cut m.alternatives sets cut m.merged in (
       λ some. record { alternatives = m.alternatives; written = m.written; common = same.0 some },
       λ has. same.1 (subst (AnyByRecursion (HasCutSome cut))
-          (written-unique text has.alternatives m.alternatives has.written m.written) has.common),
+          (one_way has.alternatives m.alternatives has.written m.written) has.common),
     )

@@ -6,21 +6,21 @@ use Rattle.semver_cuts.specs.declared.cut.Cut.TheVariants.{Before}
 use Rattle.semver_cuts.specs.Ends.{Ends}
 use Rattle.semver_sets.specs.Meaning.{RangeAdmits}
 use Rattle.semver_sets.specs.RangeSets.{IsRangeValue}
-use Rattle.semver_sets.specs.Version.{IsPrerelease, VersionValue}
+use Rattle.semver_versions.specs.Version.{IsPrerelease, VersionValue}
 use Rattle.node_semver.specs.RangeAlgebra.{sets_of_answer}
 use Rattle.node_semver.specs.SetTree.{Formula, InFormula}
 use Rattle.node_semver.proofs.Sets.AlgebraBounds.{none-exactly}
 use Rattle.node_semver.proofs.Sets.RangeAlgebra.{release-admitted}
-use Rattle.node_semver.proofs.Sets.TreeSets.{HasSetsOf, HaveCutsOf, tree-cuts}
+use Rattle.node_semver.proofs.Sets.TreeSets.{AreWrittenOneWay, HasSetsOf, HaveCutsOf, tree-cuts}
 
 -- the result has exactly the cuts of the tree
 abbrev HasCutsOf : {E : Type 0} → Formula → Result (Option (List (Ends VersionValue))) E → Type 0
 HasCutsOf tree result = IfOk result (λ answer. HaveCutsOf tree (sets_of_answer answer))
 
-answer-cuts : {E : Type 0} (tree : Formula) (result : Result (Option (List (Ends VersionValue))) E)
+answer-cuts : {E : Type 0} → AreWrittenOneWay → (tree : Formula) (result : Result (Option (List (Ends VersionValue))) E)
     → HasSetsOf tree result → HasCutsOf tree result
-answer-cuts tree (Err e) has = tt
-answer-cuts tree (Ok answer) has = tree-cuts tree (sets_of_answer answer) has
+answer-cuts one_way tree (Err e) has = tt
+answer-cuts one_way tree (Ok answer) has = tree-cuts one_way tree (sets_of_answer answer) has
 
 -- there is no range exactly where the tree has no cut
 answer-none : {E : Type 0} (tree : Formula) (result : Result (Option (List (Ends VersionValue))) E)
@@ -41,7 +41,7 @@ answer-releases tree (Ok answer) has = λ v release.
     (λ a. same.0 (admits.0 a), λ is. admits.1 (same.1 is))
 
 -- a result with the sets of the tree meets the promises
-pub answered : {E : Type 0} (tree : Formula) (result : Result (Option (List (Ends VersionValue))) E)
+pub answered : {E : Type 0} → AreWrittenOneWay → (tree : Formula) (result : Result (Option (List (Ends VersionValue))) E)
     → HasSetsOf tree result → IfOk result (λ answer. IfSome answer IsRangeValue)
     → record {
       sets : HasSetsOf tree result;
@@ -51,8 +51,8 @@ pub answered : {E : Type 0} (tree : Formula) (result : Result (Option (List (End
           → RangeAdmits (sets_of_answer answer) v ↔ InFormula tree (Before v));
       holds : IfOk result (λ answer. IfSome answer IsRangeValue);
     }
-answered tree result has holds =
-    let cuts = answer-cuts tree result has in record {
+answered one_way tree result has holds =
+    let cuts = answer-cuts one_way tree result has in record {
       sets = has;
       cuts = cuts;
       none = answer-none tree result cuts holds;

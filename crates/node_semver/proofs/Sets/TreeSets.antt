@@ -10,12 +10,13 @@ use Rattle.semver_cuts.specs.Difference.{AreDifference, ArePieces}
 use Rattle.semver_cuts.specs.Lemmas.CommonSpans.{common_spans-cuts}
 use Rattle.semver_cuts.specs.Lemmas.Difference.{difference-cuts}
 use Rattle.semver_sets.specs.Comparator.{Comparator}
-use Rattle.semver_sets.specs.Comparison.{version_cmp}
+use Rattle.semver_versions.specs.Comparison.{version_cmp}
 use Rattle.semver_sets.specs.Meaning.{GiveSet, IsRefused}
+use Rattle.semver_sets.specs.RangeLaws.{IsWrittenOneWay}
 use Rattle.semver_sets.specs.Merging.{AreSetsOf, AreSetsOfText, no_more, none}
 use Rattle.semver_sets.specs.RangeSets.{IsRangeSet}
-use Rattle.semver_sets.specs.Version.{VersionValue}
-use Rattle.semver_sets.specs.Lemmas.Order.{version_total}
+use Rattle.semver_versions.specs.Version.{VersionValue}
+use Rattle.semver_versions.specs.Lemmas.Order.{version_total}
 use Rattle.node_semver.specs.RangeAlgebra.{sets_of_answer}
 use Rattle.node_semver.specs.SetTree.{AreSetsOfTree, Formula, InFormula, both, of_text, without}
 use Rattle.node_semver.proofs.Sets.TextCuts.{text-cut}
@@ -115,18 +116,22 @@ left-cuts one other ones others sets has has' spans cut =
       λ h. is.1 ((has cut).1 h.0, λ o. h.1 ((has' cut).0 o)),
     )
 
-pub tree-cuts : (tree : Formula) (sets : Sets) → AreSetsOfTree tree sets → HaveCutsOf tree sets
-tree-cuts (of_text t) sets are = text-cut t sets are
-tree-cuts (both one other) sets (inl empty) = λ cut. (
+-- each text can be divided into words in one way only
+abbrev pub AreWrittenOneWay : Type 0
+AreWrittenOneWay = (text : List ℕ) → IsWrittenOneWay text
+
+pub tree-cuts : AreWrittenOneWay → (tree : Formula) (sets : Sets) → AreSetsOfTree tree sets → HaveCutsOf tree sets
+tree-cuts one_way (of_text t) sets are = text-cut t sets (one_way t) are
+tree-cuts one_way (both one other) sets (inl empty) = λ cut. (
   λ some. absurd (subst (λ (l : Sets). IsInSome version_cmp l cut) empty.1 some),
-  λ h. absurd ((tree-cuts one [] empty.0 cut).1 h.0),
+  λ h. absurd ((tree-cuts one_way one [] empty.0 cut).1 h.0),
 )
-tree-cuts (both one other) sets (inr made) =
+tree-cuts one_way (both one other) sets (inr made) =
     subst (HaveCutsOf (both one other)) (sym made.4)
-    (shared-cuts one other made.0 made.1 (tree-cuts one made.0 made.2) (tree-cuts other made.1 made.3))
-tree-cuts (without one other) sets (inl empty) = λ cut. (
+    (shared-cuts one other made.0 made.1 (tree-cuts one_way one made.0 made.2) (tree-cuts one_way other made.1 made.3))
+tree-cuts one_way (without one other) sets (inl empty) = λ cut. (
   λ some. absurd (subst (λ (l : Sets). IsInSome version_cmp l cut) empty.1 some),
-  λ h. absurd ((tree-cuts one [] empty.0 cut).1 h.0),
+  λ h. absurd ((tree-cuts one_way one [] empty.0 cut).1 h.0),
 )
-tree-cuts (without one other) sets (inr made) =
-    left-cuts one other made.0 made.1 sets (tree-cuts one made.0 made.2) (tree-cuts other made.1 made.3) made.4
+tree-cuts one_way (without one other) sets (inr made) =
+    left-cuts one other made.0 made.1 sets (tree-cuts one_way one made.0 made.2) (tree-cuts one_way other made.1 made.3) made.4

@@ -3,20 +3,11 @@ use Rattle.std.specs.Prelude.{◌≢◌, ◌⊎◌, ℕ, List, [], ◌∷◌, Op
 use Rattle.semver_cuts.specs.Ends.{Ends}
 use Rattle.semver_sets.specs.Meaning.{IsRefused}
 use Rattle.semver_sets.specs.Merging.{AreSetsOfText}
-use Rattle.semver_sets.specs.Version.{VersionValue}
-use Rattle.semver_sets.specs.Private.WordReading.{Lead, caret_lead, no_lead, tilde_lead}
-use Rattle.node_semver.specs.Error.{IsOutOfMemory, IsRefusalAt, no_valid_ranges}
-use Rattle.node_semver.specs.declared.error.SemverError.{SemverError}
-use Rattle.node_semver.specs.declared.range.read.full.FullLead.{FullLead}
-use Rattle.node_semver.specs.declared.range.read.full.FullLead.TheVariants.{Caret, Nothing, Tilde}
+use Rattle.semver_versions.specs.Version.{VersionValue}
+use Rattle.semver_versions.specs.Error.{IsOutOfMemory, IsRefusalAt, no_valid_ranges}
+use Rattle.semver_versions.specs.declared.error.SemverError.{SemverError}
 use Rattle.node_semver.specs.declared.range.algebra.gathered.Found.{Found}
 use Rattle.node_semver.specs.declared.range.algebra.gathered.Found.TheVariants.{Many, One}
-
--- the character before a full version, or none
-abbrev pub full_lead_seen : FullLead → Lead
-full_lead_seen Caret = caret_lead
-full_lead_seen Tilde = tilde_lead
-full_lead_seen Nothing = no_lead
 
 -- the sets so far, as a list
 abbrev pub found_seen : Found → List (Ends VersionValue)

@@ -5,12 +5,12 @@ use Rattle.std.specs.declared.cmp.Ordering.TheVariants.{Less}
 use Rattle.semver_cuts.specs.declared.cut.Cut.{Cut}
 use Rattle.semver_cuts.specs.declared.cut.Cut.TheVariants.{Start, Before, After, End}
 use Rattle.semver_cuts.specs.Ends.{Ends, IsCutBelow}
-use Rattle.semver_sets.specs.Comparison.{version_cmp}
-use Rattle.semver_sets.specs.IdentifierValue.{IdentifierValue}
+use Rattle.semver_versions.specs.Comparison.{version_cmp}
+use Rattle.semver_versions.specs.IdentifierValue.{IdentifierValue}
 use Rattle.semver_sets.specs.Meaning.{Opens, SetAdmits}
-use Rattle.semver_sets.specs.Version.{VersionValue, least_of, release, without_build}
+use Rattle.semver_versions.specs.Version.{VersionValue, least_of, release, without_build}
 use Rattle.node_semver.specs.Least.{AdmitsBeyond, AdmitsNoneBeyond, IsLeastBeyond}
-use Rattle.node_semver.specs.VersionSteps.{with_zero}
+use Rattle.semver_versions.specs.VersionSteps.{with_zero}
 
 -- ---- candidates
 

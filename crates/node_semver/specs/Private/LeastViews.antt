@@ -4,10 +4,10 @@ use Rattle.std.specs.declared.cmp.Ordering.TheVariants.{Less}
 use Rattle.semver_cuts.specs.declared.cut.Cut.{Cut}
 use Rattle.semver_cuts.specs.declared.cut.Cut.TheVariants.{Before}
 use Rattle.semver_cuts.specs.Ends.{Ends, IsCutBelow}
-use Rattle.semver_sets.specs.Comparison.{version_cmp}
-use Rattle.semver_sets.specs.IdentifierValue.{IdentifierValue, numeric}
+use Rattle.semver_versions.specs.Comparison.{version_cmp}
+use Rattle.semver_versions.specs.IdentifierValue.{IdentifierValue, numeric}
 use Rattle.semver_sets.specs.Meaning.{Opens, SetAdmits}
-use Rattle.semver_sets.specs.Version.{VersionValue, least_of, release}
+use Rattle.semver_versions.specs.Version.{VersionValue, least_of, release}
 use Rattle.node_semver.specs.Least.{AdmitsNone, HasBuildOfFirst, IsLeastAdmitted, build_at}
 
 -- the identifiers, followed by a 0 if `zero` is true

@@ -5,11 +5,11 @@
 ghost use Rattle.std.specs.Prelude.{◌≡◌, ◌↔◌, IsTrue, List};
 ghost use Rattle.std.specs.Cmp.{partial_equiv_from_equiv};
 ghost use Rattle.semver_cuts.specs.Ends.{Ends};
-ghost use Rattle.semver_sets.specs.Hash.{range_writes};
-ghost use Rattle.semver_sets.specs.Lemmas.Hash.{range_alike};
+ghost use Rattle.semver_sets.specs.RangeHash.{range_writes};
+ghost use Rattle.semver_sets.specs.Lemmas.RangeHash.{range_alike};
 ghost use Rattle.semver_sets.specs.Meaning.{RangeAdmits};
 ghost use Rattle.semver_sets.specs.RangeEquality.{AreSameCuts, are_same_cuts};
-ghost use Rattle.semver_sets.specs.Version.{VersionValue};
+ghost use Rattle.semver_versions.specs.Version.{VersionValue};
 ghost use Rattle.node_semver.specs.Lemmas.RangeEquality.{are_same_cuts-equiv};
 
 use crate::Range;

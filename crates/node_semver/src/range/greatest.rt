@@ -3,7 +3,7 @@ ghost use Rattle.std.specs.Option.{option_map};
 ghost use Rattle.std.specs.Prelude.{◌≡◌, ◌↔◌, IfSome, IsNone, IsTrue, map};
 ghost use Rattle.std.specs.declared.cmp.Ordering.TheVariants.{Less};
 ghost use Rattle.node_semver.specs.Greatest.{AdmitsNoneIn, IsGreatestAdmitted, IsLeastAdmittedIn};
-ghost use Rattle.node_semver.specs.Private.GreatestViews.{IsBestOrNone, IsBetterOf, order_of};
+ghost use Rattle.node_semver.specs.Lemmas.GreatestViews.{IsBestOrNone, IsBetterOf, order_of};
 
 use crate::{OrderedVersion, Range};
 

@@ -4,9 +4,9 @@
 //! tests and a copy of three numbers. `#[inline(never)]` keeps all else, with its stack, out of that way.
 ghost use Rattle.std.specs.Prelude.{◌≡◌, ◌↔◌, Some, IsFalse, IsTrue, IfOk, IfSome, IsNone};
 ghost use Rattle.std.specs.List.{AllByRecursion};
-ghost use Rattle.semver_sets.specs.Identifier.{values_of};
+ghost use Rattle.semver_versions.specs.Identifier.{values_of};
 ghost use Rattle.semver_sets.specs.RangeSets.{IsRangeSet};
-ghost use Rattle.semver_sets.specs.Version.{release};
+ghost use Rattle.semver_versions.specs.Version.{release};
 ghost use Rattle.node_semver.specs.Least.{AdmitsNone, HasBuildOfFirst, IsLeastAdmitted};
 ghost use Rattle.node_semver.specs.Private.LeastViews.{IsKept, IsLeastOfSet, IsLeastOfSets, IsLeastOfTriple, IsLesser};
 
@@ -16,8 +16,8 @@ pub(crate) mod unbuilt;
 
 use crate::{Identifier, Range, Version};
 use semver_cuts::{Cut, Span};
-use semver_sets::end::{BorrowedIdentifiers, End};
 use semver_sets::set::opens;
+use semver_versions::end::{BorrowedIdentifiers, End};
 use std::alloc::{AllocError, Global};
 use unbuilt::Unbuilt;
 

@@ -2,16 +2,16 @@
 
 ghost use Rattle.std.specs.Prelude.{◌++◌, Some, flat_map};
 ghost use Rattle.std.specs.Fmt.{WritesOnOk};
-ghost use Rattle.semver_sets.specs.Print.{version_text};
+ghost use Rattle.semver_versions.specs.Print.{version_text};
 ghost use Rattle.semver_sets.specs.RangePrint.{lower_text, range_text, set_text, upper_text};
 ghost use Rattle.node_semver.specs.Lemmas.RangePrint.{barred_text};
 
 use crate::Range;
-use crate::version::display::write_version;
 use semver_cuts::{Cut, Span};
-use semver_sets::end::{End, Zero};
-use semver_sets::line::ROOM;
-use semver_sets::line::set::line_of;
+use semver_sets::line::line_of;
+use semver_versions::end::{End, Zero};
+use semver_versions::line::ROOM;
+use semver_versions::version::display::write_version;
 use std::fmt;
 
 /// Prints the sets in their order, with `||` and no blank between them. A set prints as a text that gives this set:

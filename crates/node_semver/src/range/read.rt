@@ -2,14 +2,12 @@
 ghost use Rattle.std.specs.Prelude.{IfErr, IsErr};
 ghost use Rattle.semver_sets.specs.Meaning.{IsRefused};
 ghost use Rattle.semver_sets.specs.declared.read.Unread.TheVariants.{Refused};
-ghost use Rattle.node_semver.specs.Error.{IsOutOfMemory};
+ghost use Rattle.semver_versions.specs.Error.{IsOutOfMemory};
 ghost use Rattle.node_semver.specs.Private.AnswerViews.{IsReadRange};
-
-mod full;
 
 use crate::range::Range;
 use crate::{SemverError, SemverErrorKind};
-pub(crate) use full::{FullLead, caret_range, exact_range, read_full, tilde_range};
+use semver_sets::laws::a_text_means_its_sets;
 use semver_sets::read::{Unread, read_only_set, read_sets};
 use std::alloc::Global;
 
@@ -49,6 +47,7 @@ fn with_bars(alloc: Global, text: &str) -> Result<Range, SemverError>
 fn barred_range(alloc: Global, text: &str) -> Result<Range, SemverError>
     ensures { IsReadRange text.now result }
 {
+    a_text_means_its_sets();
     let Ok(sets) = read_sets(alloc, text.as_bytes()) else {
         return Err(SemverError::out_of_memory(alloc));
     };

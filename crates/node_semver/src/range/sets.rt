@@ -3,14 +3,15 @@
 //! See docs/DECISIONS.md, "A range is made only of sets that a text could write".
 ghost use Rattle.std.specs.Prelude.{◌≡◌, ◌↔◌, ◌≤◌, ◌+◌, length, IfOk, IfSome, IsNone, IsSome, IsTrue};
 ghost use Rattle.std.specs.List.{AllByRecursion, slice_get};
-ghost use Rattle.semver_sets.specs.RangeSets.{IsRangeSet, IsRangeValue, IsReadCut, IsReadIdentifier, IsReadVersion};
-ghost use Rattle.semver_sets.specs.declared.TheConstants.{MAX_SAFE_INTEGER};
+ghost use Rattle.semver_sets.specs.RangeSets.{IsRangeSet, IsRangeValue, IsReadCut, IsReadVersion};
+ghost use Rattle.semver_versions.specs.IdentifierText.{IsReadIdentifier};
+ghost use Rattle.semver_versions.specs.declared.TheConstants.{MAX_SAFE_INTEGER};
 
 use crate::range::least::unbuilt::Unbuilt;
 use crate::{MAX_SAFE_INTEGER, Range, Version};
 use semver_cuts::{Cut, Span};
-use semver_sets::end::End;
-use semver_sets::parse::written::are_read;
+use semver_versions::end::End;
+use semver_versions::parse::written::are_read;
 use std::alloc::{AllocError, Global};
 
 impl Range {

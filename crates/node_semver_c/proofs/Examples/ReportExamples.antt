@@ -1,9 +1,9 @@
 -- Worked examples: the status and the fault of a text that is refused.
 use Rattle.std.proofs.Common.{◌≡◌, ◌↔◌, ℕ, List, codes, sym, subst}
 use Rattle.std.specs.Prelude.{Option, None, Err}
-use Rattle.semver_sets.specs.Version.{VersionValue}
-use Rattle.node_semver.specs.Error.{IsOutOfMemory, IsRefusalAt, Kind, Refusal, context, max_int}
-use Rattle.node_semver.specs.declared.error.SemverError.{SemverError}
+use Rattle.semver_versions.specs.Version.{VersionValue}
+use Rattle.semver_versions.specs.Error.{IsOutOfMemory, IsRefusalAt, Kind, Refusal, context, max_int}
+use Rattle.semver_versions.specs.declared.error.SemverError.{SemverError}
 use Rattle.node_semver_c.specs.Answers.{IsReported}
 use Rattle.node_semver_c.specs.Status.{IsRefusalReported, code_of, number_in, status_of}
 use Rattle.node_semver_c.specs.declared.status.Fault.{Fault}

@@ -1,6 +1,6 @@
 //! Handles of versions that may be empty.
 ghost use Rattle.std.specs.Prelude.{◌≡◌, ℕ, MatchOption, Option, Some, None};
-ghost use Rattle.semver_sets.specs.Version.{VersionValue};
+ghost use Rattle.semver_versions.specs.Version.{VersionValue};
 
 use super::Opaque;
 use node_semver::Version;
@@ -16,7 +16,7 @@ pub struct OptionalVersionRef {
 }
 
 impl Model for OptionalVersionRef {
-    ghost use Rattle.node_semver.specs.contracts.version.Version.{the_row};
+    ghost use Rattle.semver_versions.specs.contracts.version.Version.{the_row};
     ghost use Rattle.node_semver_c.specs.Handles.{borrows_held};
 
     ghost also_owns = { λ h. borrows_held the_row h.at h.life h.value };

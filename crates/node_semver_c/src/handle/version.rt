@@ -1,6 +1,6 @@
 //! Handles of versions.
 ghost use Rattle.std.specs.Prelude.{◌≡◌, ℕ, IfOk, MatchOption, Option, Some, None};
-ghost use Rattle.semver_sets.specs.Version.{VersionValue};
+ghost use Rattle.semver_versions.specs.Version.{VersionValue};
 
 use super::Opaque;
 use crate::loose::Loose;
@@ -17,7 +17,7 @@ pub struct VersionHandle {
 }
 
 impl Model for VersionHandle {
-    ghost use Rattle.node_semver.specs.contracts.version.Version.{the_row};
+    ghost use Rattle.semver_versions.specs.contracts.version.Version.{the_row};
     ghost use Rattle.node_semver_c.specs.Handles.{owns_held};
 
     ghost also_owns = { λ h. owns_held the_row h.at h.value };
@@ -70,7 +70,7 @@ pub struct VersionRef {
 }
 
 impl Model for VersionRef {
-    ghost use Rattle.node_semver.specs.contracts.version.Version.{the_row};
+    ghost use Rattle.semver_versions.specs.contracts.version.Version.{the_row};
     ghost use Rattle.node_semver_c.specs.Handles.{borrows};
 
     ghost also_owns = { λ h. borrows the_row h.at h.life h.value };

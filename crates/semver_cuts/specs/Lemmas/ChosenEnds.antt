@@ -10,7 +10,7 @@ use Rattle.semver_cuts.specs.declared.cut.Cut.{Cut}
 use Rattle.semver_cuts.specs.SpanLists.{HasCutInEvery, IsInEvery}
 use Rattle.semver_cuts.specs.Ends.{Ends, HoldsCut, IsCutAtMost, IsCutBelow, IsInSpan, span_between}
 use Rattle.semver_cuts.specs.ChosenEnds.{IsChosenEnd, IsFirstLeastUpper, IsLastGreatestLower}
-use Rattle.semver_cuts.specs.Private.KeptEnds.{IsEarlierLeast, IsLaterGreatest}
+use Rattle.semver_cuts.specs.KeptEnds.{IsEarlierLeast, IsLaterGreatest}
 use Rattle.semver_cuts.specs.Lemmas.Ends.{at_most_refl, at_most_trans, below-at_most, below-not-at_most}
 use Rattle.semver_cuts.specs.Lemmas.Lists.{all_both, all_join, all_map, all_middle, all_push}
 

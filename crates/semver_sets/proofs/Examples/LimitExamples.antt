@@ -4,11 +4,11 @@ use Rattle.std.proofs.Common.{◌≡◌, ℕ, ◌+◌, ◌≤◌, List, [], ◌�
 use Rattle.std.specs.Fmt.{decimal, digits}
 use Rattle.semver_cuts.specs.declared.cut.Cut.TheVariants.{Before}
 use Rattle.semver_cuts.specs.Ends.{Ends}
-use Rattle.semver_sets.specs.declared.TheConstants.{MAX_SAFE_INTEGER}
+use Rattle.semver_versions.specs.declared.TheConstants.{MAX_SAFE_INTEGER}
 use Rattle.semver_sets.specs.Comparator.{from_up_to, with_major, with_minor}
 use Rattle.semver_sets.specs.Merging.{AreSetsOfText}
 use Rattle.semver_sets.specs.RangeSets.{IsReadVersion}
-use Rattle.semver_sets.specs.Version.{VersionValue, least_of, release}
+use Rattle.semver_versions.specs.Version.{VersionValue, least_of, release}
 use Rattle.semver_sets.proofs.Examples.SetComputing.{merged-by, sets_in}
 
 -- the greatest number that a text may write, as it is written

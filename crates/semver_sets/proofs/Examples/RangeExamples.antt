@@ -2,9 +2,9 @@
 use Rattle.std.proofs.Common.{◌≡◌, ℕ, List, [], ◌∷◌, ◌++◌, Some, refl, codes}
 use Rattle.semver_cuts.specs.declared.cut.Cut.TheVariants.{Before, After}
 use Rattle.semver_sets.specs.Comparator.{above, at_least, below, exactly, from_up_to, with_major}
-use Rattle.semver_sets.specs.IdentifierValue.{IdentifierValue, alphanumeric, numeric}
+use Rattle.semver_versions.specs.IdentifierValue.{IdentifierValue, alphanumeric, numeric}
 use Rattle.semver_sets.specs.Meaning.{IsRefused, TextAdmits}
-use Rattle.semver_sets.specs.Version.{VersionValue, least_of, release}
+use Rattle.semver_versions.specs.Version.{VersionValue, least_of, release}
 use Rattle.semver_sets.proofs.Examples.RangeComputing.{accepted-by, admits-by, alternatives_in, refused-by}
 use Rattle.semver_sets.proofs.Examples.RangeComputing.{turns_away-by, written-by}
 

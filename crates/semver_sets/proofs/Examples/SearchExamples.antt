@@ -5,12 +5,12 @@ use Rattle.semver_cuts.specs.declared.cut.Cut.TheVariants.{Before}
 use Rattle.semver_cuts.specs.Starts.{count_of_starts}
 use Rattle.semver_cuts.specs.Lemmas.Ends.{at_most-from_le, below-from_lt}
 use Rattle.semver_sets.specs.Comparator.{at_least, below, from_up_to, with_major}
-use Rattle.semver_sets.specs.Comparison.{version_cmp}
-use Rattle.semver_sets.specs.IdentifierValue.{alphanumeric, numeric}
+use Rattle.semver_versions.specs.Comparison.{version_cmp}
+use Rattle.semver_versions.specs.IdentifierValue.{alphanumeric, numeric}
 use Rattle.semver_sets.specs.Meaning.{IsInside, SetAdmits}
 use Rattle.semver_sets.specs.Merging.{AreSetsOfText}
 use Rattle.semver_sets.specs.Searching.{HasDigits, IsShortSearch, count_of_opening}
-use Rattle.semver_sets.specs.Version.{IsPrerelease, VersionValue, least_of, release}
+use Rattle.semver_versions.specs.Version.{IsPrerelease, VersionValue, least_of, release}
 use Rattle.semver_sets.proofs.Examples.SetComputing.{Sets, merged-by, sets_in}
 
 -- ---- releases: the binary digits of how many spans there are, and one more

@@ -8,13 +8,13 @@ use Rattle.semver_cuts.specs.Ends.{Ends, HoldsCut}
 use Rattle.semver_cuts.specs.Lemmas.Ends.{below-from_lt, lt-from_below}
 use Rattle.semver_cuts.specs.Lemmas.TwoSpans.{holds-below}
 use Rattle.semver_sets.specs.Comparator.{Comparator}
-use Rattle.semver_sets.specs.Comparison.{version_cmp}
-use Rattle.semver_sets.specs.Lemmas.Order.{version_total}
+use Rattle.semver_versions.specs.Comparison.{version_cmp}
+use Rattle.semver_versions.specs.Lemmas.Order.{version_total}
 use Rattle.semver_sets.specs.Meaning.{GiveSet, IsRefused, TextAdmits}
-use Rattle.semver_sets.specs.Version.{VersionValue}
+use Rattle.semver_versions.specs.Version.{VersionValue}
 use Rattle.semver_sets.proofs.Ranges.AlternativeLemmas.{written-exists}
 use Rattle.semver_sets.proofs.Ranges.MeaningLemmas.{refused-from_none, none-from_refused}
-use Rattle.semver_sets.proofs.Sets.Merging.{merged-gives, one-set}
+use Rattle.semver_sets.specs.Lemmas.Merging.{merged-gives, one-set}
 use Rattle.semver_sets.proofs.Examples.RangeComputing.{admits-by, some_admits, turns_away-by}
 
 -- a statement or its negation holds

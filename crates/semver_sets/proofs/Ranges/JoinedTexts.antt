@@ -1,12 +1,12 @@
 -- What two texts write, with `||` between them: the sets of the one, and then those of the other.
 use Rattle.std.proofs.Common.{◌≡◌, ◌∙◌, ℕ, List, [], ◌∷◌, ◌++◌, append_assoc, refl, sym, ap, subst}
 use Rattle.semver_cuts.specs.Ends.{Ends}
-use Rattle.semver_sets.specs.Characters.{BeginsWithNo, bar, is_blank}
+use Rattle.semver_versions.specs.Characters.{BeginsWithNo, bar, is_blank}
 use Rattle.semver_sets.specs.Comparator.{Comparator}
 use Rattle.semver_sets.specs.Division.{AreAlternatives, AreLaterAlternatives, EndsInBar, HasBars, IsPieces}
 use Rattle.semver_sets.specs.Merging.{AreSetsOf, AreSetsOfText, none, one_more, no_more}
 use Rattle.semver_sets.specs.Union.{AreJoinable, joined_text}
-use Rattle.semver_sets.specs.Version.{VersionValue}
+use Rattle.semver_versions.specs.Version.{VersionValue}
 
 -- ---- pieces
 

@@ -3,7 +3,7 @@ use Rattle.std.proofs.Common.{◌≡◌, ℕ, List, [], ◌∷◌, Option, Some,
 use Rattle.std.proofs.Common.{append-nil}
 use Rattle.std.proofs.lemmas.Bool.{cases_Bool}
 use Rattle.std.specs.Prelude.{IfSome}
-use Rattle.semver_sets.specs.Characters.{is_blank}
+use Rattle.semver_versions.specs.Characters.{is_blank}
 use Rattle.semver_sets.specs.Comparator.{Comparator}
 use Rattle.semver_sets.specs.Division.{IsSimpleText, IsWord, NoneAt, simple}
 use Rattle.semver_sets.specs.HyphenRanges.{IsHyphenText}

@@ -8,10 +8,10 @@ use Rattle.std.specs.Prelude.{◌⊎◌, ◌==◌, ◌&&◌}
 use Rattle.std.proofs.lemmas.Bool.{and_parts, cases_Bool, eqb-true}
 use Rattle.std.proofs.lemmas.List.{append-nil, drop_all, get_or-drop, take_all}
 use Rattle.memchr.specs.Find.{Nowhere, Passes, is_byte}
-use Rattle.semver_sets.specs.Characters.{bar}
+use Rattle.semver_versions.specs.Characters.{bar}
 use Rattle.semver_sets.specs.Division.{EndsInBar, HasBars, HasFirstPiece, IsPieces}
 use Rattle.semver_sets.specs.Private.PieceReading.{Piece, bars_after, behind, piece_at, some_seen}
-use Rattle.semver_sets.proofs.Texts.Places.{at-place, take-more}
+use Rattle.semver_versions.specs.Lemmas.Texts.Places.{at-place, take-more}
 
 -- ---- `||`
 

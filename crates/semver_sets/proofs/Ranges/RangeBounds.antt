@@ -1,19 +1,15 @@
 -- What the ends of a range always hold, from the words of its text to its sets.
-use Rattle.std.proofs.Common.{◌≢◌, ℕ, List, [], ◌∷◌, ◌++◌, Option, Some, None, refl, sym, subst, inr}
+use Rattle.std.proofs.Common.{◌≢◌, ℕ, List, [], ◌∷◌, ◌++◌, Option, Some, None, sym, subst}
 use Rattle.std.specs.List.{AllByRecursion}
-use Rattle.semver_cuts.specs.declared.cut.Cut.TheVariants.{Start}
-use Rattle.semver_cuts.specs.Ends.{Ends, HoldsCut, IsCutBelow}
+use Rattle.semver_cuts.specs.Ends.{Ends}
 use Rattle.semver_cuts.specs.Lemmas.Lists.{all_middle}
-use Rattle.semver_cuts.specs.Lemmas.TwoSpans.{holds-below}
 use Rattle.semver_sets.specs.Comparator.{Comparator}
-use Rattle.semver_sets.specs.Comparison.{version_cmp}
 use Rattle.semver_sets.specs.Division.{AreAlternatives, AreLaterAlternatives, IsAlternative, IsDivision, comparators_of}
-use Rattle.semver_sets.specs.Lemmas.Order.{version_total}
 use Rattle.semver_sets.specs.Meaning.{GiveSet}
-use Rattle.semver_sets.specs.Merging.{AreSetsOf, AreSetsOfText, IsSetOf, all_cuts, no_more, none, one_more}
+use Rattle.semver_sets.specs.Merging.{AreSetsOf, AreSetsOfText, IsSetOf, no_more, none, one_more}
 use Rattle.semver_sets.specs.RangeSets.{IsRangeSet, IsRangeValue, IsReadCut}
-use Rattle.semver_sets.specs.Version.{VersionValue}
-use Rattle.semver_sets.proofs.Sets.Merging.{merged-gives}
+use Rattle.semver_versions.specs.Version.{VersionValue}
+use Rattle.semver_sets.specs.Lemmas.Merging.{merged-gives}
 use Rattle.semver_sets.proofs.Words.WordBounds.{IsReadEnds, IsReadWord, word-bounded}
 
 -- ---- alternatives
@@ -90,19 +86,3 @@ text-bounded text sets are some =
       some = some;
       each = sets-bounded are.alternatives sets are.merged (all-bounded written.pieces are.alternatives written.read);
     }
-
--- the ends of a set that holds a cut are in order
-pub set-below : (set : Ends VersionValue) → IsRangeSet set → IsCutBelow version_cmp set.lower set.upper
-set-below set is = (holds-below version_total set).0 is.holds
-
--- ---- the range of all cuts
-
--- the set of all cuts holds the first one
-pub all_cuts-hold : HoldsCut version_cmp all_cuts
-all_cuts-hold = (Start, record { lower = inr refl; upper = refl })
-
-pub all_cuts_bounded : IsRangeValue (all_cuts ∷ [])
-all_cuts_bounded = record {
-  some = λ same. cc same;
-  each = (record { holds = all_cuts-hold; lower = tt; upper = tt }, tt);
-}

@@ -1,14 +1,13 @@
 -- The sets of a range text, as they are read.
-use Rattle.std.proofs.Common.{◌≡◌, ◌≢◌, ℕ, List, [], ◌∷◌, Option, Some, None, ap, false, length, refl, subst, sym, ◌∙◌}
+use Rattle.std.proofs.Common.{◌≡◌, ℕ, List, [], ◌∷◌, Option, Some, None, false, refl, subst, sym}
 use Rattle.std.specs.Borrow.{Bor}
 use Rattle.std.specs.Option.{is_some}
-use Rattle.std.specs.Prelude.{◌==◌}
 use Rattle.semver_cuts.specs.Ends.{Ends}
 use Rattle.semver_sets.specs.Comparator.{Comparator}
 use Rattle.semver_sets.specs.Meaning.{IsRefused}
 use Rattle.semver_sets.specs.Merging.{AreSetsOf, AreSetsOfText, none}
 use Rattle.semver_sets.specs.RangeSets.{IsRangeValue}
-use Rattle.semver_sets.specs.Version.{VersionValue}
+use Rattle.semver_versions.specs.Version.{VersionValue}
 use Rattle.semver_sets.specs.Private.PieceReading.{piece_at, some_seen}
 use Rattle.semver_sets.specs.Private.RangeViews.{IsSetOfAlternative, listed_set}
 use Rattle.semver_sets.proofs.Ranges.AlternativeLemmas.{Reads, reads-end, reads-start}
@@ -53,8 +52,3 @@ all-read text done sets left reads none_left merged = record {
   written = reads-end text done (subst (Reads text done) none_left reads);
   merged = merged;
 }
-
--- items that are counted are some
-pub some-items : {X : Type 0} (items : List X) (count : ℕ) → count ≡ length items → (count == 0) ≡ false → items ≢ []
-some-items [] count same some = λ e. cc (sym some ∙ ap (λ (n : ℕ). n == 0) same)
-some-items (x ∷ items) count same some = λ e. cc e

@@ -7,10 +7,10 @@ use Rattle.semver_cuts.specs.declared.cut.Cut.{Cut}
 use Rattle.semver_cuts.specs.Ends.{IsCutBelow, span_between}
 use Rattle.semver_cuts.specs.Lemmas.TwoSpans.{holds-below}
 use Rattle.semver_sets.specs.Comparator.{Comparator}
-use Rattle.semver_sets.specs.Comparison.{version_cmp}
-use Rattle.semver_sets.specs.Lemmas.Order.{version_total}
+use Rattle.semver_versions.specs.Comparison.{version_cmp}
+use Rattle.semver_versions.specs.Lemmas.Order.{version_total}
 use Rattle.semver_sets.specs.Private.RangeViews.{HasSpan, common_seen}
-use Rattle.semver_sets.specs.Version.{VersionValue}
+use Rattle.semver_versions.specs.Version.{VersionValue}
 
 lt-less : (o : Ordering) → is_lt o ≡ true → o ≡ Less
 lt-less Less h = refl

@@ -1,40 +1,17 @@
--- Comparators merged into one set.
-use Rattle.std.proofs.Common.{◌≡◌, ◌↔◌, ℕ, Bool, true, false, List, [], ◌∷◌, ◌++◌, length, arith, refl, sym, subst, inl}
-use Rattle.std.proofs.Common.{inr}
-use Rattle.std.specs.List.{AllByRecursion}
-use Rattle.std.proofs.lemmas.List.{append-nil, append_assoc}
+-- One comparator more, merged with those before it.
+use Rattle.std.proofs.Common.{◌≡◌, Bool, true, false, List, [], ◌∷◌, ◌++◌, refl, subst, inl, inr}
 use Rattle.semver_cuts.specs.declared.cut.Cut.{Cut}
 use Rattle.semver_cuts.specs.declared.cut.Cut.TheVariants.{Start, Before, After, End}
-use Rattle.semver_cuts.specs.Ends.{Ends, HoldsCut, IsCutAtMost, span_between}
-use Rattle.semver_cuts.specs.Private.KeptEnds.{IsEarlierLeast, IsLaterGreatest}
-use Rattle.semver_cuts.specs.Lemmas.Ends.{at_most-or-below, below-not-at_most}
-use Rattle.semver_cuts.specs.Lemmas.ChosenEnds.{chosen_lower-above, chosen_lower-one, chosen_lower-push}
-use Rattle.semver_cuts.specs.Lemmas.ChosenEnds.{chosen_lower-some, chosen_lower-unique, chosen_upper-below}
-use Rattle.semver_cuts.specs.Lemmas.ChosenEnds.{chosen_upper-one, chosen_upper-push, chosen_upper-unique, common-holds}
-use Rattle.semver_cuts.specs.Lemmas.ChosenEnds.{in_every-between}
+use Rattle.semver_cuts.specs.Ends.{span_between}
+use Rattle.semver_cuts.specs.KeptEnds.{IsEarlierLeast, IsLaterGreatest}
+use Rattle.semver_cuts.specs.Lemmas.Ends.{below-not-at_most}
 use Rattle.semver_sets.specs.Comparator.{Comparator}
-use Rattle.semver_sets.specs.Comparison.{version_cmp}
-use Rattle.semver_sets.specs.Meaning.{AnyByRecursion, GiveSet, HasOpenEnd, IsInside, Opens}
-use Rattle.semver_sets.specs.Merging.{AdmitsTheSame, HasOneSet, IsSetOf, LosesNothing}
+use Rattle.semver_versions.specs.Comparison.{version_cmp}
+use Rattle.semver_sets.specs.Merging.{IsSetOf}
 use Rattle.semver_sets.specs.Private.RangeViews.{IsCommonSpan, common_seen}
-use Rattle.semver_sets.specs.Version.{IsPrerelease, VersionValue}
-use Rattle.semver_sets.specs.Lemmas.Order.{version_total}
-use Rattle.semver_sets.proofs.Sets.Convex.{convex-lower, convex-upper}
-
--- ---- one comparator more
-
--- a comparator alone is its own set
-pub set-one : (c : Comparator) → IsSetOf (c ∷ []) c
-set-one c = record { lower = chosen_lower-one version_total c; upper = chosen_upper-one version_total c }
-
--- the set of comparators and one that follows them
-pub set-push : (comparators : List Comparator) (earlier later merged : Comparator) → IsSetOf comparators earlier
-    → IsLaterGreatest version_cmp earlier.lower later.lower merged.lower
-    → IsEarlierLeast version_cmp earlier.upper later.upper merged.upper → IsSetOf (comparators ++ later ∷ []) merged
-set-push comparators earlier later merged is lower upper = record {
-  lower = chosen_lower-push version_total comparators later earlier.lower merged.lower is.lower lower;
-  upper = chosen_upper-push version_total comparators later earlier.upper merged.upper is.upper upper;
-}
+use Rattle.semver_versions.specs.Version.{VersionValue}
+use Rattle.semver_versions.specs.Lemmas.Order.{version_total}
+use Rattle.semver_sets.specs.Lemmas.Merging.{set-one, set-push}
 
 -- nothing is below the start
 lower-from_start : (later kept : Cut VersionValue) → IsLaterGreatest version_cmp Start later kept → kept ≡ later
@@ -68,134 +45,3 @@ merged-push false lower upper greatest least later all l u comparators merged =
     let begins = lower-from_start later.lower greatest from_start in
     let ends = upper-from_end later.upper least from_end in
     rw (merged, begins, ends) (set-one later)
-
--- ---- one set
-
--- comparators have no two sets
-pub set-unique : (comparators : List Comparator) (one other : Ends VersionValue) → IsSetOf comparators one
-    → IsSetOf comparators other → one ≡ other
-set-unique comparators one other is is' =
-    let lower = chosen_lower-unique version_total comparators one.lower other.lower is.lower is'.lower in
-    let upper = chosen_upper-unique version_total comparators one.upper other.upper is.upper is'.upper in
-    λ i. span_between (lower i) (upper i)
-
--- ---- the cuts of the set
-
--- comparators give their set where it holds a cut
-pub merged-gives : (comparators : List Comparator) (set : Ends VersionValue) → IsSetOf comparators set
-    → GiveSet comparators ↔ HoldsCut version_cmp set
-merged-gives comparators set is =
-    let holds = common-holds version_total comparators set.lower set.upper is.lower is.upper in (
-      λ gives. holds.0 gives.common,
-      λ h. record { some = chosen_lower-some version_total comparators set.lower is.lower; common = holds.1 h },
-    )
-
--- a list of no length is empty
-pub no-items : {X : Type 0} (items : List X) (len : ℕ) → len ≡ length items → len ≡ 0 → items ≡ []
-no-items [] len is zero = refl
-no-items (x ∷ items) len is zero = absurd (omega arith)
-
--- ---- what the set admits
-
--- some element, in the middle of a list
-any-middle : {X : Type 0} (P : X → Type 0) (before after : List X) (x : X) → P x
-    → AnyByRecursion P (before ++ x ∷ after)
-any-middle P [] after x p = inl p
-any-middle P (y ∷ before) after x p = inr (any-middle P before after x p)
-
--- some element is so, and this with what all are gives one thing
-any-with-all : {X Y : Type 0} (P Q : X → Type 0) → ((x : X) → P x → Q x → Y) → (xs : List X) → AnyByRecursion P xs
-    → AllByRecursion Q xs → Y
-any-with-all P Q f [] a b = absurd a
-any-with-all P Q f (x ∷ xs) (inl p) b = f x p b.0
-any-with-all P Q f (x ∷ xs) (inr a) b = any-with-all P Q f xs a b.1
-
--- two facts of each element
-both-all : {X : Type 0} (P Q : X → Type 0) (xs : List X) → AllByRecursion P xs → AllByRecursion Q xs
-    → AllByRecursion (λ x. P x × Q x) xs
-both-all P Q [] a b = tt
-both-all P Q (x ∷ xs) a b = ((a.0, b.0), both-all P Q xs a.1 b.1)
-
-module _ (comparators : List Comparator) (set : Ends VersionValue) (is : IsSetOf comparators set)
-    (v : VersionValue) where
-  inside-set : AllByRecursion (IsInside v) comparators ↔ IsInside v set
-  inside-set = in_every-between version_total comparators set.lower set.upper is.lower is.upper (Before v)
-
-  -- an end that opens the triple has the set's end between it and the version
-  opened-by-set : IsPrerelease v → AllByRecursion (IsInside v) comparators → AnyByRecursion (HasOpenEnd v) comparators
-      → HasOpenEnd v set
-  opened-by-set pre all some =
-      let Begins : Comparator → Type 0 = λ c. IsCutAtMost version_cmp c.lower set.lower in
-      let GoesOn : Comparator → Type 0 = λ c. IsCutAtMost version_cmp set.upper c.upper in
-      let inside = inside-set.0 all in
-      any-with-all (HasOpenEnd v) (λ c. Begins c × GoesOn c)
-      (λ c opened outer. elim opened [
-        | inl lower ↦ inl (convex-lower v c.lower set.lower pre lower outer.0 inside.lower)
-        | inr upper ↦ inr (convex-upper v c.upper set.upper upper inside.upper outer.1)
-      ]) comparators some
-      (both-all Begins GoesOn comparators (chosen_lower-above version_total comparators set.lower is.lower)
-      (chosen_upper-below version_total comparators set.upper is.upper))
-
-  -- an end of the set is an end of one of the comparators
-  opened-by-one : HasOpenEnd v set → AnyByRecursion (HasOpenEnd v) comparators
-  opened-by-one (inl lower) =
-      let l = is.lower in
-      subst (AnyByRecursion (HasOpenEnd v)) (sym l.parts)
-      (any-middle (HasOpenEnd v) l.before l.after l.span (inl (subst (λ c. Opens c v) (sym l.end_of) lower)))
-  opened-by-one (inr upper) =
-      let u = is.upper in
-      subst (AnyByRecursion (HasOpenEnd v)) (sym u.parts)
-      (any-middle (HasOpenEnd v) u.before u.after u.span (inr (subst (λ c. Opens c v) (sym u.end_of) upper)))
-
-  -- merging loses no end that opens the triple of a prerelease inside
-  pub loses-nothing : LosesNothing comparators set v
-  loses-nothing pre all = (opened-by-set pre all, opened-by-one)
-
-  -- the set admits what its comparators do
-  pub merged-admits : AdmitsTheSame comparators set v
-  merged-admits = (
-    λ admit. record {
-      inside = inside-set.0 admit.inside;
-      opened = λ pre. opened-by-set pre admit.inside (admit.opened pre);
-    },
-    λ admits. record {
-      inside = inside-set.1 admits.inside;
-      opened = λ pre. opened-by-one (admits.opened pre);
-    },
-  )
-
--- ---- comparators have a set
-
--- the greater of two lower ends
-kept-lower : (earlier later : Cut VersionValue)
-    → (kept : Cut VersionValue) × IsLaterGreatest version_cmp earlier later kept
-kept-lower earlier later = elim (at_most-or-below version_total earlier later) [
-  | inl h ↦ (later, inr (h, refl))
-  | inr h ↦ (earlier, inl (h, refl))
-]
-
--- the lesser of two upper ends
-kept-upper : (earlier later : Cut VersionValue)
-    → (kept : Cut VersionValue) × IsEarlierLeast version_cmp earlier later kept
-kept-upper earlier later = elim (at_most-or-below version_total earlier later) [
-  | inl h ↦ (earlier, inr (h, refl))
-  | inr h ↦ (later, inl (h, refl))
-]
-
--- comparators that have one, and more after them
-set-of-more : (comparators more : List Comparator) (set : Ends VersionValue) → IsSetOf comparators set
-    → (merged : Ends VersionValue) × IsSetOf (comparators ++ more) merged
-set-of-more comparators [] set is = (set, subst (λ l. IsSetOf l set) (sym (append-nil comparators)) is)
-set-of-more comparators (c ∷ more) set is =
-    let lower = kept-lower set.lower c.lower in
-    let upper = kept-upper set.upper c.upper in
-    let merged = span_between lower.0 upper.0 in
-    let all = set-of-more (comparators ++ c ∷ []) more merged (set-push comparators set c merged is lower.1 upper.1) in
-    (all.0, subst (λ l. IsSetOf l all.0) (append_assoc comparators (c ∷ []) more) all.1)
-
--- comparators have one set
-pub one-set : (comparators : List Comparator) → HasOneSet comparators
-one-set [] some = absurd (some refl)
-one-set (c ∷ comparators) some =
-    let all = set-of-more (c ∷ []) comparators c (set-one c) in
-    (all.0, all.1, λ other is. set-unique (c ∷ comparators) other all.0 is all.1)

@@ -12,7 +12,7 @@ use Rattle.std.proofs.lemmas.List.{append-nil, take-append-drop, take_more}
 use Rattle.std.proofs.lemmas.List.Elements.{filter-append}
 use Rattle.std.proofs.lemmas.List.Sorted.{searchable_from_sorted}
 use Rattle.semver_cuts.specs.Lemmas.Lists.{all-append}
-use Rattle.semver_sets.specs.Version.{VersionValue}
+use Rattle.semver_versions.specs.Version.{VersionValue}
 use Rattle.semver_sets.specs.Private.SearchViews.{is_opening_of, same_triples, triple_cmp, triple_of}
 use Rattle.semver_sets.specs.declared.set_list.opened.Opening.{Opening}
 use Rattle.semver_sets.specs.declared.set_list.opened.Triple.{Triple}

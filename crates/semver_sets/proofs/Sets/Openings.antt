@@ -21,13 +21,13 @@ use Rattle.semver_cuts.specs.SpanLists.{IsInSome}
 use Rattle.semver_cuts.specs.Cut.{cut_cmp}
 use Rattle.semver_cuts.specs.Starts.{count_of_starts}
 use Rattle.semver_cuts.specs.Lemmas.Ends.{cut_cmp-refl}
-use Rattle.semver_sets.specs.Comparison.{version_cmp}
-use Rattle.semver_sets.specs.IdentifierValue.{IdentifierValue}
+use Rattle.semver_versions.specs.Comparison.{version_cmp}
+use Rattle.semver_versions.specs.IdentifierValue.{IdentifierValue}
 use Rattle.semver_sets.specs.Meaning.{HasOpenEnd, IsInside, Opens, RangeAdmits, SetAdmits}
-use Rattle.semver_sets.specs.Lemmas.Order.{version_total}
+use Rattle.semver_versions.specs.Lemmas.Order.{version_total}
 use Rattle.semver_sets.specs.Searching.{IsShortSearch, count_of_opening, has_identifiers, has_open_end, has_same_triple}
 use Rattle.semver_sets.specs.Searching.{opens}
-use Rattle.semver_sets.specs.Version.{HasSameTriple, IsPrerelease, VersionValue}
+use Rattle.semver_versions.specs.Version.{HasSameTriple, IsPrerelease, VersionValue}
 use Rattle.semver_sets.specs.Private.SearchViews.{is_opening_of, opening_at, openings_from, openings_of, other_than}
 use Rattle.semver_sets.specs.Private.SearchViews.{places_opening, same_triples, triple_at, triple_of}
 use Rattle.semver_sets.specs.declared.set_list.opened.Opening.{Opening}

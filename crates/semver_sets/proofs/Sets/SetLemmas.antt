@@ -7,11 +7,11 @@ use Rattle.semver_sets.specs.Comparator.{Comparator}
 use Rattle.semver_sets.specs.Division.{IsAlternative}
 use Rattle.semver_sets.specs.Meaning.{AnyByRecursion, GiveSet, IsRefused, RangeAdmits, TextAdmits}
 use Rattle.semver_sets.specs.Merging.{AreSetsOf, AreSetsOfText, IsSetOf, no_more, none, one_more}
-use Rattle.semver_sets.specs.Version.{VersionValue}
+use Rattle.semver_versions.specs.Version.{VersionValue}
 use Rattle.semver_sets.specs.Private.RangeViews.{IsSetOfAlternative, given, listed_set, not_given}
 use Rattle.semver_sets.proofs.Ranges.AlternativeLemmas.{written-unique}
 use Rattle.semver_sets.proofs.Ranges.MeaningLemmas.{AdmitSome, NoneGive, none-from_refused, refused-from_none}
-use Rattle.semver_sets.proofs.Sets.Merging.{merged-admits, set-unique}
+use Rattle.semver_sets.specs.Lemmas.Merging.{merged-admits, set-unique}
 
 -- ---- one alternative after another
 

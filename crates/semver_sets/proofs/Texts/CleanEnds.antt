@@ -3,11 +3,12 @@ use Rattle.std.proofs.Common.{◌≡◌, ℕ, true, false, List, [], ◌∷◌, 
 use Rattle.std.proofs.lemmas.Bool.{cases_Bool}
 use Rattle.std.proofs.lemmas.Option.{same_Some}
 use Rattle.std.specs.Prelude.{◌==◌}
-use Rattle.semver_sets.specs.Characters.{BeginsWith, BeginsWithNo, dot, is_blank}
-use Rattle.semver_sets.specs.Division.{IsCleanEnd}
+use Rattle.semver_versions.specs.Characters.{BeginsWith, BeginsWithNo, dot, is_blank}
+use Rattle.semver_versions.specs.Characters.{IsCleanEnd}
 use Rattle.semver_sets.specs.PartialText.{Partial}
-use Rattle.semver_sets.specs.Private.WordReading.{ReadPartial, is_clean, up_to_clean}
-use Rattle.semver_sets.proofs.Texts.Characters.{blank-cases}
+use Rattle.semver_sets.specs.Private.WordReading.{ReadPartial, up_to_clean}
+use Rattle.semver_versions.specs.Reading.{is_clean}
+use Rattle.semver_versions.specs.Lemmas.Texts.Characters.{blank-cases}
 
 -- the test of a clean end, and the fact
 pub clean-true : (rest : List ℕ) → is_clean rest ≡ true → IsCleanEnd rest

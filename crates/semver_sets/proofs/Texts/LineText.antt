@@ -1,17 +1,14 @@
 -- The text of a line from a place on, with nothing past its end.
-use Rattle.std.proofs.Common.{◌≡◌, ◌∙◌, ◌≤◌, ℕ, List, ◌++◌, Option, Some, None, IfSome, append-nil, ap, codes, drop}
+use Rattle.std.proofs.Common.{◌≡◌, ◌∙◌, ◌≤◌, ℕ, List, ◌++◌, Option, Some, None, IfSome, ap, codes, drop}
 use Rattle.std.proofs.Common.{if◌then◌else◌, length, sym, true}
-use Rattle.std.proofs.lemmas.List.{drop_all}
 use Rattle.std.specs.Ordering.{eq_by_cmp}
 use Rattle.semver_cuts.specs.declared.cut.Cut.TheVariants.{Before, After, End}
 use Rattle.semver_cuts.specs.Ends.{Ends}
-use Rattle.semver_sets.specs.Comparison.{version_cmp}
-use Rattle.semver_sets.specs.Print.{version_text}
+use Rattle.semver_versions.specs.Comparison.{version_cmp}
+use Rattle.semver_versions.specs.Print.{version_text}
+use Rattle.semver_versions.specs.Lemmas.Texts.LineText.{whole_text}
 use Rattle.semver_sets.specs.RangePrint.{both_text, ends_text, set_text}
-use Rattle.semver_sets.specs.Version.{VersionValue}
-
-pub whole_text : (line text : List ℕ) → length line ≤ 176 → text ++ drop 176 line ≡ text
-whole_text line text short = ap (λ (l : List ℕ). text ++ l) (drop_all 176 line short) ∙ append-nil text
+use Rattle.semver_versions.specs.Version.{VersionValue}
 
 -- the same of a text that may not have been put
 pub whole_if_put : (put : Option ℕ) (line new text wanted : List ℕ) → length line ≤ 176 → text ≡ wanted

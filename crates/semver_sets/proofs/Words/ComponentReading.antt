@@ -3,12 +3,12 @@ use Rattle.std.proofs.Common.{◌≡◌, ℕ, List, [], ◌∷◌, ◌++◌, Opt
 use Rattle.std.proofs.Common.{subst}
 use Rattle.std.proofs.lemmas.Bool.{cases_Bool}
 use Rattle.std.proofs.lemmas.Option.{same_Some}
-use Rattle.semver_sets.specs.Characters.{BeginsWith, BeginsWithNo, is_digit, is_x}
+use Rattle.semver_versions.specs.Characters.{BeginsWith, BeginsWithNo, is_digit, is_x}
 use Rattle.semver_sets.specs.PartialText.{IsComponentText}
-use Rattle.semver_sets.specs.Private.Reading.{Read, read_number}
+use Rattle.semver_versions.specs.Reading.{Read, read_number}
 use Rattle.semver_sets.specs.Private.WordReading.{number_component, read_component}
-use Rattle.semver_sets.proofs.Texts.NumberReading.{number-again, number-takes}
-use Rattle.semver_sets.proofs.Texts.Characters.{digit-no_x, x-no_digit}
+use Rattle.semver_versions.specs.Lemmas.Texts.NumberReading.{number-again, number-takes}
+use Rattle.semver_versions.specs.Lemmas.Texts.Characters.{digit-no_x, x-no_digit}
 
 -- A component at the start of a text. A number takes all the digits.
 pub record TakesComponent (text : List ℕ) (component : Option ℕ) (rest : List ℕ) : Type 0 where

@@ -5,18 +5,18 @@ use Rattle.std.proofs.lemmas.Bool.{and_from, and_parts, cases_Bool, eqb-true}
 use Rattle.std.proofs.lemmas.List.Folds.{list_all-append}
 use Rattle.std.specs.Prelude.{◌==◌, not}
 use Rattle.std.specs.List.{AllByRecursion, list_all}
-use Rattle.semver_sets.specs.Characters.{AreAll, bar, caret, dot, greater_sign, is_blank, is_digit}
-use Rattle.semver_sets.specs.Characters.{is_identifier_character, is_partial_mark, is_x, mark_of, tilde}
+use Rattle.semver_versions.specs.Characters.{AreAll, bar, caret, dot, greater_sign, is_blank, is_digit}
+use Rattle.semver_versions.specs.Characters.{is_identifier_character, is_partial_mark, is_x, mark_of, tilde}
 use Rattle.semver_sets.specs.Comparator.{Comparator}
 use Rattle.semver_sets.specs.Division.{EndsInBar, HasBars, IsSimpleText, by_caret, by_operator, by_tilde, plain}
-use Rattle.semver_sets.specs.IdentifierText.{IsBuildText, IsExtrasText, IsIdentifierList, IsIdentifierText}
-use Rattle.semver_sets.specs.IdentifierText.{IsPrereleaseText, parts_of}
-use Rattle.semver_sets.specs.IdentifierValue.{IdentifierValue}
+use Rattle.semver_versions.specs.IdentifierText.{IsBuildText, IsExtrasText, IsIdentifierList, IsIdentifierText}
+use Rattle.semver_versions.specs.IdentifierText.{IsPrereleaseText, parts_of}
+use Rattle.semver_versions.specs.IdentifierValue.{IdentifierValue}
 use Rattle.semver_sets.specs.Operators.{Operator, equal, greater, greater_or_equal, less, less_or_equal, operator_text}
 use Rattle.semver_sets.specs.PartialText.{IsComponentText, IsLed, IsPartialText, IsUnmarkedPartial, Partial, one, three}
 use Rattle.semver_sets.specs.PartialText.{two}
 use Rattle.semver_sets.specs.TildeRanges.{with_tilde, with_tilde_greater}
-use Rattle.semver_sets.proofs.Texts.IdentifierReading.{parts-dot, parts-other, parts-shape}
+use Rattle.semver_versions.specs.Lemmas.Texts.IdentifierReading.{parts-dot, parts-other, parts-shape}
 
 -- ---- texts whose characters are all no `|`
 

@@ -1,14 +1,15 @@
 -- What a partial that is read holds, and the versions that are made of one.
 use Rattle.std.proofs.Common.{◌≤◌, ◌+◌, ℕ, List, [], ◌∷◌, Option, Some, None, arith, refl, sym, subst}
-use Rattle.std.specs.Prelude.{map, unwrap_or}
+use Rattle.std.specs.Prelude.{unwrap_or}
 use Rattle.std.specs.List.{AllByRecursion}
-use Rattle.semver_sets.specs.declared.TheConstants.{MAX_SAFE_INTEGER}
-use Rattle.semver_sets.specs.IdentifierText.{IsBuildText, IsIdentifierText, IsPrereleaseText, identifier_of}
-use Rattle.semver_sets.specs.IdentifierValue.{IdentifierValue, numeric}
+use Rattle.semver_versions.specs.declared.TheConstants.{MAX_SAFE_INTEGER}
+use Rattle.semver_versions.specs.IdentifierValue.{numeric}
 use Rattle.semver_sets.specs.PartialText.{IsComponentText, IsLed, IsPartialText, IsUnmarkedPartial, Partial, one}
 use Rattle.semver_sets.specs.PartialText.{plain_partial, three, two, zeroed}
-use Rattle.semver_sets.specs.RangeSets.{IsReadIdentifier, IsReadVersion}
-use Rattle.semver_sets.specs.Version.{VersionValue, least_of, release, without_build}
+use Rattle.semver_versions.specs.IdentifierText.{IsReadIdentifier}
+use Rattle.semver_versions.specs.Lemmas.Versions.ReadIdentifiers.{build-read, prerelease-read}
+use Rattle.semver_sets.specs.RangeSets.{IsReadVersion}
+use Rattle.semver_versions.specs.Version.{VersionValue, least_of, release, without_build}
 
 -- ---- partials
 
@@ -28,23 +29,6 @@ pub record IsReadPartial (p : Partial) : Type 0 where
 component-read : (text : List ℕ) (component : Option ℕ) → IsComponentText text component → IsReadComponent component
 component-read text None is = tt
 component-read text (Some number) is = is.limit
-
-values-read : (parts : List (List ℕ)) → AllByRecursion IsIdentifierText parts
-    → AllByRecursion IsReadIdentifier (map identifier_of parts)
-values-read [] all = tt
-values-read (part ∷ parts) all = ((part, all.0, refl), values-read parts all.1)
-
-pub prerelease-read : (text : List ℕ) (identifiers : List IdentifierValue) → IsPrereleaseText text identifiers
-    → AllByRecursion IsReadIdentifier identifiers
-prerelease-read text [] is = tt
-prerelease-read text (i ∷ identifiers) is =
-    subst (AllByRecursion IsReadIdentifier) (sym is.2.values) (values-read _ is.2.parts)
-
-pub build-read : (text : List ℕ) (identifiers : List IdentifierValue) → IsBuildText text identifiers
-    → AllByRecursion IsReadIdentifier identifiers
-build-read text [] is = tt
-build-read text (i ∷ identifiers) is =
-    subst (AllByRecursion IsReadIdentifier) (sym is.2.values) (values-read _ is.2.parts)
 
 plain_partial-read : (major minor patch : Option ℕ) → IsReadComponent major → IsReadComponent minor
     → IsReadComponent patch

@@ -1,39 +1,22 @@
 -- Partials, as the readers see them.
 use Rattle.std.proofs.Common.{◌≡◌, ◌≢◌, ◌<◌, ◌≤◌, ℕ, arith, ◌-◌, drop, get_or, length, take, false, true, List, [], ◌∷◌}
-use Rattle.std.proofs.Common.{Ok, Err, Option, Some, None, refl, sym, ap, ◌∙◌}
-use Rattle.std.specs.Borrow.{Bor}
-use Rattle.std.specs.Prelude.{◌==◌, Result}
-use Rattle.std.specs.Result.{result_ok}
+use Rattle.std.proofs.Common.{Ok, Option, Some, None, refl, sym, ap, ◌∙◌}
+use Rattle.std.specs.Prelude.{◌==◌}
 use Rattle.std.proofs.lemmas.Bool.{ne_eqb}
 use Rattle.std.proofs.lemmas.List.{take_all}
-use Rattle.semver_sets.specs.declared.TheConstants.{MAX_SAFE_INTEGER}
-use Rattle.semver_sets.specs.declared.parse.fault.Fault.{Fault}
-use Rattle.semver_sets.specs.Private.ReadingViews.{seen}
-use Rattle.semver_sets.specs.Characters.{BeginsWith, BeginsWithNo, dot, is_blank, is_digit, is_partial_mark, is_x}
-use Rattle.semver_sets.specs.Division.{IsCleanEnd}
+use Rattle.semver_versions.specs.declared.TheConstants.{MAX_SAFE_INTEGER}
+use Rattle.semver_versions.specs.Lemmas.Texts.CleanExtras.{clean_extras}
+use Rattle.semver_versions.specs.Characters.{BeginsWith, BeginsWithNo, dot, is_blank, is_digit, is_partial_mark, is_x}
 use Rattle.semver_sets.specs.PartialText.{Partial, plain_partial}
-use Rattle.semver_sets.specs.Private.RangeViews.{IsFullText}
-use Rattle.semver_sets.specs.Version.{release}
-use Rattle.semver_sets.specs.Private.Reading.{read_dot, read_extras, read_number, read_triple, read_unmarked}
-use Rattle.semver_sets.specs.Private.Reading.{read_version, rest_of, skip_one}
-use Rattle.semver_sets.specs.Private.WordReading.{is_clean, read_component, read_components, read_from_minor}
+use Rattle.semver_sets.specs.Private.RangeViews.{IsFullNumbers}
+use Rattle.semver_versions.specs.Version.{release}
+use Rattle.semver_versions.specs.Reading.{read_dot, read_extras, read_number, read_triple, read_unmarked}
+use Rattle.semver_versions.specs.Reading.{read_version, rest_of, skip_one}
+use Rattle.semver_sets.specs.Private.WordReading.{read_component, read_components, read_from_minor}
 use Rattle.semver_sets.specs.Private.WordReading.{read_from_patch, read_partial, with_extras}
-use Rattle.semver_sets.proofs.Texts.ExtrasReading.{extras-again}
-use Rattle.semver_sets.proofs.Texts.NumberReading.{number-takes}
-use Rattle.semver_sets.proofs.Versions.LeadingTriple.{number-digit, version-begins}
-use Rattle.semver_sets.proofs.Versions.VersionReading.{clean-ends_extras}
-use Rattle.semver_sets.proofs.Texts.Characters.{digit-begins_no_x, digit-no_blank, digit-no_partial_mark}
-
--- a clean end, as it is tested
-pub clean-end : (text : List ℕ) → is_clean text ≡ true → IsCleanEnd text
-clean-end [] h = tt
-clean-end (b ∷ rest) h = h
-
--- a text at a clean end begins with no extras
-pub clean_extras : (text : List ℕ) → is_clean text ≡ true → read_extras text ≡ (([], []), text)
-clean_extras text h =
-    extras-again [] text [] [] (record { prefix = []; rest = []; whole = refl; first = refl; second = refl })
-    (clean-ends_extras text (clean-end text h))
+use Rattle.semver_versions.specs.Lemmas.Texts.NumberReading.{number-takes}
+use Rattle.semver_versions.specs.Lemmas.Versions.LeadingTriple.{number-digit, version-begins}
+use Rattle.semver_versions.specs.Lemmas.Texts.Characters.{digit-begins_no_x, digit-no_blank, digit-no_partial_mark}
 
 -- ---- components
 
@@ -73,12 +56,6 @@ pub component-number : (text rest : List ℕ) (number : ℕ) → Ok (number, res
 unfolding read_component read_number
 component-number [] rest number h none = cc h
 component-number (b ∷ text) rest number h none = rw (none, ← h) refl
-
--- the value of a success
-pub read-ok : (r : Result (ℕ × Bor (List ℕ)) Fault) (x : ℕ × Bor (List ℕ)) → Some x ≡ result_ok r
-    → Ok (x.0, x.1.now) ≡ seen r
-read-ok (Ok y) x h = let same : x ≡ y = cc h in rw same refl
-read-ok (Err e) x h = cc h
 
 -- no number above the limit is read
 pub number-limit : (text rest : List ℕ) (number : ℕ) → Ok (number, rest) ≡ read_number text → number ≤ MAX_SAFE_INTEGER
@@ -183,7 +160,7 @@ full-version text first second next third major minor patch digit one dot1 two d
 pub full-text : (text first second next third : List ℕ) (major minor patch : ℕ)
     → Ok (major, first) ≡ read_number text → first ≡ dot ∷ second
     → Ok (minor, next) ≡ read_number second → next ≡ dot ∷ third → Ok (patch, []) ≡ read_number third
-    → IsFullText text major minor patch
+    → IsFullNumbers text major minor patch
 unfolding read_partial
 full-text text first second next third major minor patch one dot1 two dot2 three =
     let digit = number-digit text first major one in

@@ -7,15 +7,15 @@ use Rattle.std.specs.declared.cmp.Ordering.TheVariants.{Less}
 use Rattle.semver_cuts.specs.Ends.{IsCutBelow}
 use Rattle.semver_sets.specs.CaretRanges.{caret_row}
 use Rattle.semver_sets.specs.Comparator.{Comparator, exactly, from_up_to, with_major, with_minor}
-use Rattle.semver_sets.specs.Comparison.{version_cmp}
+use Rattle.semver_versions.specs.Comparison.{version_cmp}
 use Rattle.semver_sets.specs.Division.{IsSimpleText, by_caret, by_operator, by_tilde, plain}
-use Rattle.semver_sets.specs.Lemmas.Order.{version-Less, version_total}
+use Rattle.semver_versions.specs.Lemmas.Order.{version-Less, version_total}
 use Rattle.semver_sets.specs.Operators.{Operator, equal, equal_row, greater, greater_or_equal, greater_row, less}
 use Rattle.semver_sets.specs.Operators.{less_or_equal, less_or_equal_row, less_row, operator_comparator, plain_row}
-use Rattle.semver_sets.specs.Order.{by_major, by_minor, by_patch}
+use Rattle.semver_versions.specs.Order.{by_major, by_minor, by_patch}
 use Rattle.semver_sets.specs.PartialText.{Partial, zeroed}
 use Rattle.semver_sets.specs.TildeRanges.{IsTildeText, tilde_greater_row, tilde_row, with_tilde, with_tilde_greater}
-use Rattle.semver_sets.specs.Version.{VersionValue, least_of, release, without_build}
+use Rattle.semver_versions.specs.Version.{VersionValue, least_of, release, without_build}
 
 -- ---- comparators
 

@@ -1,7 +1,7 @@
 -- What a word of a range text writes: a comparator with ends that a range can have, or none.
 use Rattle.std.proofs.Common.{◌≤◌, ◌+◌, ℕ, zero, suc, List, Option, Some, None, arith, sym, subst}
 use Rattle.std.specs.Prelude.{unwrap_or}
-use Rattle.semver_sets.specs.declared.TheConstants.{MAX_SAFE_INTEGER}
+use Rattle.semver_versions.specs.declared.TheConstants.{MAX_SAFE_INTEGER}
 use Rattle.semver_sets.specs.CaretRanges.{caret_row}
 use Rattle.semver_sets.specs.Comparator.{Comparator, above, at_least, at_most, below, from_up_to, with_major}
 use Rattle.semver_sets.specs.Comparator.{with_minor}
@@ -13,7 +13,7 @@ use Rattle.semver_sets.specs.Operators.{less_or_equal, less_or_equal_row, less_r
 use Rattle.semver_sets.specs.PartialText.{Partial, zeroed}
 use Rattle.semver_sets.specs.RangeSets.{IsReadCut, IsReadVersion}
 use Rattle.semver_sets.specs.TildeRanges.{IsTildeText, tilde_greater_row, tilde_row, with_tilde, with_tilde_greater}
-use Rattle.semver_sets.specs.Version.{VersionValue, least_of, release, without_build}
+use Rattle.semver_versions.specs.Version.{VersionValue, least_of, release, without_build}
 use Rattle.semver_sets.proofs.Words.PartialBounds.{IsReadComponent, IsReadPartial, least-read, led-read, or-zero}
 use Rattle.semver_sets.proofs.Words.PartialBounds.{partial-read, release-read, without_build-read, zeroed-read}
 

@@ -3,11 +3,12 @@ use Rattle.std.proofs.Common.{◌≡◌, ◌≢◌, ◌⊎◌, ◌<◌, ◌≤�
 use Rattle.std.proofs.Common.{Some, None, refl, sym, ap, ◌∙◌, inl, inr}
 use Rattle.std.proofs.lemmas.Bool.{and_parts, cases_Bool, eqb-true, leb-true, ne_eqb}
 use Rattle.std.specs.Prelude.{◌==◌}
-use Rattle.semver_sets.specs.Characters.{BeginsWithNo, caret, is_blank, is_digit, tilde}
+use Rattle.semver_versions.specs.Characters.{BeginsWithNo, caret, is_blank, is_digit, tilde}
 use Rattle.semver_sets.specs.Operators.{Operator as SpecOperator}
 use Rattle.semver_sets.specs.PartialText.{Partial}
-use Rattle.semver_sets.specs.Private.Reading.{begins, read_number, rest_of, skip_one}
-use Rattle.semver_sets.specs.Private.WordReading.{Lead, Word, caret_lead, is_clean, lead_comparator, no_lead, operator}
+use Rattle.semver_versions.specs.Reading.{begins, read_number, rest_of, skip_one}
+use Rattle.semver_sets.specs.Private.WordReading.{Lead, Word, caret_lead, lead_comparator, no_lead, operator}
+use Rattle.semver_versions.specs.Reading.{is_clean}
 use Rattle.semver_sets.specs.Private.WordReading.{or_else, read_component, read_components, read_hyphen, read_lead}
 use Rattle.semver_sets.specs.Private.WordReading.{read_operator, read_partial, read_right, read_simple, said}
 use Rattle.semver_sets.specs.Private.WordReading.{said_hyphen, tilde_greater_lead, tilde_lead, up_to_clean, with_left}
@@ -15,7 +16,7 @@ use Rattle.semver_sets.specs.Private.WordViews.{lead_seen}
 use Rattle.semver_sets.specs.declared.word.lead.Lead.{Lead as CodeLead}
 use Rattle.semver_sets.specs.declared.word.lead.Lead.TheVariants.{Caret, Operator, Plain, Tilde, TildeGreater}
 use Rattle.semver_sets.proofs.Words.LeadReading.{lead-not_partial, lead-plain}
-use Rattle.semver_sets.proofs.Texts.Prefixes.{with_no-begins}
+use Rattle.semver_versions.specs.Lemmas.Texts.Prefixes.{with_no-begins}
 
 -- ---- leads
 

@@ -4,17 +4,17 @@ use Rattle.std.specs.Prelude.{IfSome, IsSome, Ok}
 use Rattle.semver_cuts.specs.declared.cut.Cut.{Cut}
 use Rattle.semver_cuts.specs.Ends.{Ends, HoldsCut, IsCutBelow, span_between}
 use Rattle.semver_sets.specs.Comparator.{Comparator}
-use Rattle.semver_sets.specs.Comparison.{version_cmp}
+use Rattle.semver_versions.specs.Comparison.{version_cmp}
 use Rattle.semver_sets.specs.Division.{HasBars, IsAlternative}
 use Rattle.semver_sets.specs.Meaning.{GiveSet}
 use Rattle.semver_sets.specs.Merging.{IsSetOf}
 use Rattle.semver_sets.specs.PartialText.{plain_partial}
-use Rattle.semver_sets.specs.Version.{VersionValue, release}
-use Rattle.semver_sets.specs.Private.Reading.{read_version}
-use Rattle.semver_sets.specs.Characters.{BeginsWith, is_digit}
+use Rattle.semver_versions.specs.Version.{VersionValue, release}
+use Rattle.semver_versions.specs.Reading.{read_version}
+use Rattle.semver_versions.specs.Characters.{BeginsWith, is_digit}
 use Rattle.semver_sets.specs.Private.WordViews.{listed}
 use Rattle.semver_sets.specs.Private.WordReading.{Lead, lead_comparator, read_partial}
-use Rattle.semver_sets.specs.declared.TheConstants.{MAX_SAFE_INTEGER}
+use Rattle.semver_versions.specs.declared.TheConstants.{MAX_SAFE_INTEGER}
 
 -- the common span of the comparators, or none if there are none
 abbrev pub IsCommonSpan : List Comparator → Option Comparator → Type 0
@@ -61,7 +61,7 @@ pub record IsOnlyComparator (text : List ℕ) (comparator : Comparator) : Type 0
   pub below : IsCutBelow version_cmp comparator.lower comparator.upper
 
 -- the whole text is three numbers, as a partial and as a version
-pub record IsFullText (text : List ℕ) (major minor patch : ℕ) : Type 0 where
+pub record IsFullNumbers (text : List ℕ) (major minor patch : ℕ) : Type 0 where
   pub digit : BeginsWith is_digit text
   pub read : Some (plain_partial (Some major) (Some minor) (Some patch), []) ≡ read_partial text
   pub version : read_version text ≡ Ok (release major minor patch, [])

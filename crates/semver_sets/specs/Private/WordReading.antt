@@ -1,25 +1,20 @@
 -- What the private readers of words compute, on lists of bytes. The lemmas of `proofs/` connect it with the meaning of
 -- the words. No public contract uses it.
-use Rattle.std.specs.Prelude.{ℕ, ◌==◌, not, if◌then◌else◌, Bool, true, List, [], ◌∷◌, Option, Some, None, Ok, Err}
+use Rattle.std.specs.Prelude.{ℕ, ◌==◌, not, if◌then◌else◌, Bool, List, [], ◌∷◌, Option, Some, None, Ok, Err}
 use Rattle.semver_sets.specs.CaretRanges.{caret_row}
-use Rattle.semver_sets.specs.Characters.{caret, dot, greater_sign, hyphen, is_blank, is_partial_mark, is_x, tilde}
+use Rattle.semver_versions.specs.Characters.{caret, dot, greater_sign, hyphen, is_blank, is_partial_mark, is_x, tilde}
 use Rattle.semver_sets.specs.Comparator.{Comparator}
 use Rattle.semver_sets.specs.HyphenRanges.{hyphen_comparator}
-use Rattle.semver_sets.specs.IdentifierValue.{IdentifierValue}
+use Rattle.semver_versions.specs.IdentifierValue.{IdentifierValue}
 use Rattle.semver_sets.specs.Operators.{Operator, equal, greater, greater_or_equal, less}
 use Rattle.semver_sets.specs.Operators.{less_or_equal, operator_comparator, plain_comparator}
 use Rattle.semver_sets.specs.PartialText.{Partial, plain_partial, zeroed}
 use Rattle.semver_sets.specs.TildeRanges.{tilde_greater_row, tilde_row}
-use Rattle.semver_sets.specs.Private.Reading.{Read, begins, read_extras, read_number, rest_of, skip_one}
+use Rattle.semver_versions.specs.Reading.{Read, begins, is_clean, read_extras, read_number, rest_of, skip_one}
 
 -- any character but a blank
 abbrev pub is_solid : ℕ → Bool
 is_solid b = not (is_blank b)
-
--- `true` if a word can end before this text
-abbrev pub is_clean : List ℕ → Bool
-is_clean [] = true
-is_clean (b ∷ rest) = is_blank b
 
 -- ---- partials
 

@@ -6,11 +6,11 @@ use Rattle.semver_cuts.specs.declared.cut.Cut.TheVariants.{Before, After}
 use Rattle.semver_sets.specs.Comparator.{Comparator, above, at_least, at_most, below, exactly, from_up_to}
 use Rattle.semver_sets.specs.Operators.{Operator, equal, greater, greater_or_equal, less, less_or_equal}
 use Rattle.semver_sets.specs.PartialText.{Partial}
-use Rattle.semver_sets.specs.Version.{VersionValue, least_of, without_build}
-use Rattle.semver_sets.specs.Private.Reading.{read_extras}
+use Rattle.semver_versions.specs.Version.{VersionValue, least_of, without_build}
+use Rattle.semver_versions.specs.Reading.{read_extras}
 use Rattle.semver_sets.specs.Private.WordReading as Reading
 use Rattle.semver_sets.specs.Private.WordReading.{ReadPartial, Word, with_extras}
-use Rattle.semver_sets.specs.declared.TheConstants.{MAX_SAFE_INTEGER}
+use Rattle.semver_versions.specs.declared.TheConstants.{MAX_SAFE_INTEGER}
 use Rattle.semver_sets.specs.declared.parse.partial.Component.{Component}
 use Rattle.semver_sets.specs.declared.parse.partial.Partial.{Partial as CodePartial}
 use Rattle.semver_sets.specs.declared.parse.partial.Shape.{Shape}

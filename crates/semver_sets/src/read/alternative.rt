@@ -1,17 +1,18 @@
 //! Reading one alternative of a range text: the comparators of its words are merged as they are read.
 ghost use Rattle.std.specs.Prelude.{◌≡◌, IfOk, None, OnOk};
-ghost use Rattle.semver_sets.specs.Characters.{BeginsWithNo, is_blank};
+ghost use Rattle.semver_versions.specs.Characters.{BeginsWithNo, is_blank};
 ghost use Rattle.semver_sets.specs.Private.RangeViews.{IsNarrowed, IsSetOfAlternative, IsSpanOfAlternative};
-ghost use Rattle.semver_sets.specs.Private.Reading.{rest_of};
+ghost use Rattle.semver_versions.specs.Reading.{rest_of};
 ghost use Rattle.semver_sets.specs.Private.WordReading as Reading;
 ghost use Rattle.semver_sets.specs.Private.WordReading.{leading_or_none, read_right};
 ghost use Rattle.semver_sets.specs.Private.WordViews.{ends_seen, word_seen};
 
 use crate::comparator::CommonSpan;
-use crate::end::End;
-use crate::parse::{skip_blanks, skip_solid, skip_some_blanks};
+use crate::parse::skip_solid;
 use crate::word::{WordEnds, begins_comparator, nothing, read_leading_hyphen, read_word};
 use semver_cuts::Span;
+use semver_versions::end::End;
+use semver_versions::parse::{skip_blanks, skip_some_blanks};
 use std::alloc::{AllocError, Global};
 
 // The set of an alternative, or `None` if it gives none. `inline(always)`: it has one call in each of two callers.

@@ -3,11 +3,11 @@ ghost use Rattle.std.specs.Prelude.{IfOk, OnOk};
 ghost use Rattle.semver_sets.specs.Merging.{AreSetsOfText};
 ghost use Rattle.semver_sets.specs.Private.RangeViews.{IsOneMore};
 
-use crate::end::End;
-use crate::parse::skip_blanks;
 use crate::read::alternative::read_set;
 use crate::read::pieces::next_piece;
 use semver_cuts::Span;
+use semver_versions::end::End;
+use semver_versions::parse::skip_blanks;
 use std::alloc::{AllocError, Global};
 
 /// Returns the sets of a text, in the order of its alternatives. An alternative without a comparator, or whose

@@ -2,11 +2,11 @@
 ghost use Rattle.std.specs.Prelude.{◌≡◌, ◌++◌, IfOk, OnOk};
 ghost use Rattle.std.specs.List.{AllByRecursion};
 ghost use Rattle.semver_cuts.specs.Ends.{IsCutBelow, span_between};
-ghost use Rattle.semver_sets.specs.Comparison.{version_cmp};
+ghost use Rattle.semver_versions.specs.Comparison.{version_cmp};
 ghost use Rattle.semver_sets.specs.RangeSets.{IsRangeSet};
 
-use crate::end::End;
 use semver_cuts::{Cut, Span};
+use semver_versions::end::End;
 use std::alloc::AllocError;
 
 pub(crate) fn copies_of(sets: &Vec<Span<End>>) -> Result<Vec<Span<End>>, AllocError>

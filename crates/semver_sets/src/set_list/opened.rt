@@ -8,8 +8,8 @@ ghost use Rattle.std.specs.Ordering.{is_le};
 ghost use Rattle.semver_sets.specs.Private.SearchViews.{AreOpeningsOf, opened_triple, openings_of, other_than};
 ghost use Rattle.semver_sets.specs.Private.SearchViews.{same_triples, triple_at, triple_cmp};
 
-use crate::end::End;
 use semver_cuts::{Cut, Span};
+use semver_versions::end::End;
 use std::alloc::{AllocError, Global};
 
 // A major, a minor and a patch, in this order.

@@ -7,20 +7,21 @@ ghost use Rattle.semver_cuts.specs.declared.cut.Cut.TheVariants.{Before};
 ghost use Rattle.semver_cuts.specs.SpanLists.{IsInSome};
 ghost use Rattle.semver_cuts.specs.Places.{IsPlacesOf, span_at};
 ghost use Rattle.semver_cuts.specs.Starts.{count_of_starts};
-ghost use Rattle.semver_sets.specs.Comparison.{version_cmp};
+ghost use Rattle.semver_versions.specs.Comparison.{version_cmp};
 ghost use Rattle.semver_sets.specs.Meaning.{AnyByRecursion, IsInside, RangeAdmits};
 ghost use Rattle.semver_sets.specs.RangeSets.{IsRangeSet};
 ghost use Rattle.semver_sets.specs.Searching.{HasDigits, IsShortSearch, count_of_opening};
-ghost use Rattle.semver_sets.specs.Version.{IsPrerelease};
+ghost use Rattle.semver_versions.specs.Version.{IsPrerelease};
 ghost use Rattle.semver_sets.specs.Private.SearchViews.{AreOpeningsOf};
 
 use crate::Counts;
-use crate::end::End;
-use crate::set::{AsVersion, admits_opened, has_inside, is_at_or_before};
+use crate::set::{admits_opened, has_inside, is_at_or_before};
 use crate::set_list::copy::copies_of;
 use crate::set_list::opened::{Opening, Triple, openings, openings_at};
 use semver_cuts::Span;
 use semver_cuts::algebra::{MergedSpans, Places};
+use semver_versions::AsVersion;
+use semver_versions::end::End;
 use std::alloc::{AllocError, Global};
 use std::marker::Model;
 
@@ -43,9 +44,9 @@ impl Model for Searched {
     ghost use Rattle.std.specs.Prelude.{◌<◌, List, length};
     ghost use Rattle.semver_cuts.specs.Ends.{Ends};
     ghost use Rattle.semver_cuts.specs.Places.{IsPlacesOf};
-    ghost use Rattle.semver_sets.specs.Comparison.{version_cmp};
+    ghost use Rattle.semver_versions.specs.Comparison.{version_cmp};
     ghost use Rattle.semver_sets.specs.Private.SearchViews.{AreOpeningsOf};
-    ghost use Rattle.semver_sets.specs.Version.{VersionValue};
+    ghost use Rattle.semver_versions.specs.Version.{VersionValue};
     ghost use Rattle.semver_sets.specs.declared.set_list.searched.TheConstants.{FEW};
 
     ghost Value = { List (Ends VersionValue) };

@@ -5,14 +5,14 @@ ghost use Rattle.std.specs.Prelude.{◌≡◌, ◌+◌, ◌≤◌, Some, nat_eq,
 ghost use Rattle.semver_sets.specs.CaretRanges as CaretRanges;
 ghost use Rattle.semver_sets.specs.Comparator as Comparators;
 ghost use Rattle.semver_sets.specs.PartialText as PartialText;
-ghost use Rattle.semver_sets.specs.Version as Versions;
+ghost use Rattle.semver_versions.specs.Version as Versions;
 ghost use Rattle.semver_sets.specs.Private.WordViews.{IsSound, ends_seen, partial_seen, written_seen};
 
-use crate::MAX_SAFE_INTEGER;
 use crate::parse::{Partial, Shape};
 use crate::word::ends::{
     WordEnds, WrittenVersion, bare_up_to, below_least, next, nothing, release, with_major, zeroed,
 };
+use semver_versions::MAX_SAFE_INTEGER;
 
 // `^1.2.3` is `>=1.2.3 <2.0.0-0`, `^1.2` is `>=1.2.0 <2.0.0-0`.
 #[inline(always)]

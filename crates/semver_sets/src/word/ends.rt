@@ -5,14 +5,15 @@
 ghost use Rattle.std.specs.Prelude.{◌≡◌, ◌↔◌, ◌≤◌, ◌+◌, IfOk, IfSome, IsTrue, None, Some};
 ghost use Rattle.semver_sets.specs.Comparator as Comparators;
 ghost use Rattle.semver_sets.specs.PartialText as PartialText;
-ghost use Rattle.semver_sets.specs.Version as Versions;
+ghost use Rattle.semver_versions.specs.Version as Versions;
 ghost use Rattle.semver_sets.specs.Private.WordViews.{IsSound, ends_seen, from_through, partial_seen, written_seen};
 
-use crate::MAX_SAFE_INTEGER;
 use crate::comparator::Comparator;
-use crate::end::End;
-use crate::parse::{Partial, begins_clean, read_extras, read_prerelease};
+use crate::parse::Partial;
 use semver_cuts::Cut;
+use semver_versions::MAX_SAFE_INTEGER;
+use semver_versions::end::End;
+use semver_versions::parse::{begins_clean, read_extras, read_prerelease};
 use std::alloc::{AllocError, Global};
 
 // A version as a word writes it: a triple, and the text that begins with its extras.
@@ -63,7 +64,7 @@ pub(crate) struct WordEnds<'a> {
 
 // `1.2.3`
 #[inline(always)]
-#[tactic(auto, using(crate::proofs::Texts::ExtrasReading::no_extras))]
+#[tactic(auto, using(semver_versions::specs::Lemmas::Texts::ExtrasReading::no_extras))]
 pub(crate) fn release(major: u64, minor: u64, patch: u64) -> WrittenVersion<'static>
     ensures { written_seen result ≡ Versions.release major minor patch }
 {
@@ -307,7 +308,7 @@ impl<'a> WordEnds<'a> {
 impl<'a> WrittenVersion<'a> {
     // Builds the version. Most have no extras, and then nothing is allocated.
     #[inline(always)]
-    #[tactic(auto, using(crate::proofs::Words::PartialViews::clean_extras))]
+    #[tactic(auto, using(semver_versions::specs::Lemmas::Texts::CleanExtras::clean_extras))]
     fn end(&self, alloc: Global) -> Result<End, AllocError>
         ensures { IfOk result (λ e. e ≡ written_seen self.now) }
     {
@@ -320,7 +321,7 @@ impl<'a> WrittenVersion<'a> {
 
     // The same without the build.
     #[inline(always)]
-    #[tactic(auto, using(crate::proofs::Words::PartialViews::clean_extras))]
+    #[tactic(auto, using(semver_versions::specs::Lemmas::Texts::CleanExtras::clean_extras))]
     fn bare_end(&self, alloc: Global) -> Result<End, AllocError>
         ensures { IfOk result (λ e. e ≡ Versions.without_build (written_seen self.now)) }
     {
@@ -341,7 +342,7 @@ impl<'a> WrittenVersion<'a> {
 
     // `inline(never)`: few versions have extras, and the others then need no stack for them.
     #[inline(never)]
-    #[tactic(auto, unfolding(crate::specs::Private::Reading::read_extras))]
+    #[tactic(auto, unfolding(semver_versions::specs::Reading::read_extras))]
     fn end_with_extras(&self, alloc: Global) -> Result<End, AllocError>
         ensures { IfOk result (λ e. e ≡ written_seen self.now) }
     {
@@ -356,7 +357,7 @@ impl<'a> WrittenVersion<'a> {
 
     // The same without the build. `inline(never)`: as above.
     #[inline(never)]
-    #[tactic(auto, unfolding(crate::specs::Private::Reading::read_extras))]
+    #[tactic(auto, unfolding(semver_versions::specs::Reading::read_extras))]
     fn end_with_prerelease(&self, alloc: Global) -> Result<End, AllocError>
         ensures { IfOk result (λ e. e ≡ Versions.without_build (written_seen self.now)) }
     {

@@ -5,18 +5,19 @@
 //! result where the calling function begins, and so only if it is called.
 ghost use Rattle.std.specs.Prelude.{◌≡◌, ◌∷◌, IfSome, Some, None};
 ghost use Rattle.semver_cuts.specs.declared.cut.Cut.TheVariants.{Before};
-ghost use Rattle.semver_sets.specs.Characters.{hyphen};
+ghost use Rattle.semver_versions.specs.Characters.{hyphen};
 ghost use Rattle.semver_sets.specs.HyphenRanges as HyphenRanges;
 ghost use Rattle.semver_sets.specs.PartialText as PartialText;
-ghost use Rattle.semver_sets.specs.Version as Versions;
+ghost use Rattle.semver_versions.specs.Version as Versions;
 ghost use Rattle.semver_sets.specs.Private.WordReading as Reading;
 ghost use Rattle.semver_sets.specs.Private.WordViews.{IsSound, ends_seen, partial_seen, read_partial_seen};
 ghost use Rattle.semver_sets.specs.Private.WordViews.{right_end_seen, some_word_seen};
 
-use crate::parse::{Partial, Shape, begins_clean, read_partial, skip_some_blanks};
+use crate::parse::{Partial, Shape, read_partial};
 use crate::word::ends::{
     WordEnds, WrittenVersion, at_most, below_least, next, release, through, up_to, zeroed,
 };
+use semver_versions::parse::{begins_clean, skip_some_blanks};
 
 // `3` and ` <5` of ` - 3 <5`: the right side of a hyphen range, with the blanks around the hyphen
 #[inline(always)]

@@ -5,12 +5,13 @@ ghost use Rattle.std.specs.Prelude.{◌≡◌};
 ghost use Rattle.semver_sets.specs.Private.WordReading as Reading;
 ghost use Rattle.semver_sets.specs.Private.WordViews.{IsSound, lead_seen, partial_seen, ends_seen};
 
-use crate::parse::{Partial, skip_blanks};
+use crate::parse::Partial;
 use crate::word::caret::caret_ends;
 use crate::word::ends::WordEnds;
 use crate::word::operator::{Operator, operator_ends, read_operator};
 use crate::word::plain::plain_ends;
 use crate::word::tilde::{read_tilde, tilde_ends, tilde_greater_ends};
+use semver_versions::parse::skip_blanks;
 
 #[derive(Clone, Copy)]
 pub(crate) enum Lead {

@@ -3,17 +3,18 @@
 //! `#[inline(always)]`: see `parse/partial.rt`.
 ghost use Rattle.std.specs.Prelude.{◌≡◌, ◌+◌, Some};
 ghost use Rattle.semver_sets.specs.Comparator as Comparators;
-ghost use Rattle.semver_sets.specs.Version as Versions;
-ghost use Rattle.semver_sets.specs.Characters.{is_blank};
-ghost use Rattle.semver_sets.specs.Private.Reading.{rest_of};
+ghost use Rattle.semver_versions.specs.Version as Versions;
+ghost use Rattle.semver_versions.specs.Characters.{is_blank};
+ghost use Rattle.semver_versions.specs.Reading.{rest_of};
 ghost use Rattle.semver_sets.specs.PartialText as PartialText;
 ghost use Rattle.semver_sets.specs.TildeRanges as TildeRanges;
 ghost use Rattle.semver_sets.specs.Private.WordReading as Reading;
 ghost use Rattle.semver_sets.specs.Private.WordViews.{IsSound, ends_seen, lead_seen, partial_seen};
 
-use crate::parse::{Partial, Shape, skip_blanks};
+use crate::parse::{Partial, Shape};
 use crate::word::ends::{WordEnds, bare_up_to, next, nothing, with_major, with_minor, zeroed};
 use crate::word::lead::Lead;
+use semver_versions::parse::skip_blanks;
 
 // `> 1.2` of `~ > 1.2`: which tilde it is, and the rest without its leading blanks
 #[inline(always)]

@@ -1,6 +1,6 @@
 use Rattle.std.proofs.Common.{◌∙◌, ap, sym}
 use Rattle.semver_cuts.specs.CommonSpans.{common_spans}
-use Rattle.semver_sets.specs.Comparison.{version_cmp}
+use Rattle.semver_versions.specs.Comparison.{version_cmp}
 use Rattle.node_semver.specs.RangeAlgebra.{sets_of_answer}
 use Rattle.node_semver.proofs.Sets.TreeSets.{common-with_none}
 use Rattle.node_semver.proofs.tree.common.Goals as goal

@@ -1,6 +1,6 @@
 use Rattle.std.proofs.Common.{rules, IfOk, sym, subst}
 use Rattle.semver_cuts.specs.Difference.{AreDifference}
-use Rattle.semver_sets.specs.Comparison.{version_cmp}
+use Rattle.semver_versions.specs.Comparison.{version_cmp}
 use Rattle.semver_sets.specs.RangeSets.{IsRangeValue}
 use Rattle.node_semver.specs.RangeAlgebra.{sets_of_answer}
 use Rattle.node_semver.proofs.Sets.TreeSets.{difference-without_none}

@@ -1,7 +1,7 @@
 use Rattle.std.proofs.Common.{◌≡◌, ap, refl, inl, inr}
-use Rattle.node_semver.specs.declared.error.kind.SemverErrorKind.{SemverErrorKind}
-use Rattle.node_semver.specs.declared.error.kind.SemverErrorKind.TheVariants.{OutOfMemory}
-use Rattle.node_semver.specs.Error.{Refusal, kind_of, out_of_memory}
+use Rattle.semver_versions.specs.declared.error.kind.SemverErrorKind.{SemverErrorKind}
+use Rattle.semver_versions.specs.declared.error.kind.SemverErrorKind.TheVariants.{OutOfMemory}
+use Rattle.semver_versions.specs.Error.{Refusal, kind_of, out_of_memory}
 use Rattle.node_semver.proofs.Sets.TreeSets.{refused-sets}
 use Rattle.node_semver.proofs.tree.range_of.Goals as goal
 

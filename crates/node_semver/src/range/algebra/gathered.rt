@@ -3,17 +3,17 @@
 ghost use Rattle.std.specs.Prelude.{◌≡◌, ◌≢◌, ◌++◌, ◌∷◌, [], IfOk, IfSome, List, OnOk};
 ghost use Rattle.std.specs.List.{AllByRecursion};
 ghost use Rattle.semver_cuts.specs.Ends.{Ends, IsCutBelow, span_between};
-ghost use Rattle.semver_sets.specs.Comparison.{version_cmp};
+ghost use Rattle.semver_versions.specs.Comparison.{version_cmp};
 ghost use Rattle.semver_sets.specs.RangeSets.{IsRangeSet, IsRangeValue};
-ghost use Rattle.semver_sets.specs.Version.{VersionValue};
+ghost use Rattle.semver_versions.specs.Version.{VersionValue};
 ghost use Rattle.node_semver.specs.RangeAlgebra.{sets_of_answer};
 ghost use Rattle.node_semver.specs.Private.AnswerViews.{found_seen, some_found_seen};
 
 use crate::Range;
 use semver_cuts::algebra::Gather;
 use semver_cuts::{Cut, Span};
-use semver_sets::end::End;
 use semver_sets::set_list::copy::copy_of;
+use semver_versions::end::End;
 use std::alloc::{AllocError, Global};
 use std::marker::Model;
 

@@ -3,14 +3,15 @@
 ghost use Rattle.std.specs.Prelude.{◌≡◌, ◌⊎◌, ◌↔◌, ◌++◌, ℕ, IfOk, List};
 ghost use Rattle.semver_cuts.specs.declared.cut.Cut.{Cut};
 ghost use Rattle.semver_cuts.specs.SpanLists.{IsInSome};
-ghost use Rattle.semver_sets.specs.Comparison.{version_cmp};
+ghost use Rattle.semver_versions.specs.Comparison.{version_cmp};
 ghost use Rattle.semver_sets.specs.Meaning.{RangeAdmits};
 ghost use Rattle.semver_sets.specs.Merging.{AreSetsOfText};
 ghost use Rattle.semver_sets.specs.RangeSets.{IsRangeValue};
 ghost use Rattle.semver_sets.specs.Union.{AreJoinable, joined_text};
-ghost use Rattle.semver_sets.specs.Version.{VersionValue};
+ghost use Rattle.semver_versions.specs.Version.{VersionValue};
 
 use crate::Range;
+use semver_sets::laws::joined_texts_write_all_sets;
 use std::alloc::{AllocError, Global};
 
 impl Range {
@@ -49,6 +50,7 @@ impl Range {
             AreSetsOfText (joined_text one another) union) }
         ensures holds { IfOk result IsRangeValue }
     {
+        joined_texts_write_all_sets();
         Ok(Range::of_searched(self.sets.union(alloc, &other.sets)?))
     }
 }

@@ -6,7 +6,7 @@ ghost use Rattle.std.specs.Prelude.{◌≡◌, ◌↔◌, [], IfOk, IfSome, IsNo
 ghost use Rattle.std.specs.List.{AllByRecursion};
 ghost use Rattle.semver_cuts.specs.declared.cut.Cut.TheVariants.{After, Before};
 ghost use Rattle.semver_sets.specs.RangeSets.{IsRangeSet, IsReadCut, IsReadVersion};
-ghost use Rattle.semver_sets.specs.Version.{release};
+ghost use Rattle.semver_versions.specs.Version.{release};
 ghost use Rattle.node_semver.specs.Least.{AdmitsBeyond, AdmitsNoneBeyond, IsAdmittedBy, IsLeastBeyond};
 ghost use Rattle.node_semver.specs.Private.BeyondViews.{AreSetsTried, AreUppersTried, IsBelowBest, IsCutTrial};
 ghost use Rattle.node_semver.specs.Private.BeyondViews.{IsLeastBeyondOrNone, IsLeastOpened, IsOpenTrial, IsSetTrial};
@@ -16,8 +16,9 @@ use crate::range::least::candidates::ReleaseCandidate;
 use crate::range::least::unbuilt::Unbuilt;
 use crate::{Comparisons, Range, Version};
 use semver_cuts::{Cut, Span};
-use semver_sets::end::End;
-use semver_sets::set::{AsVersion, admits};
+use semver_sets::set::admits;
+use semver_versions::AsVersion;
+use semver_versions::end::End;
 use std::alloc::{AllocError, Global};
 
 impl Range {

@@ -4,13 +4,13 @@
 //! `#[inline(always)]`: each function is a few stores or comparisons in the loop over the candidates.
 ghost use Rattle.std.specs.Prelude.{◌≡◌, ◌↔◌, IsTrue};
 ghost use Rattle.std.specs.declared.cmp.Ordering.TheVariants.{Less};
-ghost use Rattle.semver_sets.specs.Comparison.{prerelease_cmp, version_cmp};
-ghost use Rattle.semver_sets.specs.Version.{least_of, release, without_build};
+ghost use Rattle.semver_versions.specs.Comparison.{prerelease_cmp, version_cmp};
+ghost use Rattle.semver_versions.specs.Version.{least_of, release, without_build};
 ghost use Rattle.node_semver.specs.Private.BeyondViews.{IsBelowBest};
 
 use crate::range::least::unbuilt::Unbuilt;
-use semver_sets::end::{BorrowedIdentifiers, End};
-use semver_sets::set::AsVersion;
+use semver_versions::AsVersion;
+use semver_versions::end::{BorrowedIdentifiers, End};
 use std::cmp::Ordering;
 
 impl<'a> Unbuilt<'a> {

@@ -6,17 +6,17 @@ ghost use Rattle.std.specs.Prelude.{◌≡◌, ◌↔◌, ◌++◌, [], ◌∷�
 ghost use Rattle.std.specs.declared.cmp.Ordering.TheVariants.{Less};
 ghost use Rattle.semver_cuts.specs.Ends.{IsCutBelow};
 ghost use Rattle.semver_cuts.specs.declared.cut.Cut.TheVariants.{Before};
-ghost use Rattle.semver_sets.specs.Comparison.{prerelease_cmp, version_cmp};
-ghost use Rattle.semver_sets.specs.Identifier.{value_of, values_of};
-ghost use Rattle.semver_sets.specs.IdentifierValue.{numeric};
-ghost use Rattle.semver_sets.specs.Version.{release};
+ghost use Rattle.semver_versions.specs.Comparison.{prerelease_cmp, version_cmp};
+ghost use Rattle.semver_versions.specs.Identifier.{value_of, values_of};
+ghost use Rattle.semver_versions.specs.IdentifierValue.{numeric};
+ghost use Rattle.semver_versions.specs.Version.{release};
 ghost use Rattle.node_semver.specs.Private.LeastViews.{IsInsideOrNone, with_zeros};
 
 use crate::{Identifier, Version};
 use semver_cuts::Cut;
-use semver_sets::end::{BorrowedIdentifiers, End, Zero};
-use semver_sets::identifier::copy::{copies_of, copies_with_zero};
-use semver_sets::identifier::order::cmp_prereleases;
+use semver_versions::end::{BorrowedIdentifiers, End, Zero};
+use semver_versions::identifier::copy::{copies_of, copies_with_zero};
+use semver_versions::identifier::order::cmp_prereleases;
 use std::alloc::{AllocError, Global};
 use std::marker::Model;
 
@@ -32,10 +32,10 @@ pub(crate) struct Unbuilt<'a> {
 }
 
 impl<'a> Model for Unbuilt<'a> {
-    ghost use Rattle.semver_sets.specs.Identifier.{values_of};
-    ghost use Rattle.semver_sets.specs.Private.EndViews.{borrowed_seen};
+    ghost use Rattle.semver_versions.specs.Identifier.{values_of};
+    ghost use Rattle.semver_versions.specs.EndViews.{borrowed_seen};
     ghost use Rattle.node_semver.specs.Private.LeastViews.{with_zeros};
-    ghost use Rattle.semver_sets.specs.Version.{VersionValue};
+    ghost use Rattle.semver_versions.specs.Version.{VersionValue};
 
     ghost Value = { VersionValue };
 

@@ -1,6 +1,6 @@
 use Rattle.std.proofs.Common.{take}
 use Rattle.std.specs.Option.{option_map}
-use Rattle.node_semver.specs.Private.GreatestViews.{order_of}
+use Rattle.node_semver.specs.Lemmas.GreatestViews.{order_of}
 use Rattle.node_semver_c.specs.Greatest.{IsBestAtOrNone, values}
 use Rattle.node_semver_c.proofs.greatest.best_of.Given as goal
 

@@ -2,7 +2,7 @@ use Rattle.std.proofs.Common.{refl}
 use Rattle.node_semver_c.specs.Greatest.{values}
 use Rattle.node_semver_c.proofs.GreatestPlaces.{greatest-at, some-admitted}
 use Rattle.node_semver_c.proofs.greatest.place_of_greatest.Goals as goal
-use Rattle.semver_sets.specs.Comparison.{version_cmp}
+use Rattle.semver_versions.specs.Comparison.{version_cmp}
 
 pub returns-in-Some-clause-greatest : goal.returns-in-Some-clause-greatest
 returns-in-Some-clause-greatest c _ = greatest-at c.args.range.now (values c.args.versions.now) c.in-Some.found

@@ -1,7 +1,7 @@
 -- Each step adds what one range more admits.
 use Rattle.semver_cuts.specs.SpanLists.{IsInSome}
-use Rattle.semver_sets.specs.Comparison.{version_cmp}
-use Rattle.semver_sets.specs.Meaning.{RangeAdmits}
+use Rattle.node_semver.specs.Versions.{version_cmp}
+use Rattle.node_semver.specs.Ranges.{RangeAdmits}
 use Rattle.node_semver_callers.proofs.UnionHits.{of-all, of-first, of-next}
 use Rattle.node_semver_callers.proofs.spared.union_of.Goals as goal
 

@@ -2,9 +2,9 @@
 use Rattle.std.proofs.Common.{suc, take}
 use Rattle.semver_cuts.specs.declared.cut.Cut.{Cut}
 use Rattle.semver_cuts.specs.SpanLists.{IsInSome}
-use Rattle.semver_sets.specs.Comparison.{version_cmp}
-use Rattle.semver_sets.specs.Meaning.{RangeAdmits}
-use Rattle.semver_sets.specs.Version.{VersionValue}
+use Rattle.node_semver.specs.Versions.{version_cmp}
+use Rattle.node_semver.specs.Ranges.{RangeAdmits}
+use Rattle.node_semver.specs.Versions.{VersionValue}
 use Rattle.node_semver_callers.proofs.UnionHits.{IsOfSome}
 use Rattle.node_semver_callers.proofs.spared.union_of.Given as goal
 

@@ -1,6 +1,6 @@
 -- What the range admits is what its text admits, and a text that is refused admits nothing.
 use Rattle.std.proofs.Common.{◌≡◌, true, ap, inl, inr, rules}
-use Rattle.node_semver.specs.Error.{Refusal}
+use Rattle.node_semver.specs.Errors.{Refusal}
 use Rattle.npm_lock.proofs.verdict.is_admitted.Goals as goal
 
 pub returns-in-Ok : goal.returns-in-Ok

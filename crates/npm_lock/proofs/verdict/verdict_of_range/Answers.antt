@@ -1,5 +1,5 @@
 use Rattle.std.proofs.Common.{◌≡◌, true, ap, option_map}
-use Rattle.node_semver.specs.Error.{Refusal}
+use Rattle.node_semver.specs.Errors.{Refusal}
 use Rattle.npm_lock.specs.Verdict.{no_version, satisfied, unsatisfied}
 use Rattle.npm_lock.proofs.verdict.verdict_of_range.Goals as goal
 

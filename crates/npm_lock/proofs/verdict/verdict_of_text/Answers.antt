@@ -1,6 +1,6 @@
 use Rattle.std.proofs.Common.{◌≡◌, ◌∙◌, true, ap, inl, inr, sym}
-use Rattle.node_semver.specs.Error.{Refusal}
-use Rattle.semver_sets.specs.Meaning.{IsRefused}
+use Rattle.node_semver.specs.Errors.{Refusal}
+use Rattle.node_semver.specs.Ranges.{IsRefused}
 use Rattle.npm_lock.specs.Verdict.{any, bad_range, tag}
 use Rattle.npm_lock.proofs.verdict.verdict_of_text.Goals as goal
 

@@ -1,5 +1,5 @@
 use Rattle.std.proofs.Common.{◌≡◌, true, ap, refl}
-use Rattle.node_semver.specs.Error.{Refusal}
+use Rattle.node_semver.specs.Errors.{Refusal}
 use Rattle.npm_lock_check.specs.Arguments.{no_memory, no_version, version}
 use Rattle.npm_lock_check.proofs.arguments.version_of.Goals as goal
 

@@ -1,6 +1,6 @@
 -- No newline byte stands before this place.
 use Rattle.memchr.specs.Find.{Nowhere, Passes, is_byte}
-use Rattle.node_semver.specs.ErrorLocation.{newline}
+use Rattle.semver_versions.specs.ErrorLocation.{newline}
 use Rattle.semver_pairs.proofs.lines.newline_place.Given as goal
 
 abbrev pub invariant-loop-at : goal.invariant-loop-at

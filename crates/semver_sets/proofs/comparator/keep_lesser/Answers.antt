@@ -2,8 +2,8 @@ use Rattle.std.proofs.Common.{◌≡◌, false, refl, sym, ◌∙◌, inr}
 use Rattle.std.specs.Ordering.{is_lt}
 use Rattle.semver_cuts.specs.Cut.{cut_cmp}
 use Rattle.semver_cuts.specs.Lemmas.Ends.{at_most-from_not_lt}
-use Rattle.semver_sets.specs.Comparison.{version_cmp}
-use Rattle.semver_sets.specs.Lemmas.Order.{version_total}
+use Rattle.semver_versions.specs.Comparison.{version_cmp}
+use Rattle.semver_versions.specs.Lemmas.Order.{version_total}
 use Rattle.semver_sets.proofs.comparator.keep_lesser.Goals as goal
 
 pub returns-else-lt : goal.returns-else-lt

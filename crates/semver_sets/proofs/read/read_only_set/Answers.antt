@@ -6,7 +6,7 @@ use Rattle.std.specs.Prelude.{◌==◌}
 use Rattle.std.specs.Option.{is_some}
 use Rattle.semver_sets.specs.Private.PieceReading.{piece_at, some_seen}
 use Rattle.semver_sets.specs.Private.RangeViews.{IsSetOfAlternative}
-use Rattle.semver_sets.proofs.Ranges.RangeReading.{none-left, none-read, one-read}
+use Rattle.semver_sets.proofs.Ranges.RangeReading.{none-left, none-read, one-read, one-value}
 use Rattle.semver_sets.proofs.Ranges.DivisionLemmas.{completes-end, completes-nothing}
 use Rattle.semver_sets.proofs.Sets.AlternativeSets.{common-set, later-set}
 use Rattle.semver_sets.proofs.read.read_only_set.Goals as goal
@@ -55,3 +55,7 @@ returns-in-Ok-None-clause-refused c =
     λ e. none-read c.args.text.now piece (whole c.args.text.now piece c.next_piece.result.1 left c.next_piece.ensures)
     (later-set piece words None c.skip_thrown_away-words.ensures
     (subst (IsSetOfAlternative words) c.in-Ok-None.field-0-is c.in-Ok-None.ensures))
+
+pub returns-in-Ok-Some-clause-holds : goal.returns-in-Ok-Some-clause-holds
+returns-in-Ok-Some-clause-holds c =
+    (one-value c.args.text.now c.in-Ok-Some.set (returns-in-Ok-Some-clause-set c)).each.0

@@ -1,13 +1,13 @@
 use Rattle.std.proofs.Common.{◌≡◌, ◌<◌, ℕ, Bool, false, List, [], ◌∷◌, None, length, arith, ap, sym, subst, ◌∙◌}
 use Rattle.std.specs.Prelude.{◌==◌}
-use Rattle.semver_sets.specs.Characters.{BeginsWithNo, is_blank}
+use Rattle.semver_versions.specs.Characters.{BeginsWithNo, is_blank}
 use Rattle.semver_sets.specs.Comparator.{Comparator}
 use Rattle.semver_sets.specs.Division.{IsAlternative}
-use Rattle.semver_sets.specs.Private.Reading.{rest_of}
+use Rattle.semver_versions.specs.Reading.{rest_of}
 use Rattle.semver_sets.specs.Private.WordReading.{is_solid, or_else, or_thrown_away, read_hyphen, read_simple}
 use Rattle.semver_sets.specs.Private.WordReading.{read_word}
 use Rattle.semver_sets.proofs.Ranges.DivisionLemmas.{completes-more, completes-nothing, next-shorter}
-use Rattle.semver_sets.proofs.Texts.Prefixes.{rest_of-no}
+use Rattle.semver_versions.specs.Lemmas.Texts.Prefixes.{rest_of-no}
 use Rattle.semver_sets.proofs.word.skip_thrown_away.Goals as goal
 
 -- a word that begins no comparator

@@ -1,8 +1,8 @@
 use Rattle.std.proofs.Common.{rules, ◌↔◌, IsTrue}
 use Rattle.semver_cuts.specs.Sharing.{CoversAll}
 use Rattle.semver_cuts.specs.Lemmas.Difference.{difference-covered}
-use Rattle.semver_sets.specs.Comparison.{version_cmp}
-use Rattle.semver_sets.specs.Lemmas.Order.{version_total}
+use Rattle.semver_versions.specs.Comparison.{version_cmp}
+use Rattle.semver_versions.specs.Lemmas.Order.{version_total}
 use Rattle.node_semver.proofs.range.Range.allows_all.Goals as goal
 
 pub returns-clause-difference : goal.returns-clause-difference

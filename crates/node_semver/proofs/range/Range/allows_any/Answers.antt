@@ -2,8 +2,8 @@ use Rattle.std.proofs.Common.{rules, ◌↔◌, IsTrue}
 use Rattle.semver_cuts.specs.Sharing.{ShareCut}
 use Rattle.semver_cuts.specs.Lemmas.CommonSpans.{common_spans-any}
 use Rattle.semver_cuts.specs.Lemmas.Sharing.{shares_cut-back}
-use Rattle.semver_sets.specs.Comparison.{version_cmp}
-use Rattle.semver_sets.specs.Lemmas.Order.{version_total}
+use Rattle.semver_versions.specs.Comparison.{version_cmp}
+use Rattle.semver_versions.specs.Lemmas.Order.{version_total}
 use Rattle.node_semver.proofs.range.Range.allows_any.Goals as goal
 
 pub returns-clause-symmetric : goal.returns-clause-symmetric

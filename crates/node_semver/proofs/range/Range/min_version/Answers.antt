@@ -1,6 +1,6 @@
 use Rattle.std.proofs.Common.{IfOk, List, Some, ◌∙◌, subst}
 use Rattle.semver_cuts.specs.Ends.{Ends}
-use Rattle.semver_sets.specs.Version.{VersionValue}
+use Rattle.semver_versions.specs.Version.{VersionValue}
 use Rattle.node_semver.specs.Private.LeastViews.{IsLeastOfSets}
 use Rattle.node_semver.proofs.Least.LeastOfSets.{none-found, some-found}
 use Rattle.node_semver.proofs.range.Range.min_version.Goals as goal

@@ -1,11 +1,10 @@
 use Rattle.std.proofs.Common.{rules, ◌≡◌, ◌++◌, inl, inr}
 use Rattle.semver_cuts.specs.Lemmas.InSome.{in_some-either, in_some-left, in_some-right}
 use Rattle.semver_cuts.specs.Lemmas.Lists.{any-either, any-left, any-right}
-use Rattle.semver_sets.specs.Comparison.{version_cmp}
+use Rattle.semver_versions.specs.Comparison.{version_cmp}
 use Rattle.semver_sets.specs.Meaning.{SetAdmits}
-use Rattle.semver_sets.specs.Version.{VersionValue}
+use Rattle.semver_versions.specs.Version.{VersionValue}
 use Rattle.semver_cuts.specs.Ends.{Ends}
-use Rattle.semver_sets.proofs.Ranges.JoinedTexts.{sets-of_joined}
 use Rattle.node_semver.proofs.range.Range.union.Goals as goal
 
 pub returns-clause-cuts : goal.returns-clause-cuts
@@ -38,4 +37,4 @@ pub returns-clause-text : goal.returns-clause-text
 returns-clause-text c =
     let joined : c.of_searched.result ≡ c.args.self.now ++ c.args.other.now = search rules in
     λ one another joinable first second.
-    rw joined (sets-of_joined one another c.args.self.now c.args.other.now joinable first second)
+    rw joined (c.joined_texts_write_all_sets.ensures one another c.args.self.now c.args.other.now joinable first second)

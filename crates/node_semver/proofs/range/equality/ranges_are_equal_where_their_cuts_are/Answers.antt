@@ -1,4 +1,4 @@
-use Rattle.semver_sets.specs.Lemmas.Hash.{range_alike}
+use Rattle.semver_sets.specs.Lemmas.RangeHash.{range_alike}
 use Rattle.node_semver.specs.Lemmas.RangeEquality.{cuts-from_test, test-from_cuts}
 use Rattle.node_semver.proofs.Sets.RangeEquality.{same-admit}
 use Rattle.node_semver.proofs.range.equality.ranges_are_equal_where_their_cuts_are.Goals as goal

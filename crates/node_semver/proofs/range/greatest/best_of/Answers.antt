@@ -1,8 +1,8 @@
 use Rattle.std.proofs.Common.{List, map, subst}
 use Rattle.std.proofs.lemmas.List.{take_all}
 use Rattle.std.specs.Option.{option_map}
-use Rattle.node_semver.specs.Private.GreatestViews.{IsBestOrNone, order_of}
-use Rattle.node_semver.proofs.Least.GreatestLemmas.{each-order, taken-best}
+use Rattle.node_semver.specs.Lemmas.GreatestViews.{IsBestOrNone, order_of}
+use Rattle.node_semver.specs.Lemmas.GreatestLemmas.{each-order, taken-best}
 use Rattle.node_semver.proofs.range.greatest.best_of.Goals as goal
 
 pub versions-preserved : goal.versions-preserved

@@ -1,6 +1,6 @@
 use Rattle.std.proofs.Common.{map, take}
 use Rattle.std.specs.Option.{option_map}
-use Rattle.node_semver.specs.Private.GreatestViews.{IsBestOrNone, order_of}
+use Rattle.node_semver.specs.Lemmas.GreatestViews.{IsBestOrNone, order_of}
 use Rattle.node_semver.proofs.range.greatest.best_of.Given as goal
 
 abbrev pub invariant-versions : goal.invariant-versions

@@ -1,6 +1,6 @@
 use Rattle.std.proofs.Common.{map}
-use Rattle.semver_sets.specs.Comparison.{version_cmp}
-use Rattle.node_semver.proofs.Least.GreatestLemmas.{greatest-found, none-found}
+use Rattle.semver_versions.specs.Comparison.{version_cmp}
+use Rattle.node_semver.specs.Lemmas.GreatestLemmas.{greatest-found, none-found}
 use Rattle.node_semver.proofs.range.greatest.max_satisfying.Goals as goal
 
 pub returns-clause-greatest : goal.returns-clause-greatest

@@ -1,6 +1,6 @@
 use Rattle.std.proofs.Common.{map}
-use Rattle.node_semver.specs.Private.GreatestViews.{downward}
-use Rattle.node_semver.proofs.Least.GreatestLemmas.{least-found, none-found}
+use Rattle.node_semver.specs.Lemmas.GreatestViews.{downward}
+use Rattle.node_semver.specs.Lemmas.GreatestLemmas.{least-found, none-found}
 use Rattle.node_semver.proofs.range.greatest.min_satisfying.Goals as goal
 
 pub returns-clause-least : goal.returns-clause-least

@@ -1,6 +1,6 @@
 use Rattle.std.proofs.Common.{[], ◌≡◌, ◌+◌, ◌∙◌, ap, sym, subst}
-use Rattle.semver_sets.specs.Private.EndViews.{build_seen}
-use Rattle.semver_sets.specs.Version.{VersionValue}
+use Rattle.semver_versions.specs.EndViews.{build_seen}
+use Rattle.semver_versions.specs.Version.{VersionValue}
 use Rattle.node_semver.proofs.Least.LeastLemmas.{before-least, candidate-least, patch-candidate, start-candidate}
 use Rattle.node_semver.proofs.Least.LeastLemmas.{zero-candidate}
 use Rattle.node_semver.specs.Private.LeastViews.{IsInsideOrNone, IsLeastInSet, IsLeastOfTriple}

@@ -1,12 +1,6 @@
 use Rattle.std.proofs.Common.{[], ◌∷◌, subst, sym}
 use Rattle.semver_sets.specs.Merging.{AreSetsOfText}
-use Rattle.semver_sets.proofs.Ranges.RangeReading.{one-value}
 use Rattle.node_semver.proofs.range.read.range_of_words.Goals as goal
-
-pub of_set-requires : goal.of_set-requires
-of_set-requires c =
-    let sets = subst (λ t. AreSetsOfText t (c.in-Ok.set ∷ [])) c.as_bytes.ensures.value c.in-Ok.ensures.set in
-    (one-value c.args.text.now _ sets).each.0
 
 pub returns-in-Ok : goal.returns-in-Ok
 returns-in-Ok c =

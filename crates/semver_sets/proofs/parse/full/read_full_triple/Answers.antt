@@ -1,6 +1,7 @@
 use Rattle.std.proofs.Common.{◌∙◌, ℕ, List, Ok, arith}
-use Rattle.semver_sets.specs.Private.Reading.{Read}
-use Rattle.semver_sets.proofs.Words.PartialViews.{behind-dot, full-text, read-ok}
+use Rattle.semver_versions.specs.Reading.{Read}
+use Rattle.semver_sets.proofs.Words.PartialViews.{behind-dot, full-text}
+use Rattle.semver_versions.specs.Lemmas.Texts.CleanExtras.{read-ok}
 use Rattle.semver_sets.proofs.Words.WordViews.{no-bytes}
 use Rattle.semver_sets.proofs.parse.full.read_full_triple.Goals as goal
 

@@ -1,7 +1,8 @@
 use Rattle.std.proofs.Common.{◌≡◌, arith, sym, ◌∙◌, ◌<◌, ◌≢◌, false, get_or, length, rules}
 use borrow.Author.Tests.{ltb-true}
-use Rattle.semver_sets.specs.Characters.{is_digit}
-use Rattle.semver_sets.proofs.Words.PartialViews.{no-component, no-digit_first, no-x_first, number-limit, read-ok}
+use Rattle.semver_versions.specs.Characters.{is_digit}
+use Rattle.semver_sets.proofs.Words.PartialViews.{no-component, no-digit_first, no-x_first, number-limit}
+use Rattle.semver_versions.specs.Lemmas.Texts.CleanExtras.{read-ok}
 use Rattle.semver_sets.proofs.parse.partial.read_component.Goals as goal
 use Rattle.semver_sets.proofs.parse.partial.read_component.Goals.{in_default-via-then-text-lt1}
 use Rattle.semver_sets.proofs.parse.partial.read_component.Goals.{in_default-via-in-len1-up+else-is_digit+in_default}

@@ -1,6 +1,6 @@
 use Rattle.std.proofs.Common.{arith, ap, ◌∙◌, ◌<◌, ◌≢◌, get_or, length}
 use borrow.Author.Tests.{ltb-true}
-use Rattle.semver_sets.specs.Characters.{dot}
+use Rattle.semver_versions.specs.Characters.{dot}
 use Rattle.semver_sets.specs.Private.WordViews.{read_partial_seen}
 use Rattle.semver_sets.proofs.Words.PartialViews.{behind-dot, components-one, components-two, components-three}
 use Rattle.semver_sets.proofs.Words.PartialViews.{no-dot_first, none-one, none-two, none-three}

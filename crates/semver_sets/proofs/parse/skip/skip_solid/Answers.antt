@@ -2,9 +2,9 @@ use Rattle.std.proofs.Common.{◌≡◌, ◌<◌, ℕ, true, List, arith, get_or
 use Rattle.std.specs.Prelude.{not}
 use Rattle.std.proofs.lemmas.Bool.{cases_Bool}
 use Rattle.memchr.specs.Find.{Nowhere, Passes, is_byte2}
-use Rattle.semver_sets.specs.Characters.{is_blank}
+use Rattle.semver_versions.specs.Characters.{is_blank}
 use Rattle.semver_sets.specs.Private.WordReading.{is_solid}
-use Rattle.semver_sets.proofs.Texts.Places.{rest_of-each, rest_of-first, to-end}
+use Rattle.semver_versions.specs.Lemmas.Texts.Places.{rest_of-each, rest_of-first, to-end}
 use Rattle.semver_sets.proofs.parse.skip.skip_solid.Goals as goal
 
 -- there is no blank before place n

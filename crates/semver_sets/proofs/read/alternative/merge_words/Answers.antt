@@ -2,15 +2,15 @@ use Rattle.std.proofs.Common.{◌≡◌, ◌<◌, ℕ, Bool, true, false, List, 
 use Rattle.std.proofs.Common.{refl, sym, subst, ◌∙◌}
 use Rattle.std.specs.Prelude.{◌==◌}
 use Rattle.std.proofs.lemmas.Bool.{eqb-true}
-use Rattle.semver_sets.specs.Characters.{BeginsWithNo, is_blank}
+use Rattle.semver_versions.specs.Characters.{BeginsWithNo, is_blank}
 use Rattle.semver_sets.specs.Comparator.{Comparator}
 use Rattle.semver_sets.specs.Private.RangeViews.{IsCommonSpan}
-use Rattle.semver_sets.specs.Private.Reading.{rest_of}
+use Rattle.semver_versions.specs.Reading.{rest_of}
 use Rattle.semver_sets.specs.Private.WordReading.{leading_or_none, read_right, read_word}
 use Rattle.semver_sets.specs.Private.WordViews.{listed}
 use Rattle.semver_sets.proofs.Ranges.DivisionLemmas.{Completes, completes-end, completes-leading, completes-more}
 use Rattle.semver_sets.proofs.Ranges.DivisionLemmas.{next-shorter}
-use Rattle.semver_sets.proofs.Texts.Prefixes.{rest_of-no}
+use Rattle.semver_versions.specs.Lemmas.Texts.Prefixes.{rest_of-no}
 use Rattle.semver_sets.proofs.read.alternative.merge_words.Goals as goal
 
 -- the remaining text after its blanks

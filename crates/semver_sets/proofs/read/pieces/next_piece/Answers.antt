@@ -2,10 +2,10 @@ use Rattle.std.proofs.Common.{◌≡◌, ◌∙◌, ◌+◌, ◌-◌, ◌<◌, �
 use Rattle.std.specs.Option.{is_some}
 use Rattle.std.proofs.lemmas.List.{length-drop}
 use Rattle.memchr.specs.Find.{NoneBefore, Nowhere, Passes, is_byte}
-use Rattle.semver_sets.specs.Characters.{bar}
+use Rattle.semver_versions.specs.Characters.{bar}
 use Rattle.semver_sets.specs.Private.PieceReading.{bars_after, some_seen}
 use Rattle.semver_sets.proofs.Ranges.PieceLemmas.{Passed, pass-to_bar, passed-end, seen-step, seen-stop}
-use Rattle.semver_sets.proofs.Texts.Places.{to-end}
+use Rattle.semver_versions.specs.Lemmas.Texts.Places.{to-end}
 use Rattle.semver_sets.proofs.read.pieces.next_piece.Goals as goal
 
 -- the text after the first i characters

@@ -1,11 +1,11 @@
 use Rattle.std.proofs.Common.{◌≡◌, ◌<◌, ◌∙◌, ℕ, List, [], ◌∷◌, ◌++◌, Option, Some, ap, subst, sym}
 use Rattle.semver_cuts.specs.Ends.{Ends}
-use Rattle.semver_sets.specs.Characters.{is_blank}
+use Rattle.semver_versions.specs.Characters.{is_blank}
 use Rattle.semver_sets.specs.Merging.{AreSetsOf, none}
-use Rattle.semver_sets.specs.Version.{VersionValue}
+use Rattle.semver_versions.specs.Version.{VersionValue}
 use Rattle.semver_sets.specs.Private.PieceReading.{some_seen}
 use Rattle.semver_sets.specs.Private.RangeViews.{IsSetOfAlternative, listed_set}
-use Rattle.semver_sets.specs.Private.Reading.{rest_of}
+use Rattle.semver_versions.specs.Reading.{rest_of}
 use Rattle.semver_sets.proofs.Ranges.AlternativeLemmas.{Reads, left-shorter, left_length, reads-more, reads-start}
 use Rattle.semver_sets.proofs.Ranges.RangeReading.{all-read}
 use Rattle.semver_sets.proofs.Sets.SetLemmas.{reads-set}

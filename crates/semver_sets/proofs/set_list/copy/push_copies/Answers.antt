@@ -1,5 +1,5 @@
 use Rattle.semver_sets.specs.RangeSets.{IsRangeSet}
-use Rattle.semver_sets.proofs.Ranges.RangeBounds.{set-below}
+use Rattle.semver_sets.specs.Lemmas.Bounds.{set-below}
 use Rattle.semver_sets.proofs.Sets.SomeElement.{all-at}
 use Rattle.semver_sets.proofs.set_list.copy.push_copies.Goals as goal
 

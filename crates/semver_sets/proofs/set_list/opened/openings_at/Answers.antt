@@ -1,4 +1,4 @@
-use Rattle.std.proofs.Common.{rules, of_calls, List, ◌≡◌, ◌≤◌, ◌-◌, ◌∙◌, arith, ap, drop, length, sym, subst, take}
+use Rattle.std.proofs.Common.{rules, of_calls, List, ◌≡◌, ◌-◌, ◌∙◌, arith, ap, drop, length, sym, subst, take}
 use Rattle.std.proofs.Common.{true, false}
 use Rattle.std.specs.List.{AllByRecursion}
 use Rattle.std.specs.List.Sorted.{IsPartitionedBy}

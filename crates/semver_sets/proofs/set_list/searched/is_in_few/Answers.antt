@@ -4,7 +4,7 @@ use Rattle.std.proofs.lemmas.List.{take_all}
 use Rattle.semver_cuts.specs.Ends.{Ends}
 use Rattle.semver_cuts.specs.Lemmas.Lists.{any-at, none-more}
 use Rattle.semver_sets.specs.Meaning.{RangeAdmits, SetAdmits}
-use Rattle.semver_sets.specs.Version.{VersionValue}
+use Rattle.semver_versions.specs.Version.{VersionValue}
 use Rattle.semver_sets.proofs.Sets.FewSets.{first-count, more-comparisons}
 use Rattle.semver_sets.proofs.set_list.searched.is_in_few.Goals as goal
 

@@ -1,7 +1,7 @@
 use Rattle.std.proofs.Common.{List, subst}
 use Rattle.std.proofs.lemmas.List.{take_all}
 use Rattle.semver_cuts.specs.Ends.{Ends}
-use Rattle.semver_sets.specs.Version.{VersionValue}
+use Rattle.semver_versions.specs.Version.{VersionValue}
 use Rattle.node_semver.specs.Private.BeyondViews.{AreSetsTried}
 use Rattle.node_semver.proofs.Least.BeyondSteps.{sets-more}
 use Rattle.node_semver.proofs.range.least.beyond.least_of_sets.Goals as goal

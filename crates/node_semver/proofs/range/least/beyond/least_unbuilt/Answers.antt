@@ -1,6 +1,6 @@
 use Rattle.std.proofs.Common.{List, ◌∙◌, subst}
 use Rattle.semver_cuts.specs.Ends.{Ends}
-use Rattle.semver_sets.specs.Version.{VersionValue}
+use Rattle.semver_versions.specs.Version.{VersionValue}
 use Rattle.node_semver.specs.Private.BeyondViews.{AreSetsTried, AreUppersTried}
 use Rattle.node_semver.proofs.Least.BeyondAnswers.{tried-least}
 use Rattle.node_semver.proofs.range.least.beyond.least_unbuilt.Goals as goal

@@ -1,7 +1,7 @@
 use Rattle.std.proofs.Common.{List, subst}
 use Rattle.std.proofs.lemmas.List.{take_all}
 use Rattle.semver_cuts.specs.Ends.{Ends}
-use Rattle.semver_sets.specs.Version.{VersionValue}
+use Rattle.semver_versions.specs.Version.{VersionValue}
 use Rattle.node_semver.specs.Private.BeyondViews.{AreUppersTried}
 use Rattle.node_semver.proofs.Least.BeyondSteps.{uppers-more}
 use Rattle.node_semver.proofs.range.least.beyond.least_with_others.Goals as goal

@@ -1,5 +1,5 @@
 use Rattle.std.proofs.Common.{◌∙◌, ap, subst}
-use Rattle.semver_sets.specs.Version.{VersionValue, release, without_build}
+use Rattle.semver_versions.specs.Version.{VersionValue, release, without_build}
 use Rattle.node_semver.specs.Private.BeyondViews.{IsTrial}
 use Rattle.node_semver.proofs.Least.BeyondSteps.{after-prerelease-trial}
 use Rattle.node_semver.proofs.range.least.beyond.try_after.Goals as goal

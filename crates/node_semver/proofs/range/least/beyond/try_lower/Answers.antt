@@ -1,5 +1,5 @@
 use Rattle.std.proofs.Common.{Some, refl, subst, sym}
-use Rattle.semver_sets.specs.Version.{VersionValue, release}
+use Rattle.semver_versions.specs.Version.{VersionValue, release}
 use Rattle.node_semver.specs.Private.BeyondViews.{IsTrial}
 use Rattle.node_semver.proofs.Least.BeyondSteps.{trial-found}
 use Rattle.node_semver.proofs.range.least.beyond.try_lower.Goals as goal

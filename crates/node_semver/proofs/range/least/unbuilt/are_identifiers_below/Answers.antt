@@ -1,5 +1,5 @@
 use Rattle.std.proofs.Common.{◌∙◌, sym}
-use Rattle.node_semver.proofs.Versions.ZeroLists.{answered, in-both, in-first-less, in-first-not, in-second}
+use Rattle.node_semver.proofs.Least.ZeroLists.{answered, in-both, in-first-less, in-first-not, in-second}
 use Rattle.node_semver.proofs.range.least.unbuilt.are_identifiers_below.Goals as goal
 
 pub returns-in-true-true : goal.returns-in-true-true

@@ -1,4 +1,4 @@
-use Rattle.node_semver.proofs.Versions.ZeroLists.{answered, last-zero}
+use Rattle.node_semver.proofs.Least.ZeroLists.{answered, last-zero}
 use Rattle.node_semver.proofs.range.least.unbuilt.is_with_zero.Goals as goal
 
 pub returns-then-is_zero : goal.returns-then-is_zero

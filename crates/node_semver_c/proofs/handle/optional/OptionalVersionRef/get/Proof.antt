@@ -5,7 +5,7 @@ use Prim.Native.Nat.{ℕ}
 use mathlib.Core.List.{List, [], ◌∷◌, ◌++◌}
 use seplogic.Ra.Ura.{Ura}
 use mir.Syntax.{named}
-use mir.Val.{Val, vptr, vnull, vstruct, vcons, vnil, of_list}
+use mir.Val.{Val, vptr, vstruct, vcons, vnil, of_list}
 use base.Logic.{SProp, ent, sep, emp, via, never, fst∗}
 use base.Fml.{Lft, Share, Fml, ftrue, fsep, flft}
 use prog.Wp.{Env, Calls, Loops, WpFn, Tables}
@@ -45,10 +45,9 @@ use denote.Triple.Walked.{says, Stays, stay_dropped, walk_of, ends_at, Goes-drop
 use Rattle.std.specs.Prelude.{MatchOption, Option, Some, None}
 use Rattle.std.specs.contracts.option.Option as option
 use Rattle.std.proofs.option.Made.{Some-of, none_of}
-use Rattle.std.proofs.VecSteps.Shapes.{after}
 use Rattle.node_semver_c.specs.Handles.{borrows, borrows_held}
-use Rattle.node_semver.specs.contracts.version.Version as V
-use Rattle.node_semver.proofs.version.Version.TheLaws as V-laws
+use Rattle.semver_versions.specs.contracts.version.Version as V
+use Rattle.semver_versions.proofs.version.Version.TheLaws as V-laws
 use Rattle.node_semver_c.specs.contracts.handle.optional.OptionalVersionRef as H
 use Rattle.node_semver_c.proofs.handle.optional.OptionalVersionRef.TheLaws.{lowers}
 use Rattle.node_semver_c.proofs.Lent as lent

@@ -34,7 +34,7 @@ use Rattle.std.specs.contracts.impls.GlobalAllocator.TheImpl.{ghosts}
 use Rattle.std.specs.contracts.alloc.Global as heap
 use Rattle.std.proofs.alloc.Global.TheLaws as heap_laws
 use Rattle.std.proofs.raw_atomic.Walks.{proved_at, leaves}
-use Rattle.node_semver.specs.contracts.version.Version as V
+use Rattle.semver_versions.specs.contracts.version.Version as V
 use Rattle.node_semver_c.proofs.Held.{boxed_tested, either_held}
 use Rattle.node_semver_c.proofs.Values.{Loose, both, al, loose_good, loose_in, some_good}
 use Rattle.node_semver_c.specs.contracts.handle.version.VersionHandle as H

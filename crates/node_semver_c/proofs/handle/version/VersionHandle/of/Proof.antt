@@ -26,7 +26,7 @@ use Rattle.std.specs.contracts.impls.GlobalAllocator.TheImpl.{ghosts}
 use Rattle.std.specs.contracts.alloc.Global as heap
 use Rattle.std.proofs.alloc.Global.TheLaws as heap_laws
 use Rattle.std.proofs.raw_atomic.Walks.{proved_at, leaves}
-use Rattle.node_semver.specs.contracts.version.Version as V
+use Rattle.semver_versions.specs.contracts.version.Version as V
 use Rattle.node_semver_c.proofs.Values.{both, Loose, loose_good, loose_out}
 use Rattle.node_semver_c.specs.contracts.handle.version.VersionHandle as H
 use Rattle.node_semver_c.specs.contracts.handle.version.VersionHandle.of as f

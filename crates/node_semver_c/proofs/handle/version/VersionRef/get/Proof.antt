@@ -40,8 +40,8 @@ use denote.Triple.Spec.{Meets, triple_of}
 use denote.Triple.Table.{entered}
 use denote.Triple.Walked.{says, Stays, stay_dropped, walk_of, ends_at, Goes-dropped, walk_Meets}
 use Rattle.std.proofs.VecSteps.Shapes.{after}
-use Rattle.node_semver.specs.contracts.version.Version as V
-use Rattle.node_semver.proofs.version.Version.TheLaws as V-laws
+use Rattle.semver_versions.specs.contracts.version.Version as V
+use Rattle.semver_versions.proofs.version.Version.TheLaws as V-laws
 use Rattle.node_semver_c.specs.contracts.handle.version.VersionRef as H
 use Rattle.node_semver_c.proofs.handle.version.VersionRef.TheLaws.{lowers}
 use Rattle.node_semver_c.proofs.Lent as lent

@@ -2,7 +2,7 @@ use Rattle.std.proofs.Common.{subst}
 use Rattle.std.specs.List.{AllByRecursion}
 use Rattle.semver_sets.specs.RangeSets.{IsRangeSet, sets_seen}
 use Rattle.semver_sets.specs.declared.set_list.Sets.{Sets}
-use Rattle.semver_sets.proofs.Ranges.RangeBounds.{set-below}
+use Rattle.semver_sets.specs.Lemmas.Bounds.{set-below}
 use Rattle.node_semver.proofs.range.algebra.copy.RangeClone.clone.Goals as goal
 
 pub copy_of-requires : goal.copy_of-requires

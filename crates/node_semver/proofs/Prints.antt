@@ -1,4 +1,0 @@
-pub mod PrintReading
-pub mod WordPrintReading
-pub mod SetPrintReading
-pub mod RangePrintReading

@@ -1,8 +1,0 @@
-use Rattle.semver_sets.proofs.Sets.Merging.{loses-nothing, merged-admits}
-use Rattle.node_semver.proofs.laws.merging_loses_nothing.Goals as goal
-
-pub returns : goal.returns
-returns c = record {
-  opened = λ comparators set v is. loses-nothing comparators set is v;
-  admits = λ comparators set v is. merged-admits comparators set is v;
-}

@@ -1,6 +1,0 @@
-use Rattle.std.proofs.Common.{rules}
-use Rattle.semver_sets.specs.Lemmas.Order.{version_order}
-use Rattle.node_semver.proofs.version.order.VersionOrd.cmp.Goals as goal
-
-pub returns-clause-order : goal.returns-clause-order
-returns-clause-order c = version_order _ _ _ (search rules)

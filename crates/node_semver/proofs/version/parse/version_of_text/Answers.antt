@@ -1,4 +1,0 @@
-use Rattle.node_semver.proofs.version.parse.version_of_text.Goals as goal
-
-pub returns-in-Err-clause-plain : goal.returns-in-Err-clause-plain
-returns-in-Err-clause-plain c = λ v h. c.in-Err.ensures.plain v (rw c.as_bytes.ensures.value h)

@@ -1,0 +1,197 @@
+-- The best version of a list that a range admits, as one version more is looked at: the greatest, or the least.
+use Rattle.std.proofs.Common.{◌≡◌, ◌↔◌, ◌+◌, ◌<◌, ◌∙◌, ℕ, List, [], ◌∷◌, ◌++◌, Option, Some, None, IfSome, IsNone}
+use Rattle.std.proofs.Common.{Bool, true, false, length, get_or, map, take, refl, sym, ap, subst, inl, inr, Less}
+use Rattle.std.proofs.Common.{append_assoc}
+use Rattle.std.proofs.lemmas.List.{map-append, take_more}
+use Rattle.std.specs.Cmp.{alike_right}
+use Rattle.std.specs.List.{AllByRecursion}
+use Rattle.std.specs.Option.{option_map}
+use Rattle.semver_cuts.specs.Ends.{Ends}
+use Rattle.semver_cuts.specs.Lemmas.Lists.{all-append}
+use Rattle.semver_versions.specs.Comparison.{version_cmp}
+use Rattle.semver_sets.specs.Meaning.{RangeAdmits}
+use Rattle.semver_versions.specs.Order.{IsBelow, IsSame}
+use Rattle.semver_versions.specs.Version.{VersionValue}
+use Rattle.semver_versions.specs.Lemmas.Order.{version-Equal, version-Less, version_total}
+use Rattle.node_semver.specs.Greatest.{AdmitsNoneIn, IsFirstBest, IsGreatestAdmitted, IsLeastAdmittedIn}
+use Rattle.node_semver.specs.Lemmas.GreatestViews.{IsBestOrNone, IsBetterOf, Order, downward, order_of}
+
+pub all-map : {X : Type 0} (P Q : X → Type 0) (xs : List X) → ((x : X) → P x → Q x) → AllByRecursion P xs
+    → AllByRecursion Q xs
+all-map P Q [] f all = tt
+all-map P Q (x ∷ xs) f all = (f x all.0, all-map P Q xs f all.1)
+
+-- the premises of an order of versions: true of precedence, and of precedence reversed
+pub record IsOrder (order : Order) : Type 0 where
+  pub not_itself : (v : VersionValue) → ¬ (order v v ≡ Less)
+  pub trans : (u v w : VersionValue) → order u v ≡ Less → order v w ≡ Less → order u w ≡ Less
+  pub alike : (u v w : VersionValue) → order u v ≡ Less → IsSame w v → order u w ≡ Less
+
+same-itself : (v : VersionValue) → IsSame v v
+same-itself v = record { triple = record { major = refl; minor = refl; patch = refl }; pre_release = refl }
+
+not-below_itself : (v : VersionValue) → ¬ (version_cmp v v ≡ Less)
+not-below_itself v less = cc (less, version-Equal v v (same-itself v))
+
+pub upward-order : IsOrder version_cmp
+upward-order = record {
+  not_itself = not-below_itself;
+  trans = version_total.trans;
+  alike = λ u v w less same. alike_right version_total w v u (version-Equal w v same) ∙ less;
+}
+
+pub downward-order : IsOrder downward
+downward-order = record {
+  not_itself = not-below_itself;
+  trans = λ u v w above below. version_total.trans w v u below above;
+  alike = λ u v w less same. version_total.congr w v u (version-Equal w v same) ∙ less;
+}
+
+pub each-order : (upward : Bool) → IsOrder (order_of upward)
+each-order true = upward-order
+each-order false = downward-order
+
+module _ (order : Order) (is : IsOrder order) (sets : List (Ends VersionValue)) where
+  abbrev Best : List VersionValue → VersionValue → Type 0
+  Best versions best =
+      IsFirstBest (λ (v : VersionValue) (w : VersionValue). order w v ≡ Less) sets versions best
+
+  -- no admitted version is better than this one
+  abbrev NoneBetter : VersionValue → VersionValue → Type 0
+  NoneBetter v w = RangeAdmits sets w → ¬ (order v w ≡ Less)
+
+  abbrev NoneSame : VersionValue → VersionValue → Type 0
+  NoneSame v w = RangeAdmits sets w → ¬ IsSame w v
+
+  -- the first that is admitted
+  abbrev pub take-first : (done : List VersionValue) (v : VersionValue) → AdmitsNoneIn sets done → RangeAdmits sets v
+      → Best (done ++ v ∷ []) v
+  take-first done v none admits = record {
+    before = done;
+    after = [];
+    parts = refl;
+    admitted = admits;
+    none_better = all-append (NoneBetter v) done (v ∷ [])
+        (all-map (λ (w : VersionValue). ¬ RangeAdmits sets w) (NoneBetter v) done
+        (λ w not admitted. absurd (not admitted)) none)
+        ((λ _. is.not_itself v), tt);
+    none_same = all-map (λ (w : VersionValue). ¬ RangeAdmits sets w) (NoneSame v) done
+        (λ w not admitted. absurd (not admitted)) none;
+  }
+
+  -- one that is better than the best so far
+  abbrev pub take-better : (done : List VersionValue) (best v : VersionValue) → Best done best → order best v ≡ Less
+      → RangeAdmits sets v → Best (done ++ v ∷ []) v
+  take-better done best v first better admits = record {
+    before = done;
+    after = [];
+    parts = refl;
+    admitted = admits;
+    none_better = all-append (NoneBetter v) done (v ∷ [])
+        (all-map (NoneBetter best) (NoneBetter v) done
+        (λ w none admitted beyond. none admitted (is.trans best v w better beyond)) first.none_better)
+        ((λ _. is.not_itself v), tt);
+    none_same = all-map (NoneBetter best) (NoneSame v) done
+        (λ w none admitted same. none admitted (is.alike best v w better same)) first.none_better;
+  }
+
+  -- one that is not admitted, or not better than the best so far
+  abbrev pub keep-best : (done : List VersionValue) (best v : VersionValue) → Best done best
+      → ¬ ((order best v ≡ Less) × RangeAdmits sets v) → Best (done ++ v ∷ []) best
+  keep-best done best v first not = record {
+    before = first.before;
+    after = first.after ++ v ∷ [];
+    parts = ap (λ (l : List VersionValue). l ++ v ∷ []) first.parts
+        ∙ append_assoc first.before (best ∷ first.after) (v ∷ []);
+    admitted = first.admitted;
+    none_better = all-append (NoneBetter best) done (v ∷ []) first.none_better
+        ((λ admitted better. not (better, admitted)), tt);
+    none_same = first.none_same;
+  }
+
+  more-best : (done : List VersionValue) (v : VersionValue) (best found : Option VersionValue)
+      → IsBestOrNone order sets done best → IsBetterOf order sets best v found
+      → IsBestOrNone order sets (done ++ v ∷ []) found
+  more-best done v None found none (inl (better, admits, taken)) =
+      subst (IsBestOrNone order sets (done ++ v ∷ [])) (sym taken) (take-first done v none admits)
+  more-best done v None found none (inr (not, kept)) = subst (IsBestOrNone order sets (done ++ v ∷ [])) (sym kept)
+      (all-append (λ (w : VersionValue). ¬ RangeAdmits sets w) done (v ∷ []) none
+      ((λ admitted. not (tt, admitted)), tt))
+  more-best done v (Some best) found first (inl (better, admits, taken)) =
+      subst (IsBestOrNone order sets (done ++ v ∷ [])) (sym taken) (take-better done best v first better admits)
+  more-best done v (Some best) found first (inr (not, kept)) =
+      subst (IsBestOrNone order sets (done ++ v ∷ [])) (sym kept) (keep-best done best v first not)
+
+  -- as a loop goes over the versions
+  pub taken-best : {T : Type 0} (seen : T → VersionValue) (versions : List T) (k : ℕ) (v : T)
+      (best found : Option VersionValue) → k < length versions → v ≡ get_or versions k v
+      → IsBestOrNone order sets (map seen (take k versions)) best → IsBetterOf order sets best (seen v) found
+      → IsBestOrNone order sets (map seen (take (k + 1) versions)) found
+  taken-best {T} seen versions k v best found lt at first better =
+      subst (λ (l : List T). IsBestOrNone order sets (map seen l) found)
+      (sym (take_more versions k v lt ∙ ap (λ (w : T). take k versions ++ w ∷ []) (sym at)))
+      (subst (λ (l : List VersionValue). IsBestOrNone order sets l found)
+      (sym (map-append seen (take k versions) (v ∷ [])))
+      (more-best (map seen (take k versions)) (seen v) best found first better))
+
+-- ---- the program's result
+
+-- the best by precedence is the greatest
+abbrev pub as-greatest : (sets : List (Ends VersionValue)) (versions : List VersionValue) (v : VersionValue)
+    → IsFirstBest (λ (w : VersionValue) (u : VersionValue). version_cmp u w ≡ Less) sets versions v
+    → IsGreatestAdmitted sets versions v
+as-greatest sets versions v first = record {
+  before = first.before;
+  after = first.after;
+  parts = first.parts;
+  admitted = first.admitted;
+  none_better = all-map (NoneBetter version_cmp upward-order sets v)
+      (λ (w : VersionValue). RangeAdmits sets w → ¬ IsBelow v w) versions
+      (λ w none admitted below. none admitted (version-Less v w below)) first.none_better;
+  none_same = first.none_same;
+}
+
+-- and by precedence turned round the least
+abbrev pub as-least : (sets : List (Ends VersionValue)) (versions : List VersionValue) (v : VersionValue)
+    → IsFirstBest (λ (w : VersionValue) (u : VersionValue). downward u w ≡ Less) sets versions v
+    → IsLeastAdmittedIn sets versions v
+as-least sets versions v first = record {
+  before = first.before;
+  after = first.after;
+  parts = first.parts;
+  admitted = first.admitted;
+  none_better = all-map (NoneBetter downward downward-order sets v)
+      (λ (w : VersionValue). RangeAdmits sets w → ¬ IsBelow w v) versions
+      (λ w none admitted below. none admitted (version-Less w v below)) first.none_better;
+  none_same = first.none_same;
+}
+
+pub greatest-found : {R : Type 0} (r : Option R) (now : R → VersionValue) (sets : List (Ends VersionValue))
+    (versions : List VersionValue) → IsBestOrNone version_cmp sets versions (option_map now r)
+    → IfSome r (λ v. IsGreatestAdmitted sets versions (now v))
+greatest-found (Some v) now sets versions first = as-greatest sets versions (now v) first
+greatest-found None now sets versions none = tt
+
+pub least-found : {R : Type 0} (r : Option R) (now : R → VersionValue) (sets : List (Ends VersionValue))
+    (versions : List VersionValue) → IsBestOrNone downward sets versions (option_map now r)
+    → IfSome r (λ v. IsLeastAdmittedIn sets versions (now v))
+least-found (Some v) now sets versions first = as-least sets versions (now v) first
+least-found None now sets versions none = tt
+
+pub none-at : (sets : List (Ends VersionValue)) (before after versions : List VersionValue) (v : VersionValue)
+    → versions ≡ before ++ v ∷ after → RangeAdmits sets v → ¬ AdmitsNoneIn sets versions
+none-at sets before after versions v parts admits none =
+    turned-away before (subst (AdmitsNoneIn sets) parts none)
+  where
+    turned-away : (l : List VersionValue) → ¬ AdmitsNoneIn sets (l ++ v ∷ after)
+    turned-away [] none = none.0 admits
+    turned-away (w ∷ l) none = turned-away l none.1
+
+pub none-found : {R : Type 0} (order : Order) (r : Option R) (now : R → VersionValue) (sets : List (Ends VersionValue))
+    (versions : List VersionValue) → IsBestOrNone order sets versions (option_map now r)
+    → IsNone r ↔ AdmitsNoneIn sets versions
+none-found order (Some v) now sets versions first = (
+  λ e. cc e,
+  λ none. absurd (none-at sets first.before first.after versions (now v) first.parts first.admitted none),
+)
+none-found order None now sets versions none = ((λ e. none), (λ e. refl))

@@ -1,0 +1,3 @@
+pub mod WordPrintReading
+pub mod SetPrintReading
+pub mod RangePrintReading

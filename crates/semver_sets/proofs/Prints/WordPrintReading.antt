@@ -1,0 +1,158 @@
+-- The print of a version, alone or after an operator, is a word with that comparator.
+use Rattle.std.proofs.Common.{◌≡◌, ◌∙◌, ℕ, true, false, List, [], ◌∷◌, ◌++◌, Some, None, append_assoc, refl, sym, ap}
+use Rattle.std.proofs.Common.{subst, inl, inr}
+use Rattle.std.proofs.lemmas.Bool.{cases_Bool, eqb-true}
+use Rattle.std.specs.Prelude.{◌==◌}
+use Rattle.semver_versions.specs.Characters.{BeginsWith, BeginsWithNo, is_blank, is_digit, is_partial_mark}
+use Rattle.semver_sets.specs.Comparator.{Comparator, exactly}
+use Rattle.semver_sets.specs.Division.{IsSimpleText, IsWord, NoneAt, by_operator, plain, simple}
+use Rattle.semver_versions.specs.Characters.{IsCleanEnd}
+use Rattle.semver_sets.specs.HyphenRanges.{IsHyphenText}
+use Rattle.semver_sets.specs.Operators.{Operator, equal, greater, greater_or_equal, less, less_or_equal}
+use Rattle.semver_sets.specs.Operators.{operator_comparator, operator_text}
+use Rattle.semver_sets.specs.PartialText.{IsPartialText, IsUnmarkedPartial, Partial, three}
+use Rattle.semver_versions.specs.Print.{version_text}
+use Rattle.semver_versions.specs.Version.{VersionValue}
+use Rattle.semver_sets.specs.Private.WordReading.{Lead, is_solid, operator, read_hyphen, read_lead, read_partial}
+use Rattle.semver_sets.specs.Private.WordReading.{with_left}
+use Rattle.semver_sets.proofs.Words.HyphenReading.{left-ends, right-none}
+use Rattle.semver_sets.proofs.Words.LeadReading.{lead-not_partial, lead-operator}
+use Rattle.semver_sets.proofs.Words.NoBars.{HasNoBar, simple-none}
+use Rattle.semver_sets.proofs.Words.PartialReading.{partial-again}
+use Rattle.semver_versions.specs.Lemmas.Texts.Prefixes.{begins-append}
+use Rattle.semver_sets.proofs.Words.WordLemmas.{hyphen-with_left, no-hyphen, right-no_blank}
+use Rattle.semver_versions.specs.Lemmas.Texts.Characters.{digit-no_blank}
+use Rattle.semver_versions.specs.Lemmas.Versions.PrintReading.{IsTextVersion, print-begins, three-printed, unmarked}
+
+-- ---- the print of a version as a partial
+
+-- a version as a full partial
+abbrev partial_of : VersionValue → Partial
+partial_of v = record {
+  major = Some v.major;
+  minor = Some v.minor;
+  patch = Some v.patch;
+  pre_release = v.pre_release;
+  build = v.build;
+}
+
+unmarked-printed : (v : VersionValue) → IsTextVersion v → IsUnmarkedPartial (partial_of v) (version_text v)
+unmarked-printed v is =
+    let h = three-printed v is in
+    three (record {
+      first = h.first;
+      second = h.second;
+      third = h.third;
+      extras = h.extras;
+      whole = h.whole;
+      major_text = h.major_text;
+      minor_text = h.minor_text;
+      patch_text = h.patch_text;
+      digits_end = h.digits_end;
+      extras_text = h.extras_text;
+    })
+
+-- a digit is no `v`
+digit-no_v : (b : ℕ) → is_digit b ≡ true → is_partial_mark b ≡ false
+digit-no_v b h = elim (cases_Bool (is_partial_mark b)) [
+  | inr none ↦ none
+  | inl mark ↦ cc (sym h ∙ ap is_digit (eqb-true b 118 mark))
+]
+
+partial-printed : (v : VersionValue) → IsTextVersion v → IsPartialText (version_text v) (partial_of v)
+partial-printed v is =
+    unmarked is_partial_mark (IsUnmarkedPartial (partial_of v)) (version_text v) digit-no_v (print-begins v is)
+    (unmarked-printed v is)
+
+-- ---- words
+
+-- A word with this comparator, and this rest after it.
+pub record IsPrintedWord (text rest : List ℕ) (c : Comparator) : Type 0 where
+  pub word : IsWord text rest (Some c)
+  pub no_bar : HasNoBar text
+  pub begins : BeginsWith is_solid text
+
+-- what begins with a digit begins with no `=`
+digit-no_equals : (text : List ℕ) → BeginsWith is_digit text → BeginsWithNo (λ b. b == 61) text
+digit-no_equals [] digit = tt
+digit-no_equals (b ∷ text) digit = elim (cases_Bool (b == 61)) [
+  | inr none ↦ none
+  | inl here ↦ cc (sym digit ∙ ap is_digit (eqb-true b 61 here))
+]
+
+-- a character that is no blank, and the fact
+pub solid-begins : (text : List ℕ) → BeginsWith is_solid text → BeginsWithNo is_blank text
+solid-begins [] solid = tt
+solid-begins (b ∷ text) solid = elim (cases_Bool (is_blank b)) [
+  | inr none ↦ none
+  | inl blank ↦ cc (rw blank at solid)
+]
+
+digit-solid : (text : List ℕ) → BeginsWith is_digit text → BeginsWith is_solid text
+digit-solid [] digit = digit
+digit-solid (b ∷ text) digit = rw (digit-no_blank (b ∷ text) digit) refl
+
+-- an operator begins with no blank
+operator-begins : (o : Operator) (behind : List ℕ) → BeginsWith is_solid (operator_text o ++ behind)
+operator-begins greater_or_equal behind = refl
+operator-begins greater behind = refl
+operator-begins equal behind = refl
+operator-begins less_or_equal behind = refl
+operator-begins less behind = refl
+
+-- no hyphen range begins with one
+operator-no_hyphen : (o : Operator) (behind : List ℕ) → BeginsWithNo (λ b. b == 61) behind
+    → NoneAt IsHyphenText (operator_text o ++ behind)
+operator-no_hyphen o behind ends =
+    let text = operator_text o ++ behind in
+    let led : (read_lead text).0 ≡ operator o = ap (λ (l : Lead × List ℕ). l.0) (lead-operator o behind ends) in
+    let none : read_partial text ≡ None = lead-not_partial text (λ e. cc (sym led ∙ e)) in
+    no-hyphen text (hyphen-with_left text (right-no_blank text (solid-begins text (operator-begins o behind)))
+    ∙ ap with_left none)
+
+-- an operator and the print of a version: `>=1.2.3`
+pub operator-word : (o : Operator) (v : VersionValue) (rest : List ℕ) (c : Comparator) → IsTextVersion v
+    → IsCleanEnd rest
+    → Some c ≡ operator_comparator o (partial_of v) → IsPrintedWord (operator_text o ++ version_text v) rest c
+operator-word o v rest c is clean says =
+    let text = operator_text o ++ version_text v in
+    let written : IsSimpleText text (Some c) =
+    by_operator (record {
+      operator = o;
+      partial = partial_of v;
+      written = record {
+        blanks = [];
+        operand = version_text v;
+        whole = refl;
+        blank = refl;
+        read = partial-printed v is;
+      };
+      says = says;
+    }) in
+    let ends = digit-no_equals (version_text v ++ rest)
+    (begins-append is_digit (version_text v) rest (print-begins v is)) in
+    let none : NoneAt IsHyphenText (text ++ rest) =
+    subst (NoneAt IsHyphenText) (sym (append_assoc (operator_text o) (version_text v) rest))
+    (operator-no_hyphen o (version_text v ++ rest) ends) in
+    record {
+      word = simple none written clean;
+      no_bar = simple-none text (Some c) written;
+      begins = operator-begins o (version_text v);
+    }
+
+-- the print of a version, and no more: `1.2.3`
+pub version-word : (v : VersionValue) → IsTextVersion v → IsPrintedWord (version_text v) [] (exactly v)
+version-word v is =
+    let text = version_text v in
+    let partial = partial-printed v is in
+    let written : IsSimpleText text (Some (exactly v)) =
+    plain (record { partial = partial_of v; written = partial; says = refl }) in
+    let read : read_partial (text ++ []) ≡ Some (partial_of v, []) = partial-again text [] (partial_of v) partial tt in
+    let none : read_hyphen (text ++ []) ≡ None =
+    hyphen-with_left (text ++ []) (right-none (text ++ []) (partial_of v, []) read) ∙ ap with_left read
+    ∙ left-ends (partial_of v) in
+    record {
+      word = simple (no-hyphen (text ++ []) none) written tt;
+      no_bar = simple-none text (Some (exactly v)) written;
+      begins = digit-solid text (print-begins v is);
+    }

@@ -1,4 +1,0 @@
-pub mod VersionReading
-pub mod OneReading
-pub mod LeadingTriple
-pub mod Prereleases

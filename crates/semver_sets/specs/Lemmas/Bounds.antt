@@ -1,0 +1,34 @@
+-- What the sets of a range always hold, and when a list of them is empty.
+use Rattle.std.proofs.Common.{◌≡◌, ◌≢◌, ℕ, List, [], ◌∷◌, length, ap, arith, refl, sym, ◌∙◌, inr, false, ◌==◌}
+use Rattle.semver_cuts.specs.declared.cut.Cut.TheVariants.{Start}
+use Rattle.semver_cuts.specs.Ends.{Ends, HoldsCut, IsCutBelow}
+use Rattle.semver_cuts.specs.Lemmas.TwoSpans.{holds-below}
+use Rattle.semver_versions.specs.Comparison.{version_cmp}
+use Rattle.semver_versions.specs.Lemmas.Order.{version_total}
+use Rattle.semver_versions.specs.Version.{VersionValue}
+use Rattle.semver_sets.specs.Merging.{all_cuts}
+use Rattle.semver_sets.specs.RangeSets.{IsRangeSet, IsRangeValue}
+
+-- the ends of a set that holds a cut are in order
+pub set-below : (set : Ends VersionValue) → IsRangeSet set → IsCutBelow version_cmp set.lower set.upper
+set-below set is = (holds-below version_total set).0 is.holds
+
+-- the set of all cuts holds the first one
+pub all_cuts-hold : HoldsCut version_cmp all_cuts
+all_cuts-hold = (Start, record { lower = inr refl; upper = refl })
+
+pub all_cuts_bounded : IsRangeValue (all_cuts ∷ [])
+all_cuts_bounded = record {
+  some = λ same. cc same;
+  each = (record { holds = all_cuts-hold; lower = tt; upper = tt }, tt);
+}
+
+-- a list of no length is empty
+pub no-items : {X : Type 0} (items : List X) (len : ℕ) → len ≡ length items → len ≡ 0 → items ≡ []
+no-items [] len is zero = refl
+no-items (x ∷ items) len is zero = absurd (omega arith)
+
+-- items that are counted are some
+pub some-items : {X : Type 0} (items : List X) (count : ℕ) → count ≡ length items → (count == 0) ≡ false → items ≢ []
+some-items [] count same some = λ e. cc (sym some ∙ ap (λ (n : ℕ). n == 0) same)
+some-items (x ∷ items) count same some = λ e. cc e

@@ -1,0 +1,3 @@
+mod OrderExamples
+mod PrintExamples
+pub mod ErrorExamples

@@ -1,0 +1,2 @@
+pub mod VersionAnswers
+pub mod VersionParse

@@ -1,0 +1,13 @@
+use Rattle.std.proofs.Common.{ap, sym, ◌∙◌, List, ℕ}
+use Rattle.semver_versions.specs.IdentifierValue.{IdentifierValue}
+use Rattle.semver_versions.specs.Lemmas.Texts.CleanExtras.{clean_extras}
+use Rattle.semver_versions.proofs.parse.extras.skip_extras.Goals as goal
+
+-- a prerelease, a build and the rest
+abbrev Extras : Type 0
+Extras = (List IdentifierValue × List IdentifierValue) × List ℕ
+
+pub returns-then-begins_clean : goal.returns-then-begins_clean
+returns-then-begins_clean c =
+    let clean = sym c.begins_clean.ensures ∙ c.if-begins_clean.true in
+    sym (ap (λ (read : Extras). read.1) (clean_extras c.args.text.now clean))

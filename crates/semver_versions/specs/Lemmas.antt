@@ -1,0 +1,7 @@
+pub mod Order
+pub mod Hash
+pub mod Print
+-- ---- the readers of texts
+pub mod Texts
+-- ---- the readers of versions, and their faults
+pub mod Versions

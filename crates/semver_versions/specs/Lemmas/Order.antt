@@ -1,0 +1,328 @@
+-- The comparisons of `Order` are total orders, and agree with its relations.
+use Rattle.std.proofs.Common.{◌≡◌, ◌≢◌, ◌<◌, ◌↔◌, ℕ, List, [], ◌∷◌, ◌++◌, refl}
+use Rattle.std.proofs.Common.{sym, ap, subst, ◌∙◌, inl, inr, arith, Bool, IsTrue}
+use Rattle.std.specs.Ordering.{eq_by_cmp, nat_cmp, on, then_cmp, ordering_then, ordering_reverse}
+use Rattle.std.specs.Cmp.{Equal-is, IsTotalOrder, nat_cmp_total, on_total, then_total, tied_itself}
+use Rattle.std.specs.Cmp.Lexicographic.{slice_cmp, lists_total, nat_list_cmp_total}
+use Rattle.std.specs.FinMap.{IsAntisymmetric, nat_cmp-IsAntisymmetric, slice_cmp-IsAntisymmetric}
+use Rattle.std.proofs.lemmas.Cmp.{ranked}
+use Rattle.std.specs.declared.cmp.Ordering.{Ordering}
+use Rattle.std.specs.declared.cmp.Ordering.TheVariants.{Less, Equal, Greater}
+use Rattle.semver_cuts.specs.Lemmas.CutOrder.{then_equal}
+use Rattle.semver_versions.specs.IdentifierValue.{IdentifierValue, numeric, alphanumeric}
+use Rattle.semver_versions.specs.Version.{VersionValue, HasSameTriple}
+use Rattle.semver_versions.specs.Order.{IsListBelow, IsIdentifierBelow, IsBelow, by_major, by_minor, by_patch}
+use Rattle.semver_versions.specs.Order.{before_release, by_identifiers, IsSame, OrderMeans, IdentifierOrderMeans}
+use Rattle.semver_versions.specs.Comparison.{identifier_cmp, prerelease_cmp, version_cmp}
+
+-- ---- the orders are total
+
+-- 0 for a number, which comes first, and 1 for a text
+abbrev class : IdentifierValue → ℕ
+class (numeric n) = 0
+class (alphanumeric t) = 1
+
+abbrev number : IdentifierValue → ℕ
+number (numeric n) = n
+number (alphanumeric t) = 0
+
+abbrev text : IdentifierValue → List ℕ
+text (numeric n) = []
+text (alphanumeric t) = t
+
+abbrev identifier_by_parts : IdentifierValue → IdentifierValue → Ordering
+identifier_by_parts = then_cmp (on class nat_cmp) (then_cmp (on number nat_cmp) (on text (slice_cmp nat_cmp)))
+
+by_parts : (a b : IdentifierValue) → identifier_by_parts a b ≡ identifier_cmp a b
+by_parts (numeric m) (numeric n) = then_equal (nat_cmp m n)
+by_parts (numeric m) (alphanumeric t) = refl
+by_parts (alphanumeric s) (numeric n) = refl
+by_parts (alphanumeric s) (alphanumeric t) = refl
+
+pub identifier_total : IsTotalOrder identifier_cmp
+identifier_total = subst IsTotalOrder (λ i a b. by_parts a b i)
+    (then_total (on_total class nat_cmp_total)
+    (then_total (on_total number nat_cmp_total) (on_total text nat_list_cmp_total)))
+
+-- 1 for a release, which comes last, and 0 for a prerelease
+abbrev rank : List IdentifierValue → ℕ
+rank [] = 1
+rank (x ∷ xs) = 0
+
+by_rank : (xs ys : List IdentifierValue)
+    → then_cmp (on rank nat_cmp) (slice_cmp identifier_cmp) xs ys ≡ prerelease_cmp xs ys
+by_rank [] [] = refl
+by_rank [] (y ∷ ys) = refl
+by_rank (x ∷ xs) [] = refl
+by_rank (x ∷ xs) (y ∷ ys) = refl
+
+pub prerelease_total : IsTotalOrder prerelease_cmp
+prerelease_total = subst IsTotalOrder (λ i xs ys. by_rank xs ys i)
+    (then_total (on_total rank nat_cmp_total) (lists_total identifier_total))
+
+pub version_total : IsTotalOrder version_cmp
+version_total = then_total (on_total (λ (v : VersionValue). v.major) nat_cmp_total)
+    (then_total (on_total (λ (v : VersionValue). v.minor) nat_cmp_total)
+    (then_total (on_total (λ (v : VersionValue). v.patch) nat_cmp_total)
+    (on_total (λ (v : VersionValue). v.pre_release) prerelease_total)))
+
+-- ---- any total order
+
+-- greater is less the other way round
+pub Greater-turned : {K : Type 0} {R : K → K → Ordering} → IsTotalOrder R → (x y : K)
+    → (R x y ≡ Greater) ↔ (R y x ≡ Less)
+Greater-turned {R = R} o x y =
+    (λ e. by_reverse (R y x) (sym e ∙ o.antisymm x y), λ e. o.antisymm x y ∙ ap ordering_reverse e)
+  where
+    by_reverse : (r : Ordering) → Greater ≡ ordering_reverse r → r ≡ Less
+    by_reverse Less e = refl
+    by_reverse Equal e = cc e
+    by_reverse Greater e = cc e
+
+-- the first decides, unless it is `Equal`
+then-Less : (r s : Ordering) → r ≡ Less → ordering_then r s ≡ Less
+then-Less r s e = ap (λ k. ordering_then k s) e
+
+then-tied : (r s : Ordering) → r ≡ Equal → ordering_then r s ≡ s
+then-tied r s e = ap (λ k. ordering_then k s) e
+
+then-first : (r s : Ordering) → ordering_then r s ≡ Equal → r ≡ Equal
+then-first Less s e = cc e
+then-first Equal s e = refl
+then-first Greater s e = cc e
+
+then-second : (r s : Ordering) → ordering_then r s ≡ Equal → s ≡ Equal
+then-second Less s e = cc e
+then-second Equal s e = e
+then-second Greater s e = cc e
+
+-- ---- lists
+
+-- one more first element in both
+same-head : {A : Type 0} (Below : A → A → Type 0) (x : A) (xs ys : List A) → IsListBelow Below xs ys
+    → IsListBelow Below (x ∷ xs) (x ∷ ys)
+same-head Below x xs ys (inl b) = inl (record { next = b.next; rest = b.rest; goes_on = ap (λ l. x ∷ l) b.goes_on })
+same-head Below x xs ys (inr d) = inr (record {
+  common = x ∷ d.common;
+  next = d.next;
+  rest = d.rest;
+  other_next = d.other_next;
+  other_rest = d.other_rest;
+  first = ap (λ l. x ∷ l) d.first;
+  second = ap (λ l. x ∷ l) d.second;
+  below = d.below;
+})
+
+module _ {A : Type 0} (R : A → A → Ordering) (Below : A → A → Type 0) where
+  by_first : (x y : A) (xs ys : List A) → ((a b : A) → R a b ≡ Less → Below a b) → IsAntisymmetric R
+      → (slice_cmp R xs ys ≡ Less → IsListBelow Below xs ys)
+      → (r : Ordering) → R x y ≡ r → ordering_then r (slice_cmp R xs ys) ≡ Less → IsListBelow Below (x ∷ xs) (y ∷ ys)
+  by_first x y xs ys less same later Less p q = inr (record {
+    common = [];
+    next = x;
+    rest = xs;
+    other_next = y;
+    other_rest = ys;
+    first = refl;
+    second = refl;
+    below = less x y p;
+  })
+  by_first x y xs ys less same later Equal p q =
+      subst (λ z. IsListBelow Below (x ∷ xs) (z ∷ ys)) (same x y p) (same-head Below x xs ys (later q))
+  by_first x y xs ys less same later Greater p q = cc q
+
+  pub Less-list : ((a b : A) → R a b ≡ Less → Below a b) → IsAntisymmetric R
+      → (xs ys : List A) → slice_cmp R xs ys ≡ Less → IsListBelow Below xs ys
+  Less-list less same [] [] e = cc e
+  Less-list less same [] (y ∷ ys) e = inl (record { next = y; rest = ys; goes_on = refl })
+  Less-list less same (x ∷ xs) [] e = cc e
+  Less-list less same (x ∷ xs) (y ∷ ys) e = by_first x y xs ys less same (Less-list less same xs ys) (R x y) refl e
+
+module _ {A : Type 0} (R : A → A → Ordering) (o : IsTotalOrder R) where
+  ends-Less : (xs : List A) (next : A) (rest : List A) → slice_cmp R xs (xs ++ next ∷ rest) ≡ Less
+  ends-Less [] next rest = refl
+  ends-Less (x ∷ xs) next rest = then-tied _ _ (tied_itself o x) ∙ ends-Less xs next rest
+
+  differs-Less : (common : List A) (a b : A) (rest other_rest : List A) → R a b ≡ Less
+      → slice_cmp R (common ++ a ∷ rest) (common ++ b ∷ other_rest) ≡ Less
+  differs-Less [] a b rest other_rest e = then-Less _ _ e
+  differs-Less (x ∷ xs) a b rest other_rest e = then-tied _ _ (tied_itself o x) ∙ differs-Less xs a b rest other_rest e
+
+  pub list-Less : (Below : A → A → Type 0) → ((a b : A) → Below a b → R a b ≡ Less)
+      → (xs ys : List A) → IsListBelow Below xs ys → slice_cmp R xs ys ≡ Less
+  list-Less Below less xs ys (inl b) = subst (λ l. slice_cmp R xs l ≡ Less) (sym b.goes_on) (ends-Less xs b.next b.rest)
+  list-Less Below less xs ys (inr d) =
+      (λ i. slice_cmp R (d.first i) (d.second i))
+      ∙ differs-Less d.common d.next d.other_next d.rest d.other_rest (less d.next d.other_next d.below)
+
+-- ---- identifiers
+
+Less-number : (m n : ℕ) → nat_cmp m n ≡ Less → m < n
+Less-number m n e = ranked m n Less (sym e)
+
+number-Less : (m n : ℕ) → m < n → nat_cmp m n ≡ Less
+number-Less m n h = by_order (nat_cmp m n) refl
+  where
+    by_order : (r : Ordering) → nat_cmp m n ≡ r → r ≡ Less
+    by_order Less e = refl
+    by_order Equal e = let k : m ≡ n = ranked m n Equal (sym e) in absurd (omega arith)
+    by_order Greater e = let k : n < m = ranked m n Greater (sym e) in absurd (omega arith)
+
+pub Less-identifier : (a b : IdentifierValue) → identifier_cmp a b ≡ Less → IsIdentifierBelow a b
+Less-identifier (numeric m) (numeric n) e = Less-number m n e
+Less-identifier (numeric m) (alphanumeric t) e = tt
+Less-identifier (alphanumeric s) (numeric n) e = cc e
+Less-identifier (alphanumeric s) (alphanumeric t) e =
+    Less-list nat_cmp (λ x y. x < y) Less-number nat_cmp-IsAntisymmetric s t e
+
+pub identifier-Less : (a b : IdentifierValue) → IsIdentifierBelow a b → identifier_cmp a b ≡ Less
+identifier-Less (numeric m) (numeric n) h = number-Less m n h
+identifier-Less (numeric m) (alphanumeric t) h = refl
+identifier-Less (alphanumeric s) (numeric n) h = absurd h
+identifier-Less (alphanumeric s) (alphanumeric t) h = list-Less nat_cmp nat_cmp_total (λ x y. x < y) number-Less s t h
+
+-- identifiers that tie are the same
+pub identifier-IsAntisymmetric : IsAntisymmetric identifier_cmp
+identifier-IsAntisymmetric (numeric m) (numeric n) e = ap numeric (nat_cmp-IsAntisymmetric m n e)
+identifier-IsAntisymmetric (numeric m) (alphanumeric t) e = cc e
+identifier-IsAntisymmetric (alphanumeric s) (numeric n) e = cc e
+identifier-IsAntisymmetric (alphanumeric s) (alphanumeric t) e =
+    ap alphanumeric (slice_cmp-IsAntisymmetric nat_cmp-IsAntisymmetric s t e)
+
+-- `identifier_cmp` agrees with the relations
+pub identifier_cmp-means : (a b : IdentifierValue) → IdentifierOrderMeans a b (identifier_cmp a b)
+identifier_cmp-means a b = record {
+  below = (Less-identifier a b, identifier-Less a b);
+  same = (
+    identifier-IsAntisymmetric a b,
+    λ e. subst (λ c. identifier_cmp a c ≡ Equal) e (tied_itself identifier_total a),
+  );
+  above = (
+    λ e. Less-identifier b a ((Greater-turned identifier_total a b).0 e),
+    λ h. (Greater-turned identifier_total a b).1 (identifier-Less b a h),
+  );
+}
+
+-- the same for the result of a function
+pub identifier_order : (a b : IdentifierValue) (r : Ordering) → r ≡ identifier_cmp a b → IdentifierOrderMeans a b r
+identifier_order a b r e = subst (IdentifierOrderMeans a b) (sym e) (identifier_cmp-means a b)
+
+-- ---- versions
+
+-- prerelease lists that tie are the same
+pub prerelease-IsAntisymmetric : IsAntisymmetric prerelease_cmp
+prerelease-IsAntisymmetric [] [] e = refl
+prerelease-IsAntisymmetric [] (y ∷ ys) e = cc e
+prerelease-IsAntisymmetric (x ∷ xs) [] e = cc e
+prerelease-IsAntisymmetric (x ∷ xs) (y ∷ ys) e =
+    slice_cmp-IsAntisymmetric identifier-IsAntisymmetric (x ∷ xs) (y ∷ ys) e
+
+-- two prereleases are ordered by their lists
+both-prereleases : (xs ys : List IdentifierValue) → xs ≢ [] → ys ≢ []
+    → prerelease_cmp xs ys ≡ slice_cmp identifier_cmp xs ys
+both-prereleases [] ys n m = absurd (n refl)
+both-prereleases (x ∷ xs) [] n m = absurd (m refl)
+both-prereleases (x ∷ xs) (y ∷ ys) n m = refl
+
+prerelease-release : (xs ys : List IdentifierValue) → xs ≢ [] → ¬ (ys ≢ []) → prerelease_cmp xs ys ≡ Less
+prerelease-release [] ys n m = absurd (n refl)
+prerelease-release (x ∷ xs) [] n m = refl
+prerelease-release (x ∷ xs) (y ∷ ys) n m = absurd (m (λ e. cc e))
+
+Less-prereleases : (v w : VersionValue) → HasSameTriple v w → (xs ys : List IdentifierValue) → v.pre_release ≡ xs
+    → w.pre_release ≡ ys
+    → prerelease_cmp xs ys ≡ Less → IsBelow v w
+Less-prereleases v w t [] [] p q e = cc e
+Less-prereleases v w t [] (y ∷ ys) p q e = cc e
+Less-prereleases v w t (x ∷ xs) [] p q e = before_release t (λ n. cc (p, n)) (λ k. k q)
+Less-prereleases v w t (x ∷ xs) (y ∷ ys) p q e = by_identifiers t (λ n. cc (p, n)) (λ n. cc (q, n))
+    (Less-list identifier_cmp IsIdentifierBelow Less-identifier identifier-IsAntisymmetric v.pre_release w.pre_release
+    ((λ i. slice_cmp identifier_cmp (p i) (q i)) ∙ e))
+
+Less-patches : (v w : VersionValue) → v.major ≡ w.major → v.minor ≡ w.minor → (r : Ordering)
+    → nat_cmp v.patch w.patch ≡ r
+    → ordering_then r (prerelease_cmp v.pre_release w.pre_release) ≡ Less → IsBelow v w
+Less-patches v w a b Less p e = by_patch a b (Less-number v.patch w.patch p)
+Less-patches v w a b Equal p e = Less-prereleases v w
+    (record { major = a; minor = b; patch = nat_cmp-IsAntisymmetric v.patch w.patch p }) v.pre_release w.pre_release
+    refl refl e
+Less-patches v w a b Greater p e = cc e
+
+Less-minors : (v w : VersionValue) → v.major ≡ w.major → (r : Ordering) → nat_cmp v.minor w.minor ≡ r
+    → ordering_then r (ordering_then (nat_cmp v.patch w.patch) (prerelease_cmp v.pre_release w.pre_release)) ≡ Less
+    → IsBelow v w
+Less-minors v w a Less p e = by_minor a (Less-number v.minor w.minor p)
+Less-minors v w a Equal p e =
+    Less-patches v w a (nat_cmp-IsAntisymmetric v.minor w.minor p) (nat_cmp v.patch w.patch) refl e
+Less-minors v w a Greater p e = cc e
+
+Less-majors : (v w : VersionValue) → (r : Ordering) → nat_cmp v.major w.major ≡ r
+    → ordering_then r (ordering_then (nat_cmp v.minor w.minor)
+    (ordering_then (nat_cmp v.patch w.patch) (prerelease_cmp v.pre_release w.pre_release))) ≡ Less → IsBelow v w
+Less-majors v w Less p e = by_major (Less-number v.major w.major p)
+Less-majors v w Equal p e = Less-minors v w (nat_cmp-IsAntisymmetric v.major w.major p) (nat_cmp v.minor w.minor) refl e
+Less-majors v w Greater p e = cc e
+
+pub Less-version : (v w : VersionValue) → version_cmp v w ≡ Less → IsBelow v w
+Less-version v w e = Less-majors v w (nat_cmp v.major w.major) refl e
+
+-- equal numbers tie
+number-tied : (m n : ℕ) → m ≡ n → nat_cmp m n ≡ Equal
+number-tied m n e = subst (λ k. nat_cmp m k ≡ Equal) e (tied_itself nat_cmp_total m)
+
+-- if the triples are equal, the prereleases decide
+same-triple : (v w : VersionValue) → HasSameTriple v w → version_cmp v w ≡ prerelease_cmp v.pre_release w.pre_release
+same-triple v w t = then-tied _ _ (number-tied v.major w.major t.major)
+    ∙ then-tied _ _ (number-tied v.minor w.minor t.minor)
+    ∙ then-tied _ _ (number-tied v.patch w.patch t.patch)
+
+pub version-Less : (v w : VersionValue) → IsBelow v w → version_cmp v w ≡ Less
+version-Less v w (by_major h) = then-Less _ _ (number-Less v.major w.major h)
+version-Less v w (by_minor a h) = then-tied _ _ (number-tied v.major w.major a)
+    ∙ then-Less _ _ (number-Less v.minor w.minor h)
+version-Less v w (by_patch a b h) = then-tied _ _ (number-tied v.major w.major a)
+    ∙ then-tied _ _ (number-tied v.minor w.minor b)
+    ∙ then-Less _ _ (number-Less v.patch w.patch h)
+version-Less v w (before_release t n m) = same-triple v w t ∙ prerelease-release v.pre_release w.pre_release n m
+version-Less v w (by_identifiers t n m h) = same-triple v w t ∙ both-prereleases v.pre_release w.pre_release n m
+    ∙ list-Less identifier_cmp identifier_total IsIdentifierBelow identifier-Less v.pre_release w.pre_release h
+
+-- versions that tie are the same, but for the build
+pub Equal-version : (v w : VersionValue) → version_cmp v w ≡ Equal → IsSame v w
+Equal-version v w e =
+    let e2 = then-second (nat_cmp v.major w.major) _ e in
+    let e3 = then-second (nat_cmp v.minor w.minor) _ e2 in
+    let e4 = then-second (nat_cmp v.patch w.patch) _ e3 in
+    record {
+      triple = record {
+        major = nat_cmp-IsAntisymmetric v.major w.major (then-first _ _ e);
+        minor = nat_cmp-IsAntisymmetric v.minor w.minor (then-first _ _ e2);
+        patch = nat_cmp-IsAntisymmetric v.patch w.patch (then-first _ _ e3);
+      };
+      pre_release = prerelease-IsAntisymmetric v.pre_release w.pre_release e4;
+    }
+
+pub version-Equal : (v w : VersionValue) → IsSame v w → version_cmp v w ≡ Equal
+version-Equal v w s = same-triple v w s.triple
+    ∙ subst (λ l. prerelease_cmp v.pre_release l ≡ Equal) s.pre_release (tied_itself prerelease_total v.pre_release)
+
+-- `version_cmp` agrees with the relations
+pub version_cmp-means : (v w : VersionValue) → OrderMeans v w (version_cmp v w)
+version_cmp-means v w = record {
+  below = (Less-version v w, version-Less v w);
+  same = (Equal-version v w, version-Equal v w);
+  above = (
+    λ e. Less-version w v ((Greater-turned version_total v w).0 e),
+    λ h. (Greater-turned version_total v w).1 (version-Less w v h),
+  );
+}
+
+-- the same for the result of a function
+pub version_order : (v w : VersionValue) (r : Ordering) → r ≡ version_cmp v w → OrderMeans v w r
+version_order v w r e = subst (OrderMeans v w) (sym e) (version_cmp-means v w)
+
+pub version_same : (v w : VersionValue) (r : Bool) → r ≡ eq_by_cmp version_cmp v w → IsTrue r ↔ IsSame v w
+version_same v w r e = (
+  λ t. Equal-version v w ((Equal-is (version_cmp v w)).0 (sym e ∙ t)),
+  λ s. e ∙ (Equal-is (version_cmp v w)).1 (version-Equal v w s),
+)

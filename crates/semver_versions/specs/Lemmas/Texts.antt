@@ -1,0 +1,15 @@
+pub mod ByteTable
+pub mod Characters
+pub mod CleanExtras
+pub mod DecimalReading
+pub mod Digits
+pub mod ExtrasReading
+pub mod IdentifierReading
+pub mod LineText
+pub mod ListReading
+pub mod ListedTexts
+pub mod LongestReading
+pub mod Marks
+pub mod NumberReading
+pub mod Places
+pub mod Prefixes

@@ -1,0 +1,260 @@
+-- Lists of identifiers: the reader reads exactly these texts.
+use Rattle.std.proofs.Common.{◌≡◌, ◌⊎◌, ℕ, Bool, true, false, List, [], ◌∷◌, ◌++◌, refl, sym, ap, ◌∙◌, inl, inr, subst}
+use Rattle.std.proofs.Common.{append-nil}
+use Rattle.std.proofs.lemmas.Bool.{and_from, and_parts, cases_Bool, eqb-true, or_parts}
+use Rattle.std.specs.Prelude.{◌==◌, ◌||◌, if◌then◌else◌, map}
+use Rattle.std.specs.List.{AllByRecursion, list_all}
+use Rattle.semver_versions.specs.Characters.{AreAll, BeginsWith, BeginsWithNo, is_identifier_character, plus, dot}
+use Rattle.semver_versions.specs.IdentifierText.{IsIdentifierList, IsIdentifierText, identifier_of, parts_of}
+use Rattle.semver_versions.specs.IdentifierValue.{IdentifierValue}
+use Rattle.semver_versions.specs.Reading.{begins, goes_on, list_rest, list_prefix, list_values}
+use Rattle.semver_versions.specs.Lemmas.Texts.Prefixes.{begins-append, with-begins}
+use Rattle.semver_versions.specs.Lemmas.Texts.Characters.{character-no_dot}
+
+-- The parts of a list that goes on from some earlier characters: the first part may be empty, the others are
+-- identifiers.
+pub record GoOn (parts : List (List ℕ)) : Type 0 where
+  pub first : List ℕ
+  pub others : List (List ℕ)
+  pub whole : parts ≡ first ∷ others
+  pub characters : AreAll is_identifier_character first
+  pub identifiers : AllByRecursion IsIdentifierText others
+
+-- a text has at least one part
+pub parts-shape : (text : List ℕ) → (first : List ℕ) × (others : List (List ℕ)) × (parts_of text ≡ first ∷ others)
+parts-shape [] = ([], [], refl)
+parts-shape (b ∷ rest) = elim (cases_Bool (b == dot)) [
+  | inl here ↦ ([], parts_of rest, rw here refl)
+  | inr other ↦
+      let r = parts-shape rest in
+      (b ∷ r.0, r.1, rw (other, r.2) refl)
+]
+
+-- the parts from a dot on, and from any other character on
+pub parts-dot : (b : ℕ) (rest : List ℕ) → (b == dot) ≡ true → parts_of (b ∷ rest) ≡ [] ∷ parts_of rest
+parts-dot b rest here = rw here refl
+
+pub parts-other : (b : ℕ) (rest first : List ℕ) (others : List (List ℕ)) → (b == dot) ≡ false
+    → parts_of rest ≡ first ∷ others → parts_of (b ∷ rest) ≡ (b ∷ first) ∷ others
+parts-other b rest first others other shape = rw (other, shape) refl
+
+-- a list goes on at an identifier character, and at a dot before one
+pub goes_on-character : (b : ℕ) (rest : List ℕ) → is_identifier_character b ≡ true → goes_on (b ∷ rest) ≡ true
+goes_on-character b rest h = rw h refl
+
+pub goes_on-dot : (b : ℕ) (rest : List ℕ) → (b == dot) ≡ true → begins is_identifier_character rest ≡ true
+    → goes_on (b ∷ rest) ≡ true
+goes_on-dot b rest here h = rw (eqb-true b dot here, h) refl
+
+-- and nowhere else
+goes_on-cases : (b : ℕ) (rest : List ℕ) → goes_on (b ∷ rest) ≡ true
+    → (is_identifier_character b ≡ true) ⊎ (((b == dot) ≡ true) × (begins is_identifier_character rest ≡ true))
+goes_on-cases b rest h = elim (cases_Bool (is_identifier_character b)) [
+  | inl character ↦ inl character
+  | inr none ↦ elim (cases_Bool (b == dot)) [
+    | inl here ↦ inr (here, rw (none, here) at h)
+    | inr other ↦ cc (rw (none, other) at h)
+  ]
+]
+
+-- the two together are the text
+pub list-whole : (text : List ℕ) → list_prefix text ++ list_rest text ≡ text
+unfolding list_prefix list_rest
+list-whole [] = refl
+list-whole (b ∷ rest) = elim (cases_Bool (goes_on (b ∷ rest))) [
+  | inl goes ↦ rw goes (ap (λ (l : List ℕ). b ∷ l) (list-whole rest))
+  | inr stops ↦ rw stops refl
+]
+
+-- the first character of the longest list
+list-begins : (text : List ℕ) → begins is_identifier_character text ≡ true
+    → BeginsWith is_identifier_character (list_prefix text)
+unfolding list_prefix
+list-begins [] h = cc h
+list-begins (b ∷ rest) h = rw (goes_on-character b rest h) h
+
+-- a first part that is not empty begins as the text does
+first-begins : (text first : List ℕ) (others : List (List ℕ)) → parts_of text ≡ first ∷ others
+    → BeginsWith is_identifier_character text → BeginsWith is_identifier_character first
+first-begins [] first others shape h = absurd h
+first-begins (b ∷ rest) first others shape h =
+    let r = parts-shape rest in
+    let e : (b ∷ r.0) ∷ r.1 ≡ first ∷ others = sym (parts-other b rest r.0 r.1 (character-no_dot b h) r.2) ∙ shape in
+    let f : b ∷ r.0 ≡ first = cc e in
+    subst (λ (l : List ℕ). BeginsWith is_identifier_character l) f h
+
+pub begins-first : (text first : List ℕ) (others : List (List ℕ)) → parts_of text ≡ first ∷ others
+    → BeginsWith is_identifier_character first → BeginsWith is_identifier_character text
+begins-first [] first others shape h =
+    let e : [] ≡ first = cc shape in
+    absurd (subst (λ (l : List ℕ). BeginsWith is_identifier_character l) (sym e) h)
+begins-first (b ∷ rest) first others shape h = elim (cases_Bool (b == dot)) [
+  | inl here ↦
+      let e : [] ≡ first = cc (sym (parts-dot b rest here) ∙ shape) in
+      absurd (subst (λ (l : List ℕ). BeginsWith is_identifier_character l) (sym e) h)
+  | inr other ↦
+      let r = parts-shape rest in
+      let e : (b ∷ r.0) ∷ r.1 ≡ first ∷ others = sym (parts-other b rest r.0 r.1 other r.2) ∙ shape in
+      let f : b ∷ r.0 ≡ first = cc e in
+      subst (λ (l : List ℕ). BeginsWith is_identifier_character l) (sym f) h
+]
+
+-- the longest list goes on
+list-goes : (text : List ℕ) → GoOn (parts_of (list_prefix text))
+unfolding list_prefix
+list-goes [] = record { first = []; others = []; whole = refl; characters = refl; identifiers = tt }
+list-goes (b ∷ rest) = elim (cases_Bool (goes_on (b ∷ rest))) [
+  | inr stops ↦ rw stops (record { first = []; others = []; whole = refl; characters = refl; identifiers = tt })
+  | inl goes ↦
+      let r = list-goes rest in
+      elim (goes_on-cases b rest goes) [
+        | inl character ↦ rw goes (record {
+          first = b ∷ r.first;
+          others = r.others;
+          whole = parts-other b (list_prefix rest) r.first r.others (character-no_dot b character) r.whole;
+          characters = and_from (is_identifier_character b) _ character r.characters;
+          identifiers = r.identifiers;
+        })
+        | inr w ↦ rw goes (record {
+          first = [];
+          others = parts_of (list_prefix rest);
+          whole = parts-dot b (list_prefix rest) w.0;
+          characters = refl;
+          identifiers = subst (λ (l : List (List ℕ)). AllByRecursion IsIdentifierText l) (sym r.whole) (
+            (first-begins (list_prefix rest) r.first r.others r.whole (list-begins rest w.1), r.characters),
+            r.identifiers,
+          );
+        })
+      ]
+]
+
+-- the longest list at the start of a text that begins with an identifier character is a list of identifiers
+pub list-takes : (text : List ℕ) → begins is_identifier_character text ≡ true
+    → IsIdentifierList (list_prefix text) (list_values text)
+list-takes text h =
+    let r = list-goes text in
+    record {
+      parts = subst (λ (l : List (List ℕ)). AllByRecursion IsIdentifierText l) (sym r.whole) (
+        (first-begins (list_prefix text) r.first r.others r.whole (list-begins text h), r.characters),
+        r.identifiers,
+      );
+      values = refl;
+    }
+
+-- a list that goes on is passed, whatever follows it
+pub list-through : (list rest : List ℕ) → GoOn (parts_of list)
+    → (list_prefix (list ++ rest) ≡ list ++ list_prefix rest) × (list_rest (list ++ rest) ≡ list_rest rest)
+unfolding list_prefix list_rest
+list-through [] rest g = (refl, refl)
+list-through (b ∷ list) rest g = elim (cases_Bool (b == dot)) [
+  | inl here ↦
+      let others : parts_of list ≡ g.others = cc (sym (parts-dot b list here) ∙ g.whole) in
+      let r = parts-shape list in
+      let all : AllByRecursion IsIdentifierText (r.0 ∷ r.1) =
+      subst (λ (l : List (List ℕ)). AllByRecursion IsIdentifierText l) (sym others ∙ r.2) g.identifiers in
+      let first : BeginsWith is_identifier_character list = begins-first list r.0 r.1 r.2 all.0.0 in
+      let goes : goes_on (b ∷ (list ++ rest)) ≡ true =
+      goes_on-dot b (list ++ rest) here (with-begins _ (list ++ rest) (begins-append _ list rest first)) in
+      let on = list-through list rest
+      (record { first = r.0; others = r.1; whole = r.2; characters = all.0.1; identifiers = all.1 }) in
+      (rw goes (ap (λ (l : List ℕ). b ∷ l) on.0), rw goes on.1)
+  | inr other ↦
+      let r = parts-shape list in
+      let e : (b ∷ r.0) ∷ r.1 ≡ g.first ∷ g.others = sym (parts-other b list r.0 r.1 other r.2) ∙ g.whole in
+      let f : g.first ≡ b ∷ r.0 = cc e in
+      let o : g.others ≡ r.1 = cc e in
+      let characters = and_parts (is_identifier_character b) (list_all is_identifier_character r.0)
+      (subst (λ (l : List ℕ). AreAll is_identifier_character l) f g.characters) in
+      let goes : goes_on (b ∷ (list ++ rest)) ≡ true = goes_on-character b (list ++ rest) characters.0 in
+      let on = list-through list rest
+      (record {
+        first = r.0;
+        others = r.1;
+        whole = r.2;
+        characters = characters.1;
+        identifiers =
+            subst (λ (l : List (List ℕ)). AllByRecursion IsIdentifierText l) o g.identifiers;
+      }) in
+      (rw goes (ap (λ (l : List ℕ). b ∷ l) on.0), rw goes on.1)
+]
+
+-- where a list stops
+pub list-none : (rest : List ℕ) → goes_on rest ≡ false → (list_prefix rest ≡ []) × (list_rest rest ≡ rest)
+unfolding list_prefix list_rest
+list-none [] stops = (refl, refl)
+list-none (b ∷ rest) stops = (rw stops refl, rw stops refl)
+
+-- a list that goes on is read to its end, where nothing goes on after it
+list-on : (list rest : List ℕ) → GoOn (parts_of list) → goes_on rest ≡ false
+    → (list_prefix (list ++ rest) ≡ list) × (list_rest (list ++ rest) ≡ rest)
+list-on list rest g stops =
+    let t = list-through list rest g in
+    let n = list-none rest stops in
+    (t.0 ∙ ap (λ (l : List ℕ). list ++ l) n.0 ∙ append-nil list, t.1 ∙ n.1)
+
+-- what a list of identifiers is read as
+pub record ReadsList (list rest : List ℕ) (identifiers : List IdentifierValue) : Type 0 where
+  pub starts : BeginsWith is_identifier_character list
+  pub values : list_values (list ++ rest) ≡ identifiers
+  pub behind : list_rest (list ++ rest) ≡ rest
+
+pub list-again : (list rest : List ℕ) (identifiers : List IdentifierValue) → IsIdentifierList list identifiers
+    → goes_on rest ≡ false → ReadsList list rest identifiers
+list-again list rest identifiers h stops =
+    let r = parts-shape list in
+    let all : AllByRecursion IsIdentifierText (r.0 ∷ r.1) =
+    subst (λ (l : List (List ℕ)). AllByRecursion IsIdentifierText l) r.2 h.parts in
+    let on = list-on list rest
+    (record { first = r.0; others = r.1; whole = r.2; characters = all.0.1; identifiers = all.1 }) stops in
+    record {
+      starts = begins-first list r.0 r.1 r.2 all.0.0;
+      values = rw on.0 (sym h.values);
+      behind = on.1;
+    }
+
+-- the first character of a text that has one is that of the text with more after it
+pub first-stays : (some none : ℕ → Bool) (text rest : List ℕ) → BeginsWith some text → BeginsWithNo none text
+    → BeginsWithNo none (text ++ rest)
+first-stays some none [] rest h g = absurd h
+first-stays some none (b ∷ text) rest h g = g
+
+-- the characters of extras
+abbrev is_of_extras : ℕ → Bool
+is_of_extras b = is_identifier_character b || (b == dot) || (b == plus)
+
+-- nothing of extras begins here
+abbrev pub EndsExtras : List ℕ → Type 0
+EndsExtras rest = BeginsWithNo is_of_extras rest
+
+-- nor of a list of identifiers
+abbrev pub is_of_list : ℕ → Bool
+is_of_list b = is_identifier_character b || (b == dot)
+
+pub ends-list : (rest : List ℕ) → EndsExtras rest → BeginsWithNo is_of_list rest
+ends-list [] h = tt
+ends-list (b ∷ rest) h = (or_parts (is_of_list b) (b == plus) h).0
+
+pub ends-plus : (rest : List ℕ) → EndsExtras rest → BeginsWithNo (λ b. b == plus) rest
+ends-plus [] h = tt
+ends-plus (b ∷ rest) h = (or_parts (is_of_list b) (b == plus) h).1
+
+pub stops-list : (rest : List ℕ) → BeginsWithNo is_of_list rest → goes_on rest ≡ false
+stops-list [] h = refl
+stops-list (b ∷ rest) h =
+    let parts = or_parts (is_identifier_character b) (b == dot) h in
+    rw (parts.0, parts.1) refl
+
+-- the identifiers of a text that begins with one are some
+pub some-values : (text : List ℕ)
+    → (first : IdentifierValue) × (others : List IdentifierValue) × (list_values text ≡ first ∷ others)
+some-values text =
+    let r = parts-shape (list_prefix text) in
+    (identifier_of r.0, map identifier_of r.1, ap (λ (l : List (List ℕ)). map identifier_of l) r.2)
+
+pub pick-true : {T : Type 0} (test : Bool) (x y : T) → test ≡ true → (if test then x else y) ≡ x
+pick-true true x y h = refl
+pick-true false x y h = cc h
+
+pub pick-false : {T : Type 0} (test : Bool) (x y : T) → test ≡ false → (if test then x else y) ≡ y
+pick-false true x y h = cc h
+pick-false false x y h = refl

@@ -1,0 +1,180 @@
+-- Texts of identifiers: their first identifier, and those after it.
+use Rattle.std.proofs.Common.{◌≡◌, ◌<◌, ◌-◌, ◌≤◌, ℕ, true, false, List, [], ◌∷◌, ◌++◌, refl, sym, ap, ◌∙◌, inl, inr, subst}
+use Rattle.std.proofs.Common.{arith, length, length-append, drop, take}
+use Rattle.std.proofs.lemmas.Bool.{and_parts, cases_Bool, eqb-true}
+use Rattle.std.specs.Prelude.{◌==◌, map}
+use Rattle.std.specs.List.{AllByRecursion, list_all}
+use Rattle.semver_versions.specs.Characters.{AreAll, is_identifier_character, dot}
+use Rattle.semver_versions.specs.IdentifierText.{IsIdentifierText, IsListed, identifier_of, identifiers_of, parts_of, texts_of}
+use Rattle.semver_versions.specs.IdentifierValue.{IdentifierValue}
+use Rattle.semver_versions.specs.ListedViews.{IsFirstSplit, IsListSplit}
+use Rattle.semver_versions.specs.Reading.{begins, list_prefix, list_rest, prefix_of, read_list_or, rest_of}
+use Rattle.semver_versions.specs.Lemmas.Texts.Places.{to-end}
+use Rattle.semver_versions.specs.Lemmas.Texts.Prefixes.{prefix_of-rest_of}
+use Rattle.semver_versions.specs.Lemmas.Texts.ExtrasReading.{read_list_or-none, read_list_or-some}
+use Rattle.semver_versions.specs.Lemmas.Texts.IdentifierReading.{GoOn, list-takes, list-whole, parts-other, parts-shape}
+
+-- where the first part ends: at the end of the text, or at a dot
+pub data FirstPart (text : List ℕ) : Type 0 where
+  alone : rest_of is_identifier_character text ≡ [] → parts_of text ≡ prefix_of is_identifier_character text ∷ []
+      → FirstPart text
+  before : (next : List ℕ) → rest_of is_identifier_character text ≡ dot ∷ next
+      → parts_of text ≡ prefix_of is_identifier_character text ∷ parts_of next → FirstPart text
+
+pub first-part : (text : List ℕ) → GoOn (parts_of text) → FirstPart text
+unfolding prefix_of rest_of
+first-part [] g = alone refl refl
+first-part (b ∷ rest) g = elim (cases_Bool (b == dot)) [
+  | inl here ↦
+      let is : b ≡ dot = eqb-true b dot here in
+      before rest (rw is refl) (rw is refl)
+  | inr other ↦
+      let r = parts-shape rest in
+      let e : (b ∷ r.0) ∷ r.1 ≡ g.first ∷ g.others = sym (parts-other b rest r.0 r.1 other r.2) ∙ g.whole in
+      let f : g.first ≡ b ∷ r.0 = cc e in
+      let o : g.others ≡ r.1 = cc e in
+      let characters = and_parts (is_identifier_character b) (list_all is_identifier_character r.0)
+      (subst (λ (l : List ℕ). AreAll is_identifier_character l) f g.characters) in
+      let goes : GoOn (parts_of rest) = record {
+        first = r.0;
+        others = r.1;
+        whole = r.2;
+        characters = characters.1;
+        identifiers = subst (λ (l : List (List ℕ)). AllByRecursion IsIdentifierText l) o g.identifiers;
+      } in
+      elim (first-part rest goes) [
+        | alone end parts ↦ alone (rw characters.0 end)
+            (rw characters.0 (parts-other b rest (prefix_of is_identifier_character rest) [] other parts))
+        | before next end parts ↦ before next (rw characters.0 end)
+            (rw characters.0 (parts-other b rest (prefix_of is_identifier_character rest) (parts_of next) other parts))
+      ]
+]
+
+-- the parts of a list of identifiers
+pub go-on : (text : List ℕ) → AllByRecursion IsIdentifierText (parts_of text) → GoOn (parts_of text)
+go-on text all =
+    let r = parts-shape text in
+    let these : AllByRecursion IsIdentifierText (r.0 ∷ r.1) =
+    subst (λ (l : List (List ℕ)). AllByRecursion IsIdentifierText l) r.2 all in
+    record { first = r.0; others = r.1; whole = r.2; characters = these.0.1; identifiers = these.1 }
+
+-- a text whose parts are identifiers is not empty
+pub parts-texts : (text : List ℕ) → AllByRecursion IsIdentifierText (parts_of text) → texts_of text ≡ parts_of text
+parts-texts [] all = absurd all.0.0
+parts-texts (b ∷ rest) all = refl
+
+-- the first identifier of a text that has one, if it is the last
+pub first-alone : (text : List ℕ) → IsListed text → 0 < length text → rest_of is_identifier_character text ≡ []
+    → IsFirstSplit text (prefix_of is_identifier_character text) []
+first-alone [] listed some end = absurd (omega arith)
+first-alone (b ∷ rest) listed some end = elim (first-part (b ∷ rest) (go-on (b ∷ rest) listed)) [
+  | before next there parts ↦ cc (sym end ∙ there)
+  | alone there parts ↦
+      let all : AllByRecursion IsIdentifierText (prefix_of is_identifier_character (b ∷ rest) ∷ []) =
+      subst (λ (l : List (List ℕ)). AllByRecursion IsIdentifierText l) parts listed in
+      record {
+        some = all.0.0;
+        characters = all.0.1;
+        values = ap (λ (l : List (List ℕ)). map identifier_of l) parts;
+        listed = tt;
+      }
+]
+
+-- the same, if others follow it after a dot
+pub first-before : (text rest : List ℕ) (d : ℕ) → IsListed text → 0 < length text
+    → rest_of is_identifier_character text ≡ d ∷ rest
+    → IsFirstSplit text (prefix_of is_identifier_character text) rest
+first-before [] rest d listed some end = absurd (omega arith)
+first-before (b ∷ text) rest d listed some end = elim (first-part (b ∷ text) (go-on (b ∷ text) listed)) [
+  | alone there parts ↦ cc (sym end ∙ there)
+  | before next there parts ↦
+      let same : next ≡ rest = cc (sym there ∙ end) in
+      let all : AllByRecursion IsIdentifierText (prefix_of is_identifier_character (b ∷ text) ∷ parts_of rest) =
+      subst (λ (l : List (List ℕ)). AllByRecursion IsIdentifierText l)
+      (parts ∙ ap (λ (l : List ℕ). prefix_of is_identifier_character (b ∷ text) ∷ parts_of l) same) listed in
+      let whole = parts-texts rest all.1 in
+      record {
+        some = all.0.0;
+        characters = all.0.1;
+        values = ap (λ (l : List (List ℕ)). map identifier_of l) (parts
+            ∙ ap (λ (l : List ℕ). prefix_of is_identifier_character (b ∷ text) ∷ parts_of l) same
+            ∙ ap (λ (l : List (List ℕ)). prefix_of is_identifier_character (b ∷ text) ∷ l) (sym whole));
+        listed = subst (λ (l : List (List ℕ)). AllByRecursion IsIdentifierText l) (sym whole) all.1;
+      }
+]
+
+-- the same of what a reader of an identifier returned
+pub split-alone : (text part rest : List ℕ) → IsListed text → 0 < length text
+    → part ≡ prefix_of is_identifier_character text → rest ≡ rest_of is_identifier_character text → length rest < 1
+    → IsFirstSplit text part rest
+split-alone text part [] listed some part_is rest_is none =
+    subst (λ (l : List ℕ). IsFirstSplit text l []) (sym part_is) (first-alone text listed some (sym rest_is))
+split-alone text part (d ∷ rest) listed some part_is rest_is none = absurd (omega arith)
+
+pub split-before : (text part rest : List ℕ) → IsListed text → 0 < length text
+    → part ≡ prefix_of is_identifier_character text → rest ≡ rest_of is_identifier_character text → 1 ≤ length rest
+    → IsFirstSplit text part (take (length rest - 1) (drop 1 rest))
+split-before text part [] listed some part_is rest_is more = absurd (omega arith)
+split-before text part (d ∷ rest) listed some part_is rest_is more =
+    subst (λ (l : List ℕ). IsFirstSplit text part l) (sym (to-end (d ∷ rest) 1))
+    (subst (λ (l : List ℕ). IsFirstSplit text l rest) (sym part_is) (first-before text rest d listed some (sym rest_is)))
+
+pub split-shorter : (text rest : List ℕ) → rest ≡ rest_of is_identifier_character text → 1 ≤ length rest
+    → length (take (length rest - 1) (drop 1 rest)) < length text
+split-shorter text [] rest_is more = absurd (omega arith)
+split-shorter text (d ∷ rest) rest_is more =
+    let whole = ap length (prefix_of-rest_of is_identifier_character text) in
+    let parts = length-append (prefix_of is_identifier_character text) (rest_of is_identifier_character text) in
+    let here : length (d ∷ rest) ≡ length (rest_of is_identifier_character text) = ap length rest_is in
+    let size : length (take (length (d ∷ rest) - 1) (drop 1 (d ∷ rest))) ≡ length rest =
+    ap length (to-end (d ∷ rest) 1) in
+    omega arith
+
+-- the rest of a list is no longer than the text
+pub list_rest-short : (text : List ℕ) → length (list_rest text) ≤ length text
+list_rest-short text =
+    let whole = ap length (list-whole text) in
+    let parts = length-append (list_prefix text) (list_rest text) in
+    omega arith
+
+take-first : (a b : List ℕ) → take (length (a ++ b) - length b) (a ++ b) ≡ a
+take-first a b =
+    let size : length (a ++ b) - length b ≡ length a = (let parts = length-append a b in omega arith) in
+    rw size (take-append a b)
+  where
+    take-append : (a b : List ℕ) → take (length a) (a ++ b) ≡ a
+    take-append [] [] = refl
+    take-append [] (y ∷ b) = refl
+    take-append (x ∷ a) b = ap (λ (l : List ℕ). x ∷ l) (take-append a b)
+
+-- what is before the rest of a list is the list
+pub list-before : (text : List ℕ) → take (length text - length (list_rest text)) text ≡ list_prefix text
+list-before text =
+    let whole = list-whole text in
+    subst (λ (l : List ℕ). take (length l - length (list_rest text)) l ≡ list_prefix text) whole
+    (take-first (list_prefix text) (list_rest text))
+
+-- the longest list at the start of a text that begins with an identifier character
+pub split-some : (otherwise text list rest : List ℕ) → begins is_identifier_character text ≡ true
+    → list ≡ list_prefix text → rest ≡ list_rest text → IsListSplit (read_list_or otherwise text) list rest
+split-some otherwise text list rest some list_is rest_is =
+    let read = read_list_or-some otherwise text some in
+    let takes = list-takes text some in
+    let whole = parts-texts (list_prefix text) takes.parts in
+    record {
+      values = ap identifiers_of list_is ∙ ap (λ (l : List (List ℕ)). map identifier_of l) whole
+          ∙ sym (ap (λ (r : List IdentifierValue × List ℕ). r.0) read);
+      listed = subst IsListed (sym list_is)
+          (subst (λ (l : List (List ℕ)). AllByRecursion IsIdentifierText l) (sym whole) takes.parts);
+      rest_is = rest_is ∙ sym (ap (λ (r : List IdentifierValue × List ℕ). r.1) read);
+    }
+
+pub split-none : (otherwise text : List ℕ) → begins is_identifier_character text ≡ false
+    → IsListSplit (read_list_or otherwise text) [] otherwise
+split-none otherwise text none =
+    let read = read_list_or-none otherwise text none in
+    record {
+      values = sym (ap (λ (r : List IdentifierValue × List ℕ). r.0) read);
+      listed = tt;
+      rest_is = sym (ap (λ (r : List IdentifierValue × List ℕ). r.1) read);
+    }

@@ -1,0 +1,102 @@
+-- The longest prefix whose characters all pass, from place to place, as a loop goes over a text.
+use Rattle.std.proofs.Common.{◌≡◌, ◌+◌, ◌-◌, ◌<◌, ◌≤◌, ℕ, Bool, true, false, List, [], ◌∷◌, ◌++◌, length, get_or, take}
+use Rattle.std.proofs.Common.{drop, refl, sym, ap, ◌∙◌, add-one, append-nil, append_assoc, drop-cons, suc, zero, arith}
+use Rattle.std.proofs.lemmas.List.{drop_all, take_rest}
+use Rattle.std.proofs.Math.Seq.{take-suc}
+use Rattle.semver_versions.specs.Reading.{rest_of, prefix_of}
+
+-- the text from a place on
+pub at-place : (s : List ℕ) (i : ℕ) → i < length s → drop i s ≡ get_or s i 0 ∷ drop (i + 1) s
+at-place s i h = rw (add-one, drop-cons s i 0) refl
+
+-- one character more
+pub take-more : (s : List ℕ) (i : ℕ) → i < length s → take (i + 1) s ≡ take i s ++ (get_or s i 0 ∷ [])
+take-more s i h = rw add-one (take-suc s i 0 h)
+
+-- a slice up to the end
+pub to-end : (s : List ℕ) (i : ℕ) → take (length s - i) (drop i s) ≡ drop i s
+to-end s i = take_rest s i
+
+-- a character that passes is gone over
+pub rest_of-step : (test : ℕ → Bool) (s : List ℕ) (i : ℕ) → i < length s → test (get_or s i 0) ≡ true
+    → rest_of test (drop i s) ≡ rest_of test (drop (i + 1) s)
+unfolding rest_of
+rest_of-step test s i h passes = ap (rest_of test) (at-place s i h) ∙ rw passes refl
+
+pub prefix_of-step : (test : ℕ → Bool) (s : List ℕ) (i : ℕ) → i < length s → test (get_or s i 0) ≡ true
+    → prefix_of test (drop i s) ≡ get_or s i 0 ∷ prefix_of test (drop (i + 1) s)
+unfolding prefix_of
+prefix_of-step test s i h passes = ap (prefix_of test) (at-place s i h) ∙ rw passes refl
+
+-- one that doesn't ends it
+pub rest_of-stop : (test : ℕ → Bool) (s : List ℕ) (i : ℕ) → i < length s → test (get_or s i 0) ≡ false
+    → rest_of test (drop i s) ≡ drop i s
+unfolding rest_of
+rest_of-stop test s i h stops = ap (rest_of test) (at-place s i h) ∙ rw stops (sym (at-place s i h))
+
+pub prefix_of-stop : (test : ℕ → Bool) (s : List ℕ) (i : ℕ) → i < length s → test (get_or s i 0) ≡ false
+    → prefix_of test (drop i s) ≡ []
+unfolding prefix_of
+prefix_of-stop test s i h stops = ap (prefix_of test) (at-place s i h) ∙ rw stops refl
+
+-- and so does the end of the text
+pub rest_of-end : (test : ℕ → Bool) (s : List ℕ) (i : ℕ) → length s ≤ i → rest_of test (drop i s) ≡ drop i s
+unfolding rest_of
+rest_of-end test s i h = rw (drop_all i s h) refl
+
+pub prefix_of-end : (test : ℕ → Bool) (s : List ℕ) (i : ℕ) → length s ≤ i → prefix_of test (drop i s) ≡ []
+unfolding prefix_of
+prefix_of-end test s i h = rw (drop_all i s h) refl
+
+-- A loop has gone over the first i characters, which all pass.
+pub record Over (test : ℕ → Bool) (s : List ℕ) (i : ℕ) : Type 0 where
+  pub prefix : prefix_of test s ≡ take i s ++ prefix_of test (drop i s)
+  pub rest : rest_of test s ≡ rest_of test (drop i s)
+
+pub over-step : (test : ℕ → Bool) (s : List ℕ) (i : ℕ) → i < length s → test (get_or s i 0) ≡ true → Over test s i
+    → Over test s (i + 1)
+over-step test s i h passes over = record {
+  prefix = over.prefix ∙ ap (λ (l : List ℕ). take i s ++ l) (prefix_of-step test s i h passes)
+      ∙ sym (append_assoc (take i s) (get_or s i 0 ∷ []) (prefix_of test (drop (i + 1) s)))
+      ∙ ap (λ (l : List ℕ). l ++ prefix_of test (drop (i + 1) s)) (sym (take-more s i h));
+  rest = over.rest ∙ rest_of-step test s i h passes;
+}
+
+-- where it ends, it has gone over the longest prefix
+pub record Through (test : ℕ → Bool) (s : List ℕ) (i : ℕ) : Type 0 where
+  pub prefix : prefix_of test s ≡ take i s
+  pub rest : rest_of test s ≡ drop i s
+
+pub over-stop : (test : ℕ → Bool) (s : List ℕ) (i : ℕ) → i < length s → test (get_or s i 0) ≡ false → Over test s i
+    → Through test s i
+over-stop test s i h stops over = record {
+  prefix = over.prefix ∙ ap (λ (l : List ℕ). take i s ++ l) (prefix_of-stop test s i h stops) ∙ append-nil (take i s);
+  rest = over.rest ∙ rest_of-stop test s i h stops;
+}
+
+pub over-end : (test : ℕ → Bool) (s : List ℕ) (i : ℕ) → length s ≤ i → Over test s i → Through test s i
+over-end test s i h over = record {
+  prefix = over.prefix ∙ ap (λ (l : List ℕ). take i s ++ l) (prefix_of-end test s i h) ∙ append-nil (take i s);
+  rest = over.rest ∙ rest_of-end test s i h;
+}
+
+-- ---- the first place that does not pass, as a search finds it
+
+rest_of-far : (test : ℕ → Bool) (s : List ℕ) (n : ℕ) → n ≤ length s
+    → ((k : ℕ) → k < n → test (get_or s k 0) ≡ true) → rest_of test s ≡ rest_of test (drop n s)
+rest_of-far test s zero h all = refl
+rest_of-far test s (suc n) h all =
+    let more : n + 1 ≡ suc n = omega arith in
+    rest_of-far test s n (omega arith) (λ k lt. all k (omega arith))
+    ∙ rest_of-step test s n (omega arith) (all n (omega arith))
+    ∙ ap (λ (m : ℕ). rest_of test (drop m s)) more
+
+-- all before it pass, and it does not
+pub rest_of-first : (test : ℕ → Bool) (s : List ℕ) (n : ℕ) → n < length s
+    → ((k : ℕ) → k < n → test (get_or s k 0) ≡ true) → test (get_or s n 0) ≡ false → rest_of test s ≡ drop n s
+rest_of-first test s n h all stops = rest_of-far test s n (omega arith) all ∙ rest_of-stop test s n h stops
+
+-- all pass
+pub rest_of-each : (test : ℕ → Bool) (s : List ℕ) → ((k : ℕ) → k < length s → test (get_or s k 0) ≡ true)
+    → rest_of test s ≡ drop (length s) s
+rest_of-each test s all = rest_of-far test s (length s) (omega arith) all ∙ rest_of-end test s (length s) (omega arith)

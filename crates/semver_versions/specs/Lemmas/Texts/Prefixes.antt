@@ -1,0 +1,137 @@
+-- The longest prefix of a text whose characters all pass, and the rest.
+use Rattle.std.proofs.Common.{◌≡◌, ℕ, suc, Bool, true, false, List, [], ◌∷◌, ◌++◌, arith, length, refl, ap, inl, inr}
+use Rattle.std.proofs.lemmas.Bool.{and_from, and_parts, cases_Bool, eqb-true}
+use Rattle.std.specs.Prelude.{◌==◌}
+use Rattle.std.specs.List.{list_all}
+use Rattle.semver_versions.specs.Characters.{AreAll, BeginsWith, BeginsWithNo}
+use Rattle.semver_versions.specs.Reading.{rest_of, begins, prefix_of}
+
+-- the two together are the text
+pub prefix_of-rest_of : (test : ℕ → Bool) (text : List ℕ) → prefix_of test text ++ rest_of test text ≡ text
+unfolding prefix_of rest_of
+prefix_of-rest_of test [] = refl
+prefix_of-rest_of test (b ∷ rest) = elim (cases_Bool (test b)) [
+  | inl passes ↦ rw passes (ap (λ (l : List ℕ). b ∷ l) (prefix_of-rest_of test rest))
+  | inr stops ↦ rw stops refl
+]
+
+pub prefix_of-all : (test : ℕ → Bool) (text : List ℕ) → AreAll test (prefix_of test text)
+unfolding prefix_of
+prefix_of-all test [] = refl
+prefix_of-all test (b ∷ rest) = elim (cases_Bool (test b)) [
+  | inl passes ↦ rw passes (and_from (test b) _ passes (prefix_of-all test rest))
+  | inr stops ↦ rw stops refl
+]
+
+pub rest_of-no : (test : ℕ → Bool) (text : List ℕ) → BeginsWithNo test (rest_of test text)
+unfolding rest_of
+rest_of-no test [] = tt
+rest_of-no test (b ∷ rest) = elim (cases_Bool (test b)) [
+  | inl passes ↦ rw passes (rest_of-no test rest)
+  | inr stops ↦ rw stops stops
+]
+
+-- what passes, before what does not, is that prefix
+pub prefix_of-again : (test : ℕ → Bool) (text rest : List ℕ) → AreAll test text → BeginsWithNo test rest
+    → prefix_of test (text ++ rest) ≡ text
+unfolding prefix_of
+prefix_of-again test [] [] all ends = refl
+prefix_of-again test [] (c ∷ rest) all ends = rw ends refl
+prefix_of-again test (b ∷ text) rest all ends =
+    let parts = and_parts (test b) (list_all test text) all in
+    rw parts.0 (ap (λ (l : List ℕ). b ∷ l) (prefix_of-again test text rest parts.1 ends))
+
+-- and the rest follows it
+pub rest_of-again : (test : ℕ → Bool) (text rest : List ℕ) → AreAll test text → BeginsWithNo test rest
+    → rest_of test (text ++ rest) ≡ rest
+unfolding rest_of
+rest_of-again test [] [] all ends = refl
+rest_of-again test [] (c ∷ rest) all ends = rw ends refl
+rest_of-again test (b ∷ text) rest all ends =
+    let parts = and_parts (test b) (list_all test text) all in
+    rw parts.0 (rest_of-again test text rest parts.1 ends)
+
+-- the characters that pass at the start are skipped, whatever follows them
+pub rest_of-all : (test : ℕ → Bool) (text more : List ℕ) → AreAll test text
+    → rest_of test (text ++ more) ≡ rest_of test more
+unfolding rest_of
+rest_of-all test [] more all = refl
+rest_of-all test (b ∷ text) more all =
+    let parts = and_parts (test b) (list_all test text) all in
+    rw parts.0 (rest_of-all test text more parts.1)
+
+-- nothing is skipped where nothing passes
+pub rest_of-none : (test : ℕ → Bool) (text : List ℕ) → BeginsWithNo test text → rest_of test text ≡ text
+unfolding rest_of
+rest_of-none test [] none = refl
+rest_of-none test (b ∷ rest) none = rw none refl
+
+-- the test of the first character, and the fact
+pub begins-with : (test : ℕ → Bool) (text : List ℕ) → begins test text ≡ true → BeginsWith test text
+begins-with test [] h = cc h
+begins-with test (b ∷ rest) h = h
+
+pub with-begins : (test : ℕ → Bool) (text : List ℕ) → BeginsWith test text → begins test text ≡ true
+with-begins test [] h = absurd h
+with-begins test (b ∷ rest) h = h
+
+pub begins-with_no : (test : ℕ → Bool) (text : List ℕ) → begins test text ≡ false → BeginsWithNo test text
+begins-with_no test [] h = tt
+begins-with_no test (b ∷ rest) h = h
+
+pub with_no-begins : (test : ℕ → Bool) (text : List ℕ) → BeginsWithNo test text → begins test text ≡ false
+with_no-begins test [] h = refl
+with_no-begins test (b ∷ rest) h = h
+
+-- a text with a first character that passes has one that passes at the start of its longest prefix
+pub prefix_of-begins : (test : ℕ → Bool) (text : List ℕ) → BeginsWith test text → BeginsWith test (prefix_of test text)
+unfolding prefix_of
+prefix_of-begins test [] h = absurd h
+prefix_of-begins test (b ∷ rest) h = rw h h
+
+-- what begins a text begins it with more after it
+pub begins-append : (test : ℕ → Bool) (text rest : List ℕ) → BeginsWith test text → BeginsWith test (text ++ rest)
+begins-append test [] rest h = absurd h
+begins-append test (b ∷ text) rest h = h
+
+-- the empty text takes the first character of the rest
+pub no-append : (test : ℕ → Bool) (text rest : List ℕ) → BeginsWithNo test text → BeginsWithNo test rest
+    → BeginsWithNo test (text ++ rest)
+no-append test [] rest h g = g
+no-append test (b ∷ text) rest h g = h
+
+-- the longest prefix is empty exactly if the first character does not pass
+pub prefix_of-empty : (test : ℕ → Bool) (text : List ℕ) → (length (prefix_of test text) == 0) ≡ true
+    → begins test text ≡ false
+unfolding prefix_of
+prefix_of-empty test [] h = refl
+prefix_of-empty test (b ∷ rest) h = elim (cases_Bool (test b)) [
+  | inl passes ↦
+      let none : length (b ∷ prefix_of test rest) ≡ 0 = eqb-true _ _ (rw passes at h) in
+      absurd (omega arith)
+  | inr stops ↦ stops
+]
+
+pub prefix_of-some : (test : ℕ → Bool) (text : List ℕ) → (length (prefix_of test text) == 0) ≡ false
+    → begins test text ≡ true
+unfolding prefix_of
+prefix_of-some test [] h = cc h
+prefix_of-some test (b ∷ rest) h = elim (cases_Bool (test b)) [
+  | inl passes ↦ passes
+  | inr stops ↦ cc (rw stops at h)
+]
+
+never-empty : (n : ℕ) → (suc n == 0) ≡ false
+never-empty n = elim (cases_Bool (suc n == 0)) [
+  | inl empty ↦ absurd (cc (eqb-true (suc n) 0 empty))
+  | inr not ↦ not
+]
+
+-- nothing is left exactly where all pass
+pub rest_of-empty : (test : ℕ → Bool) (text : List ℕ) → (length (rest_of test text) == 0) ≡ list_all test text
+unfolding rest_of
+rest_of-empty test [] = refl
+rest_of-empty test (b ∷ rest) = elim (cases_Bool (test b)) [
+  | inl passes ↦ rw passes (rest_of-empty test rest)
+  | inr stops ↦ rw stops (never-empty (length rest))
+]

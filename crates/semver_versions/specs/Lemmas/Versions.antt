@@ -1,0 +1,12 @@
+pub mod Between
+pub mod FaultExamples
+pub mod FaultLemmas
+pub mod FaultReading
+pub mod LargeNumbers
+pub mod LeadingTriple
+pub mod OneReading
+pub mod Prereleases
+pub mod PrintReading
+pub mod ReadIdentifiers
+pub mod VersionReading
+pub mod VersionSteps

@@ -1,0 +1,259 @@
+-- Laws of faults: each text is a version text or has a fault, never both, and one fault at most.
+use Rattle.std.proofs.Common.{◌≡◌, ◌⊎◌, ◌≤◌, ◌<◌, ℕ, ◌-◌, true, List, [], ◌∷◌, ◌++◌, length, Ok, Err, refl, sym, ap}
+use Rattle.std.proofs.Common.{◌∙◌, inl, inr, arith, subst, append_assoc, append-nil}
+use Rattle.std.proofs.lemmas.Bool.{cases_Bool, le-leb, leb-false, leb-true, lt-leb}
+use Rattle.std.proofs.lemmas.List.{length-append}
+use Rattle.std.specs.Prelude.{Option, Some, None, Result, ◌==◌, if◌then◌else◌, nat_le}
+use Rattle.semver_versions.specs.declared.TheConstants.{MAX_LENGTH, MAX_SAFE_INTEGER}
+use Rattle.semver_versions.specs.Characters.{BeginsWithNo, dot, is_blank, is_digit, is_version_mark, mark_of}
+use Rattle.semver_versions.specs.NumberText.{number_of}
+use Rattle.semver_versions.specs.Version.{VersionValue}
+use Rattle.semver_versions.specs.VersionText.{IsMarked, IsUnmarkedVersion, IsVersionText}
+use Rattle.semver_versions.specs.Reading.{rest_of, skip_one, begins, read_extras, prefix_of, read_version}
+use Rattle.semver_versions.specs.Reading.{read_number, read_triple, read_dot, read_unmarked, version_of}
+use Rattle.semver_versions.specs.declared.parse.fault.Fault.{Fault}
+use Rattle.semver_versions.specs.declared.parse.fault.Fault.TheVariants.{TooLarge}
+use Rattle.semver_versions.specs.ReadingViews.{left_of}
+use Rattle.semver_versions.specs.Lemmas.Texts.Prefixes.{begins-append, rest_of-again, prefix_of-again, no-append, with-begins}
+use Rattle.semver_versions.specs.Lemmas.Texts.Prefixes.{with_no-begins}
+use Rattle.semver_versions.specs.Lemmas.Texts.IdentifierReading.{pick-false, pick-true}
+use Rattle.semver_versions.specs.Lemmas.Texts.LongestReading.{version-longest}
+use Rattle.semver_versions.specs.Lemmas.Texts.NumberReading.{number-again, dot-again}
+use Rattle.semver_versions.specs.Lemmas.Texts.Marks.{skip_one-mark}
+use Rattle.semver_versions.specs.Lemmas.Versions.OneReading.{read-version, version-read}
+use Rattle.semver_versions.specs.Lemmas.Versions.VersionReading.{numbers-again, regroup, version-follows, version-takes}
+use Rattle.semver_versions.specs.Error.{Kind, max_length, other}
+use Rattle.semver_versions.specs.Fault.{IsAllDigits, IsFault, HasPrefix, large_number, left_over, no_number, no_dot}
+use Rattle.semver_versions.specs.Fault.{too_large, too_long, with_dots}
+use Rattle.semver_versions.specs.FaultViews.{kind_in}
+use Rattle.semver_versions.specs.Lemmas.Versions.FaultReading.{AreNumbers, digits-there, fault-takes, prefix-length, left-takes}
+use Rattle.semver_versions.specs.Lemmas.Versions.FaultReading.{missing_at}
+
+-- The fault of a text of this length, if this rest is left after a version
+abbrev left_told : ℕ → List ℕ → Option (Kind × ℕ)
+left_told n [] = None
+left_told n (b ∷ rest) = Some (other, n - length (b ∷ rest))
+
+-- or where this is read
+abbrev told : List ℕ → Result (VersionValue × List ℕ) Fault → Option (Kind × ℕ)
+told text (Ok read) = left_told (length text) read.1
+told text (Err f) = Some (kind_in text f, length text - left_of f)
+
+-- the kind and the offset that a text is refused with, by the reader
+abbrev pub fault_of : List ℕ → Option (Kind × ℕ)
+fault_of text = if nat_le (length text) MAX_LENGTH then told text (read_version text) else Some (
+  max_length,
+  length text - 1,
+)
+
+-- of a text that is short
+short-told : (text : List ℕ) → length text ≤ MAX_LENGTH → fault_of text ≡ told text (read_version text)
+short-told text short = pick-true _ _ _ (le-leb _ _ short)
+
+-- no number is read
+no-number : (text : List ℕ) → BeginsWithNo is_digit text → read_number text ≡ Err (missing_at text)
+unfolding read_number
+no-number text h = rw (with_no-begins is_digit text h) refl
+
+too-large : (digits rest : List ℕ) → IsAllDigits digits rest → MAX_SAFE_INTEGER < number_of digits
+    → read_number (digits ++ rest) ≡ Err (TooLarge (length (digits ++ rest)))
+unfolding read_number
+too-large digits rest all large =
+    let some : begins is_digit (digits ++ rest) ≡ true =
+    with-begins is_digit (digits ++ rest) (begins-append is_digit digits rest all.some) in
+    let here : prefix_of is_digit (digits ++ rest) ≡ digits = prefix_of-again is_digit digits rest all.all all.end in
+    rw (some, here, lt-leb _ _ large) refl
+
+-- no dot is read
+unread-dot : (text : List ℕ) → BeginsWithNo (λ b. b == dot) text → read_dot text ≡ Err (missing_at text)
+unfolding read_dot
+unread-dot [] h = refl
+unread-dot (b ∷ rest) h = rw h refl
+
+-- after a number and its dot
+one-dot : (a rest : List ℕ) → with_dots (a ∷ []) ++ rest ≡ a ++ (dot ∷ rest)
+one-dot a rest = append_assoc a (dot ∷ []) rest
+
+two-dots : (a b rest : List ℕ) → with_dots (a ∷ b ∷ []) ++ rest ≡ a ++ (dot ∷ (b ++ (dot ∷ rest)))
+two-dots a b rest = append_assoc a (dot ∷ (b ++ (dot ∷ []))) rest
+    ∙ ap (λ (l : List ℕ). a ++ (dot ∷ l)) (append_assoc b (dot ∷ []) rest)
+
+-- where no number is read after numbers and their dots
+numbers-stop : (texts : List (List ℕ)) (rest : List ℕ) (e : Fault) → AreNumbers texts → length texts ≤ 2
+    → read_number rest ≡ Err e → read_triple (with_dots texts ++ rest) ≡ Err e
+unfolding read_triple
+numbers-stop [] rest e all few h = rw h refl
+numbers-stop (a ∷ []) rest e all few h =
+    let r = number-again a (dot ∷ rest) all.0.0 all.0.1 refl in
+    rw (one-dot a rest, r, dot-again rest, h) refl
+numbers-stop (a ∷ b ∷ []) rest e all few h =
+    let r = number-again a (dot ∷ (b ++ (dot ∷ rest))) all.0.0 all.0.1 refl in
+    let s = number-again b (dot ∷ rest) all.1.0.0 all.1.0.1 refl in
+    rw (two-dots a b rest, r, dot-again (b ++ (dot ∷ rest)), s, dot-again rest, h) refl
+numbers-stop (a ∷ b ∷ c ∷ texts) rest e all few h = absurd (omega arith)
+
+-- where no dot is read
+dots-stop : (texts : List (List ℕ)) (digits rest : List ℕ) → AreNumbers texts → length texts < 2
+    → IsAllDigits digits rest → number_of digits ≤ MAX_SAFE_INTEGER
+    → BeginsWithNo (λ b. b == dot) rest → read_triple (with_dots texts ++ (digits ++ rest)) ≡ Err (missing_at rest)
+unfolding read_triple
+dots-stop [] digits rest all few here limit none =
+    let n = number-again digits rest (number_of digits)
+    (record { some = here.some; digits = here.all; value = refl; limit = limit }) here.end in
+    rw (n, unread-dot rest none) refl
+dots-stop (a ∷ []) digits rest all few here limit none =
+    let n = number-again digits rest (number_of digits)
+    (record { some = here.some; digits = here.all; value = refl; limit = limit }) here.end in
+    let r = number-again a (dot ∷ (digits ++ rest)) all.0.0 all.0.1 refl in
+    rw (one-dot a (digits ++ rest), r, dot-again (digits ++ rest), n, unread-dot rest none) refl
+dots-stop (a ∷ b ∷ texts) digits rest all few here limit none = absurd (omega arith)
+
+-- a mark and blanks are taken before the numbers of a prefix
+prefix-taken : (text before rest : List ℕ) (count : ℕ) (h : HasPrefix text before rest count)
+    → rest_of is_blank (skip_one is_version_mark text) ≡ with_dots h.numbers ++ rest
+prefix-taken text before rest count h =
+    let whole : text ≡ mark_of is_version_mark text ++ (h.blanks ++ (with_dots h.numbers ++ rest)) = h.whole
+    ∙ ap (λ (l : List ℕ). l ++ rest) h.pieces ∙ simp append_assoc in
+    ap (λ (l : List ℕ). rest_of is_blank l)
+    (skip_one-mark is_version_mark text (h.blanks ++ (with_dots h.numbers ++ rest)) whole)
+    ∙ rest_of-again is_blank h.blanks (with_dots h.numbers ++ rest) h.blank h.blanks_end
+
+-- a fault in the numbers is a fault of the whole
+stopped : (text numbers : List ℕ) (f : Fault) → rest_of is_blank (skip_one is_version_mark text) ≡ numbers
+    → read_triple numbers ≡ Err f → read_version text ≡ Err f
+unfolding read_version read_unmarked
+stopped text numbers f e h = rw (e, h) refl
+
+-- so the fault is where the rest after a prefix begins
+stopped-told : (text beginning rest : List ℕ) (kind : Kind) (f : Fault) → length text ≤ MAX_LENGTH
+    → text ≡ beginning ++ rest → kind_in text f ≡ kind → left_of f ≡ length rest
+    → read_version text ≡ Err f → fault_of text ≡ Some (kind, length beginning)
+stopped-told text beginning rest kind f short whole same left h =
+    short-told text short ∙ ap (λ (r : Result (VersionValue × List ℕ) Fault). told text r) h
+    ∙ rw (same, left) (ap (λ (n : ℕ). Some (kind, n)) (sym (prefix-length text beginning rest whole)))
+
+-- a version with more after it is read, and something may be left
+pub record ReadsSome (text : List ℕ) : Type 0 where
+  pub v : VersionValue
+  pub left : List ℕ
+  pub read : read_version text ≡ Ok (v, left)
+
+version-opens : (text more : List ℕ) (w : VersionValue) → IsMarked is_version_mark (IsUnmarkedVersion w) text
+    → BeginsWithNo is_digit more → ReadsSome (text ++ more)
+unfolding read_version read_unmarked
+version-opens text more w h none =
+    let t = h.read in
+    let split : h.unmarked ++ more ≡ t.first ++ (dot ∷ (t.second ++ (dot ∷ (t.third ++ (t.extras ++ more))))) =
+    ap (λ (l : List ℕ). l ++ more) t.whole ∙ sym (regroup t.first t.second t.third t.extras more) in
+    let n = numbers-again t.first t.second t.third (t.extras ++ more) w.major w.minor w.patch t.major_text
+    t.minor_text t.patch_text
+    (no-append is_digit t.extras more (t.digits_end t.patch_text.some) none) in
+    record {
+      v = version_of (w.major, w.minor, w.patch) (read_extras (t.extras ++ more)).0;
+      left = (read_extras (t.extras ++ more)).1;
+      read = rw (version-follows text more w h, split, n) refl;
+    }
+
+-- the fault is where the rest after the longest version begins
+left-told : (text version : List ℕ) (v w : VersionValue) (b : ℕ) (rest left : List ℕ) → length text ≤ MAX_LENGTH
+    → text ≡ version ++ (b ∷ rest) → IsVersionText version v
+    → ((shorter behind : List ℕ) (u : VersionValue) → text ≡ shorter ++ behind → IsVersionText shorter u
+    → length shorter ≤ length version)
+    → read_version text ≡ Ok (w, left) → left_told (length text) left ≡ Some (other, length version)
+left-told text version v w b rest [] short whole h longest read =
+    let all = longest text [] w (sym (append-nil text)) (read-version text w short read) in
+    absurd (omega (arith, ap length whole, length-append version (b ∷ rest)))
+left-told text version v w b rest (c ∷ left) short whole h longest read =
+    let t = version-takes text w (c ∷ left) read in
+    let taken : IsVersionText t.taken w =
+    record { short = omega (arith, ap length t.whole, length-append t.taken (c ∷ left)); fields = t.read } in
+    let below : length t.taken ≤ length version = longest t.taken (c ∷ left) w t.whole taken in
+    let above : length (c ∷ left) ≤ length (b ∷ rest) =
+    version-longest version (b ∷ rest) (c ∷ left) w v h.fields (ap (λ (l : List ℕ). read_version l) (sym whole)
+    ∙ read) in
+    let same : length text - length (c ∷ left) ≡ length version =
+    omega (
+      arith,
+      ap length whole,
+      ap length t.whole,
+      length-append version (b ∷ rest),
+      length-append t.taken (c ∷ left),
+    ) in
+    ap (λ (n : ℕ). Some (other, n)) same
+
+-- each fault is reported by the reader
+pub fault-again : (text : List ℕ) (kind : Kind) (offset : ℕ) → IsFault text kind offset
+    → fault_of text ≡ Some (kind, offset)
+fault-again text kind offset (too_long long) = pick-false _ _ _ (lt-leb _ _ long)
+fault-again text kind offset (no_number before rest count short h none) =
+    let stops = numbers-stop h.numbers rest (missing_at rest) h.read (omega (arith, h.few, h.counted))
+    (no-number rest none) in
+    stopped-told text before rest kind (missing_at rest) short h.whole refl refl
+    (stopped text (with_dots h.numbers ++ rest) (missing_at rest) (prefix-taken text before rest count h) stops)
+fault-again text kind offset (large_number before digits rest count short h all large) =
+    let e = TooLarge (length (digits ++ rest)) in
+    let stops = numbers-stop h.numbers (digits ++ rest) e h.read (omega (arith, h.few, h.counted))
+    (too-large digits rest all large) in
+    stopped-told text before (digits ++ rest) kind e short h.whole
+    (ap (λ (l : List ℕ). too_large (number_of l)) (digits-there text before digits rest h.whole all)) refl
+    (stopped text (with_dots h.numbers ++ (digits ++ rest)) e (prefix-taken text before (digits ++ rest) count h) stops)
+fault-again text kind offset (no_dot before digits rest count short h few all limit none) =
+    let stops = dots-stop h.numbers digits rest h.read (omega (arith, h.counted)) all limit none in
+    stopped-told text (before ++ digits) rest kind (missing_at rest) short (h.whole
+    ∙ sym (append_assoc before digits rest)) refl refl
+    (stopped text (with_dots h.numbers ++ (digits ++ rest)) (missing_at rest)
+    (prefix-taken text before (digits ++ rest) count h) stops)
+fault-again text kind offset (left_over version v b rest short whole none h longest) =
+    let s = version-opens version (b ∷ rest) v h.fields none in
+    let read : read_version text ≡ Ok (s.v, s.left) = ap (λ (l : List ℕ). read_version l) whole ∙ s.read in
+    short-told text short ∙ ap (λ (r : Result (VersionValue × List ℕ) Fault). told text r) read
+    ∙ left-told text version v s.v b rest s.left short whole h longest read
+
+-- a version text has no fault
+pub version-none : (text : List ℕ) (v : VersionValue) → IsVersionText text v → fault_of text ≡ None
+version-none text v h =
+    short-told text h.short ∙ ap (λ (r : Result (VersionValue × List ℕ) Fault). told text r) (version-read text v h)
+
+-- a text has one fault at most
+pub one_fault : (text : List ℕ) (k l : Kind) (m n : ℕ) → IsFault text k m → IsFault text l n → (k ≡ l) × (m ≡ n)
+one_fault text k l m n h g =
+    let e : Some (k, m) ≡ Some (l, n) = sym (fault-again text k m h) ∙ fault-again text l n g in
+    let f : (k, m) ≡ (l, n) = cc e in
+    (ap (λ (p : Kind × ℕ). p.0) f, ap (λ (p : Kind × ℕ). p.1) f)
+
+-- and a version text none
+pub version-no_fault : (text : List ℕ) (v : VersionValue) (kind : Kind) (offset : ℕ) → IsVersionText text v
+    → IsFault text kind offset → ⊥
+version-no_fault text v kind offset h g = cc (sym (version-none text v h) ∙ fault-again text kind offset g)
+
+-- a text that is read is a version text or has a fault
+abbrev ReadOrFaulty : List ℕ → Type 0
+ReadOrFaulty text = ((v : VersionValue) × IsVersionText text v)
+    ⊎ ((kind : Kind) × (offset : ℕ) × IsFault text kind offset)
+
+result-takes : (text : List ℕ) (r : Result (VersionValue × List ℕ) Fault) → length text ≤ MAX_LENGTH
+    → read_version text ≡ r → ReadOrFaulty text
+result-takes text (Err f) short h = inr (kind_in text f, length text - left_of f, fault-takes text f short h)
+result-takes text (Ok (v, [])) short h = inl (v, read-version text v short h)
+result-takes text (Ok (v, b ∷ rest)) short h =
+    inr (other, length text - length (b ∷ rest), left-takes text v b rest short h)
+
+-- each text is a version text or has a fault
+pub read_or_faulty : (text : List ℕ) → ReadOrFaulty text
+read_or_faulty text = elim (cases_Bool (nat_le (length text) MAX_LENGTH)) [
+  | inl short ↦ result-takes text (read_version text) (leb-true _ _ short) refl
+  | inr long ↦ inr (max_length, length text - 1, too_long (leb-false _ _ long))
+]
+
+-- the fault of a pair
+some-told : (a b : Kind × ℕ) → Some a ≡ Some b → a ≡ b
+some-told a b h = cc h
+
+-- the reader reports only faults
+pub fault-computed : (text : List ℕ) (kind : Kind) (offset : ℕ) → fault_of text ≡ Some (kind, offset)
+    → IsFault text kind offset
+fault-computed text kind offset h = elim (read_or_faulty text) [
+  | inl read ↦ cc (sym (version-none text read.0 read.1) ∙ h)
+  | inr faulty ↦ subst (λ (p : Kind × ℕ). IsFault text p.0 p.1)
+      (some-told (faulty.0, faulty.1) (kind, offset) (sym (fault-again text faulty.0 faulty.1 faulty.2) ∙ h)) faulty.2
+]

@@ -1,0 +1,207 @@
+-- The print of a version of which a text can write the numbers and the identifiers is such a text.
+use Rattle.std.proofs.Common.{◌≡◌, ◌<◌, ◌≤◌, ◌^◌, ◌∙◌, ℕ, Bool, true, false, List, [], ◌∷◌, ◌++◌, map, length}
+use Rattle.std.proofs.Common.{append_assoc, arith, refl, sym, ap, subst, inl, inr}
+use Rattle.std.proofs.lemmas.Bool.{and_parts, cases_Bool, ltb-true}
+use Rattle.std.specs.Fmt.{decimal}
+use Rattle.std.specs.List.{AllByRecursion, join_with_byte, list_all}
+use Rattle.std.specs.Prelude.{◌&&◌, nat_lt}
+use Rattle.semver_versions.specs.declared.TheConstants.{MAX_LENGTH, MAX_SAFE_INTEGER}
+use Rattle.semver_versions.specs.Characters.{BeginsWith, BeginsWithNo, dot, hyphen, is_digit}
+use Rattle.semver_versions.specs.Characters.{is_version_mark, mark_of, plus}
+use Rattle.semver_versions.specs.IdentifierText.{IsBuildText, IsIdentifierList, IsIdentifierText, IsPrereleaseText}
+use Rattle.semver_versions.specs.IdentifierText.{identifier_of, parts_of}
+use Rattle.semver_versions.specs.IdentifierValue.{IdentifierValue}
+use Rattle.semver_versions.specs.NumberText.{IsNumberText, number_of}
+use Rattle.semver_versions.specs.Print.{identifier_text, marked_text, version_text}
+use Rattle.semver_versions.specs.IdentifierText.{IsReadIdentifier}
+use Rattle.semver_versions.specs.Version.{VersionValue}
+use Rattle.semver_versions.specs.VersionText.{IsMarked, IsUnmarkedVersion, IsVersionText}
+use Rattle.semver_versions.specs.Lemmas.Texts.DecimalReading.{decimal-begins, decimal-digits, decimal-identifier, decimal-value}
+use Rattle.semver_versions.specs.Lemmas.Texts.ListReading.{parts-alone, parts-before}
+use Rattle.semver_versions.specs.Lemmas.Versions.ReadIdentifiers.{build-read, prerelease-read}
+use Rattle.semver_versions.specs.Lemmas.Texts.Prefixes.{begins-append}
+use Rattle.semver_versions.specs.Lemmas.Texts.Characters.{digit-no_version_mark}
+use Rattle.semver_versions.specs.ReadingBack.{HasText, HasTextNumbers, VersionReadsBack}
+
+-- ---- numbers
+
+-- the decimal digits of a number within the limit are a number text of it
+number-text : (n : ℕ) → n ≤ MAX_SAFE_INTEGER → IsNumberText (decimal n) n
+number-text n limit =
+    let small : n < 2 ^ 64 = omega arith in
+    record {
+      some = decimal-begins n small;
+      digits = decimal-digits n small;
+      value = sym (decimal-value n small);
+      limit = limit;
+    }
+
+-- ---- identifiers
+
+-- the print of the identifier is an identifier text of it
+abbrev IsPrinted : IdentifierValue → Type 0
+IsPrinted i = IsIdentifierText (identifier_text i) × (identifier_of (identifier_text i) ≡ i)
+
+text-printed : (text : List ℕ) → IsIdentifierText text → IsPrinted (identifier_of text)
+text-printed text is = elim (cases_Bool (list_all is_digit text && nat_lt (number_of text) (2 ^ 64))) [
+  | inl number ↦
+      let fits = and_parts (list_all is_digit text) _ number in
+      rw number (decimal-identifier (number_of text) (ltb-true _ _ fits.1))
+  | inr other ↦ rw other (is, rw other refl)
+]
+
+identifier-printed : (i : IdentifierValue) → IsReadIdentifier i → IsPrinted i
+identifier-printed i read = subst IsPrinted read.2 (text-printed read.0 read.1)
+
+-- the prints of identifiers, joined by dots, have just these parts
+parts-printed : (i : IdentifierValue) (is : List IdentifierValue) → AllByRecursion IsReadIdentifier (i ∷ is)
+    → parts_of (join_with_byte dot (map identifier_text (i ∷ is))) ≡ map identifier_text (i ∷ is)
+parts-printed i [] read = parts-alone (identifier_text i) (identifier-printed i read.0).0.1
+parts-printed i (j ∷ is) read =
+    parts-before (identifier_text i) (join_with_byte dot (map identifier_text (j ∷ is)))
+    (identifier-printed i read.0).0.1
+    ∙ ap (λ (l : List (List ℕ)). identifier_text i ∷ l) (parts-printed j is read.1)
+
+identifiers-texts : (is : List IdentifierValue) → AllByRecursion IsReadIdentifier is
+    → AllByRecursion IsIdentifierText (map identifier_text is)
+identifiers-texts [] read = tt
+identifiers-texts (i ∷ is) read = ((identifier-printed i read.0).0, identifiers-texts is read.1)
+
+identifiers-values : (is : List IdentifierValue) → AllByRecursion IsReadIdentifier is
+    → is ≡ map identifier_of (map identifier_text is)
+identifiers-values [] read = refl
+identifiers-values (i ∷ is) read =
+    ap (λ (j : IdentifierValue). j ∷ is) (sym (identifier-printed i read.0).1)
+    ∙ ap (λ (l : List IdentifierValue). identifier_of (identifier_text i) ∷ l) (identifiers-values is read.1)
+
+list-printed : (i : IdentifierValue) (is : List IdentifierValue) → AllByRecursion IsReadIdentifier (i ∷ is)
+    → IsIdentifierList (join_with_byte dot (map identifier_text (i ∷ is))) (i ∷ is)
+list-printed i is read =
+    let parts = parts-printed i is read in
+    record {
+      parts = subst (λ (l : List (List ℕ)). AllByRecursion IsIdentifierText l) (sym parts)
+          (identifiers-texts (i ∷ is) read);
+      values = identifiers-values (i ∷ is) read
+          ∙ ap (λ (l : List (List ℕ)). map identifier_of l) (sym parts);
+    }
+
+-- ---- extras
+
+prerelease-printed : (is : List IdentifierValue) → AllByRecursion IsReadIdentifier is
+    → IsPrereleaseText (marked_text hyphen is) is
+prerelease-printed [] read = refl
+prerelease-printed (i ∷ is) read =
+    (join_with_byte dot (map identifier_text (i ∷ is)), inl refl, list-printed i is read)
+
+build-printed : (is : List IdentifierValue) → AllByRecursion IsReadIdentifier is → IsBuildText (marked_text plus is) is
+build-printed [] read = refl
+build-printed (i ∷ is) read =
+    (join_with_byte dot (map identifier_text (i ∷ is)), refl, list-printed i is read)
+
+-- after the triple
+abbrev extras_text : VersionValue → List ℕ
+extras_text v = marked_text hyphen v.pre_release ++ marked_text plus v.build
+
+extras_text-no_digit : (pre build : List IdentifierValue)
+    → BeginsWithNo is_digit (marked_text hyphen pre ++ marked_text plus build)
+extras_text-no_digit [] [] = tt
+extras_text-no_digit [] (j ∷ build) = refl
+extras_text-no_digit (i ∷ pre) build = refl
+
+-- ---- versions
+
+-- a text can write the numbers and the identifiers of the version
+pub record IsTextVersion (v : VersionValue) : Type 0 where
+  pub numbers : HasTextNumbers v
+  pub pre_release : AllByRecursion IsReadIdentifier v.pre_release
+  pub build : AllByRecursion IsReadIdentifier v.build
+
+-- the parts of the print, in the order in which they are read
+parts-in_order : (first second third pre build : List ℕ)
+    → first ++ (dot ∷ second) ++ (dot ∷ third) ++ pre ++ build
+    ≡ first ++ (dot ∷ (second ++ (dot ∷ (third ++ (pre ++ build)))))
+parts-in_order first second third pre build =
+    append_assoc (first ++ (dot ∷ second) ++ (dot ∷ third)) pre build
+    ∙ append_assoc (first ++ (dot ∷ second)) (dot ∷ third) (pre ++ build)
+    ∙ append_assoc first (dot ∷ second) (dot ∷ (third ++ (pre ++ build)))
+
+print-whole : (v : VersionValue)
+    → version_text v ≡ decimal v.major ++ (dot ∷ (decimal v.minor ++ (dot ∷ (decimal v.patch ++ extras_text v))))
+print-whole v =
+    parts-in_order (decimal v.major) (decimal v.minor) (decimal v.patch) (marked_text hyphen v.pre_release)
+    (marked_text plus v.build)
+
+pub three-printed : (v : VersionValue) → IsTextVersion v → IsUnmarkedVersion v (version_text v)
+three-printed v is = record {
+  first = decimal v.major;
+  second = decimal v.minor;
+  third = decimal v.patch;
+  extras = extras_text v;
+  whole = print-whole v;
+  major_text = number-text v.major is.numbers.major;
+  minor_text = number-text v.minor is.numbers.minor;
+  patch_text = number-text v.patch is.numbers.patch;
+  digits_end = λ digit. extras_text-no_digit v.pre_release v.build;
+  extras_text = record {
+    prefix = marked_text hyphen v.pre_release;
+    rest = marked_text plus v.build;
+    whole = refl;
+    first = prerelease-printed v.pre_release is.pre_release;
+    second = build-printed v.build is.build;
+  };
+}
+
+-- the print begins with a digit
+pub print-begins : (v : VersionValue) → IsTextVersion v → BeginsWith is_digit (version_text v)
+print-begins v is =
+    subst (BeginsWith is_digit) (sym (print-whole v))
+    (begins-append is_digit (decimal v.major) _ (number-text v.major is.numbers.major).some)
+
+-- so it has no mark
+no-mark : (is_mark : ℕ → Bool) (text : List ℕ) → ((b : ℕ) → is_digit b ≡ true → is_mark b ≡ false)
+    → BeginsWith is_digit text → mark_of is_mark text ≡ []
+no-mark is_mark [] none digit = refl
+no-mark is_mark (b ∷ text) none digit = rw (none b digit) refl
+
+-- a text that begins with a digit has no mark and no blanks
+pub unmarked : (is_mark : ℕ → Bool) (Is : List ℕ → Type 0) (text : List ℕ)
+    → ((b : ℕ) → is_digit b ≡ true → is_mark b ≡ false) → BeginsWith is_digit text → Is text → IsMarked is_mark Is text
+unmarked is_mark Is text none digit is = record {
+  blanks = [];
+  unmarked = text;
+  whole = ap (λ (l : List ℕ). l ++ text) (sym (no-mark is_mark text none digit));
+  blank = refl;
+  read = is;
+}
+
+pub version-printed : (v : VersionValue) → IsTextVersion v → VersionReadsBack v
+version-printed v is short = record {
+  short = short;
+  fields = unmarked is_version_mark (IsUnmarkedVersion v) (version_text v) digit-no_version_mark (print-begins v is)
+      (three-printed v is);
+}
+
+-- a version that was read is one that a text can write
+text-version : (text : List ℕ) (v : VersionValue) → IsVersionText text v → IsTextVersion v
+text-version text v is =
+    let three = is.fields.read in
+    record {
+      numbers = record {
+        major = three.major_text.limit;
+        minor = three.minor_text.limit;
+        patch = three.patch_text.limit;
+      };
+      pre_release = prerelease-read three.extras_text.prefix v.pre_release three.extras_text.first;
+      build = build-read three.extras_text.rest v.build three.extras_text.second;
+    }
+
+-- its print, where it is short enough, is read as that version
+pub version-reads_back : (text : List ℕ) (v : VersionValue) → IsVersionText text v → VersionReadsBack v
+version-reads_back text v is = version-printed v (text-version text v is)
+
+-- so a text that is its print is that version
+pub version-print_read : (text : List ℕ) (v : VersionValue) → HasText v → version_text v ≡ text
+    → length text ≤ MAX_LENGTH → IsVersionText text v
+version-print_read text v has print short =
+    subst (λ (l : List ℕ). IsVersionText l v) print
+    (version-reads_back has.0 v has.1 (subst (λ (l : List ℕ). length l ≤ MAX_LENGTH) (sym print) short))

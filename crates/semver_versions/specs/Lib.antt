@@ -1,0 +1,43 @@
+-- The definitions that contracts use for versions: their texts, their order, and what is wrong with a text. In reading
+-- order. These files are what a reader has to trust.
+
+-- ---- characters, numbers and identifiers, as they are written
+pub mod Characters
+pub mod NumberText
+pub mod IdentifierValue
+pub mod IdentifierText
+-- ---- versions: their text, order, print and hash
+pub mod Version
+pub mod VersionText
+pub mod Order
+pub mod Comparison
+pub mod Print
+pub mod Hash
+-- ---- errors, and the fault of a text that is no version text
+pub mod Error
+pub mod Fault
+pub mod VersionFault
+-- ---- versions: the least one and the next
+pub mod VersionSteps
+-- ---- prints that are read again
+pub mod ReadingBack
+-- ---- JSON strings
+pub mod Json
+-- ---- errors: their line and column, their parts, and how they are printed
+pub mod ErrorLocation
+pub mod ErrorParts
+pub mod ErrorText
+pub mod ErrorEquality
+-- ---- laws over texts alone
+pub mod VersionLaws
+-- ---- how a contract sees values of the program
+pub mod Identifier
+pub mod IdentifierRef
+pub mod EndViews
+-- ---- what readers of bytes compute, for the crates above, and lemmas. No contract of `node_semver` uses these.
+pub mod Reading
+pub mod ReadingViews
+pub mod ListedViews
+pub mod FaultViews
+pub mod RefViews
+pub mod Lemmas

@@ -1,0 +1,24 @@
+//! How identifiers are printed.
+
+ghost use Rattle.std.specs.Prelude.{Some};
+ghost use Rattle.semver_versions.specs.Identifier.{value_of};
+ghost use Rattle.semver_versions.specs.Print.{identifier_text};
+
+use crate::Identifier;
+use std::fmt;
+
+/// Prints the number in decimal without leading zeros, or the text. Width and fill are ignored.
+///
+/// # Examples
+///
+/// `Numeric(1)` prints `1`, also with `{:>9}`.
+impl fmt::Display for Identifier {
+    ghost output = { λ i. Some (identifier_text (value_of i)) };
+
+    fn fmt<W: fmt::Write>(&self, f: &mut fmt::Formatter<W>) -> fmt::Result {
+        match self {
+            Identifier::Numeric(n) => write!(f, "{n}"),
+            Identifier::AlphaNumeric(text) => f.write_str(text.as_str()),
+        }
+    }
+}

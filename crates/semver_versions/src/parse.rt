@@ -1,0 +1,19 @@
+//! The readers that versions and ranges share. Each reader gets the bytes that are left of a text.
+//!
+//! A function `read_..` returns a value and the bytes after it, and `skip_..` returns only the bytes after it. What
+//! each of them computes is defined under the same name in `specs/Reading`, on lists of bytes.
+
+pub mod extras;
+mod fault;
+pub mod identifiers;
+pub mod listed;
+pub mod number;
+pub mod skip;
+mod triple;
+pub mod written;
+
+pub use fault::Fault;
+pub use identifiers::read_prerelease;
+pub use number::leading_digits;
+pub use skip::{begins_clean, skip_blanks, skip_some_blanks};
+pub use triple::{read_extras, read_leading_triple, read_major, read_minor_and_patch};

@@ -1,0 +1,35 @@
+//! What a version can satisfy.
+ghost use Rattle.std.specs.Prelude.{◌↔◌, IsTrue};
+ghost use Rattle.semver_versions.specs.Version.{VersionValue};
+
+use crate::Version;
+
+/// A collection of versions that a version can satisfy, such as `node_semver::Range`.
+///
+/// A contract sees what it admits as a relation, `admits`.
+pub trait Admits {
+    ghost admits: { Self → VersionValue → Type 0 };
+
+    /// Returns `true` if the version is admitted.
+    fn admits_version(&self, version: &Version) -> bool
+        ensures { IsTrue result ↔ admits self.now version.now };
+}
+
+impl Version {
+    /// Returns `true` if the version satisfies the range.
+    ///
+    /// # Memory
+    ///
+    /// Does not allocate.
+    ///
+    /// # Examples
+    ///
+    /// `1.2.3+b` satisfies `=1.2.3+a`, because builds are ignored. `1.2.4` does not.
+    // `inline(always)`: this call is that of the range.
+    #[inline(always)]
+    pub fn satisfies<R: Admits>(&self, range: &R) -> bool
+        ensures { IsTrue result ↔ R.admits range.now self.now }
+    {
+        range.admits_version(self)
+    }
+}

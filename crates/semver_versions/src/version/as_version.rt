@@ -1,0 +1,105 @@
+//! Versions as what ranges are asked about. `#[inline(always)]`: each function is one load, test or call in the search.
+//!
+//! See docs/DECISIONS.md, "All kinds of versions are searched alike".
+ghost use Rattle.std.specs.Prelude.{◌≡◌, ◌↔◌, IsTrue};
+ghost use Rattle.semver_versions.specs.Comparison.{prerelease_cmp, version_cmp};
+ghost use Rattle.semver_versions.specs.Version.{IsPrerelease, VersionValue};
+
+use crate::end::End;
+use crate::{Version, VersionRef};
+use std::cmp::Ordering;
+
+/// A value that is seen as a version, so that ranges can be asked about it.
+///
+/// `Version`, `VersionRef` and the candidates of `least_beyond` have this trait. A contract sees the value as a version
+/// value, `seen`. Values that are seen as the same version satisfy the same ranges.
+///
+/// # Memory
+///
+/// No function allocates.
+pub trait AsVersion {
+    ghost seen: { Self → VersionValue };
+
+    /// Returns `true` if the version has a prerelease.
+    fn is_prerelease(&self) -> bool
+        ensures { IsTrue result ↔ IsPrerelease (seen self.now) };
+
+    /// Returns the major, minor and patch.
+    fn triple(&self) -> (u64, u64, u64)
+        ensures major { result.0 ≡ (seen self.now).major }
+        ensures minor { result.1 ≡ (seen self.now).minor }
+        ensures patch { result.2 ≡ (seen self.now).patch };
+
+    /// Returns the order of what follows the triple in `end` and in the version, for an `end` with the same triple.
+    fn cmp_extras(&self, end: &End) -> Ordering
+        ensures { result ≡ prerelease_cmp end.now.pre_release (seen self.now).pre_release };
+}
+
+/// A version that can be compared with others of its type by precedence.
+///
+/// `max_satisfying` and `min_satisfying` take any type with this
+/// trait. The order is that of the versions that the values are seen as.
+///
+/// # Memory
+///
+/// Does not allocate.
+pub trait OrderedVersion: AsVersion {
+    /// Returns the order of precedence of the two versions. The build is ignored.
+    fn cmp_version(&self, other: &Self) -> Ordering
+        ensures { result ≡ version_cmp (Self.seen self.now) (Self.seen other.now) };
+}
+
+impl AsVersion for Version {
+    ghost seen = { λ version. version };
+
+    #[inline(always)]
+    fn is_prerelease(&self) -> bool {
+        !self.pre_release.is_empty()
+    }
+
+    #[inline(always)]
+    fn triple(&self) -> (u64, u64, u64) {
+        (self.major, self.minor, self.patch)
+    }
+
+    #[inline(always)]
+    fn cmp_extras(&self, end: &End) -> Ordering {
+        if self.pre_release.is_empty() {
+            return end.cmp_release();
+        }
+        end.cmp_pre_release(&self.pre_release)
+    }
+}
+
+impl<'a> AsVersion for VersionRef<'a> {
+    ghost seen = { λ version. version };
+
+    #[inline(always)]
+    fn is_prerelease(&self) -> bool {
+        VersionRef::is_prerelease(self)
+    }
+
+    #[inline(always)]
+    fn triple(&self) -> (u64, u64, u64) {
+        (self.major(), self.minor(), self.patch())
+    }
+
+    #[inline(always)]
+    fn cmp_extras(&self, end: &End) -> Ordering {
+        VersionRef::cmp_extras(self, end)
+    }
+}
+
+impl<'a> OrderedVersion for VersionRef<'a> {
+    #[inline(always)]
+    fn cmp_version(&self, other: &VersionRef<'a>) -> Ordering {
+        self.cmp(other)
+    }
+}
+
+impl OrderedVersion for Version {
+    #[inline(always)]
+    fn cmp_version(&self, other: &Version) -> Ordering {
+        self.cmp(other)
+    }
+}

@@ -4,6 +4,8 @@
 #[cfg(test)]
 mod alternatives;
 #[cfg(test)]
+mod borrowed;
+#[cfg(test)]
 mod bytes;
 #[cfg(test)]
 mod carets;

@@ -1,5 +1,5 @@
 use crate::questions::{PairQuestion, Question, each, each_pair};
-use node_semver::Version;
+use node_semver::{Version, VersionRef};
 use std::alloc::Global;
 use std::cmp::Ordering;
 use std::hash::{DefaultHasher, Hash, Hasher};
@@ -20,6 +20,19 @@ fn versions_compare(v: &Version, w: &Version, wanted: Ordering) -> bool {
         && (hash_of(v) == hash_of(w)) == wanted.is_eq()
 }
 
+// The same for versions that borrow these texts, and for `v` and one that does.
+fn borrowed_compare(v: &Version, text: &str, other: &str, wanted: Ordering) -> bool {
+    match (VersionRef::parse(text), VersionRef::parse(other)) {
+        (Ok(one), Ok(two)) => {
+            one.cmp(&two) == wanted
+                && two.cmp(&one) == wanted.reverse()
+                && (one == two) == wanted.is_eq()
+                && v.cmp_ref(&two) == wanted
+        }
+        _ => false,
+    }
+}
+
 pub(crate) fn texts_compare(alloc: Global, text: &str, other: &str, wanted: Ordering) -> bool {
     let Ok(v) = Version::parse(alloc, text) else {
         return false;
@@ -27,7 +40,7 @@ pub(crate) fn texts_compare(alloc: Global, text: &str, other: &str, wanted: Orde
     let Ok(w) = Version::parse(alloc, other) else {
         return false;
     };
-    versions_compare(&v, &w, wanted)
+    versions_compare(&v, &w, wanted) && borrowed_compare(&v, text, other, wanted)
 }
 
 // SemVer 2.0.0, section 11.4.

@@ -1,3 +1,4 @@
+use crate::borrowed::both_read;
 use crate::checks::holds;
 use node_semver::{Range, SemverError, Version};
 use std::alloc::Global;
@@ -14,6 +15,9 @@ fn described(alloc: Global, error: &SemverError, text: &str) -> Option<String> {
 
 // The print of a version, or the error of its text.
 pub(crate) fn version_print(alloc: Global, text: &str) -> Option<String> {
+    if !both_read(alloc, text) {
+        return None;
+    }
     match Version::parse(alloc, text) {
         Ok(version) => version.to_string(alloc).ok(),
         Err(error) => described(alloc, &error, text),

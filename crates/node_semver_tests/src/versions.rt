@@ -1,3 +1,4 @@
+use crate::borrowed::both_read;
 use crate::checks::is_print;
 use crate::order::texts_compare;
 use crate::print_or_error::version_print;
@@ -45,6 +46,9 @@ fn shape(alloc: Global, version: &Version) -> Option<String> {
 }
 
 pub(crate) fn shape_of_text(alloc: Global, text: &str) -> Option<String> {
+    if !both_read(alloc, text) {
+        return None;
+    }
     match Version::parse(alloc, text) {
         Ok(version) => shape(alloc, &version),
         Err(_) => None,

@@ -1,7 +1,9 @@
 use crate::checks::is_print;
 use crate::pairs::range;
 use crate::questions::{Question, each};
-use node_semver::{Identifier, IdentifierRef, Range, Version, VersionRef, max_satisfying, min_satisfying};
+use node_semver::{
+    Identifier, IdentifierRef, Range, Version, VersionRef, max_satisfying, min_satisfying,
+};
 use std::alloc::Global;
 
 // The first range, the second, and the least version that the first admits and the second does not: the empty text
@@ -112,8 +114,13 @@ fn are_borrowed_alike(alloc: Global, texts: &str, versions: &[Version], range: &
     let Some(borrowed) = &read_borrowed(alloc, texts) else {
         return false;
     };
-    is_same_version(max_satisfying(borrowed, range), max_satisfying(versions, range))
-        && is_same_version(min_satisfying(borrowed, range), min_satisfying(versions, range))
+    is_same_version(
+        max_satisfying(borrowed, range),
+        max_satisfying(versions, range),
+    ) && is_same_version(
+        min_satisfying(borrowed, range),
+        min_satisfying(versions, range),
+    )
 }
 
 fn is_same_version(one: Option<&VersionRef<'_>>, other: Option<&Version>) -> bool {
@@ -128,7 +135,8 @@ fn is_same_version(one: Option<&VersionRef<'_>>, other: Option<&Version>) -> boo
 fn is_same_build(one: &VersionRef<'_>, other: &Version) -> bool {
     let mut build = one.build();
     match (build.next(), other.build.first()) {
-        (Some(IdentifierRef::AlphaNumeric(a)), Some(Identifier::AlphaNumeric(b))) => a == b.as_str(),
+        (Some(IdentifierRef::AlphaNumeric(a)), Some(Identifier::AlphaNumeric(b))) => a
+            == b.as_str(),
         (Some(IdentifierRef::Numeric(a)), Some(Identifier::Numeric(b))) => a == *b,
         (None, None) => true,
         _ => false,

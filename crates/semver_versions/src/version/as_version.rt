@@ -37,8 +37,8 @@ pub trait AsVersion {
 
 /// A version that can be compared with others of its type by precedence.
 ///
-/// `max_satisfying` and `min_satisfying` take any type with this
-/// trait. The order is that of the versions that the values are seen as.
+/// `max_satisfying` and `min_satisfying` take any type with this trait. The order is that of the versions that the values
+/// are seen as.
 ///
 /// # Memory
 ///

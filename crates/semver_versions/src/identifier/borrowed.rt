@@ -140,7 +140,7 @@ fn borrowed_of(text: &[u8]) -> IdentifierRef<'_>
 
 // The identifier, by reference.
 #[inline]
-fn lent(identifier: &Identifier) -> IdentifierRef<'_>
+fn by_reference(identifier: &Identifier) -> IdentifierRef<'_>
     ensures { borrowed_value result ≡ value_of identifier.now }
 {
     match identifier {
@@ -207,7 +207,7 @@ fn cmp_list_with_text(list: &[Identifier], text: &[u8]) -> Ordering
             return Ordering::Greater;
         }
         let (second, after_second) = split_first(other);
-        match cmp_identifiers(lent(first), borrowed_of(second)) {
+        match cmp_identifiers(by_reference(first), borrowed_of(second)) {
             Ordering::Equal => {}
             order => return order,
         }

@@ -1,6 +1,6 @@
 //! Ranges: which versions a range text admits.
 //!
-//! See docs/DECISIONS.md, "`Drop` of `Range` and `End` is written by hand".
+//! See docs/DECISIONS.md, "`Drop` of `Range` and `EndVersion` is written by hand".
 ghost use Rattle.std.specs.Prelude.{◌≡◌, ◌↔◌, ◌∷◌, [], IfOk, IsTrue};
 ghost use Rattle.semver_sets.specs.Meaning.{RangeAdmits};
 ghost use Rattle.semver_sets.specs.Merging.{all_cuts};
@@ -26,7 +26,7 @@ use semver_sets::read::full::{FullLead, caret_set, exact_set, read_full, tilde_s
 use semver_sets::set_list::Sets;
 use semver_sets::set_list::searched::Searched;
 use semver_versions::Admits;
-use semver_versions::end::End;
+use semver_versions::end::EndVersion;
 use std::alloc::{AllocError, Global};
 use std::marker::Model;
 
@@ -214,7 +214,7 @@ impl Range {
     // The range of one set, without a list. `inline(always)`: the range is built in the place of the caller's result;
     // so also below.
     #[inline(always)]
-    pub(crate) fn of_set(set: Span<End>) -> Range
+    pub(crate) fn of_set(set: Span<EndVersion>) -> Range
         requires { IsRangeSet set }
         ensures { result ≡ set ∷ [] }
     {
@@ -225,7 +225,7 @@ impl Range {
 
     // The range of a list of sets.
     #[inline(always)]
-    pub(crate) fn of_sets(alloc: Global, sets: Vec<Span<End>>) -> Result<Range, AllocError>
+    pub(crate) fn of_sets(alloc: Global, sets: Vec<Span<EndVersion>>) -> Result<Range, AllocError>
         requires { IsRangeValue sets.items }
         ensures { IfOk result (λ r. r ≡ sets.items) }
     {

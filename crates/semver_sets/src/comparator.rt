@@ -12,15 +12,15 @@ ghost use Rattle.semver_versions.specs.Comparison.{version_cmp};
 ghost use Rattle.semver_sets.specs.Private.RangeViews.{HasSpan, IsCommonSpan, IsSpanOf};
 
 use semver_cuts::{Cut, Span};
-use semver_versions::end::End;
+use semver_versions::end::EndVersion;
 use std::marker::Model;
 
 // Where a comparator begins and ends: `>=1.2.3` goes from just before 1.2.3 to the end. It may contain no cut, as ` - `
 // with crossed ends: `2 - 1`.
 #[derive(Drop)]
 pub(crate) struct Comparator {
-    pub(crate) lower: Cut<End>,
-    pub(crate) upper: Cut<End>,
+    pub(crate) lower: Cut<EndVersion>,
+    pub(crate) upper: Cut<EndVersion>,
 }
 
 impl Model for Comparator {
@@ -36,8 +36,8 @@ impl Model for Comparator {
 #[derive(Drop)]
 pub(crate) struct CommonSpan {
     found: bool,
-    lower: Cut<End>,
-    upper: Cut<End>,
+    lower: Cut<EndVersion>,
+    upper: Cut<EndVersion>,
 }
 
 impl Model for CommonSpan {
@@ -81,7 +81,7 @@ impl CommonSpan {
 
     // The set that the comparators give, or `None` if there was no comparator or they share no cut.
     #[inline(always)]
-    pub(crate) fn into_set(self) -> Option<Span<End>>
+    pub(crate) fn into_set(self) -> Option<Span<EndVersion>>
         ensures { IsSpanOf self result }
     {
         if self.has_cut() {
@@ -102,7 +102,7 @@ impl CommonSpan {
 
 // Keeps the greater of two lower ends, and the later of equal ones. Usually one of them is `Start`.
 #[inline(always)]
-fn keep_greatest(kept: &mut Cut<End>, later: Cut<End>)
+fn keep_greatest(kept: &mut Cut<EndVersion>, later: Cut<EndVersion>)
     ensures { IsLaterGreatest version_cmp kept.old later kept.new }
 {
     if let Cut::Start = later {
@@ -117,7 +117,7 @@ fn keep_greatest(kept: &mut Cut<End>, later: Cut<End>)
 
 // The same for any two lower ends.
 #[inline(never)]
-fn keep_greater(kept: &mut Cut<End>, later: Cut<End>)
+fn keep_greater(kept: &mut Cut<EndVersion>, later: Cut<EndVersion>)
     ensures { IsLaterGreatest version_cmp kept.old later kept.new }
 {
     if later < *kept {
@@ -128,7 +128,7 @@ fn keep_greater(kept: &mut Cut<End>, later: Cut<End>)
 
 // Keeps the lesser of two upper ends, and the earlier of equal ones. Usually one of them is `End`.
 #[inline(always)]
-fn keep_least(kept: &mut Cut<End>, later: Cut<End>)
+fn keep_least(kept: &mut Cut<EndVersion>, later: Cut<EndVersion>)
     ensures { IsEarlierLeast version_cmp kept.old later kept.new }
 {
     if let Cut::End = later {
@@ -143,7 +143,7 @@ fn keep_least(kept: &mut Cut<End>, later: Cut<End>)
 
 // The same for any two upper ends.
 #[inline(never)]
-fn keep_lesser(kept: &mut Cut<End>, later: Cut<End>)
+fn keep_lesser(kept: &mut Cut<EndVersion>, later: Cut<EndVersion>)
     ensures { IsEarlierLeast version_cmp kept.old later kept.new }
 {
     if later < *kept {

@@ -5,7 +5,7 @@ ghost use Rattle.semver_sets.specs.RangePrint.{set_text};
 ghost use Rattle.semver_versions.specs.declared.line.TheConstants.{ROOM, VERSION_ROOM};
 
 use semver_cuts::{Cut, Span};
-use semver_versions::end::End;
+use semver_versions::end::EndVersion;
 use semver_versions::line::{ROOM, put_byte, put_version};
 use std::str;
 
@@ -14,7 +14,7 @@ use std::str;
 /// Returns `None` if the set has another form than `>=1.2.3 <2.0.0-0`, `1.2.3` or `>=1.2.3`, or if an end has a build
 /// or a prerelease other than `0`.
 #[inline]
-pub fn line_of<'a>(line: &'a mut [u8; ROOM], set: &Span<End>) -> Option<&'a str>
+pub fn line_of<'a>(line: &'a mut [u8; ROOM], set: &Span<EndVersion>) -> Option<&'a str>
     ensures { IfSome result (λ text. text.now ≡ set_text set.now) }
 {
     let start = put_set(line, set)?;
@@ -23,7 +23,7 @@ pub fn line_of<'a>(line: &'a mut [u8; ROOM], set: &Span<End>) -> Option<&'a str>
 
 // Writes the set's text to the end of the line, and returns where it begins.
 #[inline]
-fn put_set(line: &mut [u8; ROOM], set: &Span<End>) -> Option<usize>
+fn put_set(line: &mut [u8; ROOM], set: &Span<EndVersion>) -> Option<usize>
     ensures place { IfSome result (λ start. start ≤ ROOM) }
     ensures text { IfSome result (λ start. drop start line.new ≡ set_text set.now) }
 {
@@ -41,7 +41,7 @@ fn put_set(line: &mut [u8; ROOM], set: &Span<End>) -> Option<usize>
 
 // `>=1.2.3`
 #[inline]
-fn put_at_least(line: &mut [u8; ROOM], end: usize, version: &End) -> Option<usize>
+fn put_at_least(line: &mut [u8; ROOM], end: usize, version: &EndVersion) -> Option<usize>
     requires { (VERSION_ROOM + 2 ≤ end) × (end ≤ ROOM) }
     ensures place { IfSome result (λ start. start ≤ end) }
     ensures text { IfSome result (λ start.
@@ -54,7 +54,7 @@ fn put_at_least(line: &mut [u8; ROOM], end: usize, version: &End) -> Option<usiz
 
 // `<2.0.0-0`, at the end of the line
 #[inline]
-fn put_below(line: &mut [u8; ROOM], version: &End) -> Option<usize>
+fn put_below(line: &mut [u8; ROOM], version: &EndVersion) -> Option<usize>
     ensures place { IfSome result (λ start. (ROOM ≤ start + VERSION_ROOM + 1) × (start ≤ ROOM)) }
     ensures text { IfSome result (λ start. drop start line.new ≡ codes "<" ++ version_text version.now) }
 {

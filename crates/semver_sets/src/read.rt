@@ -16,7 +16,7 @@ use crate::word::skip_thrown_away;
 use alternative::read_set;
 use pieces::next_piece;
 use semver_cuts::Span;
-use semver_versions::end::End;
+use semver_versions::end::EndVersion;
 pub use sets::read_sets;
 use std::alloc::Global;
 
@@ -42,7 +42,7 @@ pub enum Unread {
 /// Allocates the identifiers of the set's ends.
 // `inline(always)`: it has one caller, and its set is built in the place of that caller's result.
 #[inline(always)]
-pub fn read_only_set(alloc: Global, text: &[u8]) -> Result<Span<End>, Unread>
+pub fn read_only_set(alloc: Global, text: &[u8]) -> Result<Span<EndVersion>, Unread>
     ensures set { IfOk result (λ set. AreSetsOfText text.now (set ∷ [])) }
     ensures holds { IfOk result IsRangeSet }
     ensures refused { IfErr result (λ unread. unread ≡ Refused → IsRefused text.now) }

@@ -15,7 +15,7 @@ ghost use Rattle.semver_versions.specs.Version.{IsPrerelease, VersionValue, rele
 use crate::Counts;
 use semver_cuts::{Cut, Span};
 use semver_versions::AsVersion;
-use semver_versions::end::End;
+use semver_versions::end::EndVersion;
 use std::cmp::Ordering;
 
 /// Returns `true` if the set admits the version, and adds the comparisons that this takes to `comparisons`.
@@ -23,7 +23,11 @@ use std::cmp::Ordering;
 /// A release is admitted if it lies inside the set. A prerelease also needs an end that is a prerelease of its triple.
 /// If there is none, it is not compared at all.
 #[inline(always)]
-pub fn admits<V: AsVersion, C: Counts>(set: &Span<End>, version: &V, comparisons: &mut C) -> bool
+pub fn admits<V: AsVersion, C: Counts>(
+    set: &Span<EndVersion>,
+    version: &V,
+    comparisons: &mut C,
+) -> bool
     ensures answer { IsTrue result ↔ SetAdmits set.now (V.seen version.now) }
     ensures adds { C.count comparisons.old ≤ C.count comparisons.new }
     ensures short { C.count comparisons.new ≤ C.count comparisons.old + 2 }
@@ -41,7 +45,7 @@ pub fn admits<V: AsVersion, C: Counts>(set: &Span<End>, version: &V, comparisons
 // The same for a prerelease. `inline(never)`: releases are checked most often.
 #[inline(never)]
 fn admits_prerelease<V: AsVersion, C: Counts>(
-    set: &Span<End>,
+    set: &Span<EndVersion>,
     version: &V,
     comparisons: &mut C,
 ) -> bool
@@ -58,7 +62,7 @@ fn admits_prerelease<V: AsVersion, C: Counts>(
 // The same, inlined.
 #[inline(always)]
 pub(crate) fn admits_opened<V: AsVersion, C: Counts>(
-    set: &Span<End>,
+    set: &Span<EndVersion>,
     version: &V,
     comparisons: &mut C,
 ) -> bool
@@ -75,7 +79,7 @@ pub(crate) fn admits_opened<V: AsVersion, C: Counts>(
 // Returns `true` if the version lies inside the set.
 #[inline(always)]
 pub(crate) fn has_inside<V: AsVersion, C: Counts>(
-    set: &Span<End>,
+    set: &Span<EndVersion>,
     version: &V,
     comparisons: &mut C,
 ) -> bool
@@ -92,7 +96,7 @@ pub(crate) fn has_inside<V: AsVersion, C: Counts>(
 // that compares a version with a cut, and it counts the comparison.
 #[inline(always)]
 pub(crate) fn is_at_or_before<V: AsVersion, C: Counts>(
-    cut: &Cut<End>,
+    cut: &Cut<EndVersion>,
     version: &V,
     comparisons: &mut C,
 ) -> bool
@@ -106,7 +110,7 @@ pub(crate) fn is_at_or_before<V: AsVersion, C: Counts>(
 // The same without the count. Most cuts are at an end whose triple differs from the version's, so only triples are
 // compared.
 #[inline(always)]
-fn is_at_most<V: AsVersion>(cut: &Cut<End>, version: &V) -> bool
+fn is_at_most<V: AsVersion>(cut: &Cut<EndVersion>, version: &V) -> bool
     ensures { IsTrue result ↔ IsCutAtMost version_cmp cut.now (Before (V.seen version.now)) }
 {
     match cut {
@@ -129,7 +133,7 @@ fn is_at_most<V: AsVersion>(cut: &Cut<End>, version: &V) -> bool
 
 // The same for a cut at an end with the version's triple.
 #[inline(always)]
-fn is_at_most_in_triple<V: AsVersion>(cut: &Cut<End>, version: &V) -> bool
+fn is_at_most_in_triple<V: AsVersion>(cut: &Cut<EndVersion>, version: &V) -> bool
     requires { IsAtTriple cut.now (V.seen version.now) }
     ensures { IsTrue result ↔ IsCutAtMost version_cmp cut.now (Before (V.seen version.now)) }
 {
@@ -141,7 +145,7 @@ fn is_at_most_in_triple<V: AsVersion>(cut: &Cut<End>, version: &V) -> bool
 }
 
 #[inline]
-fn is_start(cut: &Cut<End>) -> bool
+fn is_start(cut: &Cut<EndVersion>) -> bool
     ensures { IsTrue result ↔ (cut.now ≡ Start) }
 {
     match cut {
@@ -152,7 +156,7 @@ fn is_start(cut: &Cut<End>) -> bool
 
 // Returns `true` if an end of the set is a prerelease of the version's triple.
 #[inline(always)]
-fn has_open_end<V: AsVersion>(set: &Span<End>, version: &V) -> bool
+fn has_open_end<V: AsVersion>(set: &Span<EndVersion>, version: &V) -> bool
     ensures { IsTrue result ↔ HasOpenEnd (V.seen version.now) set.now }
 {
     let triple = version.triple();
@@ -161,7 +165,7 @@ fn has_open_end<V: AsVersion>(set: &Span<End>, version: &V) -> bool
 
 /// Returns `true` if the cut is at a prerelease of the triple. Such an end opens the triple for other prereleases.
 #[inline]
-pub fn opens(cut: &Cut<End>, triple: (u64, u64, u64)) -> bool
+pub fn opens(cut: &Cut<EndVersion>, triple: (u64, u64, u64)) -> bool
     ensures { IsTrue result ↔ Opens cut.now (release triple.0 triple.1 triple.2) }
 {
     match cut {

@@ -22,7 +22,7 @@ use crate::set_list::searched::Searched;
 use semver_cuts::Span;
 use semver_cuts::algebra::MergedSpans;
 use semver_versions::AsVersion;
-use semver_versions::end::End;
+use semver_versions::end::EndVersion;
 
 /// The sets of a range: at least one. A contract sees them as a list, `sets_seen`.
 ///
@@ -30,7 +30,7 @@ use semver_versions::end::End;
 #[derive(Debug, Drop)]
 pub enum Sets {
     /// One set.
-    One(Span<End>),
+    One(Span<EndVersion>),
     /// Several sets, or one set that came in a list.
     Many(Searched),
 }
@@ -38,7 +38,7 @@ pub enum Sets {
 impl Sets {
     /// Returns the sets as a slice.
     #[inline(always)]
-    pub fn as_slice(&self) -> &[Span<End>]
+    pub fn as_slice(&self) -> &[Span<EndVersion>]
         ensures { result.now ≡ sets_seen self.now }
     {
         match self {
@@ -49,7 +49,7 @@ impl Sets {
 
     /// Returns the sets with their merged spans.
     #[inline(always)]
-    pub fn merged(&self) -> MergedSpans<'_, '_, End>
+    pub fn merged(&self) -> MergedSpans<'_, '_, EndVersion>
         ensures { result.list ≡ sets_seen self.now }
     {
         match self {

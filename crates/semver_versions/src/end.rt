@@ -23,19 +23,19 @@ use std::marker::Model;
 /// A contract sees the version itself. A version without prerelease and build, or with the prerelease `0` alone, is
 /// stored without an allocation.
 #[derive(Debug)]
-pub struct End {
+pub struct EndVersion {
     pub major: u64,
     pub minor: u64,
     pub patch: u64,
     pub(crate) extras: Extras,
 }
 
-// `Drop` is written by hand so that dropping an `End` is one call in a caller's proof; the derived one adds a branch
-// for each form of its extras. `inline(always)`: the code is then as fast as the derived one.
-impl Drop for End {
+// `Drop` is written by hand so that dropping an `EndVersion` is one call in a caller's proof; the derived one adds a
+// branch for each form of its extras. `inline(always)`: the code is then as fast as the derived one.
+impl Drop for EndVersion {
     #[inline(always)]
     fn drop(self) {
-        let End {
+        let EndVersion {
             major: _,
             minor: _,
             patch: _,
@@ -62,7 +62,7 @@ pub(crate) struct Lists {
     pub(crate) build: Vec<Identifier>,
 }
 
-impl Model for End {
+impl Model for EndVersion {
     ghost use Rattle.semver_versions.specs.Version.{VersionValue};
     ghost use Rattle.semver_versions.specs.EndViews.{build_seen, prerelease_seen};
 
@@ -77,14 +77,14 @@ impl Model for End {
     } };
 }
 
-impl End {
+impl EndVersion {
     /// Returns the release with this triple: `1.2.3`. Does not allocate.
     // `inline(always)` here and below: a few stores, or one test of the extras.
     #[inline(always)]
-    pub fn release(major: u64, minor: u64, patch: u64) -> End
+    pub fn release(major: u64, minor: u64, patch: u64) -> EndVersion
         ensures { result ≡ Versions.release major minor patch }
     {
-        End {
+        EndVersion {
             major,
             minor,
             patch,
@@ -94,10 +94,10 @@ impl End {
 
     /// Returns the least version with this triple: `1.2.3-0`. Does not allocate.
     #[inline(always)]
-    pub fn least(major: u64, minor: u64, patch: u64) -> End
+    pub fn least(major: u64, minor: u64, patch: u64) -> EndVersion
         ensures { result ≡ Versions.least_of major minor patch }
     {
-        End {
+        EndVersion {
             major,
             minor,
             patch,
@@ -111,7 +111,7 @@ impl End {
         triple: (u64, u64, u64),
         pre_release: Vec<Identifier>,
         build: Vec<Identifier>,
-    ) -> Result<End, AllocError>
+    ) -> Result<EndVersion, AllocError>
         ensures { IfOk result (λ e. e ≡ record {
           major = triple.0;
           minor = triple.1;
@@ -122,10 +122,10 @@ impl End {
     {
         let (major, minor, patch) = triple;
         if pre_release.is_empty() && build.is_empty() {
-            return Ok(End::release(major, minor, patch));
+            return Ok(EndVersion::release(major, minor, patch));
         }
         let lists = Lists { pre_release, build };
-        Ok(End {
+        Ok(EndVersion {
             major,
             minor,
             patch,

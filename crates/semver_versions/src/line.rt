@@ -4,7 +4,7 @@ ghost use Rattle.semver_versions.specs.Characters.{dot};
 ghost use Rattle.semver_versions.specs.Print.{version_text};
 ghost use Rattle.semver_versions.specs.declared.line.TheConstants.{NUMBER_ROOM, ROOM, TRIPLE_ROOM, VERSION_ROOM};
 
-use crate::end::{End, Extras};
+use crate::end::{EndVersion, Extras};
 use itoa::write_digits;
 use std::str;
 
@@ -80,7 +80,7 @@ pub fn put_byte(line: &mut [u8; ROOM], end: usize, byte: u8) -> usize
 /// Writes `1.2.3` or `1.2.3-0` so that it ends at `end`, and returns where it begins. Returns `None` for a version with a
 /// build or another prerelease.
 #[inline]
-pub fn put_version(line: &mut [u8; ROOM], end: usize, version: &End) -> Option<usize>
+pub fn put_version(line: &mut [u8; ROOM], end: usize, version: &EndVersion) -> Option<usize>
     requires { (VERSION_ROOM ≤ end) × (end ≤ ROOM) }
     ensures place { IfSome result (λ start. (start ≤ end) × (end ≤ start + VERSION_ROOM)) }
     ensures text { IfSome result (λ start. drop start line.new ≡ version_text version.now ++ drop end line.old) }

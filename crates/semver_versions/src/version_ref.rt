@@ -7,7 +7,7 @@ mod order;
 mod read;
 
 use crate::Identifiers;
-use crate::end::End;
+use crate::end::EndVersion;
 pub use fault::VersionFault;
 use std::cmp::Ordering;
 use std::marker::Model;
@@ -118,7 +118,7 @@ impl<'a> VersionRef<'a> {
     /// Returns the order of what follows the triple in `end` and in this version, for an `end` with the same triple.
     // `inline(always)`: a release, as most versions are, is compared without a call.
     #[inline(always)]
-    pub fn cmp_extras(&self, end: &End) -> Ordering
+    pub fn cmp_extras(&self, end: &EndVersion) -> Ordering
         ensures { result ≡ prerelease_cmp end.now.pre_release self.now.pre_release }
     {
         if self.pre_release.is_empty() {

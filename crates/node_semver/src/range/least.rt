@@ -17,7 +17,7 @@ pub(crate) mod unbuilt;
 use crate::{Identifier, Range, Version};
 use semver_cuts::{Cut, Span};
 use semver_sets::set::opens;
-use semver_versions::end::{BorrowedIdentifiers, End};
+use semver_versions::end::{BorrowedIdentifiers, EndVersion};
 use std::alloc::{AllocError, Global};
 use unbuilt::Unbuilt;
 
@@ -62,7 +62,7 @@ impl Range {
 // If the range has one set, which begins just before a release without build: that release, which is the least. Most
 // ranges are such.
 #[inline(always)]
-fn plain_beginning(sets: &[Span<End>]) -> Option<&End>
+fn plain_beginning(sets: &[Span<EndVersion>]) -> Option<&EndVersion>
     requires { AllByRecursion IsRangeSet sets.now }
     ensures least { IfSome result (λ v. IsLeastOfSets sets.now (Some v.now)) }
     ensures plain { IfSome result (λ v. v.now ≡ release v.now.major v.now.minor v.now.patch) }
@@ -78,7 +78,7 @@ fn plain_beginning(sets: &[Span<End>]) -> Option<&End>
 
 // The least version that one of the sets admits, built.
 #[inline(never)]
-fn least_built(alloc: Global, sets: &[Span<End>]) -> Result<Option<Version>, AllocError>
+fn least_built(alloc: Global, sets: &[Span<EndVersion>]) -> Result<Option<Version>, AllocError>
     requires { AllByRecursion IsRangeSet sets.now }
     ensures { IfOk result (IsLeastOfSets sets.now) }
 {
@@ -90,7 +90,7 @@ fn least_built(alloc: Global, sets: &[Span<End>]) -> Result<Option<Version>, All
 
 // The same, as a candidate that is not built.
 #[inline]
-fn least_of_sets(sets: &[Span<End>]) -> Option<Unbuilt<'_>>
+fn least_of_sets(sets: &[Span<EndVersion>]) -> Option<Unbuilt<'_>>
     requires { AllByRecursion IsRangeSet sets.now }
     ensures { IsLeastOfSets sets.now result }
 {
@@ -104,7 +104,7 @@ fn least_of_sets(sets: &[Span<End>]) -> Option<Unbuilt<'_>>
 // Keeps the least version of the set if it is less than the least so far. Most sets begin just before a version. If
 // that version is not less than the least so far, one comparison is enough.
 #[inline(always)]
-fn keep_least<'a>(least: &mut Option<Unbuilt<'a>>, set: &'a Span<End>)
+fn keep_least<'a>(least: &mut Option<Unbuilt<'a>>, set: &'a Span<EndVersion>)
     requires { IsRangeSet set.now }
     ensures { IsKept set.now least.old least.new }
 {
@@ -115,7 +115,7 @@ fn keep_least<'a>(least: &mut Option<Unbuilt<'a>>, set: &'a Span<End>)
 }
 
 #[inline(always)]
-fn keep_lesser_end<'a>(least: &mut Option<Unbuilt<'a>>, end: &'a End)
+fn keep_lesser_end<'a>(least: &mut Option<Unbuilt<'a>>, end: &'a EndVersion)
     ensures { IsLesser least.old (Some end.now) least.new }
 {
     if is_end_lesser(end, least) {
@@ -124,7 +124,7 @@ fn keep_lesser_end<'a>(least: &mut Option<Unbuilt<'a>>, end: &'a End)
 }
 
 #[inline(always)]
-fn is_end_lesser(end: &End, least: &Option<Unbuilt<'_>>) -> bool
+fn is_end_lesser(end: &EndVersion, least: &Option<Unbuilt<'_>>) -> bool
     ensures taken { IsTrue result → IsLesser least.now (Some end.now) (Some end.now) }
     ensures left { IsFalse result → IsLesser least.now (Some end.now) least.now }
 {
@@ -136,7 +136,7 @@ fn is_end_lesser(end: &End, least: &Option<Unbuilt<'_>>) -> bool
 
 // The same for a set that does not begin just before a version.
 #[inline(never)]
-fn keep_least_inside<'a>(least: &mut Option<Unbuilt<'a>>, set: &'a Span<End>)
+fn keep_least_inside<'a>(least: &mut Option<Unbuilt<'a>>, set: &'a Span<EndVersion>)
     requires { IsRangeSet set.now }
     ensures { IsKept set.now least.old least.new }
 {
@@ -167,7 +167,7 @@ fn is_lesser(later: &Option<Unbuilt<'_>>, least: &Option<Unbuilt<'_>>) -> bool
 
 // The least version that the set admits. If the set begins just before a version, it is that version.
 #[inline]
-fn least_of_set(set: &Span<End>) -> Option<Unbuilt<'_>>
+fn least_of_set(set: &Span<EndVersion>) -> Option<Unbuilt<'_>>
     requires { IsRangeSet set.now }
     ensures { IsLeastOfSet set.now result }
 {
@@ -188,7 +188,7 @@ fn least_of_set(set: &Span<End>) -> Option<Unbuilt<'_>>
 // opens it.
 #[inline]
 fn least_of_triple<'a>(
-    upper: &Cut<End>,
+    upper: &Cut<EndVersion>,
     triple: (u64, u64, u64),
     build: &'a [Identifier],
 ) -> Unbuilt<'a>

@@ -9,7 +9,7 @@ ghost use Rattle.node_semver.specs.Lemmas.RangePrint.{barred_text};
 use crate::Range;
 use semver_cuts::{Cut, Span};
 use semver_sets::line::line_of;
-use semver_versions::end::{End, Zero};
+use semver_versions::end::{EndVersion, Zero};
 use semver_versions::line::ROOM;
 use semver_versions::version::display::write_version;
 use std::fmt;
@@ -48,7 +48,7 @@ impl fmt::Display for Range {
 }
 
 // Writes `||` and the set, for each set.
-fn write_barred<W: fmt::Write>(f: &mut fmt::Formatter<W>, sets: &[Span<End>]) -> fmt::Result
+fn write_barred<W: fmt::Write>(f: &mut fmt::Formatter<W>, sets: &[Span<EndVersion>]) -> fmt::Result
     ensures { WritesOnOk W.write_str_gives f.old result (flat_map barred_text sets.now) f.new }
 {
     'sets: for set in sets {
@@ -59,7 +59,7 @@ fn write_barred<W: fmt::Write>(f: &mut fmt::Formatter<W>, sets: &[Span<End>]) ->
 }
 
 // `*`, `>=1.2.3`, `1.2.3`, `>1.2.3 <=2.0.0`. One write if the text of the set fits the array of `line::set`.
-fn write_set<W: fmt::Write>(f: &mut fmt::Formatter<W>, set: &Span<End>) -> fmt::Result
+fn write_set<W: fmt::Write>(f: &mut fmt::Formatter<W>, set: &Span<EndVersion>) -> fmt::Result
     ensures { WritesOnOk W.write_str_gives f.old result (set_text set.now) f.new }
 {
     let mut line = [0; ROOM];
@@ -71,7 +71,7 @@ fn write_set<W: fmt::Write>(f: &mut fmt::Formatter<W>, set: &Span<End>) -> fmt::
 
 // The same for every set, in several writes. `inline(never)`: few sets need it.
 #[inline(never)]
-fn write_ends<W: fmt::Write>(f: &mut fmt::Formatter<W>, set: &Span<End>) -> fmt::Result
+fn write_ends<W: fmt::Write>(f: &mut fmt::Formatter<W>, set: &Span<EndVersion>) -> fmt::Result
     ensures { WritesOnOk W.write_str_gives f.old result (set_text set.now) f.new }
 {
     match (set.lower(), set.upper()) {
@@ -88,7 +88,7 @@ fn write_ends<W: fmt::Write>(f: &mut fmt::Formatter<W>, set: &Span<End>) -> fmt:
 }
 
 // `>=1.2.3`
-fn write_lower<W: fmt::Write>(f: &mut fmt::Formatter<W>, lower: &Cut<End>) -> fmt::Result
+fn write_lower<W: fmt::Write>(f: &mut fmt::Formatter<W>, lower: &Cut<EndVersion>) -> fmt::Result
     ensures { WritesOnOk W.write_str_gives f.old result (lower_text lower.now) f.new }
 {
     match lower {
@@ -99,7 +99,7 @@ fn write_lower<W: fmt::Write>(f: &mut fmt::Formatter<W>, lower: &Cut<End>) -> fm
 }
 
 // `<2.0.0`
-fn write_upper<W: fmt::Write>(f: &mut fmt::Formatter<W>, upper: &Cut<End>) -> fmt::Result
+fn write_upper<W: fmt::Write>(f: &mut fmt::Formatter<W>, upper: &Cut<EndVersion>) -> fmt::Result
     ensures { WritesOnOk W.write_str_gives f.old result (upper_text upper.now) f.new }
 {
     match upper {
@@ -110,7 +110,11 @@ fn write_upper<W: fmt::Write>(f: &mut fmt::Formatter<W>, upper: &Cut<End>) -> fm
 }
 
 // The operator, and the version after it.
-fn write_marked<W: fmt::Write>(f: &mut fmt::Formatter<W>, mark: &str, end: &End) -> fmt::Result
+fn write_marked<W: fmt::Write>(
+    f: &mut fmt::Formatter<W>,
+    mark: &str,
+    end: &EndVersion,
+) -> fmt::Result
     ensures { WritesOnOk W.write_str_gives f.old result (mark.now ++ version_text end.now) f.new }
 {
     f.write_str(mark)?;
@@ -118,7 +122,7 @@ fn write_marked<W: fmt::Write>(f: &mut fmt::Formatter<W>, mark: &str, end: &End)
 }
 
 // `1.2.3-rc.4+5`
-fn write_end<W: fmt::Write>(f: &mut fmt::Formatter<W>, end: &End) -> fmt::Result
+fn write_end<W: fmt::Write>(f: &mut fmt::Formatter<W>, end: &EndVersion) -> fmt::Result
     ensures { WritesOnOk W.write_str_gives f.old result (version_text end.now) f.new }
 {
     let zero = Zero::new();

@@ -10,7 +10,7 @@ ghost use Rattle.semver_versions.specs.declared.TheConstants.{MAX_SAFE_INTEGER};
 use crate::range::least::unbuilt::Unbuilt;
 use crate::{MAX_SAFE_INTEGER, Range, Version};
 use semver_cuts::{Cut, Span};
-use semver_versions::end::End;
+use semver_versions::end::EndVersion;
 use semver_versions::parse::written::are_read;
 use std::alloc::{AllocError, Global};
 
@@ -170,7 +170,7 @@ fn has_read_identifiers(version: &Version) -> bool
 }
 
 // The sets, with ends of their own.
-fn sets_of(alloc: Global, spans: &[Span<Version>]) -> Result<Vec<Span<End>>, AllocError>
+fn sets_of(alloc: Global, spans: &[Span<Version>]) -> Result<Vec<Span<EndVersion>>, AllocError>
     ensures { IfOk result (λ sets. sets.items ≡ spans.now) }
 {
     let mut sets = Vec::with_capacity(alloc, spans.len())?;
@@ -181,7 +181,7 @@ fn sets_of(alloc: Global, spans: &[Span<Version>]) -> Result<Vec<Span<End>>, All
 }
 
 #[inline]
-fn set_of(alloc: Global, span: &Span<Version>) -> Result<Span<End>, AllocError>
+fn set_of(alloc: Global, span: &Span<Version>) -> Result<Span<EndVersion>, AllocError>
     ensures { IfOk result (λ set. set ≡ span.now) }
 {
     let (lower, upper) = span.ends();
@@ -189,7 +189,7 @@ fn set_of(alloc: Global, span: &Span<Version>) -> Result<Span<End>, AllocError>
 }
 
 #[inline]
-fn end_cut_of(alloc: Global, cut: &Cut<Version>) -> Result<Cut<End>, AllocError>
+fn end_cut_of(alloc: Global, cut: &Cut<Version>) -> Result<Cut<EndVersion>, AllocError>
     ensures { IfOk result (λ copy. copy ≡ cut.now) }
 {
     match cut {
@@ -201,16 +201,16 @@ fn end_cut_of(alloc: Global, cut: &Cut<Version>) -> Result<Cut<End>, AllocError>
 }
 
 #[inline]
-fn end_of(alloc: Global, version: &Version) -> Result<End, AllocError>
+fn end_of(alloc: Global, version: &Version) -> Result<EndVersion, AllocError>
     ensures { IfOk result (λ end. end ≡ version.now) }
 {
     let triple = (version.major, version.minor, version.patch);
-    End::with_copies(alloc, triple, &version.pre_release, &version.build)
+    EndVersion::with_copies(alloc, triple, &version.pre_release, &version.build)
 }
 
 // The set, with versions of its own at its ends.
 #[inline]
-fn span_of(alloc: Global, set: &Span<End>) -> Result<Span<Version>, AllocError>
+fn span_of(alloc: Global, set: &Span<EndVersion>) -> Result<Span<Version>, AllocError>
     ensures { IfOk result (λ span. span ≡ set.now) }
 {
     let (lower, upper) = set.ends();
@@ -218,7 +218,7 @@ fn span_of(alloc: Global, set: &Span<End>) -> Result<Span<Version>, AllocError>
 }
 
 #[inline]
-fn cut_of(alloc: Global, cut: &Cut<End>) -> Result<Cut<Version>, AllocError>
+fn cut_of(alloc: Global, cut: &Cut<EndVersion>) -> Result<Cut<Version>, AllocError>
     ensures { IfOk result (λ copy. copy ≡ cut.now) }
 {
     match cut {

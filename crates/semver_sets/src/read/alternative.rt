@@ -11,13 +11,13 @@ use crate::comparator::CommonSpan;
 use crate::parse::skip_solid;
 use crate::word::{WordEnds, begins_comparator, nothing, read_leading_hyphen, read_word};
 use semver_cuts::Span;
-use semver_versions::end::End;
+use semver_versions::end::EndVersion;
 use semver_versions::parse::{skip_blanks, skip_some_blanks};
 use std::alloc::{AllocError, Global};
 
 // The set of an alternative, or `None` if it gives none. `inline(always)`: it has one call in each of two callers.
 #[inline(always)]
-pub(crate) fn read_set(alloc: Global, text: &[u8]) -> Result<Option<Span<End>>, AllocError>
+pub(crate) fn read_set(alloc: Global, text: &[u8]) -> Result<Option<Span<EndVersion>>, AllocError>
     ensures { IfOk result (λ set. IsSetOfAlternative text.now set) }
 {
     let mut common = CommonSpan::new();

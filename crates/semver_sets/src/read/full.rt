@@ -13,7 +13,7 @@ ghost use Rattle.semver_sets.specs.declared.read.full.FullLead.TheVariants as Le
 
 use crate::parse::read_full_triple;
 use semver_cuts::{Cut, Span};
-use semver_versions::end::End;
+use semver_versions::end::EndVersion;
 
 /// What is written before the version.
 #[derive(Clone, Copy)]
@@ -43,7 +43,7 @@ pub fn read_full(text: &[u8]) -> Option<(FullLead, u64, u64, u64)>
 /// Returns the set of `^1.2.3`, `>=1.2.3 <2.0.0-0`. That of `^0.2.3` is `>=0.2.3 <0.3.0-0`, and that of `^0.0.3` is
 /// `>=0.0.3 <0.0.4-0`.
 #[inline(always)]
-pub fn caret_set(major: u64, minor: u64, patch: u64) -> Span<End>
+pub fn caret_set(major: u64, minor: u64, patch: u64) -> Span<EndVersion>
     requires { (text : List ℕ) × IsFullText text Leads.Caret major minor patch }
     ensures { result ≡ full_set Leads.Caret major minor patch }
 {
@@ -58,7 +58,7 @@ pub fn caret_set(major: u64, minor: u64, patch: u64) -> Span<End>
 
 /// Returns the set of `~1.2.3`, `>=1.2.3 <1.3.0-0`.
 #[inline(always)]
-pub fn tilde_set(major: u64, minor: u64, patch: u64) -> Span<End>
+pub fn tilde_set(major: u64, minor: u64, patch: u64) -> Span<EndVersion>
     requires { (text : List ℕ) × IsFullText text Leads.Tilde major minor patch }
     ensures { result ≡ full_set Leads.Tilde major minor patch }
 {
@@ -67,24 +67,24 @@ pub fn tilde_set(major: u64, minor: u64, patch: u64) -> Span<End>
 
 /// Returns the set of `1.2.3`, `>=1.2.3 <=1.2.3`.
 #[inline(always)]
-pub fn exact_set(major: u64, minor: u64, patch: u64) -> Span<End>
+pub fn exact_set(major: u64, minor: u64, patch: u64) -> Span<EndVersion>
     requires { (text : List ℕ) × IsFullText text Leads.Nothing major minor patch }
     ensures { result ≡ full_set Leads.Nothing major minor patch }
 {
-    let lower = End::release(major, minor, patch);
-    let upper = End::release(major, minor, patch);
+    let lower = EndVersion::release(major, minor, patch);
+    let upper = EndVersion::release(major, minor, patch);
     Span::between(Cut::Before(lower), Cut::After(upper))
 }
 
 // The set from a release up to the least version of another triple.
 #[inline(always)]
-fn set_up_to(lower: (u64, u64, u64), upper: (u64, u64, u64)) -> Span<End>
+fn set_up_to(lower: (u64, u64, u64), upper: (u64, u64, u64)) -> Span<EndVersion>
     requires { IsCutBelow version_cmp (Before (Versions.release lower.0 lower.1 lower.2))
         (Before (Versions.least_of upper.0 upper.1 upper.2)) }
     ensures { result ≡ Comparators.from_up_to (Versions.release lower.0 lower.1 lower.2)
         (Versions.least_of upper.0 upper.1 upper.2) }
 {
-    let lower = End::release(lower.0, lower.1, lower.2);
-    let upper = End::least(upper.0, upper.1, upper.2);
+    let lower = EndVersion::release(lower.0, lower.1, lower.2);
+    let upper = EndVersion::least(upper.0, upper.1, upper.2);
     Span::between(Cut::Before(lower), Cut::Before(upper))
 }

@@ -6,7 +6,7 @@ ghost use Rattle.semver_sets.specs.Private.RangeViews.{IsOneMore};
 use crate::read::alternative::read_set;
 use crate::read::pieces::next_piece;
 use semver_cuts::Span;
-use semver_versions::end::End;
+use semver_versions::end::EndVersion;
 use semver_versions::parse::skip_blanks;
 use std::alloc::{AllocError, Global};
 
@@ -20,7 +20,7 @@ use std::alloc::{AllocError, Global};
 /// # Memory
 ///
 /// Allocates the list, and the identifiers of the ends.
-pub fn read_sets(alloc: Global, text: &[u8]) -> Result<Vec<Span<End>>, AllocError>
+pub fn read_sets(alloc: Global, text: &[u8]) -> Result<Vec<Span<EndVersion>>, AllocError>
     ensures { IfOk result (λ sets. AreSetsOfText text.now sets.items) }
 {
     let mut sets = Vec::new(alloc);
@@ -35,7 +35,7 @@ pub fn read_sets(alloc: Global, text: &[u8]) -> Result<Vec<Span<End>>, AllocErro
 }
 
 // Adds the set of an alternative, if it gives one.
-fn add_set(alloc: Global, sets: &mut Vec<Span<End>>, text: &[u8]) -> Result<(), AllocError>
+fn add_set(alloc: Global, sets: &mut Vec<Span<EndVersion>>, text: &[u8]) -> Result<(), AllocError>
     ensures { OnOk result (IsOneMore text.now sets.old.items sets.new.items) }
 {
     match read_set(alloc, text)? {

@@ -6,10 +6,10 @@ ghost use Rattle.semver_versions.specs.Comparison.{version_cmp};
 ghost use Rattle.semver_sets.specs.RangeSets.{IsRangeSet};
 
 use semver_cuts::{Cut, Span};
-use semver_versions::end::End;
+use semver_versions::end::EndVersion;
 use std::alloc::AllocError;
 
-pub(crate) fn copies_of(sets: &Vec<Span<End>>) -> Result<Vec<Span<End>>, AllocError>
+pub(crate) fn copies_of(sets: &Vec<Span<EndVersion>>) -> Result<Vec<Span<EndVersion>>, AllocError>
     requires { AllByRecursion IsRangeSet sets.now.items }
     ensures { IfOk result (λ copies. copies.items ≡ sets.now.items) }
 {
@@ -19,7 +19,10 @@ pub(crate) fn copies_of(sets: &Vec<Span<End>>) -> Result<Vec<Span<End>>, AllocEr
 }
 
 // Appends a copy of each set.
-pub(crate) fn push_copies(copies: &mut Vec<Span<End>>, sets: &[Span<End>]) -> Result<(), AllocError>
+pub(crate) fn push_copies(
+    copies: &mut Vec<Span<EndVersion>>,
+    sets: &[Span<EndVersion>],
+) -> Result<(), AllocError>
     requires { AllByRecursion IsRangeSet sets.now }
     ensures { OnOk result (copies.new.items ≡ copies.old.items ++ sets.now) }
 {
@@ -39,7 +42,10 @@ pub(crate) fn push_copies(copies: &mut Vec<Span<End>>, sets: &[Span<End>]) -> Re
 ///
 /// Allocates the identifiers of the ends.
 #[inline]
-pub fn copy_of(lower: &Cut<End>, upper: &Cut<End>) -> Result<Span<End>, AllocError>
+pub fn copy_of(
+    lower: &Cut<EndVersion>,
+    upper: &Cut<EndVersion>,
+) -> Result<Span<EndVersion>, AllocError>
     requires { IsCutBelow version_cmp lower.now upper.now }
     ensures { IfOk result (λ set. set ≡ span_between lower.now upper.now) }
 {
@@ -47,7 +53,7 @@ pub fn copy_of(lower: &Cut<End>, upper: &Cut<End>) -> Result<Span<End>, AllocErr
 }
 
 #[inline]
-pub(crate) fn copy_of_cut(cut: &Cut<End>) -> Result<Cut<End>, AllocError>
+pub(crate) fn copy_of_cut(cut: &Cut<EndVersion>) -> Result<Cut<EndVersion>, AllocError>
     ensures { IfOk result (λ copy. copy ≡ cut.now) }
 {
     match cut {

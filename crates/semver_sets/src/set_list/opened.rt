@@ -9,7 +9,7 @@ ghost use Rattle.semver_sets.specs.Private.SearchViews.{AreOpeningsOf, opened_tr
 ghost use Rattle.semver_sets.specs.Private.SearchViews.{same_triples, triple_at, triple_cmp};
 
 use semver_cuts::{Cut, Span};
-use semver_versions::end::End;
+use semver_versions::end::EndVersion;
 use std::alloc::{AllocError, Global};
 
 // A major, a minor and a patch, in this order.
@@ -29,7 +29,7 @@ pub(crate) struct Opening {
 
 // The opened triples of all sets, each with the place of the set, sorted by triple. Does not allocate if no end is a
 // prerelease.
-pub(crate) fn openings(alloc: Global, sets: &[Span<End>]) -> Result<Vec<Opening>, AllocError>
+pub(crate) fn openings(alloc: Global, sets: &[Span<EndVersion>]) -> Result<Vec<Opening>, AllocError>
     ensures { IfOk result (λ openings. AreOpeningsOf sets.now openings.items) }
 {
     let count = count_of(sets);
@@ -42,7 +42,7 @@ pub(crate) fn openings(alloc: Global, sets: &[Span<End>]) -> Result<Vec<Opening>
 }
 
 // The number of openings.
-fn count_of(sets: &[Span<End>]) -> usize {
+fn count_of(sets: &[Span<EndVersion>]) -> usize {
     let mut count = 0;
     'sets: for set in sets {
         let (lower, upper) = triples_of(set);
@@ -61,7 +61,7 @@ fn count_of(sets: &[Span<End>]) -> usize {
 fn add_openings(
     openings: &mut Vec<Opening>,
     place: usize,
-    set: &Span<End>,
+    set: &Span<EndVersion>,
 ) -> Result<(), AllocError>
     ensures { OnOk result (openings.new.items ≡ openings.old.items ++ openings_of place set.now) }
 {
@@ -77,7 +77,7 @@ fn add_openings(
 
 // The triple that the set's lower end opens, and the triple that its upper end opens if it is another.
 #[inline]
-fn triples_of(set: &Span<End>) -> (Option<Triple>, Option<Triple>)
+fn triples_of(set: &Span<EndVersion>) -> (Option<Triple>, Option<Triple>)
     ensures lower { result.0 ≡ triple_at set.now.lower }
     ensures upper { result.1 ≡ other_than (triple_at set.now.lower) (triple_at set.now.upper) }
 {
@@ -92,7 +92,7 @@ fn triples_of(set: &Span<End>) -> (Option<Triple>, Option<Triple>)
 
 // The triple that a cut opens, if a prerelease is at it.
 #[inline]
-fn triple_at(cut: &Cut<End>) -> Option<Triple>
+fn triple_at(cut: &Cut<EndVersion>) -> Option<Triple>
     ensures { result ≡ triple_at cut.now }
 {
     match cut {
@@ -103,7 +103,7 @@ fn triple_at(cut: &Cut<End>) -> Option<Triple>
 
 // The triple that an end opens, if it is a prerelease.
 #[inline]
-fn opened_triple(end: &End) -> Option<Triple>
+fn opened_triple(end: &EndVersion) -> Option<Triple>
     ensures { result ≡ opened_triple end.now }
 {
     if end.is_prerelease() {

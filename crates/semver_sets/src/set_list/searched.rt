@@ -21,7 +21,7 @@ use crate::set_list::opened::{Opening, Triple, openings, openings_at};
 use semver_cuts::Span;
 use semver_cuts::algebra::{MergedSpans, Places};
 use semver_versions::AsVersion;
-use semver_versions::end::End;
+use semver_versions::end::EndVersion;
 use std::alloc::{AllocError, Global};
 use std::marker::Model;
 
@@ -35,7 +35,7 @@ const FEW: usize = 4;
 /// A contract sees the list alone.
 #[derive(Debug, Drop)]
 pub struct Searched {
-    sets: Vec<Span<End>>,
+    sets: Vec<Span<EndVersion>>,
     places: Places,
     openings: Vec<Opening>,
 }
@@ -68,7 +68,7 @@ impl Searched {
     ///
     /// Allocates the index. It has no places if the sets ascend and do not touch, and no triples for up to four sets, or
     /// if no end is a prerelease.
-    pub fn of(alloc: Global, sets: Vec<Span<End>>) -> Result<Searched, AllocError>
+    pub fn of(alloc: Global, sets: Vec<Span<EndVersion>>) -> Result<Searched, AllocError>
         ensures { IfOk result (λ searched. searched ≡ sets.items) }
     {
         let places = Places::of(alloc, &sets)?;
@@ -82,7 +82,7 @@ impl Searched {
 
     // The list. `inline(always)`: it only passes a slice on.
     #[inline(always)]
-    pub(crate) fn as_slice(&self) -> &[Span<End>]
+    pub(crate) fn as_slice(&self) -> &[Span<EndVersion>]
         ensures { result.now ≡ self.now }
     {
         &self.sets
@@ -90,7 +90,7 @@ impl Searched {
 
     // The list with its merged spans. `inline(always)`: it only passes two slices on.
     #[inline(always)]
-    pub(crate) fn merged(&self) -> MergedSpans<'_, '_, End>
+    pub(crate) fn merged(&self) -> MergedSpans<'_, '_, EndVersion>
         ensures { result.list ≡ self.now }
     {
         MergedSpans::with(&self.sets, &self.places)
@@ -146,7 +146,7 @@ impl Searched {
 
 // The openings of more than a few sets, and none of fewer. Does not allocate for these.
 #[inline]
-fn openings_of_many(alloc: Global, sets: &[Span<End>]) -> Result<Vec<Opening>, AllocError>
+fn openings_of_many(alloc: Global, sets: &[Span<EndVersion>]) -> Result<Vec<Opening>, AllocError>
     ensures { IfOk result (λ openings. FEW < length sets.now → AreOpeningsOf sets.now openings.items) }
 {
     if sets.len() <= FEW {
@@ -157,7 +157,11 @@ fn openings_of_many(alloc: Global, sets: &[Span<End>]) -> Result<Vec<Opening>, A
 }
 
 // Returns `true` if one of the sets admits the prerelease.
-fn is_in_few<V: AsVersion, C: Counts>(sets: &[Span<End>], version: &V, comparisons: &mut C) -> bool
+fn is_in_few<V: AsVersion, C: Counts>(
+    sets: &[Span<EndVersion>],
+    version: &V,
+    comparisons: &mut C,
+) -> bool
     requires { IsPrerelease (V.seen version.now) }
     ensures answer { IsTrue result ↔ RangeAdmits sets.now (V.seen version.now) }
     ensures adds { C.count comparisons.old ≤ C.count comparisons.new }
@@ -176,7 +180,7 @@ fn is_in_few<V: AsVersion, C: Counts>(sets: &[Span<End>], version: &V, compariso
 // Returns `true` if the version lies in one of the spans. A binary search finds the last merged span that begins below
 // the version: it lies in that one, or in none.
 fn is_in_some<V: AsVersion, C: Counts>(
-    spans: &MergedSpans<'_, '_, End>,
+    spans: &MergedSpans<'_, '_, EndVersion>,
     version: &V,
     comparisons: &mut C,
 ) -> bool
@@ -206,7 +210,7 @@ fn is_in_some<V: AsVersion, C: Counts>(
 
 // Returns `true` if the version lies in one of the sets at these places.
 fn is_in_opened<V: AsVersion, C: Counts>(
-    sets: &[Span<End>],
+    sets: &[Span<EndVersion>],
     openings: &[Opening],
     version: &V,
     comparisons: &mut C,

@@ -12,7 +12,7 @@ use crate::comparator::Comparator;
 use crate::parse::Partial;
 use semver_cuts::Cut;
 use semver_versions::MAX_SAFE_INTEGER;
-use semver_versions::end::End;
+use semver_versions::end::EndVersion;
 use semver_versions::parse::{begins_clean, read_extras, read_prerelease};
 use std::alloc::{AllocError, Global};
 
@@ -272,7 +272,7 @@ impl<'a> WordEnds<'a> {
     }
 
     #[inline(always)]
-    fn lower_cut(&self, alloc: Global) -> Result<Cut<End>, AllocError>
+    fn lower_cut(&self, alloc: Global) -> Result<Cut<EndVersion>, AllocError>
         ensures { IfOk result (λ cut. IfSome (ends_seen self.now) (λ c. c.lower ≡ cut)) }
     {
         match self.form {
@@ -288,7 +288,7 @@ impl<'a> WordEnds<'a> {
     }
 
     #[inline(always)]
-    fn upper_cut(&self, alloc: Global) -> Result<Cut<End>, AllocError>
+    fn upper_cut(&self, alloc: Global) -> Result<Cut<EndVersion>, AllocError>
         ensures { IfOk result (λ cut. IfSome (ends_seen self.now) (λ c. c.upper ≡ cut)) }
     {
         match self.form {
@@ -309,11 +309,11 @@ impl<'a> WrittenVersion<'a> {
     // Builds the version. Most have no extras, and then nothing is allocated.
     #[inline(always)]
     #[tactic(auto, using(semver_versions::specs::Lemmas::Texts::CleanExtras::clean_extras))]
-    fn end(&self, alloc: Global) -> Result<End, AllocError>
+    fn end(&self, alloc: Global) -> Result<EndVersion, AllocError>
         ensures { IfOk result (λ e. e ≡ written_seen self.now) }
     {
         if begins_clean(self.extras) {
-            Ok(End::release(self.major, self.minor, self.patch))
+            Ok(EndVersion::release(self.major, self.minor, self.patch))
         } else {
             self.end_with_extras(alloc)
         }
@@ -322,11 +322,11 @@ impl<'a> WrittenVersion<'a> {
     // The same without the build.
     #[inline(always)]
     #[tactic(auto, using(semver_versions::specs::Lemmas::Texts::CleanExtras::clean_extras))]
-    fn bare_end(&self, alloc: Global) -> Result<End, AllocError>
+    fn bare_end(&self, alloc: Global) -> Result<EndVersion, AllocError>
         ensures { IfOk result (λ e. e ≡ Versions.without_build (written_seen self.now)) }
     {
         if begins_clean(self.extras) {
-            Ok(End::release(self.major, self.minor, self.patch))
+            Ok(EndVersion::release(self.major, self.minor, self.patch))
         } else {
             self.end_with_prerelease(alloc)
         }
@@ -334,20 +334,20 @@ impl<'a> WrittenVersion<'a> {
 
     // The least version with this triple: `1.2.3-0`
     #[inline(always)]
-    fn least_end(&self) -> End
+    fn least_end(&self) -> EndVersion
         ensures { result ≡ Versions.least_of self.now.major self.now.minor self.now.patch }
     {
-        End::least(self.major, self.minor, self.patch)
+        EndVersion::least(self.major, self.minor, self.patch)
     }
 
     // `inline(never)`: few versions have extras, and the others then need no stack for them.
     #[inline(never)]
     #[tactic(auto, unfolding(semver_versions::specs::Reading::read_extras))]
-    fn end_with_extras(&self, alloc: Global) -> Result<End, AllocError>
+    fn end_with_extras(&self, alloc: Global) -> Result<EndVersion, AllocError>
         ensures { IfOk result (λ e. e ≡ written_seen self.now) }
     {
         let ((pre_release, build), _) = read_extras(alloc, self.extras)?;
-        End::with_extras(
+        EndVersion::with_extras(
             alloc,
             (self.major, self.minor, self.patch),
             pre_release,
@@ -358,11 +358,11 @@ impl<'a> WrittenVersion<'a> {
     // The same without the build. `inline(never)`: as above.
     #[inline(never)]
     #[tactic(auto, unfolding(semver_versions::specs::Reading::read_extras))]
-    fn end_with_prerelease(&self, alloc: Global) -> Result<End, AllocError>
+    fn end_with_prerelease(&self, alloc: Global) -> Result<EndVersion, AllocError>
         ensures { IfOk result (λ e. e ≡ Versions.without_build (written_seen self.now)) }
     {
         let (pre_release, _) = read_prerelease(alloc, self.extras)?;
-        End::with_extras(
+        EndVersion::with_extras(
             alloc,
             (self.major, self.minor, self.patch),
             pre_release,

@@ -3,23 +3,23 @@ ghost use Rattle.std.specs.Prelude.{◌≡◌, IfOk};
 ghost use Rattle.semver_versions.specs.Identifier.{values_of};
 
 use crate::Identifier;
-use crate::end::{End, Extras};
+use crate::end::{EndVersion, Extras};
 use crate::identifier::copy::copies_of;
 use std::alloc::{AllocError, Global};
 
-impl End {
+impl EndVersion {
     // A copy. Allocates only for lists.
     #[inline]
-    pub fn copy(&self) -> Result<End, AllocError>
+    pub fn copy(&self) -> Result<EndVersion, AllocError>
         ensures { IfOk result (λ copy. copy ≡ self.now) }
     {
         let (major, minor, patch) = (self.major, self.minor, self.patch);
         match &self.extras {
-            Extras::Nothing => Ok(End::release(major, minor, patch)),
-            Extras::Zero => Ok(End::least(major, minor, patch)),
+            Extras::Nothing => Ok(EndVersion::release(major, minor, patch)),
+            Extras::Zero => Ok(EndVersion::least(major, minor, patch)),
             Extras::Lists(lists) => {
                 let alloc = *lists.build.allocator();
-                End::with_extras(
+                EndVersion::with_extras(
                     alloc,
                     (major, minor, patch),
                     copies_of(alloc, &lists.pre_release)?,
@@ -44,7 +44,7 @@ impl End {
         triple: (u64, u64, u64),
         pre_release: &[Identifier],
         build: &[Identifier],
-    ) -> Result<End, AllocError>
+    ) -> Result<EndVersion, AllocError>
         ensures { IfOk result (λ e. e ≡ record {
           major = triple.0;
           minor = triple.1;
@@ -55,9 +55,9 @@ impl End {
     {
         let (major, minor, patch) = triple;
         match (pre_release, build) {
-            ([], []) => Ok(End::release(major, minor, patch)),
-            ([Identifier::Numeric(0)], []) => Ok(End::least(major, minor, patch)),
-            _ => End::with_extras(
+            ([], []) => Ok(EndVersion::release(major, minor, patch)),
+            ([Identifier::Numeric(0)], []) => Ok(EndVersion::least(major, minor, patch)),
+            _ => EndVersion::with_extras(
                 alloc,
                 triple,
                 copies_of(alloc, pre_release)?,

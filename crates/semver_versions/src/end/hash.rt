@@ -2,10 +2,10 @@
 ghost use Rattle.semver_versions.specs.Hash.{version_writes};
 ghost use Rattle.semver_versions.specs.Lemmas.Hash.{version_alike};
 
-use crate::end::{End, Zero};
+use crate::end::{EndVersion, Zero};
 use std::hash::{Hash, Hasher};
 
-impl Hash for End {
+impl Hash for EndVersion {
     ghost hash_input = { version_writes };
 
     ghost respects_eq = { version_alike };

@@ -7,37 +7,37 @@ ghost use Rattle.semver_versions.specs.Identifier.{values_of};
 ghost use Rattle.semver_versions.specs.Lemmas.Order.{version_total};
 
 use crate::Identifier;
-use crate::end::{End, Extras, Zero};
+use crate::end::{EndVersion, Extras, Zero};
 use crate::identifier::order::cmp_prereleases;
 use std::cmp::Ordering;
 
-impl PartialEq for End {
+impl PartialEq for EndVersion {
     ghost eq = { eq_by_cmp version_cmp };
 
     ghost laws = { partial_equiv_from_equiv (eq_by_cmp_equiv version_total) };
 
     #[inline]
-    fn eq(&self, other: &End) -> bool {
+    fn eq(&self, other: &EndVersion) -> bool {
         self.cmp(other).is_eq()
     }
 }
 
-impl Eq for End {
+impl Eq for EndVersion {
     ghost laws = { eq_by_cmp_equiv version_total };
 }
 
-impl PartialOrd for End {
+impl PartialOrd for EndVersion {
     ghost partial_cmp = { λ v w. Some (version_cmp v w) };
 
     ghost laws = { po version_total (λ v w. refl) };
 
     #[inline]
-    fn partial_cmp(&self, other: &End) -> Option<Ordering> {
+    fn partial_cmp(&self, other: &EndVersion) -> Option<Ordering> {
         Some(self.cmp(other))
     }
 }
 
-impl Ord for End {
+impl Ord for EndVersion {
     ghost cmp = { version_cmp };
 
     ghost total = { version_total };
@@ -47,7 +47,7 @@ impl Ord for End {
     ghost matches_eq = { λ v w. refl };
 
     #[inline]
-    fn cmp(&self, other: &End) -> Ordering {
+    fn cmp(&self, other: &EndVersion) -> Ordering {
         if self.major != other.major {
             return self.major.cmp(&other.major);
         }
@@ -61,11 +61,11 @@ impl Ord for End {
     }
 }
 
-impl End {
+impl EndVersion {
     // The order of two ends with the same triple. `inline(always)`: most ends have no lists, and those are compared
     // without a call.
     #[inline(always)]
-    fn cmp_extras(&self, other: &End) -> Ordering
+    fn cmp_extras(&self, other: &EndVersion) -> Ordering
         ensures { result ≡ prerelease_cmp self.now.pre_release other.now.pre_release }
     {
         match (&self.extras, &other.extras) {
@@ -78,7 +78,7 @@ impl End {
 
     // The same if one of the two has lists. `inline(never)`: few ends have.
     #[inline(never)]
-    fn cmp_lists(&self, other: &End) -> Ordering
+    fn cmp_lists(&self, other: &EndVersion) -> Ordering
         ensures { result ≡ prerelease_cmp self.now.pre_release other.now.pre_release }
     {
         let zero = Zero::new();

@@ -11,7 +11,7 @@ ghost use Rattle.semver_versions.specs.IdentifierText.{IsListed, identifiers_of}
 ghost use Rattle.semver_versions.specs.Reading as Reading;
 
 use crate::Identifier;
-use crate::end::{End, Zero};
+use crate::end::{EndVersion, Zero};
 use crate::parse::identifiers::numeric;
 use crate::parse::listed::{split_extras, split_first};
 use std::cmp::Ordering;
@@ -251,7 +251,7 @@ pub fn cmp_with_borrowed(a: &[Identifier], b: &Identifiers<'_>) -> Ordering
     }
 }
 
-impl End {
+impl EndVersion {
     /// Returns the order of this end and the version of its triple that has this prerelease.
     // `inline(never)`: few comparisons reach the prereleases.
     #[inline(never)]

@@ -5,7 +5,7 @@ ghost use Rattle.std.specs.Prelude.{◌≡◌, ◌↔◌, IsTrue};
 ghost use Rattle.semver_versions.specs.Comparison.{prerelease_cmp, version_cmp};
 ghost use Rattle.semver_versions.specs.Version.{IsPrerelease, VersionValue};
 
-use crate::end::End;
+use crate::end::EndVersion;
 use crate::{Version, VersionRef};
 use std::cmp::Ordering;
 
@@ -31,7 +31,7 @@ pub trait AsVersion {
         ensures patch { result.2 ≡ (seen self.now).patch };
 
     /// Returns the order of what follows the triple in `end` and in the version, for an `end` with the same triple.
-    fn cmp_extras(&self, end: &End) -> Ordering
+    fn cmp_extras(&self, end: &EndVersion) -> Ordering
         ensures { result ≡ prerelease_cmp end.now.pre_release (seen self.now).pre_release };
 }
 
@@ -63,7 +63,7 @@ impl AsVersion for Version {
     }
 
     #[inline(always)]
-    fn cmp_extras(&self, end: &End) -> Ordering {
+    fn cmp_extras(&self, end: &EndVersion) -> Ordering {
         if self.pre_release.is_empty() {
             return end.cmp_release();
         }
@@ -85,7 +85,7 @@ impl<'a> AsVersion for VersionRef<'a> {
     }
 
     #[inline(always)]
-    fn cmp_extras(&self, end: &End) -> Ordering {
+    fn cmp_extras(&self, end: &EndVersion) -> Ordering {
         VersionRef::cmp_extras(self, end)
     }
 }

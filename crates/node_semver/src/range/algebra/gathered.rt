@@ -13,15 +13,15 @@ use crate::Range;
 use semver_cuts::algebra::Gather;
 use semver_cuts::{Cut, Span};
 use semver_sets::set_list::copy::copy_of;
-use semver_versions::end::End;
+use semver_versions::end::EndVersion;
 use std::alloc::{AllocError, Global};
 use std::marker::Model;
 
 // The sets so far. Usually there is one.
 #[derive(Drop)]
 enum Found {
-    One(Span<End>),
-    Many(Vec<Span<End>>),
+    One(Span<EndVersion>),
+    Many(Vec<Span<EndVersion>>),
 }
 
 // Copies of the sets so far. Each end is copied once, and one set alone needs no list.
@@ -65,11 +65,15 @@ impl Gathered {
     }
 }
 
-impl<'a> Gather<'a, End> for Gathered {
+impl<'a> Gather<'a, EndVersion> for Gathered {
     ghost gathered = { λ sets. sets };
 
     #[inline(always)]
-    fn gather(&mut self, lower: &'a Cut<End>, upper: &'a Cut<End>) -> Result<(), AllocError> {
+    fn gather(
+        &mut self,
+        lower: &'a Cut<EndVersion>,
+        upper: &'a Cut<EndVersion>,
+    ) -> Result<(), AllocError> {
         let set = copy_of(lower, upper)?;
         if let Some(Found::Many(sets)) = &mut self.sets {
             sets.push(set)?;

@@ -18,7 +18,7 @@ use crate::{Comparisons, Range, Version};
 use semver_cuts::{Cut, Span};
 use semver_sets::set::admits;
 use semver_versions::AsVersion;
-use semver_versions::end::End;
+use semver_versions::end::EndVersion;
 use std::alloc::{AllocError, Global};
 
 impl Range {
@@ -65,7 +65,11 @@ fn least_unbuilt<'a>(range: &'a Range, other: &'a Range) -> Option<Unbuilt<'a>>
 
 // The least of the candidates of the sets.
 #[inline(always)]
-fn least_of_sets<'a>(sets: &'a [Span<End>], range: &Range, other: &Range) -> Option<Unbuilt<'a>>
+fn least_of_sets<'a>(
+    sets: &'a [Span<EndVersion>],
+    range: &Range,
+    other: &Range,
+) -> Option<Unbuilt<'a>>
     requires { AllByRecursion IsRangeSet sets.now }
     ensures { AreSetsTried range.now other.now sets.now result }
 {
@@ -80,7 +84,7 @@ fn least_of_sets<'a>(sets: &'a [Span<End>], range: &Range, other: &Range) -> Opt
 #[inline(always)]
 fn least_with_others<'a>(
     found: Option<Unbuilt<'a>>,
-    sets: &'a [Span<End>],
+    sets: &'a [Span<EndVersion>],
     range: &Range,
     other: &Range,
 ) -> Option<Unbuilt<'a>>
@@ -98,7 +102,12 @@ fn least_with_others<'a>(
 // Tries the candidates of a set, and keeps the least in `best`: the candidates where the set begins, and the one in the
 // triple that its upper end opens.
 #[inline(always)]
-fn try_set<'a>(best: &mut Option<Unbuilt<'a>>, set: &'a Span<End>, range: &Range, other: &Range)
+fn try_set<'a>(
+    best: &mut Option<Unbuilt<'a>>,
+    set: &'a Span<EndVersion>,
+    range: &Range,
+    other: &Range,
+)
     requires { IsRangeSet set.now }
     ensures { IsSetTrial range.now other.now best.old set.now best.new }
 {
@@ -108,7 +117,12 @@ fn try_set<'a>(best: &mut Option<Unbuilt<'a>>, set: &'a Span<End>, range: &Range
 
 // Tries the candidates where a set ends.
 #[inline(always)]
-fn try_end<'a>(best: &mut Option<Unbuilt<'a>>, set: &'a Span<End>, range: &Range, other: &Range)
+fn try_end<'a>(
+    best: &mut Option<Unbuilt<'a>>,
+    set: &'a Span<EndVersion>,
+    range: &Range,
+    other: &Range,
+)
     requires { IsRangeSet set.now }
     ensures { IsCutTrial range.now other.now best.old set.now.upper best.new }
 {
@@ -117,7 +131,12 @@ fn try_end<'a>(best: &mut Option<Unbuilt<'a>>, set: &'a Span<End>, range: &Range
 
 // Tries the candidates at a cut: the least release after it and, if it is at a prerelease, the least version after it.
 #[inline(always)]
-fn try_cut<'a>(best: &mut Option<Unbuilt<'a>>, cut: &'a Cut<End>, range: &Range, other: &Range)
+fn try_cut<'a>(
+    best: &mut Option<Unbuilt<'a>>,
+    cut: &'a Cut<EndVersion>,
+    range: &Range,
+    other: &Range,
+)
     requires { IsReadCut cut.now }
     ensures { IsCutTrial range.now other.now best.old cut.now best.new }
 {
@@ -130,7 +149,7 @@ fn try_cut<'a>(best: &mut Option<Unbuilt<'a>>, cut: &'a Cut<End>, range: &Range,
 }
 
 #[inline(always)]
-fn try_before<'a>(best: &mut Option<Unbuilt<'a>>, end: &'a End, range: &Range, other: &Range)
+fn try_before<'a>(best: &mut Option<Unbuilt<'a>>, end: &'a EndVersion, range: &Range, other: &Range)
     ensures { IsCutTrial range.now other.now best.old (Before end.now) best.new }
 {
     if end.is_prerelease() {
@@ -153,7 +172,7 @@ fn try_before<'a>(best: &mut Option<Unbuilt<'a>>, end: &'a End, range: &Range, o
 }
 
 #[inline(never)]
-fn try_after<'a>(best: &mut Option<Unbuilt<'a>>, end: &'a End, range: &Range, other: &Range)
+fn try_after<'a>(best: &mut Option<Unbuilt<'a>>, end: &'a EndVersion, range: &Range, other: &Range)
     requires { IsReadVersion end.now }
     ensures { IsCutTrial range.now other.now best.old (After end.now) best.new }
 {
@@ -179,7 +198,12 @@ fn try_after<'a>(best: &mut Option<Unbuilt<'a>>, end: &'a End, range: &Range, ot
 // Tries the least version of the triple that the upper end of a set opens, if the set admits it. If that end is
 // `1.2.3-0`, no version of the triple is below it.
 #[inline(always)]
-fn try_opened<'a>(best: &mut Option<Unbuilt<'a>>, set: &Span<End>, range: &Range, other: &Range)
+fn try_opened<'a>(
+    best: &mut Option<Unbuilt<'a>>,
+    set: &Span<EndVersion>,
+    range: &Range,
+    other: &Range,
+)
     ensures { IsOpenTrial range.now other.now best.old set.now best.new }
 {
     if opens_nothing_inside(set.upper()) {
@@ -191,7 +215,7 @@ fn try_opened<'a>(best: &mut Option<Unbuilt<'a>>, set: &Span<End>, range: &Range
 #[inline(never)]
 fn try_least_opened<'a>(
     best: &mut Option<Unbuilt<'a>>,
-    set: &Span<End>,
+    set: &Span<EndVersion>,
     range: &Range,
     other: &Range,
 )
@@ -210,7 +234,7 @@ fn try_least_opened<'a>(
 // Returns `true` only if no prerelease of the triple that the cut opens is below the cut. Only the identifiers are
 // tested.
 #[inline(always)]
-fn opens_nothing_inside(cut: &Cut<End>) -> bool
+fn opens_nothing_inside(cut: &Cut<EndVersion>) -> bool
     ensures { IsTrue result → IsShut cut.now }
 {
     match cut {
@@ -222,7 +246,7 @@ fn opens_nothing_inside(cut: &Cut<End>) -> bool
 
 // The least version of the triple that the cut opens.
 #[inline]
-fn least_opened<'a>(cut: &Cut<End>) -> Option<Unbuilt<'a>>
+fn least_opened<'a>(cut: &Cut<EndVersion>) -> Option<Unbuilt<'a>>
     ensures { IsLeastOpened cut.now result }
 {
     match cut {

@@ -10,7 +10,7 @@ ghost use Rattle.node_semver.specs.Private.BeyondViews.{IsBelowBest};
 
 use crate::range::least::unbuilt::Unbuilt;
 use semver_versions::AsVersion;
-use semver_versions::end::{BorrowedIdentifiers, End};
+use semver_versions::end::{BorrowedIdentifiers, EndVersion};
 use std::cmp::Ordering;
 
 impl<'a> Unbuilt<'a> {
@@ -74,7 +74,7 @@ impl<'a> AsVersion for Unbuilt<'a> {
     }
 
     #[inline(always)]
-    fn cmp_extras(&self, end: &End) -> Ordering {
+    fn cmp_extras(&self, end: &EndVersion) -> Ordering {
         cmp_prereleases(end, self)
     }
 }
@@ -82,7 +82,7 @@ impl<'a> AsVersion for Unbuilt<'a> {
 // The order of the prereleases of an end and a version with the same triple. `inline(never)`: most candidates have no
 // identifiers.
 #[inline(never)]
-fn cmp_prereleases(end: &End, version: &Unbuilt<'_>) -> Ordering
+fn cmp_prereleases(end: &EndVersion, version: &Unbuilt<'_>) -> Ordering
     ensures { result ≡ prerelease_cmp end.now.pre_release version.now.pre_release }
 {
     let end = Unbuilt::at_end(end);
@@ -156,7 +156,7 @@ impl AsVersion for ReleaseCandidate {
     }
 
     #[inline(always)]
-    fn cmp_extras(&self, end: &End) -> Ordering {
+    fn cmp_extras(&self, end: &EndVersion) -> Ordering {
         end.cmp_release()
     }
 }

@@ -14,7 +14,7 @@ ghost use Rattle.node_semver.specs.Private.LeastViews.{IsInsideOrNone, with_zero
 
 use crate::{Identifier, Version};
 use semver_cuts::Cut;
-use semver_versions::end::{BorrowedIdentifiers, End, Zero};
+use semver_versions::end::{BorrowedIdentifiers, EndVersion, Zero};
 use semver_versions::identifier::copy::{copies_of, copies_with_zero};
 use semver_versions::identifier::order::cmp_prereleases;
 use std::alloc::{AllocError, Global};
@@ -51,7 +51,7 @@ impl<'a> Model for Unbuilt<'a> {
 impl<'a> Unbuilt<'a> {
     // The version of an end.
     #[inline(always)]
-    pub(crate) fn at_end(end: &'a End) -> Unbuilt<'a>
+    pub(crate) fn at_end(end: &'a EndVersion) -> Unbuilt<'a>
         ensures { result ≡ end.now }
     {
         Unbuilt {
@@ -66,7 +66,7 @@ impl<'a> Unbuilt<'a> {
 
     // The same with a 0 after its identifiers. For a prerelease, this is the next version.
     #[inline(always)]
-    pub(crate) fn after_end(end: &'a End) -> Unbuilt<'a>
+    pub(crate) fn after_end(end: &'a EndVersion) -> Unbuilt<'a>
         ensures { result ≡ record end.now { pre_release = end.now.pre_release ++ numeric 0 ∷ [] } }
     {
         Unbuilt {
@@ -81,7 +81,7 @@ impl<'a> Unbuilt<'a> {
 
     // Returns `true` if the version is below the cut: if it lies in a span that ends there and begins at or below it.
     #[inline]
-    pub(crate) fn is_inside(&self, upper: &Cut<End>) -> bool
+    pub(crate) fn is_inside(&self, upper: &Cut<EndVersion>) -> bool
         ensures { IsTrue result ↔ IsCutBelow version_cmp (Before self.now) upper.now }
     {
         match upper {
@@ -94,7 +94,7 @@ impl<'a> Unbuilt<'a> {
 
     // The version if it is below the cut, or `None`.
     #[inline]
-    pub(crate) fn if_inside(self, upper: &Cut<End>) -> Option<Unbuilt<'a>>
+    pub(crate) fn if_inside(self, upper: &Cut<EndVersion>) -> Option<Unbuilt<'a>>
         ensures { IsInsideOrNone upper.now self.entry result }
     {
         if self.is_inside(upper) {
@@ -122,7 +122,7 @@ impl<'a> Unbuilt<'a> {
 
     // Returns `true` if the version of an end is less than this one.
     #[inline(always)]
-    pub(crate) fn is_above(&self, end: &End) -> bool
+    pub(crate) fn is_above(&self, end: &EndVersion) -> bool
         ensures { IsTrue result ↔ (version_cmp end.now self.now ≡ Less) }
     {
         if end.major != self.major {
@@ -139,7 +139,7 @@ impl<'a> Unbuilt<'a> {
 
     // The same if both have the same triple.
     #[inline(never)]
-    fn is_prerelease_above(&self, end: &End) -> bool
+    fn is_prerelease_above(&self, end: &EndVersion) -> bool
         ensures { IsTrue result ↔ (prerelease_cmp end.now.pre_release self.now.pre_release ≡ Less) }
     {
         Unbuilt::at_end(end).is_prerelease_below(self)

@@ -5,7 +5,7 @@ use Rattle.semver_versions.specs.IdentifierValue.{IdentifierValue}
 use Rattle.semver_versions.specs.Version.{VersionValue}
 use Rattle.semver_versions.specs.Lemmas.Hash.{version_writes-fields}
 use Rattle.semver_versions.specs.EndViews.{build_seen}
-use Rattle.semver_versions.proofs.end.hash.EndHash.hash.Goals as goal
+use Rattle.semver_versions.proofs.end.hash.EndVersionHash.hash.Goals as goal
 
 pub returns : goal.returns
 returns g c =

@@ -14,8 +14,8 @@ ghost use Rattle.semver_versions.specs.Version.{IsPrerelease, VersionValue, rele
 
 use crate::Counts;
 use semver_cuts::{Cut, Span};
-use semver_versions::AsVersion;
 use semver_versions::end::EndVersion;
+use semver_versions::{AsVersion, Triple};
 use std::cmp::Ordering;
 
 /// Returns `true` if the set admits the version, and adds the comparisons that this takes to `comparisons`.
@@ -115,17 +115,11 @@ fn is_at_most<V: AsVersion>(cut: &Cut<EndVersion>, version: &V) -> bool
 {
     match cut {
         Cut::Before(end) | Cut::After(end) => {
-            let (major, minor, patch) = version.triple();
-            if end.major != major {
-                return end.major < major;
+            match end.triple().cmp(&version.triple()) {
+                Ordering::Less => true,
+                Ordering::Equal => is_at_most_in_triple(cut, version),
+                Ordering::Greater => false,
             }
-            if end.minor != minor {
-                return end.minor < minor;
-            }
-            if end.patch != patch {
-                return end.patch < patch;
-            }
-            is_at_most_in_triple(cut, version)
         }
         Cut::Start | Cut::End => is_start(cut),
     }
@@ -165,11 +159,11 @@ fn has_open_end<V: AsVersion>(set: &Span<EndVersion>, version: &V) -> bool
 
 /// Returns `true` if the cut is at a prerelease of the triple. Such an end opens the triple for other prereleases.
 #[inline]
-pub fn opens(cut: &Cut<EndVersion>, triple: (u64, u64, u64)) -> bool
-    ensures { IsTrue result ↔ Opens cut.now (release triple.0 triple.1 triple.2) }
+pub fn opens(cut: &Cut<EndVersion>, triple: Triple) -> bool
+    ensures { IsTrue result ↔ Opens cut.now (release triple.major triple.minor triple.patch) }
 {
     match cut {
-        Cut::Before(end) | Cut::After(end) => end.has_triple(triple) && end.is_prerelease(),
+        Cut::Before(end) | Cut::After(end) => end.triple() == triple && end.is_prerelease(),
         Cut::Start | Cut::End => false,
     }
 }

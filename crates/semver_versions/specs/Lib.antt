@@ -8,6 +8,7 @@ pub mod IdentifierValue
 pub mod IdentifierText
 -- ---- versions: their text, order, print and hash
 pub mod Version
+pub mod Triple
 pub mod VersionText
 pub mod Order
 pub mod Comparison

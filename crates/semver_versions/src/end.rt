@@ -5,15 +5,16 @@
 ghost use Rattle.std.specs.Prelude.{◌≡◌, ◌↔◌, IfOk, IsTrue};
 ghost use Rattle.semver_versions.specs.Identifier.{values_of};
 ghost use Rattle.semver_versions.specs.EndViews.{borrowed_seen};
+ghost use Rattle.semver_versions.specs.Triple.{triple_of};
 ghost use Rattle.semver_versions.specs.Version as Versions;
-ghost use Rattle.semver_versions.specs.Version.{HasSameTriple, IsPrerelease};
+ghost use Rattle.semver_versions.specs.Version.{IsPrerelease};
 
 mod borrowed;
 mod copy;
 mod hash;
 mod order;
 
-use crate::Identifier;
+use crate::{Identifier, Triple};
 pub use borrowed::{BorrowedIdentifiers, Zero};
 use std::alloc::{AllocError, Global};
 use std::marker::Model;
@@ -191,10 +192,11 @@ impl EndVersion {
         }
     }
 
+    /// Returns the major, minor and patch.
     #[inline(always)]
-    pub fn has_triple(&self, triple: (u64, u64, u64)) -> bool
-        ensures { IsTrue result ↔ HasSameTriple self.now (Versions.release triple.0 triple.1 triple.2) }
+    pub fn triple(&self) -> Triple
+        ensures { result ≡ triple_of self.now }
     {
-        self.major == triple.0 && self.minor == triple.1 && self.patch == triple.2
+        Triple::new(self.major, self.minor, self.patch)
     }
 }

@@ -1,8 +1,8 @@
 //! The errors of this crate: why parsing a text failed, and where.
 //!
 //! See docs/DECISIONS.md, "A version is seen as a record, an error by a view".
-ghost use Rattle.std.specs.Prelude.{◌≡◌, ◌⊎◌};
-ghost use Rattle.semver_versions.specs.Error.{kind_of, refusal_of, IsOutOfMemory, IsRefusalAt};
+ghost use Rattle.std.specs.Prelude.{◌≡◌, ◌↔◌, ◌⊎◌, IsTrue};
+ghost use Rattle.semver_versions.specs.Error.{kind_of, out_of_memory, refusal_of, IsOutOfMemory, IsRefusalAt};
 ghost use Rattle.semver_versions.specs.ErrorEquality.{error_value};
 ghost use Rattle.semver_versions.specs.ErrorLocation.{lines_before, column_at};
 ghost use Rattle.semver_versions.specs.ErrorParts.{error_kind_of, span_len, span_offset};
@@ -116,6 +116,17 @@ impl SemverError {
         ensures kind { kind_of result.now ≡ (refusal_of self.now).kind }
     {
         &self.kind
+    }
+
+    /// Returns `true` if no fault was found in the text, and an allocation failed.
+    ///
+    /// # Examples
+    ///
+    /// `false` for the error of the version `v`.
+    pub fn is_out_of_memory(&self) -> bool
+        ensures { IsTrue result ↔ ((refusal_of self.now).kind ≡ out_of_memory) }
+    {
+        matches!(self.kind, SemverErrorKind::OutOfMemory)
     }
 
     /// Returns the line and the column of the fault, both counted from 0.

@@ -14,6 +14,7 @@ mod json;
 pub mod laws;
 pub mod line;
 pub mod parse;
+mod triple;
 pub mod version;
 pub mod version_ref;
 
@@ -21,6 +22,7 @@ pub use error::{SemverError, SemverErrorKind, SourceSpan};
 pub use identifier::Identifier;
 pub use identifier::borrowed::{IdentifierRef, Identifiers};
 pub use json::JsonError;
+pub use triple::Triple;
 pub use version::Version;
 pub use version::admits::Admits;
 pub use version::as_version::{AsVersion, OrderedVersion};

@@ -1,4 +1,5 @@
 ghost use Rattle.std.specs.Prelude.{◌≡◌, ◌↔◌, IfOk, IsTrue};
+ghost use Rattle.semver_versions.specs.Triple.{triple_of};
 ghost use Rattle.semver_versions.specs.Version.{IsPrerelease, release, with_pre_release};
 
 pub mod admits;
@@ -11,7 +12,7 @@ mod parse;
 pub(crate) mod read;
 mod stepped;
 
-use crate::Identifier;
+use crate::{Identifier, Triple};
 use std::alloc::{AllocError, Global};
 use std::marker::Model;
 
@@ -105,6 +106,14 @@ impl Version {
             pre_release: identifiers,
             ..Version::new(alloc, major, minor, patch)
         })
+    }
+
+    // `inline(always)`: three loads.
+    #[inline(always)]
+    pub(crate) fn triple(&self) -> Triple
+        ensures { result ≡ triple_of self.now }
+    {
+        Triple::new(self.major, self.minor, self.patch)
     }
 
     /// Returns `true` if the version has prerelease identifiers. Every other version is a release.

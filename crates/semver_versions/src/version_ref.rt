@@ -1,13 +1,14 @@
 ghost use Rattle.std.specs.Prelude.{◌≡◌, ◌↔◌, IsTrue};
 ghost use Rattle.semver_versions.specs.Comparison.{prerelease_cmp};
+ghost use Rattle.semver_versions.specs.Triple.{triple_of};
 ghost use Rattle.semver_versions.specs.Version.{IsPrerelease};
 
 mod fault;
 mod order;
 mod read;
 
-use crate::Identifiers;
 use crate::end::EndVersion;
+use crate::{Identifiers, Triple};
 pub use fault::VersionFault;
 use std::cmp::Ordering;
 use std::marker::Model;
@@ -67,6 +68,13 @@ impl<'a> VersionRef<'a> {
         ensures { result ≡ self.now.patch }
     {
         self.patch
+    }
+
+    #[inline(always)]
+    pub(crate) fn triple(&self) -> Triple
+        ensures { result ≡ triple_of self.now }
+    {
+        Triple::new(self.major, self.minor, self.patch)
     }
 
     /// Returns `true` if the version has prerelease identifiers. Every other version is a release.

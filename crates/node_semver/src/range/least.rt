@@ -17,6 +17,7 @@ pub(crate) mod unbuilt;
 use crate::{Identifier, Range, Version};
 use semver_cuts::{Cut, Span};
 use semver_sets::set::opens;
+use semver_versions::Triple;
 use semver_versions::end::{BorrowedIdentifiers, EndVersion};
 use std::alloc::{AllocError, Global};
 use unbuilt::Unbuilt;
@@ -173,11 +174,11 @@ fn least_of_set(set: &Span<EndVersion>) -> Option<Unbuilt<'_>>
 {
     let upper = set.upper();
     match set.lower() {
-        Cut::Start => least_of_triple(upper, (0, 0, 0), &[]).if_inside(upper),
+        Cut::Start => least_of_triple(upper, Triple::new(0, 0, 0), &[]).if_inside(upper),
         Cut::Before(end) => Some(Unbuilt::at_end(end)),
         Cut::After(end) if end.is_prerelease() => { Unbuilt::after_end(end).if_inside(upper) }
         Cut::After(end) => {
-            let next = (end.major, end.minor, end.patch + 1);
+            let next = Triple::new(end.major, end.minor, end.patch + 1);
             least_of_triple(upper, next, end.build()).if_inside(upper)
         }
         Cut::End => None,
@@ -189,16 +190,15 @@ fn least_of_set(set: &Span<EndVersion>) -> Option<Unbuilt<'_>>
 #[inline]
 fn least_of_triple<'a>(
     upper: &Cut<EndVersion>,
-    triple: (u64, u64, u64),
+    triple: Triple,
     build: &'a [Identifier],
 ) -> Unbuilt<'a>
-    ensures { IsLeastOfTriple upper.now triple.0 triple.1 triple.2 (values_of build.now) result }
+    ensures { IsLeastOfTriple upper.now triple.major triple.minor triple.patch (values_of build.now) result }
 {
-    let (major, minor, patch) = triple;
     Unbuilt {
-        major,
-        minor,
-        patch,
+        major: triple.major,
+        minor: triple.minor,
+        patch: triple.patch,
         identifiers: BorrowedIdentifiers::List(&[]),
         zero: opens(upper, triple),
         build,

@@ -12,17 +12,14 @@ use Rattle.std.proofs.lemmas.List.{append-nil, take-append-drop, take_more}
 use Rattle.std.proofs.lemmas.List.Elements.{filter-append}
 use Rattle.std.proofs.lemmas.List.Sorted.{searchable_from_sorted}
 use Rattle.semver_cuts.specs.Lemmas.Lists.{all-append}
+use Rattle.semver_versions.specs.Lemmas.Order.{triple_total}
 use Rattle.semver_versions.specs.Version.{VersionValue}
-use Rattle.semver_sets.specs.Private.SearchViews.{is_opening_of, same_triples, triple_cmp, triple_of}
+use Rattle.semver_sets.specs.Private.SearchViews.{is_opening_of, same_triples}
+use Rattle.semver_versions.specs.Triple.{triple_cmp, triple_of}
 use Rattle.semver_sets.specs.declared.set_list.opened.Opening.{Opening}
-use Rattle.semver_sets.specs.declared.set_list.opened.Triple.{Triple}
+use Rattle.semver_versions.specs.declared.triple.Triple.{Triple}
 
 -- ---- triples
-
-pub triple_total : IsTotalOrder triple_cmp
-triple_total =
-    then_total (on_total (λ (t : Triple). t.major) nat_cmp_total)
-    (then_total (on_total (λ (t : Triple). t.minor) nat_cmp_total) (on_total (λ (t : Triple). t.patch) nat_cmp_total))
 
 equal-then : (r s u : Ordering) → ((is_eq r && is_eq s) && is_eq u) ≡ is_eq (ordering_then r (ordering_then s u))
 equal-then Less s u = refl

@@ -29,9 +29,10 @@ use Rattle.semver_sets.specs.Searching.{IsShortSearch, count_of_opening, has_ide
 use Rattle.semver_sets.specs.Searching.{opens}
 use Rattle.semver_versions.specs.Version.{HasSameTriple, IsPrerelease, VersionValue}
 use Rattle.semver_sets.specs.Private.SearchViews.{is_opening_of, opening_at, openings_from, openings_of, other_than}
-use Rattle.semver_sets.specs.Private.SearchViews.{places_opening, same_triples, triple_at, triple_of}
+use Rattle.semver_sets.specs.Private.SearchViews.{places_opening, same_triples, triple_at}
+use Rattle.semver_versions.specs.Triple.{triple_of}
 use Rattle.semver_sets.specs.declared.set_list.opened.Opening.{Opening}
-use Rattle.semver_sets.specs.declared.set_list.opened.Triple.{Triple}
+use Rattle.semver_versions.specs.declared.triple.Triple.{Triple}
 use Rattle.semver_sets.proofs.Sets.SomeElement.{all-at}
 
 -- ---- tests

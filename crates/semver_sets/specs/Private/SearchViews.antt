@@ -2,28 +2,19 @@
 use Rattle.std.specs.Prelude.{◌≡◌, ℕ, ◌+◌, ◌==◌, ◌&&◌, Bool, List, [], ◌∷◌, ◌++◌, Option, Some, None, if◌then◌else◌}
 use Rattle.std.specs.Prelude.{map, filter}
 use Rattle.std.specs.List.Sorted.{IsSortedByKey}
-use Rattle.std.specs.Ordering.{nat_cmp, on, then_cmp}
-use Rattle.std.specs.declared.cmp.Ordering.{Ordering}
 use Rattle.semver_cuts.specs.declared.cut.Cut.{Cut}
 use Rattle.semver_cuts.specs.declared.cut.Cut.TheVariants.{Start, Before, After, End}
 use Rattle.semver_cuts.specs.Ends.{Ends}
 use Rattle.semver_sets.specs.Searching.{has_identifiers, has_open_end}
 use Rattle.semver_versions.specs.Version.{VersionValue}
 use Rattle.semver_sets.specs.declared.set_list.opened.Opening.{Opening}
-use Rattle.semver_sets.specs.declared.set_list.opened.Triple.{Triple}
+use Rattle.semver_versions.specs.Triple.{triple_cmp, triple_of}
+use Rattle.semver_versions.specs.declared.triple.Triple.{Triple}
 
 -- ---- triples
 
-abbrev pub triple_of : VersionValue → Triple
-triple_of v = record { major = v.major; minor = v.minor; patch = v.patch }
-
 abbrev pub same_triples : Triple → Triple → Bool
 same_triples t u = (t.major == u.major) && (t.minor == u.minor) && (t.patch == u.patch)
-
--- major, minor and then patch
-abbrev pub triple_cmp : Triple → Triple → Ordering
-triple_cmp = then_cmp (on (λ (t : Triple). t.major) nat_cmp)
-    (then_cmp (on (λ (t : Triple). t.minor) nat_cmp) (on (λ (t : Triple). t.patch) nat_cmp))
 
 -- the triple of a prerelease
 abbrev pub opened_triple : VersionValue → Option Triple

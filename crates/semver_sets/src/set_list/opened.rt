@@ -6,19 +6,13 @@ ghost use Rattle.std.specs.List.{AllByRecursion};
 ghost use Rattle.std.specs.List.Sorted.{IsPartitionedBy, IsSortedByKey};
 ghost use Rattle.std.specs.Ordering.{is_le};
 ghost use Rattle.semver_sets.specs.Private.SearchViews.{AreOpeningsOf, opened_triple, openings_of, other_than};
-ghost use Rattle.semver_sets.specs.Private.SearchViews.{same_triples, triple_at, triple_cmp};
+ghost use Rattle.semver_sets.specs.Private.SearchViews.{same_triples, triple_at};
+ghost use Rattle.semver_versions.specs.Triple.{triple_cmp};
 
 use semver_cuts::{Cut, Span};
+use semver_versions::Triple;
 use semver_versions::end::EndVersion;
 use std::alloc::{AllocError, Global};
-
-// A major, a minor and a patch, in this order.
-#[derive(Clone, Copy, Debug, PartialEq, Eq, PartialOrd, Ord)]
-pub(crate) struct Triple {
-    pub(crate) major: u64,
-    pub(crate) minor: u64,
-    pub(crate) patch: u64,
-}
 
 // A triple, and the place of a set that has a prerelease of this triple at an end.
 #[derive(Clone, Copy, Debug)]
@@ -107,11 +101,7 @@ fn opened_triple(end: &EndVersion) -> Option<Triple>
     ensures { result ≡ opened_triple end.now }
 {
     if end.is_prerelease() {
-        Some(Triple {
-            major: end.major,
-            minor: end.minor,
-            patch: end.patch,
-        })
+        Some(end.triple())
     } else {
         None
     }

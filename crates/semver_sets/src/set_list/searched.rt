@@ -17,7 +17,7 @@ ghost use Rattle.semver_sets.specs.Private.SearchViews.{AreOpeningsOf};
 use crate::Counts;
 use crate::set::{admits_opened, has_inside, is_at_or_before};
 use crate::set_list::copy::copies_of;
-use crate::set_list::opened::{Opening, Triple, openings, openings_at};
+use crate::set_list::opened::{Opening, openings, openings_at};
 use semver_cuts::Span;
 use semver_cuts::algebra::{MergedSpans, Places};
 use semver_versions::AsVersion;
@@ -133,13 +133,7 @@ impl Searched {
         if self.sets.len() <= FEW {
             return is_in_few(&self.sets, version, comparisons);
         }
-        let (major, minor, patch) = version.triple();
-        let triple = Triple {
-            major,
-            minor,
-            patch,
-        };
-        let openings = openings_at(&self.openings, triple);
+        let openings = openings_at(&self.openings, version.triple());
         is_in_opened(&self.sets, openings, version, comparisons)
     }
 }

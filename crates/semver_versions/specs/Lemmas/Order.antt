@@ -1,8 +1,8 @@
 -- The comparisons of `Order` are total orders, and agree with its relations.
 use Rattle.std.proofs.Common.{◌≡◌, ◌≢◌, ◌<◌, ◌↔◌, ℕ, List, [], ◌∷◌, ◌++◌, refl}
-use Rattle.std.proofs.Common.{sym, ap, subst, ◌∙◌, inl, inr, arith, Bool, IsTrue}
-use Rattle.std.specs.Ordering.{eq_by_cmp, nat_cmp, on, then_cmp, ordering_then, ordering_reverse}
-use Rattle.std.specs.Cmp.{Equal-is, IsTotalOrder, nat_cmp_total, on_total, then_total, tied_itself}
+use Rattle.std.proofs.Common.{sym, ap, subst, ◌∙◌, inl, inr, arith, Bool, IsTrue, ◌==◌, ◌&&◌}
+use Rattle.std.specs.Ordering.{eq_by_cmp, is_eq, nat_cmp, on, then_cmp, ordering_then, ordering_reverse}
+use Rattle.std.specs.Cmp.{Equal-is, IsTotalOrder, nat_cmp_total, on_total, then_total, tied_itself, unsigned_ties}
 use Rattle.std.specs.Cmp.Lexicographic.{slice_cmp, lists_total, nat_list_cmp_total}
 use Rattle.std.specs.FinMap.{IsAntisymmetric, nat_cmp-IsAntisymmetric, slice_cmp-IsAntisymmetric}
 use Rattle.std.proofs.lemmas.Cmp.{ranked}
@@ -14,6 +14,8 @@ use Rattle.semver_versions.specs.Version.{VersionValue, HasSameTriple}
 use Rattle.semver_versions.specs.Order.{IsListBelow, IsIdentifierBelow, IsBelow, by_major, by_minor, by_patch}
 use Rattle.semver_versions.specs.Order.{before_release, by_identifiers, IsSame, OrderMeans, IdentifierOrderMeans}
 use Rattle.semver_versions.specs.Comparison.{identifier_cmp, prerelease_cmp, version_cmp}
+use Rattle.semver_versions.specs.Triple.{triple_cmp, triple_of}
+use Rattle.semver_versions.specs.declared.triple.Triple.{Triple}
 
 -- ---- the orders are total
 
@@ -326,3 +328,50 @@ version_same v w r e = (
   λ t. Equal-version v w ((Equal-is (version_cmp v w)).0 (sym e ∙ t)),
   λ s. e ∙ (Equal-is (version_cmp v w)).1 (version-Equal v w s),
 )
+
+-- ---- triples
+
+pub triple_total : IsTotalOrder triple_cmp
+triple_total =
+    then_total (on_total (λ (t : Triple). t.major) nat_cmp_total)
+    (then_total (on_total (λ (t : Triple). t.minor) nat_cmp_total) (on_total (λ (t : Triple). t.patch) nat_cmp_total))
+
+-- triples are equal exactly where they tie
+pub triples_tie : (t u : Triple) → ((t.major == u.major) && ((t.minor == u.minor) && (t.patch == u.patch)))
+    ≡ eq_by_cmp triple_cmp t u
+triples_tie t u =
+    (λ i. unsigned_ties t.major u.major i && (unsigned_ties t.minor u.minor i && unsigned_ties t.patch u.patch i))
+    ∙ all_equal (nat_cmp t.major u.major) (nat_cmp t.minor u.minor) (nat_cmp t.patch u.patch)
+  where
+    all_equal : (r s w : Ordering)
+        → (is_eq r && (is_eq s && is_eq w)) ≡ is_eq (ordering_then r (ordering_then s w))
+    all_equal Less s w = refl
+    all_equal Greater s w = refl
+    all_equal Equal Less w = refl
+    all_equal Equal Greater w = refl
+    all_equal Equal Equal w = refl
+
+-- versions are compared by their triples, and then by their prereleases
+pub by_triple : (v w : VersionValue)
+    → version_cmp v w ≡ ordering_then (triple_cmp (triple_of v) (triple_of w)) (prerelease_cmp v.pre_release w.pre_release)
+by_triple v w = by_numbers (nat_cmp v.major w.major) (nat_cmp v.minor w.minor) (nat_cmp v.patch w.patch)
+    (prerelease_cmp v.pre_release w.pre_release)
+  where
+    by_numbers : (r s t u : Ordering)
+        → ordering_then r (ordering_then s (ordering_then t u)) ≡ ordering_then (ordering_then r (ordering_then s t)) u
+    by_numbers Less s t u = refl
+    by_numbers Greater s t u = refl
+    by_numbers Equal Less t u = refl
+    by_numbers Equal Greater t u = refl
+    by_numbers Equal Equal t u = refl
+
+-- if the triples are not equal, their order is that of the versions
+pub triples_decide : (v w : VersionValue) (t : Ordering) → t ≡ triple_cmp (triple_of v) (triple_of w)
+    → (t ≡ Equal → ⊥) → t ≡ version_cmp v w
+triples_decide v w t e apart =
+    subst (λ u. t ≡ ordering_then u (prerelease_cmp v.pre_release w.pre_release)) e (first t apart) ∙ sym (by_triple v w)
+  where
+    first : (r : Ordering) → (r ≡ Equal → ⊥) → r ≡ ordering_then r (prerelease_cmp v.pre_release w.pre_release)
+    first Less n = refl
+    first Equal n = absurd (n refl)
+    first Greater n = refl

@@ -48,16 +48,10 @@ impl Ord for EndVersion {
 
     #[inline]
     fn cmp(&self, other: &EndVersion) -> Ordering {
-        if self.major != other.major {
-            return self.major.cmp(&other.major);
+        match self.triple().cmp(&other.triple()) {
+            Ordering::Equal => self.cmp_extras(other),
+            order => order,
         }
-        if self.minor != other.minor {
-            return self.minor.cmp(&other.minor);
-        }
-        if self.patch != other.patch {
-            return self.patch.cmp(&other.patch);
-        }
-        self.cmp_extras(other)
     }
 }
 

@@ -3,16 +3,18 @@
 //! See docs/DECISIONS.md, "All kinds of versions are searched alike".
 ghost use Rattle.std.specs.Prelude.{◌≡◌, ◌↔◌, IsTrue};
 ghost use Rattle.semver_versions.specs.Comparison.{prerelease_cmp, version_cmp};
-ghost use Rattle.semver_versions.specs.Version.{IsPrerelease, VersionValue};
+ghost use Rattle.semver_versions.specs.Triple.{triple_of};
+ghost use Rattle.semver_versions.specs.Version.{IsPrerelease, VersionValue, release};
 
 use crate::end::EndVersion;
-use crate::{Version, VersionRef};
+use crate::{Triple, Version, VersionRef};
 use std::cmp::Ordering;
 
 /// A value that is seen as a version, so that ranges can be asked about it.
 ///
-/// `Version`, `VersionRef` and the candidates of `least_beyond` have this trait. A contract sees the value as a version
-/// value, `seen`. Values that are seen as the same version satisfy the same ranges.
+/// `Version`, `VersionRef` and the candidates of `least_beyond` have this trait. A `Triple` has it too, and is seen as its
+/// release. A contract sees the value as a version value, `seen`. Values that are seen as the same version satisfy the
+/// same ranges.
 ///
 /// # Memory
 ///
@@ -25,10 +27,8 @@ pub trait AsVersion {
         ensures { IsTrue result ↔ IsPrerelease (seen self.now) };
 
     /// Returns the major, minor and patch.
-    fn triple(&self) -> (u64, u64, u64)
-        ensures major { result.0 ≡ (seen self.now).major }
-        ensures minor { result.1 ≡ (seen self.now).minor }
-        ensures patch { result.2 ≡ (seen self.now).patch };
+    fn triple(&self) -> Triple
+        ensures { result ≡ triple_of (seen self.now) };
 
     /// Returns the order of what follows the triple in `end` and in the version, for an `end` with the same triple.
     fn cmp_extras(&self, end: &EndVersion) -> Ordering
@@ -58,8 +58,8 @@ impl AsVersion for Version {
     }
 
     #[inline(always)]
-    fn triple(&self) -> (u64, u64, u64) {
-        (self.major, self.minor, self.patch)
+    fn triple(&self) -> Triple {
+        Version::triple(self)
     }
 
     #[inline(always)]
@@ -80,13 +80,32 @@ impl<'a> AsVersion for VersionRef<'a> {
     }
 
     #[inline(always)]
-    fn triple(&self) -> (u64, u64, u64) {
-        (self.major(), self.minor(), self.patch())
+    fn triple(&self) -> Triple {
+        VersionRef::triple(self)
     }
 
     #[inline(always)]
     fn cmp_extras(&self, end: &EndVersion) -> Ordering {
         VersionRef::cmp_extras(self, end)
+    }
+}
+
+impl AsVersion for Triple {
+    ghost seen = { λ triple. release triple.major triple.minor triple.patch };
+
+    #[inline(always)]
+    fn is_prerelease(&self) -> bool {
+        false
+    }
+
+    #[inline(always)]
+    fn triple(&self) -> Triple {
+        *self
+    }
+
+    #[inline(always)]
+    fn cmp_extras(&self, end: &EndVersion) -> Ordering {
+        end.cmp_release()
     }
 }
 

@@ -96,15 +96,9 @@ impl Ord for Version {
         ensures answer { result ≡ version_cmp self.now other.now }
         ensures order { OrderMeans self.now other.now result }
     {
-        if self.major != other.major {
-            return self.major.cmp(&other.major);
+        match self.triple().cmp(&other.triple()) {
+            Ordering::Equal => cmp_prereleases(&self.pre_release, &other.pre_release),
+            order => order,
         }
-        if self.minor != other.minor {
-            return self.minor.cmp(&other.minor);
-        }
-        if self.patch != other.patch {
-            return self.patch.cmp(&other.patch);
-        }
-        cmp_prereleases(&self.pre_release, &other.pre_release)
     }
 }

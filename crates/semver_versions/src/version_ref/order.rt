@@ -73,16 +73,10 @@ impl<'a> Ord for VersionRef<'a> {
         ensures answer { result ≡ version_cmp self.now other.now }
         ensures order { OrderMeans self.now other.now result }
     {
-        if self.major != other.major {
-            return self.major.cmp(&other.major);
+        match self.triple().cmp(&other.triple()) {
+            Ordering::Equal => cmp_borrowed(&self.pre_release, &other.pre_release),
+            order => order,
         }
-        if self.minor != other.minor {
-            return self.minor.cmp(&other.minor);
-        }
-        if self.patch != other.patch {
-            return self.patch.cmp(&other.patch);
-        }
-        cmp_borrowed(&self.pre_release, &other.pre_release)
     }
 }
 
@@ -106,15 +100,9 @@ impl Version {
         ensures answer { result ≡ version_cmp self.now other.now }
         ensures order { OrderMeans self.now other.now result }
     {
-        if self.major != other.major {
-            return self.major.cmp(&other.major);
+        match self.triple().cmp(&other.triple()) {
+            Ordering::Equal => cmp_with_borrowed(&self.pre_release, &other.pre_release),
+            order => order,
         }
-        if self.minor != other.minor {
-            return self.minor.cmp(&other.minor);
-        }
-        if self.patch != other.patch {
-            return self.patch.cmp(&other.patch);
-        }
-        cmp_with_borrowed(&self.pre_release, &other.pre_release)
     }
 }

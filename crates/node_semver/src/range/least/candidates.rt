@@ -9,8 +9,8 @@ ghost use Rattle.semver_versions.specs.Version.{least_of, release, without_build
 ghost use Rattle.node_semver.specs.Private.BeyondViews.{IsBelowBest};
 
 use crate::range::least::unbuilt::Unbuilt;
-use semver_versions::AsVersion;
 use semver_versions::end::{BorrowedIdentifiers, EndVersion};
+use semver_versions::{AsVersion, Triple};
 use std::cmp::Ordering;
 
 impl<'a> Unbuilt<'a> {
@@ -69,8 +69,8 @@ impl<'a> AsVersion for Unbuilt<'a> {
     }
 
     #[inline(always)]
-    fn triple(&self) -> (u64, u64, u64) {
-        (self.major, self.minor, self.patch)
+    fn triple(&self) -> Triple {
+        Triple::new(self.major, self.minor, self.patch)
     }
 
     #[inline(always)]
@@ -132,13 +132,7 @@ impl ReleaseCandidate {
         ensures { IsTrue result ↔
             (version_cmp (release self.now.major self.now.minor self.now.patch) other.now ≡ Less) }
     {
-        if self.major != other.major {
-            return self.major < other.major;
-        }
-        if self.minor != other.minor {
-            return self.minor < other.minor;
-        }
-        self.patch < other.patch
+        self.triple() < other.triple()
     }
 }
 
@@ -151,8 +145,8 @@ impl AsVersion for ReleaseCandidate {
     }
 
     #[inline(always)]
-    fn triple(&self) -> (u64, u64, u64) {
-        (self.major, self.minor, self.patch)
+    fn triple(&self) -> Triple {
+        Triple::new(self.major, self.minor, self.patch)
     }
 
     #[inline(always)]

@@ -14,10 +14,12 @@ ghost use Rattle.node_semver.specs.Private.LeastViews.{IsInsideOrNone, with_zero
 
 use crate::{Identifier, Version};
 use semver_cuts::Cut;
+use semver_versions::AsVersion;
 use semver_versions::end::{BorrowedIdentifiers, EndVersion, Zero};
 use semver_versions::identifier::copy::{copies_of, copies_with_zero};
 use semver_versions::identifier::order::cmp_prereleases;
 use std::alloc::{AllocError, Global};
+use std::cmp::Ordering;
 use std::marker::Model;
 
 // A version with borrowed lists. Its prerelease is the list of identifiers, followed by a 0 if `zero` is true.
@@ -108,16 +110,11 @@ impl<'a> Unbuilt<'a> {
     pub(crate) fn is_below(&self, other: &Unbuilt<'_>) -> bool
         ensures { IsTrue result ↔ (version_cmp self.now other.now ≡ Less) }
     {
-        if self.major != other.major {
-            return self.major < other.major;
+        match self.triple().cmp(&other.triple()) {
+            Ordering::Less => true,
+            Ordering::Equal => self.is_prerelease_below(other),
+            Ordering::Greater => false,
         }
-        if self.minor != other.minor {
-            return self.minor < other.minor;
-        }
-        if self.patch != other.patch {
-            return self.patch < other.patch;
-        }
-        self.is_prerelease_below(other)
     }
 
     // Returns `true` if the version of an end is less than this one.
@@ -125,16 +122,11 @@ impl<'a> Unbuilt<'a> {
     pub(crate) fn is_above(&self, end: &EndVersion) -> bool
         ensures { IsTrue result ↔ (version_cmp end.now self.now ≡ Less) }
     {
-        if end.major != self.major {
-            return end.major < self.major;
+        match end.triple().cmp(&self.triple()) {
+            Ordering::Less => true,
+            Ordering::Equal => self.is_prerelease_above(end),
+            Ordering::Greater => false,
         }
-        if end.minor != self.minor {
-            return end.minor < self.minor;
-        }
-        if end.patch != self.patch {
-            return end.patch < self.patch;
-        }
-        self.is_prerelease_above(end)
     }
 
     // The same if both have the same triple.

@@ -1,6 +1,8 @@
 use Rattle.std.proofs.Common.{[], ◌≡◌, ◌+◌, ◌∙◌, ap, sym, subst}
 use Rattle.semver_versions.specs.EndViews.{build_seen}
+use Rattle.semver_versions.specs.Identifier.{values_of}
 use Rattle.semver_versions.specs.Version.{VersionValue}
+use Rattle.semver_versions.specs.declared.triple.Triple.{Triple}
 use Rattle.node_semver.proofs.Least.LeastLemmas.{before-least, candidate-least, patch-candidate, start-candidate}
 use Rattle.node_semver.proofs.Least.LeastLemmas.{zero-candidate}
 use Rattle.node_semver.specs.Private.LeastViews.{IsInsideOrNone, IsLeastInSet, IsLeastOfTriple}
@@ -11,7 +13,9 @@ returns-in-Start c =
     let set = c.args.set.now in
     candidate-least set c.least_of_triple.result c.if_inside.result
     (start-candidate set c.least_of_triple.result (sym c.lower.ensures ∙ c.in-Start.is)
-    (subst (λ u. IsLeastOfTriple u 0 0 0 [] c.least_of_triple.result) c.upper-upper.ensures c.least_of_triple.ensures))
+    (subst (λ u. IsLeastOfTriple u 0 0 0 [] c.least_of_triple.result) c.upper-upper.ensures
+    (subst (λ (t : Triple). IsLeastOfTriple c.upper-upper.result.now t.major t.minor t.patch [] c.least_of_triple.result)
+    c.new.ensures c.least_of_triple.ensures)))
     (subst (λ u. IsInsideOrNone u c.least_of_triple.result c.if_inside.result)
     c.upper-upper.ensures c.if_inside.ensures)
 
@@ -40,7 +44,8 @@ returns-in-After-2 c =
     let built : IsLeastOfTriple set.upper e.major e.minor (e.patch + 1) (build_seen e.extras) found =
     subst (λ u. IsLeastOfTriple u e.major e.minor (e.patch + 1) (build_seen e.extras) found) c.upper-upper.ensures
     (subst (λ l. IsLeastOfTriple c.upper-upper.result.now e.major e.minor (e.patch + 1) l found) seen
-    c.least_of_triple-in-After-2.ensures) in
+    (subst (λ (t : Triple). IsLeastOfTriple c.upper-upper.result.now t.major t.minor t.patch
+    (values_of c.build.result.now) found) c.new-next.ensures c.least_of_triple-in-After-2.ensures)) in
     candidate-least set found c.if_inside-in-After-2.result
     (patch-candidate set c.in-After-2.end found (sym c.lower.ensures ∙ c.in-After-2.is)
     (λ pre. cc (

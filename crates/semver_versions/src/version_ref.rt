@@ -2,6 +2,7 @@ ghost use Rattle.std.specs.Prelude.{◌≡◌, ◌↔◌, IsTrue};
 ghost use Rattle.semver_versions.specs.Comparison.{prerelease_cmp};
 ghost use Rattle.semver_versions.specs.Version.{IsPrerelease};
 
+mod copy;
 mod fault;
 mod order;
 mod read;

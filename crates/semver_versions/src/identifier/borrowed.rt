@@ -140,7 +140,7 @@ pub(crate) fn borrowed_of(text: &[u8]) -> IdentifierRef<'_>
 
 // The identifier, by reference.
 #[inline]
-fn by_reference(identifier: &Identifier) -> IdentifierRef<'_>
+pub(crate) fn by_reference(identifier: &Identifier) -> IdentifierRef<'_>
     ensures { borrowed_value result ≡ value_of identifier.now }
 {
     match identifier {

@@ -12,7 +12,7 @@ use crate::version::display::write_triple;
 use std::fmt;
 
 /// Prints what the [`Version`](crate::Version) of the text prints: not the text itself, if that has a mark or leading
-/// zeros.
+/// zeros. Width and fill are ignored.
 ///
 /// # Examples
 ///
@@ -27,8 +27,8 @@ impl<'a> fmt::Display for VersionRef<'a> {
     }
 }
 
-// Writes the mark and the identifiers with dots between them, or nothing if there are none. At most 128 calls deep, since
-// a version has at most 256 bytes.
+// Writes the mark and the identifiers with dots between them, or nothing if there are none. It calls itself at most 128
+// times, since a version has at most 256 bytes.
 fn write_list<W: fmt::Write>(f: &mut fmt::Formatter<W>, mark: &str, text: &[u8]) -> fmt::Result
     requires { IsListed text.now }
     ensures { WritesOnOk W.write_str_gives f.old result (led_values mark.now (identifiers_of text.now)) f.new }

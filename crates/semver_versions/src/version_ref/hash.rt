@@ -43,7 +43,7 @@ fn count_of(text: &[u8]) -> usize
     count
 }
 
-// Feeds each identifier. At most 128 calls deep, since a version has at most 256 bytes.
+// Feeds each identifier. It calls itself at most 128 times, since a version has at most 256 bytes.
 fn hash_list<H: Hasher>(text: &[u8], state: &mut H)
     requires { IsListed text.now }
     ensures { state.new ≡ fold H.write state.old (flat_map identifier_writes (identifiers_of text.now)) }

@@ -115,7 +115,10 @@ ends-at_dot [] ends = record { prefix = refl; rest = refl }
 ends-at_dot (b ∷ text) ends = elim (cases_Bool (is_identifier_character b)) [
   | inl some ↦
       let e = ends-at_dot text (rw some at ends) in
-      record { prefix = rw (character-no_dot b some, some, e.prefix) refl; rest = rw (character-no_dot b some, some) e.rest }
+      record {
+        prefix = rw (character-no_dot b some, some, e.prefix) refl;
+        rest = rw (character-no_dot b some, some) e.rest;
+      }
   | inr none ↦ (let here = rw none at ends in record { prefix = rw (here, none) refl; rest = rw (here, none) refl })
 ]
 

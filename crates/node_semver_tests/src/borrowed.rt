@@ -1,3 +1,5 @@
+use crate::order::hash_of;
+use crate::prints::is_one_way;
 use node_semver::{Identifier, IdentifierRef, Identifiers, Version, VersionRef};
 use std::alloc::Global;
 
@@ -32,10 +34,36 @@ fn is_same_version(version: &Version, borrowed: &VersionRef<'_>) -> bool {
         && are_same(&version.build, borrowed.copy().build())
 }
 
-// Returns `true` if both types read the text as the same version, or with the same fault.
+// The copy is the version, with the same build.
+fn is_copied(alloc: Global, version: &Version, borrowed: &VersionRef<'_>) -> bool {
+    match borrowed.to_version(alloc) {
+        Ok(copy) => {
+            copy == *version && copy.build == version.build && is_same_version(&copy, borrowed)
+        }
+        Err(_) => false,
+    }
+}
+
+fn is_printed_alike(alloc: Global, version: &Version, borrowed: &VersionRef<'_>) -> bool {
+    match version.to_string(alloc) {
+        Ok(print) => is_one_way(alloc, borrowed, print.as_str()),
+        Err(_) => false,
+    }
+}
+
+// Returns `true` if the two are one version, copied, printed and hashed alike.
+fn agree(alloc: Global, version: &Version, borrowed: &VersionRef<'_>) -> bool {
+    is_same_version(version, borrowed)
+        && is_copied(alloc, version, borrowed)
+        && is_printed_alike(alloc, version, borrowed)
+        && hash_of(version) == hash_of(borrowed)
+}
+
+// Returns `true` if both types read the text as the same version, with the same copy, print and hash, or with the same
+// fault.
 pub(crate) fn both_read(alloc: Global, text: &str) -> bool {
     match (Version::parse(alloc, text), VersionRef::parse(text)) {
-        (Ok(version), Ok(borrowed)) => is_same_version(&version, &borrowed),
+        (Ok(version), Ok(borrowed)) => agree(alloc, &version, &borrowed),
         (Err(error), Err(fault)) => {
             fault.offset() == error.offset()
                 && fault.kind() == *error.kind()

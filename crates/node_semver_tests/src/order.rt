@@ -4,7 +4,7 @@ use std::alloc::Global;
 use std::cmp::Ordering;
 use std::hash::{DefaultHasher, Hash, Hasher};
 
-fn hash_of(version: &Version) -> u64 {
+pub(crate) fn hash_of(version: &impl Hash) -> u64 {
     let mut state = DefaultHasher::new();
     version.hash(&mut state);
     state.finish()

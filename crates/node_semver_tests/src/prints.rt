@@ -6,7 +6,7 @@ use std::alloc::Global;
 use std::fmt::Display;
 
 // A width, a fill and the other form are not looked at.
-fn is_one_way(alloc: Global, value: &impl Display, text: &str) -> bool {
+pub(crate) fn is_one_way(alloc: Global, value: &impl Display, text: &str) -> bool {
     is_print(format!(in alloc; "{value}").ok(), text)
         && is_print(format!(in alloc; "{value:>9}").ok(), text)
         && is_print(format!(in alloc; "{value:*^40}").ok(), text)

@@ -1,7 +1,7 @@
 pub mod borrowed;
 pub mod copy;
 mod display;
-mod hash;
+pub(crate) mod hash;
 pub mod order;
 
 /// One part of a prerelease or of a build, such as `alpha` and `1` in `1.2.3-alpha.1`.

@@ -3,7 +3,10 @@ ghost use Rattle.semver_versions.specs.Comparison.{prerelease_cmp};
 ghost use Rattle.semver_versions.specs.Triple.{triple_of};
 ghost use Rattle.semver_versions.specs.Version.{IsPrerelease};
 
+mod copy;
+mod display;
 mod fault;
+mod hash;
 mod order;
 mod read;
 

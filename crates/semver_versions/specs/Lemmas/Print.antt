@@ -2,6 +2,7 @@
 use Rattle.std.proofs.Common.{◌≡◌, ℕ, List, [], ◌∷◌, ◌++◌, map, refl, ap, append-nil, flat_map}
 use Rattle.std.specs.List.{join_with_byte}
 use Rattle.semver_versions.specs.Identifier.{value_of, values_of}
+use Rattle.semver_versions.specs.IdentifierValue.{IdentifierValue}
 use Rattle.semver_versions.specs.Print.{identifier_text, marked_text}
 use Rattle.semver_versions.specs.declared.identifier.Identifier.{Identifier}
 
@@ -24,3 +25,17 @@ joined x (y ∷ ys) = ap (λ (l : List ℕ). identifier_text (value_of x) ++ (46
 pub led_text-marked : (mark : ℕ) (xs : List Identifier) → led_text (mark ∷ []) xs ≡ marked_text mark (values_of xs)
 led_text-marked mark [] = refl
 led_text-marked mark (x ∷ xs) = ap (λ (l : List ℕ). mark ∷ l) (joined x xs)
+
+-- the first identifier after the mark, and each other after a dot
+abbrev pub led_values : List ℕ → List IdentifierValue → List ℕ
+led_values mark [] = []
+led_values mark (x ∷ xs) = mark ++ (identifier_text x ++ led_values (46 ∷ []) xs)
+
+joined-values : (x : IdentifierValue) (xs : List IdentifierValue)
+    → identifier_text x ++ led_values (46 ∷ []) xs ≡ join_with_byte 46 (map identifier_text (x ∷ xs))
+joined-values x [] = append-nil (identifier_text x)
+joined-values x (y ∷ ys) = ap (λ (l : List ℕ). identifier_text x ++ (46 ∷ l)) (joined-values y ys)
+
+pub led_values-marked : (mark : ℕ) (xs : List IdentifierValue) → led_values (mark ∷ []) xs ≡ marked_text mark xs
+led_values-marked mark [] = refl
+led_values-marked mark (x ∷ xs) = ap (λ (l : List ℕ). mark ∷ l) (joined-values x xs)

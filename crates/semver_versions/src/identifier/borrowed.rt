@@ -42,7 +42,7 @@ pub enum IdentifierRef<'a> {
 // Not `Copy`: the toolchain refuses it beside a `Model` with a lifetime.
 #[derive(Drop)]
 pub struct Identifiers<'a> {
-    text: &'a [u8],
+    pub(crate) text: &'a [u8],
 }
 
 impl<'a> Model for Identifiers<'a> {
@@ -127,7 +127,7 @@ impl<'a> Iterator for Identifiers<'a> {
 
 // The identifier that a text of identifier characters writes.
 #[inline]
-fn borrowed_of(text: &[u8]) -> IdentifierRef<'_>
+pub(crate) fn borrowed_of(text: &[u8]) -> IdentifierRef<'_>
     requires { AreAll Characters.is_identifier_character text.now }
     ensures { borrowed_value result ≡ IdentifierText.identifier_of text.now }
 {
@@ -140,7 +140,7 @@ fn borrowed_of(text: &[u8]) -> IdentifierRef<'_>
 
 // The identifier, by reference.
 #[inline]
-fn by_reference(identifier: &Identifier) -> IdentifierRef<'_>
+pub(crate) fn by_reference(identifier: &Identifier) -> IdentifierRef<'_>
     ensures { borrowed_value result ≡ value_of identifier.now }
 {
     match identifier {

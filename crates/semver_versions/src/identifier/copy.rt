@@ -2,10 +2,17 @@
 
 ghost use Rattle.std.specs.Prelude.{◌≡◌, ◌++◌, [], ◌∷◌, IfOk, IsOk, MatchResult};
 ghost use Rattle.semver_versions.specs.Identifier.{IsNumber, value_of, values_of};
+ghost use Rattle.semver_versions.specs.IdentifierRef.{borrowed_value};
+ghost use Rattle.semver_versions.specs.IdentifierText.{IsListed, identifiers_of};
 ghost use Rattle.semver_versions.specs.IdentifierValue.{numeric};
 
-use crate::Identifier;
+use crate::identifier::borrowed::borrowed_of;
+use crate::parse::listed::split_first;
+use crate::{Identifier, IdentifierRef, Identifiers};
 use std::alloc::{AllocError, Global};
+
+// A list that is read from a text gets room for this many identifiers at once. Most lists have no more.
+const USUAL_IDENTIFIERS: usize = 4;
 
 /// Returns a copy: the same number or the same text.
 ///
@@ -76,4 +83,54 @@ pub fn copies_with_zero(
     let mut copies = copies_of(alloc, identifiers)?;
     copies.push(Identifier::Numeric(0))?;
     Ok(copies)
+}
+
+impl<'a> Identifiers<'a> {
+    /// Returns a list of the identifiers, with texts of its own.
+    ///
+    /// # Errors
+    ///
+    /// Returns `AllocError` if an allocation fails.
+    ///
+    /// # Memory
+    ///
+    /// Allocates the list and its texts. Does not allocate if there are no identifiers.
+    #[inline]
+    pub fn to_vec(&self, alloc: Global) -> Result<Vec<Identifier>, AllocError>
+        ensures copies { IfOk result (λ v. values_of v.items ≡ self.now) }
+        ensures plain { self.now ≡ [] → IsOk result }
+    {
+        if self.is_empty() {
+            return Ok(Vec::new(alloc));
+        }
+        list_of(alloc, self.text)
+    }
+}
+
+// The identifiers of such a text.
+fn list_of(alloc: Global, text: &[u8]) -> Result<Vec<Identifier>, AllocError>
+    requires { IsListed text.now }
+    ensures { IfOk result (λ v. values_of v.items ≡ identifiers_of text.now) }
+{
+    let mut list = Vec::with_capacity(alloc, USUAL_IDENTIFIERS)?;
+    let mut rest = text;
+    'identifiers: while !rest.is_empty() {
+        let (first, others) = split_first(rest);
+        list.push(copy_of(alloc, borrowed_of(first))?)?;
+        rest = others;
+    }
+    Ok(list)
+}
+
+// The same identifier, with a text of its own.
+#[inline(always)]
+fn copy_of(alloc: Global, identifier: IdentifierRef<'_>) -> Result<Identifier, AllocError>
+    ensures { IfOk result (λ i. value_of i ≡ borrowed_value identifier.entry) }
+{
+    match identifier {
+        IdentifierRef::Numeric(n) => Ok(Identifier::Numeric(n)),
+        IdentifierRef::AlphaNumeric(text) => {
+            Ok(Identifier::AlphaNumeric(String::from_str(alloc, text)?))
+        }
+    }
 }

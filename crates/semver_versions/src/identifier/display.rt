@@ -2,9 +2,11 @@
 
 ghost use Rattle.std.specs.Prelude.{Some};
 ghost use Rattle.semver_versions.specs.Identifier.{value_of};
+ghost use Rattle.semver_versions.specs.IdentifierRef.{borrowed_value};
 ghost use Rattle.semver_versions.specs.Print.{identifier_text};
 
-use crate::Identifier;
+use crate::identifier::borrowed::by_reference;
+use crate::{Identifier, IdentifierRef};
 use std::fmt;
 
 /// Prints the number in decimal without leading zeros, or the text. Width and fill are ignored.
@@ -16,9 +18,19 @@ impl fmt::Display for Identifier {
     ghost output = { λ i. Some (identifier_text (value_of i)) };
 
     fn fmt<W: fmt::Write>(&self, f: &mut fmt::Formatter<W>) -> fmt::Result {
+        fmt::Display::fmt(&by_reference(self), f)
+    }
+}
+
+/// Prints as the [`Identifier`] of the same text does.
+impl<'a> fmt::Display for IdentifierRef<'a> {
+    ghost output = { λ i. Some (identifier_text (borrowed_value i)) };
+
+    #[inline]
+    fn fmt<W: fmt::Write>(&self, f: &mut fmt::Formatter<W>) -> fmt::Result {
         match self {
-            Identifier::Numeric(n) => write!(f, "{n}"),
-            Identifier::AlphaNumeric(text) => f.write_str(text.as_str()),
+            IdentifierRef::Numeric(n) => write!(f, "{n}"),
+            IdentifierRef::AlphaNumeric(text) => f.write_str(text),
         }
     }
 }

@@ -3,11 +3,12 @@
 //! `#[inline(always)]`: what is short is part of the reader around it, and hands slices on in registers.
 ghost use Rattle.std.specs.Prelude.{◌≡◌, ◌<◌, ℕ, length};
 ghost use Rattle.semver_versions.specs.IdentifierText.{IsListed, identifiers_of};
-ghost use Rattle.semver_versions.specs.ListedViews.{IsFirstSplit, IsListSplit};
+ghost use Rattle.semver_versions.specs.ListedViews.{IsFirstSplit, IsListSplit, is_inner};
 ghost use Rattle.semver_versions.specs.Reading as Reading;
 
 use crate::parse::extras::skip_identifiers;
-use crate::parse::identifiers::{begins_identifier, skip_hyphen, skip_plus, split_identifier};
+use crate::parse::identifiers::{begins_identifier, skip_hyphen, skip_plus};
+use crate::parse::skip::split;
 
 // `alpha.1` and `+5` of `alpha.1+5`; if there is no list, nothing and `otherwise`.
 #[inline(always)]
@@ -42,8 +43,8 @@ fn split_build(text: &[u8]) -> (&[u8], &[u8])
 
 /// Returns the text of an optional prerelease, that of an optional build, and the rest: `alpha`, `5` and ` <2` for
 /// `-alpha+5 <2`. What is absent is empty.
-// `inline(never)`: few versions have extras.
-#[inline(never)]
+// `inline(always)`: the parts stay in registers.
+#[inline(always)]
 #[tactic(auto, unfolding(crate::specs::Reading::read_extras))]
 pub(crate) fn split_extras(text: &[u8]) -> (&[u8], &[u8], &[u8])
     ensures prerelease { identifiers_of result.0.now ≡ (Reading.read_extras text.now).0.0 }
@@ -57,6 +58,14 @@ pub(crate) fn split_extras(text: &[u8]) -> (&[u8], &[u8], &[u8])
     (pre_release, build, rest)
 }
 
+// Not the dot that ends an identifier of a list.
+#[inline(always)]
+fn is_inner(byte: u8) -> bool
+    ensures { result ≡ is_inner byte }
+{
+    byte != b'.'
+}
+
 // `alpha` and `1` of `alpha.1`: the first identifier, and those after it.
 #[inline(always)]
 pub(crate) fn split_first(text: &[u8]) -> (&[u8], &[u8])
@@ -65,7 +74,7 @@ pub(crate) fn split_first(text: &[u8]) -> (&[u8], &[u8])
     ensures split { IsFirstSplit text.now result.0.now result.1.now }
     ensures shorter { length result.1.now < length text.now }
 {
-    let (part, rest) = split_identifier(text);
+    let (part, rest) = split(text, is_inner);
     match rest {
         [_, others @ ..] => (part, others),
         [] => (part, rest),

@@ -54,7 +54,10 @@ pub fn write_version<W: fmt::Write>(
 
 // Writes `1.2.3` in one write.
 #[inline]
-fn write_triple<W: fmt::Write>(f: &mut fmt::Formatter<W>, triple: (u64, u64, u64)) -> fmt::Result
+pub(crate) fn write_triple<W: fmt::Write>(
+    f: &mut fmt::Formatter<W>,
+    triple: (u64, u64, u64),
+) -> fmt::Result
     ensures { WritesOnOk W.write_str_gives f.old result
         (decimal triple.0 ++ (dot ∷ (decimal triple.1 ++ (dot ∷ decimal triple.2)))) f.new }
 {

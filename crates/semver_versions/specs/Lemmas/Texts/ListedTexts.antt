@@ -4,11 +4,12 @@ use Rattle.std.proofs.Common.{arith, length, length-append, drop, take}
 use Rattle.std.proofs.lemmas.Bool.{and_parts, cases_Bool, eqb-true}
 use Rattle.std.specs.Prelude.{◌==◌, map}
 use Rattle.std.specs.List.{AllByRecursion, list_all}
-use Rattle.semver_versions.specs.Characters.{AreAll, is_identifier_character, dot}
+use Rattle.semver_versions.specs.Characters.{AreAll, BeginsWithNo, is_identifier_character, dot}
 use Rattle.semver_versions.specs.IdentifierText.{IsIdentifierText, IsListed, identifier_of, identifiers_of, parts_of, texts_of}
 use Rattle.semver_versions.specs.IdentifierValue.{IdentifierValue}
-use Rattle.semver_versions.specs.ListedViews.{IsFirstSplit, IsListSplit}
+use Rattle.semver_versions.specs.ListedViews.{IsFirstSplit, IsListSplit, is_inner}
 use Rattle.semver_versions.specs.Reading.{begins, list_prefix, list_rest, prefix_of, read_list_or, rest_of}
+use Rattle.semver_versions.specs.Lemmas.Texts.Characters.{character-no_dot}
 use Rattle.semver_versions.specs.Lemmas.Texts.Places.{to-end}
 use Rattle.semver_versions.specs.Lemmas.Texts.Prefixes.{prefix_of-rest_of}
 use Rattle.semver_versions.specs.Lemmas.Texts.ExtrasReading.{read_list_or-none, read_list_or-some}
@@ -101,6 +102,31 @@ first-before (b ∷ text) rest d listed some end = elim (first-part (b ∷ text)
             ∙ ap (λ (l : List (List ℕ)). prefix_of is_identifier_character (b ∷ text) ∷ l) (sym whole));
         listed = subst (λ (l : List (List ℕ)). AllByRecursion IsIdentifierText l) (sym whole) all.1;
       }
+]
+
+-- an identifier of a list ends where a dot does, or the text
+pub record EndsAtDot (text : List ℕ) : Type 0 where
+  pub prefix : prefix_of is_inner text ≡ prefix_of is_identifier_character text
+  pub rest : rest_of is_inner text ≡ rest_of is_identifier_character text
+
+ends-at_dot : (text : List ℕ) → BeginsWithNo is_inner (rest_of is_identifier_character text) → EndsAtDot text
+unfolding prefix_of rest_of
+ends-at_dot [] ends = record { prefix = refl; rest = refl }
+ends-at_dot (b ∷ text) ends = elim (cases_Bool (is_identifier_character b)) [
+  | inl some ↦
+      let e = ends-at_dot text (rw some at ends) in
+      record {
+        prefix = rw (character-no_dot b some, some, e.prefix) refl;
+        rest = rw (character-no_dot b some, some) e.rest;
+      }
+  | inr none ↦ (let here = rw none at ends in record { prefix = rw (here, none) refl; rest = rw (here, none) refl })
+]
+
+pub listed-ends : (text : List ℕ) → IsListed text → 0 < length text → EndsAtDot text
+listed-ends [] listed some = absurd (omega arith)
+listed-ends (b ∷ text) listed some = elim (first-part (b ∷ text) (go-on (b ∷ text) listed)) [
+  | alone there parts ↦ ends-at_dot (b ∷ text) (rw there tt)
+  | before next there parts ↦ ends-at_dot (b ∷ text) (rw there refl)
 ]
 
 -- the same of what a reader of an identifier returned

@@ -1,16 +1,23 @@
-use Rattle.semver_versions.specs.Lemmas.Texts.ListedTexts.{split-alone, split-before, split-shorter}
+use Rattle.std.proofs.Common.{◌∙◌, rules}
+use Rattle.semver_versions.specs.ListedViews.{is_inner}
+use Rattle.semver_versions.specs.Lemmas.Texts.ListedTexts.{listed-ends, split-alone, split-before, split-shorter}
 use Rattle.semver_versions.proofs.parse.listed.split_first.Goals as goal
 
 pub returns-in-empty-clause-split : goal.returns-in-empty-clause-split
 returns-in-empty-clause-split c =
-    split-alone c.args.text.now _ _ c.requires.listed c.requires.some c.split_identifier.ensures.identifier
-    c.split_identifier.ensures.rest c.in-empty.len_below
+    let e = listed-ends c.args.text.now c.requires.listed c.requires.some in
+    split-alone c.args.text.now _ _ c.requires.listed c.requires.some
+    (c.split.ensures.prefix is_inner (search rules) ∙ e.prefix)
+    (c.split.ensures.rest is_inner (search rules) ∙ e.rest) c.in-empty.len_below
 
 pub returns-in-len1-up-clause-split : goal.returns-in-len1-up-clause-split
 returns-in-len1-up-clause-split c =
-    split-before c.args.text.now _ _ c.requires.listed c.requires.some c.split_identifier.ensures.identifier
-    c.split_identifier.ensures.rest c.in-len1-up.len_at_least
+    let e = listed-ends c.args.text.now c.requires.listed c.requires.some in
+    split-before c.args.text.now _ _ c.requires.listed c.requires.some
+    (c.split.ensures.prefix is_inner (search rules) ∙ e.prefix)
+    (c.split.ensures.rest is_inner (search rules) ∙ e.rest) c.in-len1-up.len_at_least
 
 pub returns-in-len1-up-clause-shorter : goal.returns-in-len1-up-clause-shorter
 returns-in-len1-up-clause-shorter c =
-    split-shorter c.args.text.now _ c.split_identifier.ensures.rest c.in-len1-up.len_at_least
+    let e = listed-ends c.args.text.now c.requires.listed c.requires.some in
+    split-shorter c.args.text.now _ (c.split.ensures.rest is_inner (search rules) ∙ e.rest) c.in-len1-up.len_at_least

@@ -1,0 +1,38 @@
+//! A version with lists of its own, of one that borrows its text.
+ghost use Rattle.std.specs.Prelude.{◌≡◌, IfOk, IsOk};
+ghost use Rattle.semver_versions.specs.Version.{IsPlain};
+
+use crate::{Version, VersionRef};
+use std::alloc::{AllocError, Global};
+
+impl<'a> VersionRef<'a> {
+    /// Returns the same version with lists of its own, which borrows nothing.
+    ///
+    /// # Errors
+    ///
+    /// Returns `AllocError` if an allocation fails.
+    ///
+    /// # Memory
+    ///
+    /// Does not allocate for a version without prerelease and build. Otherwise allocates lists of identifiers, and the
+    /// text of each identifier that is no number.
+    ///
+    /// # Examples
+    ///
+    /// That of `v1.2.3` is `Version::new(alloc, 1, 2, 3)`.
+    #[inline]
+    pub fn to_version(&self, alloc: Global) -> Result<Version, AllocError>
+        ensures copy { IfOk result (λ v. v ≡ self.now) }
+        ensures plain { IsPlain self.now → IsOk result }
+    {
+        let pre_release = self.pre_release.to_vec(alloc)?;
+        let build = self.build.to_vec(alloc)?;
+        Ok(Version {
+            major: self.major,
+            minor: self.minor,
+            patch: self.patch,
+            build,
+            pre_release,
+        })
+    }
+}

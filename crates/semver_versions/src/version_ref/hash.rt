@@ -1,0 +1,57 @@
+//! How versions that borrow their text are hashed.
+ghost use Rattle.std.specs.Prelude.{◌≡◌, ◌+◌, ◌≤◌, flat_map, fold, length};
+ghost use Rattle.semver_versions.specs.Hash.{identifier_writes, version_writes};
+ghost use Rattle.semver_versions.specs.IdentifierText.{IsListed, identifiers_of};
+ghost use Rattle.semver_versions.specs.Lemmas.Hash.{version_alike};
+
+use crate::VersionRef;
+use crate::identifier::borrowed::borrowed_of;
+use crate::identifier::hash::hash_identifier;
+use crate::parse::listed::split_first;
+use std::hash::{Hash, Hasher};
+
+/// Feeds the hasher what the [`Version`](crate::Version) of the text feeds it.
+///
+/// # Memory
+///
+/// Does not allocate.
+impl<'a> Hash for VersionRef<'a> {
+    ghost hash_input = { version_writes };
+
+    ghost respects_eq = { version_alike };
+
+    fn hash<H: Hasher>(&self, state: &mut H) {
+        self.major.hash(state);
+        self.minor.hash(state);
+        self.patch.hash(state);
+        state.write_usize(count_of(self.pre_release.text));
+        hash_list(self.pre_release.text, state);
+    }
+}
+
+// The number of identifiers.
+fn count_of(text: &[u8]) -> usize
+    requires { IsListed text.now }
+    ensures { result ≡ length (identifiers_of text.now) }
+{
+    let mut count: usize = 0;
+    let mut rest = text;
+    'identifiers: while !rest.is_empty() {
+        (_, rest) = split_first(rest);
+        count += 1;
+    }
+    count
+}
+
+// Feeds each identifier. It calls itself at most 128 times, since a version has at most 256 bytes.
+fn hash_list<H: Hasher>(text: &[u8], state: &mut H)
+    requires { IsListed text.now }
+    ensures { state.new ≡ fold H.write state.old (flat_map identifier_writes (identifiers_of text.now)) }
+{
+    if text.is_empty() {
+        return;
+    }
+    let (first, rest) = split_first(text);
+    hash_identifier(borrowed_of(first), state);
+    hash_list(rest, state);
+}

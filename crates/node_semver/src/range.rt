@@ -1,11 +1,15 @@
 //! Ranges: which versions a range text admits.
 //!
 //! See docs/DECISIONS.md, "`Drop` of `Range` and `EndVersion` is written by hand".
-ghost use Rattle.std.specs.Prelude.{◌≡◌, ◌↔◌, ◌∷◌, [], IfOk, IsTrue};
-ghost use Rattle.semver_sets.specs.Meaning.{RangeAdmits};
+ghost use Rattle.std.specs.Prelude.{◌≡◌, ◌⊎◌, ◌↔◌, ◌∷◌, [], IfOk, IfSome, IsTrue, MatchResult};
+ghost use Rattle.std.specs.List.{AllByRecursion};
+ghost use Rattle.semver_sets.specs.Meaning.{IsRefused, RangeAdmits};
 ghost use Rattle.semver_sets.specs.Merging.{all_cuts};
 ghost use Rattle.semver_sets.specs.RangeSets.{IsRangeSet, IsRangeValue};
 ghost use Rattle.semver_sets.specs.Searching.{IsShortSearch};
+ghost use Rattle.semver_sets.specs.declared.read.Unread.TheVariants.{Refused};
+ghost use Rattle.semver_versions.specs.Error.{IsOutOfMemory, IsRefusalAt, no_valid_ranges};
+ghost use Rattle.node_semver.specs.RangeAlgebra.{sets_of_answer};
 ghost use Rattle.node_semver.specs.RangeAnswer.{IsRangeAnswer};
 
 mod algebra;
@@ -13,20 +17,17 @@ mod equality;
 mod greatest;
 mod least;
 mod print;
-mod read;
 mod sets;
 
-use crate::{AsVersion, Comparisons, SemverError, Version};
+use crate::{AsVersion, Comparisons, SemverError, SemverErrorKind, Version};
 pub use equality::ranges_are_equal_where_their_cuts_are;
 pub use greatest::{max_satisfying, min_satisfying};
-use read::read_range;
 use semver_cuts::{Cut, Span};
 use semver_sets::laws::{a_text_means_its_sets, prints_are_read_back};
-use semver_sets::read::full::{FullLead, caret_set, exact_set, read_full, tilde_set};
+use semver_sets::read::Unread;
 use semver_sets::set_list::Sets;
-use semver_sets::set_list::searched::Searched;
+use semver_sets::set_list::gathered::Gathered;
 use semver_versions::Admits;
-use semver_versions::end::EndVersion;
 use std::alloc::{AllocError, Global};
 use std::marker::Model;
 
@@ -104,7 +105,7 @@ impl Range {
     ///
     /// # Memory
     ///
-    /// Allocates the prereleases and builds that the text writes at ends, and a list of the sets if the text has `||`.
+    /// Allocates the prereleases and builds that the text writes at ends, and a list if there are several sets.
     /// Does not allocate for a word that is ignored, or for the `-0` of an end such as `<2.0.0-0`. An error holds a
     /// copy of the text.
     ///
@@ -116,17 +117,9 @@ impl Range {
     {
         a_text_means_its_sets();
         prints_are_read_back();
-        match read_full(text.as_bytes()) {
-            Some((FullLead::Caret, major, minor, patch)) => {
-                Ok(Range::of_set(caret_set(major, minor, patch)))
-            }
-            Some((FullLead::Tilde, major, minor, patch)) => {
-                Ok(Range::of_set(tilde_set(major, minor, patch)))
-            }
-            Some((FullLead::Nothing, major, minor, patch)) => {
-                Ok(Range::of_set(exact_set(major, minor, patch)))
-            }
-            None => read_range(alloc, text),
+        match Sets::read(alloc, text.as_bytes()) {
+            Ok(sets) => Ok(Range { sets }),
+            Err(unread) => Err(unread_error(alloc, text, unread)),
         }
     }
 
@@ -154,7 +147,9 @@ impl Range {
         ensures all { IfOk result (λ r. r ≡ all_cuts ∷ []) }
         ensures holds { IfOk result IsRangeValue }
     {
-        Ok(Range::of_set(Span::between(Cut::Start, Cut::End)))
+        Ok(Range {
+            sets: Sets::One(Span::between(Cut::Start, Cut::End)),
+        })
     }
 
     /// Returns `true` if the version satisfies the range.
@@ -211,38 +206,63 @@ impl Range {
         self.sets.admits(version, comparisons)
     }
 
-    // The range of one set, without a list. `inline(always)`: the range is built in the place of the caller's result;
-    // so also below.
+    // The range of the sets, or `None` if there are none. `inline(always)`: the range is built in the place of the
+    // caller's result.
     #[inline(always)]
-    pub(crate) fn of_set(set: Span<EndVersion>) -> Range
-        requires { IsRangeSet set }
-        ensures { result ≡ set ∷ [] }
+    pub(crate) fn of_gathered(sets: Gathered) -> Result<Option<Range>, AllocError>
+        requires { AllByRecursion IsRangeSet sets }
+        ensures sets { IfOk result (λ answer. sets_of_answer answer ≡ sets) }
+        ensures holds { IfOk result (λ answer. IfSome answer IsRangeValue) }
     {
-        Range {
-            sets: Sets::One(set),
+        match sets.into_sets() {
+            Ok(Some(sets)) => Ok(Some(Range { sets })),
+            Ok(None) => Ok(None),
+            Err(error) => Err(error),
         }
     }
+}
 
-    // The range of a list of sets.
-    #[inline(always)]
-    pub(crate) fn of_sets(alloc: Global, sets: Vec<Span<EndVersion>>) -> Result<Range, AllocError>
-        requires { IsRangeValue sets.items }
-        ensures { IfOk result (λ r. r ≡ sets.items) }
+// The error for a text that was not read. `inline(always)`: with this function of one line between, the toolchain clears
+// the place of the error only if there is one.
+#[inline(always)]
+fn unread_error(alloc: Global, text: &str, unread: Unread) -> SemverError
+    requires { unread ≡ Refused → IsRefused text.now }
+    ensures { IsOutOfMemory result ⊎ (IsRefusalAt text.now no_valid_ranges 0 result × IsRefused text.now) }
+{
+    error_of(alloc, text, unread)
+}
+
+// The same. `inline(never)`: few texts are refused.
+#[inline(never)]
+fn error_of(alloc: Global, text: &str, unread: Unread) -> SemverError
+    requires { unread ≡ Refused → IsRefused text.now }
+    ensures { IsOutOfMemory result ⊎ (IsRefusalAt text.now no_valid_ranges 0 result × IsRefused text.now) }
+{
+    match unread {
+        Unread::Refused => SemverError::new(alloc, text, 0, SemverErrorKind::NoValidRanges),
+        Unread::OutOfMemory => SemverError::out_of_memory(alloc),
+    }
+}
+
+/// Returns a copy: a range of the same sets, with the builds of their ends.
+///
+/// # Errors
+///
+/// Returns `AllocError` if an allocation fails.
+///
+/// # Memory
+///
+/// Allocates the identifiers of the ends, and a list if there are several sets.
+impl Clone for Range {
+    ghost is_clone = { λ r copy. copy ≡ r };
+
+    fn clone(&self) -> Result<Range, AllocError>
+        ensures cases { MatchResult result (λ copy. copy ≡ self.now) (λ _. ¬ ⊥) }
+        ensures copy { IfOk result (λ copy. copy ≡ self.now) }
     {
         Ok(Range {
-            sets: Sets::Many(Searched::of(alloc, sets)?),
+            sets: self.sets.copy()?,
         })
-    }
-
-    // The range of a list of sets that has its index already.
-    #[inline(always)]
-    pub(crate) fn of_searched(sets: Searched) -> Range
-        requires { IsRangeValue sets }
-        ensures { result ≡ sets }
-    {
-        Range {
-            sets: Sets::Many(sets),
-        }
     }
 }
 

@@ -1,6 +1,6 @@
 -- A range as a contract sees it, the list of its sets, and the properties of every range: it has at least one set, each
 -- set contains a cut, and a range text can write its ends.
-use Rattle.std.specs.Prelude.{◌≢◌, ◌≤◌, ◌+◌, List, [], ◌∷◌}
+use Rattle.std.specs.Prelude.{◌≢◌, ◌≤◌, ◌+◌, List, [], ◌∷◌, Option, Some, None}
 use Rattle.std.specs.List.{AllByRecursion}
 use Rattle.semver_cuts.specs.declared.cut.Cut.{Cut}
 use Rattle.semver_cuts.specs.declared.cut.Cut.TheVariants.{Start, Before, After, End}
@@ -16,6 +16,11 @@ use Rattle.semver_sets.specs.declared.set_list.Sets.TheVariants.{One, Many}
 abbrev pub sets_seen : Sets → List (Ends VersionValue)
 sets_seen (One set) = set ∷ []
 sets_seen (Many sets) = sets
+
+-- and no sets where there is no range
+abbrev pub sets_of_some : Option Sets → List (Ends VersionValue)
+sets_of_some None = []
+sets_of_some (Some sets) = sets_seen sets
 
 -- a version at an end: its numbers are those of a text, or one greater, as the 2 of `<2.0.0-0`, where `^1` ends
 pub record IsReadVersion (v : VersionValue) : Type 0 where

@@ -1,55 +1,95 @@
 //! Reading a range text: one alternative after another, each word by word.
 //!
 //! See docs/DECISIONS.md, "A word is defined by its text, not by how it is found".
-ghost use Rattle.std.specs.Prelude.{◌≡◌, ◌∷◌, [], IfErr, IfOk};
+ghost use Rattle.std.specs.Prelude.{◌≡◌, IfErr, IfOk, OnOk};
 ghost use Rattle.semver_sets.specs.Meaning.{IsRefused};
 ghost use Rattle.semver_sets.specs.Merging.{AreSetsOfText};
-ghost use Rattle.semver_sets.specs.RangeSets.{IsRangeSet};
-ghost use Rattle.semver_sets.specs.declared.read.Unread.TheVariants.{Refused};
+ghost use Rattle.semver_sets.specs.RangeSets.{IsRangeValue, sets_seen};
+ghost use Rattle.semver_sets.specs.Private.RangeViews.{IsReadResult, IsReadResultOf};
+ghost use Rattle.semver_sets.specs.declared.read.Unread.TheVariants.{OutOfMemory, Refused};
 
 mod alternative;
-pub mod full;
+mod full;
 mod pieces;
-mod sets;
+mod several;
 
+use crate::set_list::Sets;
 use crate::word::skip_thrown_away;
 use alternative::read_set;
+use full::{FullLead, caret_set, exact_set, read_full, tilde_set};
 use pieces::next_piece;
-use semver_cuts::Span;
-use semver_versions::end::EndVersion;
-pub use sets::read_sets;
-use std::alloc::Global;
+use several::read_several;
+use std::alloc::{AllocError, Global};
 
-/// Why a text was not read as one set.
+/// Why a text was not read.
 #[derive(Clone, Copy)]
 pub enum Unread {
-    /// It contains `||`, so it has several alternatives.
-    WithBars,
-    /// No word gives a comparator, or no cut lies in all comparators.
+    /// No alternative has a comparator and a cut that lies in all its comparators.
     Refused,
     /// Nothing is wrong with the text: an allocation failed.
     OutOfMemory,
 }
 
-/// Returns the set of a text without `||`.
-///
-/// # Errors
-///
-/// Returns why the text was not read as one set.
-///
-/// # Memory
-///
-/// Allocates the identifiers of the set's ends.
-// `inline(always)`: it has one caller, and its set is built in the place of that caller's result.
+impl From<AllocError> for Unread {
+    ghost from_gives = { λ _ unread. unread ≡ OutOfMemory };
+
+    fn from(_error: AllocError) -> Unread {
+        Unread::OutOfMemory
+    }
+}
+
+impl Sets {
+    /// Reads the sets of a range text: one for each alternative that has a comparator and a cut that lies in all its
+    /// comparators.
+    ///
+    /// # Errors
+    ///
+    /// Returns [`Unread::Refused`] if there is no such alternative, and [`Unread::OutOfMemory`] if an allocation fails.
+    ///
+    /// # Memory
+    ///
+    /// Allocates the identifiers of the ends, and a list with its index if there are several sets.
+    // `inline(always)`: the numbers of a full version stay in registers, and its set is built in the place of the
+    // caller's result.
+    #[inline(always)]
+    pub fn read(alloc: Global, text: &[u8]) -> Result<Sets, Unread>
+        ensures sets { IfOk result (λ sets. AreSetsOfText text.now (sets_seen sets)) }
+        ensures holds { IfOk result (λ sets. IsRangeValue (sets_seen sets)) }
+        ensures refused { IfErr result (λ unread. unread ≡ Refused → IsRefused text.now) }
+        ensures accepted { OnOk result (¬ IsRefused text.now) }
+    {
+        match read_full(text) {
+            Some((FullLead::Caret, major, minor, patch)) => {
+                Ok(Sets::One(caret_set(major, minor, patch)))
+            }
+            Some((FullLead::Tilde, major, minor, patch)) => {
+                Ok(Sets::One(tilde_set(major, minor, patch)))
+            }
+            Some((FullLead::Nothing, major, minor, patch)) => {
+                Ok(Sets::One(exact_set(major, minor, patch)))
+            }
+            None => read_alternatives(alloc, text),
+        }
+    }
+}
+
+// Reads alternative after alternative. `inline(always)`, here and below: with a function of one line between, the
+// toolchain clears the place of a result only if the function that is out of line is called.
 #[inline(always)]
-pub fn read_only_set(alloc: Global, text: &[u8]) -> Result<Span<EndVersion>, Unread>
-    ensures set { IfOk result (λ set. AreSetsOfText text.now (set ∷ [])) }
-    ensures holds { IfOk result IsRangeSet }
-    ensures refused { IfErr result (λ unread. unread ≡ Refused → IsRefused text.now) }
+fn read_alternatives(alloc: Global, text: &[u8]) -> Result<Sets, Unread>
+    ensures { IsReadResult text.now result }
+{
+    read_pieces(alloc, text)
+}
+
+// The same. `inline(never)`: most texts are full versions.
+#[inline(never)]
+fn read_pieces(alloc: Global, text: &[u8]) -> Result<Sets, Unread>
+    ensures { IsReadResult text.now result }
 {
     let (piece, left) = next_piece(text);
-    if left.is_some() {
-        return Err(Unread::WithBars);
+    if let Some(others) = left {
+        return read_first(alloc, piece, others);
     }
     // If no word can begin a comparator, nothing is prepared to read one.
     let words = skip_thrown_away(piece);
@@ -57,8 +97,16 @@ pub fn read_only_set(alloc: Global, text: &[u8]) -> Result<Span<EndVersion>, Unr
         return Err(Unread::Refused);
     }
     match read_set(alloc, words) {
-        Ok(Some(set)) => Ok(set),
+        Ok(Some(set)) => Ok(Sets::One(set)),
         Ok(None) => Err(Unread::Refused),
         Err(_) => Err(Unread::OutOfMemory),
     }
+}
+
+// Reads several alternatives.
+#[inline(always)]
+fn read_first(alloc: Global, first: &[u8], others: &[u8]) -> Result<Sets, Unread>
+    ensures { IsReadResultOf first.now others.now result }
+{
+    read_several(alloc, first, others)
 }

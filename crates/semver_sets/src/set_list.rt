@@ -11,7 +11,8 @@ ghost use Rattle.semver_sets.specs.Meaning.{RangeAdmits};
 ghost use Rattle.semver_sets.specs.RangeSets.{sets_seen};
 ghost use Rattle.semver_sets.specs.Searching.{IsShortSearch};
 
-pub mod copy;
+pub(crate) mod copy;
+pub mod gathered;
 mod opened;
 pub mod searched;
 mod union;
@@ -31,7 +32,7 @@ use semver_versions::end::EndVersion;
 pub enum Sets {
     /// One set.
     One(Span<EndVersion>),
-    /// Several sets, or one set that came in a list.
+    /// A list of sets.
     Many(Searched),
 }
 

@@ -13,7 +13,6 @@ use Rattle.semver_sets.specs.RangePrint.{range_text}
 use Rattle.semver_sets.specs.RangeSets.{IsRangeValue}
 use Rattle.semver_sets.specs.ReadingBack.{IsPlainlyBounded, RangeReadsBack}
 use Rattle.node_semver.specs.RangeAnswer.{IsRangeAnswer, IsReadAsRange}
-use Rattle.node_semver.specs.Private.AnswerViews.{IsReadRange}
 
 -- what the laws of texts and of prints say
 abbrev pub TextsMeanTheirSets : Type 0
@@ -37,27 +36,29 @@ print-read back text (Err e) (inl memory) found sets is plainly print = memory
 print-read back text (Err e) (inr refused) found sets is plainly print =
     absurd ((back sets is plainly).accepted (subst IsRefused (sym print) refused.1))
 
--- each fact that is promised of it
-pub read-answer : TextsMeanTheirSets → PrintsAreReadBack → (text : List ℕ)
-    (r : Result (List (Ends VersionValue)) SemverError) → IsReadRange text r → IsRangeAnswer text r
-read-answer mean back text (Ok sets) read =
-    let law = mean text sets read.0 in
-    let holds = law.holds read.1 in
+-- each fact that is promised of sets that are read
+pub range-read : TextsMeanTheirSets → PrintsAreReadBack → (text : List ℕ) (sets : List (Ends VersionValue))
+    → AreSetsOfText text sets → IsRangeValue sets → IsRangeAnswer text (Ok sets)
+range-read mean back text sets are holds =
+    let law = mean text sets are in
     record {
       refused = tt;
-      accepted = λ refused. read.1 (law.refused.0 refused);
+      accepted = λ refused. holds.some (law.refused.0 refused);
       means = law.admits;
-      sets = read.0;
+      sets = are;
       holds = holds;
       print = back sets holds;
-      printed = print-read back text (Ok sets) tt read.0;
+      printed = print-read back text (Ok sets) tt are;
     }
-read-answer mean back text (Err e) read = record {
-  refused = read;
+
+-- and of an error
+pub range-refused : PrintsAreReadBack → (text : List ℕ) (e : SemverError) → IsRefusal text e → IsRangeAnswer text (Err e)
+range-refused back text e refusal = record {
+  refused = refusal;
   accepted = tt;
   means = tt;
   sets = tt;
   holds = tt;
   print = tt;
-  printed = print-read back text (Err e) read tt;
+  printed = print-read back text (Err e) refusal tt;
 }

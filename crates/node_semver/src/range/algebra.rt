@@ -13,13 +13,11 @@ ghost use Rattle.semver_sets.specs.RangeSets.{IsRangeValue};
 ghost use Rattle.semver_versions.specs.Version.{IsPrerelease, VersionValue};
 ghost use Rattle.node_semver.specs.RangeAlgebra.{PairAdmits, sets_of_answer};
 
-mod copy;
 mod difference;
-mod gathered;
 mod union;
 
 use crate::Range;
-use gathered::Gathered;
+use semver_sets::set_list::gathered::Gathered;
 use std::alloc::{AllocError, Global};
 
 impl Range {
@@ -75,7 +73,7 @@ impl Range {
             .sets
             .merged()
             .common_with(alloc, self.sets.as_slice(), &mut sets)?;
-        Ok(sets.into_range()?)
+        Ok(Range::of_gathered(sets)?)
     }
 
     /// Returns `true` if the two ranges share a cut.

@@ -10,6 +10,7 @@ ghost use Rattle.semver_versions.specs.declared.TheConstants.{MAX_SAFE_INTEGER};
 use crate::range::least::unbuilt::Unbuilt;
 use crate::{MAX_SAFE_INTEGER, Range, Version};
 use semver_cuts::{Cut, Span};
+use semver_sets::set_list::gathered::Gathered;
 use semver_versions::end::EndVersion;
 use semver_versions::parse::written::are_read;
 use std::alloc::{AllocError, Global};
@@ -106,13 +107,10 @@ impl Range {
         ensures some { IfOk result (λ answer. IsSome answer ↔ IsRangeValue sets.items) }
         ensures none { IfOk result (λ answer. IsNone answer ↔ ¬ IsRangeValue sets.items) }
     {
-        if sets.is_empty() || !are_range_sets(&sets) {
+        if !are_range_sets(&sets) {
             return Ok(None);
         }
-        match sets.as_slice() {
-            [set] => Ok(Some(Range::of_set(set_of(alloc, set)?))),
-            several => Ok(Some(Range::of_sets(alloc, sets_of(alloc, several)?)?)),
-        }
+        Range::of_gathered(gathered(alloc, &sets)?)
     }
 }
 
@@ -170,12 +168,12 @@ fn has_read_identifiers(version: &Version) -> bool
 }
 
 // The sets, with ends of their own.
-fn sets_of(alloc: Global, spans: &[Span<Version>]) -> Result<Vec<Span<EndVersion>>, AllocError>
-    ensures { IfOk result (λ sets. sets.items ≡ spans.now) }
+fn gathered(alloc: Global, spans: &[Span<Version>]) -> Result<Gathered, AllocError>
+    ensures { IfOk result (λ sets. sets ≡ spans.now) }
 {
-    let mut sets = Vec::with_capacity(alloc, spans.len())?;
+    let mut sets = Gathered::new(alloc);
     'spans: for span in spans {
-        sets.push(set_of(alloc, span)?)?;
+        sets.add(set_of(alloc, span)?)?;
     }
     Ok(sets)
 }

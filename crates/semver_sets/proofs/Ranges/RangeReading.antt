@@ -1,25 +1,24 @@
 -- The sets of a range text, as they are read.
-use Rattle.std.proofs.Common.{◌≡◌, ℕ, List, [], ◌∷◌, Option, Some, None, false, refl, subst, sym}
-use Rattle.std.specs.Borrow.{Bor}
-use Rattle.std.specs.Option.{is_some}
+use Rattle.std.proofs.Common.{◌≡◌, ◌≢◌, ◌∙◌, ℕ, List, [], ◌∷◌, Option, Some, None, Result, Ok, Err, ap, refl, subst, sym}
+use Rattle.std.specs.Prelude.{IfSome, OnOk}
 use Rattle.semver_cuts.specs.Ends.{Ends}
 use Rattle.semver_sets.specs.Comparator.{Comparator}
 use Rattle.semver_sets.specs.Meaning.{IsRefused}
 use Rattle.semver_sets.specs.Merging.{AreSetsOf, AreSetsOfText, none}
-use Rattle.semver_sets.specs.RangeSets.{IsRangeValue}
+use Rattle.semver_sets.specs.FullTexts.{IsFullText}
+use Rattle.semver_sets.specs.RangeSets.{IsRangeValue, sets_of_some, sets_seen}
+use Rattle.semver_sets.specs.declared.read.Unread.{Unread}
+use Rattle.semver_sets.specs.declared.read.full.FullLead.{FullLead}
+use Rattle.semver_sets.specs.declared.set_list.Sets.{Sets}
 use Rattle.semver_versions.specs.Version.{VersionValue}
-use Rattle.semver_sets.specs.Private.PieceReading.{piece_at, some_seen}
-use Rattle.semver_sets.specs.Private.RangeViews.{IsSetOfAlternative, listed_set}
+use Rattle.semver_sets.specs.Private.PieceReading.{piece_at}
+use Rattle.semver_sets.specs.Private.RangeViews.{IsReadResult, IsSetOfAlternative}
+use Rattle.semver_sets.specs.Private.RangeViews.{listed_set}
 use Rattle.semver_sets.proofs.Ranges.AlternativeLemmas.{Reads, reads-end, reads-start}
 use Rattle.semver_sets.proofs.Ranges.RangeBounds.{text-bounded}
-use Rattle.semver_sets.proofs.Sets.SetLemmas.{reads-set, refused-from_empty}
+use Rattle.semver_sets.proofs.Sets.SetLemmas.{empty-from_refused, reads-set, refused-from_empty}
 
 -- ---- one alternative
-
--- no bars are left
-pub none-left : (left : Option (Bor (List ℕ))) → is_some left ≡ false → some_seen left ≡ None
-none-left None h = refl
-none-left (Some rest) h = cc h
 
 -- it gives a set or none
 pub one-read : (text piece : List ℕ) (set : Option (Ends VersionValue)) → (piece, None) ≡ piece_at text
@@ -52,3 +51,35 @@ all-read text done sets left reads none_left merged = record {
   written = reads-end text done (subst (Reads text done) none_left reads);
   merged = merged;
 }
+
+-- the sets that were gathered, if there are some
+pub some-gathered : (text : List ℕ) (sets : List (Ends VersionValue)) (answer : Option Sets) (found : Sets)
+    → AreSetsOfText text sets → sets_of_some answer ≡ sets → IfSome answer (λ s. sets_seen s ≢ []) → answer ≡ Some found
+    → AreSetsOfText text (sets_seen found) × IsRangeValue (sets_seen found)
+some-gathered text sets answer found are same some is =
+    let here : sets_seen found ≡ sets = sym (ap sets_of_some is) ∙ same in
+    let read : AreSetsOfText text (sets_seen found) = subst (AreSetsOfText text) (sym here) are in (
+      read,
+      text-bounded text (sets_seen found) read
+          (subst (λ (a : Option Sets). IfSome a (λ s. sets_seen s ≢ [])) is some),
+    )
+
+-- and if there are none
+pub none-gathered : (text : List ℕ) (sets : List (Ends VersionValue)) (answer : Option Sets) → AreSetsOfText text sets
+    → sets_of_some answer ≡ sets → answer ≡ None → IsRefused text
+none-gathered text sets answer are same is = refused-from_empty text sets are (sym same ∙ ap sets_of_some is)
+
+-- ---- a text that is read is not refused
+
+not-refused : (text : List ℕ) (sets : List (Ends VersionValue)) → AreSetsOfText text sets → IsRangeValue sets
+    → ¬ IsRefused text
+not-refused text sets are value refused = value.some (empty-from_refused text sets are refused)
+
+pub accepted : (text : List ℕ) (result : Result Sets Unread) → IsReadResult text result
+    → OnOk result (¬ IsRefused text)
+accepted text (Ok sets) read = not-refused text (sets_seen sets) read.0 read.1
+accepted text (Err unread) read = tt
+
+pub full-accepted : (text : List ℕ) (lead : FullLead) (major minor patch : ℕ) → IsFullText text lead major minor patch
+    → ¬ IsRefused text
+full-accepted text lead major minor patch full refused = cc (empty-from_refused text _ full.sets refused)

@@ -1,20 +1,25 @@
 -- What the private functions compute that make the sets of a range.
 use Rattle.std.specs.Prelude.{◌≡◌, ◌≤◌, ◌↔◌, ℕ, Bool, List, [], ◌∷◌, ◌++◌, if◌then◌else◌, Option, Some, None}
-use Rattle.std.specs.Prelude.{IfSome, IsSome, Ok}
+use Rattle.std.specs.Prelude.{IfSome, IsSome, Result, Ok, Err}
 use Rattle.semver_cuts.specs.declared.cut.Cut.{Cut}
 use Rattle.semver_cuts.specs.Ends.{Ends, HoldsCut, IsCutBelow, span_between}
 use Rattle.semver_sets.specs.Comparator.{Comparator}
 use Rattle.semver_versions.specs.Comparison.{version_cmp}
 use Rattle.semver_sets.specs.Division.{HasBars, IsAlternative}
-use Rattle.semver_sets.specs.Meaning.{GiveSet}
-use Rattle.semver_sets.specs.Merging.{IsSetOf}
+use Rattle.semver_sets.specs.Meaning.{GiveSet, IsRefused}
+use Rattle.semver_sets.specs.Merging.{AreSetsOfText, IsSetOf}
+use Rattle.semver_sets.specs.RangeSets.{IsRangeValue, sets_seen}
 use Rattle.semver_sets.specs.PartialText.{plain_partial}
 use Rattle.semver_versions.specs.Version.{VersionValue, release}
 use Rattle.semver_versions.specs.Reading.{read_version}
 use Rattle.semver_versions.specs.Characters.{BeginsWith, is_digit}
+use Rattle.semver_sets.specs.Private.PieceReading.{piece_at}
 use Rattle.semver_sets.specs.Private.WordViews.{listed}
 use Rattle.semver_sets.specs.Private.WordReading.{Lead, lead_comparator, read_partial}
 use Rattle.semver_versions.specs.declared.TheConstants.{MAX_SAFE_INTEGER}
+use Rattle.semver_sets.specs.declared.read.Unread.{Unread}
+use Rattle.semver_sets.specs.declared.read.Unread.TheVariants.{OutOfMemory, Refused}
+use Rattle.semver_sets.specs.declared.set_list.Sets.{Sets}
 
 -- the common span of the comparators, or none if there are none
 abbrev pub IsCommonSpan : List Comparator → Option Comparator → Type 0
@@ -91,3 +96,14 @@ listed_set (Some set) = set ∷ []
 abbrev pub IsOneMore : List ℕ → List (Ends VersionValue) → List (Ends VersionValue) → Type 0
 IsOneMore text before after = (set : Option (Ends VersionValue)) × IsSetOfAlternative text set
     × (after ≡ before ++ listed_set set)
+
+-- the result of reading a text: its sets, with the properties of every range; or that the text is refused; or that an
+-- allocation failed
+abbrev pub IsReadResult : List ℕ → Result Sets Unread → Type 0
+IsReadResult text (Ok sets) = AreSetsOfText text (sets_seen sets) × IsRangeValue (sets_seen sets)
+IsReadResult text (Err Refused) = IsRefused text
+IsReadResult text (Err OutOfMemory) = Unit {0}
+
+-- the same for a text with these two parts before and after its first `||`
+abbrev pub IsReadResultOf : List ℕ → List ℕ → Result Sets Unread → Type 0
+IsReadResultOf first others result = (text : List ℕ) → (first, Some others) ≡ piece_at text → IsReadResult text result

@@ -1,16 +1,36 @@
 //! Copies of sets.
 ghost use Rattle.std.specs.Prelude.{◌≡◌, ◌++◌, IfOk, OnOk};
-ghost use Rattle.std.specs.List.{AllByRecursion};
 ghost use Rattle.semver_cuts.specs.Ends.{IsCutBelow, span_between};
 ghost use Rattle.semver_versions.specs.Comparison.{version_cmp};
-ghost use Rattle.semver_sets.specs.RangeSets.{IsRangeSet};
+ghost use Rattle.semver_sets.specs.RangeSets.{sets_seen};
 
+use crate::set_list::Sets;
 use semver_cuts::{Cut, Span};
 use semver_versions::end::EndVersion;
 use std::alloc::AllocError;
 
+impl Sets {
+    /// Returns a copy of the sets, with the builds of their ends.
+    ///
+    /// # Errors
+    ///
+    /// Returns `AllocError` if an allocation fails.
+    ///
+    /// # Memory
+    ///
+    /// Allocates the identifiers of the ends, and the list and its index if there are several sets.
+    pub fn copy(&self) -> Result<Sets, AllocError>
+        ensures { IfOk result (λ copy. sets_seen copy ≡ sets_seen self.now) }
+    {
+        match self {
+            Sets::One(set) => Ok(Sets::One(copy_of_set(set)?)),
+            Sets::Many(sets) => Ok(Sets::Many(sets.copy()?)),
+        }
+    }
+}
+
+// Copies of the sets, in a list.
 pub(crate) fn copies_of(sets: &Vec<Span<EndVersion>>) -> Result<Vec<Span<EndVersion>>, AllocError>
-    requires { AllByRecursion IsRangeSet sets.now.items }
     ensures { IfOk result (λ copies. copies.items ≡ sets.now.items) }
 {
     let mut copies = Vec::with_capacity(*sets.allocator(), sets.len())?;
@@ -23,26 +43,25 @@ pub(crate) fn push_copies(
     copies: &mut Vec<Span<EndVersion>>,
     sets: &[Span<EndVersion>],
 ) -> Result<(), AllocError>
-    requires { AllByRecursion IsRangeSet sets.now }
     ensures { OnOk result (copies.new.items ≡ copies.old.items ++ sets.now) }
 {
     'sets: for set in sets {
-        copies.push(copy_of(set.lower(), set.upper())?)?;
+        copies.push(copy_of_set(set)?)?;
     }
     Ok(())
 }
 
-/// Returns the set between copies of two cuts.
-///
-/// # Errors
-///
-/// Returns `AllocError` if an allocation fails.
-///
-/// # Memory
-///
-/// Allocates the identifiers of the ends.
 #[inline]
-pub fn copy_of(
+fn copy_of_set(set: &Span<EndVersion>) -> Result<Span<EndVersion>, AllocError>
+    ensures { IfOk result (λ copy. copy ≡ set.now) }
+{
+    let (lower, upper) = set.ends();
+    copy_of(lower, upper)
+}
+
+// The set between copies of two cuts.
+#[inline]
+pub(crate) fn copy_of(
     lower: &Cut<EndVersion>,
     upper: &Cut<EndVersion>,
 ) -> Result<Span<EndVersion>, AllocError>

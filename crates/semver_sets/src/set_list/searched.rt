@@ -9,7 +9,6 @@ ghost use Rattle.semver_cuts.specs.Places.{IsPlacesOf, span_at};
 ghost use Rattle.semver_cuts.specs.Starts.{count_of_starts};
 ghost use Rattle.semver_versions.specs.Comparison.{version_cmp};
 ghost use Rattle.semver_sets.specs.Meaning.{AnyByRecursion, IsInside, RangeAdmits};
-ghost use Rattle.semver_sets.specs.RangeSets.{IsRangeSet};
 ghost use Rattle.semver_sets.specs.Searching.{HasDigits, IsShortSearch, count_of_opening};
 ghost use Rattle.semver_versions.specs.Version.{IsPrerelease};
 ghost use Rattle.semver_sets.specs.Private.SearchViews.{AreOpeningsOf};
@@ -58,17 +57,9 @@ impl Model for Searched {
 }
 
 impl Searched {
-    /// Returns the list with its index.
-    ///
-    /// # Errors
-    ///
-    /// Returns `AllocError` if an allocation fails.
-    ///
-    /// # Memory
-    ///
-    /// Allocates the index. It has no places if the sets ascend and do not touch, and no triples for up to four sets, or
-    /// if no end is a prerelease.
-    pub fn of(alloc: Global, sets: Vec<Span<EndVersion>>) -> Result<Searched, AllocError>
+    // The list with its index. The index has no places if the sets ascend and do not touch, and no triples for up to
+    // four sets, or if no end is a prerelease.
+    pub(crate) fn of(alloc: Global, sets: Vec<Span<EndVersion>>) -> Result<Searched, AllocError>
         ensures { IfOk result (λ searched. searched ≡ sets.items) }
     {
         let places = Places::of(alloc, &sets)?;
@@ -96,17 +87,8 @@ impl Searched {
         MergedSpans::with(&self.sets, &self.places)
     }
 
-    /// Returns a copy of the list and its index.
-    ///
-    /// # Errors
-    ///
-    /// Returns `AllocError` if an allocation fails.
-    ///
-    /// # Memory
-    ///
-    /// As much as the list and its index.
-    pub fn copy(&self) -> Result<Searched, AllocError>
-        requires { AllByRecursion IsRangeSet self.now }
+    // A copy of the list and its index.
+    pub(crate) fn copy(&self) -> Result<Searched, AllocError>
         ensures { IfOk result (λ copy. copy ≡ self.now) }
     {
         let sets = copies_of(&self.sets)?;

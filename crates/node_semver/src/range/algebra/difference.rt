@@ -15,7 +15,7 @@ ghost use Rattle.semver_versions.specs.Version.{IsPrerelease, VersionValue};
 ghost use Rattle.node_semver.specs.RangeAlgebra.{sets_of_answer};
 
 use crate::Range;
-use crate::range::algebra::gathered::Gathered;
+use semver_sets::set_list::gathered::Gathered;
 use std::alloc::{AllocError, Global};
 
 impl Range {
@@ -68,6 +68,6 @@ impl Range {
             .sets
             .merged()
             .subtract_from(self.sets.as_slice(), &mut sets)?;
-        Ok(sets.into_range()?)
+        Ok(Range::of_gathered(sets)?)
     }
 }

@@ -51,6 +51,8 @@ impl Range {
         ensures holds { IfOk result IsRangeValue }
     {
         joined_texts_write_all_sets();
-        Ok(Range::of_searched(self.sets.union(alloc, &other.sets)?))
+        Ok(Range {
+            sets: self.sets.union(alloc, &other.sets)?,
+        })
     }
 }

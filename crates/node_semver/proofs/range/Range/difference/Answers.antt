@@ -11,8 +11,8 @@ use Rattle.node_semver.proofs.Sets.AlgebraBounds.{difference-bounded, none-exact
 use Rattle.node_semver.proofs.Sets.RangeAlgebra.{difference-releases}
 use Rattle.node_semver.proofs.range.Range.difference.Goals as goal
 
-pub into_range-requires : goal.into_range-requires
-into_range-requires c =
+pub of_gathered-requires : goal.of_gathered-requires
+of_gathered-requires c =
     let spans : AreDifference version_cmp c.args.self.now c.args.other.now c.subtract_from.new.into = search rules in
     let ones : IsRangeValue c.args.self.now = subst IsRangeValue c.self.view_is c.self.invariant in
     let others : IsRangeValue c.args.other.now = subst IsRangeValue c.other.view_is c.other.invariant in
@@ -21,34 +21,34 @@ into_range-requires c =
 pub returns-clause-cuts : goal.returns-clause-cuts
 returns-clause-cuts c =
     let answered : AreDifference version_cmp c.args.self.now c.args.other.now
-    (sets_of_answer c.in_ok-into_range.field-0) =
+    (sets_of_answer c.in_ok-of_gathered.field-0) =
     search rules in
     difference-cuts version_cmp _ _ _ answered
 
 pub returns-clause-none : goal.returns-clause-none
 returns-clause-none c =
-    none-exactly c.in_ok-into_range.field-0
+    none-exactly c.in_ok-of_gathered.field-0
     (λ cut. IsInSome version_cmp c.args.self.now cut × (¬ IsInSome version_cmp c.args.other.now cut))
-    c.in_ok-into_range.ensures.holds (returns-clause-cuts c)
+    c.in_ok-of_gathered.ensures.holds (returns-clause-cuts c)
 
 pub returns-clause-releases : goal.returns-clause-releases
 returns-clause-releases c =
     let answered : AreDifference version_cmp c.args.self.now c.args.other.now
-    (sets_of_answer c.in_ok-into_range.field-0) =
+    (sets_of_answer c.in_ok-of_gathered.field-0) =
     search rules in
     difference-releases _ _ _ answered
 
 pub returns-clause-disjoint : goal.returns-clause-disjoint
 returns-clause-disjoint c =
     let answered : AreDifference version_cmp c.args.self.now c.args.other.now
-    (sets_of_answer c.in_ok-into_range.field-0) =
+    (sets_of_answer c.in_ok-of_gathered.field-0) =
     search rules in
     λ cut both. common_difference-disjoint version_total _ _ _ answered cut both.0 both.1
 
 pub returns-clause-together : goal.returns-clause-together
 returns-clause-together c =
     let answered : AreDifference version_cmp c.args.self.now c.args.other.now
-    (sets_of_answer c.in_ok-into_range.field-0) =
+    (sets_of_answer c.in_ok-of_gathered.field-0) =
     search rules in
     λ cut.
     let either = common_difference-together version_total _ _ _ answered cut in (either.1, either.0)
@@ -56,8 +56,8 @@ returns-clause-together c =
 pub returns-clause-covered : goal.returns-clause-covered
 returns-clause-covered c =
     let answered : AreDifference version_cmp c.args.self.now c.args.other.now
-    (sets_of_answer c.in_ok-into_range.field-0) =
+    (sets_of_answer c.in_ok-of_gathered.field-0) =
     search rules in
     let law = difference-covered version_total _ _ _ answered in
-    let none = none-listed c.in_ok-into_range.field-0 c.in_ok-into_range.ensures.holds in
+    let none = none-listed c.in_ok-of_gathered.field-0 c.in_ok-of_gathered.ensures.holds in
     (λ is. law.0 (none.0 is), λ covers. none.1 (law.1 covers))

@@ -12,8 +12,8 @@ use Rattle.node_semver.proofs.Sets.AlgebraBounds.{common-bounded, none-exactly, 
 use Rattle.node_semver.proofs.Sets.RangeAlgebra.{common-admits, common-releases}
 use Rattle.node_semver.proofs.range.Range.intersect.Goals as goal
 
-pub into_range-requires : goal.into_range-requires
-into_range-requires c =
+pub of_gathered-requires : goal.of_gathered-requires
+of_gathered-requires c =
     let common : c.common_with.new.into ≡ common_spans version_cmp c.args.self.now c.args.other.now = search rules in
     let ones : IsRangeValue c.args.self.now = subst IsRangeValue c.self.view_is c.self.invariant in
     let others : IsRangeValue c.args.other.now = subst IsRangeValue c.other.view_is c.other.invariant in
@@ -22,32 +22,32 @@ into_range-requires c =
 
 pub returns-clause-cuts : goal.returns-clause-cuts
 returns-clause-cuts c =
-    let answered : sets_of_answer c.in_ok-into_range.field-0
+    let answered : sets_of_answer c.in_ok-of_gathered.field-0
     ≡ common_spans version_cmp c.args.self.now c.args.other.now =
     search rules in
     λ cut. rw answered (common_spans-cuts version_total c.args.self.now c.args.other.now cut)
 
 pub returns-clause-none : goal.returns-clause-none
 returns-clause-none c =
-    let none = none-exactly c.in_ok-into_range.field-0
+    let none = none-exactly c.in_ok-of_gathered.field-0
     (λ cut. IsInSome version_cmp c.args.self.now cut × IsInSome version_cmp c.args.other.now cut)
-    c.in_ok-into_range.ensures.holds (returns-clause-cuts c) in (
+    c.in_ok-of_gathered.ensures.holds (returns-clause-cuts c) in (
       λ is shared. none.0 is shared.0 (shared.1, shared.2),
       λ apart. none.1 (λ cut both. apart (cut, both.0, both.1)),
     )
 
 pub returns-clause-some : goal.returns-clause-some
 returns-clause-some c =
-    let some = some-exactly c.in_ok-into_range.field-0
+    let some = some-exactly c.in_ok-of_gathered.field-0
     (λ cut. IsInSome version_cmp c.args.self.now cut × IsInSome version_cmp c.args.other.now cut)
-    c.in_ok-into_range.ensures.holds (returns-clause-cuts c) in (
+    c.in_ok-of_gathered.ensures.holds (returns-clause-cuts c) in (
       λ is. let found = some.0 is in (found.0, found.1.0, found.1.1),
       λ shared. some.1 (shared.0, (shared.1, shared.2)),
     )
 
 pub returns-clause-releases : goal.returns-clause-releases
 returns-clause-releases c =
-    let answered : sets_of_answer c.in_ok-into_range.field-0
+    let answered : sets_of_answer c.in_ok-of_gathered.field-0
     ≡ common_spans version_cmp c.args.self.now c.args.other.now =
     search rules in
     λ v release.
@@ -55,14 +55,14 @@ returns-clause-releases c =
 
 pub returns-clause-prereleases : goal.returns-clause-prereleases
 returns-clause-prereleases c =
-    let answered : sets_of_answer c.in_ok-into_range.field-0
+    let answered : sets_of_answer c.in_ok-of_gathered.field-0
     ≡ common_spans version_cmp c.args.self.now c.args.other.now =
     search rules in
     λ v pre. rw answered (common-admits v c.args.self.now c.args.other.now)
 
 pub returns-clause-disjoint : goal.returns-clause-disjoint
 returns-clause-disjoint c =
-    let answered : sets_of_answer c.in_ok-into_range.field-0
+    let answered : sets_of_answer c.in_ok-of_gathered.field-0
     ≡ common_spans version_cmp c.args.self.now c.args.other.now =
     search rules in
     λ spans are cut.
@@ -71,7 +71,7 @@ returns-clause-disjoint c =
 
 pub returns-clause-together : goal.returns-clause-together
 returns-clause-together c =
-    let answered : sets_of_answer c.in_ok-into_range.field-0
+    let answered : sets_of_answer c.in_ok-of_gathered.field-0
     ≡ common_spans version_cmp c.args.self.now c.args.other.now =
     search rules in
     λ spans are cut.

@@ -1,13 +1,11 @@
 //! What is wrong with an installed package, and its JSON object.
 ghost use Rattle.std.specs.Prelude.{◌≡◌, [], ◌∷◌, ◌++◌, IfOk, OnOk, map, option_map, option_to_list};
-ghost use Rattle.serde_json.specs.Data.{put as with_member, string};
-ghost use Rattle.serde_json.specs.View.{members_view, view};
+ghost use Rattle.serde_json.specs.View.{view};
 ghost use Rattle.npm_lock.specs.Findings.{IsReport, of_dependency, of_package};
 ghost use Rattle.npm_lock.specs.Outcomes.{problem_value};
 ghost use Rattle.npm_lock.specs.Private.Adding.{Adds};
 ghost use Rattle.npm_lock.specs.ProblemJson.{kind_text, problem_data};
 
-use crate::outcome::Outcome;
 use serde_json::{Map, Value, put};
 use std::alloc::{AllocError, Global};
 
@@ -60,32 +58,48 @@ impl Problem {
         ensures { IfOk result (λ value. view value ≡ problem_data (problem_value self.now)) }
     {
         let mut members = Map::new(alloc);
-        put_text(&mut members, alloc, "from", self.from.as_str())?;
-        put_text(&mut members, alloc, "name", self.name.as_str())?;
-        put_text(&mut members, alloc, "problem", self.kind.as_str())?;
-        put_text(&mut members, alloc, "spec", self.spec.as_str())?;
+        put(
+            &mut members,
+            alloc,
+            "from",
+            Value::try_from_str(alloc, self.from.as_str())?,
+        )?;
+        put(
+            &mut members,
+            alloc,
+            "name",
+            Value::try_from_str(alloc, self.name.as_str())?,
+        )?;
+        put(
+            &mut members,
+            alloc,
+            "problem",
+            Value::try_from_str(alloc, self.kind.as_str())?,
+        )?;
+        put(
+            &mut members,
+            alloc,
+            "spec",
+            Value::try_from_str(alloc, self.spec.as_str())?,
+        )?;
         if let Some(to) = &self.to {
-            put_text(&mut members, alloc, "to", to.as_str())?;
+            put(
+                &mut members,
+                alloc,
+                "to",
+                Value::try_from_str(alloc, to.as_str())?,
+            )?;
         }
         if let Some(version) = &self.version {
-            put_text(&mut members, alloc, "version", version.as_str())?;
+            put(
+                &mut members,
+                alloc,
+                "version",
+                Value::try_from_str(alloc, version.as_str())?,
+            )?;
         }
         Ok(Value::Object(members))
     }
-}
-
-/// Adds a member whose value is a text.
-fn put_text(
-    members: &mut Map<String, Value>,
-    alloc: Global,
-    name: &str,
-    text: &str,
-) -> Result<(), AllocError>
-    ensures { OnOk result (members_view members.new.entries
-        ≡ with_member name.now (string text.now) (members_view members.old.entries)) }
-{
-    let value = Value::String(String::from_str(alloc, text)?);
-    put(members, alloc, name, value)
 }
 
 /// The problems of a lock file, and what was counted.
@@ -122,14 +136,14 @@ impl Problems {
     }
 
     /// Adds what is found out about one dependency.
-    pub(crate) fn add_dependency(&mut self, outcome: Outcome) -> Result<(), AllocError>
+    pub(crate) fn add_dependency(
+        &mut self,
+        problem: Option<Problem>,
+        is_unchecked: bool,
+    ) -> Result<(), AllocError>
         ensures { OnOk result (Adds self.old self.new
-            (of_dependency (option_map problem_value outcome.problem) outcome.is_unchecked ∷ [])) }
+            (of_dependency (option_map problem_value problem) is_unchecked ∷ [])) }
     {
-        let Outcome {
-            problem,
-            is_unchecked,
-        } = outcome;
         self.dependencies = self.dependencies.saturating_add(1);
         self.unchecked = self.unchecked.saturating_add(usize::from(is_unchecked));
         self.push(problem)

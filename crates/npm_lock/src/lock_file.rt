@@ -54,11 +54,9 @@ fn problems_of(
         × IsReport found problems) }
 {
     let mut problems = Problems::new(alloc);
-    for (folder, asker) in members.iter() {
-        let asker = Package {
-            folder: folder.as_str(),
-            member: asker,
-        };
+    for (folder, member) in members.iter() {
+        let folder = folder.as_str();
+        let asker = Package { folder, member };
         check_package(alloc, packages, asker, node, &mut problems)?;
     }
     Ok(problems)
@@ -88,15 +86,8 @@ fn check_package(
         let Some(asked) = asked_of(asker.member, is_installed, name) else {
             continue;
         };
-        let (problem, is_unchecked) = outcome_of(
-            alloc,
-            packages,
-            asker,
-            is_installed,
-            name,
-            asked,
-        )?;
-        problems.add_dependency(problem, is_unchecked)?;
+        let (problem, unchecked) = outcome_of(alloc, packages, asker, is_installed, name, asked)?;
+        problems.add_dependency(problem, unchecked)?;
     }
     Ok(())
 }
@@ -119,17 +110,10 @@ fn engine_problem(
     if is_admitted(alloc, spec, version)? {
         return Ok(None);
     }
+    let folder = asker.folder;
     let version = version.to_string(alloc)?;
     let version = Some(version.as_str());
-    let problem = problem_of(
-        alloc,
-        Kind::Engine,
-        asker.folder,
-        "node",
-        spec,
-        None,
-        version,
-    )?;
+    let problem = problem_of(alloc, Kind::Engine, folder, "node", spec, None, version)?;
     Ok(Some(problem))
 }
 

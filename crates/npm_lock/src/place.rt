@@ -95,10 +95,8 @@ fn package_in<'v>(packages: &'v Value, folder: &str) -> Option<Package<'v>>
         (get folder.now (view packages.now)) }
 {
     let (folder, member) = packages.as_object()?.get_key_value(folder)?;
-    Some(Package {
-        folder: folder.as_str(),
-        member,
-    })
+    let folder = folder.as_str();
+    Some(Package { folder, member })
 }
 
 /// Returns `true` if a member of `packages` is a link, and no package of its own.

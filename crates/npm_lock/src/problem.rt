@@ -1,6 +1,7 @@
 //! What is wrong with an installed package, and its JSON object.
 ghost use Rattle.std.specs.Prelude.{◌≡◌, [], ◌∷◌, ◌++◌, IfOk, OnOk, map, option_map, option_to_list};
-ghost use Rattle.serde_json.specs.View.{view};
+ghost use Rattle.serde_json.specs.Data.{put as with_member, string};
+ghost use Rattle.serde_json.specs.View.{members_view, view};
 ghost use Rattle.npm_lock.specs.Findings.{IsReport, of_dependency, of_package};
 ghost use Rattle.npm_lock.specs.Outcomes.{problem_value};
 ghost use Rattle.npm_lock.specs.Private.Adding.{Adds};
@@ -58,48 +59,31 @@ impl Problem {
         ensures { IfOk result (λ value. view value ≡ problem_data (problem_value self.now)) }
     {
         let mut members = Map::new(alloc);
-        put(
-            &mut members,
-            alloc,
-            "from",
-            Value::try_from_str(alloc, self.from.as_str())?,
-        )?;
-        put(
-            &mut members,
-            alloc,
-            "name",
-            Value::try_from_str(alloc, self.name.as_str())?,
-        )?;
-        put(
-            &mut members,
-            alloc,
-            "problem",
-            Value::try_from_str(alloc, self.kind.as_str())?,
-        )?;
-        put(
-            &mut members,
-            alloc,
-            "spec",
-            Value::try_from_str(alloc, self.spec.as_str())?,
-        )?;
+        put_text(&mut members, alloc, "from", self.from.as_str())?;
+        put_text(&mut members, alloc, "name", self.name.as_str())?;
+        put_text(&mut members, alloc, "problem", self.kind.as_str())?;
+        put_text(&mut members, alloc, "spec", self.spec.as_str())?;
         if let Some(to) = &self.to {
-            put(
-                &mut members,
-                alloc,
-                "to",
-                Value::try_from_str(alloc, to.as_str())?,
-            )?;
+            put_text(&mut members, alloc, "to", to.as_str())?;
         }
         if let Some(version) = &self.version {
-            put(
-                &mut members,
-                alloc,
-                "version",
-                Value::try_from_str(alloc, version.as_str())?,
-            )?;
+            put_text(&mut members, alloc, "version", version.as_str())?;
         }
         Ok(Value::Object(members))
     }
+}
+
+/// Adds a member whose value is a text.
+fn put_text(
+    members: &mut Map<String, Value>,
+    alloc: Global,
+    name: &str,
+    text: &str,
+) -> Result<(), AllocError>
+    ensures { OnOk result (members_view members.new.entries
+        ≡ with_member name.now (string text.now) (members_view members.old.entries)) }
+{
+    put(members, alloc, name, Value::try_from_str(alloc, text)?)
 }
 
 /// The problems of a lock file, and what was counted.

@@ -29,7 +29,7 @@ loop-name-preserved c = λ later new are adds.
     sym c.asked_of.ensures ∙ ap (option_map asked_value) c.in-Some-asked_of.is in
     let outcome : IsOutcome (view c.args.packages.now) c.args.asker.folder.now c.is_installed-is_installed.result
     c.as_str-name.result.now (asked_value c.in-Some-asked_of.asked)
-    (option_map problem_value c.in_ok-problem.problem) c.in_ok-problem.is_unchecked = c.in_ok-problem.ensures in
+    (option_map problem_value c.in_ok-problem.problem) c.in_ok-problem.unchecked = c.in_ok-problem.ensures in
     let here = name_found (view c.args.packages.now) c.args.asker.folder.now (view c.args.asker.member.now)
     c.is_installed-is_installed.result (string_bytes c.in-Some.name.now) c.loop-name.problems
     c.add_dependency.new.self _ _ _ (rw c.as_str-name.ensures.value at asks)

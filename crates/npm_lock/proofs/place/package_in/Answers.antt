@@ -25,9 +25,9 @@ returns c =
     let member : get c.args.folder.now (view c.args.packages.now) ≡ Some (view c.in_ok-folder.member.now) =
     found_in (view c.args.packages.now) c.in_ok-as_object.field-0.now.entries c.args.folder.now
     (Some c.in_ok-folder.member.now) (sym c.in_ok-as_object.ensures) c.in_ok-folder.ensures.value in
-    let folder : c.args.folder.now ≡ c.as_str.result.now =
+    let folder : c.args.folder.now ≡ c.as_str-folder.result.now =
     exact c.args.folder.now (string_bytes c.in_ok-folder.folder.now) (ap is_eq c.in_ok-folder.ensures.same_key)
-    ∙ sym c.as_str.ensures.value in
+    ∙ sym c.as_str-folder.ensures.value in
     rw (member, folder) refl
 
 pub returns-in_err-folder : goal.returns-in_err-folder

@@ -3,19 +3,18 @@ use Rattle.std.proofs.Common.{rules}
 use Rattle.serde_json.proofs.OnLiterals.{serde_json_on_literals}
 use Rattle.serde_json.proofs.Views.{view-Object}
 use Rattle.npm_lock.proofs.problem.Problem.to_json.Goals as goal
-use Rattle.npm_lock.proofs.problem.Problem.to_json.Goals.{in-Some+in_ok-try_from_str-5+in_ok-put-5, in_default}
-use Rattle.npm_lock.proofs.problem.Problem.to_json.Goals.{in-Some-version+in_ok-try_from_str-6+in_ok-put-6}
-use Rattle.npm_lock.proofs.problem.Problem.to_json.Goals.{in_default-version}
+use Rattle.npm_lock.proofs.problem.Problem.to_json.Goals.{in-Some+in_ok-put_text-5, in_default}
+use Rattle.npm_lock.proofs.problem.Problem.to_json.Goals.{in-Some-version+in_ok-put_text-6, in_default-version}
 
 pub returns : goal.returns
 unfolding serde_json_on_literals
 returns c = elim c.match-self.branch [
-  | in-Some+in_ok-try_from_str-5+in_ok-put-5 w ↦ elim c.match-self-2.branch [
-    | in-Some-version+in_ok-try_from_str-6+in_ok-put-6 v ↦ search (rules, view-Object)
+  | in-Some+in_ok-put_text-5 w ↦ elim c.match-self-2.branch [
+    | in-Some-version+in_ok-put_text-6 v ↦ search (rules, view-Object)
     | in_default-version v ↦ search (rules, view-Object)
   ]
   | in_default w ↦ elim c.match-self-2.branch [
-    | in-Some-version+in_ok-try_from_str-6+in_ok-put-6 v ↦ search (rules, view-Object)
+    | in-Some-version+in_ok-put_text-6 v ↦ search (rules, view-Object)
     | in_default-version v ↦ search (rules, view-Object)
   ]
 ]

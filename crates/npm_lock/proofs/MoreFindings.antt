@@ -1,9 +1,10 @@
 -- What is found out about one name and one package, as the contracts say it.
 use Rattle.std.proofs.Common.{◌≡◌, ℕ, List, [], ◌∷◌, Bool, false, Option, Some, refl, ap, ◌∙◌}
-use Rattle.std.proofs.Common.{String, Global, codes, string_cmp}
+use Rattle.std.proofs.Common.{String, Global, codes}
 use Rattle.std.specs.List.{AllZip}
 use Rattle.std.specs.List.Sorted.{IsStrictlySortedBy}
-use Rattle.std.specs.Map.{keys_of as tree_keys}
+use Rattle.std.specs.Cmp.Lexicographic.{slice_cmp}
+use Rattle.std.specs.Ordering.{nat_cmp}
 use Rattle.serde_json.specs.Data.{Data, object}
 use Rattle.serde_json.specs.Find.{as_object, get}
 use Rattle.serde_json.specs.View.{members_view}
@@ -11,14 +12,13 @@ use Rattle.serde_json.specs.declared.value.Value.{Value}
 use Rattle.node_semver.specs.Versions.{VersionValue}
 use Rattle.npm_lock.specs.Asked.{AskedValue, asked_of}
 use Rattle.npm_lock.specs.Findings.{AreDependencyFindings, AreMemberFindings, Finding, IsDependencyFinding}
-use Rattle.npm_lock.specs.Findings.{AreFindings, IsChecked, IsReport}
+use Rattle.npm_lock.specs.Findings.{AreFindings, IsChecked, IsReport, keys_of}
 use Rattle.npm_lock.specs.Findings.{IsNodeOutcome, dependency, of_dependency, of_package}
 use Rattle.npm_lock.specs.Outcomes.{IsOutcome, ProblemValue}
 use Rattle.npm_lock.specs.Packages.{is_link}
 use Rattle.npm_lock.specs.Private.Adding.{Adds, asked_names}
 use Rattle.npm_lock.specs.declared.problem.Problems.{Problems}
 use Rattle.npm_lock.proofs.Groups.{is_object_of}
-use Rattle.npm_lock.proofs.NameLists.{sorted_keys}
 use Rattle.npm_lock.proofs.Reports.{adds_both}
 
 pub name_found : (packages : Data) (folder : List ℕ) (asker : Data) (is_installed : Bool) (name : List ℕ)
@@ -55,7 +55,8 @@ member_found packages version folder asker old between new problem no_link of_no
 
 pub checked_by : (lock packages : Data) (entries : List (String Global × Value)) (version : Option VersionValue)
     (problems : Problems) → get (codes "packages") lock ≡ Some packages
-    → as_object packages ≡ Some (members_view entries) → IsStrictlySortedBy string_cmp (tree_keys entries)
+    → as_object packages ≡ Some (members_view entries)
+    → IsStrictlySortedBy (slice_cmp nat_cmp) (keys_of (members_view entries))
     → (found : List Finding) × AreFindings packages version (members_view entries) found × IsReport found problems
     → IsChecked lock version problems
 checked_by lock packages entries version problems at_packages is_object sorted all =
@@ -63,7 +64,7 @@ checked_by lock packages entries version problems at_packages is_object sorted a
     record {
       members = members_view entries;
       packages = at_packages ∙ ap Some same;
-      ascending = sorted_keys entries sorted;
+      ascending = sorted;
       found = all.0;
       findings = rw same at all.1;
       report = all.2;

@@ -1,7 +1,7 @@
 -- The names that a package depends on are those of a sorted list that it asks for.
 use Rattle.std.proofs.Common.{◌≡◌, ◌∙◌, ℕ, zero, suc, List, [], ◌∷◌, ◌++◌, Bool, true, false, cond, IsTrue, BTreeSet}
 use Rattle.std.proofs.Common.{String, Global, string_bytes, string_cmp, nat_cmp, Less, arith, map, sym, refl}
-use Rattle.std.proofs.Common.{bytes_eq, is_some, is_eq}
+use Rattle.std.proofs.Common.{None, bytes_eq, is_some, is_eq}
 use Rattle.std.proofs.lemmas.List.Elements.{All-contains, filter_passes}
 use Rattle.std.proofs.lemmas.List.Kept.{IsStrictlySortedBy-filter}
 use Rattle.std.proofs.lemmas.Map.Text.{btree_set_updates_text, is_eq-slice_cmp}
@@ -85,6 +85,13 @@ one_name_more R true name names (f ∷ []) later found rest = (found.0, rest)
 one_name_more R true name names (f ∷ g ∷ here) later found rest = absurd found.1
 one_name_more R false name names [] later found rest = rest
 one_name_more R false name names (f ∷ here) later found rest = absurd found
+
+-- a name that is not asked for has no findings
+pub no_name_more : {Y : Type 0} (R : List ℕ → Y → Type 0) (asker : Data) (is_installed : Bool) (name : List ℕ)
+    (names : List (List ℕ)) (later : List Y) → asked_of asker is_installed name ≡ None
+    → AllZip R (asked_names asker is_installed names) later
+    → AllZip R (asked_names asker is_installed (name ∷ names)) later
+no_name_more R asker is_installed name names later none rest = rw none rest
 
 -- ---- a set of texts, after one more
 

@@ -2,9 +2,9 @@
 
 pub mod Folders  -- folders of packages
 pub mod Packages  -- packages, links, and where a name is found
-pub mod FoundValue  -- what is seen of a package that was found
 pub mod Faults  -- which values are no lock file
 pub mod Asked  -- what a package depends on
+pub mod PackageValue  -- what is seen of a package, and of what it asks for
 pub mod RangeText  -- which specs are ranges
 pub mod Verdict  -- whether a version is what a spec asks for
 pub mod Outcomes  -- what is wrong with a dependency, and with the version of Node

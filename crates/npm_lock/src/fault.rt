@@ -1,10 +1,10 @@
-//! Values that are no lock file.
+//! Why a lock file is not checked, and values that are none.
 ghost use Rattle.std.specs.Prelude.{◌≡◌, IfErr, IfOk, None, Some, codes};
 ghost use Rattle.serde_json.specs.Find.{as_object, get};
 ghost use Rattle.serde_json.specs.View.{members_view, view};
 ghost use Rattle.npm_lock.specs.Faults as Faults;
 
-use crate::place::is_link;
+use crate::place::{is_link, target_of};
 use serde_json::{Map, Value};
 use thiserror::Error;
 
@@ -34,6 +34,17 @@ pub enum Fault {
     Spec,
 }
 
+/// Why a lock file was not checked.
+#[derive(Debug, Drop, PartialEq, Eq, Error)]
+pub enum CheckError {
+    /// The value is no lock file that is read here.
+    #[error("{0}")]
+    Refused(Fault),
+    /// An allocation failed.
+    #[error("out of memory")]
+    Memory,
+}
+
 /// The member `packages` of a lock file, and its members, which are looked at too.
 pub(crate) fn packages_of(lock: &Value) -> Result<(&Value, &Map<String, Value>), Fault>
     ensures sound { IfOk result (λ found. Faults.lock_fault (view lock.now) ≡ None) }
@@ -45,12 +56,8 @@ pub(crate) fn packages_of(lock: &Value) -> Result<(&Value, &Map<String, Value>),
     if !has_format(lock) {
         return Err(Fault::Version);
     }
-    let Some(packages) = lock.get("packages") else {
-        return Err(Fault::Packages);
-    };
-    let Some(members) = packages.as_object() else {
-        return Err(Fault::Packages);
-    };
+    let packages = lock.get("packages").ok_or(Fault::Packages)?;
+    let members = packages.as_object().ok_or(Fault::Packages)?;
     match members_fault(packages, members) {
         Some(fault) => Err(fault),
         None => Ok((packages, members)),
@@ -100,11 +107,8 @@ fn member_fault(packages: &Value, member: &Value) -> Option<Fault>
 fn link_fault(packages: &Value, link: &Value) -> Option<Fault>
     ensures { result ≡ Faults.link_fault (view packages.now) (view link.now) }
 {
-    let Some(target) = link.get("resolved").and_then(Value::as_str) else {
-        return Some(Fault::Link);
-    };
-    match packages.get(target) {
-        Some(member) if !is_link(member) => None,
+    match target_of(packages, link) {
+        Some(target) if !is_link(target.member) => None,
         _ => Some(Fault::Link),
     }
 }
@@ -113,23 +117,17 @@ fn link_fault(packages: &Value, link: &Value) -> Option<Fault>
 fn has_text_version(member: &Value) -> bool
     ensures { result ≡ Faults.has_text_version (view member.now) }
 {
-    match member.get("version") {
-        Some(version) => version.is_string(),
-        None => true,
-    }
+    member.get("version").is_none_or(Value::is_string)
 }
 
 /// The fault of a group of dependencies, which may be absent.
 fn group_fault(member: &Value, group: &str) -> Option<Fault>
     ensures { result ≡ Faults.group_fault (view member.now) group.now }
 {
-    let Some(specs) = member.get(group)?.as_object() else {
-        return Some(Fault::Dependencies);
-    };
-    if are_texts(specs) {
-        None
-    } else {
-        Some(Fault::Spec)
+    match member.get(group)?.as_object() {
+        Some(specs) if are_texts(specs) => None,
+        Some(_) => Some(Fault::Spec),
+        None => Some(Fault::Dependencies),
     }
 }
 

@@ -2,11 +2,9 @@
 #![tactic(auto)]
 
 mod asked;
-mod error;
 mod fault;
 mod folder;
 mod lock_file;
-mod names;
 mod outcome;
 mod place;
 mod problem;
@@ -15,7 +13,6 @@ mod range_text;
 mod tests;
 mod verdict;
 
-pub use error::CheckError;
-pub use fault::Fault;
+pub use fault::{CheckError, Fault};
 pub use lock_file::check;
 pub use problem::{Kind, Problem, Problems};

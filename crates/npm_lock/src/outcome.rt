@@ -1,116 +1,79 @@
 //! What is wrong with one dependency.
-ghost use Rattle.std.specs.Prelude.{◌≡◌, IfOk, None, Some, false, if◌then◌else◌, option_map, string_bytes};
+ghost use Rattle.std.specs.Prelude.{◌≡◌, IfOk, option_map, string_bytes};
 ghost use Rattle.serde_json.specs.View.{view};
-ghost use Rattle.npm_lock.specs.FoundValue.{found_value};
 ghost use Rattle.npm_lock.specs.Outcomes as Outcomes;
 ghost use Rattle.npm_lock.specs.Outcomes.{IsOutcome, problem_value};
+ghost use Rattle.npm_lock.specs.PackageValue.{asked_value};
 
 use crate::asked::Asked;
-use crate::place::{Found, find};
+use crate::place::{Package, find, find_in};
 use crate::problem::{Kind, Problem};
 use crate::verdict::{Verdict, verdict_of};
 use serde_json::Value;
 use std::alloc::{AllocError, Global};
 
-/// The outcome of checking a dependency.
-#[derive(Drop)]
-pub(crate) struct Outcome {
-    pub(crate) problem: Option<Problem>,
-    /// It was found, and its spec is no range.
-    pub(crate) is_unchecked: bool,
-}
-
-/// Returns the outcome for a dependency of the package in a folder.
+/// Returns the problem with a dependency of a package, or none. Also returns `true` if the dependency is not checked:
+/// it was found, and its spec is no range.
 pub(crate) fn outcome_of(
     alloc: Global,
     packages: &Value,
-    folder: &str,
+    asker: Package<'_>,
     is_installed: bool,
     name: &str,
     asked: Asked<'_>,
-) -> Result<Outcome, AllocError>
-    ensures { IfOk result (λ outcome. IsOutcome (view packages.now) folder.now is_installed name.now
-        (record { spec = asked.entry.spec.now; is_needed = asked.entry.is_needed; is_peer = asked.entry.is_peer })
-        (option_map problem_value outcome.problem) outcome.is_unchecked) }
+) -> Result<(Option<Problem>, bool), AllocError>
+    ensures { IfOk result (λ pair. IsOutcome (view packages.now) asker.entry.folder.now is_installed name.now
+        (asked_value asked.entry) (option_map problem_value pair.0) pair.1) }
 {
-    let (found, is_own) = find(alloc, packages, folder, name)?;
-    let Some(found) = found else {
-        return absent(alloc, folder, name, asked);
+    let (folder, spec) = (asker.folder, asked.spec);
+    let Some(found) = find(alloc, packages, folder, name)? else {
+        if !asked.is_needed {
+            return Ok((None, false));
+        }
+        let problem = problem_of(alloc, Kind::Missing, folder, name, spec, None, None)?;
+        return Ok((Some(problem), false));
     };
-    if asked.is_peer && is_installed && is_own {
-        let problem = found_problem(alloc, Kind::PeerLocal, folder, name, asked.spec, found)?;
-        return Ok(with_problem(problem));
+    let (to, version) = (Some(found.folder), version_of(found.member));
+    if asked.is_peer && is_installed && find_in(alloc, packages, folder, name)?.is_some() {
+        let problem = problem_of(alloc, Kind::PeerLocal, folder, name, spec, to, version)?;
+        return Ok((Some(problem), false));
     }
-    match verdict_of(alloc, asked.spec, version_of(found.member))? {
-        Verdict::Valid => Ok(without_problem(false)),
-        Verdict::Unchecked => Ok(without_problem(true)),
+    match verdict_of(alloc, spec, version)? {
+        Verdict::Valid => Ok((None, false)),
+        Verdict::Unchecked => Ok((None, true)),
         Verdict::Invalid => {
-            let problem = found_problem(alloc, Kind::Invalid, folder, name, asked.spec, found)?;
-            Ok(with_problem(problem))
+            let problem = problem_of(alloc, Kind::Invalid, folder, name, spec, to, version)?;
+            Ok((Some(problem), false))
         }
     }
 }
 
-/// Returns the outcome for a dependency that is found nowhere.
-fn absent(alloc: Global, folder: &str, name: &str, asked: Asked<'_>) -> Result<Outcome, AllocError>
-    ensures problem { IfOk result (λ outcome. option_map problem_value outcome.problem
-        ≡ (if asked.entry.is_needed
-        then Some (Outcomes.missing_problem folder.now name.now asked.entry.spec.now) else None)) }
-    ensures checked { IfOk result (λ outcome. outcome.is_unchecked ≡ false) }
-{
-    if !asked.is_needed {
-        return Ok(without_problem(false));
-    }
-    Ok(with_problem(Problem {
-        kind: Kind::Missing,
-        from: String::from_str(alloc, folder)?,
-        name: String::from_str(alloc, name)?,
-        spec: String::from_str(alloc, asked.spec)?,
-        to: None,
-        version: None,
-    }))
-}
-
-fn with_problem(problem: Problem) -> Outcome
-    ensures problem { result.problem ≡ Some problem }
-    ensures checked { result.is_unchecked ≡ false }
-{
-    Outcome {
-        problem: Some(problem),
-        is_unchecked: false,
-    }
-}
-
-fn without_problem(is_unchecked: bool) -> Outcome
-    ensures problem { result.problem ≡ None }
-    ensures unchecked { result.is_unchecked ≡ is_unchecked }
-{
-    Outcome {
-        problem: None,
-        is_unchecked,
-    }
-}
-
-/// The problem of a dependency that was found.
-fn found_problem(
+/// A problem with copies of these texts.
+pub(crate) fn problem_of(
     alloc: Global,
     kind: Kind,
-    folder: &str,
+    from: &str,
     name: &str,
     spec: &str,
-    found: Found<'_>,
+    to: Option<&str>,
+    version: Option<&str>,
 ) -> Result<Problem, AllocError>
-    ensures { IfOk result (λ problem. problem_value problem
-        ≡ Outcomes.found_problem kind folder.now name.now spec.now (found_value found.entry)) }
+    ensures { IfOk result (λ problem. problem_value problem ≡ (record {
+      kind = kind;
+      from = from.now;
+      name = name.now;
+      spec = spec.now;
+      to = option_map (λ text. text.now) to.entry;
+      version = option_map (λ text. text.now) version.entry;
+    })) }
 {
-    let version = copied(alloc, version_of(found.member))?;
     Ok(Problem {
         kind,
-        from: String::from_str(alloc, folder)?,
+        from: String::from_str(alloc, from)?,
         name: String::from_str(alloc, name)?,
         spec: String::from_str(alloc, spec)?,
-        to: Some(found.folder),
-        version,
+        to: copied(alloc, to)?,
+        version: copied(alloc, version)?,
     })
 }
 

@@ -7,7 +7,6 @@ ghost use Rattle.npm_lock.specs.Outcomes.{problem_value};
 ghost use Rattle.npm_lock.specs.Private.Adding.{Adds};
 ghost use Rattle.npm_lock.specs.ProblemJson.{kind_text, problem_data};
 
-use crate::outcome::Outcome;
 use serde_json::{Map, Value, put};
 use std::alloc::{AllocError, Global};
 
@@ -84,8 +83,7 @@ fn put_text(
     ensures { OnOk result (members_view members.new.entries
         ≡ with_member name.now (string text.now) (members_view members.old.entries)) }
 {
-    let value = Value::String(String::from_str(alloc, text)?);
-    put(members, alloc, name, value)
+    put(members, alloc, name, Value::try_from_str(alloc, text)?)
 }
 
 /// The problems of a lock file, and what was counted.
@@ -122,14 +120,14 @@ impl Problems {
     }
 
     /// Adds what is found out about one dependency.
-    pub(crate) fn add_dependency(&mut self, outcome: Outcome) -> Result<(), AllocError>
+    pub(crate) fn add_dependency(
+        &mut self,
+        problem: Option<Problem>,
+        is_unchecked: bool,
+    ) -> Result<(), AllocError>
         ensures { OnOk result (Adds self.old self.new
-            (of_dependency (option_map problem_value outcome.problem) outcome.is_unchecked ∷ [])) }
+            (of_dependency (option_map problem_value problem) is_unchecked ∷ [])) }
     {
-        let Outcome {
-            problem,
-            is_unchecked,
-        } = outcome;
         self.dependencies = self.dependencies.saturating_add(1);
         self.unchecked = self.unchecked.saturating_add(usize::from(is_unchecked));
         self.push(problem)

@@ -32,24 +32,16 @@ fn alias_range(alias: &str) -> &str
 fn is_path(text: &str) -> bool
     ensures { result ≡ list_any is_path_byte text.now }
 {
-    for byte in text.as_bytes() {
-        if *byte == b'/' || *byte == b':' {
-            return true;
-        }
-    }
-    false
+    text.as_bytes()
+        .iter()
+        .any(|byte| *byte == b'/' || *byte == b':')
 }
 
 /// Returns `true` if the text has letters, digits and `-_.!~*'()` alone.
 pub(crate) fn is_tag(text: &str) -> bool
     ensures { result ≡ RangeText.is_tag text.now }
 {
-    for byte in text.as_bytes() {
-        if !is_tag_byte(*byte) {
-            return false;
-        }
-    }
-    true
+    text.as_bytes().iter().all(|byte| is_tag_byte(*byte))
 }
 
 fn is_tag_byte(byte: u8) -> bool

@@ -1,5 +1,5 @@
 //! Whether a version satisfies a dependency's spec.
-ghost use Rattle.std.specs.Prelude.{◌≡◌, ◌↔◌, false, IfOk, IsTrue, List, ℕ, option_map};
+ghost use Rattle.std.specs.Prelude.{◌≡◌, ◌↔◌, List, ℕ, IfOk, IfNone, IfSome, IsTrue, false, if◌then◌else◌, option_map};
 ghost use Rattle.node_semver.specs.Errors.{out_of_memory, refusal_of};
 ghost use Rattle.node_semver.specs.Ranges.{IsRefused, RangeAdmits, TextAdmits};
 ghost use Rattle.node_semver.specs.Versions.{VersionValue};
@@ -7,7 +7,7 @@ ghost use Rattle.npm_lock.specs.Verdict as Verdicts;
 ghost use Rattle.npm_lock.specs.Verdict.{IsAdmittedBy, IsVerdict, IsVerdictOfText};
 
 use crate::range_text::{is_tag, range_text};
-use node_semver::{Range, SemverError, SemverErrorKind, Version};
+use node_semver::{Range, SemverError, SemverErrorKind, Version, VersionRef};
 use std::alloc::{AllocError, Global};
 
 /// Whether a version satisfies a spec.
@@ -27,24 +27,16 @@ pub(crate) fn verdict_of(
 ) -> Result<Verdict, AllocError>
     ensures { IfOk result (IsVerdict (option_map (λ t. t.now) version.entry) spec.now) }
 {
-    match range_text(spec) {
-        Some(text) => verdict_of_text(alloc, text, version),
-        None => Ok(Verdict::Unchecked),
-    }
-}
-
-/// The same for a text that is a range or a tag.
-fn verdict_of_text(alloc: Global, text: &str, version: Option<&str>) -> Result<Verdict, AllocError>
-    ensures { IfOk result (IsVerdictOfText (option_map (λ t. t.now) version.entry) text.now) }
-{
+    let Some(text) = range_text(spec) else {
+        return Ok(Verdict::Unchecked);
+    };
     if asks_for_any(text) {
         return Ok(Verdict::Valid);
     }
-    match Range::parse(alloc, text) {
-        Ok(range) => verdict_of_range(alloc, &range, version),
-        Err(error) if is_memory(&error) => Err(AllocError),
-        Err(_) if is_tag(text) => Ok(Verdict::Unchecked),
-        Err(_) => Ok(Verdict::Invalid),
+    match range_of(alloc, text)? {
+        Some(range) if is_satisfied(&range, version) => Ok(Verdict::Valid),
+        None if is_tag(text) => Ok(Verdict::Unchecked),
+        _ => Ok(Verdict::Invalid),
     }
 }
 
@@ -55,24 +47,19 @@ fn asks_for_any(text: &str) -> bool
     text.is_empty() || text == "*"
 }
 
-/// Whether a version text satisfies a range. One that is no version does not, and neither does none.
-fn verdict_of_range(
-    alloc: Global,
-    range: &Range,
-    version: Option<&str>,
-) -> Result<Verdict, AllocError>
+/// Returns `true` if a version text satisfies a range. One that is no version does not, and neither does none.
+fn is_satisfied(range: &Range, version: Option<&str>) -> bool
     ensures { (text : List ℕ) → Verdicts.asks_for_any text ≡ false → ¬ IsRefused text
         → ((v : VersionValue) → RangeAdmits range.now v ↔ TextAdmits text v)
-        → IfOk result (IsVerdictOfText (option_map (λ t. t.now) version.entry) text) }
+        → IsVerdictOfText (option_map (λ t. t.now) version.entry) text
+        (if result then Verdict.Valid else Verdict.Invalid) }
 {
     let Some(text) = version else {
-        return Ok(Verdict::Invalid);
+        return false;
     };
-    match Version::parse(alloc, text) {
-        Ok(version) if range.satisfies(&version) => Ok(Verdict::Valid),
-        Ok(_) => Ok(Verdict::Invalid),
-        Err(error) if is_memory(&error) => Err(AllocError),
-        Err(_) => Ok(Verdict::Invalid),
+    match VersionRef::parse(text) {
+        Ok(version) => range.satisfies(&version),
+        Err(_) => false,
     }
 }
 
@@ -80,10 +67,23 @@ fn verdict_of_range(
 pub(crate) fn is_admitted(alloc: Global, text: &str, version: &Version) -> Result<bool, AllocError>
     ensures { IfOk result (λ admitted. IsTrue admitted ↔ IsAdmittedBy text.now version.now) }
 {
+    match range_of(alloc, text)? {
+        Some(range) => Ok(range.satisfies(version)),
+        None => Ok(false),
+    }
+}
+
+/// The range of a text, or `None` if the text is refused.
+fn range_of(alloc: Global, text: &str) -> Result<Option<Range>, AllocError>
+    ensures refused { IfOk result (λ range. IfNone range (IsRefused text.now)) }
+    ensures accepted { IfOk result (λ range. IfSome range (λ range. ¬ IsRefused text.now)) }
+    ensures means { IfOk result (λ range. IfSome range (λ range.
+        (v : VersionValue) → RangeAdmits range v ↔ TextAdmits text.now v)) }
+{
     match Range::parse(alloc, text) {
-        Ok(range) => Ok(range.satisfies(version)),
+        Ok(range) => Ok(Some(range)),
         Err(error) if is_memory(&error) => Err(AllocError),
-        Err(_) => Ok(false),
+        Err(_) => Ok(None),
     }
 }
 

@@ -2,4 +2,3 @@
 
 pub mod Arguments  -- what the arguments ask for
 pub mod Output  -- what is read, and what is written for it
-pub mod Errors  -- the error for an error of the check

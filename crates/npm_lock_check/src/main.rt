@@ -39,7 +39,10 @@ fn main(rt: HostRuntime) -> ExitCode {
 fn checked(rt: &HostRuntime) -> Result<Problems, RunError> {
     let words = env::args(rt).map_err(|error| read_error(&error))?;
     // The first word is the program's name.
-    let words: Vec<String> = words.skip(1).collect(rt.alloc())?;
+    let words: Vec<String> = words
+        .skip(1)
+        .collect(rt.alloc())
+        .map_err(|_| RunError::Memory)?;
     let node = node_of(rt.alloc(), &words)?;
     run(rt.alloc(), &mut rt.stdin(), &mut rt.stdout(), node.as_ref())
 }

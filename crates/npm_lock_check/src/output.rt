@@ -7,7 +7,7 @@ ghost use Rattle.npm_lock_check.specs.Output.{IsChecked, IsInput, IsRefused, lin
 
 use crate::run_error::{RunError, read_error};
 use node_semver::Version;
-use npm_lock::{Problem, Problems, check};
+use npm_lock::{CheckError, Problem, Problems, check};
 use serde_json::Value;
 use std::alloc::{AllocError, Global};
 use std::io::{Read, Write};
@@ -30,12 +30,16 @@ pub fn run<R: Read, W: Write>(
         → Keeps (W.contents writer.old) (W.contents writer.new)) }
 {
     let lock = read_lock(alloc, reader)?;
-    let problems = check(alloc, &lock, node)?;
-    let lines = lines_of(alloc, &problems.list)?;
-    match writer.write_all(lines.as_bytes()) {
-        Ok(()) => Ok(problems),
-        Err(_) => Err(RunError::Write),
-    }
+    let problems = match check(alloc, &lock, node) {
+        Ok(problems) => problems,
+        Err(CheckError::Refused(fault)) => return Err(RunError::NoLockFile(fault)),
+        Err(CheckError::Memory) => return Err(RunError::Memory),
+    };
+    let lines = lines_of(alloc, &problems.list).map_err(|_| RunError::Memory)?;
+    writer
+        .write_all(lines.as_bytes())
+        .map_err(|_| RunError::Write)?;
+    Ok(problems)
 }
 
 /// Reads a JSON value.
@@ -45,9 +49,9 @@ fn read_lock<R: Read>(alloc: Global, reader: &mut R) -> Result<Value, RunError>
     ensures unwritten { IfErr result (λ error. error ≢ RunError.Write) }
 {
     let mut bytes = Vec::new(alloc);
-    if let Err(error) = reader.read_to_end(&mut bytes) {
-        return Err(read_error(&error));
-    }
+    reader
+        .read_to_end(&mut bytes)
+        .map_err(|error| read_error(&error))?;
     match Value::from_slice(alloc, bytes.as_slice()) {
         Ok(value) => Ok(value),
         Err(error) if error.is_memory() => Err(RunError::Memory),

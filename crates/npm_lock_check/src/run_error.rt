@@ -2,12 +2,8 @@
 ghost use Rattle.std.specs.Prelude.{◌≡◌, ◌↔◌};
 ghost use Rattle.std.specs.IoError.{error_kind};
 ghost use Rattle.std.specs.declared.io.ErrorKind.{ErrorKind};
-ghost use Rattle.npm_lock.specs.declared.error.CheckError.{CheckError};
-ghost use Rattle.npm_lock_check.specs.Errors.{error_of_check};
-ghost use Rattle.npm_lock_check.specs.declared.run_error.RunError.TheVariants as Variants;
 
-use npm_lock::{CheckError, Fault};
-use std::alloc::{AllocError, AllocFailed};
+use npm_lock::Fault;
 use std::io;
 use std::io::ErrorKind;
 use thiserror::Error;
@@ -46,32 +42,5 @@ pub(crate) fn read_error(error: &io::Error) -> RunError
     match error.kind() {
         ErrorKind::OutOfMemory => RunError::Memory,
         _ => RunError::Read,
-    }
-}
-
-impl From<AllocError> for RunError {
-    ghost from_gives = { λ _ error. error ≡ Variants.Memory };
-
-    fn from(_error: AllocError) -> RunError {
-        RunError::Memory
-    }
-}
-
-impl<T: Drop> From<AllocFailed<T>> for RunError {
-    ghost from_gives = { λ _ error. error ≡ Variants.Memory };
-
-    fn from(_error: AllocFailed<T>) -> RunError {
-        RunError::Memory
-    }
-}
-
-impl From<CheckError> for RunError {
-    ghost from_gives = { λ given error. error ≡ error_of_check given };
-
-    fn from(error: CheckError) -> RunError {
-        match error {
-            CheckError::Refused(fault) => RunError::NoLockFile(fault),
-            CheckError::Memory => RunError::Memory,
-        }
     }
 }

@@ -1,26 +1,33 @@
--- The findings of a member come before those of the members that are left.
-use Rattle.std.proofs.Common.{◌≡◌, ◌++◌, [], refl}
+-- What is found out is kept where the errors change their type.
+use Rattle.std.proofs.Common.{◌≡◌, Result, Ok, Err, IfOk, ap}
+use Rattle.std.proofs.lemmas.Result.{IfOk-weaker}
+use Rattle.std.specs.Result.{IsErrAnd, MatchResult}
 use Rattle.serde_json.specs.View.{view}
 use Rattle.npm_lock.proofs.MoreFindings.{checked_by}
-use Rattle.npm_lock.proofs.Reports.{adds_both, adds_none}
 use Rattle.npm_lock.proofs.lock_file.check.Goals as goal
 
-pub loop-folder-init : goal.loop-folder-init
-loop-folder-init c = λ later new are adds. (later, are, adds [] c.new-problems.ensures)
+module _ {T E F : Type 0} (Q : E → F → Type 0) where
+  kept : (before : Result T E) (after : Result T F) (P : T → Type 0)
+      → MatchResult before (λ x. after ≡ Ok x) (λ e. IsErrAnd after (Q e)) → IfOk before P → IfOk after P
+  kept (Ok x) after P cases holds = rw cases holds
+  kept (Err e) (Ok x) P cases holds = absurd cases
+  kept (Err e) (Err f) P cases holds = tt
 
-pub loop-folder-preserved : goal.loop-folder-preserved
-loop-folder-preserved c = λ later new are adds.
-    let here = c.in_ok-check_member.ensures in
-    let of_member = rw c.as_str.ensures.value at here.1 in
-    c.loop-folder.invariant (here.0 ++ later) new
-    (rw c.in-Some.ensures.steps (here.0, later, of_member, are, refl))
-    (adds_both _ _ _ here.0 later here.2 adds)
+  was_ok : (before : Result T E) (after : Result T F) (x : T)
+      → MatchResult before (λ x. after ≡ Ok x) (λ e. IsErrAnd after (Q e)) → after ≡ Ok x → before ≡ Ok x
+  was_ok (Ok y) after x cases is = let same : y ≡ x = cc (cases, is) in ap Ok same
+  was_ok (Err e) after x cases is = absurd (rw is at cases)
+
+both_facts : {X E : Type 0} (r : Result X E) (P Q : X → Type 0) → IfOk r P → IfOk r Q → IfOk r (λ x. P x × Q x)
+both_facts (Ok x) P Q p q = (p, q)
+both_facts (Err e) P Q p q = tt
 
 pub returns-clause-found : goal.returns-clause-found
 returns-clause-found c =
-    let entries : c.into_iter-folder-iterator.result ≡ c.in_ok-packages.members.now.entries = cc in
-    let all = c.loop-folder.invariant [] c.loop-folder.problems (rw c.in-None.ensures.steps.0 refl)
-    (adds_none c.loop-folder.problems) in
-    checked_by (view c.args.lock.now) (view c.in_ok-packages.packages.now) c.in_ok-packages.members.now.entries _
-    c.loop-folder.problems c.in_ok-packages.ensures.packages c.in_ok-packages.ensures.members
-    c.iter-folder-items.ensures.ordered (all.0, rw entries at all.1, all.2)
+    let read = was_ok _ c.packages_of.result c.map_err.result (c.in_ok-packages.packages, c.in_ok-packages.members)
+    c.map_err.ensures.cases c.in_ok-packages.was in
+    kept _ c.problems_of.result c.map_err-2.result _ c.map_err-2.ensures.cases
+    (IfOk-weaker c.problems_of.result _ _ (λ problems facts. checked_by (view c.args.lock.now)
+    (view c.in_ok-packages.packages.now) c.in_ok-packages.members.now.entries _ problems
+    (rw read at c.packages_of.ensures.packages) (rw read at c.packages_of.ensures.members) facts.0 facts.1)
+    (both_facts c.problems_of.result _ _ c.problems_of.ensures.ascending c.problems_of.ensures.found))

@@ -1,8 +1,8 @@
--- What is found from the folder is found from the first one, which is passed by once a folder above is looked at.
-use Rattle.std.proofs.Common.{◌≡◌, length, true, false}
+-- What is found from the folder is found from the first one.
+use Rattle.std.proofs.Common.{length}
 use Rattle.std.specs.Prelude.{Option}
 use Rattle.serde_json.specs.View.{view}
-use Rattle.npm_lock.specs.Packages.{IsFound, IsPassed, Package}
+use Rattle.npm_lock.specs.Packages.{IsFound, Package}
 use denote.Shadow.{shadow}
 use denote.Text.{Utf8}
 use Rattle.npm_lock.proofs.place.find.Given as goal
@@ -12,8 +12,6 @@ invariant-folders l = record {
   text : shadow (Utf8 l.at);
   found : (found : Option Package) → IsFound (view l.packages) l.name l.at found
       → IsFound (view l.packages) l.name l.fn.from found;
-  own : l.is_own ≡ true → l.at ≡ l.fn.from;
-  passed : l.is_own ≡ false → IsPassed (view l.packages) l.name l.fn.from;
 }
 
 abbrev pub decreases-folders : goal.decreases-folders

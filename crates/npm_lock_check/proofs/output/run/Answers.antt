@@ -1,11 +1,10 @@
 -- The input was read, and the check refuses its value.
 use Rattle.std.proofs.Common.{◌∙◌, ap, Err}
 use Rattle.serde_json.specs.View.{view}
-use Rattle.npm_lock_check.proofs.Inputs.{refused_result}
 use Rattle.npm_lock_check.proofs.output.run.Goals as goal
 
-pub returns-in_err-problems-clause-refused : goal.returns-in_err-problems-clause-refused
-returns-in_err-problems-clause-refused g c =
-    refused_result c.from_residual-in_err-problems.result c.in_err-problems.field-0.0 _ _ (view c.in_ok-lock.lock)
-    c.from_residual-in_err-problems.ensures.1 c.in_ok-lock.ensures.value
-    (λ fault is. (c.check.ensures.refused fault).0 (c.in_err-problems.was ∙ ap Err is))
+pub returns-in-Err-Refused-clause-refused : goal.returns-in-Err-Refused-clause-refused
+returns-in-Err-Refused-clause-refused g c =
+    let told = (c.check.ensures.refused c.in-Err-Refused.fault).0
+    (c.in-Err-Refused.is ∙ ap Err c.in-Err-Refused.field-0-is) in
+    (view c.in_ok-lock.lock, c.in_ok-lock.ensures.value, rw c.in-Err-Refused.field-0-is told)

@@ -4,7 +4,7 @@ use Rattle.serde_json.specs.View.{members_view, view}
 use Rattle.npm_lock.specs.Findings.{AreFindings, Finding, IsReport}
 use Rattle.npm_lock.specs.Private.Adding.{Adds}
 use Rattle.npm_lock.specs.declared.problem.Problems.{Problems}
-use Rattle.npm_lock.proofs.lock_file.check.Given as goal
+use Rattle.npm_lock.proofs.lock_file.problems_of.Given as goal
 
 abbrev pub invariant-loop-folder : goal.invariant-loop-folder
 invariant-loop-folder l = (later : List Finding) (new : Problems)

@@ -1,7 +1,7 @@
 -- A name is added with its group, and stays.
 use Rattle.std.proofs.Common.{inl, inr}
 use Rattle.npm_lock.proofs.Groups.{somewhere}
-use Rattle.npm_lock.proofs.names.names_of.Goals as goal
+use Rattle.npm_lock.proofs.asked.names_of.Goals as goal
 
 pub returns : goal.returns
 returns c = λ is_installed name some.

@@ -5,14 +5,14 @@ use Rattle.serde_json.specs.View.{view}
 use Rattle.npm_lock.specs.Findings.{Finding, IsDependencyFinding}
 use Rattle.npm_lock.specs.Private.Adding.{Adds, asked_names}
 use Rattle.npm_lock.specs.declared.problem.Problems.{Problems}
-use Rattle.npm_lock.proofs.lock_file.check_dependencies.Given as goal
+use Rattle.npm_lock.proofs.lock_file.check_package.Given as goal
 
 abbrev pub invariant-loop-name : goal.invariant-loop-name
 invariant-loop-name l = (later : List Finding) (new : Problems)
-    → AllZip (IsDependencyFinding (view l.packages) l.folder (view l.asker) l.is_installed)
-    (asked_names (view l.asker) l.is_installed (map string_bytes l.name-iterator)) later
+    → AllZip (IsDependencyFinding (view l.packages) l.asker.folder.now (view l.asker.member.now) l.is_installed)
+    (asked_names (view l.asker.member.now) l.is_installed (map string_bytes l.name-iterator)) later
     → Adds l.problems new later
     → (found : List Finding)
-    × AllZip (IsDependencyFinding (view l.packages) l.folder (view l.asker) l.is_installed)
-    (asked_names (view l.asker) l.is_installed (map string_bytes l.initial.name-iterator)) found
-    × Adds l.fn.problems new found
+    × AllZip (IsDependencyFinding (view l.packages) l.asker.folder.now (view l.asker.member.now) l.is_installed)
+    (asked_names (view l.asker.member.now) l.is_installed (map string_bytes l.initial.name-iterator)) found
+    × Adds l.initial.problems new found

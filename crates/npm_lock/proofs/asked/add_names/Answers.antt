@@ -2,7 +2,7 @@
 use Rattle.std.proofs.Common.{◌≡◌, ◌∙◌, inl, inr, string_bytes, sym}
 use Rattle.npm_lock.proofs.Groups.{in_rest}
 use Rattle.npm_lock.proofs.NameLists.{added_by, kept_by}
-use Rattle.npm_lock.proofs.names.add_names.Goals as goal
+use Rattle.npm_lock.proofs.asked.add_names.Goals as goal
 
 pub loop-name-preserved : goal.loop-name-preserved
 loop-name-preserved c =

@@ -1,0 +1,14 @@
+-- What is seen of a package, and of what it asks for.
+use Rattle.serde_json.specs.View.{view}
+use Rattle.npm_lock.specs.Asked.{AskedValue}
+use Rattle.npm_lock.specs.Packages as Packages
+use Rattle.npm_lock.specs.declared.asked.Asked.{Asked}
+use Rattle.npm_lock.specs.declared.place.Package.{Package}
+
+-- its folder, and the member of `packages`
+abbrev pub package_value : Package → Packages.Package
+package_value found = record { folder = found.folder.now; member = view found.member.now }
+
+-- the spec, whether it must be found, and whether it is a peer
+abbrev pub asked_value : Asked → AskedValue
+asked_value asked = record { spec = asked.spec.now; is_needed = asked.is_needed; is_peer = asked.is_peer }

@@ -75,7 +75,6 @@ fn first_pair(bytes: &[u8], is_ascii: bool) -> Option<Pair<'_>>
 }
 
 /// Adds the answers for a pair and for the pairs right after it with the same range line, and returns the rest.
-#[tactic(auto, using(crate::proofs::MoveLemmas::range_steps))]
 pub(crate) fn answer_range<'b, W: Write>(
     alloc: Global,
     pair: Pair<'b>,

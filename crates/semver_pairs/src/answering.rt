@@ -31,7 +31,6 @@ pub(crate) struct Pair<'b> {
 }
 
 /// Adds the answers for the complete pairs in these bytes, and returns the rest.
-#[tactic(auto, using(crate::proofs::MoveLemmas::pairs_steps))]
 pub(crate) fn answer_pairs<'b, W: Write>(
     alloc: Global,
     bytes: &'b [u8],
@@ -108,7 +107,6 @@ pub(crate) fn answer_range<'b, W: Write>(
 /// The same after the range line was parsed: `range` is `None` if the line is no range.
 // `inline(never)`: it is one call for each range line, and the loop over versions has a stack of its own.
 #[inline(never)]
-#[tactic(auto, using(crate::proofs::MoveLemmas::version_steps))]
 fn answer_versions<'b, W: Write>(
     range: Option<&Range>,
     pair: &Pair<'b>,

@@ -14,7 +14,6 @@ use std::alloc::Global;
 use std::io::Write;
 
 /// Adds the answers for the pairs that a piece of the input completes.
-#[tactic(auto, using(crate::proofs::MoveLemmas::piece_steps))]
 pub(crate) fn answer_piece<W: Write>(
     alloc: Global,
     piece: &[u8],
@@ -44,7 +43,6 @@ pub(crate) fn answer_piece<W: Write>(
 
 /// Adds the answer for the open pair if the piece completes it, and returns the rest of the piece. If the pair stays
 /// open, adds nothing.
-#[tactic(auto, using(crate::proofs::MoveLemmas::open_steps))]
 fn answer_open<'b, W: Write>(
     alloc: Global,
     piece: &'b [u8],

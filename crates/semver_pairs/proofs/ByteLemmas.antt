@@ -4,7 +4,7 @@ use Rattle.std.proofs.Common.{ap, arith, take-add, length-append}
 use Rattle.std.proofs.lemmas.Grind.{common_steps}
 use Rattle.std.proofs.lemmas.List.{take_rest}
 use Rattle.std.specs.Io.KnownBytes.{Appends, Consumes}
-use Rattle.std.proofs.KnownBytes.{Appends-kept, Appends-nil, Appends-trans, Consumes-kept, Consumes-nil, Consumes-trans}
+use Rattle.std.proofs.KnownBytes.{Appends-trans}
 
 -- a write took a prefix of the rest from a place on
 pub appends_more : (old mid new : Option (List ℕ)) (text : List ℕ) (at n : ℕ)
@@ -29,14 +29,3 @@ pub consumes_least : (old new : Option (List ℕ)) (bytes : List ℕ) (n : ℕ) 
 consumes_least None new bytes n gave least = tt
 consumes_least (Some all) None bytes n gave least = absurd gave
 consumes_least (Some all) (Some rest) bytes n gave least = rw (gave, length-append) (omega arith)
-
-pub ruleset known_bytes = (
-  appends_more,
-  consumes_least,
-  Appends-kept,
-  Appends-nil,
-  Appends-trans,
-  Consumes-kept,
-  Consumes-nil,
-  Consumes-trans,
-)

@@ -1,4 +1,4 @@
-use Rattle.std.proofs.Common.{◌+◌, ◌≤◌, length, take, subst, arith, refl}
+use Rattle.std.proofs.Common.{◌+◌, arith, refl}
 use Rattle.std.proofs.KnownBytes.{Appends-kept, Appends-nil}
 use Rattle.semver_pairs.proofs.ByteLemmas.{appends_more, rest_some, rest_within}
 use Rattle.semver_pairs.proofs.writing.write_all.Goals as goal

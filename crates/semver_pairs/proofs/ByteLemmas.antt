@@ -1,9 +1,10 @@
 -- Known bytes, call by call.
-use Rattle.std.proofs.Common.{ℕ, ◌+◌, ◌-◌, ◌≤◌, List, length, take, drop, Option, Some, None, IfSome}
-use Rattle.std.proofs.Common.{arith, take-add, length-append}
+use Rattle.std.proofs.Common.{◌≡◌, ◌≢◌, ℕ, ◌+◌, ◌-◌, ◌<◌, ◌≤◌, List, [], length, take, drop, Option, Some, None, IfSome}
+use Rattle.std.proofs.Common.{ap, arith, take-add, length-append}
+use Rattle.std.proofs.lemmas.Grind.{common_steps}
 use Rattle.std.proofs.lemmas.List.{take_rest}
 use Rattle.std.specs.Io.KnownBytes.{Appends, Consumes}
-use Rattle.std.proofs.KnownBytes.{Appends-kept, Appends-nil, Appends-trans, Consumes-kept, Consumes-nil, Consumes-trans}
+use Rattle.std.proofs.KnownBytes.{Appends-trans}
 
 -- a write took a prefix of the rest from a place on
 pub appends_more : (old mid new : Option (List ℕ)) (text : List ℕ) (at n : ℕ)
@@ -12,20 +13,19 @@ pub appends_more : (old mid new : Option (List ℕ)) (text : List ℕ) (at n : �
 appends_more old mid new text at n first then =
     rw (take-add at n text) (Appends-trans old mid new _ _ first (rw (take_rest text at) at then))
 
+-- something is left from a place within the text on
+pub rest_some : (text : List ℕ) (at : ℕ) → at < length text → take (length text - at) (drop at text) ≢ []
+rest_some text at within is =
+    let none : length (take (length text - at) (drop at text)) ≡ 0 = ap length is in grind (arith, common_steps, none)
+
+-- so many of the rest stand in the text
+pub rest_within : (text : List ℕ) (at n : ℕ) → at < length text
+    → n ≤ length (take (length text - at) (drop at text)) → at + n ≤ length text
+rest_within text at n within most = grind (arith, common_steps, most)
+
 -- a reader had at least the bytes that it gave
 pub consumes_least : (old new : Option (List ℕ)) (bytes : List ℕ) (n : ℕ) → Consumes old new bytes → n ≤ length bytes
     → IfSome old (λ all. n ≤ length all)
 consumes_least None new bytes n gave least = tt
 consumes_least (Some all) None bytes n gave least = absurd gave
 consumes_least (Some all) (Some rest) bytes n gave least = rw (gave, length-append) (omega arith)
-
-pub ruleset known_bytes = (
-  appends_more,
-  consumes_least,
-  Appends-kept,
-  Appends-nil,
-  Appends-trans,
-  Consumes-kept,
-  Consumes-nil,
-  Consumes-trans,
-)

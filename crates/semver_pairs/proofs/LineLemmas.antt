@@ -1,10 +1,11 @@
 -- The first line of some bytes.
 use Rattle.std.proofs.Common.{◌≡◌, ◌⊎◌, ℕ, zero, suc, ◌+◌, ◌<◌, ◌==◌, true, false, ap, inl, inr, refl, ◌∙◌, sym}
 use Rattle.std.proofs.Common.{◌≢◌, List, [], ◌∷◌, ◌++◌, length, take, drop, add-one, arith, Option, None, Some, IfSome}
-use Rattle.std.proofs.Common.{eqb-true, MatchOption}
+use Rattle.std.proofs.Common.{◌-◌, eqb-true, length-append, subst, MatchOption}
 use Rattle.std.proofs.lemmas.Slice.Eq.{strip_prefix_is}
 use Rattle.std.proofs.lemmas.Bool.Decides.{Decides-eqb}
 use Rattle.std.specs.Prelude.{nat_eq}
+use Rattle.std.specs.Str.{IsAscii}
 use Rattle.std.specs.Cmp.Lexicographic.{pointwise}
 use denote.Ref.{Bor}
 use Rattle.std.proofs.lemmas.Bool.{cases_Bool}
@@ -13,6 +14,7 @@ use Rattle.memchr.specs.Find.{NoneBefore, Nowhere, Passes, is_byte}
 use Rattle.semver_versions.specs.ErrorLocation.{newline}
 use Rattle.semver_pairs.specs.Lines.{divided, joined, with_byte, with_line}
 use Rattle.semver_pairs.specs.Private.Splitting.{BeginsWithLine, HasNoNewline}
+use Rattle.semver_pairs.proofs.AsciiLemmas.{ascii-before, ascii-past}
 
 is_newline : (b : ℕ) → (b == newline) ≡ true → b ≡ newline
 is_newline b here = eqb-true b newline here
@@ -133,4 +135,18 @@ pub line_at : (bytes : List ℕ) (at : ℕ) → NoneBefore (IsNewlineAt bytes) 0
     → BeginsWithLine bytes (take at bytes) (drop (at + 1) bytes)
 line_at bytes at first here = rw add-one (begins_at bytes at first.high first.before here)
 
-pub ruleset first_line = (line_at, no_newline-from, take_rest)
+-- The first line, and what is left past its newline byte.
+pub line_rest : (bytes : List ℕ) (at : ℕ) → NoneBefore (IsNewlineAt bytes) 0 (length bytes) at → IsNewlineAt bytes at
+    → BeginsWithLine bytes (take at bytes) (take (length bytes - (at + 1)) (drop (at + 1) bytes))
+line_rest bytes at first here = rw (take_rest bytes (at + 1)) (line_at bytes at first here)
+
+-- what is left is shorter
+pub line_fewer : {bytes line rest : List ℕ} → BeginsWithLine bytes line rest → length rest < length bytes
+line_fewer {bytes} {line} {rest} begins = rw (begins.split, length-append) (omega arith)
+
+-- both parts of ASCII bytes are ASCII
+pub line_ascii : {bytes line rest : List ℕ} → BeginsWithLine bytes line rest → IsAscii bytes → IsAscii line × IsAscii rest
+line_ascii {bytes} {line} {rest} begins all =
+    let both : IsAscii (line ++ (newline ∷ rest)) = subst IsAscii begins.split all in
+    let past = ascii-past line (newline ∷ rest) both in
+    (ascii-before line (newline ∷ rest) both, λ k. past (suc k))

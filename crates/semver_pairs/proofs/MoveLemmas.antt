@@ -79,16 +79,12 @@ so_far_stop range version_first bytes_first version bytes old now waiting held s
           so_far some.1 (moves-hold now held some.0);
     }
 
-pub ruleset version_steps = (so_far_none, so_far_more, so_far_end, so_far_part, so_far_stop)
-
 -- memory was refused for the range itself
 pub range_stop : (range version bytes : List ℕ) (contents : Option (List ℕ)) (waiting : List ℕ)
     → AnswersRangeSome range version bytes contents contents waiting
 range_stop range version bytes contents waiting =
     so_far_stop range version bytes version bytes contents contents waiting waiting
     (so_far_none range version bytes contents waiting)
-
-pub ruleset range_steps = (range_stop, so_far_none)
 
 -- ---- pairs one after the other
 
@@ -132,8 +128,6 @@ past_part bytes here range version mid old now new waiting held past begins some
   past = past_more bytes here range version mid some.rest old now new waiting held some.left past begins some.past;
 }
 
-pub ruleset pairs_steps = (past_none, past_more, past_part)
-
 -- ---- the open pair
 
 -- where nothing follows a pair, its answer is the only one
@@ -168,8 +162,6 @@ pub open_none-past : (pair : OpenPair) (bytes : List ℕ) (contents : Option (Li
 open_none-past pair bytes contents waiting none =
     subst (λ (l : List ℕ). AnswersPast (l ++ bytes) bytes contents contents waiting waiting) (sym none)
     (past_none bytes contents waiting)
-
-pub ruleset open_steps = (past_none, past_stop, open_whole, open_part)
 
 -- ---- one read
 
@@ -229,8 +221,6 @@ piece_open contents bytes rest old new is same = rw (is, same) (past_none bytes 
 pub past_same : (bytes rest other : List ℕ) (old new : Option (List ℕ)) (waiting left : List ℕ) → other ≡ rest
     → AnswersPast bytes rest old new waiting left → AnswersPast bytes other old new waiting left
 past_same bytes rest other old new waiting left is past = rw is past
-
-pub ruleset piece_steps = (past_none, piece_all, piece_stop, piece_pairs, piece_part)
 
 -- ---- the end
 

@@ -32,6 +32,18 @@ begins old bytes range version_old version line rest one none is both split = re
   stripped = refl;
 }
 
+-- the bytes of a pair whose range line is ended
+pub open_ended : (pair : OpenPair) → pair.is_range_ended ≡ true
+    → open_bytes pair ≡ pair.range.items ++ (newline ∷ pair.version.items)
+open_ended pair ended = rw ended refl
+
+-- more bytes of the version line are more bytes of the pair
+pub version_more : (range version more new : List ℕ) (is_ended : Bool) → is_ended ≡ true → new ≡ version ++ more
+    → (if is_ended then range ++ (newline ∷ new) else range)
+    ≡ (if is_ended then range ++ (newline ∷ version) else range) ++ more
+version_more range version more new is_ended ended is =
+    rw (ended, is) (sym (append_assoc range (newline ∷ version) more))
+
 -- an open pair has no answer yet
 pub open_none : (pair : OpenPair) → IsOpen pair → pairs_read false (open_bytes pair) ≡ []
 open_none pair lines = by_end pair.range.items pair.version.items pair.is_range_ended lines.range lines.version

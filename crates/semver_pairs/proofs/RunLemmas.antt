@@ -114,16 +114,6 @@ range_some_at given range given_version version old new waiting is version_is no
   past = range_at given range given_version version some.rest old new waiting some.left is version_is none some.past;
 }
 
-pub ruleset last_steps = (
-  last_none,
-  last_lone,
-  last_lone_part,
-  last_pair,
-  last_pair_part,
-  last_written,
-  last_written_part,
-)
-
 -- ---- one read after the other
 
 -- So much was read, by so many reads, and the answers to the pairs before the open one are written.
@@ -271,14 +261,3 @@ run_least None r1 c0 c1 kept count least so_far enough = tt
 run_least (Some all) None c0 c1 kept count least so_far enough = absurd so_far.taken
 run_least (Some all) (Some rest) c0 c1 kept count least so_far enough =
     let read = so_far.least in rw (so_far.taken, length-append) (omega arith)
-
-pub ruleset run_steps = (
-  run_none,
-  run_more,
-  run_part,
-  run_stop,
-  run_stop_all,
-  run_end,
-  run_end_part,
-  run_least,
-)

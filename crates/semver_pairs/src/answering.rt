@@ -31,7 +31,6 @@ pub(crate) struct Pair<'b> {
 }
 
 /// Adds the answers for the complete pairs in these bytes, and returns the rest.
-#[tactic(auto, using(crate::proofs::MoveLemmas::pairs_steps))]
 pub(crate) fn answer_pairs<'b, W: Write>(
     alloc: Global,
     bytes: &'b [u8],
@@ -75,7 +74,6 @@ fn first_pair(bytes: &[u8], is_ascii: bool) -> Option<Pair<'_>>
 }
 
 /// Adds the answers for a pair and for the pairs right after it with the same range line, and returns the rest.
-#[tactic(auto, using(crate::proofs::MoveLemmas::range_steps))]
 pub(crate) fn answer_range<'b, W: Write>(
     alloc: Global,
     pair: Pair<'b>,
@@ -109,7 +107,6 @@ pub(crate) fn answer_range<'b, W: Write>(
 /// The same after the range line was parsed: `range` is `None` if the line is no range.
 // `inline(never)`: it is one call for each range line, and the loop over versions has a stack of its own.
 #[inline(never)]
-#[tactic(auto, using(crate::proofs::MoveLemmas::version_steps))]
 fn answer_versions<'b, W: Write>(
     range: Option<&Range>,
     pair: &Pair<'b>,

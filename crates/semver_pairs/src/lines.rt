@@ -7,7 +7,6 @@ ghost use Rattle.semver_versions.specs.ErrorLocation.{newline};
 ghost use Rattle.semver_pairs.specs.Private.Splitting.{BeginsWithLine, HasNoNewline};
 
 /// Returns the bytes before the first newline byte, and the bytes after it.
-#[tactic(auto, using(crate::proofs::LineLemmas::first_line))]
 pub(crate) fn split_line(bytes: &[u8]) -> Option<(&[u8], &[u8])>
     ensures split { IfSome result (λ pair. BeginsWithLine bytes.now pair.0.now pair.1.now) }
     ensures fewer { IfSome result (λ pair. length pair.1.now < length bytes.now) }

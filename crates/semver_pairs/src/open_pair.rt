@@ -107,7 +107,6 @@ impl OpenPair {
     }
 
     /// Adds the bytes up to the end of the version line. If that is ended, returns the bytes after it.
-    #[tactic(auto, using(crate::proofs::OpenPairLemmas::open_pair))]
     fn read_version<'b>(&mut self, bytes: &'b [u8]) -> Result<Option<&'b [u8]>, RunError>
         requires lines { IsOpen self.old }
         requires ended { self.old.is_range_ended ≡ true }

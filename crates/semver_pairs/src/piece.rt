@@ -1,5 +1,5 @@
 //! The answers for the bytes of one read, and for the bytes that are left at the end of the input.
-ghost use Rattle.std.specs.Prelude.{◌≡◌, ◌↔◌, [], ◌++◌, IfOk, IfSome, IfNone, OnOk, OnErr, IsErrOf};
+ghost use Rattle.std.specs.Prelude.{◌≡◌, ◌≢◌, ◌↔◌, [], ◌++◌, IfOk, IfSome, IfNone, OnOk, OnErr, IsErrOf};
 ghost use Rattle.semver_pairs.specs.GaugeValue.{HasFailed};
 ghost use Rattle.semver_pairs.specs.Private.Answering.{AnswersAll, AnswersAllSome, AnswersPast, AnswersSome};
 ghost use Rattle.semver_pairs.specs.Private.OpenPair.{IsOpen, open_bytes};
@@ -14,7 +14,6 @@ use std::alloc::Global;
 use std::io::Write;
 
 /// Adds the answers for the pairs that a piece of the input completes.
-#[tactic(auto, using(crate::proofs::MoveLemmas::piece_steps))]
 pub(crate) fn answer_piece<W: Write>(
     alloc: Global,
     piece: &[u8],
@@ -44,7 +43,6 @@ pub(crate) fn answer_piece<W: Write>(
 
 /// Adds the answer for the open pair if the piece completes it, and returns the rest of the piece. If the pair stays
 /// open, adds nothing.
-#[tactic(auto, using(crate::proofs::MoveLemmas::open_steps))]
 fn answer_open<'b, W: Write>(
     alloc: Global,
     piece: &'b [u8],
@@ -82,8 +80,7 @@ fn answer_open<'b, W: Write>(
     Ok(Some(rest))
 }
 
-/// Adds the answer for the last pair, after the end of the input was read.
-#[tactic(auto, using(crate::proofs::RunLemmas::last_steps))]
+/// Writes the answer for the last pair, after the end of the input was read.
 pub(crate) fn answer_last<W: Write>(
     alloc: Global,
     kept: &OpenPair,
@@ -103,9 +100,31 @@ pub(crate) fn answer_last<W: Write>(
     if kept.is_empty() {
         return Ok(());
     }
+    add_last(alloc, kept, answers, writer)?;
+    answers.flush(writer)?;
+    Ok(())
+}
+
+/// Adds the answer for the last pair, of which something was read.
+fn add_last<W: Write>(
+    alloc: Global,
+    kept: &OpenPair,
+    answers: &mut Answers,
+    writer: &mut Gauge<W>,
+) -> Result<(), RunError>
+    requires lines { IsOpen kept.now }
+    requires some { open_bytes kept.now ≢ [] }
+    requires written { answers.old ≡ [] }
+    requires unfailed { ¬ HasFailed writer.old }
+    ensures answers { OnOk result (AnswersAll (open_bytes kept.now)
+        (W.contents writer.old.inner) (W.contents writer.new.inner) [] answers.new) }
+    ensures part { OnErr result (AnswersAllSome (open_bytes kept.now)
+        (W.contents writer.old.inner) (W.contents writer.new.inner) []) }
+    ensures write { IsErrOf result RunError.Write ↔ HasFailed writer.new }
+    ensures never { (¬ IsErrOf result RunError.Read) × (¬ IsErrOf result RunError.Endless) }
+{
     if !kept.has_version() {
         answers.put(writer, b"missing version\n")?;
-        answers.flush(writer)?;
         return Ok(());
     }
     let pair = Pair {
@@ -115,6 +134,5 @@ pub(crate) fn answer_last<W: Write>(
         is_ascii: false,
     };
     answer_range(alloc, pair, answers, writer)?;
-    answers.flush(writer)?;
     Ok(())
 }

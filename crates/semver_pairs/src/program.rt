@@ -45,7 +45,6 @@ use std::io::{Read, Write};
 ///   `missing version`, a line each.
 /// - `>=1.2.3 <2.0.0` and `2.0.0` give `no`.
 /// - No bytes give no bytes.
-#[tactic(auto, using(crate::proofs::RunLemmas::run_steps))]
 pub fn run<R: Read, W: Write>(
     alloc: Global,
     reader: &mut Gauge<R>,

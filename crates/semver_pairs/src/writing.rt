@@ -8,7 +8,6 @@ use crate::run_error::RunError;
 use std::io::Write;
 
 /// Writes the whole text, with as many calls of `write` as are needed.
-#[tactic(auto, using(crate::proofs::ByteLemmas::known_bytes))]
 pub(crate) fn write_all<W: Write>(writer: &mut Gauge<W>, text: &[u8]) -> Result<(), RunError>
     requires { ¬ HasFailed writer.old }
     ensures all { OnOk result (Appends (W.contents writer.old.inner) (W.contents writer.new.inner) text.now) }

@@ -1,5 +1,4 @@
-use Rattle.std.proofs.Common.{◌≡◌, codes, refl, true, ap, inl, inr}
-use Rattle.semver_versions.specs.Error.{Refusal}
+use Rattle.std.proofs.Common.{◌≡◌, codes, refl, true, inl, inr}
 use Rattle.semver_pairs.specs.Answer.{admitted, bad_range, bad_version, turned_away}
 use Rattle.semver_pairs.proofs.answering.answer_of.Goals as goal
 

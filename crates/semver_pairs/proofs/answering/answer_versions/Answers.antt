@@ -1,6 +1,6 @@
 use Rattle.std.proofs.Common.{arith}
 use Rattle.std.specs.Str.Lines.{strip_carriage_return}
-use Rattle.semver_pairs.proofs.MoveLemmas.{so_far_end, so_far_more, so_far_none, so_far_part, so_far_stop}
+use Rattle.semver_pairs.proofs.MoveLemmas.{so_far_end, so_far_more, so_far_none, so_far_part}
 use Rattle.semver_pairs.proofs.OutputLemmas.{on_err-of}
 use Rattle.semver_pairs.proofs.answering.answer_versions.Goals as goal
 

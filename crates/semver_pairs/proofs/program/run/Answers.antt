@@ -1,5 +1,5 @@
-use Rattle.std.proofs.Common.{◌≡◌, ◌⊎◌, ◌<◌, ◌≤◌, length, take, Result, Ok, Err, IsErr, IsErrAnd, OnOk}
-use Rattle.std.proofs.Common.{ap, arith, inl, inr, refl, sym, ◌∙◌}
+use Rattle.std.proofs.Common.{◌≡◌, ◌↔◌, ◌⊎◌, ◌<◌, ◌≤◌, length, take, Result, Ok, Err, IsErr, IsErrAnd, OnOk}
+use Rattle.std.proofs.Common.{Bool, false, IsTrue, ap, arith, inl, inr, refl, sym, ◌∙◌}
 use Rattle.std.proofs.KnownBytes.{Keeps-refl}
 use Rattle.std.proofs.lemmas.Grind.{common_steps}
 use Rattle.std.proofs.lemmas.Result.{on_ok_weaker, on_err_weaker}
@@ -14,6 +14,11 @@ neither : {A B P : Type 0} → ¬ A → ¬ B → A ⊎ B → P
 neither no_a no_b (inl a) = absurd (no_a a)
 neither no_a no_b (inr b) = absurd (no_b b)
 
+-- neither gauge had failed
+none_failed : {A B P : Type 0} {one other : Bool} → (IsTrue one ↔ A) → one ≡ false → (IsTrue other ↔ B) → other ≡ false
+    → A ⊎ B → P
+none_failed told is told' is' = neither (λ a. cc (told.1 a, is)) (λ b. cc (told'.1 b, is'))
+
 -- an error that is handed on
 same_error : {T E : Type 0} (r given : Result T E) (e : E) → IsErrAnd r (λ found. found ≡ e) → given ≡ Err e → r ≡ given
 same_error (Ok x) given e is was = absurd is
@@ -22,6 +27,11 @@ same_error (Err found) given e is was = ap Err is ∙ sym was
 never-of : {T E : Type 0} (r given : Result T E) (e other : E) → IsErrAnd r (λ found. found ≡ e) → given ≡ Err e
     → ¬ (given ≡ Err other) → ¬ (r ≡ Err other)
 never-of r given e other is was never so = never (sym (same_error r given e is was) ∙ so)
+
+passed_on : {T E P : Type 0} (r given : Result T E) (e other : E) → IsErrAnd r (λ found. found ≡ e) → given ≡ Err e
+    → ((given ≡ Err other) ↔ P) → (r ≡ Err other) ↔ P
+passed_on r given e other is was told =
+    let same = same_error r given e is was in (λ so. told.0 (sym same ∙ so), λ holds. same ∙ told.1 holds)
 
 -- nothing is asked of an error
 on_ok-none : {T E : Type 0} (r : Result T E) (P : Type 0) → IsErr r → OnOk r P
@@ -141,13 +151,11 @@ returns-in-Ok-eq0-clause-endless g c = λ is. absurd (c.answer_last.ensures.neve
 
 pub returns-in-Ok-eq0-clause-untouched : goal.returns-in-Ok-eq0-clause-untouched
 returns-in-Ok-eq0-clause-untouched g c =
-    neither (λ failed. let told = c.failed.ensures.1 failed in cc (told, c.if-failed.false))
-    (λ failed. let told = c.failed-2.ensures.1 failed in cc (told, c.if-failed-2.false))
+    none_failed c.failed.ensures c.if-failed.false c.failed-2.ensures c.if-failed-2.false
 
 pub returns-in_err-answer_piece-in-Ok-clause-complete : goal.returns-in_err-answer_piece-in-Ok-clause-complete
 returns-in_err-answer_piece-in-Ok-clause-complete g c = λ is.
-    let never = c.answer_piece.ensures.never.0 in
-    absurd (never-of _ _ _ _ c.from_residual.ensures.1 c.in_err-answer_piece-in-Ok.was never is)
+    absurd (never-of _ _ _ _ c.from_residual.ensures.1 c.in_err-answer_piece-in-Ok.was c.answer_piece.ensures.never.0 is)
 
 pub returns-in-Err-clause-answered : goal.returns-in-Err-clause-answered
 returns-in-Err-clause-answered g c = tt
@@ -184,18 +192,15 @@ returns-clause-endless g c = λ is. run_least _ _ _ _ _ _ _ c.reads.invariant.0 
 
 pub returns-clause-untouched : goal.returns-clause-untouched
 returns-clause-untouched g c =
-    neither (λ failed. let told = c.failed.ensures.1 failed in cc (told, c.if-failed.false))
-    (λ failed. let told = c.failed-2.ensures.1 failed in cc (told, c.if-failed-2.false))
+    none_failed c.failed.ensures c.if-failed.false c.failed-2.ensures c.if-failed-2.false
 
 pub returns-in-Err-clause-untouched : goal.returns-in-Err-clause-untouched
 returns-in-Err-clause-untouched g c =
-    neither (λ failed. let told = c.failed.ensures.1 failed in cc (told, c.if-failed.false))
-    (λ failed. let told = c.failed-2.ensures.1 failed in cc (told, c.if-failed-2.false))
+    none_failed c.failed.ensures c.if-failed.false c.failed-2.ensures c.if-failed-2.false
 
 pub returns-in_err-answer_piece-in-Ok-clause-untouched : goal.returns-in_err-answer_piece-in-Ok-clause-untouched
 returns-in_err-answer_piece-in-Ok-clause-untouched g c =
-    neither (λ failed. let told = c.failed.ensures.1 failed in cc (told, c.if-failed.false))
-    (λ failed. let told = c.failed-2.ensures.1 failed in cc (told, c.if-failed-2.false))
+    none_failed c.failed.ensures c.if-failed.false c.failed-2.ensures c.if-failed-2.false
 
 pub reads-init : goal.reads-init
 reads-init g c = (
@@ -235,19 +240,15 @@ returns-in_err-answer_piece-in-Ok-clause-ended g c = on_ok-none _ _ c.from_resid
 
 pub returns-in_err-answer_piece-in-Ok-clause-read : goal.returns-in_err-answer_piece-in-Ok-clause-read
 returns-in_err-answer_piece-in-Ok-clause-read g c = (
-  λ is. let never = c.answer_piece.ensures.never.0 in
-      absurd (never-of _ _ _ _ c.from_residual.ensures.1 c.in_err-answer_piece-in-Ok.was never is),
+  λ is. absurd
+      (never-of _ _ _ _ c.from_residual.ensures.1 c.in_err-answer_piece-in-Ok.was c.answer_piece.ensures.never.0 is),
   λ failed. cc (c.in-Ok.ensures.mark.0 failed),
 )
 
 pub returns-in_err-answer_piece-in-Ok-clause-write : goal.returns-in_err-answer_piece-in-Ok-clause-write
 returns-in_err-answer_piece-in-Ok-clause-write g c = λ unfailed.
-    let same = same_error _ _ _ c.from_residual.ensures.1 c.in_err-answer_piece-in-Ok.was in (
-      λ is. c.answer_piece.ensures.write.0 (sym same ∙ is),
-      λ failed. same ∙ c.answer_piece.ensures.write.1 failed,
-    )
+    passed_on _ _ _ _ c.from_residual.ensures.1 c.in_err-answer_piece-in-Ok.was c.answer_piece.ensures.write
 
 pub returns-in_err-answer_piece-in-Ok-clause-endless : goal.returns-in_err-answer_piece-in-Ok-clause-endless
 returns-in_err-answer_piece-in-Ok-clause-endless g c = λ is.
-    let never = c.answer_piece.ensures.never.1 in
-    absurd (never-of _ _ _ _ c.from_residual.ensures.1 c.in_err-answer_piece-in-Ok.was never is)
+    absurd (never-of _ _ _ _ c.from_residual.ensures.1 c.in_err-answer_piece-in-Ok.was c.answer_piece.ensures.never.1 is)

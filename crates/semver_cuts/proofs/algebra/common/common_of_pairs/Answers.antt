@@ -1,4 +1,4 @@
-use Rattle.std.proofs.Common.{◌++◌, ap, refl, sym, ◌∙◌}
+use Rattle.std.proofs.Common.{◌++◌, ap, arith, refl, sym, ◌∙◌}
 use Rattle.std.specs.List.{flat_map}
 use Rattle.std.proofs.lemmas.List.{append-nil, drop_all}
 use Rattle.std.proofs.lemmas.List.Elements.{All-from_recursion}
@@ -32,3 +32,19 @@ returns g c =
     ++ flat_map (common_at g.T.Ord.cmp c.args.ones.now c.args.others.now) l)
     (sym (drop_all c.loop-pair.pair-index c.args.pairs.now c.loop-pair-test.false))
     ∙ c.loop-pair.invariant
+
+pub offset_bounds-ones-place : goal.offset_bounds-ones-place
+offset_bounds-ones-place g c =
+    omega (
+      arith,
+      (All-from_recursion (AreBothWithin c.args.ones.now c.args.others.now) c.args.pairs.now c.requires
+          c.loop-pair.pair-index (0, 0) c.loop-pair-test.true).0,
+    )
+
+pub offset_bounds-others-other : goal.offset_bounds-others-other
+offset_bounds-others-other g c =
+    omega (
+      arith,
+      (All-from_recursion (AreBothWithin c.args.ones.now c.args.others.now) c.args.pairs.now c.requires
+          c.loop-pair.pair-index (0, 0) c.loop-pair-test.true).1,
+    )

@@ -1,8 +1,28 @@
-use Rattle.std.proofs.Common.{refl, sym, ◌∙◌}
+use Rattle.std.proofs.Common.{◌≡◌, List, [], ◌∷◌, Ordering, arith, length, refl, sym, ◌∙◌}
 use mathlib.Core.Bool.{true≢false}
-use Rattle.semver_cuts.specs.Ends.{span_between}
+use Rattle.semver_cuts.specs.SpanLists.{AreApart}
+use Rattle.semver_cuts.specs.Ends.{Ends, span_between}
+use Rattle.semver_cuts.specs.Joined.{AreRising}
 use Rattle.semver_cuts.proofs.Joining.ApartLoop.{seen-all, seen-first, seen-next, seen-touching}
 use Rattle.semver_cuts.proofs.algebra.places.are_apart.Goals as goal
+
+-- an empty list is apart, and rises
+none-apart : {T : Type 0} (cmp : T → T → Ordering) (spans : List (Ends T)) → length spans ≡ 0
+    → AreApart cmp spans × AreRising cmp spans
+none-apart cmp [] none = (tt, tt)
+none-apart cmp (span ∷ spans) none = absurd (omega arith)
+
+pub returns-in_default-clause-apart : goal.returns-in_default-clause-apart
+returns-in_default-clause-apart g c = (
+  λ e. (none-apart g.T.Ord.cmp c.args.spans.now c.in_default.ensures.cases).0,
+  λ apart. refl,
+)
+
+pub returns-in_default-clause-rising : goal.returns-in_default-clause-rising
+returns-in_default-clause-rising g c = λ e. (none-apart g.T.Ord.cmp c.args.spans.now c.in_default.ensures.cases).1
+
+pub offset_bounds-others-span-index : goal.offset_bounds-others-span-index
+offset_bounds-others-span-index g c = omega (arith, c.loop-span-test.true)
 
 pub loop-span-init : goal.loop-span-init
 loop-span-init g c =

@@ -13,7 +13,7 @@ ghost use Rattle.semver_versions.specs.Version.{IsPrerelease, VersionValue};
 ghost use Rattle.node_semver.specs.RangeAlgebra.{sets_of_answer};
 ghost use Rattle.node_semver.specs.SetTree.{AreSetsOfTree, InFormula, formula_of};
 
-use crate::{Range, SemverErrorKind};
+use crate::Range;
 use semver_sets::laws::every_range_text_is_written_one_way;
 use std::alloc::{AllocError, Global};
 
@@ -101,10 +101,8 @@ fn range_of(alloc: Global, text: &str) -> Result<Option<Range>, AllocError>
 {
     match Range::parse(alloc, text) {
         Ok(range) => Ok(Some(range)),
-        Err(error) => match error.kind() {
-            SemverErrorKind::OutOfMemory => Err(AllocError),
-            _ => Ok(None),
-        },
+        Err(error) if error.is_out_of_memory() => Err(AllocError),
+        Err(_) => Ok(None),
     }
 }
 

@@ -1,13 +1,12 @@
 //! Whether a version satisfies a dependency's spec.
 ghost use Rattle.std.specs.Prelude.{◌≡◌, ◌↔◌, List, ℕ, IfOk, IfNone, IfSome, IsTrue, false, if◌then◌else◌, option_map};
-ghost use Rattle.node_semver.specs.Errors.{out_of_memory, refusal_of};
 ghost use Rattle.node_semver.specs.Ranges.{IsRefused, RangeAdmits, TextAdmits};
 ghost use Rattle.node_semver.specs.Versions.{VersionValue};
 ghost use Rattle.npm_lock.specs.Verdict as Verdicts;
 ghost use Rattle.npm_lock.specs.Verdict.{IsAdmittedBy, IsVerdict, IsVerdictOfText};
 
 use crate::range_text::{is_tag, range_text};
-use node_semver::{Range, SemverError, SemverErrorKind, Version, VersionRef};
+use node_semver::{Range, Version, VersionRef};
 use std::alloc::{AllocError, Global};
 
 /// Whether a version satisfies a spec.
@@ -82,14 +81,7 @@ fn range_of(alloc: Global, text: &str) -> Result<Option<Range>, AllocError>
 {
     match Range::parse(alloc, text) {
         Ok(range) => Ok(Some(range)),
-        Err(error) if is_memory(&error) => Err(AllocError),
+        Err(error) if error.is_out_of_memory() => Err(AllocError),
         Err(_) => Ok(None),
     }
-}
-
-/// Returns `true` if a text was not read because an allocation failed.
-fn is_memory(error: &SemverError) -> bool
-    ensures { IsTrue result ↔ ((refusal_of error.now).kind ≡ out_of_memory) }
-{
-    matches!(error.kind(), SemverErrorKind::OutOfMemory)
 }

@@ -1,10 +1,9 @@
 //! The arguments of the program.
-ghost use Rattle.std.specs.Prelude.{◌≡◌, ◌↔◌, [], ◌∷◌, IsTrue, codes, map, string_bytes};
-ghost use Rattle.node_semver.specs.Errors.{out_of_memory, refusal_of};
+ghost use Rattle.std.specs.Prelude.{[], ◌∷◌, codes, map, string_bytes};
 ghost use Rattle.npm_lock_check.specs.Arguments.{IsNodeOf};
 
 use crate::run_error::RunError;
-use node_semver::{SemverError, SemverErrorKind, Version};
+use node_semver::Version;
 use std::alloc::Global;
 
 /// Returns the version of Node that the words after the program's name ask for, if there are any.
@@ -24,14 +23,7 @@ fn version_of(alloc: Global, text: &str) -> Result<Option<Version>, RunError>
 {
     match Version::parse(alloc, text) {
         Ok(version) => Ok(Some(version)),
-        Err(error) if is_memory(&error) => Err(RunError::Memory),
+        Err(error) if error.is_out_of_memory() => Err(RunError::Memory),
         Err(_) => Err(RunError::NodeVersion),
     }
-}
-
-/// Returns `true` if a text was not read because an allocation failed.
-fn is_memory(error: &SemverError) -> bool
-    ensures { IsTrue result ↔ ((refusal_of error.now).kind ≡ out_of_memory) }
-{
-    matches!(error.kind(), SemverErrorKind::OutOfMemory)
 }

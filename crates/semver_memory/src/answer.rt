@@ -1,5 +1,5 @@
 //! The results of calls.
-use node_semver::{Identifier, JsonError, Range, SemverError, SemverErrorKind, Version};
+use node_semver::{Identifier, JsonError, Range, SemverError, Version};
 use semver_cuts::{Cut, Span};
 use serde_json::Value;
 use std::alloc::{AllocError, Global};
@@ -56,8 +56,7 @@ pub(crate) fn print_of_error(alloc: Global, error: &SemverError) -> Result<Strin
 
 /// An error that an allocation failed has an empty text and offset 0.
 fn refusal(error: SemverError) -> Answer {
-    let is_out = matches!(error.kind(), SemverErrorKind::OutOfMemory);
-    if is_out && error.input().is_empty() && error.offset() == 0 {
+    if error.is_out_of_memory() && error.input().is_empty() && error.offset() == 0 {
         return Answer::OutOfMemory;
     }
     Answer::Refusal(error)

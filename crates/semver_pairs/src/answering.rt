@@ -10,14 +10,13 @@ ghost use Rattle.semver_pairs.specs.Private.Answering.{AnswersPast, AnswersRange
 ghost use Rattle.semver_pairs.specs.Private.Answering.{IsAnswerLine, IsReadAs};
 ghost use Rattle.semver_pairs.specs.Private.Splitting.{BeginsWithPair, HasNoNewline};
 ghost use Rattle.semver_sets.specs.Meaning.{RangeAdmits};
-ghost use Rattle.semver_versions.specs.Error.{out_of_memory, refusal_of};
 
 use crate::answers::Answers;
 use crate::gauge::Gauge;
 use crate::lines::{past_line, split_line, without_return};
 use crate::run_error::RunError;
 use crate::text::text_of;
-use node_semver::{Range, SemverError, SemverErrorKind, VersionRef};
+use node_semver::{Range, VersionRef};
 use std::alloc::Global;
 use std::io::Write;
 
@@ -98,7 +97,7 @@ pub(crate) fn answer_range<'b, W: Write>(
         return answer_versions(None, &pair, answers, writer);
     };
     match &Range::parse(alloc, text) {
-        Err(error) if is_out_of_memory(error) => Err(RunError::Memory),
+        Err(error) if error.is_out_of_memory() => Err(RunError::Memory),
         Err(_) => answer_versions(None, &pair, answers, writer),
         Ok(range) => answer_versions(Some(range), &pair, answers, writer),
     }
@@ -172,11 +171,4 @@ fn answer_of(range: Option<&Range>, version: &[u8], is_ascii: bool) -> &'static 
         Ok(_) => "no\n",
         Err(_) => "bad version\n",
     }
-}
-
-/// Returns `true` if the error is that an allocation failed.
-fn is_out_of_memory(error: &SemverError) -> bool
-    ensures { IsTrue result ↔ ((refusal_of error.now).kind ≡ out_of_memory) }
-{
-    matches!(error.kind(), SemverErrorKind::OutOfMemory)
 }

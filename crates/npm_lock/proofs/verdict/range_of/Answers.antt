@@ -6,9 +6,9 @@ use Rattle.npm_lock.proofs.verdict.range_of.Goals as goal
 pub returns-in-Err-2-clause-refused : goal.returns-in-Err-2-clause-refused
 returns-in-Err-2-clause-refused c = elim c.in-Err.ensures.refused [
   | inl memory ↦
-      let told : c.is_memory.result ≡ true =
-      c.is_memory.ensures.1 (ap (λ (refusal : Refusal). refusal.kind) memory) in
-      let no : ⊥ = cc (told, c.if-is_memory.false) in
+      let told : c.is_out_of_memory.result ≡ true =
+      c.is_out_of_memory.ensures.1 (ap (λ (refusal : Refusal). refusal.kind) memory) in
+      let no : ⊥ = cc (told, c.if-is_out_of_memory.false) in
       elim no [ ]
   | inr both ↦ both.1
 ]

@@ -12,6 +12,6 @@ returns-in-Err c = no_memory c.args.text.now refl
 pub returns-in-Err-2 : goal.returns-in-Err-2
 returns-in-Err-2 c = no_version c.args.text.now refl (λ v read.
     let memory = rw c.in-Err.is at (c.parse.ensures.only v read) in
-    let told : c.is_memory.result ≡ true =
-    c.is_memory.ensures.1 (ap (λ (refusal : Refusal). refusal.kind) memory) in
-    cc (told, c.if-is_memory.false))
+    let told : c.is_out_of_memory.result ≡ true =
+    c.is_out_of_memory.ensures.1 (ap (λ (refusal : Refusal). refusal.kind) memory) in
+    cc (told, c.if-is_out_of_memory.false))

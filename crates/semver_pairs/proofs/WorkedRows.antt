@@ -9,9 +9,10 @@ use Rattle.semver_pairs.specs.Pairs.{both, lone, lines_read, pairs_read}
 use Rattle.semver_sets.specs.Comparator.{from_up_to, with_major}
 use Rattle.semver_versions.specs.IdentifierValue.{alphanumeric, numeric}
 use Rattle.semver_sets.specs.Meaning.{TextAdmits}
-use Rattle.semver_versions.specs.Reading.{rest_of, skip_one, skip_plus, read_build, read_extras, prefix_of}
-use Rattle.semver_versions.specs.Reading.{list_rest, list_prefix, read_version, read_number, read_triple, read_dot}
-use Rattle.semver_versions.specs.Reading.{read_prerelease, read_unmarked}
+use Rattle.semver_versions.specs.Readers.Reading.{rest_of, skip_one, skip_plus, read_build, read_extras, prefix_of}
+use Rattle.semver_versions.specs.Readers.Reading.{list_rest, list_prefix, read_version, read_number, read_triple}
+use Rattle.semver_versions.specs.Readers.Reading.{read_dot}
+use Rattle.semver_versions.specs.Readers.Reading.{read_prerelease, read_unmarked}
 use Rattle.semver_versions.specs.Version.{VersionValue, least_of, release}
 use Rattle.semver_versions.specs.Lemmas.Versions.OneReading.{read-version}
 use Rattle.semver_sets.proofs.Examples.RangeComputing.{accepted-by, admits-by, alternatives_in, written-by}

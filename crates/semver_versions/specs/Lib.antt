@@ -35,10 +35,7 @@ pub mod VersionLaws
 pub mod Identifier
 pub mod IdentifierRef
 pub mod EndViews
--- ---- what readers of bytes compute, for the crates above, and lemmas. No contract of `node_semver` uses these.
-pub mod Reading
-pub mod ReadingViews
-pub mod ListedViews
-pub mod FaultViews
-pub mod RefViews
+-- ---- not to be trusted: what readers of bytes compute, for the crates above, and lemmas. No contract of `node_semver`
+-- ---- uses these.
+pub mod Readers
 pub mod Lemmas

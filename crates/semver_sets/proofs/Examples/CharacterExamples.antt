@@ -3,11 +3,12 @@
 use Rattle.std.proofs.Common.{◌≡◌, ℕ, ◌+◌, zero, suc, List, [], ◌∷◌, ◌++◌, Some, Ok, arith, codes, refl}
 use Rattle.std.specs.Prelude.{map, not}
 use Rattle.std.specs.List.{AllByRecursion, filter}
-use Rattle.semver_versions.specs.Characters.{is_blank, is_digit, is_identifier_character, is_partial_mark, is_version_mark}
+use Rattle.semver_versions.specs.Characters.{is_blank, is_digit, is_identifier_character, is_partial_mark}
+use Rattle.semver_versions.specs.Characters.{is_version_mark}
 use Rattle.semver_versions.specs.Characters.{is_x}
 use Rattle.semver_sets.specs.Comparator.{Comparator, exactly}
 use Rattle.semver_versions.specs.IdentifierValue.{alphanumeric}
-use Rattle.semver_versions.specs.Reading.{read_version}
+use Rattle.semver_versions.specs.Readers.Reading.{read_version}
 use Rattle.semver_versions.specs.Version.{VersionValue, release}
 use Rattle.semver_versions.specs.VersionText.{IsVersionText}
 use Rattle.semver_sets.proofs.Examples.RangeComputing.{AreComputed, AreWritten, all-written, alternatives_in}

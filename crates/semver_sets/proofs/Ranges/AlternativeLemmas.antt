@@ -7,7 +7,7 @@ use Rattle.semver_sets.specs.Comparator.{Comparator}
 use Rattle.semver_sets.specs.Division.{AreAlternatives, AreLaterAlternatives, IsAlternative, IsLaterAlternative}
 use Rattle.semver_sets.specs.Division.{IsPieces, IsWritten}
 use Rattle.semver_sets.specs.Private.PieceReading.{piece_at}
-use Rattle.semver_versions.specs.Reading.{prefix_of, rest_of}
+use Rattle.semver_versions.specs.Readers.Reading.{prefix_of, rest_of}
 use Rattle.semver_sets.proofs.Ranges.DivisionLemmas.{alternative-exists, alternative-unique}
 use Rattle.semver_sets.proofs.Ranges.PieceLemmas.{before-more, piece-first, piece-last, piece-shorter, pieces-exist}
 use Rattle.semver_sets.proofs.Ranges.PieceLemmas.{pieces-unique}

@@ -14,7 +14,7 @@ use Rattle.semver_sets.specs.declared.read.full.FullLead.TheVariants.{Caret, Not
 use Rattle.semver_versions.specs.Comparison.{version_cmp}
 use Rattle.semver_versions.specs.Version.{VersionValue, least_of}
 use Rattle.semver_sets.specs.Private.RangeViews.{IsFull, IsFullNumbers, IsOnlyComparator, full_comparator}
-use Rattle.semver_versions.specs.Reading.{rest_of}
+use Rattle.semver_versions.specs.Readers.Reading.{rest_of}
 use Rattle.semver_sets.specs.Private.WordReading.{Lead, caret_lead, no_lead, read_lead, tilde_lead}
 use Rattle.semver_sets.proofs.Words.LeadReading.{lead-none}
 use Rattle.semver_sets.proofs.Ranges.OnlySet.{only-between, only-value}

@@ -7,7 +7,7 @@ use Rattle.semver_versions.specs.Characters.{BeginsWith, BeginsWithNo, dot, is_b
 use Rattle.semver_versions.specs.Characters.{IsCleanEnd}
 use Rattle.semver_sets.specs.PartialText.{Partial}
 use Rattle.semver_sets.specs.Private.WordReading.{ReadPartial, up_to_clean}
-use Rattle.semver_versions.specs.Reading.{is_clean}
+use Rattle.semver_versions.specs.Readers.Reading.{is_clean}
 use Rattle.semver_versions.specs.Lemmas.Texts.Characters.{blank-cases}
 
 -- the test of a clean end, and the fact

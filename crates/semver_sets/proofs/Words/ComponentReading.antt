@@ -5,7 +5,7 @@ use Rattle.std.proofs.lemmas.Bool.{cases_Bool}
 use Rattle.std.proofs.lemmas.Option.{same_Some}
 use Rattle.semver_versions.specs.Characters.{BeginsWith, BeginsWithNo, is_digit, is_x}
 use Rattle.semver_sets.specs.PartialText.{IsComponentText}
-use Rattle.semver_versions.specs.Reading.{Read, read_number}
+use Rattle.semver_versions.specs.Readers.Reading.{Read, read_number}
 use Rattle.semver_sets.specs.Private.WordReading.{number_component, read_component}
 use Rattle.semver_versions.specs.Lemmas.Texts.NumberReading.{number-again, number-takes}
 use Rattle.semver_versions.specs.Lemmas.Texts.Characters.{digit-no_x, x-no_digit}

@@ -9,7 +9,7 @@ use Rattle.semver_sets.specs.Comparator.{Comparator}
 use Rattle.semver_versions.specs.Characters.{IsCleanEnd}
 use Rattle.semver_sets.specs.HyphenRanges.{IsHyphenText, IsLeftText, hyphen_comparator}
 use Rattle.semver_sets.specs.PartialText.{IsPartialText, Partial}
-use Rattle.semver_versions.specs.Reading.{begins, prefix_of, rest_of}
+use Rattle.semver_versions.specs.Readers.Reading.{begins, prefix_of, rest_of}
 use Rattle.semver_sets.specs.Private.WordReading.{ReadPartial, Word, or_else, read_hyphen, read_partial, read_right}
 use Rattle.semver_sets.specs.Private.WordReading.{right_at, said_hyphen, with_left}
 use Rattle.semver_sets.proofs.Texts.CleanEnds.{blanks-clean, true-clean, up_to_clean-takes}

@@ -6,7 +6,7 @@ use Rattle.std.specs.Prelude.{◌==◌, ◌||◌}
 use Rattle.semver_versions.specs.Characters.{BeginsWith, BeginsWithNo, dot, is_blank, is_digit, is_partial_mark, is_x}
 use Rattle.semver_versions.specs.Characters.{IsCleanEnd}
 use Rattle.semver_sets.specs.PartialText.{IsComponentText, IsPartialText, IsUnmarkedPartial, Partial, one, three, two}
-use Rattle.semver_versions.specs.Reading.{rest_of, skip_one}
+use Rattle.semver_versions.specs.Readers.Reading.{rest_of, skip_one}
 use Rattle.semver_sets.specs.Private.WordReading.{read_components, read_partial}
 use Rattle.semver_sets.proofs.Words.DottedReading.{components-again, components-takes, same-read}
 use Rattle.semver_versions.specs.Lemmas.Texts.Marks.{TakesMarked, marked-follows, marked-taken}

@@ -10,8 +10,8 @@ use Rattle.semver_versions.specs.Characters.{BeginsWith, BeginsWithNo, dot, is_b
 use Rattle.semver_sets.specs.PartialText.{Partial, plain_partial}
 use Rattle.semver_sets.specs.Private.RangeViews.{IsFullNumbers}
 use Rattle.semver_versions.specs.Version.{release}
-use Rattle.semver_versions.specs.Reading.{read_dot, read_extras, read_number, read_triple, read_unmarked}
-use Rattle.semver_versions.specs.Reading.{read_version, rest_of, skip_one}
+use Rattle.semver_versions.specs.Readers.Reading.{read_dot, read_extras, read_number, read_triple, read_unmarked}
+use Rattle.semver_versions.specs.Readers.Reading.{read_version, rest_of, skip_one}
 use Rattle.semver_sets.specs.Private.WordReading.{read_component, read_components, read_from_minor}
 use Rattle.semver_sets.specs.Private.WordReading.{read_from_patch, read_partial, with_extras}
 use Rattle.semver_versions.specs.Lemmas.Texts.NumberReading.{number-takes}

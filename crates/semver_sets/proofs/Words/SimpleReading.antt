@@ -12,7 +12,7 @@ use Rattle.semver_versions.specs.Characters.{IsCleanEnd}
 use Rattle.semver_sets.specs.Operators.{operator_text}
 use Rattle.semver_sets.specs.PartialText.{IsLed, IsPartialText, Partial}
 use Rattle.semver_sets.specs.TildeRanges.{with_tilde, with_tilde_greater}
-use Rattle.semver_versions.specs.Reading.{rest_of}
+use Rattle.semver_versions.specs.Readers.Reading.{rest_of}
 use Rattle.semver_sets.specs.Private.WordReading.{Lead, ReadPartial, Word, caret_lead, lead_comparator, no_lead}
 use Rattle.semver_sets.specs.Private.WordReading.{operator, read_lead, read_partial, read_simple, said}
 use Rattle.semver_sets.specs.Private.WordReading.{tilde_greater_lead, tilde_lead, up_to_clean}

@@ -6,9 +6,9 @@ use Rattle.std.specs.Prelude.{◌==◌}
 use Rattle.semver_versions.specs.Characters.{BeginsWithNo, caret, is_blank, is_digit, tilde}
 use Rattle.semver_sets.specs.Operators.{Operator as SpecOperator}
 use Rattle.semver_sets.specs.PartialText.{Partial}
-use Rattle.semver_versions.specs.Reading.{begins, read_number, rest_of, skip_one}
+use Rattle.semver_versions.specs.Readers.Reading.{begins, read_number, rest_of, skip_one}
 use Rattle.semver_sets.specs.Private.WordReading.{Lead, Word, caret_lead, lead_comparator, no_lead, operator}
-use Rattle.semver_versions.specs.Reading.{is_clean}
+use Rattle.semver_versions.specs.Readers.Reading.{is_clean}
 use Rattle.semver_sets.specs.Private.WordReading.{or_else, read_component, read_components, read_hyphen, read_lead}
 use Rattle.semver_sets.specs.Private.WordReading.{read_operator, read_partial, read_right, read_simple, said}
 use Rattle.semver_sets.specs.Private.WordReading.{said_hyphen, tilde_greater_lead, tilde_lead, up_to_clean, with_left}

@@ -11,7 +11,7 @@ use Rattle.semver_sets.specs.Merging.{AreSetsOfText, IsSetOf}
 use Rattle.semver_sets.specs.RangeSets.{IsRangeValue, sets_seen}
 use Rattle.semver_sets.specs.PartialText.{plain_partial}
 use Rattle.semver_versions.specs.Version.{VersionValue, release}
-use Rattle.semver_versions.specs.Reading.{read_version}
+use Rattle.semver_versions.specs.Readers.Reading.{read_version}
 use Rattle.semver_versions.specs.Characters.{BeginsWith, is_digit}
 use Rattle.semver_sets.specs.Private.PieceReading.{piece_at}
 use Rattle.semver_sets.specs.Private.WordViews.{listed}

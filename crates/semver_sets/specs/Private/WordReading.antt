@@ -10,7 +10,7 @@ use Rattle.semver_sets.specs.Operators.{Operator, equal, greater, greater_or_equ
 use Rattle.semver_sets.specs.Operators.{less_or_equal, operator_comparator, plain_comparator}
 use Rattle.semver_sets.specs.PartialText.{Partial, plain_partial, zeroed}
 use Rattle.semver_sets.specs.TildeRanges.{tilde_greater_row, tilde_row}
-use Rattle.semver_versions.specs.Reading.{Read, begins, is_clean, read_extras, read_number, rest_of, skip_one}
+use Rattle.semver_versions.specs.Readers.Reading.{Read, begins, is_clean, read_extras, read_number, rest_of, skip_one}
 
 -- any character but a blank
 abbrev pub is_solid : ℕ → Bool

@@ -7,7 +7,7 @@ use Rattle.semver_sets.specs.Comparator.{Comparator, above, at_least, at_most, b
 use Rattle.semver_sets.specs.Operators.{Operator, equal, greater, greater_or_equal, less, less_or_equal}
 use Rattle.semver_sets.specs.PartialText.{Partial}
 use Rattle.semver_versions.specs.Version.{VersionValue, least_of, without_build}
-use Rattle.semver_versions.specs.Reading.{read_extras}
+use Rattle.semver_versions.specs.Readers.Reading.{read_extras}
 use Rattle.semver_sets.specs.Private.WordReading as Reading
 use Rattle.semver_sets.specs.Private.WordReading.{ReadPartial, Word, with_extras}
 use Rattle.semver_versions.specs.declared.TheConstants.{MAX_SAFE_INTEGER}

@@ -4,7 +4,7 @@
 //! `#[inline(always)]` makes one function of the readers of a word, so that numbers and shapes stay in registers.
 ghost use Rattle.std.specs.Prelude.{◌≡◌, IfSome};
 ghost use Rattle.semver_versions.specs.Characters.{is_blank, is_partial_mark};
-ghost use Rattle.semver_versions.specs.Reading.{read_extras, rest_of, skip_one};
+ghost use Rattle.semver_versions.specs.Readers.Reading.{read_extras, rest_of, skip_one};
 ghost use Rattle.semver_sets.specs.Private.WordReading as Reading;
 ghost use Rattle.semver_sets.specs.Private.WordViews.{IsComponentSound, IsSound, component_seen, component_value};
 ghost use Rattle.semver_sets.specs.Private.WordViews.{has_major, has_minor, has_patch, partial_seen, read_partial_seen};
@@ -120,7 +120,7 @@ fn skip_partial_mark(text: &[u8]) -> &[u8]
 
 // `1.2` of `v 1.2`: the text after an optional `v` and blanks. Most texts begin with a digit.
 #[inline(always)]
-#[tactic(auto, unfolding(semver_versions::specs::Reading::skip_one))]
+#[tactic(auto, unfolding(semver_versions::specs::Readers::Reading::skip_one))]
 fn skip_to_components(text: &[u8]) -> &[u8]
     ensures { result.now ≡ rest_of is_blank (skip_one is_partial_mark text.now) }
 {

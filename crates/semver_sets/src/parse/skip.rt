@@ -1,6 +1,6 @@
 ghost use Rattle.std.specs.Prelude.{◌≡◌};
 ghost use Rattle.semver_sets.specs.Private.WordReading as WordReading;
-ghost use Rattle.semver_versions.specs.Reading as Reading;
+ghost use Rattle.semver_versions.specs.Readers.Reading as Reading;
 
 use memchr::memchr2;
 

@@ -2,7 +2,7 @@
 ghost use Rattle.std.specs.Prelude.{◌≡◌, IfOk, None, OnOk};
 ghost use Rattle.semver_versions.specs.Characters.{BeginsWithNo, is_blank};
 ghost use Rattle.semver_sets.specs.Private.RangeViews.{IsNarrowed, IsSetOfAlternative, IsSpanOfAlternative};
-ghost use Rattle.semver_versions.specs.Reading.{rest_of};
+ghost use Rattle.semver_versions.specs.Readers.Reading.{rest_of};
 ghost use Rattle.semver_sets.specs.Private.WordReading as Reading;
 ghost use Rattle.semver_sets.specs.Private.WordReading.{leading_or_none, read_right};
 ghost use Rattle.semver_sets.specs.Private.WordViews.{ends_seen, word_seen};

@@ -342,7 +342,7 @@ impl<'a> WrittenVersion<'a> {
 
     // `inline(never)`: few versions have extras, and the others then need no stack for them.
     #[inline(never)]
-    #[tactic(auto, unfolding(semver_versions::specs::Reading::read_extras))]
+    #[tactic(auto, unfolding(semver_versions::specs::Readers::Reading::read_extras))]
     fn end_with_extras(&self, alloc: Global) -> Result<EndVersion, AllocError>
         ensures { IfOk result (λ e. e ≡ written_seen self.now) }
     {
@@ -357,7 +357,7 @@ impl<'a> WrittenVersion<'a> {
 
     // The same without the build. `inline(never)`: as above.
     #[inline(never)]
-    #[tactic(auto, unfolding(semver_versions::specs::Reading::read_extras))]
+    #[tactic(auto, unfolding(semver_versions::specs::Readers::Reading::read_extras))]
     fn end_with_prerelease(&self, alloc: Global) -> Result<EndVersion, AllocError>
         ensures { IfOk result (λ e. e ≡ Versions.without_build (written_seen self.now)) }
     {

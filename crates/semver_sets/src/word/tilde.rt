@@ -5,7 +5,7 @@ ghost use Rattle.std.specs.Prelude.{◌≡◌, ◌+◌, Some};
 ghost use Rattle.semver_sets.specs.Comparator as Comparators;
 ghost use Rattle.semver_versions.specs.Version as Versions;
 ghost use Rattle.semver_versions.specs.Characters.{is_blank};
-ghost use Rattle.semver_versions.specs.Reading.{rest_of};
+ghost use Rattle.semver_versions.specs.Readers.Reading.{rest_of};
 ghost use Rattle.semver_sets.specs.PartialText as PartialText;
 ghost use Rattle.semver_sets.specs.TildeRanges as TildeRanges;
 ghost use Rattle.semver_sets.specs.Private.WordReading as Reading;

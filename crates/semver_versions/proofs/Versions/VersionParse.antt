@@ -9,8 +9,8 @@ use Rattle.semver_versions.specs.Lemmas.Texts.Prefixes.{begins-append}
 use Rattle.semver_versions.specs.declared.TheConstants.{MAX_LENGTH}
 use Rattle.semver_versions.specs.Characters.{BeginsWith, is_digit}
 use Rattle.semver_versions.specs.NumberText.{number_of}
-use Rattle.semver_versions.specs.Reading.{Read, prefix_of, read_version}
-use Rattle.semver_versions.specs.ReadingViews.{IsPlainOk, IsMemoryFault}
+use Rattle.semver_versions.specs.Readers.Reading.{Read, prefix_of, read_version}
+use Rattle.semver_versions.specs.Readers.ReadingViews.{IsPlainOk, IsMemoryFault}
 use Rattle.semver_versions.specs.declared.parse.fault.Fault.TheVariants.{TooLarge}
 use Rattle.semver_versions.specs.Version.{VersionValue}
 use Rattle.semver_versions.specs.VersionText.{IsVersionText}
@@ -19,7 +19,7 @@ use Rattle.semver_versions.specs.Lemmas.Texts.NumberReading.{ok-value}
 use Rattle.semver_versions.specs.Lemmas.Versions.OneReading.{read-version, version-read}
 use Rattle.semver_versions.specs.Error.{Kind, context, max_int, max_length, other, parse_int}
 use Rattle.semver_versions.specs.Fault.{IsFault, large_number, left_over, no_number, no_dot, too_large, too_long}
-use Rattle.semver_versions.specs.FaultViews.{IsMemoryOr, kind_in}
+use Rattle.semver_versions.specs.Readers.FaultViews.{IsMemoryOr, kind_in}
 use Rattle.semver_versions.specs.Lemmas.Versions.FaultReading.{behind-there, fault-takes, left-takes}
 
 -- nothing is left

@@ -8,7 +8,7 @@ ghost use Rattle.semver_versions.specs.Identifier.{value_of, values_of};
 ghost use Rattle.semver_versions.specs.IdentifierRef.{borrowed_value};
 ghost use Rattle.semver_versions.specs.IdentifierText as IdentifierText;
 ghost use Rattle.semver_versions.specs.IdentifierText.{IsListed, identifiers_of};
-ghost use Rattle.semver_versions.specs.Reading as Reading;
+ghost use Rattle.semver_versions.specs.Readers.Reading as Reading;
 
 use crate::Identifier;
 use crate::end::{EndVersion, Zero};

@@ -6,8 +6,8 @@ ghost use Rattle.semver_versions.specs.Characters.{AreAll, BeginsWithNo};
 ghost use Rattle.semver_versions.specs.Identifier.{value_of};
 ghost use Rattle.semver_versions.specs.IdentifierText as IdentifierText;
 ghost use Rattle.semver_versions.specs.NumberText.{number_of};
-ghost use Rattle.semver_versions.specs.Reading as Reading;
-ghost use Rattle.semver_versions.specs.ReadingViews.{IsListRead, IsNextIdentifier};
+ghost use Rattle.semver_versions.specs.Readers.Reading as Reading;
+ghost use Rattle.semver_versions.specs.Readers.ReadingViews.{IsListRead, IsNextIdentifier};
 
 use crate::Identifier;
 use crate::parse::number::is_digit;
@@ -175,7 +175,7 @@ pub(crate) fn skip_hyphen(text: &[u8]) -> &[u8]
 
 // The text without the `+` that it begins with, or an empty text if it begins with none.
 #[inline(always)]
-#[tactic(auto, unfolding(crate::specs::Reading::skip_plus))]
+#[tactic(auto, unfolding(crate::specs::Readers::Reading::skip_plus))]
 pub(crate) fn skip_plus(text: &[u8]) -> &[u8]
     ensures { result.now ≡ Reading.skip_plus text.now }
 {
@@ -187,7 +187,7 @@ pub(crate) fn skip_plus(text: &[u8]) -> &[u8]
 
 // An optional prerelease: `-alpha.1`, `alpha.1`
 #[inline(always)]
-#[tactic(auto, unfolding(crate::specs::Reading::read_prerelease))]
+#[tactic(auto, unfolding(crate::specs::Readers::Reading::read_prerelease))]
 pub fn read_prerelease(alloc: Global, text: &[u8]) -> Result<(Vec<Identifier>, &[u8]), AllocError>
     ensures read { IfOk result (IsListRead (Reading.read_prerelease text.now)) }
     ensures plain { (Reading.read_prerelease text.now).0 ≡ [] → IsOk result }
@@ -197,7 +197,7 @@ pub fn read_prerelease(alloc: Global, text: &[u8]) -> Result<(Vec<Identifier>, &
 
 // An optional build: `+5`
 #[inline(always)]
-#[tactic(auto, unfolding(crate::specs::Reading::read_build))]
+#[tactic(auto, unfolding(crate::specs::Readers::Reading::read_build))]
 pub(crate) fn read_build(alloc: Global, text: &[u8]) -> Result<(Vec<Identifier>, &[u8]), AllocError>
     ensures read { IfOk result (IsListRead (Reading.read_build text.now)) }
     ensures plain { (Reading.read_build text.now).0 ≡ [] → IsOk result }

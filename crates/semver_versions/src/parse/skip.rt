@@ -3,8 +3,8 @@
 //! `#[inline(always)]` makes the test, a closure, part of the loop.
 ghost use Rattle.std.specs.Prelude.{◌≡◌, ℕ, Bool, false, IfSome, IfNone, IsTrue};
 ghost use Rattle.semver_versions.specs.Characters as Characters;
-ghost use Rattle.semver_versions.specs.Reading as Reading;
-ghost use Rattle.semver_versions.specs.ReadingViews.{IsTest};
+ghost use Rattle.semver_versions.specs.Readers.Reading as Reading;
+ghost use Rattle.semver_versions.specs.Readers.ReadingViews.{IsTest};
 
 // The longest prefix whose bytes all pass the test, and the rest.
 #[inline(always)]
@@ -32,7 +32,7 @@ pub(crate) fn skip_while<F: Fn(u8) -> bool>(text: &[u8], passes: F) -> &[u8]
 
 // The text without its first byte, if that passes the test.
 #[inline(always)]
-#[tactic(auto, unfolding(crate::specs::Reading::skip_one))]
+#[tactic(auto, unfolding(crate::specs::Readers::Reading::skip_one))]
 pub fn skip_one<F: Fn(u8) -> bool>(text: &[u8], passes: F) -> &[u8]
     requires { F.IsAlwaysCallable passes }
     ensures { (test : ℕ → Bool) → IsTest (F.post passes) test → result.now ≡ Reading.skip_one test text.now }

@@ -1,7 +1,7 @@
 ghost use Rattle.std.specs.Prelude.{◌≡◌, IfOk, IfSome, IsOk, []};
 ghost use Rattle.semver_versions.specs.Characters.{is_blank, is_version_mark};
-ghost use Rattle.semver_versions.specs.Reading as Reading;
-ghost use Rattle.semver_versions.specs.ReadingViews.{IsLeadingTriple, dot_seen, extras_seen, seen};
+ghost use Rattle.semver_versions.specs.Readers.Reading as Reading;
+ghost use Rattle.semver_versions.specs.Readers.ReadingViews.{IsLeadingTriple, dot_seen, extras_seen, seen};
 
 use crate::Identifier;
 use crate::parse::Fault;
@@ -13,7 +13,7 @@ use std::alloc::{AllocError, Global};
 // The text without the dot that it begins with. `inline(always)` in this file: these readers are the usual way of each
 // version, and hand numbers on in registers.
 #[inline(always)]
-#[tactic(auto, unfolding(crate::specs::Reading::read_dot))]
+#[tactic(auto, unfolding(crate::specs::Readers::Reading::read_dot))]
 fn read_dot(text: &[u8]) -> Result<&[u8], Fault>
     ensures { dot_seen result ≡ Reading.read_dot text.now }
 {
@@ -75,7 +75,7 @@ pub fn read_leading_triple(text: &[u8]) -> Option<((u64, u64, u64), &[u8])>
 ///
 /// Allocates the identifiers. Does not allocate if there are none.
 #[inline(always)]
-#[tactic(auto, unfolding(crate::specs::Reading::read_extras, crate::specs::Reading::read_build, crate::specs::Reading::skip_plus))]
+#[tactic(auto, unfolding(crate::specs::Readers::Reading::read_extras, crate::specs::Readers::Reading::read_build, crate::specs::Readers::Reading::skip_plus))]
 pub fn read_extras(
     alloc: Global,
     text: &[u8],

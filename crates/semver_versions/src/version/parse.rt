@@ -1,5 +1,5 @@
 ghost use Rattle.std.specs.Prelude.{◌≡◌, ◌⊎◌, ◌≤◌, [], IfOk, IfErr, IfSome, IsOk, length};
-ghost use Rattle.semver_versions.specs.ReadingViews.{IsBegun};
+ghost use Rattle.semver_versions.specs.Readers.ReadingViews.{IsBegun};
 ghost use Rattle.semver_versions.specs.Print.{version_text};
 ghost use Rattle.semver_versions.specs.declared.TheConstants.{MAX_LENGTH};
 ghost use Rattle.semver_versions.specs.Version.{VersionValue, release};
@@ -7,7 +7,7 @@ ghost use Rattle.semver_versions.specs.declared.parse.fault.Fault.TheVariants.{T
 ghost use Rattle.semver_versions.specs.VersionText.{IsVersionText};
 ghost use Rattle.semver_versions.specs.Error.{IsOutOfMemory, kind_of};
 ghost use Rattle.semver_versions.specs.Fault.{IsFaultOf};
-ghost use Rattle.semver_versions.specs.FaultViews.{IsErrorOf, IsMemoryOr, kind_in};
+ghost use Rattle.semver_versions.specs.Readers.FaultViews.{IsErrorOf, IsMemoryOr, kind_in};
 ghost use Rattle.semver_versions.specs.ReadingBack.{HasText, VersionReadsBack};
 ghost use Rattle.semver_versions.specs.Error.{IsReadAs};
 

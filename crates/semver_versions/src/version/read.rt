@@ -6,8 +6,8 @@ ghost use Rattle.std.specs.Prelude.{◌≡◌};
 ghost use Rattle.semver_versions.specs.Characters as Characters;
 ghost use Rattle.semver_versions.specs.Characters.{BeginsWith};
 ghost use Rattle.semver_versions.specs.NumberText.{number_of};
-ghost use Rattle.semver_versions.specs.Reading as Reading;
-ghost use Rattle.semver_versions.specs.ReadingViews.{Gives, IsBegun, IsPlainOk, version_seen};
+ghost use Rattle.semver_versions.specs.Readers.Reading as Reading;
+ghost use Rattle.semver_versions.specs.Readers.ReadingViews.{Gives, IsBegun, IsPlainOk, version_seen};
 ghost use Rattle.semver_versions.specs.Error.{kind_of};
 ghost use Rattle.semver_versions.specs.Fault as Told;
 
@@ -18,7 +18,7 @@ use std::str;
 
 // `1.2.3-alpha+5` and ` <2.0.0` of 1 and `.2.3-alpha+5 <2.0.0`
 #[inline(always)]
-#[tactic(auto, unfolding(crate::specs::Reading::read_extras, crate::specs::Reading::read_prerelease, crate::specs::Reading::read_build, crate::specs::Reading::skip_one, crate::specs::Reading::skip_plus))]
+#[tactic(auto, unfolding(crate::specs::Readers::Reading::read_extras, crate::specs::Readers::Reading::read_prerelease, crate::specs::Readers::Reading::read_build, crate::specs::Readers::Reading::skip_one, crate::specs::Readers::Reading::skip_plus))]
 fn read_from_major(alloc: Global, major: u64, text: &[u8]) -> Result<(Version, &[u8]), Fault>
     ensures read { Gives version_seen result (Reading.read_from_major (major, text.now)) }
     ensures plain { IsPlainOk result (Reading.read_from_major (major, text.now)) }
@@ -32,7 +32,7 @@ fn read_from_major(alloc: Global, major: u64, text: &[u8]) -> Result<(Version, &
 
 // The triple with the prerelease and the build that follow it.
 #[inline(always)]
-#[tactic(auto, unfolding(crate::specs::Reading::read_extras))]
+#[tactic(auto, unfolding(crate::specs::Readers::Reading::read_extras))]
 fn read_extended(
     alloc: Global,
     triple: (u64, u64, u64),
@@ -55,7 +55,7 @@ fn read_extended(
 
 // `V 1.2.3` and ` <2.0.0` of `V 1.2.3 <2.0.0`
 #[inline(always)]
-#[tactic(auto, unfolding(crate::specs::Reading::read_version, crate::specs::Reading::read_unmarked, crate::specs::Reading::read_triple))]
+#[tactic(auto, unfolding(crate::specs::Readers::Reading::read_version, crate::specs::Readers::Reading::read_unmarked, crate::specs::Readers::Reading::read_triple))]
 pub(crate) fn read_version(alloc: Global, text: &[u8]) -> Result<(Version, &[u8]), Fault>
     ensures read { Gives version_seen result (Reading.read_version text.now) }
     ensures plain { IsPlainOk result (Reading.read_version text.now) }

@@ -2,13 +2,13 @@
 //!
 //! `#[inline(always)]`: the readers hand numbers and slices on in registers.
 ghost use Rattle.std.specs.Prelude.{◌≡◌, IfOk, IfErr};
-ghost use Rattle.semver_versions.specs.Reading as Reading;
-ghost use Rattle.semver_versions.specs.ReadingViews.{seen};
+ghost use Rattle.semver_versions.specs.Readers.Reading as Reading;
+ghost use Rattle.semver_versions.specs.Readers.ReadingViews.{seen};
 ghost use Rattle.semver_versions.specs.Version.{VersionValue};
 ghost use Rattle.semver_versions.specs.VersionText.{IsVersionText};
 ghost use Rattle.semver_versions.specs.declared.parse.fault.Fault.TheVariants.{TooLarge};
-ghost use Rattle.semver_versions.specs.FaultViews.{kind_in};
-ghost use Rattle.semver_versions.specs.RefViews.{IsReadFault};
+ghost use Rattle.semver_versions.specs.Readers.FaultViews.{kind_in};
+ghost use Rattle.semver_versions.specs.Readers.RefViews.{IsReadFault};
 ghost use Rattle.semver_versions.specs.VersionFault.{IsBorrowedAs, IsVersionFault, fault_kind_of};
 
 use crate::identifier::borrowed::borrow_extras;
@@ -72,7 +72,7 @@ fn whole(text: &[u8]) -> Result<VersionRef<'_>, Fault>
 
 // `V 1.2.3` and ` <2.0.0` of `V 1.2.3 <2.0.0`
 #[inline(always)]
-#[tactic(auto, unfolding(crate::specs::Reading::read_version, crate::specs::Reading::read_unmarked, crate::specs::Reading::read_triple))]
+#[tactic(auto, unfolding(crate::specs::Readers::Reading::read_version, crate::specs::Readers::Reading::read_unmarked, crate::specs::Readers::Reading::read_triple))]
 fn read_borrowed(text: &[u8]) -> Result<(VersionRef<'_>, &[u8]), Fault>
     ensures { seen result ≡ Reading.read_version text.now }
 {
@@ -83,7 +83,7 @@ fn read_borrowed(text: &[u8]) -> Result<(VersionRef<'_>, &[u8]), Fault>
 
 // The triple with the prerelease and the build that follow it.
 #[inline(always)]
-#[tactic(auto, unfolding(crate::specs::Reading::read_extras, crate::specs::Reading::read_prerelease, crate::specs::Reading::read_build, crate::specs::Reading::skip_one, crate::specs::Reading::skip_plus))]
+#[tactic(auto, unfolding(crate::specs::Readers::Reading::read_extras, crate::specs::Readers::Reading::read_prerelease, crate::specs::Readers::Reading::read_build, crate::specs::Readers::Reading::skip_one, crate::specs::Readers::Reading::skip_plus))]
 fn read_extended(triple: (u64, u64, u64), text: &[u8]) -> (VersionRef<'_>, &[u8])
     ensures version { result.0 ≡ Reading.version_of triple (Reading.read_extras text.now).0 }
     ensures rest { result.1.now ≡ (Reading.read_extras text.now).1 }

@@ -11,8 +11,8 @@ pub returns-in-Err-2-clause-sets : goal.returns-in-Err-2-clause-sets
 returns-in-Err-2-clause-sets c =
     elim c.in-Err.ensures.refused [
       | inl memory ↦ absurd (cc (
-          c.if-is_out_of_memory.false,
-          c.is_out_of_memory.ensures.1 (ap (λ (r : Refusal). r.kind) memory),
-        ))
+        c.if-is_out_of_memory.false,
+        c.is_out_of_memory.ensures.1 (ap (λ (r : Refusal). r.kind) memory),
+      ))
       | inr refused ↦ refused-sets c.args.text.now refused.1
     ]

@@ -3,7 +3,7 @@ use Rattle.std.specs.Prelude.{◌==◌}
 use Rattle.semver_versions.specs.Characters.{BeginsWithNo, is_blank}
 use Rattle.semver_sets.specs.Comparator.{Comparator}
 use Rattle.semver_sets.specs.Division.{IsAlternative}
-use Rattle.semver_versions.specs.Reading.{rest_of}
+use Rattle.semver_versions.specs.Readers.Reading.{rest_of}
 use Rattle.semver_sets.specs.Private.WordReading.{is_solid, or_else, or_thrown_away, read_hyphen, read_simple}
 use Rattle.semver_sets.specs.Private.WordReading.{read_word}
 use Rattle.semver_sets.proofs.Ranges.DivisionLemmas.{completes-more, completes-nothing, next-shorter}

@@ -3,8 +3,8 @@ use Rattle.std.proofs.Common.{◌≡◌, ℕ, true, List, [], ◌∷◌, Some, R
 use Rattle.std.specs.Borrow.{Bor}
 use Rattle.std.specs.Result.{result_ok}
 use Rattle.semver_versions.specs.Characters.{IsCleanEnd}
-use Rattle.semver_versions.specs.Reading.{is_clean, read_extras}
-use Rattle.semver_versions.specs.ReadingViews.{seen}
+use Rattle.semver_versions.specs.Readers.Reading.{is_clean, read_extras}
+use Rattle.semver_versions.specs.Readers.ReadingViews.{seen}
 use Rattle.semver_versions.specs.declared.parse.fault.Fault.{Fault}
 use Rattle.semver_versions.specs.Lemmas.Texts.ExtrasReading.{extras-again}
 use Rattle.semver_versions.specs.Lemmas.Versions.VersionReading.{clean-ends_extras}

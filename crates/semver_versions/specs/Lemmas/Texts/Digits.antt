@@ -11,7 +11,7 @@ use Rattle.std.specs.Str.Parse.{digits_value_after}
 use Rattle.semver_versions.specs.declared.TheConstants.{MAX_SAFE_INTEGER}
 use Rattle.semver_versions.specs.Characters.{AreAll, BeginsWith, is_digit}
 use Rattle.semver_versions.specs.NumberText.{number_of}
-use Rattle.semver_versions.specs.Reading.{begins, prefix_of, read_number}
+use Rattle.semver_versions.specs.Readers.Reading.{begins, prefix_of, read_number}
 use Rattle.semver_versions.specs.declared.parse.fault.Fault.TheVariants.{TooLarge}
 use Rattle.semver_versions.specs.Lemmas.Texts.Prefixes.{with-begins}
 use Rattle.semver_versions.specs.Lemmas.Texts.NumberReading.{refusal}

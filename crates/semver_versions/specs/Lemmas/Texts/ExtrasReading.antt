@@ -6,10 +6,11 @@ use Rattle.std.specs.Prelude.{◌==◌}
 use Rattle.semver_versions.specs.Characters.{BeginsWith, BeginsWithNo, hyphen, is_identifier_character, plus, dot}
 use Rattle.semver_versions.specs.IdentifierText.{IsBuildText, IsExtrasText, IsIdentifierList, IsPrereleaseText}
 use Rattle.semver_versions.specs.IdentifierValue.{IdentifierValue}
-use Rattle.semver_versions.specs.Reading.{skip_one, skip_plus, begins, read_build, read_extras, list_rest}
-use Rattle.semver_versions.specs.Reading.{list_prefix, read_list_or, list_values, read_prerelease}
+use Rattle.semver_versions.specs.Readers.Reading.{skip_one, skip_plus, begins, read_build, read_extras, list_rest}
+use Rattle.semver_versions.specs.Readers.Reading.{list_prefix, read_list_or, list_values, read_prerelease}
 use Rattle.semver_versions.specs.Lemmas.Texts.Prefixes.{begins-append, with-begins}
-use Rattle.semver_versions.specs.Lemmas.Texts.IdentifierReading.{EndsExtras, ends-list, ends-plus, first-stays, goes_on-character}
+use Rattle.semver_versions.specs.Lemmas.Texts.IdentifierReading.{EndsExtras, ends-list, ends-plus, first-stays}
+use Rattle.semver_versions.specs.Lemmas.Texts.IdentifierReading.{goes_on-character}
 use Rattle.semver_versions.specs.Lemmas.Texts.IdentifierReading.{is_of_list, list-again, list-takes, list-whole}
 use Rattle.semver_versions.specs.Lemmas.Texts.IdentifierReading.{pick-false, pick-true, some-values, stops-list}
 use Rattle.semver_versions.specs.Lemmas.Texts.Characters.{other-no_hyphen}

@@ -7,7 +7,7 @@ use Rattle.std.specs.List.{AllByRecursion, list_all}
 use Rattle.semver_versions.specs.Characters.{AreAll, BeginsWith, BeginsWithNo, is_identifier_character, plus, dot}
 use Rattle.semver_versions.specs.IdentifierText.{IsIdentifierList, IsIdentifierText, identifier_of, parts_of}
 use Rattle.semver_versions.specs.IdentifierValue.{IdentifierValue}
-use Rattle.semver_versions.specs.Reading.{begins, goes_on, list_rest, list_prefix, list_values}
+use Rattle.semver_versions.specs.Readers.Reading.{begins, goes_on, list_rest, list_prefix, list_values}
 use Rattle.semver_versions.specs.Lemmas.Texts.Prefixes.{begins-append, with-begins}
 use Rattle.semver_versions.specs.Lemmas.Texts.Characters.{character-no_dot}
 

@@ -9,10 +9,13 @@ use Rattle.semver_versions.specs.IdentifierText.{identifier_of, parts_of}
 use Rattle.semver_versions.specs.Identifier.{value_of, values_of}
 use Rattle.semver_versions.specs.IdentifierValue.{IdentifierValue}
 use Rattle.semver_versions.specs.declared.identifier.Identifier.{Identifier}
-use Rattle.semver_versions.specs.ReadingViews.{IsNextIdentifier}
-use Rattle.semver_versions.specs.Reading.{rest_of, begins, prefix_of, goes_on, list_rest, list_prefix, list_values}
-use Rattle.semver_versions.specs.Lemmas.Texts.Prefixes.{prefix_of-rest_of, prefix_of-all, prefix_of-empty, prefix_of-some}
-use Rattle.semver_versions.specs.Lemmas.Texts.IdentifierReading.{goes_on-dot, list-none, list-through, parts-other, parts-dot}
+use Rattle.semver_versions.specs.Readers.ReadingViews.{IsNextIdentifier}
+use Rattle.semver_versions.specs.Readers.Reading.{rest_of, begins, prefix_of, goes_on, list_rest, list_prefix}
+use Rattle.semver_versions.specs.Readers.Reading.{list_values}
+use Rattle.semver_versions.specs.Lemmas.Texts.Prefixes.{prefix_of-rest_of, prefix_of-all, prefix_of-empty}
+use Rattle.semver_versions.specs.Lemmas.Texts.Prefixes.{prefix_of-some}
+use Rattle.semver_versions.specs.Lemmas.Texts.IdentifierReading.{goes_on-dot, list-none, list-through, parts-other}
+use Rattle.semver_versions.specs.Lemmas.Texts.IdentifierReading.{parts-dot}
 use Rattle.semver_versions.specs.Lemmas.Texts.Characters.{character-no_dot}
 
 -- the parts of identifier characters, with a dot after them or nothing

@@ -1,14 +1,16 @@
 -- Texts of identifiers: their first identifier, and those after it.
-use Rattle.std.proofs.Common.{◌≡◌, ◌<◌, ◌-◌, ◌≤◌, ℕ, true, false, List, [], ◌∷◌, ◌++◌, refl, sym, ap, ◌∙◌, inl, inr, subst}
+use Rattle.std.proofs.Common.{◌≡◌, ◌<◌, ◌-◌, ◌≤◌, ℕ, true, false, List, [], ◌∷◌, ◌++◌, refl, sym, ap, ◌∙◌, inl, inr}
+use Rattle.std.proofs.Common.{subst}
 use Rattle.std.proofs.Common.{arith, length, length-append, drop, take}
 use Rattle.std.proofs.lemmas.Bool.{and_parts, cases_Bool, eqb-true}
 use Rattle.std.specs.Prelude.{◌==◌, map}
 use Rattle.std.specs.List.{AllByRecursion, list_all}
 use Rattle.semver_versions.specs.Characters.{AreAll, BeginsWithNo, is_identifier_character, dot}
-use Rattle.semver_versions.specs.IdentifierText.{IsIdentifierText, IsListed, identifier_of, identifiers_of, parts_of, texts_of}
+use Rattle.semver_versions.specs.IdentifierText.{IsIdentifierText, IsListed, identifier_of, identifiers_of, parts_of}
+use Rattle.semver_versions.specs.IdentifierText.{texts_of}
 use Rattle.semver_versions.specs.IdentifierValue.{IdentifierValue}
-use Rattle.semver_versions.specs.ListedViews.{IsFirstSplit, IsListSplit, is_inner}
-use Rattle.semver_versions.specs.Reading.{begins, list_prefix, list_rest, prefix_of, read_list_or, rest_of}
+use Rattle.semver_versions.specs.Readers.ListedViews.{IsFirstSplit, IsListSplit, is_inner}
+use Rattle.semver_versions.specs.Readers.Reading.{begins, list_prefix, list_rest, prefix_of, read_list_or, rest_of}
 use Rattle.semver_versions.specs.Lemmas.Texts.Characters.{character-no_dot}
 use Rattle.semver_versions.specs.Lemmas.Texts.Places.{to-end}
 use Rattle.semver_versions.specs.Lemmas.Texts.Prefixes.{prefix_of-rest_of}

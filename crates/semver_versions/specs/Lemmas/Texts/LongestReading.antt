@@ -14,14 +14,19 @@ use Rattle.semver_versions.specs.IdentifierValue.{IdentifierValue}
 use Rattle.semver_versions.specs.NumberText.{IsNumberText, number_of}
 use Rattle.semver_versions.specs.Version.{VersionValue}
 use Rattle.semver_versions.specs.VersionText.{IsMarked, IsUnmarkedVersion}
-use Rattle.semver_versions.specs.Reading.{rest_of, skip_one, skip_plus, begins, read_build, read_extras, prefix_of}
-use Rattle.semver_versions.specs.Reading.{goes_on, list_rest, read_list_or, read_version, read_number, read_triple}
-use Rattle.semver_versions.specs.Reading.{read_prerelease, read_unmarked, version_of}
+use Rattle.semver_versions.specs.Readers.Reading.{rest_of, skip_one, skip_plus, begins, read_build, read_extras}
+use Rattle.semver_versions.specs.Readers.Reading.{prefix_of}
+use Rattle.semver_versions.specs.Readers.Reading.{goes_on, list_rest, read_list_or, read_version, read_number}
+use Rattle.semver_versions.specs.Readers.Reading.{read_triple}
+use Rattle.semver_versions.specs.Readers.Reading.{read_prerelease, read_unmarked, version_of}
 use Rattle.semver_versions.specs.Lemmas.Texts.Prefixes.{begins-append, prefix_of-rest_of, rest_of-all, with-begins}
-use Rattle.semver_versions.specs.Lemmas.Texts.ExtrasReading.{build-takes, read_build-other, read_build-plus, read_list_or-none}
+use Rattle.semver_versions.specs.Lemmas.Texts.ExtrasReading.{build-takes, read_build-other, read_build-plus}
+use Rattle.semver_versions.specs.Lemmas.Texts.ExtrasReading.{read_list_or-none}
 use Rattle.semver_versions.specs.Lemmas.Texts.ExtrasReading.{read_list_or-some, prerelease-again, prerelease-listed}
-use Rattle.semver_versions.specs.Lemmas.Texts.ExtrasReading.{prerelease-takes, read_prerelease-hyphen, read_prerelease-other}
-use Rattle.semver_versions.specs.Lemmas.Texts.IdentifierReading.{GoOn, begins-first, goes_on-character, list-through, list-whole}
+use Rattle.semver_versions.specs.Lemmas.Texts.ExtrasReading.{prerelease-takes, read_prerelease-hyphen}
+use Rattle.semver_versions.specs.Lemmas.Texts.ExtrasReading.{read_prerelease-other}
+use Rattle.semver_versions.specs.Lemmas.Texts.IdentifierReading.{GoOn, begins-first, goes_on-character, list-through}
+use Rattle.semver_versions.specs.Lemmas.Texts.IdentifierReading.{list-whole}
 use Rattle.semver_versions.specs.Lemmas.Texts.IdentifierReading.{parts-shape}
 use Rattle.semver_versions.specs.Lemmas.Texts.NumberReading.{answer, bind-ok, number-again, ok-value, dot-again}
 use Rattle.semver_versions.specs.Lemmas.Versions.VersionReading.{numbers-takes, regroup, version-follows}

@@ -4,7 +4,7 @@ use Rattle.std.proofs.Common.{append_assoc}
 use Rattle.std.proofs.lemmas.Bool.{cases_Bool}
 use Rattle.semver_versions.specs.Characters.{BeginsWithNo, is_blank, mark_of}
 use Rattle.semver_versions.specs.VersionText.{IsMarked}
-use Rattle.semver_versions.specs.Reading.{prefix_of, rest_of, skip_one}
+use Rattle.semver_versions.specs.Readers.Reading.{prefix_of, rest_of, skip_one}
 use Rattle.semver_versions.specs.Lemmas.Texts.Prefixes.{prefix_of-all, prefix_of-rest_of, rest_of-again}
 
 -- a text is its mark and the rest

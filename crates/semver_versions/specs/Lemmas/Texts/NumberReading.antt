@@ -5,9 +5,10 @@ use Rattle.std.specs.Prelude.{◌==◌, Result, nat_le}
 use Rattle.semver_versions.specs.declared.TheConstants.{MAX_SAFE_INTEGER}
 use Rattle.semver_versions.specs.Characters.{BeginsWithNo, is_digit, dot}
 use Rattle.semver_versions.specs.NumberText.{IsNumberText, number_of}
-use Rattle.semver_versions.specs.Reading.{◌>>=◌, rest_of, begins, prefix_of, read_number, read_dot}
+use Rattle.semver_versions.specs.Readers.Reading.{◌>>=◌, rest_of, begins, prefix_of, read_number, read_dot}
 use Rattle.semver_versions.specs.declared.parse.fault.Fault.{Fault}
-use Rattle.semver_versions.specs.Lemmas.Texts.Prefixes.{rest_of-again, rest_of-no, begins-append, begins-with, prefix_of-rest_of}
+use Rattle.semver_versions.specs.Lemmas.Texts.Prefixes.{rest_of-again, rest_of-no, begins-append, begins-with}
+use Rattle.semver_versions.specs.Lemmas.Texts.Prefixes.{prefix_of-rest_of}
 use Rattle.semver_versions.specs.Lemmas.Texts.Prefixes.{prefix_of-again, prefix_of-all, prefix_of-begins, with-begins}
 
 -- a chain of two readers that succeeds

@@ -3,7 +3,7 @@ use Rattle.std.proofs.Common.{◌≡◌, ◌+◌, ◌-◌, ◌<◌, ◌≤◌, �
 use Rattle.std.proofs.Common.{drop, refl, sym, ap, ◌∙◌, add-one, append-nil, append_assoc, drop-cons, suc, zero, arith}
 use Rattle.std.proofs.lemmas.List.{drop_all, take_rest}
 use Rattle.std.proofs.Math.Seq.{take-suc}
-use Rattle.semver_versions.specs.Reading.{rest_of, prefix_of}
+use Rattle.semver_versions.specs.Readers.Reading.{rest_of, prefix_of}
 
 -- the text from a place on
 pub at-place : (s : List ℕ) (i : ℕ) → i < length s → drop i s ≡ get_or s i 0 ∷ drop (i + 1) s

@@ -4,7 +4,7 @@ use Rattle.std.proofs.lemmas.Bool.{and_from, and_parts, cases_Bool, eqb-true}
 use Rattle.std.specs.Prelude.{◌==◌}
 use Rattle.std.specs.List.{list_all}
 use Rattle.semver_versions.specs.Characters.{AreAll, BeginsWith, BeginsWithNo}
-use Rattle.semver_versions.specs.Reading.{rest_of, begins, prefix_of}
+use Rattle.semver_versions.specs.Readers.Reading.{rest_of, begins, prefix_of}
 
 -- the two together are the text
 pub prefix_of-rest_of : (test : ℕ → Bool) (text : List ℕ) → prefix_of test text ++ rest_of test text ≡ text

@@ -2,9 +2,10 @@
 use Rattle.std.proofs.Common.{◌≡◌, ℕ, ◌-◌, List, [], ◌∷◌, length, refl, ap, arith, subst}
 use Rattle.std.specs.Prelude.{Option, Some, codes}
 use Rattle.semver_versions.specs.IdentifierValue.{IdentifierValue, alphanumeric, numeric}
-use Rattle.semver_versions.specs.Reading.{rest_of, skip_one, skip_plus, read_build, read_extras, prefix_of}
-use Rattle.semver_versions.specs.Reading.{list_rest, list_prefix, read_version, read_number, read_triple, read_dot}
-use Rattle.semver_versions.specs.Reading.{read_prerelease, read_unmarked}
+use Rattle.semver_versions.specs.Readers.Reading.{rest_of, skip_one, skip_plus, read_build, read_extras, prefix_of}
+use Rattle.semver_versions.specs.Readers.Reading.{list_rest, list_prefix, read_version, read_number, read_triple}
+use Rattle.semver_versions.specs.Readers.Reading.{read_dot}
+use Rattle.semver_versions.specs.Readers.Reading.{read_prerelease, read_unmarked}
 use Rattle.semver_versions.specs.Version.{VersionValue}
 use Rattle.semver_versions.specs.VersionText.{IsVersionText}
 use Rattle.semver_versions.specs.Lemmas.Versions.OneReading.{read-version}

@@ -11,11 +11,12 @@ use Rattle.semver_versions.specs.Characters.{BeginsWithNo, dot, is_blank, is_dig
 use Rattle.semver_versions.specs.NumberText.{IsNumberText, number_of}
 use Rattle.semver_versions.specs.Version.{VersionValue}
 use Rattle.semver_versions.specs.VersionText.{IsVersionText}
-use Rattle.semver_versions.specs.Reading.{◌>>=◌, rest_of, skip_one, begins, prefix_of, read_version, read_number}
-use Rattle.semver_versions.specs.Reading.{read_triple, read_dot, read_unmarked}
+use Rattle.semver_versions.specs.Readers.Reading.{◌>>=◌, rest_of, skip_one, begins, prefix_of, read_version}
+use Rattle.semver_versions.specs.Readers.Reading.{read_number}
+use Rattle.semver_versions.specs.Readers.Reading.{read_triple, read_dot, read_unmarked}
 use Rattle.semver_versions.specs.declared.parse.fault.Fault.{Fault}
 use Rattle.semver_versions.specs.declared.parse.fault.Fault.TheVariants.{Missing, TooLarge}
-use Rattle.semver_versions.specs.ReadingViews.{left_of}
+use Rattle.semver_versions.specs.Readers.ReadingViews.{left_of}
 use Rattle.semver_versions.specs.Lemmas.Texts.Prefixes.{rest_of-no, begins-with, begins-with_no, prefix_of-rest_of}
 use Rattle.semver_versions.specs.Lemmas.Texts.Prefixes.{prefix_of-again, prefix_of-all, prefix_of-begins}
 use Rattle.semver_versions.specs.Lemmas.Texts.LongestReading.{version-longest, version-no_digit}
@@ -25,7 +26,7 @@ use Rattle.semver_versions.specs.Lemmas.Versions.VersionReading.{version-takes}
 use Rattle.semver_versions.specs.Error.{Kind, context, other}
 use Rattle.semver_versions.specs.Fault.{IsAllDigits, IsFault, HasPrefix, large_number, left_over, no_number, no_dot}
 use Rattle.semver_versions.specs.Fault.{too_large, with_dots}
-use Rattle.semver_versions.specs.FaultViews.{kind_in}
+use Rattle.semver_versions.specs.Readers.FaultViews.{kind_in}
 
 -- a chain that gave a fault
 pub bind-err : {A B : Type 0} (r : Result A Fault) (f : A → Result B Fault) (e : Fault) → (r >>= f) ≡ Err e

@@ -6,9 +6,9 @@ use Rattle.std.specs.Borrow.{Bor}
 use Rattle.std.specs.Prelude.{IfSome, Result}
 use Rattle.std.specs.Result.{result_ok}
 use Rattle.semver_versions.specs.Characters.{BeginsWith, is_blank, is_digit, is_version_mark}
-use Rattle.semver_versions.specs.Reading.{begins, read_extended, read_minor_and_patch, read_number}
-use Rattle.semver_versions.specs.Reading.{read_triple, read_unmarked, read_version, rest_of, skip_one}
-use Rattle.semver_versions.specs.ReadingViews.{IsLeadingTriple, seen}
+use Rattle.semver_versions.specs.Readers.Reading.{begins, read_extended, read_minor_and_patch, read_number}
+use Rattle.semver_versions.specs.Readers.Reading.{read_triple, read_unmarked, read_version, rest_of, skip_one}
+use Rattle.semver_versions.specs.Readers.ReadingViews.{IsLeadingTriple, seen}
 use Rattle.semver_versions.specs.Version.{release}
 use Rattle.semver_versions.specs.VersionText.{IsVersionText}
 use Rattle.semver_versions.specs.declared.TheConstants.{MAX_LENGTH}

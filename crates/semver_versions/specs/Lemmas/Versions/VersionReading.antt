@@ -8,13 +8,14 @@ use Rattle.semver_versions.specs.Characters.{IsCleanEnd}
 use Rattle.semver_versions.specs.NumberText.{IsNumberText}
 use Rattle.semver_versions.specs.Version.{VersionValue}
 use Rattle.semver_versions.specs.VersionText.{IsMarked, IsUnmarkedVersion}
-use Rattle.semver_versions.specs.Reading.{read_dot, read_extras, read_number, read_triple, read_unmarked}
-use Rattle.semver_versions.specs.Reading.{read_version, rest_of, skip_one, version_of}
+use Rattle.semver_versions.specs.Readers.Reading.{read_dot, read_extras, read_number, read_triple, read_unmarked}
+use Rattle.semver_versions.specs.Readers.Reading.{read_version, rest_of, skip_one, version_of}
 use Rattle.semver_versions.specs.Lemmas.Texts.Marks.{TakesMarked, marked-follows, marked-taken}
 use Rattle.semver_versions.specs.Lemmas.Texts.Prefixes.{begins-append, no-append}
 use Rattle.semver_versions.specs.Lemmas.Texts.ExtrasReading.{extras-again, extras-takes}
 use Rattle.semver_versions.specs.Lemmas.Texts.IdentifierReading.{EndsExtras}
-use Rattle.semver_versions.specs.Lemmas.Texts.NumberReading.{bind-ok, number-again, number-takes, ok-value, dot-again, dot-takes}
+use Rattle.semver_versions.specs.Lemmas.Texts.NumberReading.{bind-ok, number-again, number-takes, ok-value, dot-again}
+use Rattle.semver_versions.specs.Lemmas.Texts.NumberReading.{dot-takes}
 use Rattle.semver_versions.specs.Lemmas.Texts.Characters.{blank-cases, digit-no_blank, digit-no_version_mark}
 
 -- three numbers with dots between them, at the start of a text

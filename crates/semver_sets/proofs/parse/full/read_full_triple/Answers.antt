@@ -1,5 +1,5 @@
 use Rattle.std.proofs.Common.{◌∙◌, ℕ, List, Ok, arith}
-use Rattle.semver_versions.specs.Reading.{Read}
+use Rattle.semver_versions.specs.Readers.Reading.{Read}
 use Rattle.semver_sets.proofs.Words.PartialViews.{behind-dot, full-text}
 use Rattle.semver_versions.specs.Lemmas.Texts.CleanExtras.{read-ok}
 use Rattle.semver_sets.proofs.Words.WordViews.{no-bytes}

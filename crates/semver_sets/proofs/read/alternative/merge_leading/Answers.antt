@@ -3,7 +3,7 @@ use Rattle.std.proofs.lemmas.List.{append-nil}
 use Rattle.semver_versions.specs.Characters.{is_blank}
 use Rattle.semver_sets.specs.Comparator.{Comparator}
 use Rattle.semver_sets.specs.Private.RangeViews.{IsCommonSpan}
-use Rattle.semver_versions.specs.Reading.{begins}
+use Rattle.semver_versions.specs.Readers.Reading.{begins}
 use Rattle.semver_sets.specs.Private.WordReading.{leading_or_none, read_right}
 use Rattle.semver_versions.specs.Lemmas.Texts.Prefixes.{begins-with_no, rest_of-none}
 use Rattle.semver_sets.proofs.read.alternative.merge_leading.Goals as goal

@@ -5,7 +5,7 @@ use Rattle.std.proofs.lemmas.Bool.{eqb-true}
 use Rattle.semver_versions.specs.Characters.{BeginsWithNo, is_blank}
 use Rattle.semver_sets.specs.Comparator.{Comparator}
 use Rattle.semver_sets.specs.Private.RangeViews.{IsCommonSpan}
-use Rattle.semver_versions.specs.Reading.{rest_of}
+use Rattle.semver_versions.specs.Readers.Reading.{rest_of}
 use Rattle.semver_sets.specs.Private.WordReading.{leading_or_none, read_right, read_word}
 use Rattle.semver_sets.specs.Private.WordViews.{listed}
 use Rattle.semver_sets.proofs.Ranges.DivisionLemmas.{Completes, completes-end, completes-leading, completes-more}

@@ -1,4 +1,4 @@
-use Rattle.semver_versions.specs.Reading.{read_build}
+use Rattle.semver_versions.specs.Readers.Reading.{read_build}
 use Rattle.semver_versions.specs.Lemmas.Texts.ExtrasReading.{read_list_or-plain}
 use Rattle.semver_versions.proofs.parse.identifiers.read_build.Goals as goal
 

@@ -1,7 +1,7 @@
 use Rattle.std.proofs.Common.{◌≡◌, ◌∷◌, [], ℕ, List, arith, ap, sym, ◌∙◌, length, append-nil, subst, length-append}
 use Rattle.semver_versions.specs.Characters.{BeginsWithNo, is_identifier_character, dot}
 use Rattle.semver_versions.specs.IdentifierText.{identifier_of}
-use Rattle.semver_versions.specs.Reading.{rest_of, prefix_of, list_values}
+use Rattle.semver_versions.specs.Readers.Reading.{rest_of, prefix_of, list_values}
 use Rattle.semver_versions.specs.Lemmas.Texts.Prefixes.{rest_of-no, prefix_of-rest_of, prefix_of-all}
 use Rattle.semver_versions.specs.Lemmas.Texts.ListReading.{list-last, list-more, values-more}
 use Rattle.semver_versions.proofs.parse.identifiers.read_identifiers.Goals as goal

@@ -1,7 +1,7 @@
 use Rattle.std.proofs.Common.{◌≡◌, ◌++◌, ℕ, List, length}
 use Rattle.semver_versions.specs.Characters.{is_identifier_character}
 use Rattle.semver_versions.specs.Identifier.{values_of}
-use Rattle.semver_versions.specs.Reading.{rest_of, prefix_of, list_rest, list_values}
+use Rattle.semver_versions.specs.Readers.Reading.{rest_of, prefix_of, list_rest, list_values}
 use Rattle.semver_versions.proofs.parse.identifiers.read_identifiers.Given as goal
 
 -- the identifiers so far and those from here on are those of the text

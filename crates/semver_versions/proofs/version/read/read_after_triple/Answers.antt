@@ -1,5 +1,5 @@
 use Rattle.std.proofs.Common.{subst, sym}
-use Rattle.semver_versions.specs.ReadingViews.{Gives, IsPlainOk, version_seen}
+use Rattle.semver_versions.specs.Readers.ReadingViews.{Gives, IsPlainOk, version_seen}
 use Rattle.semver_versions.specs.Lemmas.Versions.LeadingTriple.{leading-version}
 use Rattle.semver_versions.proofs.version.read.read_after_triple.Goals as goal
 

@@ -2,10 +2,11 @@
 use Rattle.std.specs.Prelude.{◌-◌, ◌⊎◌, List, ℕ, codes, drop, length}
 use Rattle.semver_versions.specs.Characters.{is_digit}
 use Rattle.semver_versions.specs.NumberText.{number_of}
-use Rattle.semver_versions.specs.Reading.{prefix_of}
-use Rattle.semver_versions.specs.ReadingViews.{IsMemoryFault, left_of}
+use Rattle.semver_versions.specs.Readers.Reading.{prefix_of}
+use Rattle.semver_versions.specs.Readers.ReadingViews.{IsMemoryFault, left_of}
 use Rattle.semver_versions.specs.declared.parse.fault.Fault.{Fault}
-use Rattle.semver_versions.specs.declared.parse.fault.Fault.TheVariants.{LeftOver, Missing, OutOfMemory, TooLarge, TooLong}
+use Rattle.semver_versions.specs.declared.parse.fault.Fault.TheVariants.{LeftOver, Missing, OutOfMemory, TooLarge}
+use Rattle.semver_versions.specs.declared.parse.fault.Fault.TheVariants.{TooLong}
 use Rattle.semver_versions.specs.Error.{IsOutOfMemory, IsRefusalAt, Kind, context, max_length, other, out_of_memory}
 use Rattle.semver_versions.specs.Fault.{IsFault, too_large}
 use Rattle.semver_versions.specs.declared.error.SemverError.{SemverError}

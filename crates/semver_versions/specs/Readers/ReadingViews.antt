@@ -7,12 +7,13 @@ use Rattle.std.specs.declared.alloc.Global.{Global}
 use Rattle.semver_versions.specs.Version.{VersionValue}
 use Rattle.semver_versions.specs.declared.TheConstants.{MAX_LENGTH}
 use Rattle.semver_versions.specs.Characters.{BeginsWith, is_digit, is_identifier_character, dot}
-use Rattle.semver_versions.specs.Reading.{Read, rest_of, begins, prefix_of, read_triple}
+use Rattle.semver_versions.specs.Readers.Reading.{Read, rest_of, begins, prefix_of, read_triple}
 use Rattle.semver_versions.specs.Identifier.{values_of}
 use Rattle.semver_versions.specs.IdentifierValue.{IdentifierValue}
 use Rattle.semver_versions.specs.declared.identifier.Identifier.{Identifier}
 use Rattle.semver_versions.specs.declared.parse.fault.Fault.{Fault}
-use Rattle.semver_versions.specs.declared.parse.fault.Fault.TheVariants.{LeftOver, Missing, OutOfMemory, TooLarge, TooLong}
+use Rattle.semver_versions.specs.declared.parse.fault.Fault.TheVariants.{LeftOver, Missing, OutOfMemory, TooLarge}
+use Rattle.semver_versions.specs.declared.parse.fault.Fault.TheVariants.{TooLong}
 
 -- a function of the code returns for each byte what this test returns
 abbrev pub IsTest : (ℕ → Bool → Type 0) → (ℕ → Bool) → Type 0

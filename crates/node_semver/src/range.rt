@@ -112,6 +112,8 @@ impl Range {
     /// # Examples
     ///
     /// `^1.2.3`, `1.2 - 3`, `foo >= v 1.0.0` and `foo || 2` are read. `foo` is not read.
+    // `inline(always)`: the range is built in the place of the caller's result. A call costs a third more.
+    #[inline(always)]
     pub fn parse(alloc: Global, text: &str) -> Result<Range, SemverError>
         ensures { IsRangeAnswer text.now result }
     {

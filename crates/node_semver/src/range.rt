@@ -25,9 +25,11 @@ pub use greatest::{max_satisfying, min_satisfying};
 use semver_cuts::{Cut, Span};
 use semver_sets::laws::{a_text_means_its_sets, prints_are_read_back};
 use semver_sets::read::Unread;
+use semver_sets::read::full::{FullLead, caret_set, exact_set, read_full, tilde_set};
 use semver_sets::set_list::Sets;
 use semver_sets::set_list::gathered::Gathered;
 use semver_versions::Admits;
+use semver_versions::end::EndVersion;
 use std::alloc::{AllocError, Global};
 use std::marker::Model;
 
@@ -112,16 +114,24 @@ impl Range {
     /// # Examples
     ///
     /// `^1.2.3`, `1.2 - 3`, `foo >= v 1.0.0` and `foo || 2` are read. `foo` is not read.
-    // `inline(always)`: the range is built in the place of the caller's result. A call costs a third more.
-    #[inline(always)]
+    // A full version after `^`, `~` or nothing is most ranges. It is read here: through `Sets::read` its set would be
+    // copied once more.
     pub fn parse(alloc: Global, text: &str) -> Result<Range, SemverError>
         ensures { IsRangeAnswer text.now result }
     {
         a_text_means_its_sets();
         prints_are_read_back();
-        match Sets::read(alloc, text.as_bytes()) {
-            Ok(sets) => Ok(Range { sets }),
-            Err(unread) => Err(unread_error(alloc, text, unread)),
+        match read_full(text.as_bytes()) {
+            Some((FullLead::Caret, major, minor, patch)) => {
+                Ok(Range::of_set(caret_set(major, minor, patch)))
+            }
+            Some((FullLead::Tilde, major, minor, patch)) => {
+                Ok(Range::of_set(tilde_set(major, minor, patch)))
+            }
+            Some((FullLead::Nothing, major, minor, patch)) => {
+                Ok(Range::of_set(exact_set(major, minor, patch)))
+            }
+            None => read_words(alloc, text),
         }
     }
 
@@ -149,9 +159,7 @@ impl Range {
         ensures all { IfOk result (λ r. r ≡ all_cuts ∷ []) }
         ensures holds { IfOk result IsRangeValue }
     {
-        Ok(Range {
-            sets: Sets::One(Span::between(Cut::Start, Cut::End)),
-        })
+        Ok(Range::of_set(Span::between(Cut::Start, Cut::End)))
     }
 
     /// Returns `true` if the version satisfies the range.
@@ -208,6 +216,17 @@ impl Range {
         self.sets.admits(version, comparisons)
     }
 
+    // The range of one set. `inline(always)`: it is built in the place of the caller's result.
+    #[inline(always)]
+    fn of_set(set: Span<EndVersion>) -> Range
+        requires { IsRangeSet set }
+        ensures { result ≡ set ∷ [] }
+    {
+        Range {
+            sets: Sets::One(set),
+        }
+    }
+
     // The range of the sets, or `None` if there are none. `inline(always)`: the range is built in the place of the
     // caller's result.
     #[inline(always)]
@@ -221,6 +240,28 @@ impl Range {
             Ok(None) => Ok(None),
             Err(error) => Err(error),
         }
+    }
+}
+
+// The range of any text. `inline(always)`: with this function of one line between, the toolchain clears the place of the
+// result only if the function that is out of line is called.
+#[inline(always)]
+fn read_words(alloc: Global, text: &str) -> Result<Range, SemverError>
+    ensures { IsRangeAnswer text.now result }
+{
+    range_of_words(alloc, text)
+}
+
+// The same. `inline(never)`: most ranges are full versions.
+#[inline(never)]
+fn range_of_words(alloc: Global, text: &str) -> Result<Range, SemverError>
+    ensures { IsRangeAnswer text.now result }
+{
+    a_text_means_its_sets();
+    prints_are_read_back();
+    match Sets::read(alloc, text.as_bytes()) {
+        Ok(sets) => Ok(Range { sets }),
+        Err(unread) => Err(unread_error(alloc, text, unread)),
     }
 }
 

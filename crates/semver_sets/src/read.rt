@@ -9,14 +9,13 @@ ghost use Rattle.semver_sets.specs.Private.RangeViews.{IsReadResult, IsReadResul
 ghost use Rattle.semver_sets.specs.declared.read.Unread.TheVariants.{OutOfMemory, Refused};
 
 mod alternative;
-mod full;
+pub mod full;
 mod pieces;
 mod several;
 
 use crate::set_list::Sets;
 use crate::word::skip_thrown_away;
 use alternative::read_set;
-use full::{FullLead, caret_set, exact_set, read_full, tilde_set};
 use pieces::next_piece;
 use several::read_several;
 use std::alloc::{AllocError, Global};
@@ -49,8 +48,7 @@ impl Sets {
     /// # Memory
     ///
     /// Allocates the identifiers of the ends, and a list with its index if there are several sets.
-    // `inline(always)`: the numbers of a full version stay in registers, and its set is built in the place of the
-    // caller's result.
+    // `inline(always)`: it has one caller, and its sets are built in the place of that caller's result.
     #[inline(always)]
     pub fn read(alloc: Global, text: &[u8]) -> Result<Sets, Unread>
         ensures sets { IfOk result (λ sets. AreSetsOfText text.now (sets_seen sets)) }
@@ -58,32 +56,12 @@ impl Sets {
         ensures refused { IfErr result (λ unread. unread ≡ Refused → IsRefused text.now) }
         ensures accepted { OnOk result (¬ IsRefused text.now) }
     {
-        match read_full(text) {
-            Some((FullLead::Caret, major, minor, patch)) => {
-                Ok(Sets::One(caret_set(major, minor, patch)))
-            }
-            Some((FullLead::Tilde, major, minor, patch)) => {
-                Ok(Sets::One(tilde_set(major, minor, patch)))
-            }
-            Some((FullLead::Nothing, major, minor, patch)) => {
-                Ok(Sets::One(exact_set(major, minor, patch)))
-            }
-            None => read_alternatives(alloc, text),
-        }
+        read_pieces(alloc, text)
     }
 }
 
-// Reads alternative after alternative. `inline(always)`, here and below: with a function of one line between, the
-// toolchain clears the place of a result only if the function that is out of line is called.
+// Reads alternative after alternative.
 #[inline(always)]
-fn read_alternatives(alloc: Global, text: &[u8]) -> Result<Sets, Unread>
-    ensures { IsReadResult text.now result }
-{
-    read_pieces(alloc, text)
-}
-
-// The same. `inline(never)`: most texts are full versions.
-#[inline(never)]
 fn read_pieces(alloc: Global, text: &[u8]) -> Result<Sets, Unread>
     ensures { IsReadResult text.now result }
 {
@@ -103,7 +81,8 @@ fn read_pieces(alloc: Global, text: &[u8]) -> Result<Sets, Unread>
     }
 }
 
-// Reads several alternatives.
+// Reads several alternatives. `inline(always)`: with this function of one line between, the toolchain clears the place of
+// a result only if the function that is out of line is called.
 #[inline(always)]
 fn read_first(alloc: Global, first: &[u8], others: &[u8]) -> Result<Sets, Unread>
     ensures { IsReadResultOf first.now others.now result }

@@ -1,17 +1,19 @@
 -- The result of parsing a range text, from the sets that are read.
-use Rattle.std.proofs.Common.{◌≡◌, ◌⊎◌, ℕ, List, Ok, Err, IfOk, inl, inr, subst, sym}
+use Rattle.std.proofs.Common.{◌≡◌, ◌⊎◌, ◌∙◌, ℕ, List, [], ◌∷◌, Ok, Err, IfOk, ap, inl, inr, subst, sym}
 use Rattle.std.specs.List.{AllByRecursion}
 use Rattle.std.specs.Prelude.{IfErr, Result}
 use Rattle.semver_cuts.specs.Ends.{Ends}
 use Rattle.semver_versions.specs.Error.{IsOutOfMemory, IsRefusalAt, no_valid_ranges}
 use Rattle.semver_versions.specs.Version.{VersionValue}
 use Rattle.semver_versions.specs.declared.error.SemverError.{SemverError}
+use Rattle.semver_sets.specs.FullTexts.{IsFullText, full_set}
 use Rattle.semver_sets.specs.Meaning.{IsRefused}
 use Rattle.semver_sets.specs.Merging.{AreSetsOfText}
 use Rattle.semver_sets.specs.RangeLaws.{MeansItsSets}
 use Rattle.semver_sets.specs.RangePrint.{range_text}
 use Rattle.semver_sets.specs.RangeSets.{IsRangeValue}
 use Rattle.semver_sets.specs.ReadingBack.{IsPlainlyBounded, RangeReadsBack}
+use Rattle.semver_sets.specs.declared.read.full.FullLead.{FullLead}
 use Rattle.node_semver.specs.RangeAnswer.{IsRangeAnswer, IsReadAsRange}
 
 -- what the laws of texts and of prints say
@@ -50,6 +52,16 @@ range-read mean back text sets are holds =
       print = back sets holds;
       printed = print-read back text (Ok sets) tt are;
     }
+
+-- and of the one set of a full version after `^`, `~` or nothing
+pub full-read : TextsMeanTheirSets → PrintsAreReadBack → (text bytes : List ℕ) (lead : FullLead)
+    (major minor patch : ℕ) (set : Ends VersionValue) (sets : List (Ends VersionValue)) → bytes ≡ text
+    → IsFullText bytes lead major minor patch → set ≡ full_set lead major minor patch → sets ≡ set ∷ []
+    → IsRangeAnswer text (Ok sets)
+full-read mean back text bytes lead major minor patch set sets same full is alone =
+    let here : sets ≡ full_set lead major minor patch ∷ [] = alone ∙ ap (λ (s : Ends VersionValue). s ∷ []) is in
+    let are = subst (λ (t : List ℕ). AreSetsOfText t sets) same (subst (AreSetsOfText bytes) (sym here) full.sets) in
+    range-read mean back text sets are ((mean text sets are).holds (λ none. cc (none, here)))
 
 -- and of an error
 pub range-refused : PrintsAreReadBack → (text : List ℕ) (e : SemverError) → IsRefusal text e → IsRangeAnswer text (Err e)

@@ -1,0 +1,20 @@
+use Rattle.std.proofs.Common.{List, ℕ, subst}
+use Rattle.semver_sets.specs.Meaning.{IsRefused}
+use Rattle.semver_sets.specs.Merging.{AreSetsOfText}
+use Rattle.semver_sets.specs.RangeSets.{sets_seen}
+use Rattle.node_semver.proofs.Ranges.RangeAnswers.{range-read, range-refused}
+use Rattle.node_semver.proofs.range.range_of_words.Goals as goal
+
+pub returns-in-Ok : goal.returns-in-Ok
+returns-in-Ok c =
+    let sets = sets_seen c.in-Ok.sets in
+    range-read c.a_text_means_its_sets.ensures c.prints_are_read_back.ensures c.args.text.now sets
+    (subst (λ (t : List ℕ). AreSetsOfText t sets) c.as_bytes.ensures.value c.in-Ok.ensures.sets)
+    c.in-Ok.ensures.holds
+
+pub unread_error-requires : goal.unread_error-requires
+unread_error-requires c = λ is. subst IsRefused c.as_bytes.ensures.value (c.in-Err.ensures.refused is)
+
+pub returns-in-Err : goal.returns-in-Err
+returns-in-Err c =
+    range-refused c.prints_are_read_back.ensures c.args.text.now c.unread_error.result c.unread_error.ensures

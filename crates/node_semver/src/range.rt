@@ -114,8 +114,9 @@ impl Range {
     /// # Examples
     ///
     /// `^1.2.3`, `1.2 - 3`, `foo >= v 1.0.0` and `foo || 2` are read. `foo` is not read.
-    // A full version after `^`, `~` or nothing is most ranges. It is read here: through `Sets::read` its set would be
-    // copied once more.
+    // Most ranges are a full version after `^`, `~` or nothing. They are read here: through `Sets::read` their set would
+    // be copied once more. `inline(always)`: the range is built in the place of the caller's result.
+    #[inline(always)]
     pub fn parse(alloc: Global, text: &str) -> Result<Range, SemverError>
         ensures { IsRangeAnswer text.now result }
     {
@@ -131,7 +132,7 @@ impl Range {
             Some((FullLead::Nothing, major, minor, patch)) => {
                 Ok(Range::of_set(exact_set(major, minor, patch)))
             }
-            None => read_words(alloc, text),
+            None => range_of_words(alloc, text),
         }
     }
 
@@ -243,17 +244,8 @@ impl Range {
     }
 }
 
-// The range of any text. `inline(always)`: with this function of one line between, the toolchain clears the place of the
-// result only if the function that is out of line is called.
+// The range of any text. `inline(always)`: the sets are built in the place of the result.
 #[inline(always)]
-fn read_words(alloc: Global, text: &str) -> Result<Range, SemverError>
-    ensures { IsRangeAnswer text.now result }
-{
-    range_of_words(alloc, text)
-}
-
-// The same. `inline(never)`: most ranges are full versions.
-#[inline(never)]
 fn range_of_words(alloc: Global, text: &str) -> Result<Range, SemverError>
     ensures { IsRangeAnswer text.now result }
 {

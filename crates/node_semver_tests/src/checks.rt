@@ -1,4 +1,4 @@
-use node_semver::{Identifier, Range, SemverError, Version, VersionRef};
+use node_semver::{Identifier, Range, SemverError, Triple, Version, VersionRef};
 use std::alloc::Global;
 
 // Each function returns a plain value and drops what it made, and uses `let .. else` and `match` in place of `?`, which
@@ -14,7 +14,15 @@ pub(crate) fn is_print(print: Option<String>, text: &str) -> bool {
 
 // Returns `true` if both calls give the wanted result.
 fn answer(range: &Range, version: &Version, wanted: bool) -> bool {
-    range.satisfies(version) == wanted && version.satisfies(range) == wanted
+    range.satisfies(version) == wanted
+        && version.satisfies(range) == wanted
+        && answer_triple(range, version, wanted)
+}
+
+// The same for the triple of a release.
+fn answer_triple(range: &Range, version: &Version, wanted: bool) -> bool {
+    let triple = Triple::new(version.major, version.minor, version.patch);
+    version.is_prerelease() || range.satisfies(&triple) == wanted
 }
 
 // The same for a version that borrows its text.

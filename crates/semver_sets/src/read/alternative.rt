@@ -25,7 +25,8 @@ pub(crate) fn read_set(alloc: Global, text: &[u8]) -> Result<Option<Span<EndVers
     Ok(common.into_set())
 }
 
-// Merges the comparators of an alternative into one.
+// Merges the comparators of an alternative into one. `inline(never)`: its stack is then not part of the callers.
+#[inline(never)]
 fn merge_words(alloc: Global, text: &[u8], common: &mut CommonSpan) -> Result<(), AllocError>
     requires { common.old ≡ None }
     ensures { OnOk result (IsSpanOfAlternative text.now common.new) }

@@ -1,8 +1,8 @@
 -- The best version of an array that a range admits, with its place, as one version more is looked at.
 use Rattle.std.proofs.Common.{◌≡◌, suc, ◌+◌, ◌<◌, ◌∙◌, ℕ, List, [], ◌∷◌, ◌++◌, Option, Some, None, length, get_or, take}
-use Rattle.std.proofs.Common.{Bool, refl, sym, ap, subst, inl, inr, arith}
+use Rattle.std.proofs.Common.{Bool, refl, sym, ap, subst, inl, inr, arith, Less}
 use Rattle.std.proofs.lemmas.List.{take_more, length-take-le}
-use Rattle.node_semver_c.specs.Greatest.{IsBestAtOrNone, IsBetterAt, IsGreatestAt, IsLeastAt, values}
+use Rattle.node_semver_c.specs.Greatest.{IsBestAt, IsBestAtOrNone, IsBetterAt, IsGreatestAt, IsLeastAt, values}
 use Rattle.node_semver_c.specs.declared.handle.version.VersionRef.{VersionRef}
 use Rattle.semver_cuts.specs.Ends.{Ends}
 use Rattle.semver_cuts.specs.Lemmas.Lists.{all-append}
@@ -54,15 +54,15 @@ taken-place upward sets handles k handle best found lt at first better =
 
 -- ---- the program's result
 
-pub greatest-at : (sets : List (Ends VersionValue)) (versions : List VersionValue) (place : ℕ) (v : VersionValue)
-    → IsBestAtOrNone version_cmp sets versions (Some (place, v)) → IsGreatestAt sets versions place
-greatest-at sets versions place v first =
-    record { best = v; first = as-greatest sets versions v first.0; place_is = first.1 }
+pub greatest-at : (sets : List (Ends VersionValue)) (versions : List VersionValue) (place : ℕ)
+    → IsBestAt (λ v best. version_cmp best v ≡ Less) sets versions place → IsGreatestAt sets versions place
+greatest-at sets versions place at =
+    record { best = at.best; first = as-greatest sets versions at.best at.first; place_is = at.place_is }
 
-pub least-at : (sets : List (Ends VersionValue)) (versions : List VersionValue) (place : ℕ) (v : VersionValue)
-    → IsBestAtOrNone downward sets versions (Some (place, v)) → IsLeastAt sets versions place
-least-at sets versions place v first =
-    record { best = v; first = as-least sets versions v first.0; place_is = first.1 }
+pub least-at : (sets : List (Ends VersionValue)) (versions : List VersionValue) (place : ℕ)
+    → IsBestAt (λ v best. downward best v ≡ Less) sets versions place → IsLeastAt sets versions place
+least-at sets versions place at =
+    record { best = at.best; first = as-least sets versions at.best at.first; place_is = at.place_is }
 
 pub some-admitted : (order : Order) (sets : List (Ends VersionValue)) (versions : List VersionValue) (place : ℕ)
     (v : VersionValue) → IsBestAtOrNone order sets versions (Some (place, v)) → ¬ AdmitsNoneIn sets versions

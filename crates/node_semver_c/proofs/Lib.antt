@@ -3,8 +3,13 @@ mod Answered
 mod Examples
 mod Found
 mod GivenSets
+mod Got
 mod GreatestPlaces
+mod Handles
 mod Held
+mod Kept
 mod Lent
 mod LentOrEmpty
+mod OnePointer
+mod Taken
 mod Values

@@ -1,5 +1,6 @@
 -- The greatest and the least of the versions of an array that a range admits, by their places.
 use Rattle.std.specs.Prelude.{◌≡◌, ◌⊎◌, ℕ, List, [], ◌∷◌, length, Option, Some, None}
+use Rattle.std.specs.Option.{option_map}
 use Rattle.std.specs.declared.cmp.Ordering.TheVariants.{Less}
 use Rattle.node_semver_c.specs.declared.handle.version.VersionRef.{VersionRef}
 use Rattle.semver_cuts.specs.Ends.{Ends}
@@ -7,7 +8,7 @@ use Rattle.semver_sets.specs.Meaning.{RangeAdmits}
 use Rattle.semver_versions.specs.Order.{IsBelow}
 use Rattle.semver_versions.specs.Version.{VersionValue}
 use Rattle.node_semver.specs.Greatest.{AdmitsNoneIn, IsFirstBest}
-use Rattle.node_semver.specs.Lemmas.GreatestViews.{Order}
+use Rattle.node_semver.specs.Lemmas.GreatestViews.{IsBetter, Order}
 
 -- the versions that the borrowed handles point to
 abbrev pub values : List VersionRef → List VersionValue
@@ -32,17 +33,12 @@ IsLeastAt = IsBestAt IsBelow
 
 -- ---- for the private functions that look at each
 
--- the version comes after the best so far in an order of versions, or there is none yet
-abbrev pub IsAfter : Order → Option (ℕ × VersionValue) → VersionValue → Type 0
-IsAfter order None v = Unit {0}
-IsAfter order (Some best) v = order best.1 v ≡ Less
-
 -- the version and its place if it comes after the best so far and the range admits it, or else the best
 abbrev pub IsBetterAt : Order → List (Ends VersionValue) → Option (ℕ × VersionValue) → ℕ → VersionValue
     → Option (ℕ × VersionValue) → Type 0
 IsBetterAt order sets best place v better =
-    (IsAfter order best v × RangeAdmits sets v × (better ≡ Some (place, v)))
-    ⊎ ((¬ (IsAfter order best v × RangeAdmits sets v)) × (better ≡ best))
+    (IsBetter order (option_map (λ b. b.1) best) v × RangeAdmits sets v × (better ≡ Some (place, v)))
+    ⊎ ((¬ (IsBetter order (option_map (λ b. b.1) best) v × RangeAdmits sets v)) × (better ≡ best))
 
 -- the best with its place, or none where the range admits none of them
 abbrev pub IsBestAtOrNone : Order → List (Ends VersionValue) → List VersionValue → Option (ℕ × VersionValue) → Type 0

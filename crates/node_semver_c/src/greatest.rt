@@ -4,7 +4,8 @@ ghost use Rattle.std.specs.Prelude.{◌≡◌, ◌↔◌, IsTrue};
 ghost use Rattle.std.specs.declared.cmp.Ordering.TheVariants.{Less};
 ghost use Rattle.node_semver.specs.Greatest.{AdmitsNoneIn};
 ghost use Rattle.node_semver.specs.Lemmas.GreatestViews.{order_of};
-ghost use Rattle.node_semver_c.specs.Greatest.{IsBestAtOrNone, IsBetterAt, IsGreatestAt, IsLeastAt, values};
+ghost use Rattle.node_semver_c.specs.Greatest.{IsBestAt, IsBestAtOrNone, IsBetterAt, IsGreatestAt, IsLeastAt};
+ghost use Rattle.node_semver_c.specs.Greatest.{values};
 
 use crate::handle::range::RangeRef;
 use crate::handle::version::VersionRef;
@@ -20,20 +21,7 @@ pub extern "C" fn node_semver_max_satisfying(
     ensures greatest { IsTrue result → IsGreatestAt range.now.value (values versions.now) place.new }
     ensures none { (¬ IsTrue result) ↔ AdmitsNoneIn range.now.value (values versions.now) }
 {
-    place_of_greatest(versions, range.get(), place)
-}
-
-fn place_of_greatest(versions: &[VersionRef], range: &Range, place: &mut usize) -> bool
-    ensures greatest { IsTrue result → IsGreatestAt range.now (values versions.now) place.new }
-    ensures none { (¬ IsTrue result) ↔ AdmitsNoneIn range.now (values versions.now) }
-{
-    match best_of(versions, range, true) {
-        Some((found, _)) => {
-            *place = found;
-            true
-        }
-        None => false,
-    }
+    place_of_best(versions, range.get(), place, true)
 }
 
 /// `min_satisfying`: returns whether the range admits one of the versions, and writes the place of the least.
@@ -46,14 +34,18 @@ pub extern "C" fn node_semver_min_satisfying(
     ensures least { IsTrue result → IsLeastAt range.now.value (values versions.now) place.new }
     ensures none { (¬ IsTrue result) ↔ AdmitsNoneIn range.now.value (values versions.now) }
 {
-    place_of_least(versions, range.get(), place)
+    place_of_best(versions, range.get(), place, false)
 }
 
-fn place_of_least(versions: &[VersionRef], range: &Range, place: &mut usize) -> bool
-    ensures least { IsTrue result → IsLeastAt range.now (values versions.now) place.new }
+// Writes the place of the greatest version that the range admits, or of the least if `upward` is false. Inlined, so that
+// the order is chosen once and not at each version.
+#[inline(always)]
+fn place_of_best(versions: &[VersionRef], range: &Range, place: &mut usize, upward: bool) -> bool
+    ensures best { IsTrue result
+        → IsBestAt (λ v best. order_of upward best v ≡ Less) range.now (values versions.now) place.new }
     ensures none { (¬ IsTrue result) ↔ AdmitsNoneIn range.now (values versions.now) }
 {
-    match best_of(versions, range, false) {
+    match best_of(versions, range, upward) {
         Some((found, _)) => {
             *place = found;
             true
@@ -62,8 +54,7 @@ fn place_of_least(versions: &[VersionRef], range: &Range, place: &mut usize) -> 
     }
 }
 
-// Returns the greatest version that the range admits, or the least if `upward` is false, with its place. Inlined, so that
-// the order is chosen once and not at each version.
+// The same version with its place. Inlined, as its caller is.
 #[inline(always)]
 fn best_of<'a>(
     versions: &'a [VersionRef],

@@ -5,6 +5,7 @@ use Rattle.std.specs.List.{AllByRecursion}
 use Rattle.semver_cuts.specs.declared.cut.Cut.{Cut}
 use Rattle.semver_cuts.specs.declared.cut.Cut.TheVariants.{Before}
 use Rattle.semver_cuts.specs.Ends.{Ends, IsCutAtMost, IsCutBelow}
+use Rattle.semver_cuts.specs.Lemmas.Lists.{all_map}
 use Rattle.semver_cuts.specs.Lemmas.Ends.{at_most-below, at_most-or-below, at_most_trans}
 use Rattle.semver_versions.specs.Comparison.{version_cmp}
 use Rattle.semver_versions.specs.IdentifierValue.{IdentifierValue}
@@ -17,7 +18,6 @@ use Rattle.node_semver.specs.Private.BeyondViews.{IsTried, candidates_at}
 use Rattle.node_semver.proofs.Least.BeyondCandidates.{least_of_triple, prerelease-candidate, release-candidate}
 use Rattle.node_semver.proofs.Least.BeyondCandidates.{shut-below}
 use Rattle.node_semver.proofs.Least.HighestCut.{AskAlike, beyond-between, both_prereleases, both_releases}
-use Rattle.node_semver.specs.Lemmas.GreatestLemmas.{all-map}
 use Rattle.node_semver.proofs.Least.HighestCut.{highest, set-between, some-along}
 use Rattle.node_semver.proofs.Least.LeastLemmas.{at-least}
 use Rattle.node_semver.proofs.Least.LeastOfSets.{not-below}
@@ -114,20 +114,20 @@ module _ (P : VersionValue → Type 0) (sets others : List (Ends VersionValue)) 
       let some = some-along (IsCandidateSet P) (λ (s : Ends VersionValue). SetAdmits s w) sets each beyond.admitted in
       let set = some.0 in
       let first = highest Tried (λ (s : Ends VersionValue). s.lower) w sets set.lower some.1.lower some.2.inside.lower
-      (all-map (IsCandidateSet P) (λ (s : Ends VersionValue). Tried s.lower) sets
-      (λ s candidates. candidates.lower) each) in
+      (all_map (IsCandidateSet P) (λ (s : Ends VersionValue). Tried s.lower)
+      (λ s candidates. candidates.lower) sets each) in
       let last = highest Tried (λ (s : Ends VersionValue). s.upper) w others first.cut first.is
       first.highest.below ends in
       let c = last.cut in
       let cut : IsLastCut c = record {
         below = last.highest.below;
-        lowers = all-map
+        lowers = all_map
             (λ (s : Ends VersionValue). IsCutAtMost version_cmp s.lower (Before w)
             → IsCutAtMost version_cmp s.lower first.cut)
             (λ (s : Ends VersionValue). IsCutAtMost version_cmp s.lower (Before w) → IsCutAtMost version_cmp s.lower c)
-            sets (λ s at_most inside. at_most_trans version_total s.lower first.cut c
+            (λ s at_most inside. at_most_trans version_total s.lower first.cut c
             (at_most inside) last.highest.above)
-            first.highest.each;
+            sets first.highest.each;
         uppers = last.highest.each;
       } in
       by-cut c cut last.is set some.1 some.2
@@ -149,8 +149,8 @@ all-above : (sets others : List (Ends VersionValue)) (best : Option VersionValue
 all-above sets others best each ends w beyond =
     let P : VersionValue → Type 0 = IsTried sets others best in
     let found = candidate-below P sets others w beyond
-    (all-map (IsSetTried sets others best) (IsCandidateSet P) sets
-    (λ s tried. record { lower = tried.lower; opened = tried.opened }) each) ends in
+    (all_map (IsSetTried sets others best) (IsCandidateSet P)
+    (λ s tried. record { lower = tried.lower; opened = tried.opened }) sets each) ends in
     not-below-best best found.version w found.at_most (found.is found.beyond)
 
 pub best-least : (sets others : List (Ends VersionValue)) (best : Option VersionValue) → IsBest sets others best

@@ -6,7 +6,7 @@ use Rattle.std.specs.Cmp.{tied_itself}
 use Rattle.std.specs.List.{AllByRecursion}
 use Rattle.semver_cuts.specs.declared.cut.Cut.TheVariants.{Start, Before, After, End}
 use Rattle.semver_cuts.specs.Ends.{Ends}
-use Rattle.semver_cuts.specs.Lemmas.Lists.{all-append}
+use Rattle.semver_cuts.specs.Lemmas.Lists.{all-append, all_map}
 use Rattle.semver_versions.specs.Comparison.{version_cmp}
 use Rattle.semver_versions.specs.IdentifierValue.{IdentifierValue}
 use Rattle.semver_sets.specs.Meaning.{SetAdmits}
@@ -17,7 +17,6 @@ use Rattle.semver_versions.specs.VersionSteps.{with_zero}
 use Rattle.node_semver.specs.Private.BeyondViews.{AreSetsTried, AreUppersTried, IsBelowBest, IsCutTrial, IsCutTried}
 use Rattle.node_semver.specs.Private.BeyondViews.{IsLeastOpened, IsOpenTrial, IsSetTrial, IsSetTried, IsShut, IsStep}
 use Rattle.node_semver.specs.Private.BeyondViews.{IsTrial, IsTried, after_by, before_by, candidates_at}
-use Rattle.node_semver.specs.Lemmas.GreatestLemmas.{all-map}
 
 never-below_itself : (v : VersionValue) → ¬ (version_cmp v v ≡ Less)
 never-below_itself v less = cc (less, tied_itself version_total v)
@@ -65,7 +64,7 @@ module _ (sets others : List (Ends VersionValue)) where
 
   all-kept : (a b : Option VersionValue) → IsStep sets others a b → (vs : List VersionValue)
       → AllByRecursion (IsTried sets others a) vs → AllByRecursion (IsTried sets others b) vs
-  all-kept a b step vs all = all-map (IsTried sets others a) (IsTried sets others b) vs (tried-kept a b step) all
+  all-kept a b step vs all = all_map (IsTried sets others a) (IsTried sets others b) (tried-kept a b step) vs all
 
   pub start-trial : (best later : Option VersionValue) → IsTrial sets others best (release 0 0 0) later
       → IsCutTrial sets others best Start later
@@ -192,8 +191,8 @@ module _ (sets others : List (Ends VersionValue)) where
   sets-more all k set earlier later lt is tried trial = record {
     best = trial.step.best tried.best;
     each = more-taken (IsSetTried sets others later) all k set lt is
-        (all-map (IsSetTried sets others earlier) (IsSetTried sets others later) (take k all)
-        (set-kept earlier later trial.step) tried.each) trial.tried;
+        (all_map (IsSetTried sets others earlier) (IsSetTried sets others later)
+        (set-kept earlier later trial.step) (take k all) tried.each) trial.tried;
   }
 
   pub uppers-more : (all : List (Ends VersionValue)) (k : ℕ) (set : Ends VersionValue)
@@ -206,11 +205,11 @@ module _ (sets others : List (Ends VersionValue)) where
       record {
         lowers = record {
           best = trial.step.best tried.lowers.best;
-          each = all-map (IsSetTried sets others earlier) (IsSetTried sets others later) sets
-              (set-kept earlier later trial.step) tried.lowers.each;
+          each = all_map (IsSetTried sets others earlier) (IsSetTried sets others later)
+              (set-kept earlier later trial.step) sets tried.lowers.each;
         };
         each = more-taken Now all k set lt is
-            (all-map Earlier Now (take k all)
-            (λ s cut. all-kept earlier later trial.step (candidates_at s.upper) cut) tried.each)
+            (all_map Earlier Now
+            (λ s cut. all-kept earlier later trial.step (candidates_at s.upper) cut) (take k all) tried.each)
             trial.tried;
       }

@@ -4,10 +4,9 @@ use Rattle.std.proofs.Common.{Bool, true, false, length, get_or, map, take, refl
 use Rattle.std.proofs.Common.{append_assoc}
 use Rattle.std.proofs.lemmas.List.{map-append, take_more}
 use Rattle.std.specs.Cmp.{alike_right}
-use Rattle.std.specs.List.{AllByRecursion}
 use Rattle.std.specs.Option.{option_map}
 use Rattle.semver_cuts.specs.Ends.{Ends}
-use Rattle.semver_cuts.specs.Lemmas.Lists.{all-append}
+use Rattle.semver_cuts.specs.Lemmas.Lists.{all-append, all_map}
 use Rattle.semver_versions.specs.Comparison.{version_cmp}
 use Rattle.semver_sets.specs.Meaning.{RangeAdmits}
 use Rattle.semver_versions.specs.Order.{IsBelow, IsSame}
@@ -15,11 +14,6 @@ use Rattle.semver_versions.specs.Version.{VersionValue}
 use Rattle.semver_versions.specs.Lemmas.Order.{version-Equal, version-Less, version_total}
 use Rattle.node_semver.specs.Greatest.{AdmitsNoneIn, IsFirstBest, IsGreatestAdmitted, IsLeastAdmittedIn}
 use Rattle.node_semver.specs.Lemmas.GreatestViews.{IsBestOrNone, IsBetterOf, Order, downward, order_of}
-
-pub all-map : {X : Type 0} (P Q : X → Type 0) (xs : List X) → ((x : X) → P x → Q x) → AllByRecursion P xs
-    → AllByRecursion Q xs
-all-map P Q [] f all = tt
-all-map P Q (x ∷ xs) f all = (f x all.0, all-map P Q xs f all.1)
 
 -- the premises of an order of versions: true of precedence, and of precedence reversed
 pub record IsOrder (order : Order) : Type 0 where
@@ -72,11 +66,11 @@ module _ (order : Order) (is : IsOrder order) (sets : List (Ends VersionValue)) 
     parts = refl;
     admitted = admits;
     none_better = all-append (NoneBetter v) done (v ∷ [])
-        (all-map (λ (w : VersionValue). ¬ RangeAdmits sets w) (NoneBetter v) done
-        (λ w not admitted. absurd (not admitted)) none)
+        (all_map (λ (w : VersionValue). ¬ RangeAdmits sets w) (NoneBetter v)
+        (λ w not admitted. absurd (not admitted)) done none)
         ((λ _. is.not_itself v), tt);
-    none_same = all-map (λ (w : VersionValue). ¬ RangeAdmits sets w) (NoneSame v) done
-        (λ w not admitted. absurd (not admitted)) none;
+    none_same = all_map (λ (w : VersionValue). ¬ RangeAdmits sets w) (NoneSame v)
+        (λ w not admitted. absurd (not admitted)) done none;
   }
 
   -- one that is better than the best so far
@@ -88,11 +82,11 @@ module _ (order : Order) (is : IsOrder order) (sets : List (Ends VersionValue)) 
     parts = refl;
     admitted = admits;
     none_better = all-append (NoneBetter v) done (v ∷ [])
-        (all-map (NoneBetter best) (NoneBetter v) done
-        (λ w none admitted beyond. none admitted (is.trans best v w better beyond)) first.none_better)
+        (all_map (NoneBetter best) (NoneBetter v)
+        (λ w none admitted beyond. none admitted (is.trans best v w better beyond)) done first.none_better)
         ((λ _. is.not_itself v), tt);
-    none_same = all-map (NoneBetter best) (NoneSame v) done
-        (λ w none admitted same. none admitted (is.alike best v w better same)) first.none_better;
+    none_same = all_map (NoneBetter best) (NoneSame v)
+        (λ w none admitted same. none admitted (is.alike best v w better same)) done first.none_better;
   }
 
   -- one that is not admitted, or not better than the best so far
@@ -145,9 +139,9 @@ as-greatest sets versions v first = record {
   after = first.after;
   parts = first.parts;
   admitted = first.admitted;
-  none_better = all-map (NoneBetter version_cmp upward-order sets v)
-      (λ (w : VersionValue). RangeAdmits sets w → ¬ IsBelow v w) versions
-      (λ w none admitted below. none admitted (version-Less v w below)) first.none_better;
+  none_better = all_map (NoneBetter version_cmp upward-order sets v)
+      (λ (w : VersionValue). RangeAdmits sets w → ¬ IsBelow v w)
+      (λ w none admitted below. none admitted (version-Less v w below)) versions first.none_better;
   none_same = first.none_same;
 }
 
@@ -160,9 +154,9 @@ as-least sets versions v first = record {
   after = first.after;
   parts = first.parts;
   admitted = first.admitted;
-  none_better = all-map (NoneBetter downward downward-order sets v)
-      (λ (w : VersionValue). RangeAdmits sets w → ¬ IsBelow w v) versions
-      (λ w none admitted below. none admitted (version-Less w v below)) first.none_better;
+  none_better = all_map (NoneBetter downward downward-order sets v)
+      (λ (w : VersionValue). RangeAdmits sets w → ¬ IsBelow w v)
+      (λ w none admitted below. none admitted (version-Less w v below)) versions first.none_better;
   none_same = first.none_same;
 }
 

@@ -93,8 +93,8 @@ fn write_lower<W: fmt::Write>(f: &mut fmt::Formatter<W>, lower: &Cut<EndVersion>
 {
     match lower {
         Cut::Start | Cut::End => Ok(()),
-        Cut::Before(v) => write_marked(f, ">=", v),
-        Cut::After(v) => write_marked(f, ">", v),
+        Cut::Before(v) => write_operator(f, ">=", v),
+        Cut::After(v) => write_operator(f, ">", v),
     }
 }
 
@@ -104,20 +104,20 @@ fn write_upper<W: fmt::Write>(f: &mut fmt::Formatter<W>, upper: &Cut<EndVersion>
 {
     match upper {
         Cut::Start | Cut::End => Ok(()),
-        Cut::Before(v) => write_marked(f, "<", v),
-        Cut::After(v) => write_marked(f, "<=", v),
+        Cut::Before(v) => write_operator(f, "<", v),
+        Cut::After(v) => write_operator(f, "<=", v),
     }
 }
 
 // The operator, and the version after it.
-fn write_marked<W: fmt::Write>(
+fn write_operator<W: fmt::Write>(
     f: &mut fmt::Formatter<W>,
-    mark: &str,
+    operator: &str,
     end: &EndVersion,
 ) -> fmt::Result
-    ensures { WritesOnOk W.write_str_gives f.old result (mark.now ++ version_text end.now) f.new }
+    ensures { WritesOnOk W.write_str_gives f.old result (operator.now ++ version_text end.now) f.new }
 {
-    f.write_str(mark)?;
+    f.write_str(operator)?;
     write_end(f, end)
 }
 

@@ -59,13 +59,13 @@ impl Range {
 fn least_unbuilt<'a>(range: &'a Range, other: &'a Range) -> Option<Unbuilt<'a>>
     ensures { IsLeastBeyondOrNone range.now other.now result }
 {
-    let found = least_of_sets(range.sets.as_slice(), range, other);
+    let found = least_candidate(range.sets.as_slice(), range, other);
     least_with_others(found, other.sets.as_slice(), range, other)
 }
 
 // The least of the candidates of the sets.
 #[inline(always)]
-fn least_of_sets<'a>(
+fn least_candidate<'a>(
     sets: &'a [Span<EndVersion>],
     range: &Range,
     other: &Range,
@@ -153,22 +153,10 @@ fn try_before<'a>(best: &mut Option<Unbuilt<'a>>, end: &'a EndVersion, range: &R
     ensures { IsCutTrial range.now other.now best.old (Before end.now) best.new }
 {
     if end.is_prerelease() {
-        let least = Unbuilt::at_end(end).without_build();
-        try_candidate(best, least, range, other);
-        try_release(
-            best,
-            ReleaseCandidate::of(end.major, end.minor, end.patch),
-            range,
-            other,
-        );
-        return;
+        try_candidate(best, Unbuilt::at_end(end).without_build(), range, other);
     }
-    try_release(
-        best,
-        ReleaseCandidate::of(end.major, end.minor, end.patch),
-        range,
-        other,
-    );
+    let release = ReleaseCandidate::of(end.major, end.minor, end.patch);
+    try_release(best, release, range, other);
 }
 
 #[inline(never)]
@@ -176,23 +164,14 @@ fn try_after<'a>(best: &mut Option<Unbuilt<'a>>, end: &'a EndVersion, range: &Ra
     requires { IsReadVersion end.now }
     ensures { IsCutTrial range.now other.now best.old (After end.now) best.new }
 {
+    let mut patch = end.patch;
     if end.is_prerelease() {
-        let least = Unbuilt::after_end(end).without_build();
-        try_candidate(best, least, range, other);
-        try_release(
-            best,
-            ReleaseCandidate::of(end.major, end.minor, end.patch),
-            range,
-            other,
-        );
-        return;
+        try_candidate(best, Unbuilt::after_end(end).without_build(), range, other);
+    } else {
+        patch += 1;
     }
-    try_release(
-        best,
-        ReleaseCandidate::of(end.major, end.minor, end.patch + 1),
-        range,
-        other,
-    );
+    let release = ReleaseCandidate::of(end.major, end.minor, patch);
+    try_release(best, release, range, other);
 }
 
 // Tries the least version of the triple that the upper end of a set opens, if the set admits it. If that end is

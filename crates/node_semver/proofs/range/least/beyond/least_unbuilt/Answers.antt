@@ -8,8 +8,8 @@ use Rattle.node_semver.proofs.range.least.beyond.least_unbuilt.Goals as goal
 pub least_with_others-requires-clause-found : goal.least_with_others-requires-clause-found
 least_with_others-requires-clause-found c =
     subst (λ (l : List (Ends VersionValue)). AreSetsTried c.args.range.now c.args.other.now l
-    c.least_of_sets-found.result)
-    (c.as_slice.ensures ∙ c.range.view_is) c.least_of_sets-found.ensures
+    c.least_candidate-found.result)
+    (c.as_slice.ensures ∙ c.range.view_is) c.least_candidate-found.ensures
 
 pub returns : goal.returns
 returns c =

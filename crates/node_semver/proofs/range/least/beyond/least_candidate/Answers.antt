@@ -4,7 +4,7 @@ use Rattle.semver_cuts.specs.Ends.{Ends}
 use Rattle.semver_versions.specs.Version.{VersionValue}
 use Rattle.node_semver.specs.Private.BeyondViews.{AreSetsTried}
 use Rattle.node_semver.proofs.Least.BeyondSteps.{sets-more}
-use Rattle.node_semver.proofs.range.least.beyond.least_of_sets.Goals as goal
+use Rattle.node_semver.proofs.range.least.beyond.least_candidate.Goals as goal
 
 pub sets-init : goal.sets-init
 sets-init c = record { best = tt; each = tt }

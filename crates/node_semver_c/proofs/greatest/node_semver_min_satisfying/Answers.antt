@@ -1,0 +1,10 @@
+use Rattle.std.proofs.Common.{subst}
+use Rattle.node_semver_c.specs.Greatest.{IsLeastAt, values}
+use Rattle.node_semver_c.proofs.GreatestPlaces.{least-at}
+use Rattle.node_semver_c.proofs.greatest.node_semver_min_satisfying.Goals as goal
+
+pub returns-clause-least : goal.returns-clause-least
+returns-clause-least c found =
+    let versions = values c.args.versions.now in
+    subst (λ sets. IsLeastAt sets versions c.place_of_best.new.place) c.get.ensures
+    (least-at c.get.result.now versions c.place_of_best.new.place (c.place_of_best.ensures.best found))

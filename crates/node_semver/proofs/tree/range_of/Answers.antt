@@ -1,4 +1,4 @@
-use Rattle.std.proofs.Common.{◌≡◌, ap, inl, inr}
+use Rattle.std.proofs.Common.{ap, inl, inr}
 use Rattle.semver_versions.specs.Error.{Refusal}
 use Rattle.node_semver.proofs.Sets.TreeSets.{refused-sets}
 use Rattle.node_semver.proofs.tree.range_of.Goals as goal

@@ -1,4 +1,3 @@
-use Rattle.std.proofs.Common.{[], ◌∷◌}
 use Rattle.semver_sets.specs.declared.read.full.FullLead.TheVariants.{Caret, Nothing, Tilde}
 use Rattle.node_semver.proofs.Ranges.RangeAnswers.{full-read}
 use Rattle.node_semver.proofs.range.Range.parse.Goals as goal

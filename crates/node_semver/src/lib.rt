@@ -48,7 +48,7 @@ pub use comparisons::Comparisons;
 pub use range::{Range, max_satisfying, min_satisfying};
 pub use semver_versions::{
     Admits, AsVersion, Identifier, IdentifierRef, Identifiers, JsonError, MAX_LENGTH,
-    MAX_SAFE_INTEGER, OrderedVersion, SemverError, SemverErrorKind, SourceSpan, Triple,
-    Version, VersionFault, VersionRef,
+    MAX_SAFE_INTEGER, OrderedVersion, SemverError, SemverErrorKind, SourceSpan, Triple, Version,
+    VersionFault, VersionRef,
 };
 pub use tree::SetTree;

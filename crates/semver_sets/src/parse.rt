@@ -1,11 +1,8 @@
-//! The readers of partials, and of texts that are three numbers and nothing else. Each reader gets the bytes that are
-//! left of a text. What each of them computes is defined under the same name in `specs/Private/WordReading`, on lists of
-//! bytes.
+//! The readers of partials. Each reader gets the bytes that are left of a text. What each of them computes is defined
+//! under the same name in `specs/Private/WordReading`, on lists of bytes.
 
-mod full;
 mod partial;
 mod skip;
 
-pub use full::read_full_triple;
 pub(crate) use partial::{Partial, Shape, read_partial};
 pub(crate) use skip::skip_solid;

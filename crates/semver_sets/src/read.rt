@@ -5,18 +5,18 @@ ghost use Rattle.std.specs.Prelude.{◌≡◌, IfErr, IfOk, OnOk};
 ghost use Rattle.semver_sets.specs.Meaning.{IsRefused};
 ghost use Rattle.semver_sets.specs.Merging.{AreSetsOfText};
 ghost use Rattle.semver_sets.specs.RangeSets.{IsRangeValue, sets_seen};
+ghost use Rattle.semver_sets.specs.Private.PieceReading.{bars_after, piece_at, piece_seen, some_seen};
 ghost use Rattle.semver_sets.specs.Private.RangeViews.{IsReadResult, IsReadResultOf};
 ghost use Rattle.semver_sets.specs.declared.read.Unread.TheVariants.{OutOfMemory, Refused};
 
 mod alternative;
 pub mod full;
-mod pieces;
 mod several;
 
 use crate::set_list::Sets;
 use crate::word::skip_thrown_away;
 use alternative::read_set;
-use pieces::next_piece;
+use memchr::memchr;
 use several::read_several;
 use std::alloc::{AllocError, Global};
 
@@ -88,4 +88,34 @@ fn read_first(alloc: Global, first: &[u8], others: &[u8]) -> Result<Sets, Unread
     ensures { IsReadResultOf first.now others.now result }
 {
     read_several(alloc, first, others)
+}
+
+// The text before the first `||` (or the whole text), and what follows the `||` if there is one: `1` and `|2` of
+// `1|||2`. `inline(always)`: one loop over the
+// bars, in each of its two callers.
+#[inline(always)]
+pub(crate) fn next_piece(text: &[u8]) -> (&[u8], Option<&[u8]>)
+    ensures { piece_seen result ≡ piece_at text.now }
+{
+    let mut passed = 0;
+    'bars: while let Some(at) = memchr(b'|', &text[passed..]) {
+        let bar = passed + at;
+        let after = skip_bars(&text[bar..]);
+        if after.is_some() {
+            return (&text[..bar], after);
+        }
+        passed = bar + 1;
+    }
+    (text, None)
+}
+
+// ` 2` of `|| 2`
+#[inline(always)]
+fn skip_bars(text: &[u8]) -> Option<&[u8]>
+    ensures { some_seen result ≡ bars_after text.now }
+{
+    match text {
+        [b'|', b'|', rest @ ..] => Some(rest),
+        _ => None,
+    }
 }

@@ -8,23 +8,24 @@ ghost use Rattle.semver_sets.specs.Comparator.{Comparator};
 ghost use Rattle.semver_sets.specs.Division.{IsAlternative};
 ghost use Rattle.semver_versions.specs.Characters.{BeginsWithNo, is_blank};
 ghost use Rattle.semver_sets.specs.Private.WordReading as Reading;
-ghost use Rattle.semver_sets.specs.Private.WordViews.{IsSound, ends_seen, partial_seen, some_word_seen, word_seen};
+ghost use Rattle.semver_sets.specs.Private.WordViews.{IsSound, ends_seen, lead_seen, partial_seen, some_word_seen, word_seen};
 
 mod caret;
 mod ends;
 mod hyphen;
-mod lead;
 mod operator;
 mod plain;
 mod tilde;
 
 use crate::parse::{Partial, read_partial, skip_solid};
+use caret::caret_ends;
 pub(crate) use ends::{WordEnds, nothing};
 pub(crate) use hyphen::read_leading_hyphen;
 use hyphen::{hyphen_ends, read_right};
-use lead::{Lead, lead_ends, read_lead};
+use operator::{Operator, operator_ends, read_operator};
 use plain::plain_ends;
 use semver_versions::parse::{begins_clean, skip_blanks};
+use tilde::{read_tilde, tilde_ends, tilde_greater_ends};
 
 // `>=1.2.3` of `>=1.2.3 <2`, or nothing for `foo`, and the rest
 #[inline(always)]
@@ -95,6 +96,52 @@ fn read_comparator(text: &[u8]) -> Option<(WordEnds, &[u8])>
     match (lead, rest) {
         (Lead::Plain, [_, ..]) => Some(plain_or_hyphen(partial, rest)),
         _ => Some((lead_ends(lead, partial), rest)),
+    }
+}
+
+// What is written before the partial of a word.
+#[derive(Clone, Copy)]
+pub(crate) enum Lead {
+    // nothing
+    Plain,
+    // `>=`
+    Operator(Operator),
+    // `~`
+    Tilde,
+    // `~>`
+    TildeGreater,
+    // `^`
+    Caret,
+}
+
+// `^` of `^ 1.2`, and the rest without its leading blanks
+#[inline(always)]
+#[tactic(auto, unfolding(crate::specs::Private::WordReading::read_lead))]
+fn read_lead(text: &[u8]) -> (Lead, &[u8])
+    ensures { (lead_seen result.0, result.1.now) ≡ Reading.read_lead text.now }
+{
+    match text {
+        [b'^', rest @ ..] => (Lead::Caret, skip_blanks(rest)),
+        [b'~', rest @ ..] => read_tilde(rest),
+        _ => match read_operator(text) {
+            Some((operator, rest)) => (Lead::Operator(operator), skip_blanks(rest)),
+            None => (Lead::Plain, text),
+        },
+    }
+}
+
+// The ends of the comparator that a lead and a partial give, if they give one.
+#[inline(always)]
+fn lead_ends(lead: Lead, partial: Partial) -> WordEnds
+    requires { IsSound partial }
+    ensures { ends_seen result ≡ Reading.lead_comparator (lead_seen lead) (partial_seen partial.entry) }
+{
+    match lead {
+        Lead::Plain => plain_ends(partial),
+        Lead::Operator(operator) => operator_ends(operator, partial),
+        Lead::Tilde => tilde_ends(partial),
+        Lead::TildeGreater => tilde_greater_ends(partial),
+        Lead::Caret => caret_ends(partial),
     }
 }
 

@@ -13,8 +13,8 @@ use Rattle.semver_sets.specs.Private.WordReading.{or_else, read_component, read_
 use Rattle.semver_sets.specs.Private.WordReading.{read_operator, read_partial, read_right, read_simple, said}
 use Rattle.semver_sets.specs.Private.WordReading.{said_hyphen, tilde_greater_lead, tilde_lead, up_to_clean, with_left}
 use Rattle.semver_sets.specs.Private.WordViews.{lead_seen}
-use Rattle.semver_sets.specs.declared.word.lead.Lead.{Lead as CodeLead}
-use Rattle.semver_sets.specs.declared.word.lead.Lead.TheVariants.{Caret, Operator, Plain, Tilde, TildeGreater}
+use Rattle.semver_sets.specs.declared.word.Lead.{Lead as CodeLead}
+use Rattle.semver_sets.specs.declared.word.Lead.TheVariants.{Caret, Operator, Plain, Tilde, TildeGreater}
 use Rattle.semver_sets.proofs.Words.LeadReading.{lead-not_partial, lead-plain}
 use Rattle.semver_versions.specs.Lemmas.Texts.Prefixes.{with_no-begins}
 

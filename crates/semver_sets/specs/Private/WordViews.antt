@@ -26,9 +26,9 @@ use Rattle.semver_sets.specs.declared.word.ends.Form.TheVariants.{Exactly as Exa
 use Rattle.semver_sets.specs.declared.word.ends.Form.TheVariants.{Through as ThroughForm, UpTo as UpToForm}
 use Rattle.semver_sets.specs.declared.word.ends.WrittenVersion.{WrittenVersion}
 use Rattle.semver_sets.specs.declared.word.hyphen.RightEnd.{RightEnd}
-use Rattle.semver_sets.specs.declared.word.lead.Lead.{Lead}
-use Rattle.semver_sets.specs.declared.word.lead.Lead.TheVariants.{Caret, Operator as OperatorLead, Plain, Tilde}
-use Rattle.semver_sets.specs.declared.word.lead.Lead.TheVariants.{TildeGreater}
+use Rattle.semver_sets.specs.declared.word.Lead.{Lead}
+use Rattle.semver_sets.specs.declared.word.Lead.TheVariants.{Caret, Operator as OperatorLead, Plain, Tilde}
+use Rattle.semver_sets.specs.declared.word.Lead.TheVariants.{TildeGreater}
 use Rattle.semver_sets.specs.declared.word.operator.Operator.{Operator as CodeOperator}
 use Rattle.semver_sets.specs.declared.word.operator.Operator.TheVariants.{Above, AtLeast, AtMost, Below, Equal}
 

@@ -9,11 +9,12 @@ ghost use Rattle.semver_versions.specs.Comparison.{version_cmp};
 ghost use Rattle.semver_versions.specs.Version as Versions;
 ghost use Rattle.semver_sets.specs.Comparator as Comparators;
 ghost use Rattle.semver_sets.specs.FullTexts.{IsFullText, full_set};
+ghost use Rattle.semver_sets.specs.Private.RangeViews.{IsFullNumbers};
 ghost use Rattle.semver_sets.specs.declared.read.full.FullLead.TheVariants as Leads;
 
-use crate::parse::read_full_triple;
 use semver_cuts::{Cut, Span};
 use semver_versions::end::EndVersion;
+use semver_versions::parse::number::read_number;
 
 /// What is written before the version.
 #[derive(Clone, Copy)]
@@ -38,6 +39,25 @@ pub fn read_full(text: &[u8]) -> Option<(FullLead, u64, u64, u64)>
     };
     let (major, minor, patch) = read_full_triple(version)?;
     Some((lead, major, minor, patch))
+}
+
+// The numbers of `1.2.3`, if the whole text is three numbers of at most `MAX_SAFE_INTEGER` with two dots.
+#[inline(always)]
+fn read_full_triple(text: &[u8]) -> Option<(u64, u64, u64)>
+    ensures { IfSome result (λ t. IsFullNumbers text.now t.0 t.1 t.2) }
+{
+    let (major, rest) = read_number(text).ok()?;
+    let [b'.', rest @ ..] = rest else {
+        return None;
+    };
+    let (minor, rest) = read_number(rest).ok()?;
+    let [b'.', rest @ ..] = rest else {
+        return None;
+    };
+    match read_number(rest).ok()? {
+        (patch, []) => Some((major, minor, patch)),
+        _ => None,
+    }
 }
 
 /// Returns the set of `^1.2.3`, `>=1.2.3 <2.0.0-0`. That of `^0.2.3` is `>=0.2.3 <0.3.0-0`, and that of `^0.0.3` is

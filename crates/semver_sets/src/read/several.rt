@@ -2,9 +2,8 @@
 ghost use Rattle.std.specs.Prelude.{OnOk};
 ghost use Rattle.semver_sets.specs.Private.RangeViews.{IsOneMore, IsReadResultOf};
 
-use crate::read::Unread;
 use crate::read::alternative::read_set;
-use crate::read::pieces::next_piece;
+use crate::read::{Unread, next_piece};
 use crate::set_list::Sets;
 use crate::set_list::gathered::Gathered;
 use semver_versions::parse::skip_blanks;

@@ -6,7 +6,7 @@ ghost use Rattle.std.specs.Prelude.{◌≡◌, ◌↔◌, ◌≤◌, ◌+◌, If
 ghost use Rattle.semver_sets.specs.Comparator as Comparators;
 ghost use Rattle.semver_sets.specs.PartialText as PartialText;
 ghost use Rattle.semver_versions.specs.Version as Versions;
-ghost use Rattle.semver_sets.specs.Private.WordViews.{IsSound, ends_seen, from_through, partial_seen, written_seen};
+ghost use Rattle.semver_sets.specs.Private.WordViews.{IsSound, ends_seen, form_comparator, partial_seen, written_seen};
 
 use crate::comparator::Comparator;
 use crate::parse::Partial;
@@ -27,7 +27,7 @@ pub(crate) struct WrittenVersion<'a> {
 
 // The form of the two ends. If a form has one version, it is the lower one.
 #[derive(Clone, Copy)]
-enum Form {
+pub(crate) enum Form {
     // no comparator
     Nothing,
     // `>=1.2.3`
@@ -99,16 +99,29 @@ pub(crate) fn next(number: u64) -> u64
     number + 1
 }
 
+// The ends of a form with one version.
 #[inline(always)]
-fn of_one<'a>(form: Form, version: WrittenVersion<'a>) -> WordEnds<'a>
-    ensures form { result.form ≡ form }
-    ensures lower { written_seen result.lower ≡ written_seen version.entry }
+pub(crate) fn of_one<'a>(form: Form, version: WrittenVersion<'a>) -> WordEnds<'a>
+    ensures { ends_seen result
+        ≡ form_comparator form (written_seen version.entry) (written_seen version.entry) }
 {
     WordEnds {
         form,
         lower: version,
         upper: version,
     }
+}
+
+// The ends of a form with two versions.
+#[inline(always)]
+pub(crate) fn of_two<'a>(
+    form: Form,
+    lower: WrittenVersion<'a>,
+    upper: WrittenVersion<'a>,
+) -> WordEnds<'a>
+    ensures { ends_seen result ≡ form_comparator form (written_seen lower.entry) (written_seen upper.entry) }
+{
+    WordEnds { form, lower, upper }
 }
 
 // no comparator
@@ -119,30 +132,6 @@ pub(crate) fn nothing() -> WordEnds<'static>
     of_one(Form::Nothing, release(0, 0, 0))
 }
 
-// `>=1.2.3`
-#[inline(always)]
-pub(crate) fn at_least<'a>(version: WrittenVersion<'a>) -> WordEnds<'a>
-    ensures { ends_seen result ≡ Some (Comparators.at_least (written_seen version.entry)) }
-{
-    of_one(Form::AtLeast, version)
-}
-
-// `>1.2.3`
-#[inline(always)]
-pub(crate) fn above<'a>(version: WrittenVersion<'a>) -> WordEnds<'a>
-    ensures { ends_seen result ≡ Some (Comparators.above (written_seen version.entry)) }
-{
-    of_one(Form::Above, version)
-}
-
-// `<1.2.3`
-#[inline(always)]
-pub(crate) fn below<'a>(version: WrittenVersion<'a>) -> WordEnds<'a>
-    ensures { ends_seen result ≡ Some (Comparators.below (written_seen version.entry)) }
-{
-    of_one(Form::Below, version)
-}
-
 // `<1.2.3-0`
 #[inline(always)]
 pub(crate) fn below_least(major: u64, minor: u64, patch: u64) -> WordEnds<'static>
@@ -151,36 +140,12 @@ pub(crate) fn below_least(major: u64, minor: u64, patch: u64) -> WordEnds<'stati
     of_one(Form::BelowLeast, release(major, minor, patch))
 }
 
-// `<=1.2.3`
-#[inline(always)]
-pub(crate) fn at_most<'a>(version: WrittenVersion<'a>) -> WordEnds<'a>
-    ensures { ends_seen result ≡ Some (Comparators.at_most (written_seen version.entry)) }
-{
-    of_one(Form::AtMost, version)
-}
-
 // `<=1.2.3-0`
 #[inline(always)]
 pub(crate) fn at_most_least(major: u64, minor: u64, patch: u64) -> WordEnds<'static>
     ensures { ends_seen result ≡ Some (Comparators.at_most (Versions.least_of major minor patch)) }
 {
     of_one(Form::AtMostLeast, release(major, minor, patch))
-}
-
-// `>=1.2.3+5 <=1.2.3+5`
-#[inline(always)]
-pub(crate) fn exactly<'a>(version: WrittenVersion<'a>) -> WordEnds<'a>
-    ensures { ends_seen result ≡ Some (Comparators.exactly (written_seen version.entry)) }
-{
-    of_one(Form::Exactly, version)
-}
-
-// `>=1.2.3 <=1.2.3` of `1.2.3+5`
-#[inline(always)]
-pub(crate) fn equal<'a>(version: WrittenVersion<'a>) -> WordEnds<'a>
-    ensures { ends_seen result ≡ Some (Comparators.exactly (Versions.without_build (written_seen version.entry))) }
-{
-    of_one(Form::Equal, version)
 }
 
 // `>=1.2.3+5 <2.0.0-0`
@@ -216,18 +181,6 @@ pub(crate) fn bare_up_to<'a>(
         form: Form::BareUpTo,
         lower,
         upper: release(major, minor, patch),
-    }
-}
-
-// `>=1.2.3 <=2.0.0`
-#[inline(always)]
-pub(crate) fn through<'a>(lower: WrittenVersion<'a>, upper: WrittenVersion<'a>) -> WordEnds<'a>
-    ensures { ends_seen result ≡ Some (from_through (written_seen lower.entry) (written_seen upper.entry)) }
-{
-    WordEnds {
-        form: Form::Through,
-        lower,
-        upper,
     }
 }
 

@@ -14,9 +14,7 @@ ghost use Rattle.semver_sets.specs.Private.WordViews.{IsSound, ends_seen, partia
 ghost use Rattle.semver_sets.specs.Private.WordViews.{right_end_seen, some_word_seen};
 
 use crate::parse::{Partial, Shape, read_partial};
-use crate::word::ends::{
-    WordEnds, WrittenVersion, at_most, below_least, next, release, through, up_to, zeroed,
-};
+use crate::word::ends::{Form, WordEnds, WrittenVersion, next, of_one, of_two, release, zeroed};
 use semver_versions::parse::{begins_clean, skip_some_blanks};
 
 // `3` and ` <5` of ` - 3 <5`: the right side of a hyphen range, with the blanks around the hyphen
@@ -90,16 +88,12 @@ pub(crate) fn hyphen_ends<'a>(left: Partial<'a>, right: Partial<'a>) -> WordEnds
         ≡ Some (HyphenRanges.hyphen_comparator (Some (partial_seen left.entry)) (partial_seen right.entry)) }
 {
     let upper = right_end(right);
-    if upper.is_held {
-        through(zeroed(left), upper.version)
+    let form = if upper.is_held {
+        Form::Through
     } else {
-        up_to(
-            zeroed(left),
-            upper.version.major,
-            upper.version.minor,
-            upper.version.patch,
-        )
-    }
+        Form::UpTo
+    };
+    of_two(form, zeroed(left), upper.version)
 }
 
 // ` - 3` is `<4.0.0-0`.
@@ -109,15 +103,12 @@ fn below_right(right: Partial) -> WordEnds
     ensures { ends_seen result ≡ Some (HyphenRanges.hyphen_comparator None (partial_seen right.entry)) }
 {
     let upper = right_end(right);
-    if upper.is_held {
-        at_most(upper.version)
+    let form = if upper.is_held {
+        Form::AtMost
     } else {
-        below_least(
-            upper.version.major,
-            upper.version.minor,
-            upper.version.patch,
-        )
-    }
+        Form::BelowLeast
+    };
+    of_one(form, upper.version)
 }
 
 // Where a hyphen range ends: at a version that it includes, or below the least version of a triple.

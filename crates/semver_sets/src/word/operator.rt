@@ -10,8 +10,8 @@ ghost use Rattle.semver_sets.specs.Private.WordViews.{read_operator_seen};
 
 use crate::parse::{Partial, Shape};
 use crate::word::ends::{
-    WordEnds, above, at_least, at_most, at_most_least, below, below_least, equal, next, nothing,
-    release, with_major, with_minor, zeroed,
+    Form, WordEnds, at_most_least, below_least, next, nothing, of_one, release, with_major,
+    with_minor, zeroed,
 };
 
 #[derive(Clone, Copy)]
@@ -46,7 +46,7 @@ pub(crate) fn operator_ends<'a>(operator: Operator, partial: Partial<'a>) -> Wor
         ≡ Operators.operator_comparator (operator_seen operator) (partial_seen partial.entry) }
 {
     match operator {
-        Operator::AtLeast => at_least(zeroed(partial)),
+        Operator::AtLeast => of_one(Form::AtLeast, zeroed(partial)),
         Operator::Above => above_ends(partial),
         Operator::Equal => equal_ends(partial),
         Operator::AtMost => at_most_ends(partial),
@@ -63,9 +63,9 @@ fn above_ends(partial: Partial) -> WordEnds
 {
     let Partial { major, minor, .. } = partial;
     match partial.shape {
-        Shape::MajorMinor => at_least(release(major, next(minor), 0)),
-        Shape::Major => at_least(release(next(major), 0, 0)),
-        _ => above(zeroed(partial)),
+        Shape::MajorMinor => of_one(Form::AtLeast, release(major, next(minor), 0)),
+        Shape::Major => of_one(Form::AtLeast, release(next(major), 0, 0)),
+        _ => of_one(Form::Above, zeroed(partial)),
     }
 }
 
@@ -78,7 +78,7 @@ fn below_ends(partial: Partial) -> WordEnds
 {
     match partial.shape {
         Shape::MajorMinor => below_least(partial.major, partial.minor, 0),
-        _ => below(zeroed(partial)),
+        _ => of_one(Form::Below, zeroed(partial)),
     }
 }
 
@@ -91,7 +91,7 @@ fn at_most_ends(partial: Partial) -> WordEnds
 {
     match partial.shape {
         Shape::Full | Shape::MajorPatch | Shape::MinorPatch | Shape::Patch => {
-            at_most(zeroed(partial))
+            of_one(Form::AtMost, zeroed(partial))
         }
         _ => at_most_least(partial.major, partial.minor, 0),
     }
@@ -105,7 +105,7 @@ fn equal_ends(partial: Partial) -> WordEnds
         ends_seen result ≡ Operators.equal_row p.major p.minor p.patch (PartialText.zeroed p) }
 {
     match partial.shape {
-        Shape::Full => equal(zeroed(partial)),
+        Shape::Full => of_one(Form::Equal, zeroed(partial)),
         Shape::MajorMinor => with_minor(partial.major, partial.minor),
         Shape::Major | Shape::MajorPatch => with_major(partial.major),
         Shape::MinorPatch | Shape::Minor | Shape::Patch | Shape::Nothing => nothing(),

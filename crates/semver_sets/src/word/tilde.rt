@@ -12,8 +12,8 @@ ghost use Rattle.semver_sets.specs.Private.WordReading as Reading;
 ghost use Rattle.semver_sets.specs.Private.WordViews.{IsSound, ends_seen, lead_seen, partial_seen};
 
 use crate::parse::{Partial, Shape};
+use crate::word::Lead;
 use crate::word::ends::{WordEnds, bare_up_to, next, nothing, with_major, with_minor, zeroed};
-use crate::word::lead::Lead;
 use semver_versions::parse::skip_blanks;
 
 // `> 1.2` of `~ > 1.2`: which tilde it is, and the rest without its leading blanks

@@ -1,6 +1,6 @@
 use Rattle.std.proofs.Common.{◌≤◌, ◌-◌, length}
 use Rattle.semver_sets.proofs.Ranges.PieceLemmas.{Passed}
-use Rattle.semver_sets.proofs.read.pieces.next_piece.Given as goal
+use Rattle.semver_sets.proofs.read.next_piece.Given as goal
 
 abbrev pub invariant-bars : goal.invariant-bars
 invariant-bars l = (l.passed ≤ length l.text) × Passed l.text l.passed

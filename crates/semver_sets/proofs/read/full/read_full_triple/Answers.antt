@@ -3,7 +3,7 @@ use Rattle.semver_versions.specs.Readers.Reading.{Read}
 use Rattle.semver_sets.proofs.Words.PartialViews.{behind-dot, full-text}
 use Rattle.semver_versions.specs.Lemmas.Texts.CleanExtras.{read-ok}
 use Rattle.semver_sets.proofs.Words.WordViews.{no-bytes}
-use Rattle.semver_sets.proofs.parse.full.read_full_triple.Goals as goal
+use Rattle.semver_sets.proofs.read.full.read_full_triple.Goals as goal
 
 pub returns-in_default-empty : goal.returns-in_default-empty
 returns-in_default-empty c =

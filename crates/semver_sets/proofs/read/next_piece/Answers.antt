@@ -6,7 +6,7 @@ use Rattle.semver_versions.specs.Characters.{bar}
 use Rattle.semver_sets.specs.Private.PieceReading.{bars_after, some_seen}
 use Rattle.semver_sets.proofs.Ranges.PieceLemmas.{Passed, pass-to_bar, passed-end, seen-step, seen-stop}
 use Rattle.semver_versions.specs.Lemmas.Texts.Places.{to-end}
-use Rattle.semver_sets.proofs.read.pieces.next_piece.Goals as goal
+use Rattle.semver_sets.proofs.read.next_piece.Goals as goal
 
 -- the text after the first i characters
 abbrev left : List ℕ → ℕ → List ℕ

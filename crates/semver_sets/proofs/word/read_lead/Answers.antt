@@ -2,7 +2,7 @@ use Rattle.std.proofs.Common.{ap, ◌∙◌, List, ℕ}
 use Rattle.semver_sets.specs.Private.WordReading.{Lead, operator}
 use Rattle.semver_sets.specs.Private.WordViews.{operator_seen}
 use Rattle.semver_sets.proofs.Words.WordViews.{lead-operator}
-use Rattle.semver_sets.proofs.word.lead.read_lead.Goals as goal
+use Rattle.semver_sets.proofs.word.read_lead.Goals as goal
 
 pub returns-in-Some : goal.returns-in-Some
 returns-in-Some c =

@@ -19,12 +19,12 @@ impl fmt::Display for SemverErrorKind {
     ghost output = { kind_text };
 
     fn fmt<W: fmt::Write>(&self, f: &mut fmt::Formatter<W>) -> fmt::Result {
-        f.write_str(fixed_prefix(self))?;
+        let prefix = fixed_prefix(self);
         match self {
-            SemverErrorKind::ParseIntError(fault) => write!(f, "{fault}"),
-            SemverErrorKind::MaxIntError(number) => write!(f, "{number}"),
-            SemverErrorKind::Context(word) => write!(f, "{word}."),
-            _ => Ok(()),
+            SemverErrorKind::ParseIntError(fault) => write!(f, "{prefix}{fault}"),
+            SemverErrorKind::MaxIntError(number) => write!(f, "{prefix}{number}"),
+            SemverErrorKind::Context(word) => write!(f, "{prefix}{word}."),
+            _ => f.write_str(prefix),
         }
     }
 }

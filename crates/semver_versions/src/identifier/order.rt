@@ -30,7 +30,8 @@ impl PartialEq for Identifier {
         match (self, other) {
             (Identifier::Numeric(a), Identifier::Numeric(b)) => *a == *b,
             (Identifier::AlphaNumeric(a), Identifier::AlphaNumeric(b)) => a.as_str() == b.as_str(),
-            _ => false,
+            (Identifier::Numeric(_), Identifier::AlphaNumeric(_)) => false,
+            (Identifier::AlphaNumeric(_), Identifier::Numeric(_)) => false,
         }
     }
 }

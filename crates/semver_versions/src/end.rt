@@ -121,16 +121,15 @@ impl EndVersion {
           build = values_of build.items;
         }) }
     {
-        let (major, minor, patch) = triple;
         if pre_release.is_empty() && build.is_empty() {
-            return Ok(EndVersion::release(major, minor, patch));
+            return Ok(EndVersion::release(triple.0, triple.1, triple.2));
         }
-        let lists = Lists { pre_release, build };
+        let lists = Box::new(alloc, Lists { pre_release, build })?;
         Ok(EndVersion {
-            major,
-            minor,
-            patch,
-            extras: Extras::Lists(Box::new(alloc, lists)?),
+            major: triple.0,
+            minor: triple.1,
+            patch: triple.2,
+            extras: Extras::Lists(lists),
         })
     }
 

@@ -154,10 +154,12 @@ impl Clone for SemverError {
     ghost is_clone = { λ e c. error_value e ≡ error_value c };
 
     fn clone(&self) -> Result<SemverError, AllocError> {
+        let kind = self.kind.clone()?;
+        let input = self.input.clone()?;
         Ok(SemverError {
-            input: self.input.clone()?,
+            input,
             span: self.span,
-            kind: self.kind.clone()?,
+            kind,
         })
     }
 }

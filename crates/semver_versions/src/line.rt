@@ -48,12 +48,11 @@ pub fn put_triple(line: &mut [u8; ROOM], end: usize, triple: (u64, u64, u64)) ->
     ensures text { drop result line.new
         ≡ decimal triple.0 ++ (dot ∷ (decimal triple.1 ++ (dot ∷ (decimal triple.2 ++ drop end line.old)))) }
 {
-    let (major, minor, patch) = triple;
-    let at = put_number(line, end, patch);
+    let at = put_number(line, end, triple.2);
     let at = put_byte(line, at, b'.');
-    let at = put_number(line, at, minor);
+    let at = put_number(line, at, triple.1);
     let at = put_byte(line, at, b'.');
-    put_number(line, at, major)
+    put_number(line, at, triple.0)
 }
 
 // Writes the digits of a number so that they end at `end`. `inline(always)`: part of each print's only loop.

@@ -103,8 +103,11 @@ impl Version {
         let mut identifiers = Vec::with_capacity(alloc, 1)?;
         identifiers.push(Identifier::Numeric(pre_release))?;
         Ok(Version {
+            major,
+            minor,
+            patch,
+            build: Vec::new(alloc),
             pre_release: identifiers,
-            ..Version::new(alloc, major, minor, patch)
         })
     }
 

@@ -13,19 +13,15 @@ impl EndVersion {
     pub fn copy(&self) -> Result<EndVersion, AllocError>
         ensures { IfOk result (λ copy. copy ≡ self.now) }
     {
-        let (major, minor, patch) = (self.major, self.minor, self.patch);
         match &self.extras {
-            Extras::Nothing => Ok(EndVersion::release(major, minor, patch)),
-            Extras::Zero => Ok(EndVersion::least(major, minor, patch)),
-            Extras::Lists(lists) => {
-                let alloc = *lists.build.allocator();
-                EndVersion::with_extras(
-                    alloc,
-                    (major, minor, patch),
-                    copies_of(alloc, &lists.pre_release)?,
-                    copies_of(alloc, &lists.build)?,
-                )
-            }
+            Extras::Nothing => Ok(EndVersion::release(self.major, self.minor, self.patch)),
+            Extras::Zero => Ok(EndVersion::least(self.major, self.minor, self.patch)),
+            Extras::Lists(lists) => EndVersion::with_list_copies(
+                *lists.build.allocator(),
+                (self.major, self.minor, self.patch),
+                &lists.pre_release,
+                &lists.build,
+            ),
         }
     }
 
@@ -53,16 +49,34 @@ impl EndVersion {
           build = values_of build.now;
         }) }
     {
-        let (major, minor, patch) = triple;
         match (pre_release, build) {
-            ([], []) => Ok(EndVersion::release(major, minor, patch)),
-            ([Identifier::Numeric(0)], []) => Ok(EndVersion::least(major, minor, patch)),
-            _ => EndVersion::with_extras(
-                alloc,
-                triple,
-                copies_of(alloc, pre_release)?,
-                copies_of(alloc, build)?,
-            ),
+            ([], []) => Ok(EndVersion::release(triple.0, triple.1, triple.2)),
+            ([Identifier::Numeric(0)], []) => {
+                Ok(EndVersion::least(triple.0, triple.1, triple.2))
+            }
+            _ => EndVersion::with_list_copies(alloc, triple, pre_release, build),
         }
+    }
+
+    // The version with this triple and copies of these lists, which are usually not both empty. `inline(always)`: part
+    // of the two functions above.
+    #[inline(always)]
+    fn with_list_copies(
+        alloc: Global,
+        triple: (u64, u64, u64),
+        pre_release: &[Identifier],
+        build: &[Identifier],
+    ) -> Result<EndVersion, AllocError>
+        ensures { IfOk result (λ e. e ≡ record {
+          major = triple.0;
+          minor = triple.1;
+          patch = triple.2;
+          pre_release = values_of pre_release.now;
+          build = values_of build.now;
+        }) }
+    {
+        let pre_release = copies_of(alloc, pre_release)?;
+        let build = copies_of(alloc, build)?;
+        EndVersion::with_extras(alloc, triple, pre_release, build)
     }
 }

@@ -2,7 +2,7 @@ ghost use Rattle.std.specs.Prelude.{◌≡◌, length};
 ghost use Rattle.semver_versions.specs.Characters as Characters;
 ghost use Rattle.semver_versions.specs.Readers.Reading as Reading;
 ghost use Rattle.semver_versions.specs.Readers.ReadingViews.{seen};
-ghost use Rattle.semver_versions.specs.declared.parse.fault.Fault.TheVariants.{Missing, TooLarge};
+ghost use Rattle.semver_versions.specs.declared.parse.fault.Fault.TheVariants.{Missing};
 
 use crate::MAX_SAFE_INTEGER;
 use crate::parse::Fault;
@@ -35,7 +35,7 @@ pub fn read_number(text: &[u8]) -> Result<(u64, &[u8]), Fault>
     {
         value = value * 10 + u64::from(*byte - b'0');
         if value > MAX_SAFE_INTEGER {
-            return Err(too_large(text));
+            return Err(Fault::TooLarge(text.len()));
         }
         rest = others;
     }
@@ -48,14 +48,6 @@ pub(crate) fn missing(text: &[u8]) -> Fault
     ensures { result ≡ Missing (length text.now) }
 {
     Fault::Missing(text.len())
-}
-
-// The fault that the number here is too large.
-#[inline(always)]
-fn too_large(text: &[u8]) -> Fault
-    ensures { result ≡ TooLarge (length text.now) }
-{
-    Fault::TooLarge(text.len())
 }
 
 /// Returns all leading digits: `12` for `12.3`.

@@ -21,18 +21,8 @@ pub(crate) fn split<F: Fn(u8) -> bool>(text: &[u8], passes: F) -> (&[u8], &[u8])
     (text, &text[text.len()..])
 }
 
-// The rest, from the first byte on that does not pass the test.
-#[inline(always)]
-pub(crate) fn skip_while<F: Fn(u8) -> bool>(text: &[u8], passes: F) -> &[u8]
-    requires { F.IsAlwaysCallable passes }
-    ensures { (test : ℕ → Bool) → IsTest (F.post passes) test → result.now ≡ Reading.rest_of test text.now }
-{
-    split(text, passes).1
-}
-
 // The text without its first byte, if that passes the test.
 #[inline(always)]
-#[tactic(auto, unfolding(crate::specs::Readers::Reading::skip_one))]
 pub fn skip_one<F: Fn(u8) -> bool>(text: &[u8], passes: F) -> &[u8]
     requires { F.IsAlwaysCallable passes }
     ensures { (test : ℕ → Bool) → IsTest (F.post passes) test → result.now ≡ Reading.skip_one test text.now }
@@ -56,7 +46,7 @@ pub(crate) fn is_blank(byte: u8) -> bool
 pub fn skip_blanks(text: &[u8]) -> &[u8]
     ensures { result.now ≡ Reading.rest_of Characters.is_blank text.now }
 {
-    skip_while(text, is_blank)
+    split(text, is_blank).1
 }
 
 // The text without its leading blanks, or `None` if it has none.

@@ -1,34 +1,39 @@
 ghost use Rattle.std.specs.Prelude.{◌≡◌, IfOk, IfSome, IsOk, []};
 ghost use Rattle.semver_versions.specs.Characters.{is_blank, is_version_mark};
 ghost use Rattle.semver_versions.specs.Readers.Reading as Reading;
-ghost use Rattle.semver_versions.specs.Readers.ReadingViews.{IsLeadingTriple, dot_seen, extras_seen, seen};
+ghost use Rattle.semver_versions.specs.Readers.DottedReading.{read_dotted};
+ghost use Rattle.semver_versions.specs.Readers.ReadingViews.{IsLeadingTriple, extras_seen, seen};
 
 use crate::Identifier;
 use crate::parse::Fault;
 use crate::parse::identifiers::{read_build, read_prerelease};
 use crate::parse::number::{is_digit, missing, read_number};
-use crate::parse::skip::{skip_blanks, skip_one};
+use crate::parse::skip::skip_blanks;
 use std::alloc::{AllocError, Global};
 
-// The text without the dot that it begins with. `inline(always)` in this file: these readers are the usual way of each
-// version, and hand numbers on in registers.
+// The number after the dot that the text begins with, and the rest: 2 and `.3` for `.2.3`. `inline(always)` in this
+// file: these readers are the usual way of each version, and hand numbers on in registers.
 #[inline(always)]
 #[tactic(auto, unfolding(crate::specs::Readers::Reading::read_dot))]
-fn read_dot(text: &[u8]) -> Result<&[u8], Fault>
-    ensures { dot_seen result ≡ Reading.read_dot text.now }
+fn read_dotted(text: &[u8]) -> Result<(u64, &[u8]), Fault>
+    ensures { seen result ≡ read_dotted text.now }
 {
     match text {
-        [b'.', rest @ ..] => Ok(rest),
+        [b'.', rest @ ..] => read_number(rest),
         _ => Err(missing(text)),
     }
 }
 
 // The text without the `v` or `V` that it begins with, if it does.
 #[inline(always)]
+#[tactic(auto, unfolding(crate::specs::Readers::Reading::skip_one))]
 fn skip_version_mark(text: &[u8]) -> &[u8]
     ensures { result.now ≡ Reading.skip_one is_version_mark text.now }
 {
-    skip_one(text, |byte| byte == b'v' || byte == b'V')
+    match text {
+        [b'v' | b'V', rest @ ..] => rest,
+        _ => text,
+    }
 }
 
 /// Returns the number after an optional `v` and blanks, and the rest: `1` and `.2.3` for `V 1.2.3`.
@@ -48,10 +53,8 @@ pub fn read_major(text: &[u8]) -> Result<(u64, &[u8]), Fault>
 pub fn read_minor_and_patch(major: u64, text: &[u8]) -> Result<((u64, u64, u64), &[u8]), Fault>
     ensures { seen result ≡ Reading.read_minor_and_patch (major, text.now) }
 {
-    let rest = read_dot(text)?;
-    let (minor, rest) = read_number(rest)?;
-    let rest = read_dot(rest)?;
-    let (patch, rest) = read_number(rest)?;
+    let (minor, rest) = read_dotted(text)?;
+    let (patch, rest) = read_dotted(rest)?;
     Ok(((major, minor, patch), rest))
 }
 
@@ -61,7 +64,9 @@ pub fn read_minor_and_patch(major: u64, text: &[u8]) -> Result<((u64, u64, u64),
 pub fn read_leading_triple(text: &[u8]) -> Option<((u64, u64, u64), &[u8])>
     ensures { IfSome result (λ t. IsLeadingTriple text.now t.0 t.1.now) }
 {
-    let (major, rest) = read_number(text).ok()?;
+    let Ok((major, rest)) = read_number(text) else {
+        return None;
+    };
     read_minor_and_patch(major, rest).ok()
 }
 

@@ -28,12 +28,14 @@ impl Clone for Version {
         ensures copy { IfOk result (λ copy. copy ≡ self.now) }
         ensures plain { IsPlain self.now → IsOk result }
     {
+        let build = copies_of(*self.build.allocator(), &self.build)?;
+        let pre_release = copies_of(*self.pre_release.allocator(), &self.pre_release)?;
         Ok(Version {
             major: self.major,
             minor: self.minor,
             patch: self.patch,
-            build: copies_of(*self.build.allocator(), &self.build)?,
-            pre_release: copies_of(*self.pre_release.allocator(), &self.pre_release)?,
+            build,
+            pre_release,
         })
     }
 }

@@ -62,8 +62,7 @@ pub(crate) fn write_triple<W: fmt::Write>(
         (decimal triple.0 ++ (dot ∷ (decimal triple.1 ++ (dot ∷ decimal triple.2)))) f.new }
 {
     let mut line = [0; ROOM];
-    let (major, minor, patch) = triple;
-    f.write_str(triple_text(&mut line, major, minor, patch))
+    f.write_str(triple_text(&mut line, triple.0, triple.1, triple.2))
 }
 
 // Writes the mark and the identifiers with dots between them. `inline(always)`: most versions have none, which is one

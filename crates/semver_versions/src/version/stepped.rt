@@ -50,9 +50,13 @@ impl Stepped for Version {
         ensures none { IfOk result (λ next. IsNone next ↔ HasGreatestPatch self.now) }
     {
         if self.is_prerelease() {
+            let pre_release = copies_with_zero(alloc, &self.pre_release)?;
             return Ok(Some(Version {
-                pre_release: copies_with_zero(alloc, &self.pre_release)?,
-                ..Version::new(alloc, self.major, self.minor, self.patch)
+                major: self.major,
+                minor: self.minor,
+                patch: self.patch,
+                build: Vec::new(alloc),
+                pre_release,
             }));
         }
         match self.patch.checked_add(1) {

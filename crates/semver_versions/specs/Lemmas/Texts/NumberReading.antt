@@ -6,6 +6,8 @@ use Rattle.semver_versions.specs.declared.TheConstants.{MAX_SAFE_INTEGER}
 use Rattle.semver_versions.specs.Characters.{BeginsWithNo, is_digit, dot}
 use Rattle.semver_versions.specs.NumberText.{IsNumberText, number_of}
 use Rattle.semver_versions.specs.Readers.Reading.{◌>>=◌, rest_of, begins, prefix_of, read_number, read_dot}
+use Rattle.semver_versions.specs.Readers.Reading.{Read, read_minor_and_patch}
+use Rattle.semver_versions.specs.Readers.DottedReading.{read_dotted}
 use Rattle.semver_versions.specs.declared.parse.fault.Fault.{Fault}
 use Rattle.semver_versions.specs.Lemmas.Texts.Prefixes.{rest_of-again, rest_of-no, begins-append, begins-with}
 use Rattle.semver_versions.specs.Lemmas.Texts.Prefixes.{prefix_of-rest_of}
@@ -88,6 +90,45 @@ dot-takes (b ∷ text) rest h = elim (cases_Bool (b == dot)) [
       cc (same, byte)
   | inr other ↦ cc (rw other at h)
 ]
+
+-- two steps and a third are one and two
+regrouped : {A B C : Type 0} (r : Result A Fault) (f : A → Result B Fault) (g : B → Result C Fault)
+    → ((r >>= f) >>= g) ≡ (r >>= λ x. f x >>= g)
+regrouped (Ok x) f g = refl
+regrouped (Err e) f g = refl
+
+-- two numbers, each after its dot
+dotted-twice : (major : ℕ) (text : List ℕ)
+    → (read_dotted text >>= λ minor. read_dotted minor.1 >>= λ patch. Ok ((major, minor.0, patch.0), patch.1))
+    ≡ read_minor_and_patch (major, text)
+dotted-twice major text =
+    regrouped (read_dot text) read_number
+    (λ minor. read_dotted minor.1 >>= λ patch. Ok ((major, minor.0, patch.0), patch.1))
+    ∙ (λ i. read_dot text >>= λ second.
+    read_number second >>= λ minor.
+    regrouped (read_dot minor.1) read_number (λ patch. Ok ((major, minor.0, patch.0), patch.1)) i)
+
+pub dotted-both : (major : ℕ) (text : List ℕ) (minor patch : ℕ × List ℕ) → Ok minor ≡ read_dotted text
+    → Ok patch ≡ read_dotted minor.1 → Ok ((major, minor.0, patch.0), patch.1) ≡ read_minor_and_patch (major, text)
+dotted-both major text minor patch first second =
+    ap (λ (r : Read ℕ). r >>= λ last. Ok ((major, minor.0, last.0), last.1)) second
+    ∙ ap (λ (r : Read ℕ). r >>= λ next.
+    read_dotted next.1 >>= λ last. Ok ((major, next.0, last.0), last.1)) first ∙ dotted-twice major text
+
+-- where the second one is missing
+pub dotted-second : (major : ℕ) (text : List ℕ) (minor : ℕ × List ℕ) (f : Fault) → Ok minor ≡ read_dotted text
+    → Err f ≡ read_dotted minor.1 → Err f ≡ read_minor_and_patch (major, text)
+dotted-second major text minor f first second =
+    ap (λ (r : Read ℕ). r >>= λ last. Ok ((major, minor.0, last.0), last.1)) second
+    ∙ ap (λ (r : Read ℕ). r >>= λ next.
+    read_dotted next.1 >>= λ last. Ok ((major, next.0, last.0), last.1)) first ∙ dotted-twice major text
+
+-- and where the first one is
+pub dotted-first : (major : ℕ) (text : List ℕ) (f : Fault) → Err f ≡ read_dotted text
+    → Err f ≡ read_minor_and_patch (major, text)
+dotted-first major text f first =
+    ap (λ (r : Read ℕ). r >>= λ next.
+    read_dotted next.1 >>= λ last. Ok ((major, next.0, last.0), last.1)) first ∙ dotted-twice major text
 
 pub dot-again : (rest : List ℕ) → read_dot (dot ∷ rest) ≡ Ok rest
 unfolding read_dot

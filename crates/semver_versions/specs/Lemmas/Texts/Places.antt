@@ -3,7 +3,7 @@ use Rattle.std.proofs.Common.{◌≡◌, ◌+◌, ◌-◌, ◌<◌, ◌≤◌, �
 use Rattle.std.proofs.Common.{drop, refl, sym, ap, ◌∙◌, add-one, append-nil, append_assoc, drop-cons, suc, zero, arith}
 use Rattle.std.proofs.lemmas.List.{drop_all, take_rest}
 use Rattle.std.proofs.Math.Seq.{take-suc}
-use Rattle.semver_versions.specs.Readers.Reading.{rest_of, prefix_of}
+use Rattle.semver_versions.specs.Readers.Reading.{rest_of, prefix_of, skip_one}
 
 -- the text from a place on
 pub at-place : (s : List ℕ) (i : ℕ) → i < length s → drop i s ≡ get_or s i 0 ∷ drop (i + 1) s
@@ -47,6 +47,24 @@ rest_of-end test s i h = rw (drop_all i s h) refl
 pub prefix_of-end : (test : ℕ → Bool) (s : List ℕ) (i : ℕ) → length s ≤ i → prefix_of test (drop i s) ≡ []
 unfolding prefix_of
 prefix_of-end test s i h = rw (drop_all i s h) refl
+
+-- a mark at the start is skipped
+pub skip_one-first : (test : ℕ → Bool) (s : List ℕ) → 1 ≤ length s → test (get_or s 0 0) ≡ true
+    → take (length s - 1) (drop 1 s) ≡ skip_one test s
+unfolding skip_one
+skip_one-first test [] some passes = absurd (omega arith)
+skip_one-first test (b ∷ s) some passes = rw passes (to-end (b ∷ s) 1)
+
+-- and nothing where there is none
+pub skip_one-empty : (test : ℕ → Bool) (s : List ℕ) → length s < 1 → s ≡ skip_one test s
+unfolding skip_one
+skip_one-empty test [] none = refl
+skip_one-empty test (b ∷ s) none = absurd (omega arith)
+
+pub skip_one-other : (test : ℕ → Bool) (s : List ℕ) → 1 ≤ length s → test (get_or s 0 0) ≡ false → s ≡ skip_one test s
+unfolding skip_one
+skip_one-other test [] some stops = absurd (omega arith)
+skip_one-other test (b ∷ s) some stops = rw stops refl
 
 -- A loop has gone over the first i characters, which all pass.
 pub record Over (test : ℕ → Bool) (s : List ℕ) (i : ℕ) : Type 0 where

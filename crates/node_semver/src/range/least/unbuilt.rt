@@ -179,12 +179,12 @@ impl<'a> Unbuilt<'a> {
             major: self.major,
             minor: self.minor,
             patch: self.patch,
-            build: copies_of(alloc, self.build)?,
             pre_release: if self.zero {
                 copies_with_zero(alloc, identifiers)?
             } else {
                 copies_of(alloc, identifiers)?
             },
+            build: copies_of(alloc, self.build)?,
         })
     }
 }

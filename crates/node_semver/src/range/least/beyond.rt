@@ -9,7 +9,7 @@ ghost use Rattle.semver_sets.specs.RangeSets.{IsRangeSet, IsReadCut, IsReadVersi
 ghost use Rattle.semver_versions.specs.Version.{release};
 ghost use Rattle.node_semver.specs.Least.{AdmitsBeyond, AdmitsNoneBeyond, IsAdmittedBy, IsLeastBeyond};
 ghost use Rattle.node_semver.specs.Private.BeyondViews.{AreSetsTried, AreUppersTried, IsBelowBest, IsCutTrial};
-ghost use Rattle.node_semver.specs.Private.BeyondViews.{IsLeastBeyondOrNone, IsLeastOpened, IsOpenTrial, IsSetTrial};
+ghost use Rattle.node_semver.specs.Private.BeyondViews.{IsLeastBeyondOrNone, IsLeastOpened, IsOpenTrial};
 ghost use Rattle.node_semver.specs.Private.BeyondViews.{IsShut, IsTrial};
 
 use crate::range::least::candidates::ReleaseCandidate;
@@ -63,7 +63,8 @@ fn least_unbuilt<'a>(range: &'a Range, other: &'a Range) -> Option<Unbuilt<'a>>
     least_with_others(found, other.sets.as_slice(), range, other)
 }
 
-// The least of the candidates of the sets.
+// The least of the candidates of the sets: for each set those where it begins, and the one in the triple that its upper
+// end opens.
 #[inline(always)]
 fn least_candidate<'a>(
     sets: &'a [Span<EndVersion>],
@@ -75,7 +76,8 @@ fn least_candidate<'a>(
 {
     let mut best = None;
     'sets: for set in sets {
-        try_set(&mut best, set, range, other);
+        try_cut(&mut best, set.lower(), range, other);
+        try_opened(&mut best, set, range, other);
     }
     best
 }
@@ -94,39 +96,9 @@ fn least_with_others<'a>(
 {
     let mut best = found;
     'sets: for set in sets {
-        try_end(&mut best, set, range, other);
+        try_cut(&mut best, set.upper(), range, other);
     }
     best
-}
-
-// Tries the candidates of a set, and keeps the least in `best`: the candidates where the set begins, and the one in the
-// triple that its upper end opens.
-#[inline(always)]
-fn try_set<'a>(
-    best: &mut Option<Unbuilt<'a>>,
-    set: &'a Span<EndVersion>,
-    range: &Range,
-    other: &Range,
-)
-    requires { IsRangeSet set.now }
-    ensures { IsSetTrial range.now other.now best.old set.now best.new }
-{
-    try_cut(best, set.lower(), range, other);
-    try_opened(best, set, range, other);
-}
-
-// Tries the candidates where a set ends.
-#[inline(always)]
-fn try_end<'a>(
-    best: &mut Option<Unbuilt<'a>>,
-    set: &'a Span<EndVersion>,
-    range: &Range,
-    other: &Range,
-)
-    requires { IsRangeSet set.now }
-    ensures { IsCutTrial range.now other.now best.old set.now.upper best.new }
-{
-    try_cut(best, set.upper(), range, other);
 }
 
 // Tries the candidates at a cut: the least release after it and, if it is at a prerelease, the least version after it.
@@ -141,7 +113,14 @@ fn try_cut<'a>(
     ensures { IsCutTrial range.now other.now best.old cut.now best.new }
 {
     match cut {
-        Cut::Start => try_release(best, ReleaseCandidate::of(0, 0, 0), range, other),
+        Cut::Start => {
+            let release = ReleaseCandidate {
+                major: 0,
+                minor: 0,
+                patch: 0,
+            };
+            try_release(best, release, range, other);
+        }
         Cut::Before(end) => try_before(best, end, range, other),
         Cut::After(end) => try_after(best, end, range, other),
         Cut::End => {}
@@ -155,7 +134,11 @@ fn try_before<'a>(best: &mut Option<Unbuilt<'a>>, end: &'a EndVersion, range: &R
     if end.is_prerelease() {
         try_candidate(best, Unbuilt::at_end(end).without_build(), range, other);
     }
-    let release = ReleaseCandidate::of(end.major, end.minor, end.patch);
+    let release = ReleaseCandidate {
+        major: end.major,
+        minor: end.minor,
+        patch: end.patch,
+    };
     try_release(best, release, range, other);
 }
 
@@ -170,7 +153,11 @@ fn try_after<'a>(best: &mut Option<Unbuilt<'a>>, end: &'a EndVersion, range: &Ra
     } else {
         patch += 1;
     }
-    let release = ReleaseCandidate::of(end.major, end.minor, patch);
+    let release = ReleaseCandidate {
+        major: end.major,
+        minor: end.minor,
+        patch,
+    };
     try_release(best, release, range, other);
 }
 

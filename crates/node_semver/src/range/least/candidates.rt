@@ -3,8 +3,7 @@
 //!
 //! `#[inline(always)]`: each function is a few stores or comparisons in the loop over the candidates.
 ghost use Rattle.std.specs.Prelude.{◌≡◌, ◌↔◌, IsTrue};
-ghost use Rattle.std.specs.declared.cmp.Ordering.TheVariants.{Less};
-ghost use Rattle.semver_versions.specs.Comparison.{prerelease_cmp, version_cmp};
+ghost use Rattle.semver_versions.specs.Comparison.{prerelease_cmp};
 ghost use Rattle.semver_versions.specs.Version.{least_of, release, without_build};
 ghost use Rattle.node_semver.specs.Private.BeyondViews.{IsBelowBest};
 
@@ -104,17 +103,6 @@ pub(crate) struct ReleaseCandidate {
 }
 
 impl ReleaseCandidate {
-    #[inline(always)]
-    pub(crate) fn of(major: u64, minor: u64, patch: u64) -> ReleaseCandidate
-        ensures { release result.major result.minor result.patch ≡ release major minor patch }
-    {
-        ReleaseCandidate {
-            major,
-            minor,
-            patch,
-        }
-    }
-
     // Returns `true` if there is no best version so far, or this release is less than it. Other versions of its triple
     // are not greater than it.
     #[inline(always)]
@@ -122,17 +110,9 @@ impl ReleaseCandidate {
         ensures { IsTrue result ↔ IsBelowBest best.now (release self.now.major self.now.minor self.now.patch) }
     {
         match best {
-            Some(best) => self.is_below(best),
+            Some(best) => self.triple() < best.triple(),
             None => true,
         }
-    }
-
-    #[inline(always)]
-    fn is_below(&self, other: &Unbuilt<'_>) -> bool
-        ensures { IsTrue result ↔
-            (version_cmp (release self.now.major self.now.minor self.now.patch) other.now ≡ Less) }
-    {
-        self.triple() < other.triple()
     }
 }
 

@@ -9,7 +9,6 @@ ghost use Rattle.semver_cuts.specs.declared.cut.Cut.TheVariants.{Before};
 ghost use Rattle.semver_versions.specs.Comparison.{prerelease_cmp, version_cmp};
 ghost use Rattle.semver_versions.specs.Identifier.{value_of, values_of};
 ghost use Rattle.semver_versions.specs.IdentifierValue.{numeric};
-ghost use Rattle.semver_versions.specs.Version.{release};
 ghost use Rattle.node_semver.specs.Private.LeastViews.{IsInsideOrNone, with_zeros};
 
 use crate::{Identifier, Version};
@@ -156,17 +155,10 @@ impl<'a> Unbuilt<'a> {
     pub(crate) fn built(&self, alloc: Global) -> Result<Version, AllocError>
         ensures { IfOk result (λ v. v ≡ self.now) }
     {
-        if self.is_triple_alone() {
+        if !self.zero && self.identifiers.is_empty() && self.build.is_empty() {
             return Ok(Version::new(alloc, self.major, self.minor, self.patch));
         }
         self.built_with_lists(alloc)
-    }
-
-    #[inline(always)]
-    fn is_triple_alone(&self) -> bool
-        ensures { IsTrue result → release self.now.major self.now.minor self.now.patch ≡ self.now }
-    {
-        !self.zero && self.identifiers.is_empty() && self.build.is_empty()
     }
 
     #[inline(never)]
@@ -179,12 +171,12 @@ impl<'a> Unbuilt<'a> {
             major: self.major,
             minor: self.minor,
             patch: self.patch,
-            build: copies_of(alloc, self.build)?,
             pre_release: if self.zero {
                 copies_with_zero(alloc, identifiers)?
             } else {
                 copies_of(alloc, identifiers)?
             },
+            build: copies_of(alloc, self.build)?,
         })
     }
 }

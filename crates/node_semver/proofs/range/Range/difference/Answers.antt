@@ -6,7 +6,6 @@ use Rattle.semver_cuts.specs.Lemmas.Difference.{difference-covered, difference-c
 use Rattle.semver_versions.specs.Comparison.{version_cmp}
 use Rattle.semver_versions.specs.Lemmas.Order.{version_total}
 use Rattle.semver_sets.specs.RangeSets.{IsRangeValue}
-use Rattle.node_semver.specs.RangeAlgebra.{sets_of_answer}
 use Rattle.node_semver.proofs.Sets.AlgebraBounds.{difference-bounded, none-exactly, none-listed}
 use Rattle.node_semver.proofs.Sets.RangeAlgebra.{difference-releases}
 use Rattle.node_semver.proofs.range.Range.difference.Goals as goal
@@ -18,12 +17,12 @@ of_gathered-requires c =
     let others : IsRangeValue c.args.other.now = subst IsRangeValue c.other.view_is c.other.invariant in
     difference-bounded c.args.self.now c.args.other.now c.subtract_from.new.into spans ones.each others.each
 
+pub returns-clause-sets : goal.returns-clause-sets
+returns-clause-sets c = search rules
+
 pub returns-clause-cuts : goal.returns-clause-cuts
 returns-clause-cuts c =
-    let answered : AreDifference version_cmp c.args.self.now c.args.other.now
-    (sets_of_answer c.in_ok-of_gathered.field-0) =
-    search rules in
-    difference-cuts version_cmp _ _ _ answered
+    difference-cuts version_cmp _ _ _ (returns-clause-sets c)
 
 pub returns-clause-none : goal.returns-clause-none
 returns-clause-none c =
@@ -33,31 +32,19 @@ returns-clause-none c =
 
 pub returns-clause-releases : goal.returns-clause-releases
 returns-clause-releases c =
-    let answered : AreDifference version_cmp c.args.self.now c.args.other.now
-    (sets_of_answer c.in_ok-of_gathered.field-0) =
-    search rules in
-    difference-releases _ _ _ answered
+    difference-releases _ _ _ (returns-clause-sets c)
 
 pub returns-clause-disjoint : goal.returns-clause-disjoint
 returns-clause-disjoint c =
-    let answered : AreDifference version_cmp c.args.self.now c.args.other.now
-    (sets_of_answer c.in_ok-of_gathered.field-0) =
-    search rules in
-    λ cut both. common_difference-disjoint version_total _ _ _ answered cut both.0 both.1
+    λ cut both. common_difference-disjoint version_total _ _ _ (returns-clause-sets c) cut both.0 both.1
 
 pub returns-clause-together : goal.returns-clause-together
 returns-clause-together c =
-    let answered : AreDifference version_cmp c.args.self.now c.args.other.now
-    (sets_of_answer c.in_ok-of_gathered.field-0) =
-    search rules in
     λ cut.
-    let either = common_difference-together version_total _ _ _ answered cut in (either.1, either.0)
+    let either = common_difference-together version_total _ _ _ (returns-clause-sets c) cut in (either.1, either.0)
 
 pub returns-clause-covered : goal.returns-clause-covered
 returns-clause-covered c =
-    let answered : AreDifference version_cmp c.args.self.now c.args.other.now
-    (sets_of_answer c.in_ok-of_gathered.field-0) =
-    search rules in
-    let law = difference-covered version_total _ _ _ answered in
+    let law = difference-covered version_total _ _ _ (returns-clause-sets c) in
     let none = none-listed c.in_ok-of_gathered.field-0 c.in_ok-of_gathered.ensures.holds in
     (λ is. law.0 (none.0 is), λ covers. none.1 (law.1 covers))

@@ -7,7 +7,6 @@ use Rattle.semver_cuts.specs.Lemmas.Difference.{common_difference-disjoint, comm
 use Rattle.semver_versions.specs.Lemmas.Order.{version_total}
 use Rattle.semver_versions.specs.Comparison.{version_cmp}
 use Rattle.semver_sets.specs.RangeSets.{IsRangeSet, IsRangeValue}
-use Rattle.node_semver.specs.RangeAlgebra.{sets_of_answer}
 use Rattle.node_semver.proofs.Sets.AlgebraBounds.{common-bounded, none-exactly, some-exactly}
 use Rattle.node_semver.proofs.Sets.RangeAlgebra.{common-admits, common-releases}
 use Rattle.node_semver.proofs.range.Range.intersect.Goals as goal
@@ -20,12 +19,12 @@ of_gathered-requires c =
     subst (AllByRecursion IsRangeSet) (sym common)
     (common-bounded c.args.self.now c.args.other.now ones.each others.each)
 
+pub returns-clause-sets : goal.returns-clause-sets
+returns-clause-sets c = search rules
+
 pub returns-clause-cuts : goal.returns-clause-cuts
 returns-clause-cuts c =
-    let answered : sets_of_answer c.in_ok-of_gathered.field-0
-    ≡ common_spans version_cmp c.args.self.now c.args.other.now =
-    search rules in
-    λ cut. rw answered (common_spans-cuts version_total c.args.self.now c.args.other.now cut)
+    λ cut. rw (returns-clause-sets c) (common_spans-cuts version_total c.args.self.now c.args.other.now cut)
 
 pub returns-clause-none : goal.returns-clause-none
 returns-clause-none c =
@@ -47,33 +46,21 @@ returns-clause-some c =
 
 pub returns-clause-releases : goal.returns-clause-releases
 returns-clause-releases c =
-    let answered : sets_of_answer c.in_ok-of_gathered.field-0
-    ≡ common_spans version_cmp c.args.self.now c.args.other.now =
-    search rules in
     λ v release.
-    rw answered (common-releases c.args.self.now c.args.other.now v release)
+    rw (returns-clause-sets c) (common-releases c.args.self.now c.args.other.now v release)
 
 pub returns-clause-prereleases : goal.returns-clause-prereleases
 returns-clause-prereleases c =
-    let answered : sets_of_answer c.in_ok-of_gathered.field-0
-    ≡ common_spans version_cmp c.args.self.now c.args.other.now =
-    search rules in
-    λ v pre. rw answered (common-admits v c.args.self.now c.args.other.now)
+    λ v pre. rw (returns-clause-sets c) (common-admits v c.args.self.now c.args.other.now)
 
 pub returns-clause-disjoint : goal.returns-clause-disjoint
 returns-clause-disjoint c =
-    let answered : sets_of_answer c.in_ok-of_gathered.field-0
-    ≡ common_spans version_cmp c.args.self.now c.args.other.now =
-    search rules in
     λ spans are cut.
-    rw answered
+    rw (returns-clause-sets c)
     (λ both. common_difference-disjoint version_total c.args.self.now c.args.other.now spans are cut both.0 both.1)
 
 pub returns-clause-together : goal.returns-clause-together
 returns-clause-together c =
-    let answered : sets_of_answer c.in_ok-of_gathered.field-0
-    ≡ common_spans version_cmp c.args.self.now c.args.other.now =
-    search rules in
     λ spans are cut.
     let either = common_difference-together version_total c.args.self.now c.args.other.now spans are cut in
-    rw answered (either.1, either.0)
+    rw (returns-clause-sets c) (either.1, either.0)

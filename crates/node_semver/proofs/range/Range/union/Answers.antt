@@ -1,19 +1,20 @@
-use Rattle.std.proofs.Common.{rules, ◌≡◌, ◌++◌, inl, inr}
+use Rattle.std.proofs.Common.{rules, inl, inr}
 use Rattle.semver_cuts.specs.Lemmas.InSome.{in_some-either, in_some-left, in_some-right}
 use Rattle.semver_cuts.specs.Lemmas.Lists.{any-either, any-left, any-right}
 use Rattle.semver_versions.specs.Comparison.{version_cmp}
 use Rattle.semver_sets.specs.Meaning.{SetAdmits}
-use Rattle.semver_sets.specs.RangeSets.{sets_seen}
 use Rattle.semver_versions.specs.Version.{VersionValue}
 use Rattle.semver_cuts.specs.Ends.{Ends}
 use Rattle.node_semver.proofs.range.Range.union.Goals as goal
+
+pub returns-clause-sets : goal.returns-clause-sets
+returns-clause-sets c = search rules
 
 pub returns-clause-cuts : goal.returns-clause-cuts
 returns-clause-cuts c =
     let ones = c.args.self.now in
     let others = c.args.other.now in
-    let joined : sets_seen c.in_ok-union.field-0 ≡ ones ++ others = search rules in
-    λ cut. rw joined (
+    λ cut. rw (returns-clause-sets c) (
       in_some-either version_cmp cut ones others,
       λ either. elim either [
         | inl one ↦ in_some-left version_cmp cut ones others one
@@ -25,8 +26,7 @@ pub returns-clause-admitted : goal.returns-clause-admitted
 returns-clause-admitted c =
     let ones = c.args.self.now in
     let others = c.args.other.now in
-    let joined : sets_seen c.in_ok-union.field-0 ≡ ones ++ others = search rules in
-    λ v. rw joined (
+    λ v. rw (returns-clause-sets c) (
       any-either (λ (set : Ends VersionValue). SetAdmits set v) ones others,
       λ either. elim either [
         | inl one ↦ any-left (λ (set : Ends VersionValue). SetAdmits set v) ones others one
@@ -36,6 +36,5 @@ returns-clause-admitted c =
 
 pub returns-clause-text : goal.returns-clause-text
 returns-clause-text c =
-    let joined : sets_seen c.in_ok-union.field-0 ≡ c.args.self.now ++ c.args.other.now = search rules in
     λ one another joinable first second.
-    rw joined (c.joined_texts_write_all_sets.ensures one another c.args.self.now c.args.other.now joinable first second)
+    rw (returns-clause-sets c) (c.joined_texts_write_all_sets.ensures one another c.args.self.now c.args.other.now joinable first second)

@@ -1,9 +1,10 @@
 use Rattle.std.proofs.Common.{List, subst}
 use Rattle.std.proofs.lemmas.List.{take_all}
+use Rattle.semver_cuts.specs.declared.cut.Cut.{Cut}
 use Rattle.semver_cuts.specs.Ends.{Ends}
 use Rattle.semver_versions.specs.Version.{VersionValue}
-use Rattle.node_semver.specs.Private.BeyondViews.{AreSetsTried}
-use Rattle.node_semver.proofs.Least.BeyondSteps.{sets-more}
+use Rattle.node_semver.specs.Private.BeyondViews.{AreSetsTried, IsCutTrial}
+use Rattle.node_semver.proofs.Least.BeyondSteps.{set-trial, sets-more}
 use Rattle.node_semver.proofs.range.least.beyond.least_candidate.Goals as goal
 
 pub sets-init : goal.sets-init
@@ -11,8 +12,15 @@ sets-init c = record { best = tt; each = tt }
 
 pub sets-preserved : goal.sets-preserved
 sets-preserved c =
-    sets-more c.args.range.now c.args.other.now c.args.sets.now c.sets.set-index c.set-item.result c.sets.best
-    c.try_set.new.best c.sets-test.true c.set-item.is c.sets.invariant c.try_set.ensures
+    let sets = c.args.range.now in
+    let others = c.args.other.now in
+    let first = c.try_cut.new.best in
+    let later = c.try_opened.new.best in
+    let begun = subst (λ (cut : Cut VersionValue). IsCutTrial sets others c.sets.best cut first) c.lower.ensures
+    c.try_cut.ensures in
+    sets-more sets others c.args.sets.now c.sets.set-index c.set-item.result c.sets.best later c.sets-test.true
+    c.set-item.is c.sets.invariant
+    (set-trial sets others c.sets.best first later c.set-item.result begun c.try_opened.ensures)
 
 pub returns : goal.returns
 returns c =

@@ -16,8 +16,7 @@ returns c =
     let released =
     subst (λ (v : VersionValue). IsTrial sets others c.if-is_prerelease.best (release v.major v.minor v.patch) later)
     c.end.view_is
-    (subst (λ (v : VersionValue). IsTrial sets others c.if-is_prerelease.best v later) c.of-release.ensures
-    c.try_release.ensures) in
+    c.try_release.ensures in
     elim c.if-is_prerelease.branch [
       | then-is_prerelease w ↦ before-prerelease-trial sets others best w.try_candidate.new.best later end
           (c.is_prerelease.ensures.0 w.if-is_prerelease.true)

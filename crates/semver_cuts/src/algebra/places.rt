@@ -137,7 +137,7 @@ fn are_apart<T: Ord>(spans: &[Span<T>]) -> bool
     let mut last = first.ends();
     for span in others {
         let ends = span.ends();
-        if last.1 >= ends.0 {
+        if *last.1 >= *ends.0 {
             return false;
         }
         last = ends;
@@ -163,7 +163,7 @@ fn places_in_order<T: Ord>(
     for next in later {
         let ends = next.ends();
         let found = next.place();
-        if upper < ends.0 {
+        if *upper < *ends.0 {
             pairs.push((begun, place))?;
             (begun, place) = (found, found);
             upper = ends.1;

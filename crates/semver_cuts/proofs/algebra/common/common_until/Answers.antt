@@ -1,4 +1,4 @@
-use Rattle.std.proofs.Common.{◌++◌, ap, sym, ◌∙◌}
+use Rattle.std.proofs.Common.{◌++◌, ap, refl, sym, ◌∙◌}
 use Rattle.semver_cuts.specs.Lemmas.Ends.{at_most-from_le}
 use Rattle.semver_cuts.proofs.Intersections.AscendingSpans.{common_with-until}
 use Rattle.semver_cuts.proofs.Intersections.IntersectionSteps.{gathered_with-more}
@@ -17,3 +17,6 @@ returns-then-le g c =
     c.loop-other.invariant ∙ ap (λ spans. g.S.Gather.gathered c.args.into.now ++ spans)
     (sym (common_with-until g.met.T.Ord.total one c.args.others.now c.loop-other.other-index c.other-item.result
     c.loop-other-test.true c.other-item.is c.requires.apart c.requires.rising begins))
+
+pub common_of-requires : goal.common_of-requires
+common_of-requires g c κs = (refl, tt)

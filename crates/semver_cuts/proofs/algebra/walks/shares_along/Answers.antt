@@ -1,4 +1,4 @@
-use Rattle.std.proofs.Common.{◌≤◌, arith, inl, inr, refl, subst, sym, ◌∙◌}
+use Rattle.std.proofs.Common.{◌<◌, ◌≤◌, arith, inl, inr, refl, subst, sym, ◌∙◌}
 use Rattle.semver_cuts.specs.Ends.{span_between}
 use Rattle.semver_cuts.specs.Lemmas.Ends.{at_most-from_le, below-from_not_le}
 use Rattle.semver_cuts.proofs.Walks.{share-ended, share-found, share-joined, share-past_one, share-past_other}
@@ -73,3 +73,10 @@ returns-after-loop-place g c =
     c.loop-place.other_place
     (inl (subst (λ n. n ≤ c.loop-place.place) c.len-count.ensures.length c.loop-place-test.false))
     c.loop-place.invariant.left
+
+pub ends-requires : goal.ends-requires
+ends-requires g c = subst (λ n. c.loop-place.place < n) c.len-count.ensures.length c.loop-place-test.true
+
+pub ends-requires-in-loop-place : goal.ends-requires-in-loop-place
+ends-requires-in-loop-place g c =
+    subst (λ n. c.loop-place.other_place < n) c.len-other_count.ensures.length c.if-other_place-other_count.true

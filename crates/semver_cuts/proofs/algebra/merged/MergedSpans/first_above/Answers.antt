@@ -48,3 +48,6 @@ returns-clause-above g c =
     c.loop-low.invariant.below (subst Above e c.loop-low.invariant.above) in
     let whole = ap (ending_above g.T.Ord.cmp c.args.cut.now) (take-append-drop low spans) in
     cc
+
+pub ends-requires : goal.ends-requires
+ends-requires g c = omega (arith, c.loop-low-test.true, c.loop-low.invariant.within)

@@ -4,8 +4,7 @@
 ghost use Rattle.std.specs.Prelude.{◌≡◌, ◌↔◌, ◌∷◌, [], IfOk, IsTrue};
 ghost use Rattle.std.specs.Ordering.{is_lt, nat_cmp, ordering_then};
 ghost use Rattle.semver_cuts.specs.Cut.{cut_cmp};
-ghost use Rattle.semver_cuts.specs.SpanLists.{AreApart};
-ghost use Rattle.semver_cuts.specs.Joined.{AreMerged, AreRising};
+ghost use Rattle.semver_cuts.specs.Joined.{AreMerged};
 ghost use Rattle.semver_cuts.specs.Places.{IsPlacesOf};
 ghost use Rattle.semver_cuts.specs.Private.Joining.{places_in_order};
 
@@ -122,14 +121,6 @@ impl Places {
 /// `true` for 0 to 1 and 2 to 7. `false` for 0 to 2 and 2 to 7, and for 2 to 7 and 0 to 1.
 pub fn are_merged<T: Ord>(spans: &[Span<T>]) -> bool
     ensures { IsTrue result ↔ AreMerged T.cmp spans.now }
-{
-    are_apart(spans)
-}
-
-// Returns `true` if each span ends below where the next one begins.
-fn are_apart<T: Ord>(spans: &[Span<T>]) -> bool
-    ensures apart { IsTrue result ↔ AreApart T.cmp spans.now }
-    ensures rising { IsTrue result → AreRising T.cmp spans.now }
 {
     let Some((first, others)) = spans.split_first() else {
         return true;

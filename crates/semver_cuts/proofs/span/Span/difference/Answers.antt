@@ -1,7 +1,7 @@
-use Rattle.std.proofs.Common.{◌≡◌, ◌⊎◌, ◌↔◌, ◌∷◌, [], Ordering, ap, inl, ⊎_elim, refl, subst, sym, true, ◌∙◌}
+use Rattle.std.proofs.Common.{◌≡◌, ◌⊎◌, ◌↔◌, ◌∷◌, [], Ordering, ap, inl, ⊎_elim, subst, sym, true, ◌∙◌}
 use Rattle.semver_cuts.specs.declared.cut.Cut.{Cut}
 use Rattle.semver_cuts.specs.Ends.{Ends, IsInSpan, span_between}
-use Rattle.semver_cuts.specs.SpanDifference.{spans_share}
+use Rattle.semver_cuts.specs.SpanDifference.{span_if_any, spans_share}
 use Rattle.semver_cuts.specs.Lemmas.SpanDifference.{above-apart, above-shared, apart-from_none, below-apart}
 use Rattle.semver_cuts.specs.Lemmas.SpanDifference.{below-shared, pieces-cuts, share-from_some}
 use Rattle.semver_cuts.proofs.span.Span.difference.Goals as goal
@@ -36,14 +36,16 @@ returns-in-None-clause-cuts g c = λ cut.
 pub returns-in-Some-clause-below : goal.returns-in-Some-clause-below
 returns-in-Some-clause-below g c =
     let share = share-from_some g.T.Ord.cmp c.args.self.now c.args.other.now _ c.in-Some.ensures.ends in
-    rw c.ends_if_any.ensures (rw (below-shared g.T.Ord.cmp c.args.self.now c.args.other.now share)
-    (rw (← c.self.view_is) (rw (← c.other.view_is) refl)))
+    c.ends_if_any.ensures
+    ∙ (λ i. span_if_any g.T.Ord.cmp (c.self.view_is i).lower (c.other.view_is i).lower)
+    ∙ sym (below-shared g.T.Ord.cmp c.args.self.now c.args.other.now share)
 
 pub returns-in-Some-clause-above : goal.returns-in-Some-clause-above
 returns-in-Some-clause-above g c =
     let share = share-from_some g.T.Ord.cmp c.args.self.now c.args.other.now _ c.in-Some.ensures.ends in
-    rw c.ends_if_any-in-Some.ensures (rw (above-shared g.T.Ord.cmp c.args.self.now c.args.other.now share)
-    (rw (← c.self.view_is) (rw (← c.other.view_is) refl)))
+    c.ends_if_any-in-Some.ensures
+    ∙ (λ i. span_if_any g.T.Ord.cmp (c.other.view_is i).upper (c.self.view_is i).upper)
+    ∙ sym (above-shared g.T.Ord.cmp c.args.self.now c.args.other.now share)
 
 pub returns-in-Some-clause-cuts : goal.returns-in-Some-clause-cuts
 returns-in-Some-clause-cuts g c =

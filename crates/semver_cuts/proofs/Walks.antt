@@ -247,7 +247,8 @@ module _ {T : Type 0} (cmp : T → T → Ordering) where
     λ covers cut is. ⊎_elim (λ here. here) (λ there. absurd there) (covers cut (inl is)),
   )
 
-  one-list : (xs : List (Ends T)) (x : Ends T) → length xs ≡ 1 → x ≡ get_or xs 0 x → xs ≡ x ∷ []
+  -- a list with one element
+  pub one-list : (xs : List (Ends T)) (x : Ends T) → length xs ≡ 1 → x ≡ get_or xs 0 x → xs ≡ x ∷ []
   one-list [] x l e = absurd (omega arith)
   one-list (y ∷ []) x l e = ap (λ z. z ∷ []) (sym e)
   one-list (y ∷ z ∷ xs) x l e = absurd (omega arith)

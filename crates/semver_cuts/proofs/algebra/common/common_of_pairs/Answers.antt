@@ -48,6 +48,3 @@ offset_bounds-others-other g c =
       (All-from_recursion (AreBothWithin c.args.ones.now c.args.others.now) c.args.pairs.now c.requires
           c.loop-pair.pair-index (0, 0) c.loop-pair-test.true).1,
     )
-
-pub common_of-requires : goal.common_of-requires
-common_of-requires g c κs = (refl, tt)

@@ -100,3 +100,15 @@ ends-requires g c = subst (λ n. c.loop-other_place.place < n) c.len-count.ensur
 pub ends-requires-in-loop-other_place : goal.ends-requires-in-loop-other_place
 ends-requires-in-loop-other_place g c =
     subst (λ n. c.loop-other_place.other_place < n) c.len-other_count.ensures.length c.loop-other_place-test.true
+
+pub overflow_add-place : goal.overflow_add-place
+overflow_add-place g c = omega arith
+
+pub overflow_add-other_place : goal.overflow_add-other_place
+overflow_add-other_place g c = omega arith
+
+pub loop-other_place-smaller-then-le : goal.loop-other_place-smaller-then-le
+loop-other_place-smaller-then-le g c = omega arith
+
+pub loop-other_place-smaller : goal.loop-other_place-smaller
+loop-other_place-smaller g c = omega arith

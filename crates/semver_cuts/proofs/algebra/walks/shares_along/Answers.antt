@@ -80,3 +80,15 @@ ends-requires g c = subst (λ n. c.loop-place.place < n) c.len-count.ensures.len
 pub ends-requires-in-loop-place : goal.ends-requires-in-loop-place
 ends-requires-in-loop-place g c =
     subst (λ n. c.loop-place.other_place < n) c.len-other_count.ensures.length c.if-other_place-other_count.true
+
+pub overflow_add-place : goal.overflow_add-place
+overflow_add-place g c = omega arith
+
+pub overflow_add-other_place : goal.overflow_add-other_place
+overflow_add-other_place g c = omega arith
+
+pub loop-place-smaller-then-le : goal.loop-place-smaller-then-le
+loop-place-smaller-then-le g c = omega arith
+
+pub loop-place-smaller : goal.loop-place-smaller
+loop-place-smaller g c = omega arith

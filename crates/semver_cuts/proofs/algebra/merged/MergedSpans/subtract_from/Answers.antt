@@ -63,6 +63,3 @@ returns g c =
           (g.S.Gather.gathered c.args.into.now) c.loop-one.one-index c.loop-one-test.false
           c.spans-others.ensures.joined kept.pieces kept.rising;
     }
-
-pub add_pieces-requires : goal.add_pieces-requires
-add_pieces-requires g c κs = (refl, tt)

@@ -51,3 +51,12 @@ returns-clause-above g c =
 
 pub ends-requires : goal.ends-requires
 ends-requires g c = omega (arith, c.loop-low-test.true, c.loop-low.invariant.within)
+
+pub overflow_add-low : goal.overflow_add-low
+overflow_add-low g c = omega arith
+
+pub loop-low-smaller-then-le : goal.loop-low-smaller-then-le
+loop-low-smaller-then-le g c = omega arith
+
+pub loop-low-smaller : goal.loop-low-smaller
+loop-low-smaller g c = omega arith

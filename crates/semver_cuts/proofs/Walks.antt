@@ -1,6 +1,7 @@
 -- Walks along the merged spans of two lists: a span that ends below the next span of the other list can be passed.
 use Rattle.std.proofs.Common.{◌≡◌, ◌⊎◌, ◌↔◌, ℕ, ◌+◌, ◌<◌, ◌≤◌, List, [], ◌∷◌, ◌++◌, Ordering, Bool, IsTrue, get_or}
-use Rattle.std.proofs.Common.{take, drop, length, sym, ap, subst, ◌∙◌, inl, inr, ⊎_elim, arith}
+use Rattle.std.proofs.Common.{take, drop, false, length, sym, ap, subst, ◌∙◌, inl, inr, ⊎_elim, arith}
+use mathlib.Core.Bool.{true≢false}
 use Rattle.std.specs.Cmp.{IsTotalOrder}
 use Rattle.std.proofs.lemmas.List.{drop_all, drop_more, take-append-drop}
 use Rattle.semver_cuts.specs.declared.cut.Cut.{Cut}
@@ -205,12 +206,22 @@ module _ {T : Type 0} {cmp : T → T → Ordering} (o : IsTotalOrder cmp) where
   none-shared_right : (ones : List (Ends T)) → ¬ ShareCut cmp ones []
   none-shared_right ones shared = shared.2
 
-  pub share-ended : (ms ws : List (Ends T)) (i j : ℕ) → (length ms ≤ i) ⊎ (length ws ≤ j)
-      → (ShareCut cmp ms ws ↔ ShareCut cmp (drop i ms) (drop j ws)) → ¬ ShareCut cmp ms ws
-  share-ended ms ws i j (inl h) left shared =
-      none-shared_left (drop j ws) (subst (λ l. ShareCut cmp l (drop j ws)) (drop_all i ms h) (left.0 shared))
-  share-ended ms ws i j (inr h) left shared =
-      none-shared_right (drop i ms) (subst (ShareCut cmp (drop i ms)) (drop_all j ws h) (left.0 shared))
+  none-shared : (ms ws : List (Ends T)) (i j : ℕ) → (length ms ≤ i) ⊎ (length ws ≤ j)
+      → ¬ ShareCut cmp (drop i ms) (drop j ws)
+  none-shared ms ws i j (inl h) shared =
+      none-shared_left (drop j ws) (subst (λ l. ShareCut cmp l (drop j ws)) (drop_all i ms h) shared)
+  none-shared ms ws i j (inr h) shared =
+      none-shared_right (drop i ms) (subst (ShareCut cmp (drop i ms)) (drop_all j ws h) shared)
+
+  -- the joined spans share no cut, and so the lists share none
+  pub share-ended : (ones others ms ws : List (Ends T)) → AreJoined cmp ones ms → AreJoined cmp others ws
+      → (i j : ℕ) → (length ms ≤ i) ⊎ (length ws ≤ j)
+      → (ShareCut cmp ms ws ↔ ShareCut cmp (drop i ms) (drop j ws)) → IsTrue false ↔ ShareCut cmp ones others
+  share-ended ones others ms ws are others_are i j ended left = (
+    λ never. absurd (true≢false (sym never)),
+    λ shared. absurd (none-shared ms ws i j ended
+        (left.0 ((share-joined cmp ones others ms ws are others_are).1 shared))),
+  )
 
   pub covers-ended : (ms ws : List (Ends T)) (i j : ℕ) → length ws ≤ j
       → (CoversAll cmp ms ws ↔ CoversAll cmp (drop i ms) (drop j ws)) → CoversAll cmp ms ws
@@ -236,7 +247,8 @@ module _ {T : Type 0} (cmp : T → T → Ordering) where
     λ covers cut is. ⊎_elim (λ here. here) (λ there. absurd there) (covers cut (inl is)),
   )
 
-  one-list : (xs : List (Ends T)) (x : Ends T) → length xs ≡ 1 → x ≡ get_or xs 0 x → xs ≡ x ∷ []
+  -- a list with one element
+  pub one-list : (xs : List (Ends T)) (x : Ends T) → length xs ≡ 1 → x ≡ get_or xs 0 x → xs ≡ x ∷ []
   one-list [] x l e = absurd (omega arith)
   one-list (y ∷ []) x l e = ap (λ z. z ∷ []) (sym e)
   one-list (y ∷ z ∷ xs) x l e = absurd (omega arith)

@@ -166,8 +166,8 @@ fn begins_before<T: Ord>(cut: &Cut<T>, value: &T) -> bool
 {
     match cut {
         Cut::Start => true,
-        Cut::Before(low) => low <= value,
-        Cut::After(low) => low < value,
+        Cut::Before(low) => *low <= *value,
+        Cut::After(low) => *low < *value,
         Cut::End => false,
     }
 }
@@ -179,8 +179,8 @@ fn ends_after<T: Ord>(cut: &Cut<T>, value: &T) -> bool
 {
     match cut {
         Cut::Start => false,
-        Cut::Before(high) => value < high,
-        Cut::After(high) => value <= high,
+        Cut::Before(high) => *value < *high,
+        Cut::After(high) => *value <= *high,
         Cut::End => true,
     }
 }

@@ -26,6 +26,14 @@ module _ {T : Type 0} {cmp : T → T → Ordering} (o : IsTotalOrder cmp) (spans
       (halved_above o spans rising apart cut place span lt (at place span lt e) above))
       ∙ ap (ending_above cmp cut) (take-append-drop place spans)
 
+  -- the first span
+  pub found_first : (place : ℕ) (span : Ends T) → place < length spans → span ≡ get_or spans place span
+      → IsCutBelow cmp cut span.upper → place ≡ 0
+      → drop place spans ≡ ending_above cmp cut spans
+  found_first place span lt e above none =
+      found place span lt e above
+      (subst (λ k. AllByRecursion (λ (s : Ends T). IsCutAtMost cmp s.upper cut) (take k spans)) (sym none) tt)
+
   -- the span after one that ends at or below the cut
   pub found_behind : (place : ℕ) (span last : Ends T) → place < length spans → span ≡ get_or spans place span
       → IsCutBelow cmp cut span.upper → 0 < place → last ≡ get_or spans (place - 1) last

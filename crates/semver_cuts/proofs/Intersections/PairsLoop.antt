@@ -12,6 +12,31 @@ use Rattle.semver_cuts.specs.Private.Placed.{PlacedSpan}
 use Rattle.semver_cuts.proofs.LoopSteps.{here}
 
 module _ {T : Type 0} (cmp : T → T → Ordering) where
+  -- ---- the spans from the first one on that begins at the cut or above
+
+  module _ (cut : Cut T) (spans : List (PlacedSpan T)) (k : ℕ) (whole : List (PlacedSpan T))
+      (before : beginning_from cmp cut (drop k spans) ≡ whole) where
+    -- after the last span
+    pub from-none : length spans ≤ k → [] ≡ whole
+    from-none done = ap (beginning_from cmp cut) (sym (drop_all k spans done)) ∙ before
+
+    module _ (next : PlacedSpan T) (low : k < length spans) (at : next ≡ get_or spans k next) (lower upper : Cut T)
+        (span : next.span ≡ span_between lower upper) where
+      begins : (r : Bool) → is_lt (cut_cmp cmp lower cut) ≡ r → is_lt (cut_cmp cmp next.span.lower cut) ≡ r
+      begins r e = ap (λ (s : Ends T). is_lt (cut_cmp cmp s.lower cut)) span ∙ e
+
+      -- the next span begins below the cut
+      pub from-later : is_lt (cut_cmp cmp lower cut) ≡ true → beginning_from cmp cut (drop (k + 1) spans) ≡ whole
+      from-later lt =
+          sym (cond-true (is_lt (cut_cmp cmp next.span.lower cut)) _ _ (begins true lt))
+          ∙ ap (beginning_from cmp cut) (sym (here spans k next low at)) ∙ before
+
+      -- or it does not
+      pub from-found : is_lt (cut_cmp cmp lower cut) ≡ false → drop k spans ≡ whole
+      from-found lt =
+          here spans k next low at ∙ sym (cond-false (is_lt (cut_cmp cmp next.span.lower cut)) _ _ (begins false lt))
+          ∙ ap (beginning_from cmp cut) (sym (here spans k next low at)) ∙ before
+
   -- ---- pairs of places of spans that meet
 
   module _ (swapped : Bool) (place : ℕ) (cut : Cut T) (others : List (PlacedSpan T)) (k : ℕ)

@@ -1,4 +1,4 @@
--- The loop of `are_apart`: whether each span ends below where the next one begins.
+-- The loop of `are_merged`: whether each span ends below where the next one begins.
 use Rattle.std.proofs.Common.{◌≡◌, ◌↔◌, ℕ, ◌+◌, ◌<◌, ◌≤◌, List, [], ◌∷◌, Ordering, true, false, drop}
 use Rattle.std.proofs.Common.{get_or, length, sym, ap, subst, ◌∙◌}
 use Rattle.std.specs.Ordering.{is_ge}

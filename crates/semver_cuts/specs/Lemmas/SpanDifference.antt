@@ -26,6 +26,21 @@ module _ {T : Type 0} (cmp : T → T → Ordering) (one other : Ends T) where
   pub share-from_some : (span : Ends T) → span ∷ [] ≡ common_of cmp one other → spans_share cmp one other ≡ true
   share-from_some span e = some_by span (spans_share cmp one other) e
 
+  none_by : (r : Bool) → [] ≡ (if r then common_ends cmp one other ∷ [] else []) → r ≡ false
+  none_by true e = cc e
+  none_by false e = refl
+
+  -- and none if they have no common span
+  pub apart-from_none : [] ≡ common_of cmp one other → spans_share cmp one other ≡ false
+  apart-from_none e = none_by (spans_share cmp one other) e
+
+  -- the piece below is then the whole span, and there is none above
+  pub below-apart : spans_share cmp one other ≡ false → piece_below cmp one other ≡ one ∷ []
+  below-apart apart = ap (λ r. if r then span_if_any cmp one.lower other.lower else one ∷ []) apart
+
+  pub above-apart : spans_share cmp one other ≡ false → piece_above cmp one other ≡ []
+  above-apart apart = ap (λ r. if r then span_if_any cmp other.upper one.upper else []) apart
+
   -- the piece below, if they share a cut
   pub below-shared : spans_share cmp one other ≡ true
       → piece_below cmp one other ≡ span_if_any cmp one.lower other.lower

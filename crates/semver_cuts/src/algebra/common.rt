@@ -194,7 +194,7 @@ fn common_until<'a, T: Ord, S: Gather<'a, T>>(
     ensures { OnOk result (S.gathered into.new ≡ S.gathered into.old ++ common_with T.cmp one.now others.now) }
 {
     for other in others {
-        if one.upper() <= other.lower() {
+        if *one.upper() <= *other.lower() {
             return Ok(());
         }
         common_of(one, other, into)?;

@@ -61,13 +61,13 @@ fn add_pieces<'a, T: Ord, S: Gather<'a, T>>(
     let (mut low, high) = one.ends();
     for number in others.first_above(low)..others.len() {
         let (lower, upper) = others.ends(number);
-        if lower >= high {
+        if *lower >= *high {
             break;
         }
-        if low < lower {
+        if *low < *lower {
             into.gather(low, lower)?;
         }
-        if upper >= high {
+        if *upper >= *high {
             return Ok(());
         }
         low = upper;

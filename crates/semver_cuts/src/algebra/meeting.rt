@@ -50,7 +50,7 @@ fn beginning_from<'s, 'a, T: Ord>(spans: &'s [Placed<'a, T>], cut: &Cut<T>) -> &
 {
     for (place, span) in spans.iter().enumerate() {
         let (lower, _) = span.ends();
-        if !(lower < cut) {
+        if !(*lower < *cut) {
             return &spans[place..];
         }
     }
@@ -70,7 +70,7 @@ fn add_pairs_until<T: Ord>(
 {
     for other in others {
         let (lower, _) = other.ends();
-        if !(lower < cut) {
+        if !(*lower < *cut) {
             return Ok(());
         }
         pairs.push(places_by(swapped, place, other.place()))?;

@@ -128,7 +128,7 @@ impl<'a, 'p, T: Ord> MergedSpans<'a, 'p, T> {
         while low < high {
             let middle = low + (high - low) / 2;
             let (_, upper) = self.ends(middle);
-            if upper <= cut {
+            if *upper <= *cut {
                 low = middle + 1;
             } else {
                 high = middle;

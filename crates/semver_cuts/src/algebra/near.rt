@@ -36,11 +36,11 @@ fn is_first_above<T: Ord>(spans: &[Span<T>], place: usize, cut: &Cut<T>) -> bool
     ensures place { IsTrue result → place ≤ length spans.now }
     ensures above { IsTrue result → drop place spans.now ≡ ending_above T.cmp cut.now spans.now }
 {
-    if place >= spans.len() || spans[place].upper() <= cut {
+    if place >= spans.len() || *spans[place].upper() <= *cut {
         return false;
     }
     if place == 0 {
         return true;
     }
-    spans[place - 1].upper() <= cut
+    *spans[place - 1].upper() <= *cut
 }

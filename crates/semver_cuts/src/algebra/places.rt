@@ -4,8 +4,7 @@
 ghost use Rattle.std.specs.Prelude.{◌≡◌, ◌↔◌, ◌∷◌, [], IfOk, IsTrue};
 ghost use Rattle.std.specs.Ordering.{is_lt, nat_cmp, ordering_then};
 ghost use Rattle.semver_cuts.specs.Cut.{cut_cmp};
-ghost use Rattle.semver_cuts.specs.SpanLists.{AreApart};
-ghost use Rattle.semver_cuts.specs.Joined.{AreMerged, AreRising};
+ghost use Rattle.semver_cuts.specs.Joined.{AreMerged};
 ghost use Rattle.semver_cuts.specs.Places.{IsPlacesOf};
 ghost use Rattle.semver_cuts.specs.Private.Joining.{places_in_order};
 
@@ -123,21 +122,13 @@ impl Places {
 pub fn are_merged<T: Ord>(spans: &[Span<T>]) -> bool
     ensures { IsTrue result ↔ AreMerged T.cmp spans.now }
 {
-    are_apart(spans)
-}
-
-// Returns `true` if each span ends below where the next one begins.
-fn are_apart<T: Ord>(spans: &[Span<T>]) -> bool
-    ensures apart { IsTrue result ↔ AreApart T.cmp spans.now }
-    ensures rising { IsTrue result → AreRising T.cmp spans.now }
-{
     let Some((first, others)) = spans.split_first() else {
         return true;
     };
     let mut last = first.ends();
     for span in others {
         let ends = span.ends();
-        if last.1 >= ends.0 {
+        if *last.1 >= *ends.0 {
             return false;
         }
         last = ends;
@@ -163,7 +154,7 @@ fn places_in_order<T: Ord>(
     for next in later {
         let ends = next.ends();
         let found = next.place();
-        if upper < ends.0 {
+        if *upper < *ends.0 {
             pairs.push((begun, place))?;
             (begun, place) = (found, found);
             upper = ends.1;

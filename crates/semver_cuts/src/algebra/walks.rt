@@ -82,9 +82,9 @@ fn covers_along<T: Ord>(ones: &MergedSpans<'_, '_, T>, others: &MergedSpans<'_, 
         }
         let (lower, upper) = ones.ends(place);
         let (low, high) = others.ends(other_place);
-        if upper <= low {
+        if *upper <= *low {
             place += 1;
-        } else if low < lower || upper < high {
+        } else if *low < *lower || *upper < *high {
             return false;
         } else {
             other_place += 1;
@@ -104,9 +104,9 @@ fn shares_along<T: Ord>(ones: &MergedSpans<'_, '_, T>, others: &MergedSpans<'_, 
     while place < count && other_place < other_count {
         let (lower, upper) = ones.ends(place);
         let (low, high) = others.ends(other_place);
-        if high <= lower {
+        if *high <= *lower {
             other_place += 1;
-        } else if upper <= low {
+        } else if *upper <= *low {
             place += 1;
         } else {
             return true;

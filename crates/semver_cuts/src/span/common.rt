@@ -135,7 +135,7 @@ impl<T: Ord> Span<T> {
 fn lesser<'a, T: Ord>(one: &'a Cut<T>, other: &'a Cut<T>) -> &'a Cut<T>
     ensures { result.now ≡ lesser_cut T.cmp one.now other.now }
 {
-    if other < one { other } else { one }
+    if *other < *one { other } else { one }
 }
 
 // Returns the two cuts if the first is less than the second.
@@ -144,7 +144,7 @@ fn ends_if_any<'a, T: Ord>(lower: &'a Cut<T>, upper: &'a Cut<T>) -> Option<(&'a 
     ensures { option_to_list (option_map (λ lent. span_between lent.0.now lent.1.now) result)
         ≡ span_if_any T.cmp lower.now upper.now }
 {
-    if lower < upper {
+    if *lower < *upper {
         Some((lower, upper))
     } else {
         None

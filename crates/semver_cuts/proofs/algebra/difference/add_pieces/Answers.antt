@@ -1,4 +1,4 @@
-use Rattle.std.proofs.Common.{◌≤◌, refl, subst, sym, ◌∙◌}
+use Rattle.std.proofs.Common.{◌<◌, ◌≤◌, refl, subst, sym, ◌∙◌}
 use Rattle.std.proofs.lemmas.Result.{on_ok_weaker}
 use Rattle.semver_cuts.specs.Lemmas.Ends.{below-from_lt}
 use Rattle.semver_cuts.proofs.Differences.PiecesLoop.{piece-none, piece-some, pieces-ended, pieces-next, pieces-over}
@@ -82,3 +82,7 @@ returns-clause-pieces g c =
           w.ends-in-loop-number.ensures (sym w.ge.ensures ∙ w.if-ge.true)
     ])
     c.gather-2.ensures
+
+pub ends-requires-in-loop-number : goal.ends-requires-in-loop-number
+ends-requires-in-loop-number g c =
+    subst (λ n. c.loop-number.number < n) c.len-number-end.ensures.length c.loop-number-test.true

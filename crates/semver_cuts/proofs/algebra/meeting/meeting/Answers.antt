@@ -1,4 +1,4 @@
-use Rattle.std.proofs.Common.{◌≡◌, ◌++◌, true, false, subst, rules}
+use Rattle.std.proofs.Common.{◌++◌, false, subst, true, ◌∙◌}
 use Rattle.std.specs.List.Sorted.{IsPermutation}
 use Rattle.std.proofs.lemmas.List.Filters.{dedup_is}
 use Rattle.semver_cuts.specs.Private.Meeting.{pairs_along}
@@ -7,11 +7,14 @@ use Rattle.semver_cuts.proofs.algebra.meeting.meeting.Goals as goal
 
 pub returns : goal.returns
 returns g c =
+    let cmp = g.T.Ord.cmp in
     let order = c.in_ok-order.order.items in
     let other_order = c.in_ok-other_order.other_order.items in
-    let found : c.add_pairs-2.new.pairs.items
-    ≡ pairs_along g.T.Ord.cmp false order other_order
-    ++ pairs_along g.T.Ord.cmp true other_order order = search rules in
+    let found = c.in_ok-add_pairs-2.ensures
+    ∙ (λ i. c.in_ok-add_pairs.ensures i ++ pairs_along cmp true (c.deref-3.ensures.value i) (c.deref-4.ensures.value i))
+    ∙ (λ i. (c.new-pairs.ensures.items i
+    ++ pairs_along cmp false (c.deref.ensures.value i) (c.deref-2.ensures.value i))
+    ++ pairs_along cmp true other_order order) in
     are-meeting g.met.T.Ord.total c.args.ones.now c.args.others.now order other_order
     c.in_ok-order.ensures.same c.in_ok-other_order.ensures.same c.in_ok-order.ensures.sorted
     c.in_ok-other_order.ensures.sorted

@@ -1,4 +1,4 @@
-use Rattle.std.proofs.Common.{◌≤◌, arith, refl, subst, sym, ◌∙◌}
+use Rattle.std.proofs.Common.{◌<◌, ◌≤◌, arith, refl, subst, sym, ◌∙◌}
 use mathlib.Core.Bool.{true≢false}
 use Rattle.semver_cuts.specs.Ends.{span_between}
 use Rattle.semver_cuts.specs.Lemmas.Ends.{at_most-from_le, at_most-from_not_lt, below-from_lt, below-from_not_le}
@@ -93,3 +93,22 @@ returns g c = (
       c.loop-other_place-test.false) c.loop-other_place.invariant.left),
   λ covers. refl,
 )
+
+pub ends-requires : goal.ends-requires
+ends-requires g c = subst (λ n. c.loop-other_place.place < n) c.len-count.ensures.length c.if-place-count.false
+
+pub ends-requires-in-loop-other_place : goal.ends-requires-in-loop-other_place
+ends-requires-in-loop-other_place g c =
+    subst (λ n. c.loop-other_place.other_place < n) c.len-other_count.ensures.length c.loop-other_place-test.true
+
+pub overflow_add-place : goal.overflow_add-place
+overflow_add-place g c = omega arith
+
+pub overflow_add-other_place : goal.overflow_add-other_place
+overflow_add-other_place g c = omega arith
+
+pub loop-other_place-smaller-then-le : goal.loop-other_place-smaller-then-le
+loop-other_place-smaller-then-le g c = omega arith
+
+pub loop-other_place-smaller : goal.loop-other_place-smaller
+loop-other_place-smaller g c = omega arith

@@ -1,7 +1,7 @@
-use Rattle.std.proofs.Common.{arith, refl, sym, ◌∙◌}
+use Rattle.std.proofs.Common.{◌<◌, ◌≤◌, arith, inl, inr, refl, subst, sym, ◌∙◌}
 use Rattle.semver_cuts.specs.Ends.{span_between}
 use Rattle.semver_cuts.specs.Lemmas.Ends.{at_most-from_le, below-from_not_le}
-use Rattle.semver_cuts.proofs.Walks.{share-found, share-joined, share-past_one, share-past_other}
+use Rattle.semver_cuts.proofs.Walks.{share-ended, share-found, share-joined, share-past_one, share-past_other}
 use Rattle.semver_cuts.proofs.algebra.walks.shares_along.Goals as goal
 
 pub loop-place-preserved-then-le : goal.loop-place-preserved-then-le
@@ -56,3 +56,39 @@ loop-place-init g c = record {
   other_place = omega arith;
   left = (λ shared. shared, λ shared. shared);
 }
+
+pub returns-else-other_place-other_count : goal.returns-else-other_place-other_count
+returns-else-other_place-other_count g c =
+    share-ended g.met.T.Ord.total c.args.ones.now.list c.args.others.now.list c.args.ones.now.merged
+    c.args.others.now.merged c.len-count.ensures.joined c.len-other_count.ensures.joined c.loop-place.place
+    c.loop-place.other_place
+    (inr (subst (λ n. n ≤ c.loop-place.other_place) c.len-other_count.ensures.length
+    c.if-other_place-other_count.false))
+    c.loop-place.invariant.left
+
+pub returns-after-loop-place : goal.returns-after-loop-place
+returns-after-loop-place g c =
+    share-ended g.met.T.Ord.total c.args.ones.now.list c.args.others.now.list c.args.ones.now.merged
+    c.args.others.now.merged c.len-count.ensures.joined c.len-other_count.ensures.joined c.loop-place.place
+    c.loop-place.other_place
+    (inl (subst (λ n. n ≤ c.loop-place.place) c.len-count.ensures.length c.loop-place-test.false))
+    c.loop-place.invariant.left
+
+pub ends-requires : goal.ends-requires
+ends-requires g c = subst (λ n. c.loop-place.place < n) c.len-count.ensures.length c.loop-place-test.true
+
+pub ends-requires-in-loop-place : goal.ends-requires-in-loop-place
+ends-requires-in-loop-place g c =
+    subst (λ n. c.loop-place.other_place < n) c.len-other_count.ensures.length c.if-other_place-other_count.true
+
+pub overflow_add-place : goal.overflow_add-place
+overflow_add-place g c = omega arith
+
+pub overflow_add-other_place : goal.overflow_add-other_place
+overflow_add-other_place g c = omega arith
+
+pub loop-place-smaller-then-le : goal.loop-place-smaller-then-le
+loop-place-smaller-then-le g c = omega arith
+
+pub loop-place-smaller : goal.loop-place-smaller
+loop-place-smaller g c = omega arith

@@ -1,4 +1,4 @@
-use Rattle.std.proofs.Common.{◌≡◌, ◌+◌, ◌<◌, ◌==◌, ◌∷◌, ℕ, ap, drop, length, subst, sym, ◌∙◌}
+use Rattle.std.proofs.Common.{◌≡◌, ◌+◌, ◌<◌, ◌==◌, ◌∷◌, ℕ, ap, arith, drop, length, subst, sym, ◌∙◌}
 use mathlib.Core.Bool.{true≢false}
 use Rattle.semver_cuts.specs.Ends.{span_between}
 use Rattle.std.proofs.lemmas.Bool.{eqb-true}
@@ -45,3 +45,11 @@ returns-then-is_empty g c =
     (subst (λ l. drop c.args.number l ≡ span ∷ drop (c.args.number + 1) l)
     (sym (none-merged g.T.Ord.cmp c.self.inside.spans.now c.self.inside.places.now
     (eqb-true (length c.self.inside.places.now) 0 (sym c.is_empty.ensures ∙ c.if-is_empty.true)))) c.ends_at.ensures)
+
+pub offset_bounds-self-inside-number : goal.offset_bounds-self-inside-number
+offset_bounds-self-inside-number g c =
+    let low = subst (λ n. c.args.number < n)
+    (merged-length_some g.T.Ord.cmp c.self.inside.spans.now c.self.inside.places.now
+    (λ z. true≢false (sym (ap (λ (n : ℕ). n == 0) z) ∙ sym c.is_empty.ensures ∙ c.if-is_empty.false)))
+    (subst (λ m. c.args.number < length m.merged) (sym c.self.view_is) c.requires) in
+    omega (arith, low)

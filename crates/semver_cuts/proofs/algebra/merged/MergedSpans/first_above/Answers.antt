@@ -48,3 +48,15 @@ returns-clause-above g c =
     c.loop-low.invariant.below (subst Above e c.loop-low.invariant.above) in
     let whole = ap (ending_above g.T.Ord.cmp c.args.cut.now) (take-append-drop low spans) in
     cc
+
+pub ends-requires : goal.ends-requires
+ends-requires g c = omega (arith, c.loop-low-test.true, c.loop-low.invariant.within)
+
+pub overflow_add-low : goal.overflow_add-low
+overflow_add-low g c = omega arith
+
+pub loop-low-smaller-then-le : goal.loop-low-smaller-then-le
+loop-low-smaller-then-le g c = omega arith
+
+pub loop-low-smaller : goal.loop-low-smaller
+loop-low-smaller g c = omega arith

@@ -1,4 +1,5 @@
 use Rattle.std.proofs.Common.{ap, subst, sym, ◌∙◌}
+use mathlib.Core.Bool.{true≢false}
 use Rattle.semver_cuts.specs.Lemmas.Joined.{places_of-merged}
 use Rattle.std.specs.List.Sorted.{IsPermutation}
 use Rattle.semver_cuts.specs.Joined.{AreRising}
@@ -22,13 +23,10 @@ returns-in-len2 g c =
     subst (IsPlacesOf g.T.Ord.cmp c.args.spans.now) (sym c.in_ok-pairs.ensures)
     (order-places g.met.T.Ord.total c.args.spans.now
     (subst (AreRising g.T.Ord.cmp) (sym two) sorted.rising)
-    (λ apart. cc (
-      c.if-are_merged.false,
-      c.are_merged.ensures.1 (record {
-        rising = subst (AreRising g.T.Ord.cmp) (sym two) sorted.rising;
-        apart = apart;
-      }),
-    ))
+    (λ apart. true≢false (sym (c.are_merged.ensures.1 (record {
+      rising = subst (AreRising g.T.Ord.cmp) (sym two) sorted.rising;
+      apart = apart;
+    })) ∙ c.if-are_merged.false))
     c.two_in_order-order.result
     (subst (λ l. IsPermutation (placed_from 0 l) c.two_in_order-order.result) (sym two) sorted.same) sorted.sorted)
 
@@ -38,5 +36,6 @@ returns g c =
     subst (IsPlacesOf g.T.Ord.cmp c.args.spans.now)
     (sym (c.in_ok-pairs-2.ensures ∙ ap (places_in_order g.T.Ord.cmp) c.deref.ensures.value))
     (order-places g.met.T.Ord.total c.args.spans.now sorted.rising
-    (λ apart. cc (c.if-are_merged.false, c.are_merged.ensures.1 (record { rising = sorted.rising; apart = apart })))
+    (λ apart. true≢false (sym (c.are_merged.ensures.1 (record { rising = sorted.rising; apart = apart }))
+    ∙ c.if-are_merged.false))
     c.in_ok-order.order.items sorted.same sorted.sorted)

@@ -2,7 +2,7 @@ use Rattle.std.proofs.Common.{◌↔◌, ◌∷◌, drop}
 use Rattle.semver_cuts.specs.SpanLists.{AreApart}
 use Rattle.semver_cuts.specs.Ends.{span_between}
 use Rattle.semver_cuts.specs.Joined.{AreRising}
-use Rattle.semver_cuts.proofs.algebra.places.are_apart.Given as goal
+use Rattle.semver_cuts.proofs.algebra.places.are_merged.Given as goal
 
 abbrev pub invariant-loop-span : goal.invariant-loop-span
 invariant-loop-span g l = record {

@@ -1,7 +1,8 @@
 //! The text of a set in one array, for sets whose ends have no lists.
 ghost use Rattle.std.specs.Prelude.{◌≡◌, ◌+◌, ◌≤◌, ◌∷◌, ◌++◌, IfSome, codes, drop};
 ghost use Rattle.semver_versions.specs.Print.{version_text};
-ghost use Rattle.semver_sets.specs.RangePrint.{set_text};
+ghost use Rattle.semver_cuts.specs.declared.cut.Cut.TheVariants.{Before};
+ghost use Rattle.semver_sets.specs.RangePrint.{both_text, set_text};
 ghost use Rattle.semver_versions.specs.declared.line.TheConstants.{ROOM, VERSION_ROOM};
 
 use semver_cuts::{Cut, Span};
@@ -27,16 +28,26 @@ fn put_set(line: &mut [u8; ROOM], set: &Span<EndVersion>) -> Option<usize>
     ensures place { IfSome result (λ start. start ≤ ROOM) }
     ensures text { IfSome result (λ start. drop start line.new ≡ set_text set.now) }
 {
-    match (set.lower(), set.upper()) {
-        (Cut::Before(low), Cut::Before(high)) => {
-            let at = put_below(line, high)?;
-            let at = put_byte(line, at, b' ');
-            put_at_least(line, at, low)
-        }
-        (Cut::Before(low), Cut::After(high)) if low == high => put_version(line, ROOM, low),
-        (Cut::Before(low), Cut::End) => put_at_least(line, ROOM, low),
+    let Cut::Before(low) = set.lower() else {
+        return None;
+    };
+    match set.upper() {
+        Cut::Before(high) => put_both(line, low, high),
+        Cut::After(high) if low == high => put_version(line, ROOM, low),
+        Cut::End => put_at_least(line, ROOM, low),
         _ => None,
     }
+}
+
+// `>=1.2.3 <2.0.0-0`, at the end of the line
+#[inline]
+fn put_both(line: &mut [u8; ROOM], low: &EndVersion, high: &EndVersion) -> Option<usize>
+    ensures place { IfSome result (λ start. start ≤ ROOM) }
+    ensures text { IfSome result (λ start. drop start line.new ≡ both_text (Before low.now) (Before high.now)) }
+{
+    let at = put_below(line, high)?;
+    let at = put_byte(line, at, b' ');
+    put_at_least(line, at, low)
 }
 
 // `>=1.2.3`

@@ -4,5 +4,5 @@
 mod partial;
 mod skip;
 
-pub(crate) use partial::{Partial, Shape, read_partial};
-pub(crate) use skip::skip_solid;
+pub(crate) use partial::{Partial, Shape, read_clean_partial};
+pub(crate) use skip::{skip_dot, skip_solid};

@@ -17,7 +17,7 @@ mod operator;
 mod plain;
 mod tilde;
 
-use crate::parse::{Partial, read_partial, skip_solid};
+use crate::parse::{Partial, read_clean_partial, skip_solid};
 use caret::caret_ends;
 pub(crate) use ends::{WordEnds, nothing};
 pub(crate) use hyphen::read_leading_hyphen;
@@ -89,10 +89,7 @@ fn read_comparator(text: &[u8]) -> Option<(WordEnds, &[u8])>
     ensures { some_word_seen result ≡ Reading.or_else (Reading.read_hyphen text.now) (Reading.read_simple text.now) }
 {
     let (lead, operand) = read_lead(text);
-    let (partial, rest) = read_partial(operand)?;
-    if !begins_clean(rest) {
-        return None;
-    }
+    let (partial, rest) = read_clean_partial(operand)?;
     match (lead, rest) {
         (Lead::Plain, [_, ..]) => Some(plain_or_hyphen(partial, rest)),
         _ => Some((lead_ends(lead, partial), rest)),

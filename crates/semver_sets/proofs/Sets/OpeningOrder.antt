@@ -8,7 +8,7 @@ use Rattle.std.specs.Cmp.{unsigned_ties}
 use Rattle.std.specs.Ordering.{is_eq, is_le, is_lt, nat_cmp, ordering_index, ordering_reverse, ordering_then}
 use Rattle.std.specs.declared.cmp.Ordering.{Ordering}
 use Rattle.std.specs.declared.cmp.Ordering.TheVariants.{Less, Equal, Greater}
-use Rattle.std.proofs.lemmas.List.{append-nil, take-append-drop, take_more}
+use Rattle.std.proofs.lemmas.List.{append-nil, get_or_default, take-append-drop, take_more}
 use Rattle.std.proofs.lemmas.List.Elements.{filter-append}
 use Rattle.std.proofs.lemmas.List.Sorted.{searchable_from_sorted}
 use Rattle.semver_cuts.specs.Lemmas.Lists.{all-append}
@@ -72,18 +72,6 @@ module _ {X : Type 0} (P : X → Type 0) where
   all-taken (x ∷ xs) zero all = tt
   all-taken (x ∷ xs) (suc i) all = (all.0, all-taken xs i all.1)
 
-module _ {X : Type 0} (p : X → Bool) where
-  filter-none : (xs : List X) → AllByRecursion (λ x. p x ≡ false) xs → filter p xs ≡ []
-  filter-none [] all = refl
-  filter-none (x ∷ xs) all = simp all.0 (filter-none xs all.1)
-
-  filter-whole : (xs : List X) → AllByRecursion (λ x. p x ≡ true) xs → filter p xs ≡ xs
-  filter-whole [] all = refl
-  filter-whole (x ∷ xs) all = simp all.0 (ap (λ (l : List X). x ∷ l) (filter-whole xs all.1))
-
-  pub filter-alike : (q : X → Bool) → ((x : X) → p x ≡ q x) → (xs : List X) → filter p xs ≡ filter q xs
-  filter-alike q same xs = λ i. filter (λ x. same x i) xs
-
 -- without the first elements none that passes comes after one that fails either
 pub parted-drop : {X : Type 0} (p : X → Bool) (i : ℕ) (xs : List X) → IsPartitionedBy p xs
     → IsPartitionedBy p (drop i xs)
@@ -103,11 +91,6 @@ module _ {X : Type 0} (p : X → Bool) (xs : List X) where
       subst (AllByRecursion (λ x. p x ≡ true)) (sym (take_more xs k d within))
       (all-append (λ x. p x ≡ true) (take k xs) (get_or xs k d ∷ []) before (here, tt))
 
-  same-at : (ys : List X) (k : ℕ) (d e : X) → k < length ys → get_or ys k d ≡ get_or ys k e
-  same-at [] k d e within = absurd (omega arith)
-  same-at (y ∷ ys) zero d e within = refl
-  same-at (y ∷ ys) (suc k) d e within = same-at ys k d e (omega arith)
-
   not-true : (b : Bool) → ¬ (b ≡ true) → b ≡ false
   not-true true never = absurd (never refl)
   not-true false never = refl
@@ -117,7 +100,7 @@ module _ {X : Type 0} (p : X → Bool) (xs : List X) where
       → AllByRecursion (λ x. p x ≡ false) (drop k xs)
   failed-from k d within parted here =
       left (λ x. p x ≡ false) xs k (λ j e from below. not-true (p (get_or xs j e)) (λ passes.
-      absurd (cc (parted k j e from below passes, ap p (same-at xs k d e within), here))))
+      absurd (cc (parted k j e from below passes, ap p (get_or_default xs k d e within), here))))
 
 -- ---- those of one triple
 

@@ -7,7 +7,8 @@ use Rattle.std.specs.Ordering.{is_le, is_lt}
 use Rattle.std.specs.declared.cmp.Ordering.{Ordering}
 use Rattle.std.specs.declared.cmp.Ordering.TheVariants.{Less, Equal, Greater}
 use Rattle.std.specs.List.{AllByRecursion}
-use Rattle.std.proofs.lemmas.Bool.{and_from, and_parts, eqb-true, or_cases, or_left, or_right}
+use Rattle.std.proofs.lemmas.Bool.{and_from, and_parts, eq-eqb, eqb-true}
+use Rattle.std.proofs.lemmas.Bool.Decides.{Decides-and, Decides-eqb, Decides-like, Decides-or}
 use Rattle.std.proofs.lemmas.List.{append_assoc, get_or_at, get_or_default, length-append, length-map, map-append}
 use Rattle.std.proofs.lemmas.List.Elements.{filter-append}
 use Rattle.std.proofs.lemmas.List.Recursion.{is_count_by}
@@ -37,41 +38,20 @@ use Rattle.semver_sets.proofs.Sets.SomeElement.{all-at}
 
 -- ---- tests
 
-equal-self : (n : ℕ) → IsTrue (n == n)
-equal-self n = grind arith
-
 identifiers-test : (is : List IdentifierValue) → IsTrue (has_identifiers is) ↔ (is ≢ [])
 identifiers-test [] = (λ h. absurd (cc h), λ some. absurd (some refl))
 identifiers-test (i ∷ is) = (λ h e. cc e, λ some. refl)
 
 triple-test : (v w : VersionValue) → IsTrue (has_same_triple v w) ↔ HasSameTriple v w
-triple-test v w = (
-  λ h.
-      let front = and_parts ((v.major == w.major) && (v.minor == w.minor)) (v.patch == w.patch) h in
-      let first = and_parts (v.major == w.major) (v.minor == w.minor) front.0 in
-      record {
-        major = eqb-true v.major w.major first.0;
-        minor = eqb-true v.minor w.minor first.1;
-        patch = eqb-true v.patch w.patch front.1;
-      },
-  λ same.
-      and_from ((v.major == w.major) && (v.minor == w.minor)) (v.patch == w.patch)
-      (and_from (v.major == w.major) (v.minor == w.minor)
-      (subst (λ n. IsTrue (v.major == n)) same.major (equal-self v.major))
-      (subst (λ n. IsTrue (v.minor == n)) same.minor (equal-self v.minor)))
-      (subst (λ n. IsTrue (v.patch == n)) same.patch (equal-self v.patch)),
-)
+triple-test v w =
+    Decides-like _ (λ same. record { major = same.0.0; minor = same.0.1; patch = same.1 })
+    (λ same. ((same.major, same.minor), same.patch))
+    (Decides-and _ _ (Decides-and _ _ (Decides-eqb v.major w.major) (Decides-eqb v.minor w.minor))
+    (Decides-eqb v.patch w.patch))
 
 opened-test : (p v : VersionValue)
     → IsTrue (has_identifiers p.pre_release && has_same_triple p v) ↔ (IsPrerelease p × HasSameTriple p v)
-opened-test p v = (
-  λ h.
-      let parts = and_parts (has_identifiers p.pre_release) (has_same_triple p v) h in
-      ((identifiers-test p.pre_release).0 parts.0, (triple-test p v).0 parts.1),
-  λ is.
-      and_from (has_identifiers p.pre_release) (has_same_triple p v)
-      ((identifiers-test p.pre_release).1 is.0) ((triple-test p v).1 is.1),
-)
+opened-test p v = Decides-and _ _ (identifiers-test p.pre_release) (triple-test p v)
 
 opens-test : (cut : Cut VersionValue) (v : VersionValue) → IsTrue (opens cut v) ↔ Opens cut v
 opens-test Start v = (λ h. absurd (cc h), λ is. absurd is)
@@ -80,16 +60,7 @@ opens-test (After p) v = opened-test p v
 opens-test End v = (λ h. absurd (cc h), λ is. absurd is)
 
 pub open_end-test : (v : VersionValue) (set : Ends VersionValue) → IsTrue (has_open_end v set) ↔ HasOpenEnd v set
-open_end-test v set = (
-  λ h. elim (or_cases (opens set.lower v) (opens set.upper v) h) [
-    | inl lower ↦ inl ((opens-test set.lower v).0 lower)
-    | inr upper ↦ inr ((opens-test set.upper v).0 upper)
-  ],
-  λ is. elim is [
-    | inl lower ↦ or_left (opens set.lower v) (opens set.upper v) ((opens-test set.lower v).1 lower)
-    | inr upper ↦ or_right (opens set.lower v) (opens set.upper v) ((opens-test set.upper v).1 upper)
-  ],
-)
+open_end-test v set = Decides-or _ _ (opens-test set.lower v) (opens-test set.upper v)
 
 -- ---- the openings of one set
 
@@ -123,7 +94,8 @@ same-is t u h =
 same-self : (t : Triple) → IsTrue (same_triples t t)
 same-self t =
     and_from ((t.major == t.major) && (t.minor == t.minor)) (t.patch == t.patch)
-    (and_from (t.major == t.major) (t.minor == t.minor) (equal-self t.major) (equal-self t.minor)) (equal-self t.patch)
+    (and_from (t.major == t.major) (t.minor == t.minor) (eq-eqb t.major t.major refl) (eq-eqb t.minor t.minor refl))
+    (eq-eqb t.patch t.patch refl)
 
 -- the places of those of the version's triple
 named : VersionValue → List Opening → List ℕ

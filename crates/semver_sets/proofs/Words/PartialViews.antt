@@ -1,7 +1,6 @@
 -- Partials, as the readers see them.
 use Rattle.std.proofs.Common.{◌≡◌, ◌≢◌, ◌<◌, ◌≤◌, ℕ, arith, ◌-◌, drop, get_or, length, take, false, true, List, [], ◌∷◌}
 use Rattle.std.proofs.Common.{Ok, Option, Some, None, refl, sym, ap, ◌∙◌}
-use Rattle.std.specs.Prelude.{◌==◌}
 use Rattle.std.proofs.lemmas.Bool.{ne_eqb}
 use Rattle.std.proofs.lemmas.List.{take_all}
 use Rattle.semver_versions.specs.declared.TheConstants.{MAX_SAFE_INTEGER}
@@ -12,22 +11,13 @@ use Rattle.semver_sets.specs.Private.RangeViews.{IsFullNumbers}
 use Rattle.semver_versions.specs.Version.{release}
 use Rattle.semver_versions.specs.Readers.Reading.{read_dot, read_extras, read_number, read_triple, read_unmarked}
 use Rattle.semver_versions.specs.Readers.Reading.{read_version, rest_of, skip_one}
-use Rattle.semver_sets.specs.Private.WordReading.{read_component, read_components, read_from_minor}
+use Rattle.semver_sets.specs.Private.WordReading.{after_dot, read_component, read_components, read_from_minor}
 use Rattle.semver_sets.specs.Private.WordReading.{read_from_patch, read_partial, with_extras}
 use Rattle.semver_versions.specs.Lemmas.Texts.NumberReading.{number-takes}
 use Rattle.semver_versions.specs.Lemmas.Versions.LeadingTriple.{number-digit, version-begins}
 use Rattle.semver_versions.specs.Lemmas.Texts.Characters.{digit-begins_no_x, digit-no_blank, digit-no_partial_mark}
 
 -- ---- components
-
--- the first byte is no dot
-abbrev pub NoDot : List ℕ → Type 0
-NoDot rest = BeginsWithNo (λ b. b == dot) rest
-
--- a text that has no first byte of a kind begins with none
-pub no-dot_first : (rest : List ℕ) → (0 < length rest → get_or rest 0 0 ≢ dot) → NoDot rest
-no-dot_first [] h = tt
-no-dot_first (b ∷ rest) h = ne_eqb b dot (h (omega arith))
 
 pub no-x_first : (text : List ℕ)
     → (0 < length text → (get_or text 0 0 ≢ 120) × (get_or text 0 0 ≢ 88) × (get_or text 0 0 ≢ 42))
@@ -45,11 +35,6 @@ behind-first first (b ∷ rest) some h =
     ap (λ (c : ℕ). c ∷ rest) h
     ∙ ap (λ (l : List ℕ). first ∷ l) (sym (take_all (length (b ∷ rest) - 1) rest (omega arith)))
 
--- and behind a dot
-pub behind-dot : (rest : List ℕ) → 0 < length rest → get_or rest 0 0 ≡ dot
-    → rest ≡ dot ∷ take (length rest - 1) (drop 1 rest)
-behind-dot rest some h = behind-first dot rest some h
-
 -- a number that is read is a component
 pub component-number : (text rest : List ℕ) (number : ℕ) → Ok (number, rest) ≡ read_number text → BeginsWithNo is_x text
     → Some (Some number, rest) ≡ read_component text
@@ -65,61 +50,14 @@ number-limit text rest number h = (number-takes text number rest (sym h)).read.l
 no-extras : read_extras [] ≡ (([], []), [])
 no-extras = clean_extras [] refl
 
-minor-none : (major : Option ℕ) (rest : List ℕ)
-    → NoDot rest → read_from_minor major rest ≡ Some (plain_partial major None None, rest)
-minor-none major [] h = refl
-minor-none major (b ∷ rest) h = rw h refl
+-- where no dot follows, there is no component more
+pub minor-none : (major : Option ℕ) (text : List ℕ) (p : Partial) → None ≡ after_dot text
+    → p ≡ with_extras major None None (read_extras []).0 → Some (p, text) ≡ read_from_minor major text
+minor-none major text p none whole = rw (← none, whole, no-extras) refl
 
-patch-none : (major minor : Option ℕ) (rest : List ℕ)
-    → NoDot rest → read_from_patch major minor rest ≡ Some (plain_partial major minor None, rest)
-patch-none major minor [] h = refl
-patch-none major minor (b ∷ rest) h = rw h refl
-
--- one component
-pub components-one : (text rest : List ℕ) (major : Option ℕ) (p : Partial)
-    → Some (major, rest) ≡ read_component text → NoDot rest
-    → p ≡ with_extras major None None (read_extras []).0 → Some (p, rest) ≡ read_components text
-unfolding read_components
-components-one text rest major p read none whole = rw (← read, minor-none major rest none, whole, no-extras) refl
-
--- two components
-pub components-two : (text first second rest : List ℕ) (major minor : Option ℕ) (p : Partial)
-    → Some (major, first) ≡ read_component text → first ≡ dot ∷ second
-    → Some (minor, rest) ≡ read_component second → NoDot rest
-    → p ≡ with_extras major minor None (read_extras []).0 → Some (p, rest) ≡ read_components text
-unfolding read_components
-components-two text first second rest major minor p one dotted two none whole =
-    rw (← one, dotted, ← two, patch-none major minor rest none, whole, no-extras) refl
-
--- three components, and extras
-pub components-three : (text first second next third extras rest : List ℕ) (major minor patch : Option ℕ) (p : Partial)
-    → Some (major, first) ≡ read_component text → first ≡ dot ∷ second
-    → Some (minor, next) ≡ read_component second → next ≡ dot ∷ third
-    → Some (patch, extras) ≡ read_component third
-    → p ≡ with_extras major minor patch (read_extras extras).0 → rest ≡ (read_extras extras).1
-    → Some (p, rest) ≡ read_components text
-unfolding read_components
-components-three text first second next third extras rest major minor patch p one dot1 two dot2 three whole behind =
-    rw (← one, dot1, ← two, dot2, ← three, whole, behind) refl
-
--- where a component is missing
-pub none-one : (text : List ℕ) → None ≡ read_component text → None ≡ read_components text
-unfolding read_components
-none-one text h = rw (← h) refl
-
-pub none-two : (text first second : List ℕ) (major : Option ℕ)
-    → Some (major, first) ≡ read_component text → first ≡ dot ∷ second
-    → None ≡ read_component second → None ≡ read_components text
-unfolding read_components
-none-two text first second major one dotted h = rw (← one, dotted, ← h) refl
-
-pub none-three : (text first second next third : List ℕ) (major minor : Option ℕ)
-    → Some (major, first) ≡ read_component text → first ≡ dot ∷ second
-    → Some (minor, next) ≡ read_component second → next ≡ dot ∷ third
-    → None ≡ read_component third → None ≡ read_components text
-unfolding read_components
-none-three text first second next third major minor one dotted two dotted_again h =
-    rw (← one, dotted, ← two, dotted_again, ← h) refl
+pub patch-none : (major minor : Option ℕ) (text : List ℕ) (p : Partial) → None ≡ after_dot text
+    → p ≡ with_extras major minor None (read_extras []).0 → Some (p, text) ≡ read_from_patch major minor text
+patch-none major minor text p none whole = rw (← none, whole, no-extras) refl
 
 -- a text that has no digit first begins with none
 pub no-digit_first : (text : List ℕ) → (0 < length text → is_digit (get_or text 0 0) ≡ false)
@@ -147,34 +85,33 @@ number-component : (text rest : List ℕ) (number : ℕ) → Ok (number, rest) �
 number-component text rest number h = component-number text rest number h
     (digit-begins_no_x text (number-digit text rest number h))
 
--- three numbers with dots between them are a version
-full-version : (text first second next third : List ℕ) (major minor patch : ℕ) → BeginsWith is_digit text
-    → Ok (major, first) ≡ read_number text → first ≡ dot ∷ second
-    → Ok (minor, next) ≡ read_number second → next ≡ dot ∷ third → Ok (patch, []) ≡ read_number third
-    → read_version text ≡ Ok (release major minor patch, [])
-unfolding read_version read_unmarked read_triple read_dot
-full-version text first second next third major minor patch digit one dot1 two dot2 three =
-    rw (version-begins text digit, ← one, dot1, ← two, dot2, ← three, no-extras) refl
+-- three numbers with dots between them, and nothing else: as components, as a version, and both
+module _ (text second third : List ℕ) (major minor patch : ℕ) (one : Ok (major, dot ∷ second) ≡ read_number text)
+    (two : Ok (minor, dot ∷ third) ≡ read_number second) (three : Ok (patch, []) ≡ read_number third) where
+  full-components : Some (plain_partial (Some major) (Some minor) (Some patch), []) ≡ read_components text
+  unfolding read_components
+  full-components =
+      let first = number-component text (dot ∷ second) major one in
+      let next = number-component second (dot ∷ third) minor two in
+      let last = number-component third [] patch three in
+      rw (← first, ← next, ← last, no-extras) refl
 
--- three numbers with dots between them, and nothing else
-pub full-text : (text first second next third : List ℕ) (major minor patch : ℕ)
-    → Ok (major, first) ≡ read_number text → first ≡ dot ∷ second
-    → Ok (minor, next) ≡ read_number second → next ≡ dot ∷ third → Ok (patch, []) ≡ read_number third
-    → IsFullNumbers text major minor patch
-unfolding read_partial
-full-text text first second next third major minor patch one dot1 two dot2 three =
-    let digit = number-digit text first major one in
-    record {
-      digit = digit;
-      read = components-three text first second next third [] [] (Some major) (Some minor) (Some patch) _
-          (number-component text first major one) dot1 (number-component second next minor two) dot2
-          (number-component third [] patch three) (rw no-extras refl) (rw no-extras refl)
-          ∙ ap read_components (sym (digit-begins text digit));
-      version = full-version text first second next third major minor patch digit one dot1 two dot2 three;
-      major_limit = number-limit text first major one;
-      minor_limit = number-limit second next minor two;
-      patch_limit = number-limit third [] patch three;
-    }
+  full-version : BeginsWith is_digit text → read_version text ≡ Ok (release major minor patch, [])
+  unfolding read_version read_unmarked read_triple read_dot
+  full-version digit = rw (version-begins text digit, ← one, ← two, ← three, no-extras) refl
+
+  pub full-text : IsFullNumbers text major minor patch
+  unfolding read_partial
+  full-text =
+      let digit = number-digit text (dot ∷ second) major one in
+      record {
+        digit = digit;
+        read = full-components ∙ ap read_components (sym (digit-begins text digit));
+        version = full-version digit;
+        major_limit = number-limit text (dot ∷ second) major one;
+        minor_limit = number-limit second (dot ∷ third) minor two;
+        patch_limit = number-limit third [] patch three;
+      }
 
 -- the same by the first byte
 pub digit-first_byte : (text : List ℕ) → 0 < length text → is_digit (get_or text 0 0) ≡ true

@@ -1,13 +1,14 @@
 -- Words, as the readers see them.
-use Rattle.std.proofs.Common.{◌≡◌, ◌≢◌, ◌⊎◌, ◌<◌, ◌≤◌, ℕ, arith, get_or, length, true, false, List, [], ◌∷◌, Option}
+use Rattle.std.proofs.Common.{◌≡◌, ◌≢◌, ◌⊎◌, ◌<◌, ◌≤◌, ℕ, arith, get_or, length, false, List, [], ◌∷◌, Option}
 use Rattle.std.proofs.Common.{Some, None, refl, sym, ap, ◌∙◌, inl, inr}
 use Rattle.std.proofs.lemmas.Bool.{and_parts, cases_Bool, eqb-true, leb-true, ne_eqb}
+use Rattle.std.proofs.lemmas.Option.{same_Some}
 use Rattle.std.specs.Prelude.{◌==◌}
 use Rattle.semver_versions.specs.Characters.{BeginsWithNo, caret, is_blank, is_digit, tilde}
 use Rattle.semver_sets.specs.Operators.{Operator as SpecOperator}
 use Rattle.semver_sets.specs.PartialText.{Partial}
 use Rattle.semver_versions.specs.Readers.Reading.{begins, read_number, rest_of, skip_one}
-use Rattle.semver_sets.specs.Private.WordReading.{Lead, Word, caret_lead, lead_comparator, no_lead, operator}
+use Rattle.semver_sets.specs.Private.WordReading.{Lead, ReadPartial, Word, caret_lead, lead_comparator, no_lead, operator}
 use Rattle.semver_versions.specs.Readers.Reading.{is_clean}
 use Rattle.semver_sets.specs.Private.WordReading.{or_else, read_component, read_components, read_hyphen, read_lead}
 use Rattle.semver_sets.specs.Private.WordReading.{read_operator, read_partial, read_right, read_simple, said}
@@ -99,42 +100,51 @@ at-led text operand l solid led some =
     let lead : (read_lead text).0 ≡ l = ap (λ (x : Lead × List ℕ). x.0) (sym led) in
     rw (hyphen-left text solid, lead-not_partial text (λ none. some (sym lead ∙ none)), ← led) refl
 
--- where no partial follows, and where no clean end follows the partial
+-- a left side ends at a clean end
+left-none : (read : ReadPartial) → None ≡ up_to_clean read → with_left read ≡ None
+left-none None h = refl
+left-none (Some r) h = elim (cases_Bool (is_clean r.1)) [
+  | inl clean ↦ cc (rw clean at h)
+  | inr unclean ↦ rw (right-none r.1 (unclean-blank r.1 unclean)) refl
+]
+
+left-some : (read : ReadPartial) (p : Partial) (rest : List ℕ) → Some (p, rest) ≡ up_to_clean read
+    → with_left read ≡ said_hyphen (Some p) (read_right rest)
+left-some None p rest h = cc h
+left-some (Some r) p rest h = elim (cases_Bool (is_clean r.1)) [
+  | inl clean ↦
+      let same = same_Some (p, rest) r (rw clean at h) in
+      ap (λ (x : Partial × List ℕ). said_hyphen (Some x.0) (read_right x.1)) (sym same)
+  | inr unclean ↦ cc (rw unclean at h)
+]
+
+-- where no partial follows up to a clean end
 pub none-missing : (text operand : List ℕ) (l : Lead) → BeginsWithNo is_blank text → (l, operand) ≡ read_lead text
-    → None ≡ read_partial operand → None ≡ comparator_at text
+    → None ≡ up_to_clean (read_partial operand) → None ≡ comparator_at text
 none-missing text operand l solid led none = elim (lead-cases l) [
   | inl plain ↦
       let here : (no_lead, operand) ≡ read_lead text = rw plain at led in
-      rw (at-plain text operand solid here, ← none) refl
+      rw (at-plain text operand solid here, left-none (read_partial operand) none, ← none) refl
   | inr some ↦ rw (at-led text operand l solid led some, ← none) refl
-]
-
-pub none-unclean : (text operand rest : List ℕ) (l : Lead) (p : Partial) → BeginsWithNo is_blank text
-    → (l, operand) ≡ read_lead text → Some (p, rest) ≡ read_partial operand → is_clean rest ≡ false
-    → None ≡ comparator_at text
-none-unclean text operand rest l p solid led read unclean = elim (lead-cases l) [
-  | inl plain ↦
-      let here : (no_lead, operand) ≡ read_lead text = rw plain at led in
-      rw (at-plain text operand solid here, ← read, unclean, right-none rest (unclean-blank rest unclean)) refl
-  | inr some ↦ rw (at-led text operand l solid led some, ← read, unclean) refl
 ]
 
 -- a plain partial before a clean end
 pub word-plain : (text operand rest : List ℕ) (p : Partial) → BeginsWithNo is_blank text
-    → (no_lead, operand) ≡ read_lead text → Some (p, rest) ≡ read_partial operand → is_clean rest ≡ true
+    → (no_lead, operand) ≡ read_lead text → Some (p, rest) ≡ up_to_clean (read_partial operand)
     → or_else (said_hyphen (Some p) (read_right rest)) (Some (lead_comparator no_lead p, rest)) ≡ comparator_at text
-word-plain text operand rest p solid led read clean = rw (at-plain text operand solid led, ← read, clean) refl
+word-plain text operand rest p solid led read =
+    rw (at-plain text operand solid led, left-some (read_partial operand) p rest read, ← read) refl
 
 -- a partial after a lead, or at the end of the text
 pub word-led : (text operand rest : List ℕ) (l : Lead) (p : Partial) → BeginsWithNo is_blank text
-    → (l, operand) ≡ read_lead text → Some (p, rest) ≡ read_partial operand → is_clean rest ≡ true
+    → (l, operand) ≡ read_lead text → Some (p, rest) ≡ up_to_clean (read_partial operand)
     → (l ≡ no_lead → rest ≡ []) → Some (lead_comparator l p, rest) ≡ comparator_at text
-word-led text operand rest l p solid led read clean end = elim (lead-cases l) [
+word-led text operand rest l p solid led read end = elim (lead-cases l) [
   | inl plain ↦
       let here : (no_lead, operand) ≡ read_lead text = rw plain at led in
       let none : read_right rest ≡ None = right-none rest (rw (end plain) refl) in
-      rw (plain, at-plain text operand solid here, ← read, clean, none) refl
-  | inr some ↦ rw (at-led text operand l solid led some, ← read, clean) refl
+      rw (plain, at-plain text operand solid here, left-some (read_partial operand) p rest read, none, ← read) refl
+  | inr some ↦ rw (at-led text operand l solid led some, ← read) refl
 ]
 
 -- ---- first bytes
@@ -182,4 +192,5 @@ unfolding read_hyphen read_simple read_lead read_partial read_right read_compone
 none-begins [] solid none = refl
 none-begins (b ∷ text) solid none =
     let begins = none (omega arith) in
-    none-missing (b ∷ text) (b ∷ text) no_lead solid (none-led b text begins) (none-partial b text solid begins)
+    none-missing (b ∷ text) (b ∷ text) no_lead solid (none-led b text begins)
+    (ap up_to_clean (none-partial b text solid begins))

@@ -47,21 +47,30 @@ with_third major minor None = None
 with_third major minor (Some patch) =
     Some (with_extras major minor patch.0 (read_extras patch.1).0, (read_extras patch.1).1)
 
+-- the text after the dot that it begins with, if it begins with one
+abbrev pub after_dot : List ℕ → Option (List ℕ)
+after_dot [] = None
+after_dot (b ∷ rest) = if b == dot then Some rest else None
+
 -- a dot and a third component, or none
+abbrev pub patch_after : Option ℕ → Option ℕ → List ℕ → Option (List ℕ) → ReadPartial
+patch_after major minor text None = Some (plain_partial major minor None, text)
+patch_after major minor text (Some rest) = with_third major minor (read_component rest)
+
 abbrev pub read_from_patch : Option ℕ → Option ℕ → List ℕ → ReadPartial
-read_from_patch major minor [] = Some (plain_partial major minor None, [])
-read_from_patch major minor (b ∷ rest) =
-    if b == dot then with_third major minor (read_component rest) else Some (plain_partial major minor None, b ∷ rest)
+read_from_patch major minor text = patch_after major minor text (after_dot text)
 
 abbrev pub with_second : Option ℕ → Component → ReadPartial
 with_second major None = None
 with_second major (Some minor) = read_from_patch major minor.0 minor.1
 
 -- a dot and a second component, or none
+abbrev pub minor_after : Option ℕ → List ℕ → Option (List ℕ) → ReadPartial
+minor_after major text None = Some (plain_partial major None None, text)
+minor_after major text (Some rest) = with_second major (read_component rest)
+
 abbrev pub read_from_minor : Option ℕ → List ℕ → ReadPartial
-read_from_minor major [] = Some (plain_partial major None None, [])
-read_from_minor major (b ∷ rest) =
-    if b == dot then with_second major (read_component rest) else Some (plain_partial major None None, b ∷ rest)
+read_from_minor major text = minor_after major text (after_dot text)
 
 abbrev pub with_first : Component → ReadPartial
 with_first None = None

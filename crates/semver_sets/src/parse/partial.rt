@@ -4,11 +4,13 @@
 //! `#[inline(always)]` makes one function of the readers of a word, so that numbers and shapes stay in registers.
 ghost use Rattle.std.specs.Prelude.{◌≡◌, IfSome};
 ghost use Rattle.semver_versions.specs.Characters.{is_blank, is_partial_mark};
-ghost use Rattle.semver_versions.specs.Readers.Reading.{read_extras, rest_of, skip_one};
+ghost use Rattle.semver_versions.specs.Readers.Reading.{read_extras, read_number, rest_of, skip_one};
 ghost use Rattle.semver_sets.specs.Private.WordReading as Reading;
 ghost use Rattle.semver_sets.specs.Private.WordViews.{IsComponentSound, IsSound, component_seen, component_value};
 ghost use Rattle.semver_sets.specs.Private.WordViews.{has_major, has_minor, has_patch, partial_seen, read_partial_seen};
 
+use crate::parse::skip_dot;
+use semver_versions::parse::begins_clean;
 use semver_versions::parse::extras::skip_extras;
 use semver_versions::parse::number::{is_digit, read_number};
 use semver_versions::parse::skip::{skip_blanks, skip_one};
@@ -56,6 +58,24 @@ const ABSENT: Component = Component {
     is_number: false,
 };
 
+// `1` and `.2` of `1.2`
+#[inline(always)]
+fn number_component(text: &[u8]) -> Option<(Component, &[u8])>
+    ensures read { component_seen result ≡ Reading.number_component (read_number text.now) }
+    ensures sound { IfSome result (λ r. IsComponentSound r.0) }
+{
+    match read_number(text) {
+        Ok((number, rest)) => {
+            let component = Component {
+                number,
+                is_number: true,
+            };
+            Some((component, rest))
+        }
+        Err(_) => None,
+    }
+}
+
 // `1` and `.2` of `1.2`; an absent number and `.2` of `x.2`
 #[inline(always)]
 #[tactic(auto, unfolding(crate::specs::Private::WordReading::read_component))]
@@ -64,14 +84,7 @@ fn read_component(text: &[u8]) -> Option<(Component, &[u8])>
     ensures sound { IfSome result (λ r. IsComponentSound r.0) }
 {
     match text {
-        [first, ..] if is_digit(*first) => {
-            let (number, rest) = read_number(text).ok()?;
-            let component = Component {
-                number,
-                is_number: true,
-            };
-            Some((component, rest))
-        }
+        [first, ..] if is_digit(*first) => number_component(text),
         [b'x' | b'X' | b'*', rest @ ..] => Some((ABSENT, rest)),
         _ => None,
     }
@@ -130,10 +143,24 @@ fn skip_to_components(text: &[u8]) -> &[u8]
     }
 }
 
+// `v 1.2.x` and ` <2` of `v 1.2.x-alpha <2`, if the text goes on at a clean end
+#[inline(always)]
+pub(crate) fn read_clean_partial(text: &[u8]) -> Option<(Partial, &[u8])>
+    ensures read { read_partial_seen result ≡ Reading.up_to_clean (Reading.read_partial text.now) }
+    ensures sound { IfSome result (λ r. IsSound r.0) }
+{
+    let (partial, rest) = read_partial(text)?;
+    if begins_clean(rest) {
+        Some((partial, rest))
+    } else {
+        None
+    }
+}
+
 // `v 1.2.x` and ` <2` of `v 1.2.x-alpha <2`
 #[inline(always)]
 #[tactic(auto, unfolding(crate::specs::Private::WordReading::read_partial))]
-pub(crate) fn read_partial(text: &[u8]) -> Option<(Partial, &[u8])>
+fn read_partial(text: &[u8]) -> Option<(Partial, &[u8])>
     ensures read { read_partial_seen result ≡ Reading.read_partial text.now }
     ensures sound { IfSome result (λ r. IsSound r.0) }
 {
@@ -142,18 +169,40 @@ pub(crate) fn read_partial(text: &[u8]) -> Option<(Partial, &[u8])>
 
 // `1.2.x` and ` <2` of `1.2.x-alpha <2`
 #[inline(always)]
+#[tactic(auto, unfolding(crate::specs::Private::WordReading::read_components))]
 fn read_components(text: &[u8]) -> Option<(Partial, &[u8])>
     ensures read { read_partial_seen result ≡ Reading.read_components text.now }
     ensures sound { IfSome result (λ r. IsSound r.0) }
 {
-    let none = &text[..0];
     let (major, rest) = read_component(text)?;
-    let [b'.', rest @ ..] = rest else {
-        return Some((partial_of(major, ABSENT, ABSENT, none), rest));
+    read_from_minor(major, rest)
+}
+
+// The same after the major: from `.2.x-alpha <2` on.
+#[inline(always)]
+fn read_from_minor(major: Component, text: &[u8]) -> Option<(Partial, &[u8])>
+    requires { IsComponentSound major }
+    ensures read { read_partial_seen result ≡ Reading.read_from_minor (component_value major) text.now }
+    ensures sound { IfSome result (λ r. IsSound r.0) }
+{
+    let Some(rest) = skip_dot(text) else {
+        return Some((partial_of(major, ABSENT, ABSENT, &text[..0]), text));
     };
     let (minor, rest) = read_component(rest)?;
-    let [b'.', rest @ ..] = rest else {
-        return Some((partial_of(major, minor, ABSENT, none), rest));
+    read_from_patch(major, minor, rest)
+}
+
+// The same after the minor: from `.x-alpha <2` on.
+#[inline(always)]
+fn read_from_patch(major: Component, minor: Component, text: &[u8]) -> Option<(Partial, &[u8])>
+    requires major { IsComponentSound major }
+    requires minor { IsComponentSound minor }
+    ensures read { read_partial_seen result
+        ≡ Reading.read_from_patch (component_value major) (component_value minor) text.now }
+    ensures sound { IfSome result (λ r. IsSound r.0) }
+{
+    let Some(rest) = skip_dot(text) else {
+        return Some((partial_of(major, minor, ABSENT, &text[..0]), text));
     };
     let (patch, extras) = read_component(rest)?;
     Some((partial_of(major, minor, patch, extras), skip_extras(extras)))

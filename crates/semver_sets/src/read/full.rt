@@ -2,10 +2,12 @@
 //! and its set is built at once. Each kind has a function of its own.
 //!
 //! `#[inline(always)]`: the numbers stay in registers, and the set is built in the place of the caller's result.
-ghost use Rattle.std.specs.Prelude.{◌≡◌, ℕ, IfSome, List};
+ghost use Rattle.std.specs.Prelude.{◌≡◌, ◌∷◌, ℕ, IfSome, List, Ok};
 ghost use Rattle.semver_cuts.specs.Ends.{IsCutBelow};
 ghost use Rattle.semver_cuts.specs.declared.cut.Cut.TheVariants.{Before};
+ghost use Rattle.semver_versions.specs.Characters.{dot};
 ghost use Rattle.semver_versions.specs.Comparison.{version_cmp};
+ghost use Rattle.semver_versions.specs.Readers.Reading as Reading;
 ghost use Rattle.semver_versions.specs.Version as Versions;
 ghost use Rattle.semver_sets.specs.Comparator as Comparators;
 ghost use Rattle.semver_sets.specs.FullTexts.{IsFullText, full_set};
@@ -46,16 +48,21 @@ pub fn read_full(text: &[u8]) -> Option<(FullLead, u64, u64, u64)>
 fn read_full_triple(text: &[u8]) -> Option<(u64, u64, u64)>
     ensures { IfSome result (λ t. IsFullNumbers text.now t.0 t.1 t.2) }
 {
-    let (major, rest) = read_number(text).ok()?;
-    let [b'.', rest @ ..] = rest else {
-        return None;
-    };
-    let (minor, rest) = read_number(rest).ok()?;
-    let [b'.', rest @ ..] = rest else {
-        return None;
-    };
-    match read_number(rest).ok()? {
-        (patch, []) => Some((major, minor, patch)),
+    let (major, rest) = read_dotted(text)?;
+    let (minor, rest) = read_dotted(rest)?;
+    match read_number(rest) {
+        Ok((patch, [])) => Some((major, minor, patch)),
+        _ => None,
+    }
+}
+
+// 1 and `2.3` of `1.2.3`: a number before a dot, and what follows the dot
+#[inline(always)]
+fn read_dotted(text: &[u8]) -> Option<(u64, &[u8])>
+    ensures { IfSome result (λ r. Ok (r.0, dot ∷ r.1.now) ≡ Reading.read_number text.now) }
+{
+    match read_number(text) {
+        Ok((number, [b'.', rest @ ..])) => Some((number, rest)),
         _ => None,
     }
 }

@@ -72,10 +72,9 @@ impl Gathered {
         ensures { OnOk result (self.new ≡ self.old ++ set ∷ []) }
     {
         if let Some(one) = self.one.take() {
-            self.several.push(one)?;
+            push(&mut self.several, one)?;
         }
-        self.several.push(set)?;
-        Ok(())
+        push(&mut self.several, set)
     }
 
     /// Returns the sets with the index of their list, or `None` if there are none.
@@ -99,6 +98,15 @@ impl Gathered {
             None => Ok(Some(Sets::Many(Searched::of(*several.allocator(), several)?))),
         }
     }
+}
+
+// Appends the set.
+#[inline(always)]
+fn push(sets: &mut Vec<Span<EndVersion>>, set: Span<EndVersion>) -> Result<(), AllocError>
+    ensures { OnOk result (sets.new.items ≡ sets.old.items ++ set ∷ []) }
+{
+    sets.push(set)?;
+    Ok(())
 }
 
 impl<'a> Gather<'a, EndVersion> for Gathered {

@@ -246,12 +246,11 @@ impl<'a> WordEnds<'a> {
     {
         match self.form {
             Form::UpTo | Form::BareUpTo => Ok(Cut::Before(self.upper.least_end())),
-            Form::Exactly => Ok(Cut::After(self.lower.end(alloc)?)),
+            Form::Exactly | Form::AtMost => Ok(Cut::After(self.lower.end(alloc)?)),
             Form::Equal => Ok(Cut::After(self.lower.bare_end(alloc)?)),
             Form::Through => Ok(Cut::After(self.upper.end(alloc)?)),
             Form::Below => Ok(Cut::Before(self.lower.end(alloc)?)),
             Form::BelowLeast => Ok(Cut::Before(self.lower.least_end())),
-            Form::AtMost => Ok(Cut::After(self.lower.end(alloc)?)),
             Form::AtMostLeast => Ok(Cut::After(self.lower.least_end())),
             Form::Nothing | Form::AtLeast | Form::Above => Ok(Cut::End),
         }

@@ -13,9 +13,9 @@ ghost use Rattle.semver_sets.specs.Private.WordReading as Reading;
 ghost use Rattle.semver_sets.specs.Private.WordViews.{IsSound, ends_seen, partial_seen, read_partial_seen};
 ghost use Rattle.semver_sets.specs.Private.WordViews.{right_end_seen, some_word_seen};
 
-use crate::parse::{Partial, Shape, read_partial};
+use crate::parse::{Partial, Shape, read_clean_partial};
 use crate::word::ends::{Form, WordEnds, WrittenVersion, next, of_one, of_two, release, zeroed};
-use semver_versions::parse::{begins_clean, skip_some_blanks};
+use semver_versions::parse::skip_some_blanks;
 
 // `3` and ` <5` of ` - 3 <5`: the right side of a hyphen range, with the blanks around the hyphen
 #[inline(always)]
@@ -45,12 +45,7 @@ fn read_right_operand(text: &[u8]) -> Option<(Partial, &[u8])>
     ensures read { read_partial_seen result ≡ Reading.right_at (hyphen ∷ text.now) }
     ensures sound { IfSome result (λ r. IsSound r.0) }
 {
-    let (partial, rest) = read_partial(skip_some_blanks(text)?)?;
-    if begins_clean(rest) {
-        Some((partial, rest))
-    } else {
-        None
-    }
+    read_clean_partial(skip_some_blanks(text)?)
 }
 
 // ` - 3` at the start of a range text: a hyphen range without a left side. Few texts begin with a blank.

@@ -30,12 +30,22 @@ pub(crate) fn read_operator(text: &[u8]) -> Option<(Operator, &[u8])>
     ensures { read_operator_seen result ≡ Reading.read_operator text.now }
 {
     match text {
-        [b'>', b'=', rest @ ..] => Some((Operator::AtLeast, rest)),
-        [b'>', rest @ ..] => Some((Operator::Above, rest)),
+        [b'>', rest @ ..] => Some(with_equals(Operator::AtLeast, Operator::Above, rest)),
         [b'=', rest @ ..] => Some((Operator::Equal, rest)),
-        [b'<', b'=', rest @ ..] => Some((Operator::AtMost, rest)),
-        [b'<', rest @ ..] => Some((Operator::Below, rest)),
+        [b'<', rest @ ..] => Some(with_equals(Operator::AtMost, Operator::Below, rest)),
         _ => None,
+    }
+}
+
+// The longer operator if a `=` follows its first character, else the shorter one.
+#[inline(always)]
+fn with_equals(longer: Operator, shorter: Operator, text: &[u8]) -> (Operator, &[u8])
+    ensures { (operator_seen result.0, result.1.now)
+        ≡ Reading.with_equals (operator_seen longer) (operator_seen shorter) text.now }
+{
+    match text {
+        [b'=', rest @ ..] => (longer, rest),
+        _ => (shorter, text),
     }
 }
 

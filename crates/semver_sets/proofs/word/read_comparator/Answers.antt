@@ -1,9 +1,9 @@
-use Rattle.std.proofs.Common.{◌≡◌, [], Some, Option, ap, arith, ◌∙◌, sym}
+use Rattle.std.proofs.Common.{◌≡◌, [], Some, Option, ap, arith, ◌∙◌}
 use borrow.Author.Tests.{ltb-true}
 use Rattle.semver_sets.specs.Comparator.{Comparator}
 use Rattle.semver_sets.specs.Private.WordReading.{Word, no_lead}
 use Rattle.semver_sets.specs.Private.WordViews.{lead_seen, some_word_seen}
-use Rattle.semver_sets.proofs.Words.WordViews.{no-bytes, none-missing, none-unclean, plain-seen, word-plain, word-led}
+use Rattle.semver_sets.proofs.Words.WordViews.{no-bytes, none-missing, plain-seen, word-plain, word-led}
 use Rattle.semver_sets.proofs.word.read_comparator.Goals as goal
 use Rattle.semver_sets.proofs.word.read_comparator.Goals.{in_default-via-in-Plain+then-rest-lt1}
 use Rattle.semver_sets.proofs.word.read_comparator.Goals.{in_default-via-in_default}
@@ -13,16 +13,11 @@ returns-in_err-partial c =
     ap some_word_seen c.from_residual.ensures
     ∙ none-missing c.args.text.now _ _ c.requires c.read_lead-lead.ensures c.in_err-partial.ensures.read
 
-pub returns-then-not-begins_clean : goal.returns-then-not-begins_clean
-returns-then-not-begins_clean c =
-    none-unclean c.args.text.now _ _ _ _ c.requires c.read_lead-lead.ensures c.in_ok-partial.ensures.read
-    (sym c.if-not-begins_clean.ensures)
-
 pub returns-in-Plain-len1-up : goal.returns-in-Plain-len1-up
 returns-in-Plain-len1-up c =
     let led = rw c.in-Plain-len1-up.is-0 at c.read_lead-lead.ensures in
     c.plain_or_hyphen.ensures
-    ∙ word-plain c.args.text.now _ _ _ c.requires led c.in_ok-partial.ensures.read (sym c.if-not-begins_clean.ensures)
+    ∙ word-plain c.args.text.now _ _ _ c.requires led c.in_ok-partial.ensures.read
 
 pub returns-in_default : goal.returns-in_default
 returns-in_default c =
@@ -34,4 +29,4 @@ returns-in_default c =
     let word : Option Comparator → Option Word = λ x. Some (x, rest) in
     ap word c.lead_ends.ensures
     ∙ word-led c.args.text.now _ rest _ _ c.requires c.read_lead-lead.ensures c.in_ok-partial.ensures.read
-    (sym c.if-not-begins_clean.ensures) end
+    end

@@ -7,7 +7,8 @@ use Rattle.std.proofs.lemmas.List.{append-nil, drop_all}
 use Rattle.semver_sets.specs.Private.SearchViews.{is_opening_of, openings_from}
 use Rattle.semver_versions.specs.Triple.{triple_cmp, triple_of}
 use Rattle.semver_sets.specs.declared.set_list.opened.Opening.{Opening}
-use Rattle.semver_sets.proofs.Sets.OpeningOrder.{filter-alike, ties-same}
+use Rattle.std.proofs.lemmas.List.Elements.{filter_agree}
+use Rattle.semver_sets.proofs.Sets.OpeningOrder.{ties-same}
 use Rattle.semver_sets.proofs.Sets.Openings.{named-all}
 use Rattle.semver_sets.proofs.set_list.opened.openings.Goals as goal
 
@@ -29,8 +30,8 @@ returns c =
           c.sort_by_key.ensures.stable (λ o. o.triple)
           (always_returns_same _ _ _ (λ a r f k. search (rules, of_calls))) x in
           ap (map (λ (o : Opening). o.place))
-          (sym (filter-alike is_tied (is_opening_of v) (ties-same v 0) ys) ∙ stable
-          ∙ filter-alike is_tied (is_opening_of v) (ties-same v 0) xs
+          (sym (filter_agree is_tied (is_opening_of v) (ties-same v 0) ys) ∙ stable
+          ∙ filter_agree is_tied (is_opening_of v) (ties-same v 0) xs
           ∙ ap (filter (is_opening_of v)) all)
           ∙ named-all v 0 sets;
     }

@@ -1,12 +1,12 @@
 use Rattle.std.proofs.Common.{◌≡◌, ◌↔◌, ◌⊎◌, ◌<◌, ◌≤◌, length, take, Result, Ok, Err, IsErr, IsErrAnd, OnOk}
 use Rattle.std.proofs.Common.{Bool, false, IsTrue, ap, arith, inl, inr, refl, sym, ◌∙◌}
-use Rattle.std.specs.Result.{IsErrOf}
 use Rattle.std.proofs.KnownBytes.{Keeps-refl}
 use Rattle.std.proofs.lemmas.Grind.{common_steps}
 use Rattle.std.proofs.lemmas.Result.{on_ok_weaker, on_err_weaker}
 use Rattle.semver_pairs.specs.Output.{HasEnded}
-use Rattle.semver_pairs.specs.declared.run_error.RunError.TheVariants.{Endless, Read, Write}
 use Rattle.semver_pairs.proofs.OutputLemmas.{exchanges-none_back, exchanges-nothing, false_not_true, has_ended, on_err-of}
+use Rattle.semver_pairs.proofs.ErrorLemmas.{endless_not_read, endless_not_write, read_not_endless, read_not_write}
+use Rattle.semver_pairs.proofs.ErrorLemmas.{write_not_endless, write_not_read}
 use Rattle.semver_pairs.proofs.RunLemmas.{run_end, run_end_part, run_least, run_more, run_none, run_part, run_stop}
 use Rattle.semver_pairs.proofs.RunLemmas.{run_stop_all}
 use Rattle.semver_pairs.proofs.program.run.Goals as goal
@@ -20,25 +20,6 @@ none_failed : {A B P : Type 0} {one other : Bool} → (IsTrue one ↔ A) → one
     → A ⊎ B → P
 none_failed told is told' is' (inl a) = unfailed told is a
 none_failed told is told' is' (inr b) = unfailed told' is' b
-
--- an error is no other error
-read_not_write : {T P : Type 0} → IsErrOf {T = T} (Err Read) Write → P
-read_not_write is = cc is
-
-read_not_endless : {T P : Type 0} → IsErrOf {T = T} (Err Read) Endless → P
-read_not_endless is = cc is
-
-write_not_read : {T P : Type 0} → IsErrOf {T = T} (Err Write) Read → P
-write_not_read is = cc is
-
-write_not_endless : {T P : Type 0} → IsErrOf {T = T} (Err Write) Endless → P
-write_not_endless is = cc is
-
-endless_not_read : {T P : Type 0} → IsErrOf {T = T} (Err Endless) Read → P
-endless_not_read is = cc is
-
-endless_not_write : {T P : Type 0} → IsErrOf {T = T} (Err Endless) Write → P
-endless_not_write is = cc is
 
 -- an error that is handed on
 same_error : {T E : Type 0} (r given : Result T E) (e : E) → IsErrAnd r (λ found. found ≡ e) → given ≡ Err e → r ≡ given

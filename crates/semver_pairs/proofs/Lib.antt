@@ -1,6 +1,7 @@
 pub mod AnswerLemmas
 pub mod AsciiLemmas
 pub mod ByteLemmas
+pub mod ErrorLemmas
 pub mod LineLemmas
 pub mod LongerInput
 pub mod MoveLemmas

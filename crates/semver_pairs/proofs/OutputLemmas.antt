@@ -1,5 +1,5 @@
 -- What was read and written, and what waits.
-use Rattle.std.proofs.Common.{◌≡◌, ◌≢◌, ◌↔◌, ℕ, ◌<◌, List, [], ◌++◌, length, take, drop, false, Option, arith}
+use Rattle.std.proofs.Common.{◌≡◌, ◌≢◌, ◌↔◌, ℕ, ◌<◌, List, [], ◌++◌, length, take, drop, true, false, Option, arith}
 use Rattle.std.proofs.Common.{ap, refl, subst, sym, ◌∙◌}
 use Rattle.std.proofs.Common.{append_assoc, append-nil, take-append-drop, Result, Ok, Err, OnErr}
 use Rattle.std.specs.Io.KnownBytes.{Appends, IsAtEnd}
@@ -88,6 +88,10 @@ begins-some read rest added written left up_to is =
       subst (AreAnswers (pairs_read false read))
           (ap (λ (l : List ℕ). l ++ some.0) is ∙ append_assoc written left some.0) all,
     )
+
+-- the two truths differ
+pub false_not_true : {P : Type 0} → false ≡ true → P
+false_not_true is = cc is
 
 -- what holds anyhow holds on an error
 pub on_err-of : {T E P : Type 0} (r : Result T E) → P → OnErr r P

@@ -4,77 +4,139 @@ use Rattle.std.proofs.KnownBytes.{Keeps-refl}
 use Rattle.std.proofs.lemmas.Grind.{common_steps}
 use Rattle.std.proofs.lemmas.Result.{on_ok_weaker, on_err_weaker}
 use Rattle.semver_pairs.specs.Output.{HasEnded}
-use Rattle.semver_pairs.proofs.OutputLemmas.{exchanges-none_back, exchanges-nothing, has_ended, on_err-of}
+use Rattle.semver_pairs.proofs.OutputLemmas.{exchanges-none_back, exchanges-nothing, false_not_true, has_ended, on_err-of}
+use Rattle.semver_pairs.proofs.ErrorLemmas.{endless_not_read, endless_not_write, read_not_endless, read_not_write}
+use Rattle.semver_pairs.proofs.ErrorLemmas.{write_not_endless, write_not_read}
 use Rattle.semver_pairs.proofs.RunLemmas.{run_end, run_end_part, run_least, run_more, run_none, run_part, run_stop}
 use Rattle.semver_pairs.proofs.RunLemmas.{run_stop_all}
 use Rattle.semver_pairs.proofs.program.run.Goals as goal
 
--- neither of the two that there may be
-neither : {A B P : Type 0} → ¬ A → ¬ B → A ⊎ B → P
-neither no_a no_b (inl a) = absurd (no_a a)
-neither no_a no_b (inr b) = absurd (no_b b)
+-- what a gauge that has not failed says
+unfailed : {A P : Type 0} {failed : Bool} → (IsTrue failed ↔ A) → failed ≡ false → A → P
+unfailed told is a = false_not_true (sym is ∙ told.1 a)
 
 -- neither gauge had failed
 none_failed : {A B P : Type 0} {one other : Bool} → (IsTrue one ↔ A) → one ≡ false → (IsTrue other ↔ B) → other ≡ false
     → A ⊎ B → P
-none_failed told is told' is' = neither (λ a. cc (told.1 a, is)) (λ b. cc (told'.1 b, is'))
+none_failed told is told' is' (inl a) = unfailed told is a
+none_failed told is told' is' (inr b) = unfailed told' is' b
 
 -- an error that is handed on
 same_error : {T E : Type 0} (r given : Result T E) (e : E) → IsErrAnd r (λ found. found ≡ e) → given ≡ Err e → r ≡ given
 same_error (Ok x) given e is was = absurd is
 same_error (Err found) given e is was = ap Err is ∙ sym was
 
-never-of : {T E : Type 0} (r given : Result T E) (e other : E) → IsErrAnd r (λ found. found ≡ e) → given ≡ Err e
-    → ¬ (given ≡ Err other) → ¬ (r ≡ Err other)
-never-of r given e other is was never so = never (sym (same_error r given e is was) ∙ so)
-
-passed_on : {T E P : Type 0} (r given : Result T E) (e other : E) → IsErrAnd r (λ found. found ≡ e) → given ≡ Err e
-    → ((given ≡ Err other) ↔ P) → (r ≡ Err other) ↔ P
-passed_on r given e other is was told =
-    let same = same_error r given e is was in (λ so. told.0 (sym same ∙ so), λ holds. same ∙ told.1 holds)
-
 -- nothing is asked of an error
 on_ok-none : {T E : Type 0} (r : Result T E) (P : Type 0) → IsErr r → OnOk r P
-on_ok-none (Ok x) P is = cc is
+on_ok-none (Ok x) P is = false_not_true is
 on_ok-none (Err e) P is = tt
 
-pub returns-then-failed-clause-beginning : goal.returns-then-failed-clause-beginning
-returns-then-failed-clause-beginning g c = exchanges-nothing _ _ _
+pub returns-then-failed : goal.returns-then-failed
+returns-then-failed g c = record {
+  answered = tt;
+  ended = tt;
+  beginning = exchanges-nothing _ _ _;
+  complete = λ is. exchanges-none_back _ _;
+  read = (λ is. c.failed.ensures.0 c.if-failed.true, λ failed. refl);
+  write = λ unfailed. (λ is. read_not_write is, λ failed. absurd (unfailed (c.failed.ensures.0 c.if-failed.true)));
+  endless = λ is. read_not_endless is;
+  untouched = λ failed. (refl, refl);
+}
 
-pub returns-then-failed-2-clause-beginning : goal.returns-then-failed-2-clause-beginning
-returns-then-failed-2-clause-beginning g c = exchanges-nothing _ _ _
+pub returns-then-failed-2 : goal.returns-then-failed-2
+returns-then-failed-2 g c = record {
+  answered = tt;
+  ended = tt;
+  beginning = exchanges-nothing _ _ _;
+  complete = λ is. write_not_read is;
+  read = (λ is. write_not_read is, unfailed c.failed.ensures c.if-failed.false);
+  write = λ unfailed. (λ is. c.failed-2.ensures.0 c.if-failed-2.true, λ failed. refl);
+  endless = λ is. write_not_endless is;
+  untouched = λ failed. (refl, refl);
+}
 
-pub returns-in-Err-clause-beginning : goal.returns-in-Err-clause-beginning
-returns-in-Err-clause-beginning g c =
-    run_stop (HasEnded g.R.Read.remaining c.read.new.self) _ _ _ _ _ _ _ c.reads.invariant.0 c.in-Err.ensures.bytes
+pub reads-init : goal.reads-init
+reads-init g c = (
+  run_none _ _ _ c.new-kept.ensures.none,
+  c.new-kept.ensures.lines,
+  c.new-answers.ensures,
+  unfailed c.failed.ensures c.if-failed.false,
+  unfailed c.failed-2.ensures c.if-failed-2.false,
+)
 
-pub returns-in-Err-clause-complete : goal.returns-in-Err-clause-complete
-returns-in-Err-clause-complete g c = λ is.
-    run_stop_all _ _ _ _ _ _ _ c.reads.invariant.0 c.reads.invariant.1 c.in-Err.ensures.bytes
+pub read-requires : goal.read-requires
+read-requires g c = c.reads.invariant.3
 
-pub returns-clause-beginning : goal.returns-clause-beginning
-returns-clause-beginning g c =
-    run_stop (HasEnded g.R.Read.remaining c.reads.reader) _ _ _ _ _ _ _ c.reads.invariant.0 (Keeps-refl _)
+pub answer_last-requires : goal.answer_last-requires
+answer_last-requires g c = record {
+  lines = c.reads.invariant.1;
+  written = c.reads.invariant.2;
+  unfailed = c.reads.invariant.4;
+}
 
-pub returns-in-Ok-eq0-clause-answered : goal.returns-in-Ok-eq0-clause-answered
-returns-in-Ok-eq0-clause-answered g c =
-    let taken = rw c.in-Ok-eq0.field-0-test at c.in-Ok-eq0.ensures.bytes.0 in
-    on_ok_weaker _ (λ all. run_end _ _ _ _ _ _ _ _ c.reads.invariant.0 taken all) c.answer_last.ensures.answers
+pub answer_piece-requires : goal.answer_piece-requires
+answer_piece-requires g c = record {
+  lines = c.reads.invariant.1;
+  written = c.reads.invariant.2;
+  unfailed = c.reads.invariant.4;
+}
 
-pub returns-in-Ok-eq0-clause-beginning : goal.returns-in-Ok-eq0-clause-beginning
-returns-in-Ok-eq0-clause-beginning g c =
+-- the end was read
+pub returns-in-Ok-eq0 : goal.returns-in-Ok-eq0
+returns-in-Ok-eq0 g c =
+    let never = c.answer_last.ensures.never in
     let room : 0 < length c.read.new.piece = omega arith in
     let ended = has_ended g.R.Read.remaining c.read.new.self c.read.new.piece _ c.in-Ok-eq0.field-0-test room
-    c.in-Ok-eq0.ensures.end c.in-Ok-eq0.ensures.bytes.1 (λ failed. cc (c.in-Ok-eq0.ensures.mark.0 failed)) in
+    c.in-Ok-eq0.ensures.end c.in-Ok-eq0.ensures.bytes.1 (λ failed. false_not_true (c.in-Ok-eq0.ensures.mark.0 failed)) in
     let taken = rw c.in-Ok-eq0.field-0-test at c.in-Ok-eq0.ensures.bytes.0 in
-    on_err_weaker _ (λ some. run_end_part (HasEnded g.R.Read.remaining c.read.new.self)
-    _ _ _ _ _ _ _ _ c.reads.invariant.0 taken ended some) c.answer_last.ensures.part
+    record {
+      answered = on_ok_weaker _ (λ all. run_end _ _ _ _ _ _ _ _ c.reads.invariant.0 taken all)
+          c.answer_last.ensures.answers;
+      ended = on_ok_weaker _ (λ all. ended) c.answer_last.ensures.answers;
+      beginning = on_err_weaker _ (λ some. run_end_part (HasEnded g.R.Read.remaining c.read.new.self)
+          _ _ _ _ _ _ _ _ c.reads.invariant.0 taken ended some) c.answer_last.ensures.part;
+      complete = λ is. absurd (never.0 is);
+      read = (λ is. absurd (never.0 is), λ failed. false_not_true (c.in-Ok-eq0.ensures.mark.0 failed));
+      write = λ unfailed. c.answer_last.ensures.write;
+      endless = λ is. absurd (never.1 is);
+      untouched = none_failed c.failed.ensures c.if-failed.false c.failed-2.ensures c.if-failed-2.false;
+    }
 
-pub returns-in_err-answer_piece-in-Ok-clause-beginning : goal.returns-in_err-answer_piece-in-Ok-clause-beginning
-returns-in_err-answer_piece-in-Ok-clause-beginning g c =
+-- a piece was not answered to its end
+pub returns-in_err-answer_piece-in-Ok : goal.returns-in_err-answer_piece-in-Ok
+returns-in_err-answer_piece-in-Ok g c =
+    let never = c.answer_piece.ensures.never in
+    let write = c.answer_piece.ensures.write in
+    let same = same_error _ _ _ c.from_residual.ensures.1 c.in_err-answer_piece-in-Ok.was in
     let some = run_part (HasEnded g.R.Read.remaining c.read.new.self) _ _ _ _ _ _ _ _ _ c.reads.invariant.0
     c.in-Ok.ensures.bytes.0 c.in_err-answer_piece-in-Ok.ensures.part in
-    on_err-of _ some
+    record {
+      answered = on_ok-none _ _ c.from_residual.ensures.0;
+      ended = on_ok-none _ _ c.from_residual.ensures.0;
+      beginning = on_err-of _ some;
+      complete = λ is. absurd (never.0 (sym same ∙ is));
+      read = (
+        λ is. absurd (never.0 (sym same ∙ is)),
+        λ failed. false_not_true (c.in-Ok.ensures.mark.0 failed),
+      );
+      write = λ unfailed. (λ is. write.0 (sym same ∙ is), λ failed. same ∙ write.1 failed);
+      endless = λ is. absurd (never.1 (sym same ∙ is));
+      untouched = none_failed c.failed.ensures c.if-failed.false c.failed-2.ensures c.if-failed-2.false;
+    }
+
+-- a read failed
+pub returns-in-Err : goal.returns-in-Err
+returns-in-Err g c = record {
+  answered = tt;
+  ended = tt;
+  beginning = run_stop (HasEnded g.R.Read.remaining c.read.new.self) _ _ _ _ _ _ _ c.reads.invariant.0
+      c.in-Err.ensures.bytes;
+  complete = λ is. run_stop_all _ _ _ _ _ _ _ c.reads.invariant.0 c.reads.invariant.1 c.in-Err.ensures.bytes;
+  read = (λ is. c.in-Err.ensures.mark.1 refl, λ failed. refl);
+  write = λ unfailed. (λ is. read_not_write is, λ failed. absurd (c.reads.invariant.4 failed));
+  endless = λ is. read_not_endless is;
+  untouched = none_failed c.failed.ensures c.if-failed.false c.failed-2.ensures c.if-failed-2.false;
+}
 
 pub reads-preserved : goal.reads-preserved
 reads-preserved g c =
@@ -84,171 +146,19 @@ reads-preserved g c =
       run_more _ _ _ _ _ _ _ _ _ _ c.reads.invariant.0 c.in-Ok.ensures.bytes.0 some given.answers,
       given.lines,
       given.written,
-      λ failed. cc (c.in-Ok.ensures.mark.0 failed),
+      λ failed. false_not_true (c.in-Ok.ensures.mark.0 failed),
       λ failed. cc (given.write.1 failed),
     )
 
-pub returns-then-failed-clause-answered : goal.returns-then-failed-clause-answered
-returns-then-failed-clause-answered g c = tt
-
-pub returns-then-failed-clause-ended : goal.returns-then-failed-clause-ended
-returns-then-failed-clause-ended g c = tt
-
-pub returns-then-failed-clause-complete : goal.returns-then-failed-clause-complete
-returns-then-failed-clause-complete g c = λ is. exchanges-none_back _ _
-
-pub returns-then-failed-clause-endless : goal.returns-then-failed-clause-endless
-returns-then-failed-clause-endless g c = λ is. cc is
-
-pub returns-then-failed-clause-untouched : goal.returns-then-failed-clause-untouched
-returns-then-failed-clause-untouched g c = λ failed. (refl, refl)
-
-pub returns-then-failed-2-clause-answered : goal.returns-then-failed-2-clause-answered
-returns-then-failed-2-clause-answered g c = tt
-
-pub returns-then-failed-2-clause-ended : goal.returns-then-failed-2-clause-ended
-returns-then-failed-2-clause-ended g c = tt
-
-pub returns-then-failed-2-clause-complete : goal.returns-then-failed-2-clause-complete
-returns-then-failed-2-clause-complete g c = λ is. cc is
-
-pub returns-then-failed-2-clause-read : goal.returns-then-failed-2-clause-read
-returns-then-failed-2-clause-read g c = (
-  λ is. cc is,
-  λ failed. let told = c.failed.ensures.1 failed in cc (told, c.if-failed.false),
-)
-
-pub returns-then-failed-2-clause-write : goal.returns-then-failed-2-clause-write
-returns-then-failed-2-clause-write g c = λ unfailed. (λ is. c.failed-2.ensures.0 c.if-failed-2.true, λ failed. refl)
-
-pub returns-then-failed-2-clause-endless : goal.returns-then-failed-2-clause-endless
-returns-then-failed-2-clause-endless g c = λ is. cc is
-
-pub returns-then-failed-2-clause-untouched : goal.returns-then-failed-2-clause-untouched
-returns-then-failed-2-clause-untouched g c = λ failed. (refl, refl)
-
-pub returns-in-Ok-eq0-clause-ended : goal.returns-in-Ok-eq0-clause-ended
-returns-in-Ok-eq0-clause-ended g c =
-    let room : 0 < length c.read.new.piece = omega arith in
-    let ended = has_ended g.R.Read.remaining c.read.new.self c.read.new.piece _ c.in-Ok-eq0.field-0-test room
-    c.in-Ok-eq0.ensures.end c.in-Ok-eq0.ensures.bytes.1 (λ failed. cc (c.in-Ok-eq0.ensures.mark.0 failed)) in
-    on_ok_weaker _ (λ all. ended) c.answer_last.ensures.answers
-
-pub returns-in-Ok-eq0-clause-complete : goal.returns-in-Ok-eq0-clause-complete
-returns-in-Ok-eq0-clause-complete g c = λ is. absurd (c.answer_last.ensures.never.0 is)
-
-pub returns-in-Ok-eq0-clause-read : goal.returns-in-Ok-eq0-clause-read
-returns-in-Ok-eq0-clause-read g c = (
-  λ is. absurd (c.answer_last.ensures.never.0 is),
-  λ failed. cc (c.in-Ok-eq0.ensures.mark.0 failed),
-)
-
-pub returns-in-Ok-eq0-clause-write : goal.returns-in-Ok-eq0-clause-write
-returns-in-Ok-eq0-clause-write g c = λ unfailed. c.answer_last.ensures.write
-
-pub returns-in-Ok-eq0-clause-endless : goal.returns-in-Ok-eq0-clause-endless
-returns-in-Ok-eq0-clause-endless g c = λ is. absurd (c.answer_last.ensures.never.1 is)
-
-pub returns-in-Ok-eq0-clause-untouched : goal.returns-in-Ok-eq0-clause-untouched
-returns-in-Ok-eq0-clause-untouched g c =
-    none_failed c.failed.ensures c.if-failed.false c.failed-2.ensures c.if-failed-2.false
-
-pub returns-in_err-answer_piece-in-Ok-clause-complete : goal.returns-in_err-answer_piece-in-Ok-clause-complete
-returns-in_err-answer_piece-in-Ok-clause-complete g c = λ is.
-    absurd (never-of _ _ _ _ c.from_residual.ensures.1 c.in_err-answer_piece-in-Ok.was c.answer_piece.ensures.never.0 is)
-
-pub returns-in-Err-clause-answered : goal.returns-in-Err-clause-answered
-returns-in-Err-clause-answered g c = tt
-
-pub returns-in-Err-clause-ended : goal.returns-in-Err-clause-ended
-returns-in-Err-clause-ended g c = tt
-
-pub returns-in-Err-clause-read : goal.returns-in-Err-clause-read
-returns-in-Err-clause-read g c = (λ is. c.in-Err.ensures.mark.1 refl, λ failed. refl)
-
-pub returns-in-Err-clause-write : goal.returns-in-Err-clause-write
-returns-in-Err-clause-write g c = λ unfailed. (λ is. cc is, λ failed. absurd (c.reads.invariant.4 failed))
-
-pub returns-in-Err-clause-endless : goal.returns-in-Err-clause-endless
-returns-in-Err-clause-endless g c = λ is. cc is
-
-pub returns-clause-answered : goal.returns-clause-answered
-returns-clause-answered g c = tt
-
-pub returns-clause-ended : goal.returns-clause-ended
-returns-clause-ended g c = tt
-
-pub returns-clause-complete : goal.returns-clause-complete
-returns-clause-complete g c = λ is. cc is
-
-pub returns-clause-read : goal.returns-clause-read
-returns-clause-read g c = (λ is. cc is, λ failed. absurd (c.reads.invariant.3 failed))
-
-pub returns-clause-write : goal.returns-clause-write
-returns-clause-write g c = λ unfailed. (λ is. cc is, λ failed. absurd (c.reads.invariant.4 failed))
-
-pub returns-clause-endless : goal.returns-clause-endless
-returns-clause-endless g c = λ is. run_least _ _ _ _ _ _ _ c.reads.invariant.0 c.reads-test.false
-
-pub returns-clause-untouched : goal.returns-clause-untouched
-returns-clause-untouched g c =
-    none_failed c.failed.ensures c.if-failed.false c.failed-2.ensures c.if-failed-2.false
-
-pub returns-in-Err-clause-untouched : goal.returns-in-Err-clause-untouched
-returns-in-Err-clause-untouched g c =
-    none_failed c.failed.ensures c.if-failed.false c.failed-2.ensures c.if-failed-2.false
-
-pub returns-in_err-answer_piece-in-Ok-clause-untouched : goal.returns-in_err-answer_piece-in-Ok-clause-untouched
-returns-in_err-answer_piece-in-Ok-clause-untouched g c =
-    none_failed c.failed.ensures c.if-failed.false c.failed-2.ensures c.if-failed-2.false
-
-pub reads-init : goal.reads-init
-reads-init g c = (
-  run_none _ _ _ c.new-kept.ensures.none,
-  c.new-kept.ensures.lines,
-  c.new-answers.ensures,
-  λ failed. let told = c.failed.ensures.1 failed in cc (told, c.if-failed.false),
-  λ failed. let told = c.failed-2.ensures.1 failed in cc (told, c.if-failed-2.false),
-)
-
-pub read-requires : goal.read-requires
-read-requires g c = c.reads.invariant.3
-
-pub answer_last-requires-clause-lines : goal.answer_last-requires-clause-lines
-answer_last-requires-clause-lines g c = c.reads.invariant.1
-
-pub answer_last-requires-clause-written : goal.answer_last-requires-clause-written
-answer_last-requires-clause-written g c = c.reads.invariant.2
-
-pub answer_last-requires-clause-unfailed : goal.answer_last-requires-clause-unfailed
-answer_last-requires-clause-unfailed g c = c.reads.invariant.4
-
-pub answer_piece-requires-clause-lines : goal.answer_piece-requires-clause-lines
-answer_piece-requires-clause-lines g c = c.reads.invariant.1
-
-pub answer_piece-requires-clause-written : goal.answer_piece-requires-clause-written
-answer_piece-requires-clause-written g c = c.reads.invariant.2
-
-pub answer_piece-requires-clause-unfailed : goal.answer_piece-requires-clause-unfailed
-answer_piece-requires-clause-unfailed g c = c.reads.invariant.4
-
-pub returns-in_err-answer_piece-in-Ok-clause-answered : goal.returns-in_err-answer_piece-in-Ok-clause-answered
-returns-in_err-answer_piece-in-Ok-clause-answered g c = on_ok-none _ _ c.from_residual.ensures.0
-
-pub returns-in_err-answer_piece-in-Ok-clause-ended : goal.returns-in_err-answer_piece-in-Ok-clause-ended
-returns-in_err-answer_piece-in-Ok-clause-ended g c = on_ok-none _ _ c.from_residual.ensures.0
-
-pub returns-in_err-answer_piece-in-Ok-clause-read : goal.returns-in_err-answer_piece-in-Ok-clause-read
-returns-in_err-answer_piece-in-Ok-clause-read g c = (
-  λ is. absurd
-      (never-of _ _ _ _ c.from_residual.ensures.1 c.in_err-answer_piece-in-Ok.was c.answer_piece.ensures.never.0 is),
-  λ failed. cc (c.in-Ok.ensures.mark.0 failed),
-)
-
-pub returns-in_err-answer_piece-in-Ok-clause-write : goal.returns-in_err-answer_piece-in-Ok-clause-write
-returns-in_err-answer_piece-in-Ok-clause-write g c = λ unfailed.
-    passed_on _ _ _ _ c.from_residual.ensures.1 c.in_err-answer_piece-in-Ok.was c.answer_piece.ensures.write
-
-pub returns-in_err-answer_piece-in-Ok-clause-endless : goal.returns-in_err-answer_piece-in-Ok-clause-endless
-returns-in_err-answer_piece-in-Ok-clause-endless g c = λ is.
-    absurd (never-of _ _ _ _ c.from_residual.ensures.1 c.in_err-answer_piece-in-Ok.was c.answer_piece.ensures.never.1 is)
+-- the input does not end
+pub returns : goal.returns
+returns g c = record {
+  answered = tt;
+  ended = tt;
+  beginning = run_stop (HasEnded g.R.Read.remaining c.reads.reader) _ _ _ _ _ _ _ c.reads.invariant.0 (Keeps-refl _);
+  complete = λ is. endless_not_read is;
+  read = (λ is. endless_not_read is, λ failed. absurd (c.reads.invariant.3 failed));
+  write = λ unfailed. (λ is. endless_not_write is, λ failed. absurd (c.reads.invariant.4 failed));
+  endless = λ is. run_least _ _ _ _ _ _ _ c.reads.invariant.0 c.reads-test.false;
+  untouched = none_failed c.failed.ensures c.if-failed.false c.failed-2.ensures c.if-failed-2.false;
+}

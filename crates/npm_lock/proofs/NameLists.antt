@@ -16,7 +16,7 @@ use Rattle.serde_json.specs.View.{members_view}
 use Rattle.serde_json.specs.declared.value.Value.{Value}
 use Rattle.npm_lock.specs.Asked.{asked_of}
 use Rattle.npm_lock.specs.Findings.{AreNames, keys_of}
-use Rattle.npm_lock.specs.PackageValue.{asked_value}
+use Rattle.npm_lock.specs.Private.PackageValue.{asked_value}
 use Rattle.npm_lock.specs.Private.Groups.{AreAsked, at_name, names_of}
 use Rattle.npm_lock.specs.declared.asked.Asked.{Asked}
 

@@ -8,7 +8,7 @@ use Rattle.serde_json.specs.Data.{Data, Members}
 use Rattle.serde_json.specs.Find.{as_str, get_member}
 use denote.Ref.{Bor}
 use Rattle.npm_lock.specs.Asked.{AskedValue, asked_of, is_optional_peer}
-use Rattle.npm_lock.specs.PackageValue.{asked_value}
+use Rattle.npm_lock.specs.Private.PackageValue.{asked_value}
 use Rattle.npm_lock.specs.declared.asked.Asked.{Asked}
 
 -- what the map has at a name

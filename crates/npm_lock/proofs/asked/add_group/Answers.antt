@@ -6,7 +6,7 @@ use Rattle.std.specs.List.Sorted.{IsStrictlySortedBy}
 use Rattle.serde_json.specs.Find.{as_str, get, get_member}
 use Rattle.serde_json.specs.View.{members_view, view}
 use Rattle.npm_lock.specs.Asked.{is_optional_peer}
-use Rattle.npm_lock.specs.PackageValue.{asked_value}
+use Rattle.npm_lock.specs.Private.PackageValue.{asked_value}
 use Rattle.npm_lock.specs.Private.Groups.{at_name, is_needed_in}
 use Rattle.npm_lock.proofs.Groups.{absent, in_group, no_text, of_none, of_peer, of_plain, seen_update, with_text}
 use Rattle.npm_lock.proofs.asked.add_group.Goals as goal

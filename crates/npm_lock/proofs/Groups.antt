@@ -1,14 +1,63 @@
--- What a package depends on is in a group of dependencies.
-use Rattle.std.proofs.Common.{◌≡◌, ◌⊎◌, ℕ, List, Bool, true, false, if◌then◌else◌, Option, Some, None, inl, inr, ap}
-use Rattle.std.proofs.Common.{option_and_then, option_map}
-use Rattle.std.proofs.Common.{Ordering, Less, Equal, Greater, is_eq, nat_cmp, refl}
+-- The members of a group of dependencies, and what a map of names has after one more of them.
+use Rattle.std.proofs.Common.{◌≡◌, ◌∙◌, ◌&&◌, ℕ, List, [], ◌∷◌, not, Bool, true, false, cond, Option, Some, None, String, Global}
+use Rattle.std.proofs.Common.{Ordering, Less, Equal, Greater, ap, bytes_eq, is_eq, nat_cmp, option_and_then, option_map}
+use Rattle.std.proofs.Common.{refl, string_bytes, string_cmp, sym}
+use Rattle.std.proofs.lemmas.Slice.Eq.{bytes_eq-Decides}
 use Rattle.std.specs.Cmp.Lexicographic.{slice_cmp}
-use Rattle.std.specs.Option.{IsSome, option_or}
-use Rattle.std.specs.Ordering.{match_ordering}
-use Rattle.serde_json.specs.Data.{Data, Members, array, boolean, member, null, number, object, string}
+use Rattle.std.specs.List.{AllByRecursion}
+use Rattle.std.specs.Map.{keys_of}
+use Rattle.std.specs.Option.{option_or}
+use Rattle.serde_json.specs.Data.{Data, Members, array, boolean, member, null, no_members, number, object, string}
 use Rattle.serde_json.specs.Find.{as_object, as_str, get, get_member}
-use Rattle.npm_lock.specs.Asked.{AskedValue}
-use Rattle.npm_lock.proofs.NameLists.{exact}
+use Rattle.serde_json.specs.View.{members_view}
+use Rattle.serde_json.specs.declared.value.Value.{Value}
+use Rattle.npm_lock.proofs.NameLists.{exact, other}
+
+-- a key below all keys is none of them
+pub absent : (key : String Global) (entries : List (String Global × Value))
+    → AllByRecursion (λ y. string_cmp key y ≡ Less) (keys_of entries)
+    → get_member (string_bytes key) (members_view entries) ≡ None
+absent key [] below = refl
+absent key (e ∷ entries) below = rw below.0 (absent key entries below.1)
+
+module _ {X : Type 0} (f : List ℕ → List ℕ → X) where
+  -- what these members of a group ask for by a name
+  abbrev pub among : (name : List ℕ) → Members → Option X
+  among name members = option_map (f name) (option_and_then as_str (get_member name members))
+
+  -- a member that is a text
+  pub with_text : (o : Ordering) (name key text : List ℕ) (value : Data) (rest : Members) (old new : Option X)
+      → slice_cmp nat_cmp name key ≡ o → as_str value ≡ Some text → get_member key rest ≡ None
+      → new ≡ cond (bytes_eq key name) (Some (f key text)) old
+      → option_or (among name rest) new ≡ option_or (among name (member key value rest)) old
+  with_text Less name key text value rest old new is is_text none updated =
+      let same : new ≡ old = rw (other name key (ap is_eq is)) at updated in rw (is, same) refl
+  with_text Equal name key text value rest old new is is_text none updated =
+      let same : name ≡ key = exact name key (ap is_eq is) in
+      let equal : bytes_eq key name ≡ true = (bytes_eq-Decides key name).1 (sym same) in
+      let made : new ≡ Some (f key text) = rw equal at updated in
+      let found : get_member name (member key value rest) ≡ Some value = rw is refl in
+      let gone : get_member name rest ≡ None = rw same none in
+      rw (found, is_text, gone, made, same) refl
+  with_text Greater name key text value rest old new is is_text none updated =
+      let same : new ≡ old = rw (other name key (ap is_eq is)) at updated in rw (is, same) refl
+
+  -- a member that is no text
+  pub no_text : (o : Ordering) (name key : List ℕ) (value : Data) (rest : Members) (old : Option X)
+      → slice_cmp nat_cmp name key ≡ o → as_str value ≡ None → get_member key rest ≡ None
+      → option_or (among name rest) old ≡ option_or (among name (member key value rest)) old
+  no_text Less name key value rest old is is_text none = rw is refl
+  no_text Equal name key value rest old is is_text none =
+      let same : name ≡ key = exact name key (ap is_eq is) in
+      let gone : get_member name rest ≡ None = rw same none in
+      rw (is, is_text, gone) refl
+  no_text Greater name key value rest old is is_text none = rw is refl
+
+-- what is inserted under a key, seen by its value
+pub seen_update : {X Y : Type 0} (g : X → Y) (here : Bool) (made : X) (old : Option X)
+    → option_map g (cond here (Some made) old) ≡ cond here (Some (g made)) (option_map g old)
+seen_update g true made old = refl
+seen_update g false made old = refl
 
 -- an object is one by its members
 pub is_object_of : (d : Data) (ms : Members) → as_object d ≡ Some ms → d ≡ object ms
@@ -19,17 +68,11 @@ is_object_of (string s) ms is = cc is
 is_object_of (array ds) ms is = cc is
 is_object_of (object others) ms is = let same : others ≡ ms = cc is in ap object same
 
-some_member : (found : Option Data) → IsSome (option_and_then as_str found) → IsSome found
-some_member None some = some
-some_member (Some d) some = cc
-
--- a name in a group is a member of the group, which is an object
-pub in_group : (group : Option Data) (ms : Members) (name : List ℕ)
-    → option_and_then as_object group ≡ Some ms
-    → IsSome (option_and_then as_str (option_and_then (get name) group)) → IsSome (get_member name ms)
-in_group None ms name is some = cc is
-in_group (Some d) ms name is some =
-    let found = rw (is_object_of d ms is) at some in some_member (get_member name ms) found
+-- a name in a group, by the members of the group
+pub in_group : (group : Option Data) (ms : Members) (name : List ℕ) → option_and_then as_object group ≡ Some ms
+    → option_and_then (get name) group ≡ get_member name ms
+in_group None ms name is = cc is
+in_group (Some d) ms name is = rw (is_object_of d ms is) refl
 
 no_member : (d : Data) (name : List ℕ) → as_object d ≡ None → get name d ≡ None
 no_member null name is = cc
@@ -40,35 +83,27 @@ no_member (array ds) name is = cc
 no_member (object ms) name is = cc is
 
 pub in_no_group : (group : Option Data) (name : List ℕ) → option_and_then as_object group ≡ None
-    → IsSome (option_and_then as_str (option_and_then (get name) group)) → ⊥
-in_no_group None name is some = cc some
-in_no_group (Some d) name is some =
-    let none = rw (no_member d name is) at some in cc none
+    → option_and_then (get name) group ≡ None
+in_no_group None name is = cc
+in_no_group (Some d) name is = no_member d name is
 
-module _ (f g h k : List ℕ → AskedValue) where
-  -- what is asked for in the last group that has the name is in some group
-  pub somewhere : (is_installed : Bool) (development optional plain peer : Option (List ℕ))
-      → IsSome (option_or (if is_installed then None else option_map f development)
-      (option_or (option_map g optional) (option_or (option_map h plain) (option_map k peer))))
-      → IsSome development ⊎ IsSome optional ⊎ IsSome plain ⊎ IsSome peer
-  somewhere true development (Some x) plain peer some = inr (inl cc)
-  somewhere true development None (Some x) peer some = inr (inr (inl cc))
-  somewhere true development None None (Some x) some = inr (inr (inr cc))
-  somewhere true development None None None some = cc some
-  somewhere false (Some x) optional plain peer some = inl cc
-  somewhere false None (Some x) plain peer some = inr (inl cc)
-  somewhere false None None (Some x) peer some = inr (inr (inl cc))
-  somewhere false None None None (Some x) some = inr (inr (inr cc))
-  somewhere false None None None None some = cc some
+pub of_peer : (needed peer optional result : Bool) → needed ≡ true → peer ≡ true → result ≡ not optional
+    → result ≡ (needed && not (peer && optional))
+of_peer true true optional result is_needed is_peer is = is
+of_peer true false optional result is_needed is_peer is = cc is_peer
+of_peer false peer optional result is_needed is_peer is = cc is_needed
 
--- ---- the members that are left
+pub of_plain : (needed peer optional result : Bool) → needed ≡ true → peer ≡ false → result ≡ true
+    → result ≡ (needed && not (peer && optional))
+of_plain true true optional result is_needed is_peer is = cc is_peer
+of_plain true false optional result is_needed is_peer is = is
+of_plain false peer optional result is_needed is_peer is = cc is_needed
 
-here_or_later : (o : Ordering) (name key : List ℕ) (value : Data) (more : Option Data) → slice_cmp nat_cmp name key ≡ o
-    → IsSome (match_ordering o more (Some value) more) → (name ≡ key) ⊎ IsSome more
-here_or_later Less name key value more is some = inr some
-here_or_later Equal name key value more is some = inl (exact name key (ap is_eq is))
-here_or_later Greater name key value more is some = inr some
+pub of_none : (needed peer optional result : Bool) → needed ≡ false → result ≡ false
+    → result ≡ (needed && not (peer && optional))
+of_none true peer optional result is_needed is = cc is_needed
+of_none false peer optional result is_needed is = is
 
-pub in_rest : (name key : List ℕ) (value : Data) (more : Members) → IsSome (get_member name (member key value more))
-    → (name ≡ key) ⊎ IsSome (get_member name more)
-in_rest name key value more some = here_or_later _ name key value (get_member name more) refl some
+pub or_none : {X : Type 0} (o : Option X) → option_or o None ≡ o
+or_none None = refl
+or_none (Some x) = refl

@@ -16,25 +16,10 @@ use Rattle.npm_lock.specs.Findings.{AreFindings, IsChecked, IsReport, keys_of}
 use Rattle.npm_lock.specs.Findings.{IsNodeOutcome, dependency, of_dependency, of_package}
 use Rattle.npm_lock.specs.Outcomes.{IsOutcome, ProblemValue}
 use Rattle.npm_lock.specs.Packages.{is_link}
-use Rattle.npm_lock.specs.Private.Adding.{Adds, asked_names}
+use Rattle.npm_lock.specs.Private.Adding.{Adds}
 use Rattle.npm_lock.specs.declared.problem.Problems.{Problems}
 use Rattle.npm_lock.proofs.Groups.{is_object_of}
 use Rattle.npm_lock.proofs.Reports.{adds_both}
-
-pub name_found : (packages : Data) (folder : List ℕ) (asker : Data) (is_installed : Bool) (name : List ℕ)
-    (old new : Problems) (asked : AskedValue) (problem : Option ProblemValue) (is_unchecked : Bool)
-    → asked_of asker is_installed name ≡ Some asked
-    → IsOutcome packages folder is_installed name asked problem is_unchecked
-    → Adds old new (of_dependency problem is_unchecked ∷ [])
-    → (found : List Finding)
-    × AllZip (IsDependencyFinding packages folder asker is_installed) (asked_names asker is_installed (name ∷ [])) found
-    × Adds old new found
-name_found packages folder asker is_installed name old new asked problem is_unchecked asks outcome adds =
-    rw asks (
-      of_dependency problem is_unchecked ∷ [],
-      (dependency asked problem is_unchecked asks outcome, tt),
-      adds,
-    )
 
 pub member_found : (packages : Data) (version : Option VersionValue) (folder : List ℕ) (asker : Data)
     (old between new : Problems) (problem : Option ProblemValue) → is_link asker ≡ false

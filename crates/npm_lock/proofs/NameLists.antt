@@ -1,114 +1,136 @@
--- The names that a package depends on are those of a sorted list that it asks for.
-use Rattle.std.proofs.Common.{◌≡◌, ◌∙◌, ℕ, zero, suc, List, [], ◌∷◌, ◌++◌, Bool, true, false, cond, IsTrue, BTreeSet}
-use Rattle.std.proofs.Common.{String, Global, string_bytes, string_cmp, nat_cmp, Less, arith, map, sym, refl}
-use Rattle.std.proofs.Common.{None, bytes_eq, is_some, is_eq}
-use Rattle.std.proofs.lemmas.List.Elements.{All-contains, filter_passes}
-use Rattle.std.proofs.lemmas.List.Kept.{IsStrictlySortedBy-filter}
-use Rattle.std.proofs.lemmas.Map.Text.{btree_set_updates_text, is_eq-slice_cmp}
-use Rattle.std.proofs.lemmas.Map.Views.{Contains-from_any}
+-- The names that a package depends on are the keys of the map of what it asks for.
+use Rattle.std.proofs.Common.{◌≡◌, ◌∙◌, ℕ, zero, suc, List, [], ◌∷◌, Bool, true, false, cond, Option, Some, None, BTreeMap}
+use Rattle.std.proofs.Common.{String, Global, string_bytes, string_cmp, nat_cmp, Less, Equal, Greater, Ordering, ap, arith}
+use Rattle.std.proofs.Common.{bytes_eq, is_eq, option_map, refl, sym}
+use denote.Ref.{Bor}
+use Rattle.std.proofs.lemmas.Map.Text.{is_eq-slice_cmp}
 use Rattle.std.proofs.lemmas.Slice.Eq.{bytes_eq-Decides}
-use Rattle.std.specs.BTreeSet.{Updates, contains_text}
+use Rattle.std.specs.BTreeMap.{is_at}
 use Rattle.std.specs.Cmp.Lexicographic.{slice_cmp}
-use Rattle.std.specs.List.{AllByRecursion, AllZip, Contains, filter, list_any}
+use Rattle.std.specs.List.{AllByRecursion, Contains}
 use Rattle.std.specs.List.Sorted.{IsStrictlySortedBy}
+use Rattle.std.specs.Map.{keys_of as tree_keys, lookup}
 use Rattle.std.specs.Option.{IsSome}
-use Rattle.std.specs.Map.{keys_of as tree_keys}
 use Rattle.serde_json.specs.Data.{Data}
 use Rattle.serde_json.specs.View.{members_view}
 use Rattle.serde_json.specs.declared.value.Value.{Value}
 use Rattle.npm_lock.specs.Asked.{asked_of}
 use Rattle.npm_lock.specs.Findings.{AreNames, keys_of}
-use Rattle.npm_lock.specs.Private.Adding.{asked_names}
-
--- ---- lists
-
-either_list : {X : Type 0} (b : Bool) (y : X) (ys : List X) (x : X) → Contains ys x → Contains (cond b (y ∷ ys) ys) x
-either_list true y ys x among = (suc among.0, omega (arith, among.1), among.2)
-either_list false y ys x among = among
-
-pub contains_filtered : {X : Type 0} (p : X → Bool) (xs : List X) (x : X) → Contains xs x → p x ≡ true
-    → Contains (filter p xs) x
-contains_filtered p [] x (k, small, is) passes = absurd (omega (arith, small))
-contains_filtered p (y ∷ ys) x (zero, small, is) passes =
-    let head : p y ≡ true = rw is passes in
-    rw head (0, omega arith, is)
-contains_filtered p (y ∷ ys) x (suc k, small, is) passes =
-    either_list (p y) y (filter p ys) x (contains_filtered p ys x (k, omega (arith, small), is) passes)
+use Rattle.npm_lock.specs.Private.PackageValue.{asked_value}
+use Rattle.npm_lock.specs.Private.Groups.{AreAsked, at_name, names_of}
+use Rattle.npm_lock.specs.declared.asked.Asked.{Asked}
 
 -- ---- texts
-
-below_all : (key : String Global) (keys : List (String Global)) → AllByRecursion (λ y. string_cmp key y ≡ Less) keys
-    → AllByRecursion (λ y. slice_cmp nat_cmp (string_bytes key) y ≡ Less) (map string_bytes keys)
-below_all key [] below = tt
-below_all key (k ∷ keys) below = (below.0, below_all key keys below.1)
-
-pub sorted_texts : (keys : List (String Global)) → IsStrictlySortedBy string_cmp keys
-    → IsStrictlySortedBy (slice_cmp nat_cmp) (map string_bytes keys)
-unfolding IsStrictlySortedBy
-sorted_texts [] sorted = tt
-sorted_texts (key ∷ keys) sorted = (below_all key keys sorted.0, sorted_texts keys sorted.1)
-
-same_any : (name : List ℕ) (keys : List (String Global))
-    → list_any (λ k. is_eq (slice_cmp nat_cmp name (string_bytes k))) keys
-    ≡ list_any (λ k. is_eq (slice_cmp nat_cmp name k)) (map string_bytes keys)
-same_any name [] = refl
-same_any name (key ∷ keys) = rw (same_any name keys)
 
 pub exact : (x y : List ℕ) → is_eq (slice_cmp nat_cmp x y) ≡ true → x ≡ y
 exact x y equal = (bytes_eq-Decides x y).0 (sym (is_eq-slice_cmp x y) ∙ equal)
 
--- ---- names
+pub other : (x y : List ℕ) → is_eq (slice_cmp nat_cmp x y) ≡ false → bytes_eq y x ≡ false
+other x y differ = apart (bytes_eq y x) refl where
+  apart : (b : Bool) → bytes_eq y x ≡ b → b ≡ false
+  apart true same =
+      let is : y ≡ x = (bytes_eq-Decides y x).0 same in
+      let equal : bytes_eq x y ≡ true = (bytes_eq-Decides x y).1 (sym is) in
+      cc (is_eq-slice_cmp x y, equal, differ)
+  apart false same = refl
 
-pub asked_are_names : (asker : Data) (is_installed : Bool) (keys : List (String Global))
-    → IsStrictlySortedBy string_cmp keys
-    → ((name : List ℕ) → IsSome (asked_of asker is_installed name)
-    → list_any (λ k. is_eq (slice_cmp nat_cmp name (string_bytes k))) keys ≡ true)
-    → AreNames asker is_installed (asked_names asker is_installed (map string_bytes keys))
-asked_are_names asker is_installed keys sorted among =
-    let asks : List ℕ → Bool = λ name. is_some (asked_of asker is_installed name) in record {
-      ascending = IsStrictlySortedBy-filter (slice_cmp nat_cmp) asks (map string_bytes keys) (sorted_texts keys sorted);
-      all = λ name. (
-        (λ one. All-contains (λ x. asks x ≡ true) (filter asks (map string_bytes keys)) name
-            (filter_passes asks (map string_bytes keys)) one),
-        (λ some. contains_filtered asks (map string_bytes keys) name
-            (Contains-from_any {eq = λ x y. is_eq (slice_cmp nat_cmp x y)} exact name (map string_bytes keys)
-            (sym (same_any name keys) ∙ among name some)) some),
-      );
-    }
+itself : (x : List ℕ) → is_eq (slice_cmp nat_cmp x x) ≡ true
+itself x = is_eq-slice_cmp x x ∙ (bytes_eq-Decides x x).1 refl
 
--- the findings of one name, and of those after it
-pub one_name_more : {X Y : Type 0} (R : X → Y → Type 0) (asks : Bool) (name : X) (names : List X) (here later : List Y)
-    → AllZip R (cond asks (name ∷ []) []) here → AllZip R names later
-    → AllZip R (cond asks (name ∷ names) names) (here ++ later)
-one_name_more R true name names [] later found rest = absurd found
-one_name_more R true name names (f ∷ []) later found rest = (found.0, rest)
-one_name_more R true name names (f ∷ g ∷ here) later found rest = absurd found.1
-one_name_more R false name names [] later found rest = rest
-one_name_more R false name names (f ∷ here) later found rest = absurd found
+-- what is above a text is not that text
+above : (x y : List ℕ) → slice_cmp nat_cmp x y ≡ Less → is_eq (slice_cmp nat_cmp y x) ≡ false
+above x y less = apart (is_eq (slice_cmp nat_cmp y x)) refl where
+  apart : (b : Bool) → is_eq (slice_cmp nat_cmp y x) ≡ b → b ≡ false
+  apart true same =
+      let is : y ≡ x = exact y x same in
+      let never : is_eq (slice_cmp nat_cmp x y) ≡ false = ap is_eq less in
+      let equal : is_eq (slice_cmp nat_cmp x y) ≡ true = rw is (itself x) in
+      cc (never, equal)
+  apart false same = refl
 
--- a name that is not asked for has no findings
-pub no_name_more : {Y : Type 0} (R : List ℕ → Y → Type 0) (asker : Data) (is_installed : Bool) (name : List ℕ)
-    (names : List (List ℕ)) (later : List Y) → asked_of asker is_installed name ≡ None
-    → AllZip R (asked_names asker is_installed names) later
-    → AllZip R (asked_names asker is_installed (name ∷ names)) later
-no_name_more R asker is_installed name names later none rest = rw none rest
+-- ---- the keys of the map
 
--- ---- a set of texts, after one more
+abbrev Entries : Type 0
+Entries = List (Bor (List ℕ) × Asked)
 
-either_true : (b old : Bool) → old ≡ true → cond b true old ≡ true
-either_true true old is = refl
-either_true false old is = is
+abbrev key_cmp : Bor (List ℕ) → Bor (List ℕ) → Ordering
+key_cmp x y = slice_cmp nat_cmp x.now y.now
 
-pub kept_by : (key : String Global) (old new : BTreeSet (String Global)) → Updates string_cmp old new key true
-    → (name : List ℕ) → IsTrue (contains_text old name) → IsTrue (contains_text new name)
-kept_by key old new updates name is =
-    btree_set_updates_text (string_bytes key) old new true updates name ∙ either_true _ _ is
+-- what the entries have at a name
+abbrev at : (name : List ℕ) → Entries → Option Asked
+at name entries = lookup (is_at (λ k. slice_cmp nat_cmp name k.now)) entries
 
-pub added_by : (key : String Global) (old new : BTreeSet (String Global)) → Updates string_cmp old new key true
-    → (name : List ℕ) → name ≡ string_bytes key → IsTrue (contains_text new name)
-added_by key old new updates name is =
-    let same : bytes_eq (string_bytes key) name ≡ true = (bytes_eq-Decides (string_bytes key) name).1 (sym is) in
-    btree_set_updates_text (string_bytes key) old new true updates name ∙ rw same
+below_names : (key : Bor (List ℕ)) (entries : Entries) → AllByRecursion (λ y. key_cmp key y ≡ Less) (tree_keys entries)
+    → AllByRecursion (λ y. slice_cmp nat_cmp key.now y ≡ Less) (names_of entries)
+below_names key [] below = tt
+below_names key (e ∷ entries) below = (below.0, below_names key entries below.1)
+
+sorted_names : (entries : Entries) → IsStrictlySortedBy key_cmp (tree_keys entries)
+    → IsStrictlySortedBy (slice_cmp nat_cmp) (names_of entries)
+unfolding IsStrictlySortedBy
+sorted_names [] sorted = tt
+sorted_names (e ∷ entries) sorted = (below_names e.0 entries sorted.0, sorted_names entries sorted.1)
+
+-- each entry of a sorted map is found by its key
+later_found : (first : Bor (List ℕ) × Asked) (some all : Entries)
+    → AllByRecursion (λ y. key_cmp first.0 y ≡ Less) (tree_keys some)
+    → AllByRecursion (λ e. at e.0.now all ≡ Some e.1) some
+    → AllByRecursion (λ e. at e.0.now (first ∷ all) ≡ Some e.1) some
+later_found first [] all below found = tt
+later_found first (e ∷ some) all below found =
+    (rw (above first.0.now e.0.now below.0) found.0, later_found first some all below.1 found.1)
+
+each_found : (entries : Entries) → IsStrictlySortedBy key_cmp (tree_keys entries)
+    → AllByRecursion (λ e. at e.0.now entries ≡ Some e.1) entries
+unfolding IsStrictlySortedBy
+each_found [] sorted = tt
+each_found (e ∷ entries) sorted =
+    (rw (itself e.0.now) refl, later_found e entries entries sorted.0 (each_found entries sorted.1))
+
+module _ (asker : Data) (is_installed : Bool) where
+  some_asked : (all : BTreeMap (Bor (List ℕ)) Asked) (some : Entries)
+      → ((name : List ℕ) → at_name all name ≡ asked_of asker is_installed name)
+      → AllByRecursion (λ e. at e.0.now all.entries ≡ Some e.1) some → AreAsked asker is_installed some
+  some_asked all [] asks found = tt
+  some_asked all (e ∷ some) asks found =
+      (sym (asks e.0.now) ∙ ap (option_map asked_value) found.0, some_asked all some asks found.1)
+
+  pub all_asked : (all : BTreeMap (Bor (List ℕ)) Asked) → IsStrictlySortedBy key_cmp (tree_keys all.entries)
+      → ((name : List ℕ) → at_name all name ≡ asked_of asker is_installed name)
+      → AreAsked asker is_installed all.entries
+  all_asked all sorted asks = some_asked all all.entries asks (each_found all.entries sorted)
+
+  among_names : (entries : Entries) (name : List ℕ) → AreAsked asker is_installed entries
+      → Contains (names_of entries) name → IsSome (asked_of asker is_installed name)
+  among_names [] name asked (k, small, is) = absurd (omega (arith, small))
+  among_names (e ∷ entries) name asked (zero, small, is) = rw (← is, asked.0) refl
+  among_names (e ∷ entries) name asked (suc k, small, is) =
+      among_names entries name asked.1 (k, omega (arith, small), is)
+
+  has_name : (e : Bor (List ℕ) × Asked) (entries : Entries) (name : List ℕ) (b : Bool)
+      → is_eq (slice_cmp nat_cmp name e.0.now) ≡ b
+      → (IsSome (option_map asked_value (at name entries)) → Contains (names_of entries) name)
+      → IsSome (option_map asked_value (cond b (Some e.1) (at name entries)))
+      → Contains (names_of (e ∷ entries)) name
+  has_name e entries name true is later some = (0, omega arith, sym (exact name e.0.now is))
+  has_name e entries name false is later some =
+      let more = later some in (suc more.0, omega (arith, more.1), more.2)
+
+  names_at : (entries : Entries) (name : List ℕ) → IsSome (option_map asked_value (at name entries))
+      → Contains (names_of entries) name
+  names_at [] name some = cc some
+  names_at (e ∷ entries) name some = has_name e entries name _ refl (names_at entries name) some
+
+  pub are_names : (all : BTreeMap (Bor (List ℕ)) Asked) → IsStrictlySortedBy key_cmp (tree_keys all.entries)
+      → ((name : List ℕ) → at_name all name ≡ asked_of asker is_installed name)
+      → AreNames asker is_installed (names_of all.entries)
+  are_names all sorted asks = record {
+    ascending = sorted_names all.entries sorted;
+    all = λ name. (
+      among_names all.entries name (all_asked all sorted asks),
+      (λ some. let at_all : IsSome (at_name all name) = rw (asks name) some in names_at all.entries name at_all),
+    );
+  }
 
 -- ---- the keys of an object
 

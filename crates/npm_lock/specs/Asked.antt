@@ -11,11 +11,11 @@ pub record AskedValue : Type 0 where
   pub is_needed : Bool
   pub is_peer : Bool
 
--- the spec of a name in a group, as `dependencies`
+-- the spec of a name in a group: `^1` for `a` in `{"dependencies": {"a": "^1"}}`
 abbrev pub spec_in : (member : Data) → (group name : List ℕ) → Option (List ℕ)
 spec_in member group name = option_and_then as_str (option_and_then (get name) (get group member))
 
--- a peer in `peerDependenciesMeta`
+-- what `{"peerDependenciesMeta": {"a": {"optional": true}}}` says of `a`
 abbrev pub optional_of : (member : Data) → (name : List ℕ) → Option Bool
 optional_of member name = option_and_then as_bool
     (option_and_then (get (codes "optional"))
@@ -25,6 +25,7 @@ optional_of member name = option_and_then as_bool
 abbrev pub is_optional_peer : (member : Data) → (name : List ℕ) → Bool
 is_optional_peer member name = unwrap_or (optional_of member name) false
 
+-- the dependency on a name in a group
 abbrev pub asked_in : (member : Data) → (group name : List ℕ) → (is_needed is_peer : Bool) → Option AskedValue
 asked_in member group name is_needed is_peer = option_map
     (λ spec. record { spec = spec; is_needed = is_needed; is_peer = is_peer }) (spec_in member group name)

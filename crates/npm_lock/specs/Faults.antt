@@ -42,6 +42,7 @@ groups_fault entry = option_or (option_or (option_or (group_fault entry (codes "
 abbrev pub has_text_version : (entry : Data) → Bool
 has_text_version entry = option_map_or (λ version. is_some (as_str version)) (get (codes "version") entry) true
 
+-- the fault of a package that is no link
 abbrev pub package_fault : (entry : Data) → Option Fault
 package_fault entry = if has_text_version entry then groups_fault entry else Some Faults.PackageVersion
 
@@ -66,7 +67,7 @@ members_fault packages (member folder entry others) =
 abbrev pub packages_fault : (packages : Data) → Option Fault
 packages_fault packages = option_map_or (members_fault packages) (as_object packages) (Some Faults.Packages)
 
--- the fault of a value as a lock file, if it has one
+-- the fault of a value as a lock file, if it has one: this is what `check` refuses
 abbrev pub lock_fault : (lock : Data) → Option Fault
 lock_fault lock = if has_format lock
     then option_map_or packages_fault (get (codes "packages") lock) (Some Faults.Packages)

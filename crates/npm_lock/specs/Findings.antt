@@ -16,7 +16,7 @@ use Rattle.npm_lock.specs.Outcomes.{IsEngineOutcome, IsOutcome, ProblemValue, pr
 use Rattle.npm_lock.specs.Packages.{is_link}
 use Rattle.npm_lock.specs.declared.problem.Problems.{Problems}
 
--- what is found out about a package, and about a dependency
+-- what is found out about a package, its problem with the version of Node, and about a dependency
 pub data Finding : Type 0 where
   of_package : (problem : Option ProblemValue) → Finding
   of_dependency : (problem : Option ProblemValue) → (is_unchecked : Bool) → Finding
@@ -82,10 +82,12 @@ keys_of (member key value others) = key ∷ keys_of others
 
 -- ---- the list of problems, and the counts
 
+-- the problem that was found, if there is one
 abbrev pub problem_of : Finding → Option ProblemValue
 problem_of (of_package problem) = problem
 problem_of (of_dependency problem is_unchecked) = problem
 
+-- which findings each count counts
 abbrev pub is_package : Finding → Bool
 is_package (of_package problem) = true
 is_package (of_dependency problem is_unchecked) = false

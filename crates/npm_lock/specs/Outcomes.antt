@@ -39,10 +39,12 @@ version_of member = option_and_then as_str (get (codes "version") member)
 
 -- ---- dependencies
 
+-- nothing was found: there is no folder, and no version
 abbrev pub missing_problem : (folder name spec : List ℕ) → ProblemValue
 missing_problem folder name spec =
     record { kind = Missing; from = folder; name = name; spec = spec; to = None; version = None }
 
+-- a package was found, which may have no version
 abbrev pub found_problem : Kind → (folder name spec : List ℕ) → Package → ProblemValue
 found_problem kind folder name spec found = record {
   kind = kind;
@@ -88,10 +90,11 @@ pub data IsOutcome (packages : Data) (folder : List ℕ) (is_installed : Bool) (
 
 -- ---- the version of Node
 
--- a package's range for Node
+-- a package's range for Node: `>=18` of `{"engines": {"node": ">=18"}}`. Old packages have a list there, which says nothing
 abbrev pub engine_of : (member : Data) → Option (List ℕ)
 engine_of member = option_and_then as_str (option_and_then (get (codes "node")) (get (codes "engines") member))
 
+-- the package in this folder does not admit this version of Node
 abbrev pub engine_problem : (folder spec : List ℕ) → VersionValue → ProblemValue
 engine_problem folder spec node = record {
   kind = Engine;

@@ -12,7 +12,7 @@ ghost use Rattle.npm_lock.specs.Outcomes as Outcomes;
 ghost use Rattle.npm_lock.specs.Outcomes.{problem_value};
 ghost use Rattle.npm_lock.specs.Private.Adding.{Adds};
 
-use crate::asked::{asked_of, names_of};
+use crate::asked::asked_of;
 use crate::fault::{CheckError, packages_of};
 use crate::folder::is_installed;
 use crate::outcome::{outcome_of, problem_of};
@@ -80,13 +80,9 @@ fn check_package(
     }
     problems.add_package(engine_problem(alloc, asker, node)?)?;
     let is_installed = is_installed(asker.folder);
-    let names = names_of(alloc, asker.member)?;
-    for name in names.iter() {
-        let name = name.as_str();
-        let Some(asked) = asked_of(asker.member, is_installed, name) else {
-            continue;
-        };
-        let (problem, unchecked) = outcome_of(alloc, packages, asker, is_installed, name, asked)?;
+    let all = asked_of(alloc, asker.member, is_installed)?;
+    for (name, asked) in all.iter() {
+        let (problem, unchecked) = outcome_of(alloc, packages, asker, is_installed, *name, *asked)?;
         problems.add_dependency(problem, unchecked)?;
     }
     Ok(())

@@ -3,7 +3,7 @@ ghost use Rattle.std.specs.Prelude.{◌≡◌, IfOk, option_map, string_bytes};
 ghost use Rattle.serde_json.specs.View.{view};
 ghost use Rattle.npm_lock.specs.Outcomes as Outcomes;
 ghost use Rattle.npm_lock.specs.Outcomes.{IsOutcome, problem_value};
-ghost use Rattle.npm_lock.specs.PackageValue.{asked_value};
+ghost use Rattle.npm_lock.specs.Private.PackageValue.{asked_value};
 
 use crate::asked::Asked;
 use crate::place::{Package, find, find_in};

@@ -5,7 +5,7 @@ ghost use Rattle.serde_json.specs.View.{view};
 ghost use Rattle.npm_lock.specs.Folders as Folders;
 ghost use Rattle.npm_lock.specs.Packages.{IsFound, IsFoundIn, IsPassed};
 ghost use Rattle.npm_lock.specs.Packages as Packages;
-ghost use Rattle.npm_lock.specs.PackageValue.{package_value};
+ghost use Rattle.npm_lock.specs.Private.PackageValue.{package_value};
 
 use crate::folder::{above, is_modules};
 use serde_json::Value;
@@ -63,11 +63,15 @@ pub(crate) fn find_in<'v>(
 fn place_in(alloc: Global, folder: &str, name: &str) -> Result<String, AllocError>
     ensures { IfOk result (λ place. string_bytes place ≡ Folders.place_in folder.now name.now) }
 {
-    if folder.is_empty() {
-        format!(in alloc; "node_modules/{name}")
-    } else {
-        format!(in alloc; "{folder}/node_modules/{name}")
+    // One allocation for most folders. A text that grows from nothing takes three or four.
+    let mut place = String::with_capacity(alloc, 128)?;
+    if !folder.is_empty() {
+        place.push_str(folder)?;
+        place.push_str("/")?;
     }
+    place.push_str("node_modules/")?;
+    place.push_str(name)?;
+    Ok(place)
 }
 
 /// The package at a place, which is the target if a link is there.

@@ -7,7 +7,7 @@ use std::test::Fail;
 
 // What each package is called in the rows: `packages` of a lock file, and each problem as its kind, the folder of the
 // package that asks, and the name.
-const ROWS: [(&str, &[(Kind, &str, &str)]); 16] = [
+const ROWS: [(&str, &[(Kind, &str, &str)]); 24] = [
     (r#""": {}"#, &[]),
     // A dependency, missing and not.
     (
@@ -41,6 +41,15 @@ const ROWS: [(&str, &[(Kind, &str, &str)]); 16] = [
         r#""": {"optionalDependencies": {"a": "1"}}, "node_modules/a": {"version": "2.0.0"}"#,
         &[(Kind::Invalid, "", "a")],
     ),
+    (
+        r#""": {"optionalDependencies": {"a": "1"}, "devDependencies": {"a": "2"}}"#,
+        &[(Kind::Missing, "", "a")],
+    ),
+    (
+        r#""": {"peerDependencies": {"a": "1"}, "peerDependenciesMeta": {"a": {"optional": true}},
+            "dependencies": {"a": "2"}}"#,
+        &[(Kind::Missing, "", "a")],
+    ),
     // Peers, of which one is optional, and one is in the folder of its own package.
     (
         r#""": {"peerDependencies": {"a": "1", "b": "1"}, "peerDependenciesMeta": {"a": {"optional": true}}}"#,
@@ -51,10 +60,30 @@ const ROWS: [(&str, &[(Kind, &str, &str)]); 16] = [
             "node_modules/a/node_modules/b": {"version": "1.0.0"}"#,
         &[(Kind::PeerLocal, "node_modules/a", "b")],
     ),
+    (
+        r#""node_modules/a": {"peerDependencies": {"b": "1", "c": "1"}}, "node_modules/b": {"version": "2.0.0"},
+            "node_modules/c": {"version": "1.0.0"}"#,
+        &[(Kind::Invalid, "node_modules/a", "b")],
+    ),
+    (
+        r#""": {"peerDependencies": {"a": "1"}}, "node_modules/a": {"version": "1.0.0"},
+            "w": {"peerDependencies": {"b": "1"}}, "w/node_modules/b": {"version": "1.0.0"}"#,
+        &[],
+    ),
+    (
+        r#""": {"peerDependencies": {"a": "1", "b": "1"},
+            "peerDependenciesMeta": {"a": {"optional": true}, "b": {"optional": "true"}}},
+            "node_modules/a": {"version": "2.0.0"}"#,
+        &[(Kind::Invalid, "", "a"), (Kind::Missing, "", "b")],
+    ),
     // Development dependencies count for the root and workspaces.
     (
         r#""node_modules/a": {"devDependencies": {"b": "1"}}, "w": {"devDependencies": {"b": "1"}}"#,
         &[(Kind::Missing, "w", "b")],
+    ),
+    (
+        r#""": {"devDependencies": {"b": "1"}}"#,
+        &[(Kind::Missing, "", "b")],
     ),
     // A link, and its target.
     (
@@ -79,11 +108,28 @@ const ROWS: [(&str, &[(Kind, &str, &str)]); 16] = [
             "node_modules/b": {"version": "1.0.0"}"#,
         &[(Kind::Invalid, "", "a")],
     ),
+    (
+        r#""": {"dependencies": {"a": "npm:b@", "c": "npm:b@latest", "d": "npm:b@github:b/b"}}, "node_modules/a": {},
+            "node_modules/c": {}, "node_modules/d": {}"#,
+        &[],
+    ),
     // A tag and a URL are not checked, and a text that is neither a range nor a tag is invalid.
     (
         r#""": {"dependencies": {"a": "latest", "b": "github:b/b", "c": "= %"}}, "node_modules/a": {},
             "node_modules/b": {}, "node_modules/c": {"version": "1.0.0"}"#,
         &[(Kind::Invalid, "", "c")],
+    ),
+    // Packages in the order of their folders' bytes, and the dependencies of each in the order of their names' bytes.
+    (
+        r#""w": {"dependencies": {"b": "1", "@s/a": "1", "B": "1"}}, "node_modules/z": {"dependencies": {"a": "1"}},
+            "node_modules/Z": {"dependencies": {"a": "1"}}"#,
+        &[
+            (Kind::Missing, "node_modules/Z", "a"),
+            (Kind::Missing, "node_modules/z", "a"),
+            (Kind::Missing, "w", "@s/a"),
+            (Kind::Missing, "w", "B"),
+            (Kind::Missing, "w", "b"),
+        ],
     ),
 ];
 
@@ -117,6 +163,11 @@ fn is_problem(found: &Problem, wanted: &(Kind, &str, &str)) -> bool {
 fn refuses_what_is_no_lock_file(rt: HostRuntime) -> Result<(), Fail> {
     let rows = [
         ("{}", Fault::Version),
+        ("[]", Fault::Version),
+        (
+            r#"{"lockfileVersion": "3", "packages": {}}"#,
+            Fault::Version,
+        ),
         (r#"{"lockfileVersion": 1, "packages": {}}"#, Fault::Version),
         (r#"{"lockfileVersion": 2}"#, Fault::Packages),
         (r#"{"lockfileVersion": 2, "packages": []}"#, Fault::Packages),
@@ -130,6 +181,10 @@ fn refuses_what_is_no_lock_file(rt: HostRuntime) -> Result<(), Fail> {
         ),
         (
             r#"{"lockfileVersion": 2, "packages": {"a": {"link": true, "resolved": "b"}}}"#,
+            Fault::Link,
+        ),
+        (
+            r#"{"lockfileVersion": 2, "packages": {"a": {"link": true, "resolved": "a"}}}"#,
             Fault::Link,
         ),
         (
@@ -160,14 +215,36 @@ fn asks_for_a_version_of_node(rt: HostRuntime) -> Result<(), Fail> {
     let alloc = rt.alloc();
     let text = r#"{"lockfileVersion": 3, "packages": {"": {"engines": {"node": ">=18"}},
         "node_modules/a": {"version": "1.0.0", "engines": ["node >= 22"]},
-        "node_modules/b": {"version": "1.0.0", "engines": {"node": "foo"}}}}"#;
+        "node_modules/b": {"version": "1.0.0", "engines": {"node": "foo"}, "dependencies": {"c": "1"}}}}"#;
     let lock = Value::from_str(alloc, text)?;
     let found = check(alloc, &lock, Some(&Version::parse(alloc, "16.0.0")?))?;
     let wanted = [
         (Kind::Engine, "", "node"),
         (Kind::Engine, "node_modules/b", "node"),
+        (Kind::Missing, "node_modules/b", "c"),
     ];
     assert!(rt; are_problems(found.list.as_slice(), &wanted));
-    assert!(rt; check(alloc, &lock, None)?.list.is_empty());
+    assert!(rt; are_problems(check(alloc, &lock, None)?.list.as_slice(), &wanted[2..]));
+    Ok(())
+}
+
+// A link is no package, and an optional dependency that is missing is one dependency.
+#[test]
+fn counts_what_it_checks(rt: HostRuntime) -> Result<(), Fail> {
+    let alloc = rt.alloc();
+    let text =
+        r#"{"lockfileVersion": 2, "packages": {"": {"dependencies": {"w": "latest", "a": "^1", "b": "a/b"},
+        "optionalDependencies": {"c": "*"}}, "node_modules/w": {"link": true, "resolved": "w"},
+        "w": {"version": "1.0.0"}, "node_modules/a": {"version": "2.0.0"}, "node_modules/b": {}}}"#;
+    let lock = Value::from_str(alloc, text)?;
+    let found = check(alloc, &lock, None)?;
+    assert_eq!(rt; found.packages, 4);
+    assert_eq!(rt; found.dependencies, 4);
+    assert_eq!(rt; found.unchecked, 2);
+    assert_eq!(rt; found.list.len(), 1);
+    let written = found.list[0].to_json(alloc)?.to_string(alloc)?;
+    let wanted =
+        r#"{"from":"","name":"a","problem":"invalid","spec":"^1","to":"node_modules/a","version":"2.0.0"}"#;
+    assert_eq!(rt; written.as_str(), wanted);
     Ok(())
 }

@@ -1,18 +1,22 @@
 -- What is found out about the names that are left, after what was found out, is found out about all.
-use Rattle.std.proofs.Common.{List, map, string_bytes}
+use Rattle.std.proofs.Common.{List}
 use Rattle.std.specs.List.{AllZip}
 use Rattle.serde_json.specs.View.{view}
 use Rattle.npm_lock.specs.Findings.{Finding, IsDependencyFinding}
-use Rattle.npm_lock.specs.Private.Adding.{Adds, asked_names}
+use Rattle.npm_lock.specs.Private.Adding.{Adds}
+use Rattle.npm_lock.specs.Private.Groups.{AreAsked, names_of}
 use Rattle.npm_lock.specs.declared.problem.Problems.{Problems}
 use Rattle.npm_lock.proofs.lock_file.check_package.Given as goal
 
 abbrev pub invariant-loop-name : goal.invariant-loop-name
-invariant-loop-name l = (later : List Finding) (new : Problems)
-    → AllZip (IsDependencyFinding (view l.packages) l.asker.folder.now (view l.asker.member.now) l.is_installed)
-    (asked_names (view l.asker.member.now) l.is_installed (map string_bytes l.name-iterator)) later
-    → Adds l.problems new later
-    → (found : List Finding)
-    × AllZip (IsDependencyFinding (view l.packages) l.asker.folder.now (view l.asker.member.now) l.is_installed)
-    (asked_names (view l.asker.member.now) l.is_installed (map string_bytes l.initial.name-iterator)) found
-    × Adds l.initial.problems new found
+invariant-loop-name l = record {
+  asked : AreAsked (view l.asker.member.now) l.is_installed l.name-iterator;
+  found : (later : List Finding) (new : Problems)
+      → AllZip (IsDependencyFinding (view l.packages) l.asker.folder.now (view l.asker.member.now) l.is_installed)
+      (names_of l.name-iterator) later
+      → Adds l.problems new later
+      → (found : List Finding)
+      × AllZip (IsDependencyFinding (view l.packages) l.asker.folder.now (view l.asker.member.now) l.is_installed)
+      (names_of l.initial.name-iterator) found
+      × Adds l.initial.problems new found;
+}

@@ -5,7 +5,7 @@ use Rattle.serde_json.specs.Data.{Data}
 use Rattle.serde_json.specs.View.{view}
 use Rattle.npm_lock.specs.Asked.{AskedValue}
 use Rattle.npm_lock.specs.Outcomes.{IsLocalPeer, IsOutcome, absent, invalid, local_peer, missing, unchecked, valid}
-use Rattle.npm_lock.specs.PackageValue.{asked_value, package_value}
+use Rattle.npm_lock.specs.Private.PackageValue.{asked_value, package_value}
 use Rattle.npm_lock.specs.Packages.{IsFound, IsFoundIn, IsPassed, Package, above, here}
 use Rattle.npm_lock.proofs.outcome.outcome_of.Goals as goal
 use Rattle.npm_lock.proofs.outcome.outcome_of.Goals.{else-asked-via-then-asked+then-is_installed+in_ok-find_in+else-is_some}

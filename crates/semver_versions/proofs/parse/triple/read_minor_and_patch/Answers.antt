@@ -1,4 +1,4 @@
-use Rattle.std.proofs.Common.{rules, sym, ◌∙◌}
+use Rattle.std.proofs.Common.{rules}
 use Rattle.semver_versions.specs.Lemmas.Texts.NumberReading.{dotted-both, dotted-first, dotted-second}
 use Rattle.semver_versions.proofs.parse.triple.read_minor_and_patch.Goals as goal
 

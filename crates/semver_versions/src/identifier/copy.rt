@@ -95,7 +95,8 @@ impl<'a> Identifiers<'a> {
     /// # Memory
     ///
     /// Allocates the list and its texts. Does not allocate if there are no identifiers.
-    #[inline]
+    // `inline(always)`: most versions have no build, which is one test.
+    #[inline(always)]
     pub fn to_vec(&self, alloc: Global) -> Result<Vec<Identifier>, AllocError>
         ensures copies { IfOk result (λ v. values_of v.items ≡ self.now) }
         ensures plain { self.now ≡ [] → IsOk result }
@@ -107,7 +108,8 @@ impl<'a> Identifiers<'a> {
     }
 }
 
-// The identifiers of such a text.
+// The identifiers of such a text. `inline(never)`: a version without lists needs no stack for them.
+#[inline(never)]
 fn list_of(alloc: Global, text: &[u8]) -> Result<Vec<Identifier>, AllocError>
     requires { IsListed text.now }
     ensures { IfOk result (λ v. values_of v.items ≡ identifiers_of text.now) }

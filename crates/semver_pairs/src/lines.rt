@@ -6,6 +6,8 @@ ghost use Rattle.memchr.specs.Find.{IsFirstByte, is_byte};
 ghost use Rattle.semver_versions.specs.ErrorLocation.{newline};
 ghost use Rattle.semver_pairs.specs.Private.Splitting.{BeginsWithLine, HasNoNewline};
 
+use memchr::memchr;
+
 /// Returns the bytes before the first newline byte, and the bytes after it.
 pub(crate) fn split_line(bytes: &[u8]) -> Option<(&[u8], &[u8])>
     ensures split { IfSome result (λ pair. BeginsWithLine bytes.now pair.0.now pair.1.now) }
@@ -17,16 +19,11 @@ pub(crate) fn split_line(bytes: &[u8]) -> Option<(&[u8], &[u8])>
     Some((&bytes[..at], &bytes[at + 1..]))
 }
 
-/// Returns the index of the first newline byte. It looks at one byte after another, since most lines are short.
+/// Returns the index of the first newline byte.
 fn newline_place(bytes: &[u8]) -> Option<usize>
     ensures { IsFirstByte (is_byte newline) bytes.now result }
 {
-    for (at, byte) in bytes.iter().enumerate() {
-        if *byte == b'\n' {
-            return Some(at);
-        }
-    }
-    None
+    memchr(b'\n', bytes)
 }
 
 /// Returns the bytes after a line and its newline byte, if the bytes begin with both.

@@ -12,13 +12,13 @@ ghost use Rattle.node_semver.specs.Private.BeyondViews.{AreSetsTried, AreUppersT
 ghost use Rattle.node_semver.specs.Private.BeyondViews.{IsLeastBeyondOrNone, IsLeastOpened, IsOpenTrial};
 ghost use Rattle.node_semver.specs.Private.BeyondViews.{IsShut, IsTrial};
 
-use crate::range::least::candidates::ReleaseCandidate;
+use crate::range::least::candidates::is_release_below;
 use crate::range::least::unbuilt::Unbuilt;
 use crate::{Comparisons, Range, Version};
 use semver_cuts::{Cut, Span};
 use semver_sets::set::admits;
-use semver_versions::AsVersion;
 use semver_versions::end::EndVersion;
+use semver_versions::{AsVersion, Triple};
 use std::alloc::{AllocError, Global};
 
 impl Range {
@@ -113,14 +113,7 @@ fn try_cut<'a>(
     ensures { IsCutTrial range.now other.now best.old cut.now best.new }
 {
     match cut {
-        Cut::Start => {
-            let release = ReleaseCandidate {
-                major: 0,
-                minor: 0,
-                patch: 0,
-            };
-            try_release(best, release, range, other);
-        }
+        Cut::Start => try_release(best, Triple::new(0, 0, 0), range, other),
         Cut::Before(end) => try_before(best, end, range, other),
         Cut::After(end) => try_after(best, end, range, other),
         Cut::End => {}
@@ -134,12 +127,7 @@ fn try_before<'a>(best: &mut Option<Unbuilt<'a>>, end: &'a EndVersion, range: &R
     if end.is_prerelease() {
         try_candidate(best, Unbuilt::at_end(end).without_build(), range, other);
     }
-    let release = ReleaseCandidate {
-        major: end.major,
-        minor: end.minor,
-        patch: end.patch,
-    };
-    try_release(best, release, range, other);
+    try_release(best, end.triple(), range, other);
 }
 
 #[inline(never)]
@@ -147,17 +135,12 @@ fn try_after<'a>(best: &mut Option<Unbuilt<'a>>, end: &'a EndVersion, range: &Ra
     requires { IsReadVersion end.now }
     ensures { IsCutTrial range.now other.now best.old (After end.now) best.new }
 {
-    let mut patch = end.patch;
+    let mut release = end.triple();
     if end.is_prerelease() {
         try_candidate(best, Unbuilt::after_end(end).without_build(), range, other);
     } else {
-        patch += 1;
+        release.patch += 1;
     }
-    let release = ReleaseCandidate {
-        major: end.major,
-        minor: end.minor,
-        patch,
-    };
     try_release(best, release, range, other);
 }
 
@@ -218,7 +201,7 @@ fn least_opened<'a>(cut: &Cut<EndVersion>) -> Option<Unbuilt<'a>>
     match cut {
         Cut::Before(end) | Cut::After(end) => {
             if end.is_prerelease() {
-                Some(Unbuilt::least_of(end.major, end.minor, end.patch))
+                Some(Unbuilt::least_of(end.triple()))
             } else {
                 None
             }
@@ -243,34 +226,24 @@ fn try_candidate<'a>(
     }
 }
 
-// The same for a release: only its triple is compared.
+// The same for the release of a triple: only triples are compared.
 #[inline(always)]
-fn try_release(
-    best: &mut Option<Unbuilt<'_>>,
-    candidate: ReleaseCandidate,
-    range: &Range,
-    other: &Range,
-)
-    ensures { IsTrial range.now other.now best.old (release candidate.major candidate.minor candidate.patch) best.new }
+fn try_release(best: &mut Option<Unbuilt<'_>>, triple: Triple, range: &Range, other: &Range)
+    ensures { IsTrial range.now other.now best.old (release triple.major triple.minor triple.patch) best.new }
 {
-    if candidate.is_below_best(best) {
-        try_lower(best, candidate, range, other);
+    if is_release_below(triple, best) {
+        try_lower(best, triple, range, other);
     }
 }
 
 // The same for a release that is less than the best so far.
 #[inline(never)]
-fn try_lower(
-    best: &mut Option<Unbuilt<'_>>,
-    candidate: ReleaseCandidate,
-    range: &Range,
-    other: &Range,
-)
-    requires { IsBelowBest best.old (release candidate.major candidate.minor candidate.patch) }
-    ensures { IsTrial range.now other.now best.old (release candidate.major candidate.minor candidate.patch) best.new }
+fn try_lower(best: &mut Option<Unbuilt<'_>>, triple: Triple, range: &Range, other: &Range)
+    requires { IsBelowBest best.old (release triple.major triple.minor triple.patch) }
+    ensures { IsTrial range.now other.now best.old (release triple.major triple.minor triple.patch) best.new }
 {
-    if is_beyond(&candidate, range, other) {
-        *best = Some(Unbuilt::release(candidate.major, candidate.minor, candidate.patch));
+    if is_beyond(&triple, range, other) {
+        *best = Some(Unbuilt::release(triple));
     }
 }
 

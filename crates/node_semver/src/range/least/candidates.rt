@@ -15,13 +15,13 @@ use std::cmp::Ordering;
 impl<'a> Unbuilt<'a> {
     // The release with this triple.
     #[inline(always)]
-    pub(crate) fn release(major: u64, minor: u64, patch: u64) -> Unbuilt<'a>
-        ensures { result ≡ release major minor patch }
+    pub(crate) fn release(triple: Triple) -> Unbuilt<'a>
+        ensures { result ≡ release triple.major triple.minor triple.patch }
     {
         Unbuilt {
-            major,
-            minor,
-            patch,
+            major: triple.major,
+            minor: triple.minor,
+            patch: triple.patch,
             identifiers: BorrowedIdentifiers::List(&[]),
             zero: false,
             build: &[],
@@ -30,12 +30,12 @@ impl<'a> Unbuilt<'a> {
 
     // The least version with this triple.
     #[inline(always)]
-    pub(crate) fn least_of(major: u64, minor: u64, patch: u64) -> Unbuilt<'a>
-        ensures { result ≡ least_of major minor patch }
+    pub(crate) fn least_of(triple: Triple) -> Unbuilt<'a>
+        ensures { result ≡ least_of triple.major triple.minor triple.patch }
     {
         Unbuilt {
             zero: true,
-            ..Unbuilt::release(major, minor, patch)
+            ..Unbuilt::release(triple)
         }
     }
 
@@ -74,14 +74,14 @@ impl<'a> AsVersion for Unbuilt<'a> {
 
     #[inline(always)]
     fn cmp_extras(&self, end: &EndVersion) -> Ordering {
-        cmp_prereleases(end, self)
+        cmp_with_end(end, self)
     }
 }
 
 // The order of the prereleases of an end and a version with the same triple. `inline(never)`: most candidates have no
 // identifiers.
 #[inline(never)]
-fn cmp_prereleases(end: &EndVersion, version: &Unbuilt<'_>) -> Ordering
+fn cmp_with_end(end: &EndVersion, version: &Unbuilt<'_>) -> Ordering
     ensures { result ≡ prerelease_cmp end.now.pre_release version.now.pre_release }
 {
     let end = Unbuilt::at_end(end);
@@ -94,43 +94,14 @@ fn cmp_prereleases(end: &EndVersion, version: &Unbuilt<'_>) -> Ordering
     }
 }
 
-// A release, given by its triple alone.
-#[derive(Clone, Copy)]
-pub(crate) struct ReleaseCandidate {
-    pub(crate) major: u64,
-    pub(crate) minor: u64,
-    pub(crate) patch: u64,
-}
-
-impl ReleaseCandidate {
-    // Returns `true` if there is no best version so far, or this release is less than it. Other versions of its triple
-    // are not greater than it.
-    #[inline(always)]
-    pub(crate) fn is_below_best(&self, best: &Option<Unbuilt<'_>>) -> bool
-        ensures { IsTrue result ↔ IsBelowBest best.now (release self.now.major self.now.minor self.now.patch) }
-    {
-        match best {
-            Some(best) => self.triple() < best.triple(),
-            None => true,
-        }
-    }
-}
-
-impl AsVersion for ReleaseCandidate {
-    ghost seen = { λ version. release version.major version.minor version.patch };
-
-    #[inline(always)]
-    fn is_prerelease(&self) -> bool {
-        false
-    }
-
-    #[inline(always)]
-    fn triple(&self) -> Triple {
-        Triple::new(self.major, self.minor, self.patch)
-    }
-
-    #[inline(always)]
-    fn cmp_extras(&self, end: &EndVersion) -> Ordering {
-        end.cmp_release()
+// Returns `true` if there is no best version so far, or the release of this triple is less than it. No other version of
+// its triple is greater than the release.
+#[inline(always)]
+pub(crate) fn is_release_below(triple: Triple, best: &Option<Unbuilt<'_>>) -> bool
+    ensures { IsTrue result ↔ IsBelowBest best.now (release triple.major triple.minor triple.patch) }
+{
+    match best {
+        Some(best) => triple < best.triple(),
+        None => true,
     }
 }

@@ -1,5 +1,6 @@
 use Rattle.std.proofs.Common.{◌∙◌, Option, ap, subst}
 use Rattle.semver_versions.specs.Version.{VersionValue, release, without_build}
+use Rattle.semver_versions.specs.declared.triple.Triple.{Triple}
 use Rattle.node_semver.specs.Private.BeyondViews.{IsTrial}
 use Rattle.node_semver.proofs.Least.BeyondSteps.{before-prerelease-trial, before-release-trial}
 use Rattle.node_semver.proofs.range.least.beyond.try_before.Goals as goal
@@ -14,8 +15,8 @@ returns c =
     let end = c.args.end.now in
     let From = λ (first : Option VersionValue). IsTrial sets others first (release end.major end.minor end.patch) later in
     let released =
-    subst (λ (v : VersionValue). IsTrial sets others c.if-is_prerelease.best (release v.major v.minor v.patch) later)
-    c.end.view_is
+    subst (λ (t : Triple). IsTrial sets others c.if-is_prerelease.best (release t.major t.minor t.patch) later)
+    c.triple.ensures
     c.try_release.ensures in
     elim c.if-is_prerelease.branch [
       | then-is_prerelease w ↦ before-prerelease-trial sets others best w.try_candidate.new.best later end

@@ -8,7 +8,7 @@ pub returns-then-is_beyond : goal.returns-then-is_beyond
 returns-then-is_beyond c =
     let sets = c.args.range.now in
     let others = c.args.other.now in
-    let tried = release c.args.candidate.major c.args.candidate.minor c.args.candidate.patch in
+    let tried = release c.args.triple.major c.args.triple.minor c.args.triple.patch in
     subst (λ (v : VersionValue). IsTrial sets others c.args.best.now tried (Some v)) (sym c.release.ensures)
     (trial-found sets others c.args.best.now tried refl c.requires
     (c.is_beyond.ensures.0 c.if-is_beyond.true))

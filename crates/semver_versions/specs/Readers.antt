@@ -4,5 +4,6 @@ pub mod Reading
 pub mod DottedReading
 pub mod ReadingViews
 pub mod ListedViews
+pub mod CommonStarts
 pub mod FaultViews
 pub mod RefViews

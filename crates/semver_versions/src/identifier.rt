@@ -1,4 +1,5 @@
 pub mod borrowed;
+mod common_start;
 pub mod copy;
 mod display;
 pub(crate) mod hash;

@@ -1,6 +1,7 @@
 pub mod ByteTable
 pub mod Characters
 pub mod CleanExtras
+pub mod CommonStarts
 pub mod DecimalReading
 pub mod Digits
 pub mod ExtrasReading

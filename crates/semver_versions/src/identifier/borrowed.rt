@@ -12,6 +12,7 @@ ghost use Rattle.semver_versions.specs.Readers.Reading as Reading;
 
 use crate::Identifier;
 use crate::end::{EndVersion, Zero};
+use crate::identifier::common_start::{are_decided, common_length, first_byte, last_start};
 use crate::parse::identifiers::numeric;
 use crate::parse::listed::{split_extras, split_first};
 use std::cmp::Ordering;
@@ -149,8 +150,8 @@ pub(crate) fn by_reference(identifier: &Identifier) -> IdentifierRef<'_>
     }
 }
 
-// The order of two identifiers: a number is less than a text.
-#[inline]
+// The order of two identifiers: a number is less than a text. `inline(always)`: both stay in registers.
+#[inline(always)]
 fn cmp_identifiers(a: IdentifierRef<'_>, b: IdentifierRef<'_>) -> Ordering
     ensures { result ≡ identifier_cmp (borrowed_value a.entry) (borrowed_value b.entry) }
 {
@@ -162,8 +163,26 @@ fn cmp_identifiers(a: IdentifierRef<'_>, b: IdentifierRef<'_>) -> Ordering
     }
 }
 
-// The order of two texts of identifiers, identifier by identifier.
+// The order of two texts of identifiers. What follows their common start mostly decides.
 fn cmp_texts(a: &[u8], b: &[u8]) -> Ordering
+    requires first { IsListed a.now }
+    requires second { IsListed b.now }
+    ensures { result ≡ slice_cmp identifier_cmp (identifiers_of a.now) (identifiers_of b.now) }
+{
+    let alike = common_length(a, b);
+    let one = &a[alike..];
+    let other = &b[alike..];
+    if are_decided(one, other) {
+        return first_byte(one).cmp(&first_byte(other));
+    }
+    // Identifiers before the last common dot are equal.
+    let start = last_start(&a[..alike]);
+    cmp_one_by_one(&a[start..], &b[start..])
+}
+
+// The order of two texts of identifiers, identifier by identifier. `inline(never)`: few texts need it.
+#[inline(never)]
+fn cmp_one_by_one(a: &[u8], b: &[u8]) -> Ordering
     requires first { IsListed a.now }
     requires second { IsListed b.now }
     ensures { result ≡ slice_cmp identifier_cmp (identifiers_of a.now) (identifiers_of b.now) }

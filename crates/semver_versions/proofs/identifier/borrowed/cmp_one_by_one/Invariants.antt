@@ -2,7 +2,7 @@ use Rattle.std.proofs.Common.{◌≡◌, length}
 use Rattle.std.specs.Cmp.Lexicographic.{slice_cmp}
 use Rattle.semver_versions.specs.Comparison.{identifier_cmp}
 use Rattle.semver_versions.specs.IdentifierText.{IsListed, identifiers_of}
-use Rattle.semver_versions.proofs.identifier.borrowed.cmp_texts.Given as goal
+use Rattle.semver_versions.proofs.identifier.borrowed.cmp_one_by_one.Given as goal
 
 -- the identifiers that are left decide
 abbrev pub invariant-identifiers : goal.invariant-identifiers

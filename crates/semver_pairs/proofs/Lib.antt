@@ -1,7 +1,7 @@
 pub mod AnswerLemmas
 pub mod AsciiLemmas
 pub mod ByteLemmas
-pub mod ErrorLemmas
+pub mod FailureLemmas
 pub mod LineLemmas
 pub mod LongerInput
 pub mod MoveLemmas

@@ -10,7 +10,8 @@ use Rattle.std.specs.Cmp.Lexicographic.{pointwise}
 use denote.Ref.{Bor}
 use Rattle.std.proofs.lemmas.Bool.{cases_Bool}
 use Rattle.std.proofs.lemmas.List.{take_rest}
-use Rattle.memchr.specs.Find.{NoneBefore, Nowhere, Passes, is_byte}
+use Rattle.memchr.specs.Find.{IsFirstByte, NoneBefore, Nowhere, Passes, TakesFirst, first_of, is_byte, places}
+use Rattle.memchr.proofs.lemmas.ValueLemmas.{IsFirstByte-value}
 use Rattle.semver_versions.specs.ErrorLocation.{newline}
 use Rattle.semver_pairs.specs.Lines.{divided, joined, with_byte, with_line}
 use Rattle.semver_pairs.specs.Private.Splitting.{BeginsWithLine, HasNoNewline}
@@ -150,3 +151,51 @@ line_ascii {bytes} {line} {rest} begins all =
     let both : IsAscii (line ++ (newline ∷ rest)) = subst IsAscii begins.split all in
     let past = ascii-past line (newline ∷ rest) both in
     (ascii-before line (newline ∷ rest) both, λ k. past (suc k))
+
+-- ---- where the newlines stand, as a list
+
+-- a search for a newline has an answer
+search-exists : (bytes : List ℕ) → (r : Option ℕ) × IsFirstByte (is_byte newline) bytes r
+search-exists [] = (None, λ k low high here. absurd (omega arith))
+search-exists (b ∷ bytes) = elim (cases_Bool (b == newline)) [
+  | inl here ↦ (
+    Some 0,
+    (record { low = omega arith; high = omega arith; before = λ k low high. absurd (omega arith) }, here),
+  )
+  | inr other ↦ later b bytes other (search-exists bytes).0 (search-exists bytes).1
+]
+  where
+    before_later : (b : ℕ) (bytes : List ℕ) (to : ℕ) → (b == newline) ≡ false → Nowhere (IsNewlineAt bytes) 0 to
+        → Nowhere (IsNewlineAt (b ∷ bytes)) 0 (suc to)
+    before_later b bytes to other none zero low high here = cc (here, other)
+    before_later b bytes to other none (suc k) low high here = none k (omega arith) (omega arith) here
+
+    later : (b : ℕ) (bytes : List ℕ) → (b == newline) ≡ false → (r : Option ℕ) → IsFirstByte (is_byte newline) bytes r
+        → (r : Option ℕ) × IsFirstByte (is_byte newline) (b ∷ bytes) r
+    later b bytes other None none = (None, before_later b bytes (length bytes) other none)
+    later b bytes other (Some at) first = (
+      Some (suc at),
+      (
+        record {
+          low = omega arith;
+          high = let within = first.0.high in omega arith;
+          before = before_later b bytes at other first.0.before;
+        },
+        first.1,
+      ),
+    )
+
+-- the first of a list was taken
+first_taken : (all rest : List ℕ) (r : Option ℕ) → TakesFirst all r rest → r ≡ first_of all
+unfolding first_of
+first_taken all rest None done = sym (ap first_of done.0)
+first_taken all rest (Some at) is = sym (ap first_of is)
+
+-- the first of all newlines is the first newline
+pub first_newline : (bytes all rest : List ℕ) (r : Option ℕ) → all ≡ places (is_byte newline) bytes
+    → TakesFirst all r rest → IsFirstByte (is_byte newline) bytes r
+first_newline bytes all rest r is taken =
+    let some = search-exists bytes in
+    subst (IsFirstByte (is_byte newline) bytes)
+    (IsFirstByte-value (is_byte newline) bytes some.0 some.1 ∙ ap first_of (sym is) ∙ sym (first_taken all rest r taken))
+    some.1

@@ -8,7 +8,7 @@ use Rattle.semver_pairs.specs.declared.open_pair.OpenPair.{OpenPair}
 use Rattle.semver_pairs.specs.GaugeValue.{GaugeValue}
 use Rattle.semver_pairs.specs.Output.{AreAnswers}
 use Rattle.semver_pairs.specs.Pairs.{Pair, both, pairs_read}
-use Rattle.semver_pairs.specs.Private.Answering.{AnswersAll, AnswersPast, AnswersRange}
+use Rattle.semver_pairs.specs.Private.Answering.{AnswersAll, AnswersOne, AnswersOneSome, AnswersPast, AnswersRange}
 use Rattle.semver_pairs.specs.Private.Answering.{AnswersRangeSome, AnswersSome, AnswersUpTo, IsAnswerLine, Moves}
 use Rattle.semver_pairs.specs.Private.OpenPair.{IsOpen, open_bytes}
 use Rattle.semver_pairs.specs.Private.Splitting.{BeginsWithPair}
@@ -131,23 +131,38 @@ past_part bytes here range version mid old now new waiting held past begins some
 -- ---- the open pair
 
 -- where nothing follows a pair, its answer is the only one
-pub open_whole : (bytes range version mid rest : List ℕ) (old new : Option (List ℕ)) (waiting left : List ℕ)
-    → BeginsWithPair bytes range version rest → AnswersRange range version [] mid old new waiting left
-    → AnswersPast bytes rest old new waiting left
-open_whole bytes range version mid rest old new waiting left begins answers = record {
-  added = answers.added;
-  answers = answers-pair bytes range version rest rest answers.added begins
-      (from-one range version rest answers.added (from-nothing range version mid answers.added answers.answers));
+pub one-from : (range version rest : List ℕ) (old new : Option (List ℕ)) (waiting left : List ℕ)
+    → AnswersRange range version [] rest old new waiting left → AnswersOne range version old new waiting left
+one-from range version rest old new waiting left answers = record {
+  line = answers.added;
+  answer = from-nothing range version rest answers.added answers.answers;
   moves = answers.moves;
 }
 
+pub one-part : (range version : List ℕ) (old new : Option (List ℕ)) (waiting : List ℕ)
+    → AnswersRangeSome range version [] old new waiting → AnswersOneSome range version old new waiting
+one-part range version old new waiting some = record {
+  left = some.left;
+  one = one-from range version some.rest old new waiting some.left some.past;
+}
+
+pub open_whole : (bytes range version rest : List ℕ) (old new : Option (List ℕ)) (waiting left : List ℕ)
+    → BeginsWithPair bytes range version rest → AnswersOne range version old new waiting left
+    → AnswersPast bytes rest old new waiting left
+open_whole bytes range version rest old new waiting left begins one = record {
+  added = one.line;
+  answers = answers-pair bytes range version rest rest one.line begins
+      (from-one range version rest one.line one.answer);
+  moves = one.moves;
+}
+
 pub open_part : (bytes range version rest : List ℕ) (old new : Option (List ℕ)) (waiting : List ℕ)
-    → BeginsWithPair bytes range version rest → AnswersRangeSome range version [] old new waiting
+    → BeginsWithPair bytes range version rest → AnswersOneSome range version old new waiting
     → AnswersSome bytes old new waiting
 open_part bytes range version rest old new waiting begins some = record {
   rest = rest;
   left = some.left;
-  past = open_whole bytes range version some.rest rest old new waiting some.left begins some.past;
+  past = open_whole bytes range version rest old new waiting some.left begins some.one;
 }
 
 -- memory was refused
@@ -230,18 +245,17 @@ last_one : (pair : Pair) (bytes answer : List ℕ) → pairs_read true bytes ≡
 last_one pair bytes answer is answers = subst (λ (pairs : List Pair). AreAnswers pairs answer) (sym is) answers
 
 -- a range line and a version line
-pub last_pair : (pair : OpenPair) (rest : List ℕ) (old new : Option (List ℕ)) (waiting left : List ℕ) → IsOpen pair
+pub last_pair : (pair : OpenPair) (old new : Option (List ℕ)) (waiting left : List ℕ) → IsOpen pair
     → pair.is_range_ended ≡ true → pair.version.items ≢ []
-    → AnswersRange pair.range.items pair.version.items [] rest old new waiting left
+    → AnswersOne pair.range.items pair.version.items old new waiting left
     → AnswersAll (open_bytes pair) old new waiting left
-last_pair pair rest old new waiting left lines ended some answers =
-    let line = from-nothing pair.range.items pair.version.items rest answers.added answers.answers in
-    let one : AreAnswers (both (strip_carriage_return pair.range.items) pair.version.items ∷ []) answers.added =
-    (line.0, [], line.1, refl, line.2) in
+last_pair pair old new waiting left lines ended some one =
+    let answers : AreAnswers (both (strip_carriage_return pair.range.items) pair.version.items ∷ []) one.line =
+    (one.answer.0, [], one.answer.1, refl, one.answer.2) in
     rw ended (record {
-      added = answers.added;
+      added = one.line;
       answers = last_one (both (strip_carriage_return pair.range.items) pair.version.items)
-          (pair.range.items ++ (newline ∷ pair.version.items)) answers.added
-          (last-both pair.range.items pair.version.items lines.range lines.version some) one;
-      moves = answers.moves;
+          (pair.range.items ++ (newline ∷ pair.version.items)) one.line
+          (last-both pair.range.items pair.version.items lines.range lines.version some) answers;
+      moves = one.moves;
     })

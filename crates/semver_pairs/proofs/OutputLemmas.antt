@@ -1,7 +1,7 @@
 -- What was read and written, and what waits.
 use Rattle.std.proofs.Common.{◌≡◌, ◌≢◌, ◌↔◌, ℕ, ◌<◌, List, [], ◌++◌, length, take, drop, true, false, Option, arith}
 use Rattle.std.proofs.Common.{ap, refl, subst, sym, ◌∙◌}
-use Rattle.std.proofs.Common.{append_assoc, append-nil, take-append-drop, Result, Ok, Err, OnErr}
+use Rattle.std.proofs.Common.{append_assoc, append-nil, take-append-drop}
 use Rattle.std.specs.Io.KnownBytes.{Appends, IsAtEnd}
 use Rattle.std.proofs.KnownBytes.{Appends-nil, Appends-trans, Consumes-nil}
 use Rattle.semver_pairs.specs.GaugeValue.{GaugeValue, HasFailed, HasReportedEnd}
@@ -92,11 +92,6 @@ begins-some read rest added written left up_to is =
 -- the two truths differ
 pub false_not_true : {P : Type 0} → false ≡ true → P
 false_not_true is = cc is
-
--- what holds anyhow holds on an error
-pub on_err-of : {T E P : Type 0} (r : Result T E) → P → OnErr r P
-on_err-of (Ok x) holds = tt
-on_err-of (Err e) holds = holds
 
 -- a read gave no byte although there was room
 pub has_ended : {R : Type 0} (remaining : R → Option (List ℕ)) (gauge : GaugeValue R) (piece : List ℕ) (count : ℕ)

@@ -9,8 +9,8 @@ use Rattle.semver_versions.specs.ErrorLocation.{newline}
 use Rattle.semver_pairs.specs.declared.open_pair.OpenPair.{OpenPair}
 use Rattle.semver_pairs.specs.Output.{AreAnswers, Exchanges, IsOutput, IsOutputBeforeEnd, IsOutputPrefix}
 use Rattle.semver_pairs.specs.Pairs.{Pair, lone, pairs_read}
-use Rattle.semver_pairs.specs.Private.Answering.{AnswersAll, AnswersAllSome, AnswersFrom, AnswersPast, AnswersRange}
-use Rattle.semver_pairs.specs.Private.Answering.{AnswersRangeSome, AnswersSome, Moves}
+use Rattle.semver_pairs.specs.Private.Answering.{AnswersAll, AnswersAllSome, AnswersOneSome, AnswersPast, AnswersSome}
+use Rattle.semver_pairs.specs.Private.Answering.{Moves}
 use Rattle.semver_pairs.specs.Private.OpenPair.{IsOpen, open_bytes}
 use Rattle.semver_pairs.specs.Private.Splitting.{HasNoNewline}
 use Rattle.semver_pairs.proofs.MoveLemmas.{last_pair, past_trans}
@@ -66,11 +66,11 @@ last_lone_part pair old new lines some alone part =
 
 pub last_pair_part : (pair : OpenPair) (old new : Option (List ℕ)) (waiting : List ℕ) → IsOpen pair
     → (pair.is_range_ended ≡ true) × (pair.version.items ≢ [])
-    → AnswersRangeSome pair.range.items pair.version.items [] old new waiting
+    → AnswersOneSome pair.range.items pair.version.items old new waiting
     → AnswersAllSome (open_bytes pair) old new waiting
 last_pair_part pair old new waiting lines whole some = record {
   left = some.left;
-  all = last_pair pair some.rest old new waiting some.left lines whole.0 whole.1 some.past;
+  all = last_pair pair old new waiting some.left lines whole.0 whole.1 some.one;
 }
 
 pub last_written : (bytes : List ℕ) (old now new : Option (List ℕ)) (waiting : List ℕ)
@@ -92,26 +92,6 @@ last_written_part bytes old now new waiting all part = record {
     moves = moves-trans old now new [] all.added waiting [] (drop part.0 waiting ++ []) all.moves
         (moves-part now new waiting [] part.0 part.1);
   };
-}
-
--- the lines that were answered are these, and none waited
-pub range_at : (given range given_version version rest : List ℕ) (old new : Option (List ℕ)) (waiting left : List ℕ)
-    → given ≡ range → given_version ≡ version → waiting ≡ []
-    → AnswersRange given given_version [] rest old new waiting left → AnswersRange range version [] rest old new [] left
-range_at given range given_version version rest old new waiting left is version_is none answers = record {
-  added = answers.added;
-  answers = subst (λ (l : List ℕ). AnswersFrom l version [] rest answers.added) is
-      (subst (λ (l : List ℕ). AnswersFrom given l [] rest answers.added) version_is answers.answers);
-  moves = subst (λ (l : List ℕ). Moves old new l answers.added left) none answers.moves;
-}
-
-pub range_some_at : (given range given_version version : List ℕ) (old new : Option (List ℕ)) (waiting : List ℕ)
-    → given ≡ range → given_version ≡ version → waiting ≡ []
-    → AnswersRangeSome given given_version [] old new waiting → AnswersRangeSome range version [] old new []
-range_some_at given range given_version version old new waiting is version_is none some = record {
-  rest = some.rest;
-  left = some.left;
-  past = range_at given range given_version version some.rest old new waiting some.left is version_is none some.past;
 }
 
 -- ---- one read after the other

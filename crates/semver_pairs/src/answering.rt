@@ -1,13 +1,14 @@
 //! The answers for pairs of lines.
-ghost use Rattle.std.specs.Prelude.{◌≡◌, ◌↔◌, ℕ, List, [], false, ◌<◌, ◌≤◌, length, MatchOption};
-ghost use Rattle.std.specs.Prelude.{IfOk, IfErr, IfSome, IfNone, OnErr, IsErrOf, IsTrue};
+ghost use Rattle.std.specs.Prelude.{◌≡◌, ℕ, List, [], false, ◌<◌, ◌≤◌, length, MatchOption, MatchResult};
+ghost use Rattle.std.specs.Prelude.{IfOk, IfSome, IfNone, IsTrue};
 ghost use Rattle.std.specs.Str.{IsAscii};
 ghost use Rattle.std.specs.Str.Lines.{strip_carriage_return};
 ghost use Rattle.semver_pairs.specs.Answer.{IsBadRange};
 ghost use Rattle.semver_pairs.specs.GaugeValue.{HasFailed};
 ghost use Rattle.semver_pairs.specs.Pairs.{pairs_read};
-ghost use Rattle.semver_pairs.specs.Private.Answering.{AnswersPast, AnswersRange, AnswersRangeSome, AnswersSome};
-ghost use Rattle.semver_pairs.specs.Private.Answering.{IsAnswerLine, IsReadAs};
+ghost use Rattle.semver_pairs.specs.Private.Answering.{AnswersOne, AnswersOneSome, AnswersPast, AnswersRange};
+ghost use Rattle.semver_pairs.specs.Private.Answering.{AnswersRangeSome, AnswersSome, IsAnswerLine, IsReadAs};
+ghost use Rattle.semver_pairs.specs.Private.Answering.{TellsFailure};
 ghost use Rattle.semver_pairs.specs.Private.Splitting.{BeginsWithPair, HasNoNewline};
 ghost use Rattle.semver_sets.specs.Meaning.{RangeAdmits};
 
@@ -22,11 +23,11 @@ use std::io::Write;
 
 /// A range line, a version line, the bytes after them, and whether all of these are known to be ASCII.
 #[derive(Clone, Copy)]
-pub(crate) struct Pair<'b> {
-    pub(crate) range: &'b [u8],
-    pub(crate) version: &'b [u8],
-    pub(crate) rest: &'b [u8],
-    pub(crate) is_ascii: bool,
+struct Pair<'b> {
+    range: &'b [u8],
+    version: &'b [u8],
+    rest: &'b [u8],
+    is_ascii: bool,
 }
 
 /// Adds the answers for the complete pairs in these bytes, and returns the rest.
@@ -37,18 +38,17 @@ pub(crate) fn answer_pairs<'b, W: Write>(
     writer: &mut Gauge<W>,
 ) -> Result<&'b [u8], RunError>
     requires { ¬ HasFailed writer.old }
-    ensures answers { IfOk result (λ rest. AnswersPast bytes.now rest.now
-        (W.contents writer.old.inner) (W.contents writer.new.inner) answers.old answers.new) }
+    ensures answers { MatchResult result
+        (λ rest. AnswersPast bytes.now rest.now
+        (W.contents writer.old.inner) (W.contents writer.new.inner) answers.old answers.new)
+        (λ _. AnswersSome bytes.now (W.contents writer.old.inner) (W.contents writer.new.inner) answers.old) }
     ensures none { IfOk result (λ rest. pairs_read false rest.now ≡ []) }
-    ensures part { OnErr result (AnswersSome bytes.now
-        (W.contents writer.old.inner) (W.contents writer.new.inner) answers.old) }
-    ensures write { IsErrOf result RunError.Write ↔ HasFailed writer.new }
-    ensures never { (¬ IsErrOf result RunError.Read) × (¬ IsErrOf result RunError.Endless) }
+    ensures failure { TellsFailure result (HasFailed writer.new) }
 {
     let is_ascii = bytes.is_ascii();
     let mut rest = bytes;
     'pairs: while let Some(pair) = first_pair(rest, is_ascii) {
-        rest = answer_range(alloc, pair, answers, writer)?;
+        rest = answer_range(alloc, &pair, answers, writer)?;
     }
     Ok(rest)
 }
@@ -72,34 +72,64 @@ fn first_pair(bytes: &[u8], is_ascii: bool) -> Option<Pair<'_>>
     })
 }
 
-/// Adds the answers for a pair and for the pairs right after it with the same range line, and returns the rest.
-pub(crate) fn answer_range<'b, W: Write>(
+/// Adds the answer for a pair after which nothing follows.
+// `inline(never)`: few pairs take more than one read.
+#[inline(never)]
+pub(crate) fn answer_one<W: Write>(
     alloc: Global,
-    pair: Pair<'b>,
+    range: &[u8],
+    version: &[u8],
+    answers: &mut Answers,
+    writer: &mut Gauge<W>,
+) -> Result<(), RunError>
+    requires one_line { HasNoNewline range.now }
+    requires unfailed { ¬ HasFailed writer.old }
+    ensures answers { MatchResult result
+        (λ _. AnswersOne range.now version.now
+        (W.contents writer.old.inner) (W.contents writer.new.inner) answers.old answers.new)
+        (λ _. AnswersOneSome range.now version.now
+        (W.contents writer.old.inner) (W.contents writer.new.inner) answers.old) }
+    ensures failure { TellsFailure result (HasFailed writer.new) }
+{
+    let pair = Pair {
+        range,
+        version,
+        rest: &[],
+        is_ascii: false,
+    };
+    answer_range(alloc, &pair, answers, writer)?;
+    Ok(())
+}
+
+/// Adds the answers for a pair and for the pairs right after it with the same range line, and returns the rest.
+// `inline(always)`: it is then part of the loop of `answer_pairs`.
+#[inline(always)]
+fn answer_range<'b, W: Write>(
+    alloc: Global,
+    pair: &Pair<'b>,
     answers: &mut Answers,
     writer: &mut Gauge<W>,
 ) -> Result<&'b [u8], RunError>
-    requires one_line { HasNoNewline pair.range.now }
-    requires ascii { IsTrue pair.is_ascii
-        → IsAscii pair.range.now × IsAscii pair.version.now × IsAscii pair.rest.now }
+    requires one_line { HasNoNewline pair.now.range.now }
+    requires ascii { IsTrue pair.now.is_ascii
+        → IsAscii pair.now.range.now × IsAscii pair.now.version.now × IsAscii pair.now.rest.now }
     requires unfailed { ¬ HasFailed writer.old }
-    ensures answers { IfOk result (λ rest. AnswersRange
-        pair.entry.range.now pair.entry.version.now pair.entry.rest.now rest.now
-        (W.contents writer.old.inner) (W.contents writer.new.inner) answers.old answers.new) }
-    ensures fewer { IfOk result (λ rest. length rest.now ≤ length pair.entry.rest.now) }
-    ensures ascii { IfOk result (λ rest. IsTrue pair.entry.is_ascii → IsAscii rest.now) }
-    ensures part { OnErr result (AnswersRangeSome pair.entry.range.now pair.entry.version.now pair.entry.rest.now
+    ensures answers { MatchResult result
+        (λ rest. AnswersRange pair.now.range.now pair.now.version.now pair.now.rest.now rest.now
+        (W.contents writer.old.inner) (W.contents writer.new.inner) answers.old answers.new)
+        (λ _. AnswersRangeSome pair.now.range.now pair.now.version.now pair.now.rest.now
         (W.contents writer.old.inner) (W.contents writer.new.inner) answers.old) }
-    ensures write { IsErrOf result RunError.Write ↔ HasFailed writer.new }
-    ensures never { (¬ IsErrOf result RunError.Read) × (¬ IsErrOf result RunError.Endless) }
+    ensures fewer { IfOk result (λ rest. length rest.now ≤ length pair.now.rest.now) }
+    ensures ascii { IfOk result (λ rest. IsTrue pair.now.is_ascii → IsAscii rest.now) }
+    ensures failure { TellsFailure result (HasFailed writer.new) }
 {
     let Some(text) = text_of(without_return(pair.range), pair.is_ascii) else {
-        return answer_versions(None, &pair, answers, writer);
+        return answer_versions(None, pair, answers, writer);
     };
     match &Range::parse(alloc, text) {
         Err(error) if error.is_out_of_memory() => Err(RunError::Memory),
-        Err(_) => answer_versions(None, &pair, answers, writer),
-        Ok(range) => answer_versions(Some(range), &pair, answers, writer),
+        Err(_) => answer_versions(None, pair, answers, writer),
+        Ok(range) => answer_versions(Some(range), pair, answers, writer),
     }
 }
 
@@ -117,15 +147,14 @@ fn answer_versions<'b, W: Write>(
         (λ r. IsReadAs (strip_carriage_return pair.now.range.now) (RangeAdmits r.now)) }
     requires ascii { IsTrue pair.now.is_ascii → IsAscii pair.now.version.now × IsAscii pair.now.rest.now }
     requires unfailed { ¬ HasFailed writer.old }
-    ensures answers { IfOk result (λ rest. AnswersRange
-        pair.now.range.now pair.now.version.now pair.now.rest.now rest.now
-        (W.contents writer.old.inner) (W.contents writer.new.inner) answers.old answers.new) }
+    ensures answers { MatchResult result
+        (λ rest. AnswersRange pair.now.range.now pair.now.version.now pair.now.rest.now rest.now
+        (W.contents writer.old.inner) (W.contents writer.new.inner) answers.old answers.new)
+        (λ _. AnswersRangeSome pair.now.range.now pair.now.version.now pair.now.rest.now
+        (W.contents writer.old.inner) (W.contents writer.new.inner) answers.old) }
     ensures fewer { IfOk result (λ rest. length rest.now ≤ length pair.now.rest.now) }
     ensures ascii { IfOk result (λ rest. IsTrue pair.now.is_ascii → IsAscii rest.now) }
-    ensures part { OnErr result (AnswersRangeSome pair.now.range.now pair.now.version.now pair.now.rest.now
-        (W.contents writer.old.inner) (W.contents writer.new.inner) answers.old) }
-    ensures write { IsErrOf result RunError.Write ↔ HasFailed writer.new }
-    ensures never { (¬ IsErrOf result RunError.Read) × (¬ IsErrOf result RunError.Endless) }
+    ensures failure { TellsFailure result (HasFailed writer.new) }
 {
     let mut version = pair.version;
     let mut rest = pair.rest;

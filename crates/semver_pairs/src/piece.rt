@@ -1,10 +1,11 @@
 //! The answers for the bytes of one read, and for the bytes that are left at the end of the input.
-ghost use Rattle.std.specs.Prelude.{◌≡◌, ◌≢◌, ◌↔◌, [], ◌++◌, IfOk, IfSome, IfNone, OnOk, OnErr, IsErrOf};
+ghost use Rattle.std.specs.Prelude.{◌≡◌, ◌≢◌, [], ◌++◌, MatchResult, IfOk, IfSome, IfNone, OnOk};
 ghost use Rattle.semver_pairs.specs.GaugeValue.{HasFailed};
 ghost use Rattle.semver_pairs.specs.Private.Answering.{AnswersAll, AnswersAllSome, AnswersPast, AnswersSome};
+ghost use Rattle.semver_pairs.specs.Private.Answering.{TellsFailure};
 ghost use Rattle.semver_pairs.specs.Private.OpenPair.{IsOpen, open_bytes};
 
-use crate::answering::{Pair, answer_pairs, answer_range};
+use crate::answering::{answer_one, answer_pairs};
 use crate::answers::Answers;
 use crate::gauge::Gauge;
 use crate::lines::without_return;
@@ -24,14 +25,14 @@ pub(crate) fn answer_piece<W: Write>(
     requires lines { IsOpen kept.old }
     requires written { answers.old ≡ [] }
     requires unfailed { ¬ HasFailed writer.old }
-    ensures answers { OnOk result (AnswersPast (open_bytes kept.old ++ piece.now) (open_bytes kept.new)
-        (W.contents writer.old.inner) (W.contents writer.new.inner) [] []) }
+    ensures answers { MatchResult result
+        (λ _. AnswersPast (open_bytes kept.old ++ piece.now) (open_bytes kept.new)
+        (W.contents writer.old.inner) (W.contents writer.new.inner) [] [])
+        (λ _. AnswersSome (open_bytes kept.old ++ piece.now)
+        (W.contents writer.old.inner) (W.contents writer.new.inner) []) }
     ensures lines { OnOk result (IsOpen kept.new) }
     ensures written { OnOk result (answers.new ≡ []) }
-    ensures part { OnErr result (AnswersSome (open_bytes kept.old ++ piece.now)
-        (W.contents writer.old.inner) (W.contents writer.new.inner) []) }
-    ensures write { IsErrOf result RunError.Write ↔ HasFailed writer.new }
-    ensures never { (¬ IsErrOf result RunError.Read) × (¬ IsErrOf result RunError.Endless) }
+    ensures failure { TellsFailure result (HasFailed writer.new) }
 {
     let Some(rest) = answer_open(alloc, piece, kept, answers, writer)? else {
         return Ok(());
@@ -52,17 +53,16 @@ fn answer_open<'b, W: Write>(
 ) -> Result<Option<&'b [u8]>, RunError>
     requires lines { IsOpen kept.old }
     requires unfailed { ¬ HasFailed writer.old }
-    ensures answers { IfOk result (λ found. IfSome found (λ rest.
-        AnswersPast (open_bytes kept.old ++ piece.now) rest.now
-        (W.contents writer.old.inner) (W.contents writer.new.inner) answers.old answers.new)) }
-    ensures lines { IfOk result (λ found. IfNone found (IsOpen kept.new)) }
-    ensures more { IfOk result (λ found. IfNone found (open_bytes kept.new ≡ open_bytes kept.old ++ piece.now)) }
+    ensures answers { MatchResult result
+        (λ found. IfSome found (λ rest. AnswersPast (open_bytes kept.old ++ piece.now) rest.now
+        (W.contents writer.old.inner) (W.contents writer.new.inner) answers.old answers.new))
+        (λ _. AnswersSome (open_bytes kept.old ++ piece.now)
+        (W.contents writer.old.inner) (W.contents writer.new.inner) answers.old) }
+    ensures left { IfOk result (λ found. IfNone found
+        (IsOpen kept.new × (open_bytes kept.new ≡ open_bytes kept.old ++ piece.now))) }
     ensures untouched { IfOk result (λ found. IfNone found
         ((answers.new ≡ answers.old) × (writer.new ≡ writer.old))) }
-    ensures part { OnErr result (AnswersSome (open_bytes kept.old ++ piece.now)
-        (W.contents writer.old.inner) (W.contents writer.new.inner) answers.old) }
-    ensures write { IsErrOf result RunError.Write ↔ HasFailed writer.new }
-    ensures never { (¬ IsErrOf result RunError.Read) × (¬ IsErrOf result RunError.Endless) }
+    ensures failure { TellsFailure result (HasFailed writer.new) }
 {
     if kept.is_empty() {
         return Ok(Some(piece));
@@ -70,13 +70,8 @@ fn answer_open<'b, W: Write>(
     let Some(rest) = kept.read_on(piece)? else {
         return Ok(None);
     };
-    let pair = Pair {
-        range: kept.range(),
-        version: without_return(kept.version()),
-        rest: &[],
-        is_ascii: false,
-    };
-    answer_range(alloc, pair, answers, writer)?;
+    let version = without_return(kept.version());
+    answer_one(alloc, kept.range(), version, answers, writer)?;
     Ok(Some(rest))
 }
 
@@ -90,12 +85,10 @@ pub(crate) fn answer_last<W: Write>(
     requires lines { IsOpen kept.now }
     requires written { answers.old ≡ [] }
     requires unfailed { ¬ HasFailed writer.old }
-    ensures answers { OnOk result (AnswersAll (open_bytes kept.now)
-        (W.contents writer.old.inner) (W.contents writer.new.inner) [] []) }
-    ensures part { OnErr result (AnswersAllSome (open_bytes kept.now)
-        (W.contents writer.old.inner) (W.contents writer.new.inner) []) }
-    ensures write { IsErrOf result RunError.Write ↔ HasFailed writer.new }
-    ensures never { (¬ IsErrOf result RunError.Read) × (¬ IsErrOf result RunError.Endless) }
+    ensures answers { MatchResult result
+        (λ _. AnswersAll (open_bytes kept.now) (W.contents writer.old.inner) (W.contents writer.new.inner) [] [])
+        (λ _. AnswersAllSome (open_bytes kept.now) (W.contents writer.old.inner) (W.contents writer.new.inner) []) }
+    ensures failure { TellsFailure result (HasFailed writer.new) }
 {
     if kept.is_empty() {
         return Ok(());
@@ -116,23 +109,15 @@ fn add_last<W: Write>(
     requires some { open_bytes kept.now ≢ [] }
     requires written { answers.old ≡ [] }
     requires unfailed { ¬ HasFailed writer.old }
-    ensures answers { OnOk result (AnswersAll (open_bytes kept.now)
-        (W.contents writer.old.inner) (W.contents writer.new.inner) [] answers.new) }
-    ensures part { OnErr result (AnswersAllSome (open_bytes kept.now)
-        (W.contents writer.old.inner) (W.contents writer.new.inner) []) }
-    ensures write { IsErrOf result RunError.Write ↔ HasFailed writer.new }
-    ensures never { (¬ IsErrOf result RunError.Read) × (¬ IsErrOf result RunError.Endless) }
+    ensures answers { MatchResult result
+        (λ _. AnswersAll (open_bytes kept.now)
+        (W.contents writer.old.inner) (W.contents writer.new.inner) [] answers.new)
+        (λ _. AnswersAllSome (open_bytes kept.now) (W.contents writer.old.inner) (W.contents writer.new.inner) []) }
+    ensures failure { TellsFailure result (HasFailed writer.new) }
 {
     if !kept.has_version() {
         answers.put(writer, b"missing version\n")?;
         return Ok(());
     }
-    let pair = Pair {
-        range: kept.range(),
-        version: kept.version(),
-        rest: &[],
-        is_ascii: false,
-    };
-    answer_range(alloc, pair, answers, writer)?;
-    Ok(())
+    answer_one(alloc, kept.range(), kept.version(), answers, writer)
 }

@@ -1,8 +1,10 @@
 -- How the answers for some pairs follow those for others.
-use Rattle.std.specs.Prelude.{◌≡◌, ◌↔◌, ℕ, List, [], ◌∷◌, ◌++◌, Bool, true, Option}
+use Rattle.std.specs.Prelude.{◌≡◌, ◌↔◌, ℕ, List, [], ◌∷◌, ◌++◌, Bool, true, Option, Result, Ok, Err}
 use Rattle.std.specs.Io.KnownBytes.{Appends}
 use Rattle.std.specs.Str.Lines.{strip_carriage_return}
 use Rattle.semver_pairs.specs.Answer.{IsAnswer, IsGoodRange}
+use Rattle.semver_pairs.specs.declared.run_error.RunError.{RunError}
+use Rattle.semver_pairs.specs.declared.run_error.RunError.TheVariants.{Endless, Memory, Read, Write}
 use Rattle.semver_pairs.specs.Output.{AreAnswers}
 use Rattle.semver_pairs.specs.Pairs.{pairs_read}
 use Rattle.semver_sets.specs.Meaning.{TextAdmits}
@@ -65,6 +67,19 @@ pub record AnswersRangeSome (range version bytes : List ℕ) (contents contents_
   pub left : List ℕ
   pub past : AnswersRange range version bytes rest contents contents_new waiting left
 
+-- The answer for one pair, after which nothing follows, was added.
+pub record AnswersOne (range version : List ℕ) (contents contents_new : Option (List ℕ))
+    (waiting left : List ℕ) : Type 0 where
+  pub line : List ℕ
+  pub answer : IsAnswerLine (strip_carriage_return range) version line
+  pub moves : Moves contents contents_new waiting line left
+
+-- The same for some answers left.
+pub record AnswersOneSome (range version : List ℕ) (contents contents_new : Option (List ℕ))
+    (waiting : List ℕ) : Type 0 where
+  pub left : List ℕ
+  pub one : AnswersOne range version contents contents_new waiting left
+
 -- The answers for all pairs at the end of the input were added.
 pub record AnswersAll (bytes : List ℕ) (contents contents_new : Option (List ℕ)) (waiting left : List ℕ) : Type 0 where
   pub added : List ℕ
@@ -75,3 +90,15 @@ pub record AnswersAll (bytes : List ℕ) (contents contents_new : Option (List �
 pub record AnswersAllSome (bytes : List ℕ) (contents contents_new : Option (List ℕ)) (waiting : List ℕ) : Type 0 where
   pub left : List ℕ
   pub all : AnswersAll bytes contents contents_new waiting left
+
+-- The error `Write` says that the writer's gauge has failed, and `Memory` that it has not. There is no other.
+abbrev pub ErrorTells : RunError → (Failed : Type 0) → Type 0
+ErrorTells Read Failed = ⊥
+ErrorTells Write Failed = Failed
+ErrorTells Memory Failed = ¬ Failed
+ErrorTells Endless Failed = ⊥
+
+-- The same of a result. A value says that the gauge has not failed.
+abbrev pub TellsFailure : {T : Type 0} → Result T RunError → (Failed : Type 0) → Type 0
+TellsFailure (Ok x) Failed = ¬ Failed
+TellsFailure (Err e) Failed = ErrorTells e Failed

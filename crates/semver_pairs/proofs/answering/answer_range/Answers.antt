@@ -1,6 +1,5 @@
 use Rattle.std.proofs.Common.{◌≡◌, ◌∙◌, IsUtf8, inl, subst, sym}
 use Rattle.std.specs.Str.Lines.{strip_carriage_return}
-use Rattle.semver_pairs.proofs.ErrorLemmas.{memory_not_endless, memory_not_read, memory_not_write}
 use Rattle.semver_pairs.proofs.MoveLemmas.{range_stop}
 use Rattle.semver_pairs.proofs.answering.answer_range.Goals as goal
 
@@ -27,7 +26,7 @@ answer_versions-requires-in-Err-2-clause-unfailed g c = c.requires.unfailed
 
 pub answer_versions-requires-in-Ok : goal.answer_versions-requires-in-Ok
 answer_versions-requires-in-Ok g c =
-    let line : c.in-Some.text.now ≡ strip_carriage_return c.args.pair.range.now =
+    let line : c.in-Some.text.now ≡ strip_carriage_return c.args.pair.now.range.now =
     c.in-Some.ensures.text.0 ∙ c.without_return.ensures.line in record {
       one_line = c.requires.one_line;
       range = (
@@ -46,20 +45,16 @@ returns-in_default g c = let given = c.answer_versions.ensures in record {
   answers = given.answers;
   fewer = given.fewer;
   ascii = given.ascii;
-  part = given.part;
-  write = given.write;
-  never = given.never;
+  failure = given.failure;
 }
 
 -- no memory for the range
 pub returns-in-Err : goal.returns-in-Err
 returns-in-Err g c = record {
-  answers = tt;
+  answers = range_stop _ _ _ _ _;
   fewer = tt;
   ascii = tt;
-  part = range_stop _ _ _ _ _;
-  write = (λ is. memory_not_write is, λ failed. absurd (c.requires.unfailed failed));
-  never = (λ is. memory_not_read is, λ is. memory_not_endless is);
+  failure = c.requires.unfailed;
 }
 
 pub returns-in-Err-2 : goal.returns-in-Err-2
@@ -67,9 +62,7 @@ returns-in-Err-2 g c = let given = c.answer_versions-in-Err-2.ensures in record 
   answers = given.answers;
   fewer = given.fewer;
   ascii = given.ascii;
-  part = given.part;
-  write = given.write;
-  never = given.never;
+  failure = given.failure;
 }
 
 pub returns : goal.returns
@@ -77,7 +70,5 @@ returns g c = let given = c.answer_versions-in-Ok.ensures in record {
   answers = given.answers;
   fewer = given.fewer;
   ascii = given.ascii;
-  part = given.part;
-  write = given.write;
-  never = given.never;
+  failure = given.failure;
 }

@@ -1,35 +1,37 @@
-use Rattle.std.proofs.Common.{◌≡◌, true}
-use Rattle.semver_pairs.proofs.OutputLemmas.{on_err-of}
+use Rattle.std.proofs.Common.{◌≡◌, true, refl}
+use Rattle.std.proofs.lemmas.Result.{MatchResult-weaker}
+use Rattle.semver_pairs.proofs.FailureLemmas.{on_err, tells-on, write-tells}
 use Rattle.semver_pairs.proofs.MoveLemmas.{last_pair}
-use Rattle.semver_pairs.proofs.RunLemmas.{last_lone, last_lone_part, last_pair_part, range_at, range_some_at}
+use Rattle.semver_pairs.proofs.RunLemmas.{last_lone, last_lone_part, last_pair_part}
 use Rattle.semver_pairs.proofs.piece.add_last.Goals as goal
 
-pub returns-in_err-put-clause-part : goal.returns-in_err-put-clause-part
-returns-in_err-put-clause-part g c =
+pub returns-in_err-put : goal.returns-in_err-put
+returns-in_err-put g c =
     let part = rw c.requires.written at c.in_err-put.ensures.part in
     let some = last_lone_part c.args.kept.now _ _ c.requires.lines c.requires.some
     (λ whole. let told : c.has_version.result ≡ true = c.has_version.ensures.1 whole in
-    cc (told, c.if-not-has_version.true)) part in
-    on_err-of _ some
+    cc (told, c.if-not-has_version.true)) part in record {
+      answers = on_err _ _ c.from_residual.ensures.0 some;
+      failure = tells-on _ _ _ c.from_residual.ensures.1
+          (write-tells _ c.in_err-put.ensures.only (c.in_err-put.ensures.write.0 refl));
+    }
 
-pub returns-then-not-has_version-clause-answers : goal.returns-then-not-has_version-clause-answers
-returns-then-not-has_version-clause-answers g c =
-    let moves = rw c.requires.written at c.in_ok-put.ensures.put in
-    last_lone c.args.kept.now _ _ _ c.requires.lines c.requires.some
-    (λ whole. let told : c.has_version.result ≡ true = c.has_version.ensures.1 whole in
-    cc (told, c.if-not-has_version.true)) moves
+pub returns-then-not-has_version : goal.returns-then-not-has_version
+returns-then-not-has_version g c =
+    let moves = rw c.requires.written at c.in_ok-put.ensures.put in record {
+      answers = last_lone c.args.kept.now _ _ _ c.requires.lines c.requires.some
+          (λ whole. let told : c.has_version.result ≡ true = c.has_version.ensures.1 whole in
+          cc (told, c.if-not-has_version.true)) moves;
+      failure = λ failed. cc (c.in_ok-put.ensures.write.1 failed);
+    }
 
-pub returns-in_err-answer_range-clause-part : goal.returns-in_err-answer_range-clause-part
-returns-in_err-answer_range-clause-part g c =
-    let part = range_some_at _ _ _ _ _ _ _ c.range.ensures c.version.ensures c.requires.written
-    c.in_err-answer_range.ensures.part in
-    let some = last_pair_part c.args.kept.now _ _ _ c.requires.lines
-    (c.has_version.ensures.0 c.if-not-has_version.false) part in
-    on_err-of _ some
-
-pub returns-clause-answers : goal.returns-clause-answers
-returns-clause-answers g c =
+pub returns : goal.returns
+returns g c =
     let whole = c.has_version.ensures.0 c.if-not-has_version.false in
-    let answers = range_at _ _ _ _ _ _ _ _ _ c.range.ensures c.version.ensures c.requires.written
-    c.in_ok-answer_range.ensures.answers in
-    last_pair c.args.kept.now _ _ _ _ _ c.requires.lines whole.0 whole.1 answers
+    let answers = rw (c.range.ensures, c.version.ensures, c.requires.written) at c.answer_one.ensures.answers in
+    record {
+      answers = MatchResult-weaker _ answers
+          (λ x one. last_pair c.args.kept.now _ _ _ _ c.requires.lines whole.0 whole.1 one)
+          (λ e some. last_pair_part c.args.kept.now _ _ _ c.requires.lines whole some);
+      failure = c.answer_one.ensures.failure;
+    }

@@ -1,12 +1,11 @@
-use Rattle.std.proofs.Common.{◌≡◌, ◌↔◌, ◌⊎◌, ◌<◌, ◌≤◌, length, take, Result, Ok, Err, IsErr, IsErrAnd, OnOk}
-use Rattle.std.proofs.Common.{Bool, false, IsTrue, ap, arith, inl, inr, refl, sym, ◌∙◌}
+use Rattle.std.proofs.Common.{◌≡◌, ◌↔◌, ◌⊎◌, ◌<◌, ◌≤◌, length, take, Bool, false, IsTrue, arith, inl, inr, refl, sym, ◌∙◌}
 use Rattle.std.proofs.KnownBytes.{Keeps-refl}
 use Rattle.std.proofs.lemmas.Grind.{common_steps}
-use Rattle.std.proofs.lemmas.Result.{on_ok_weaker, on_err_weaker}
+use Rattle.std.proofs.lemmas.Result.{MatchResult-weaker}
 use Rattle.semver_pairs.specs.Output.{HasEnded}
-use Rattle.semver_pairs.proofs.OutputLemmas.{exchanges-none_back, exchanges-nothing, false_not_true, has_ended, on_err-of}
-use Rattle.semver_pairs.proofs.ErrorLemmas.{endless_not_read, endless_not_write, read_not_endless, read_not_write}
-use Rattle.semver_pairs.proofs.ErrorLemmas.{write_not_endless, write_not_read}
+use Rattle.semver_pairs.proofs.OutputLemmas.{exchanges-none_back, exchanges-nothing, false_not_true, has_ended}
+use Rattle.semver_pairs.specs.declared.run_error.RunError.TheVariants.{Endless, Read, Write}
+use Rattle.semver_pairs.proofs.FailureLemmas.{no_other, on_err, tells-not_endless, tells-not_read, tells-on, tells-write}
 use Rattle.semver_pairs.proofs.RunLemmas.{run_end, run_end_part, run_least, run_more, run_none, run_part, run_stop}
 use Rattle.semver_pairs.proofs.RunLemmas.{run_stop_all}
 use Rattle.semver_pairs.proofs.program.run.Goals as goal
@@ -21,16 +20,6 @@ none_failed : {A B P : Type 0} {one other : Bool} → (IsTrue one ↔ A) → one
 none_failed told is told' is' (inl a) = unfailed told is a
 none_failed told is told' is' (inr b) = unfailed told' is' b
 
--- an error that is handed on
-same_error : {T E : Type 0} (r given : Result T E) (e : E) → IsErrAnd r (λ found. found ≡ e) → given ≡ Err e → r ≡ given
-same_error (Ok x) given e is was = absurd is
-same_error (Err found) given e is was = ap Err is ∙ sym was
-
--- nothing is asked of an error
-on_ok-none : {T E : Type 0} (r : Result T E) (P : Type 0) → IsErr r → OnOk r P
-on_ok-none (Ok x) P is = false_not_true is
-on_ok-none (Err e) P is = tt
-
 pub returns-then-failed : goal.returns-then-failed
 returns-then-failed g c = record {
   answered = tt;
@@ -38,8 +27,8 @@ returns-then-failed g c = record {
   beginning = exchanges-nothing _ _ _;
   complete = λ is. exchanges-none_back _ _;
   read = (λ is. c.failed.ensures.0 c.if-failed.true, λ failed. refl);
-  write = λ unfailed. (λ is. read_not_write is, λ failed. absurd (unfailed (c.failed.ensures.0 c.if-failed.true)));
-  endless = λ is. read_not_endless is;
+  write = λ unfailed. (λ is. no_other Read Write refl is, λ failed. absurd (unfailed (c.failed.ensures.0 c.if-failed.true)));
+  endless = λ is. no_other Read Endless refl is;
   untouched = λ failed. (refl, refl);
 }
 
@@ -48,10 +37,10 @@ returns-then-failed-2 g c = record {
   answered = tt;
   ended = tt;
   beginning = exchanges-nothing _ _ _;
-  complete = λ is. write_not_read is;
-  read = (λ is. write_not_read is, unfailed c.failed.ensures c.if-failed.false);
+  complete = λ is. no_other Write Read refl is;
+  read = (λ is. no_other Write Read refl is, unfailed c.failed.ensures c.if-failed.false);
   write = λ unfailed. (λ is. c.failed-2.ensures.0 c.if-failed-2.true, λ failed. refl);
-  endless = λ is. write_not_endless is;
+  endless = λ is. no_other Write Endless refl is;
   untouched = λ failed. (refl, refl);
 }
 
@@ -84,43 +73,47 @@ answer_piece-requires g c = record {
 -- the end was read
 pub returns-in-Ok-eq0 : goal.returns-in-Ok-eq0
 returns-in-Ok-eq0 g c =
-    let never = c.answer_last.ensures.never in
+    let answers = c.answer_last.ensures.answers in
+    let failure = c.answer_last.ensures.failure in
     let room : 0 < length c.read.new.piece = omega arith in
     let ended = has_ended g.R.Read.remaining c.read.new.self c.read.new.piece _ c.in-Ok-eq0.field-0-test room
     c.in-Ok-eq0.ensures.end c.in-Ok-eq0.ensures.bytes.1 (λ failed. false_not_true (c.in-Ok-eq0.ensures.mark.0 failed)) in
     let taken = rw c.in-Ok-eq0.field-0-test at c.in-Ok-eq0.ensures.bytes.0 in
     record {
-      answered = on_ok_weaker _ (λ all. run_end _ _ _ _ _ _ _ _ c.reads.invariant.0 taken all)
-          c.answer_last.ensures.answers;
-      ended = on_ok_weaker _ (λ all. ended) c.answer_last.ensures.answers;
-      beginning = on_err_weaker _ (λ some. run_end_part (HasEnded g.R.Read.remaining c.read.new.self)
-          _ _ _ _ _ _ _ _ c.reads.invariant.0 taken ended some) c.answer_last.ensures.part;
-      complete = λ is. absurd (never.0 is);
-      read = (λ is. absurd (never.0 is), λ failed. false_not_true (c.in-Ok-eq0.ensures.mark.0 failed));
-      write = λ unfailed. c.answer_last.ensures.write;
-      endless = λ is. absurd (never.1 is);
+      answered = MatchResult-weaker _ answers
+          (λ x all. run_end _ _ _ _ _ _ _ _ c.reads.invariant.0 taken all) (λ e some. tt);
+      ended = MatchResult-weaker _ answers (λ x all. ended) (λ e some. tt);
+      beginning = MatchResult-weaker _ answers (λ x all. tt)
+          (λ e some. run_end_part (HasEnded g.R.Read.remaining c.read.new.self) _ _ _ _ _ _ _ _
+          c.reads.invariant.0 taken ended some);
+      complete = λ is. absurd (tells-not_read _ _ failure is);
+      read = (
+        λ is. absurd (tells-not_read _ _ failure is),
+        λ failed. false_not_true (c.in-Ok-eq0.ensures.mark.0 failed),
+      );
+      write = λ unfailed. tells-write _ failure;
+      endless = λ is. absurd (tells-not_endless _ _ failure is);
       untouched = none_failed c.failed.ensures c.if-failed.false c.failed-2.ensures c.if-failed-2.false;
     }
 
 -- a piece was not answered to its end
 pub returns-in_err-answer_piece-in-Ok : goal.returns-in_err-answer_piece-in-Ok
 returns-in_err-answer_piece-in-Ok g c =
-    let never = c.answer_piece.ensures.never in
-    let write = c.answer_piece.ensures.write in
-    let same = same_error _ _ _ c.from_residual.ensures.1 c.in_err-answer_piece-in-Ok.was in
+    let failed = c.from_residual.ensures.0 in
+    let failure = tells-on _ _ _ c.from_residual.ensures.1 c.in_err-answer_piece-in-Ok.ensures.failure in
     let some = run_part (HasEnded g.R.Read.remaining c.read.new.self) _ _ _ _ _ _ _ _ _ c.reads.invariant.0
-    c.in-Ok.ensures.bytes.0 c.in_err-answer_piece-in-Ok.ensures.part in
+    c.in-Ok.ensures.bytes.0 c.in_err-answer_piece-in-Ok.ensures.answers in
     record {
-      answered = on_ok-none _ _ c.from_residual.ensures.0;
-      ended = on_ok-none _ _ c.from_residual.ensures.0;
-      beginning = on_err-of _ some;
-      complete = λ is. absurd (never.0 (sym same ∙ is));
+      answered = on_err _ _ failed tt;
+      ended = on_err _ _ failed tt;
+      beginning = on_err _ _ failed some;
+      complete = λ is. absurd (tells-not_read _ _ failure is);
       read = (
-        λ is. absurd (never.0 (sym same ∙ is)),
+        λ is. absurd (tells-not_read _ _ failure is),
         λ failed. false_not_true (c.in-Ok.ensures.mark.0 failed),
       );
-      write = λ unfailed. (λ is. write.0 (sym same ∙ is), λ failed. same ∙ write.1 failed);
-      endless = λ is. absurd (never.1 (sym same ∙ is));
+      write = λ unfailed. tells-write _ failure;
+      endless = λ is. absurd (tells-not_endless _ _ failure is);
       untouched = none_failed c.failed.ensures c.if-failed.false c.failed-2.ensures c.if-failed-2.false;
     }
 
@@ -133,8 +126,8 @@ returns-in-Err g c = record {
       c.in-Err.ensures.bytes;
   complete = λ is. run_stop_all _ _ _ _ _ _ _ c.reads.invariant.0 c.reads.invariant.1 c.in-Err.ensures.bytes;
   read = (λ is. c.in-Err.ensures.mark.1 refl, λ failed. refl);
-  write = λ unfailed. (λ is. read_not_write is, λ failed. absurd (c.reads.invariant.4 failed));
-  endless = λ is. read_not_endless is;
+  write = λ unfailed. (λ is. no_other Read Write refl is, λ failed. absurd (c.reads.invariant.4 failed));
+  endless = λ is. no_other Read Endless refl is;
   untouched = none_failed c.failed.ensures c.if-failed.false c.failed-2.ensures c.if-failed-2.false;
 }
 
@@ -147,7 +140,7 @@ reads-preserved g c =
       given.lines,
       given.written,
       λ failed. false_not_true (c.in-Ok.ensures.mark.0 failed),
-      λ failed. cc (given.write.1 failed),
+      given.failure,
     )
 
 -- the input does not end
@@ -156,9 +149,9 @@ returns g c = record {
   answered = tt;
   ended = tt;
   beginning = run_stop (HasEnded g.R.Read.remaining c.reads.reader) _ _ _ _ _ _ _ c.reads.invariant.0 (Keeps-refl _);
-  complete = λ is. endless_not_read is;
-  read = (λ is. endless_not_read is, λ failed. absurd (c.reads.invariant.3 failed));
-  write = λ unfailed. (λ is. endless_not_write is, λ failed. absurd (c.reads.invariant.4 failed));
+  complete = λ is. no_other Endless Read refl is;
+  read = (λ is. no_other Endless Read refl is, λ failed. absurd (c.reads.invariant.3 failed));
+  write = λ unfailed. (λ is. no_other Endless Write refl is, λ failed. absurd (c.reads.invariant.4 failed));
   endless = λ is. run_least _ _ _ _ _ _ _ c.reads.invariant.0 c.reads-test.false;
   untouched = none_failed c.failed.ensures c.if-failed.false c.failed-2.ensures c.if-failed-2.false;
 }

@@ -1,6 +1,7 @@
 use Rattle.std.proofs.Common.{ℕ, List, ◌++◌, drop}
 use Rattle.semver_pairs.specs.Private.Answering.{Moves}
-use Rattle.semver_pairs.proofs.OutputLemmas.{moves-part, on_err-of}
+use Rattle.semver_pairs.proofs.FailureLemmas.{on_err}
+use Rattle.semver_pairs.proofs.OutputLemmas.{moves-part}
 use Rattle.semver_pairs.proofs.answers.Answers.put.Goals as goal
 
 pub returns-in_err-flush-clause-part : goal.returns-in_err-flush-clause-part
@@ -11,4 +12,4 @@ returns-in_err-flush-clause-part g c =
       drop part.0 c.args.self.now ++ c.args.line.now,
       moves-part _ _ c.args.self.now c.args.line.now part.0 part.1,
     ) in
-    on_err-of _ whole
+    on_err _ _ c.from_residual.ensures.0 whole

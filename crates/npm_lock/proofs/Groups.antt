@@ -1,5 +1,5 @@
 -- The members of a group of dependencies, and what a map of names has after one more of them.
-use Rattle.std.proofs.Common.{◌≡◌, ◌∙◌, ◌&&◌, ℕ, List, [], ◌∷◌, not, Bool, true, false, cond, Option, Some, None, String, Global}
+use Rattle.std.proofs.Common.{◌≡◌, ◌&&◌, ℕ, List, [], ◌∷◌, not, Bool, true, false, cond, Option, Some, None, String, Global}
 use Rattle.std.proofs.Common.{Ordering, Less, Equal, Greater, ap, bytes_eq, is_eq, nat_cmp, option_and_then, option_map}
 use Rattle.std.proofs.Common.{refl, string_bytes, string_cmp, sym}
 use Rattle.std.proofs.lemmas.Slice.Eq.{bytes_eq-Decides}
@@ -7,7 +7,7 @@ use Rattle.std.specs.Cmp.Lexicographic.{slice_cmp}
 use Rattle.std.specs.List.{AllByRecursion}
 use Rattle.std.specs.Map.{keys_of}
 use Rattle.std.specs.Option.{option_or}
-use Rattle.serde_json.specs.Data.{Data, Members, array, boolean, member, null, no_members, number, object, string}
+use Rattle.serde_json.specs.Data.{Data, Members, array, boolean, member, null, number, object, string}
 use Rattle.serde_json.specs.Find.{as_object, as_str, get, get_member}
 use Rattle.serde_json.specs.View.{members_view}
 use Rattle.serde_json.specs.declared.value.Value.{Value}

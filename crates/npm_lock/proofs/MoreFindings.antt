@@ -1,24 +1,18 @@
 -- What is found out about one name and one package, as the contracts say it.
-use Rattle.std.proofs.Common.{◌≡◌, ℕ, List, [], ◌∷◌, Bool, false, Option, Some, refl, ap, ◌∙◌}
-use Rattle.std.proofs.Common.{String, Global, codes}
-use Rattle.std.specs.List.{AllZip}
+use Rattle.std.proofs.Common.{◌≡◌, ℕ, List, [], ◌∷◌, false, Option, Some, codes, refl}
 use Rattle.std.specs.List.Sorted.{IsStrictlySortedBy}
 use Rattle.std.specs.Cmp.Lexicographic.{slice_cmp}
 use Rattle.std.specs.Ordering.{nat_cmp}
-use Rattle.serde_json.specs.Data.{Data, object}
-use Rattle.serde_json.specs.Find.{as_object, get}
-use Rattle.serde_json.specs.View.{members_view}
-use Rattle.serde_json.specs.declared.value.Value.{Value}
+use Rattle.serde_json.specs.Data.{Data, Members, object}
+use Rattle.serde_json.specs.Find.{get}
 use Rattle.node_semver.specs.Versions.{VersionValue}
-use Rattle.npm_lock.specs.Asked.{AskedValue, asked_of}
-use Rattle.npm_lock.specs.Findings.{AreDependencyFindings, AreMemberFindings, Finding, IsDependencyFinding}
+use Rattle.npm_lock.specs.Findings.{AreDependencyFindings, AreMemberFindings, Finding}
 use Rattle.npm_lock.specs.Findings.{AreFindings, IsChecked, IsReport, keys_of}
-use Rattle.npm_lock.specs.Findings.{IsNodeOutcome, dependency, of_dependency, of_package}
-use Rattle.npm_lock.specs.Outcomes.{IsOutcome, ProblemValue}
+use Rattle.npm_lock.specs.Findings.{IsNodeOutcome, of_package}
+use Rattle.npm_lock.specs.Outcomes.{ProblemValue}
 use Rattle.npm_lock.specs.Packages.{is_link}
 use Rattle.npm_lock.specs.Private.Adding.{Adds}
 use Rattle.npm_lock.specs.declared.problem.Problems.{Problems}
-use Rattle.npm_lock.proofs.Groups.{is_object_of}
 use Rattle.npm_lock.proofs.Reports.{adds_both}
 
 pub member_found : (packages : Data) (version : Option VersionValue) (folder : List ℕ) (asker : Data)
@@ -38,19 +32,16 @@ member_found packages version folder asker old between new problem no_link of_no
   adds_both old between new (of_package problem ∷ []) rest.0 first rest.2,
 )
 
-pub checked_by : (lock packages : Data) (entries : List (String Global × Value)) (version : Option VersionValue)
-    (problems : Problems) → get (codes "packages") lock ≡ Some packages
-    → as_object packages ≡ Some (members_view entries)
-    → IsStrictlySortedBy (slice_cmp nat_cmp) (keys_of (members_view entries))
-    → (found : List Finding) × AreFindings packages version (members_view entries) found × IsReport found problems
+pub checked_by : (lock : Data) (members : Members) (version : Option VersionValue) (problems : Problems)
+    → get (codes "packages") lock ≡ Some (object members)
+    → IsStrictlySortedBy (slice_cmp nat_cmp) (keys_of members)
+    → (found : List Finding) × AreFindings (object members) version members found × IsReport found problems
     → IsChecked lock version problems
-checked_by lock packages entries version problems at_packages is_object sorted all =
-    let same : packages ≡ object (members_view entries) = is_object_of packages (members_view entries) is_object in
-    record {
-      members = members_view entries;
-      packages = at_packages ∙ ap Some same;
-      ascending = sorted;
-      found = all.0;
-      findings = rw same at all.1;
-      report = all.2;
-    }
+checked_by lock members version problems at_packages sorted all = record {
+  members = members;
+  packages = at_packages;
+  ascending = sorted;
+  found = all.0;
+  findings = all.1;
+  report = all.2;
+}

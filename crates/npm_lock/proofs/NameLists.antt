@@ -1,6 +1,6 @@
 -- The names that a package depends on are the keys of the map of what it asks for.
-use Rattle.std.proofs.Common.{◌≡◌, ◌∙◌, ℕ, zero, suc, List, [], ◌∷◌, Bool, true, false, cond, Option, Some, None, BTreeMap}
-use Rattle.std.proofs.Common.{String, Global, string_bytes, string_cmp, nat_cmp, Less, Equal, Greater, Ordering, ap, arith}
+use Rattle.std.proofs.Common.{◌≡◌, ◌∙◌, ℕ, zero, suc, List, [], ◌∷◌, Bool, true, false, cond, Option, Some, BTreeMap}
+use Rattle.std.proofs.Common.{String, Global, string_bytes, string_cmp, nat_cmp, Less, Ordering, ap, arith}
 use Rattle.std.proofs.Common.{bytes_eq, is_eq, option_map, refl, sym}
 use denote.Ref.{Bor}
 use Rattle.std.proofs.lemmas.Map.Text.{is_eq-slice_cmp}

@@ -5,8 +5,9 @@ ghost use Rattle.serde_json.specs.View.{view};
 ghost use Rattle.npm_lock.specs.Asked as Asks;
 ghost use Rattle.npm_lock.specs.Private.Groups.{at_name, is_needed_in};
 
+use crate::Result;
 use serde_json::Value;
-use std::alloc::{AllocError, Global};
+use std::alloc::Global;
 use std::collections::BTreeMap;
 
 /// What a package asks for by a name.
@@ -18,13 +19,12 @@ pub(crate) struct Asked<'v> {
     pub(crate) is_peer: bool,
 }
 
+/// What a package asks for, by name.
+pub(crate) type Names<'v> = BTreeMap<&'v str, Asked<'v>>;
+
 /// What a package depends on, by name. Of one name the later group counts, and `devDependencies` count for a package in
 /// no `node_modules` alone.
-pub(crate) fn asked_of<'v>(
-    alloc: Global,
-    asker: &'v Value,
-    is_installed: bool,
-) -> Result<BTreeMap<&'v str, Asked<'v>>, AllocError>
+pub(crate) fn asked_of(alloc: Global, asker: &Value, is_installed: bool) -> Result<Names<'_>>
     ensures { IfOk result (λ all. (name : List ℕ)
         → at_name all name ≡ Asks.asked_of (view asker.now) is_installed name) }
 {
@@ -40,12 +40,12 @@ pub(crate) fn asked_of<'v>(
 
 /// Adds what a package asks for in one group.
 fn add_group<'v>(
-    all: &mut BTreeMap<&'v str, Asked<'v>>,
+    all: &mut Names<'v>,
     asker: &'v Value,
     group: &str,
     is_needed: bool,
     is_peer: bool,
-) -> Result<(), AllocError>
+) -> Result<()>
     ensures { OnOk result ((name : List ℕ) → at_name all.new name
         ≡ option_or (Asks.asked_in (view asker.now) group.now name
         (is_needed_in (view asker.now) is_needed is_peer name) is_peer) (at_name all.old name)) }
@@ -57,14 +57,12 @@ fn add_group<'v>(
         if let Some(spec) = spec.as_str() {
             let name = name.as_str();
             let is_needed = is_needed && !(is_peer && is_optional_peer(asker, name));
-            all.insert(
-                name,
-                Asked {
-                    spec,
-                    is_needed,
-                    is_peer,
-                },
-            )?;
+            let asked = Asked {
+                spec,
+                is_needed,
+                is_peer,
+            };
+            all.insert(name, asked)?;
         }
     }
     Ok(())
@@ -74,9 +72,7 @@ fn add_group<'v>(
 fn is_optional_peer(asker: &Value, name: &str) -> bool
     ensures { result ≡ Asks.is_optional_peer (view asker.now) name.now }
 {
-    let optional = asker
-        .get("peerDependenciesMeta")
-        .and_then(|peers| peers.get(name))
-        .and_then(|peer| peer.get("optional"));
-    optional.and_then(Value::as_bool).unwrap_or(false)
+    let peers = asker.get("peerDependenciesMeta");
+    let optional = peers.and_then(|peers| peers.get(name)?.get("optional")?.as_bool());
+    optional.unwrap_or(false)
 }

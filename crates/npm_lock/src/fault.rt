@@ -1,11 +1,16 @@
 //! Why a lock file is not checked, and values that are none.
 ghost use Rattle.std.specs.Prelude.{◌≡◌, IfErr, IfOk, None, Some, codes};
-ghost use Rattle.serde_json.specs.Find.{as_object, get};
-ghost use Rattle.serde_json.specs.View.{members_view, view};
+ghost use Rattle.std.specs.Result.{result_err};
+ghost use Rattle.serde_json.specs.Find.{get};
+ghost use Rattle.serde_json.specs.View.{view};
+ghost use Rattle.npm_lock.specs.Private.PackageValue.{packages_data};
 ghost use Rattle.npm_lock.specs.Faults as Faults;
 
-use crate::place::{is_link, target_of};
-use serde_json::{Map, Value};
+use crate::Result;
+use crate::place::{Lock, is_link};
+use node_semver::Version;
+use serde_json::Value;
+use std::alloc::Global;
 use thiserror::Error;
 
 /// Why a JSON value is no lock file that is read here.
@@ -45,12 +50,15 @@ pub enum CheckError {
     Memory,
 }
 
-/// The member `packages` of a lock file, and its members, which are looked at too.
-pub(crate) fn packages_of(lock: &Value) -> Result<(&Value, &Map<String, Value>), Fault>
+/// The packages of a lock file, and the version of Node that they are checked with.
+pub(crate) fn lock_of<'v>(
+    alloc: Global,
+    lock: &'v Value,
+    node: Option<&'v Version>,
+) -> Result<Lock<'v>, Fault>
     ensures sound { IfOk result (λ found. Faults.lock_fault (view lock.now) ≡ None) }
-    ensures packages { IfOk result (λ found. get (codes "packages") (view lock.now) ≡ Some (view found.0.now)) }
-    ensures members { IfOk result (λ found. as_object (view found.0.now)
-        ≡ Some (members_view found.1.now.entries)) }
+    ensures packages { IfOk result (λ found. get (codes "packages") (view lock.now) ≡ Some (packages_data found)) }
+    ensures node { IfOk result (λ found. found.node ≡ node.entry) }
     ensures refused { IfErr result (λ fault. Faults.lock_fault (view lock.now) ≡ Some fault) }
 {
     if !has_format(lock) {
@@ -58,10 +66,15 @@ pub(crate) fn packages_of(lock: &Value) -> Result<(&Value, &Map<String, Value>),
     }
     let packages = lock.get("packages").ok_or(Fault::Packages)?;
     let members = packages.as_object().ok_or(Fault::Packages)?;
-    match members_fault(packages, members) {
-        Some(fault) => Err(fault),
-        None => Ok((packages, members)),
+    let lock = Lock {
+        alloc,
+        members,
+        node,
+    };
+    for (_, member) in members.iter() {
+        check_member(lock, member)?;
     }
+    Ok(lock)
 }
 
 /// Returns `true` if `lockfileVersion` is 2 or 3.
@@ -72,73 +85,38 @@ fn has_format(lock: &Value) -> bool
     matches!(version, Some(2 | 3))
 }
 
-/// The fault of the first member of `packages` that has one.
-fn members_fault(packages: &Value, members: &Map<String, Value>) -> Option<Fault>
-    ensures { result ≡ Faults.members_fault (view packages.now) (members_view members.now.entries) }
-{
-    for (_, member) in members.iter() {
-        if let Some(fault) = member_fault(packages, member) {
-            return Some(fault);
-        }
-    }
-    None
-}
-
-/// The fault of a member of `packages`.
-fn member_fault(packages: &Value, member: &Value) -> Option<Fault>
-    ensures { result ≡ Faults.member_fault (view packages.now) (view member.now) }
+/// Fails if a member of `packages` has a fault. The target of a link is a package and no link.
+fn check_member(lock: Lock<'_>, member: &Value) -> Result<(), Fault>
+    ensures { result_err result ≡ Faults.member_fault (packages_data lock.entry) (view member.now) }
 {
     if !member.is_object() {
-        return Some(Fault::Package);
+        return Err(Fault::Package);
     }
     if is_link(member) {
-        return link_fault(packages, member);
+        return match lock.target_of(member) {
+            Some(target) if !is_link(target.member) => Ok(()),
+            _ => Err(Fault::Link),
+        };
     }
-    if !has_text_version(member) {
-        return Some(Fault::PackageVersion);
+    if !member.get("version").is_none_or(Value::is_string) {
+        return Err(Fault::PackageVersion);
     }
-    group_fault(member, "peerDependencies")
-        .or(group_fault(member, "dependencies"))
-        .or(group_fault(member, "optionalDependencies"))
-        .or(group_fault(member, "devDependencies"))
+    check_group(member, "peerDependencies")?;
+    check_group(member, "dependencies")?;
+    check_group(member, "optionalDependencies")?;
+    check_group(member, "devDependencies")
 }
 
-/// The fault of a link, whose target is a package and no link.
-fn link_fault(packages: &Value, link: &Value) -> Option<Fault>
-    ensures { result ≡ Faults.link_fault (view packages.now) (view link.now) }
+/// Fails if a group of dependencies is there, and is no object of strings.
+fn check_group(member: &Value, group: &str) -> Result<(), Fault>
+    ensures { result_err result ≡ Faults.group_fault (view member.now) group.now }
 {
-    match target_of(packages, link) {
-        Some(target) if !is_link(target.member) => None,
-        _ => Some(Fault::Link),
-    }
-}
-
-/// Returns `true` if `version` is a string, or absent.
-fn has_text_version(member: &Value) -> bool
-    ensures { result ≡ Faults.has_text_version (view member.now) }
-{
-    member.get("version").is_none_or(Value::is_string)
-}
-
-/// The fault of a group of dependencies, which may be absent.
-fn group_fault(member: &Value, group: &str) -> Option<Fault>
-    ensures { result ≡ Faults.group_fault (view member.now) group.now }
-{
-    match member.get(group)?.as_object() {
-        Some(specs) if are_texts(specs) => None,
-        Some(_) => Some(Fault::Spec),
-        None => Some(Fault::Dependencies),
-    }
-}
-
-/// Returns `true` if each member is a string.
-fn are_texts(specs: &Map<String, Value>) -> bool
-    ensures { result ≡ Faults.are_texts (members_view specs.now.entries) }
-{
+    let Some(group) = member.get(group) else {
+        return Ok(());
+    };
+    let specs = group.as_object().ok_or(Fault::Dependencies)?;
     for (_, spec) in specs.iter() {
-        if !spec.is_string() {
-            return false;
-        }
+        spec.as_str().ok_or(Fault::Spec)?;
     }
-    true
+    Ok(())
 }

@@ -16,3 +16,6 @@ mod verdict;
 pub use fault::{CheckError, Fault};
 pub use lock_file::check;
 pub use problem::{Kind, Problem, Problems};
+
+/// The result of what fails by memory alone, if no other error is named.
+type Result<T, E = std::alloc::AllocError> = std::result::Result<T, E>;

@@ -11,17 +11,19 @@ ghost use Rattle.npm_lock.specs.declared.fault.Fault.{Fault};
 ghost use Rattle.npm_lock.specs.Outcomes as Outcomes;
 ghost use Rattle.npm_lock.specs.Outcomes.{problem_value};
 ghost use Rattle.npm_lock.specs.Private.Adding.{Adds};
+ghost use Rattle.npm_lock.specs.Private.PackageValue.{packages_data};
 
+use crate::Result;
 use crate::asked::asked_of;
-use crate::fault::{CheckError, packages_of};
+use crate::fault::{CheckError, lock_of};
 use crate::folder::is_installed;
 use crate::outcome::{outcome_of, problem_of};
-use crate::place::{Package, is_link};
+use crate::place::{Lock, Package, is_link};
 use crate::problem::{Kind, Problem, Problems};
 use crate::verdict::is_admitted;
 use node_semver::Version;
-use serde_json::{Map, Value};
-use std::alloc::{AllocError, Global};
+use serde_json::Value;
+use std::alloc::Global;
 
 /// Returns the problems of a lock file: dependencies that are missing, or whose version does not satisfy the spec. With
 /// a version of Node, also each package whose `engines.node` does not admit it.
@@ -35,78 +37,62 @@ pub fn check(alloc: Global, lock: &Value, node: Option<&Version>) -> Result<Prob
     ensures refused { (fault : Fault) → IsErrOf result (CheckError.Refused fault)
         ↔ (Faults.lock_fault (view lock.now) ≡ Some fault) }
 {
-    let (packages, members) = packages_of(lock).map_err(CheckError::Refused)?;
-    problems_of(alloc, packages, members, node).map_err(|_| CheckError::Memory)
+    let lock = lock_of(alloc, lock, node).map_err(CheckError::Refused)?;
+    problems_of(lock).map_err(|_| CheckError::Memory)
 }
 
 /// The problems of the members of `packages`.
-fn problems_of(
-    alloc: Global,
-    packages: &Value,
-    members: &Map<String, Value>,
-    node: Option<&Version>,
-) -> Result<Problems, AllocError>
+fn problems_of(lock: Lock<'_>) -> Result<Problems>
     ensures ascending { IfOk result (λ problems.
-        IsStrictlySortedBy (slice_cmp nat_cmp) (keys_of (members_view members.now.entries))) }
+        IsStrictlySortedBy (slice_cmp nat_cmp) (keys_of (members_view lock.entry.members.now.entries))) }
     ensures found { IfOk result (λ problems. (found : List Finding)
-        × AreFindings (view packages.now) (option_map (λ version. version.now) node.entry)
-        (members_view members.now.entries) found
+        × AreFindings (packages_data lock.entry) (option_map (λ version. version.now) lock.entry.node)
+        (members_view lock.entry.members.now.entries) found
         × IsReport found problems) }
 {
-    let mut problems = Problems::new(alloc);
-    for (folder, member) in members.iter() {
+    let mut problems = Problems::new(lock.alloc);
+    for (folder, member) in lock.members.iter() {
         let folder = folder.as_str();
-        let asker = Package { folder, member };
-        check_package(alloc, packages, asker, node, &mut problems)?;
+        check_package(lock, Package { folder, member }, &mut problems)?;
     }
     Ok(problems)
 }
 
 /// Adds the problems of one member of `packages`: that with the version of Node, and then those of its dependencies.
-fn check_package(
-    alloc: Global,
-    packages: &Value,
-    asker: Package<'_>,
-    node: Option<&Version>,
-    problems: &mut Problems,
-) -> Result<(), AllocError>
+fn check_package(lock: Lock<'_>, asker: Package<'_>, problems: &mut Problems) -> Result<()>
     ensures { OnOk result ((found : List Finding)
-        × AreMemberFindings (view packages.now) (option_map (λ version. version.now) node.entry) asker.entry.folder.now
+        × AreMemberFindings (packages_data lock.entry) (option_map (λ version. version.now) lock.entry.node) asker.entry.folder.now
         (view asker.entry.member.now) found
         × Adds problems.old problems.new found) }
 {
     if is_link(asker.member) {
         return Ok(());
     }
-    problems.add_package(engine_problem(alloc, asker, node)?)?;
+    problems.add_package(engine_problem(lock, asker)?)?;
     let is_installed = is_installed(asker.folder);
-    let all = asked_of(alloc, asker.member, is_installed)?;
+    let all = asked_of(lock.alloc, asker.member, is_installed)?;
     for (name, asked) in all.iter() {
-        let (problem, unchecked) = outcome_of(alloc, packages, asker, is_installed, *name, *asked)?;
+        let (problem, unchecked) = outcome_of(lock, asker, is_installed, *name, *asked)?;
         problems.add_dependency(problem, unchecked)?;
     }
     Ok(())
 }
 
 /// The problem of a package whose `engines.node` does not admit the version of Node, if one is given.
-fn engine_problem(
-    alloc: Global,
-    asker: Package<'_>,
-    node: Option<&Version>,
-) -> Result<Option<Problem>, AllocError>
-    ensures { IfOk result (λ problem. IsNodeOutcome (option_map (λ version. version.now) node.entry)
+fn engine_problem(lock: Lock<'_>, asker: Package<'_>) -> Result<Option<Problem>>
+    ensures { IfOk result (λ problem. IsNodeOutcome (option_map (λ version. version.now) lock.entry.node)
         asker.entry.folder.now (view asker.entry.member.now) (option_map problem_value problem)) }
 {
-    let Some(version) = node else {
+    let Some(version) = lock.node else {
         return Ok(None);
     };
     let Some(spec) = engine_of(asker.member) else {
         return Ok(None);
     };
+    let (alloc, folder) = (lock.alloc, asker.folder);
     if is_admitted(alloc, spec, version)? {
         return Ok(None);
     }
-    let folder = asker.folder;
     let version = version.to_string(alloc)?;
     let version = Some(version.as_str());
     let problem = problem_of(alloc, Kind::Engine, folder, "node", spec, None, version)?;

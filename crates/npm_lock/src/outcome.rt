@@ -3,30 +3,30 @@ ghost use Rattle.std.specs.Prelude.{◌≡◌, IfOk, option_map, string_bytes};
 ghost use Rattle.serde_json.specs.View.{view};
 ghost use Rattle.npm_lock.specs.Outcomes as Outcomes;
 ghost use Rattle.npm_lock.specs.Outcomes.{IsOutcome, problem_value};
-ghost use Rattle.npm_lock.specs.Private.PackageValue.{asked_value};
+ghost use Rattle.npm_lock.specs.Private.PackageValue.{asked_value, packages_data};
 
+use crate::Result;
 use crate::asked::Asked;
-use crate::place::{Package, find, find_in};
+use crate::place::{Lock, Package};
 use crate::problem::{Kind, Problem};
 use crate::verdict::{Verdict, verdict_of};
 use serde_json::Value;
-use std::alloc::{AllocError, Global};
+use std::alloc::Global;
 
 /// Returns the problem with a dependency of a package, or none. Also returns `true` if the dependency is not checked:
 /// it was found, and its spec is no range.
 pub(crate) fn outcome_of(
-    alloc: Global,
-    packages: &Value,
+    lock: Lock<'_>,
     asker: Package<'_>,
     is_installed: bool,
     name: &str,
     asked: Asked<'_>,
-) -> Result<(Option<Problem>, bool), AllocError>
-    ensures { IfOk result (λ pair. IsOutcome (view packages.now) asker.entry.folder.now is_installed name.now
+) -> Result<(Option<Problem>, bool)>
+    ensures { IfOk result (λ pair. IsOutcome (packages_data lock.entry) asker.entry.folder.now is_installed name.now
         (asked_value asked.entry) (option_map problem_value pair.0) pair.1) }
 {
-    let (folder, spec) = (asker.folder, asked.spec);
-    let Some(found) = find(alloc, packages, folder, name)? else {
+    let (alloc, folder, spec) = (lock.alloc, asker.folder, asked.spec);
+    let Some((found, is_own)) = lock.find(folder, name)? else {
         if !asked.is_needed {
             return Ok((None, false));
         }
@@ -34,7 +34,7 @@ pub(crate) fn outcome_of(
         return Ok((Some(problem), false));
     };
     let (to, version) = (Some(found.folder), version_of(found.member));
-    if asked.is_peer && is_installed && find_in(alloc, packages, folder, name)?.is_some() {
+    if asked.is_peer && is_installed && is_own {
         let problem = problem_of(alloc, Kind::PeerLocal, folder, name, spec, to, version)?;
         return Ok((Some(problem), false));
     }
@@ -57,7 +57,7 @@ pub(crate) fn problem_of(
     spec: &str,
     to: Option<&str>,
     version: Option<&str>,
-) -> Result<Problem, AllocError>
+) -> Result<Problem>
     ensures { IfOk result (λ problem. problem_value problem ≡ (record {
       kind = kind;
       from = from.now;
@@ -85,11 +85,8 @@ fn version_of(member: &Value) -> Option<&str>
 }
 
 /// A copy of a text that may be absent.
-fn copied(alloc: Global, text: Option<&str>) -> Result<Option<String>, AllocError>
+fn copied(alloc: Global, text: Option<&str>) -> Result<Option<String>>
     ensures { IfOk result (λ copy. option_map string_bytes copy ≡ option_map (λ text. text.now) text.entry) }
 {
-    match text {
-        Some(text) => Ok(Some(String::from_str(alloc, text)?)),
-        None => Ok(None),
-    }
+    text.map(|text| String::from_str(alloc, text)).transpose()
 }

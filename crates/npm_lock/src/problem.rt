@@ -7,8 +7,9 @@ ghost use Rattle.npm_lock.specs.Outcomes.{problem_value};
 ghost use Rattle.npm_lock.specs.Private.Adding.{Adds};
 ghost use Rattle.npm_lock.specs.ProblemJson.{kind_text, problem_data};
 
+use crate::Result;
 use serde_json::{Map, Value, put};
-use std::alloc::{AllocError, Global};
+use std::alloc::Global;
 
 /// What is wrong.
 #[derive(Clone, Copy, Debug, PartialEq, Eq, Drop)]
@@ -55,7 +56,7 @@ pub struct Problem {
 
 impl Problem {
     /// The problem as a JSON object, whose members are in the order of their names.
-    pub fn to_json(&self, alloc: Global) -> Result<Value, AllocError>
+    pub fn to_json(&self, alloc: Global) -> Result<Value>
         ensures { IfOk result (λ value. view value ≡ problem_data (problem_value self.now)) }
     {
         let mut members = Map::new(alloc);
@@ -74,12 +75,7 @@ impl Problem {
 }
 
 /// Adds a member whose value is a text.
-fn put_text(
-    members: &mut Map<String, Value>,
-    alloc: Global,
-    name: &str,
-    text: &str,
-) -> Result<(), AllocError>
+fn put_text(members: &mut Map<String, Value>, alloc: Global, name: &str, text: &str) -> Result<()>
     ensures { OnOk result (members_view members.new.entries
         ≡ with_member name.now (string text.now) (members_view members.old.entries)) }
 {
@@ -112,7 +108,7 @@ impl Problems {
     }
 
     /// Adds a package, and its problem with the version of Node.
-    pub(crate) fn add_package(&mut self, problem: Option<Problem>) -> Result<(), AllocError>
+    pub(crate) fn add_package(&mut self, problem: Option<Problem>) -> Result<()>
         ensures { OnOk result (Adds self.old self.new (of_package (option_map problem_value problem) ∷ [])) }
     {
         self.packages = self.packages.saturating_add(1);
@@ -124,7 +120,7 @@ impl Problems {
         &mut self,
         problem: Option<Problem>,
         is_unchecked: bool,
-    ) -> Result<(), AllocError>
+    ) -> Result<()>
         ensures { OnOk result (Adds self.old self.new
             (of_dependency (option_map problem_value problem) is_unchecked ∷ [])) }
     {
@@ -134,7 +130,7 @@ impl Problems {
     }
 
     /// Adds a problem to the list, if there is one.
-    fn push(&mut self, problem: Option<Problem>) -> Result<(), AllocError>
+    fn push(&mut self, problem: Option<Problem>) -> Result<()>
         ensures list { OnOk result (map problem_value self.new.list.items
             ≡ map problem_value self.old.list.items ++ option_to_list (option_map problem_value problem)) }
         ensures packages { self.new.packages ≡ self.old.packages }

@@ -10,10 +10,7 @@ ghost use Rattle.npm_lock.specs.RangeText as RangeText;
 pub(crate) fn range_text(spec: &str) -> Option<&str>
     ensures { option_map (λ text. text.now) result ≡ RangeText.range_text spec.now }
 {
-    let text = match spec.strip_prefix("npm:") {
-        Some(alias) => alias_range(alias),
-        None => spec,
-    };
+    let text = spec.strip_prefix("npm:").map_or(spec, alias_range);
     if is_path(text) { None } else { Some(text) }
 }
 
@@ -22,34 +19,25 @@ fn alias_range(alias: &str) -> &str
     ensures { result.now ≡ range_of_alias alias.now }
 {
     let name = alias.strip_prefix('@').unwrap_or(alias);
-    match name.split_once('@') {
-        Some((_, range)) => range,
-        None => "*",
-    }
+    name.split_once('@').map_or("*", |(_, range)| range)
 }
 
 /// Returns `true` if the text has a `/` or a `:`, and so is neither a range nor a tag.
 fn is_path(text: &str) -> bool
     ensures { result ≡ list_any is_path_byte text.now }
 {
-    text.as_bytes()
-        .iter()
-        .any(|byte| *byte == b'/' || *byte == b':')
+    text.bytes().any(|byte| byte == b'/' || byte == b':')
 }
 
 /// Returns `true` if the text has letters, digits and `-_.!~*'()` alone.
 pub(crate) fn is_tag(text: &str) -> bool
     ensures { result ≡ RangeText.is_tag text.now }
 {
-    text.as_bytes().iter().all(|byte| is_tag_byte(*byte))
+    text.bytes().all(is_tag_byte)
 }
 
 fn is_tag_byte(byte: u8) -> bool
     ensures { result ≡ RangeText.is_tag_byte byte }
 {
-    byte.is_ascii_alphanumeric()
-        || matches!(
-            byte,
-            b'-' | b'_' | b'.' | b'!' | b'~' | b'*' | b'\'' | b'(' | b')'
-        )
+    byte.is_ascii_alphanumeric() || b"-_.!~*'()".contains(&byte)
 }

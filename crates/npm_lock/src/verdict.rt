@@ -5,6 +5,7 @@ ghost use Rattle.node_semver.specs.Versions.{VersionValue};
 ghost use Rattle.npm_lock.specs.Verdict as Verdicts;
 ghost use Rattle.npm_lock.specs.Verdict.{IsAdmittedBy, IsVerdict, IsVerdictOfText};
 
+use crate::Result;
 use crate::range_text::{is_tag, range_text};
 use node_semver::{Range, Version, VersionRef};
 use std::alloc::{AllocError, Global};
@@ -19,11 +20,7 @@ pub(crate) enum Verdict {
 }
 
 /// Returns whether the version of a package satisfies a spec.
-pub(crate) fn verdict_of(
-    alloc: Global,
-    spec: &str,
-    version: Option<&str>,
-) -> Result<Verdict, AllocError>
+pub(crate) fn verdict_of(alloc: Global, spec: &str, version: Option<&str>) -> Result<Verdict>
     ensures { IfOk result (IsVerdict (option_map (λ t. t.now) version.entry) spec.now) }
 {
     let Some(text) = range_text(spec) else {
@@ -63,7 +60,7 @@ fn is_satisfied(range: &Range, version: Option<&str>) -> bool
 }
 
 /// Returns `true` if a version satisfies a range text. A text that is refused admits none.
-pub(crate) fn is_admitted(alloc: Global, text: &str, version: &Version) -> Result<bool, AllocError>
+pub(crate) fn is_admitted(alloc: Global, text: &str, version: &Version) -> Result<bool>
     ensures { IfOk result (λ admitted. IsTrue admitted ↔ IsAdmittedBy text.now version.now) }
 {
     match range_of(alloc, text)? {
@@ -73,7 +70,7 @@ pub(crate) fn is_admitted(alloc: Global, text: &str, version: &Version) -> Resul
 }
 
 /// The range of a text, or `None` if the text is refused.
-fn range_of(alloc: Global, text: &str) -> Result<Option<Range>, AllocError>
+fn range_of(alloc: Global, text: &str) -> Result<Option<Range>>
     ensures refused { IfOk result (λ range. IfNone range (IsRefused text.now)) }
     ensures accepted { IfOk result (λ range. IfSome range (λ range. ¬ IsRefused text.now)) }
     ensures means { IfOk result (λ range. IfSome range (λ range.

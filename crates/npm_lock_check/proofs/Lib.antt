@@ -1,2 +1,3 @@
 pub mod OutputLines
+pub mod Stopping
 pub mod WordLists

@@ -6,13 +6,15 @@
 //! written but one line on standard error, which says why.
 #![tactic(auto)]
 
+ghost use Rattle.std.specs.Prelude.{◌≡◌, ◌↔◌, [], IfErr, IfOk};
+
 mod arguments;
-mod ending;
+mod gauge;
 mod output;
 mod run_error;
 
 use arguments::node_of;
-use ending::status_of;
+use gauge::Gauge;
 use npm_lock::Problems;
 use output::run;
 use run_error::{RunError, read_error};
@@ -44,5 +46,20 @@ fn checked(rt: &HostRuntime) -> Result<Problems, RunError> {
         .collect(rt.alloc())
         .map_err(|_| RunError::Memory)?;
     let node = node_of(rt.alloc(), &words)?;
-    run(rt.alloc(), &mut rt.stdin(), &mut rt.stdout(), node.as_ref())
+    let mut reader = Gauge::new(rt.stdin());
+    let mut writer = Gauge::new(rt.stdout());
+    run(rt.alloc(), &mut reader, &mut writer, node.as_ref())
+}
+
+/// Returns the exit status: 0 if there is no problem, 1 if there is one, and 2 if the file was not checked.
+fn status_of(outcome: &Result<Problems, RunError>) -> u8
+    ensures checked { IfOk outcome.now (λ problems. (result ≡ 0 ↔ problems.list.items ≡ [])
+        × (result ≡ 1 ↔ ¬ (problems.list.items ≡ []))) }
+    ensures stopped { IfErr outcome.now (λ _. result ≡ 2) }
+{
+    match outcome {
+        Ok(problems) if problems.list.is_empty() => 0,
+        Ok(_) => 1,
+        Err(_) => 2,
+    }
 }

@@ -1,16 +1,19 @@
 //! What the program writes.
-ghost use Rattle.std.specs.Prelude.{◌≡◌, ◌≢◌, List, ℕ, IfErr, IfOk, map, option_map, string_bytes};
-ghost use Rattle.std.specs.Io.KnownBytes.{Keeps};
+ghost use Rattle.std.specs.Prelude.{◌≡◌, ◌≢◌, List, ℕ, IfErr, IfOk, IsErrOf, IsSome, map, option_map, string_bytes};
+ghost use Rattle.std.specs.Io.KnownBytes.{Appends};
 ghost use Rattle.serde_json.specs.View.{view};
 ghost use Rattle.npm_lock.specs.Outcomes.{problem_value};
-ghost use Rattle.npm_lock_check.specs.Output.{IsChecked, IsInput, IsRefused, lines};
+ghost use Rattle.npm_lock.specs.declared.problem.Problems.{Problems};
+ghost use Rattle.npm_lock_check.specs.Output.{IsChecked, IsInput, IsStopped, lines};
 
-use crate::run_error::{RunError, read_error};
+use crate::gauge::Gauge;
+use crate::run_error::{RunError, json_error, read_error};
 use node_semver::Version;
 use npm_lock::{CheckError, Problem, Problems, check};
 use serde_json::Value;
 use std::alloc::{AllocError, Global};
 use std::io::{Read, Write};
+use std::str;
 
 /// Reads a lock file to the end, and writes its problems, a JSON object a line.
 ///
@@ -19,15 +22,20 @@ use std::io::{Read, Write};
 /// Nothing was written, but after `Write`: then a beginning of the lines was.
 pub fn run<R: Read, W: Write>(
     alloc: Global,
-    reader: &mut R,
-    writer: &mut W,
+    reader: &mut Gauge<R>,
+    writer: &mut Gauge<W>,
     node: Option<&Version>,
 ) -> Result<Problems, RunError>
-    ensures checked { IfOk result (IsChecked (R.remaining reader.old) (R.remaining reader.new)
-        (W.contents writer.old) (W.contents writer.new) (option_map (λ version. version.now) node.entry)) }
-    ensures refused { IfErr result (IsRefused (R.remaining reader.old) (R.remaining reader.new)) }
-    ensures unwritten { IfErr result (λ error. error ≢ RunError.Write
-        → Keeps (W.contents writer.old) (W.contents writer.new)) }
+    ensures checked { IfOk result (IsChecked R.remaining reader.old reader.new
+        (option_map (λ version. version.now) node.entry)) }
+    ensures written { IfOk result (λ problems. Appends (W.contents writer.old.inner) (W.contents writer.new.inner)
+        (lines (map problem_value problems.list.items))) }
+    ensures refused { IfErr result (λ error. error ≢ RunError.Write
+        → IsStopped R.remaining reader.old reader.new error) }
+    ensures unwritten { IfErr result (λ error. error ≢ RunError.Write → writer.new ≡ writer.old) }
+    ensures write { IsErrOf result RunError.Write → IsSome writer.new.failure
+        × ((problems : Problems) × IsChecked R.remaining reader.old reader.new
+        (option_map (λ version. version.now) node.entry) problems) }
 {
     let lock = read_lock(alloc, reader)?;
     let problems = match check(alloc, &lock, node) {
@@ -43,20 +51,16 @@ pub fn run<R: Read, W: Write>(
 }
 
 /// Reads a JSON value.
-fn read_lock<R: Read>(alloc: Global, reader: &mut R) -> Result<Value, RunError>
-    ensures value { IfOk result (λ lock. IsInput (R.remaining reader.old) (R.remaining reader.new) (view lock)) }
-    ensures refused { IfErr result (IsRefused (R.remaining reader.old) (R.remaining reader.new)) }
-    ensures unwritten { IfErr result (λ error. error ≢ RunError.Write) }
+fn read_lock<R: Read>(alloc: Global, reader: &mut Gauge<R>) -> Result<Value, RunError>
+    ensures value { IfOk result (λ lock. IsInput R.remaining reader.old reader.new (view lock)) }
+    ensures refused { IfErr result (IsStopped R.remaining reader.old reader.new) }
 {
     let mut bytes = Vec::new(alloc);
     reader
         .read_to_end(&mut bytes)
         .map_err(|error| read_error(&error))?;
-    match Value::from_slice(alloc, bytes.as_slice()) {
-        Ok(value) => Ok(value),
-        Err(error) if error.is_memory() => Err(RunError::Memory),
-        Err(_) => Err(RunError::NoJson),
-    }
+    let text = str::from_utf8(bytes.as_slice()).map_err(|_| RunError::NoJson)?;
+    Value::from_str(alloc, text).map_err(|error| json_error(&error))
 }
 
 /// The lines of problems.

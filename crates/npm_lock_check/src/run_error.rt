@@ -2,6 +2,7 @@
 ghost use Rattle.std.specs.Prelude.{◌≡◌, ◌↔◌};
 ghost use Rattle.std.specs.IoError.{error_kind};
 ghost use Rattle.std.specs.declared.io.ErrorKind.{ErrorKind};
+ghost use Rattle.serde_json.specs.Errors.{IsMemory};
 
 use npm_lock::Fault;
 use std::io;
@@ -42,5 +43,17 @@ pub(crate) fn read_error(error: &io::Error) -> RunError
     match error.kind() {
         ErrorKind::OutOfMemory => RunError::Memory,
         _ => RunError::Read,
+    }
+}
+
+/// Why a text was not read as JSON: `Memory` if an allocation failed.
+pub(crate) fn json_error(error: &serde_json::Error) -> RunError
+    ensures memory { result ≡ RunError.Memory ↔ IsMemory error.now }
+    ensures json { result ≡ RunError.NoJson ↔ ¬ IsMemory error.now }
+{
+    if error.is_memory() {
+        RunError::Memory
+    } else {
+        RunError::NoJson
     }
 }

@@ -1,9 +1,15 @@
--- What is seen of a package, and of what it asks for.
-use Rattle.serde_json.specs.View.{view}
+-- What is seen of a lock file, of a package, and of what it asks for.
+use Rattle.serde_json.specs.Data.{Data, object}
+use Rattle.serde_json.specs.View.{members_view, view}
 use Rattle.npm_lock.specs.Asked.{AskedValue}
 use Rattle.npm_lock.specs.Packages as Packages
 use Rattle.npm_lock.specs.declared.asked.Asked.{Asked}
+use Rattle.npm_lock.specs.declared.place.Lock.{Lock}
 use Rattle.npm_lock.specs.declared.place.Package.{Package}
+
+-- its member `packages`
+abbrev pub packages_data : Lock → Data
+packages_data lock = object (members_view lock.members.now.entries)
 
 -- its folder, and the member of `packages`
 abbrev pub package_value : Package → Packages.Package

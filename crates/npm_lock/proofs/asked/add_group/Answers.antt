@@ -1,5 +1,5 @@
 -- A member is inserted, and no member after it has its name.
-use Rattle.std.proofs.Common.{◌≡◌, ◌∙◌, ℕ, List, not, rules, ap, bytes_eq, cond, Some, None, option_and_then, option_map, refl}
+use Rattle.std.proofs.Common.{◌≡◌, ◌∙◌, not, rules, ap, bytes_eq, Some, None, option_and_then, option_map, refl}
 use Rattle.std.proofs.Common.{string_bytes, sym}
 use Rattle.std.proofs.lemmas.Map.Text.{btree_map_updates_str}
 use Rattle.std.specs.List.Sorted.{IsStrictlySortedBy}

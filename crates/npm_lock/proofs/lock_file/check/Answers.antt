@@ -2,7 +2,7 @@
 use Rattle.std.proofs.Common.{◌≡◌, Result, Ok, Err, IfOk, ap}
 use Rattle.std.proofs.lemmas.Result.{IfOk-weaker}
 use Rattle.std.specs.Result.{IsErrAnd, MatchResult}
-use Rattle.serde_json.specs.View.{view}
+use Rattle.serde_json.specs.View.{members_view, view}
 use Rattle.npm_lock.proofs.MoreFindings.{checked_by}
 use Rattle.npm_lock.proofs.lock_file.check.Goals as goal
 
@@ -24,10 +24,10 @@ both_facts (Err e) P Q p q = tt
 
 pub returns-clause-found : goal.returns-clause-found
 returns-clause-found c =
-    let read = was_ok _ c.packages_of.result c.map_err.result (c.in_ok-packages.packages, c.in_ok-packages.members)
-    c.map_err.ensures.cases c.in_ok-packages.was in
+    let read = was_ok _ c.lock_of.result c.map_err.result c.in_ok-lock.lock c.map_err.ensures.cases c.in_ok-lock.was in
+    let node = rw read at c.lock_of.ensures.node in
     kept _ c.problems_of.result c.map_err-2.result _ c.map_err-2.ensures.cases
     (IfOk-weaker c.problems_of.result _ _ (λ problems facts. checked_by (view c.args.lock.now)
-    (view c.in_ok-packages.packages.now) c.in_ok-packages.members.now.entries _ problems
-    (rw read at c.packages_of.ensures.packages) (rw read at c.packages_of.ensures.members) facts.0 facts.1)
+    (members_view c.in_ok-lock.lock.members.now.entries) _ problems (rw read at c.lock_of.ensures.packages) facts.0
+    (rw node at facts.1))
     (both_facts c.problems_of.result _ _ c.problems_of.ensures.ascending c.problems_of.ensures.found))

@@ -4,6 +4,7 @@ use Rattle.serde_json.specs.View.{view}
 use Rattle.npm_lock.specs.Findings.{dependency}
 use Rattle.npm_lock.specs.Packages.{is_link}
 use Rattle.npm_lock.specs.Private.Groups.{names_of}
+use Rattle.npm_lock.specs.Private.PackageValue.{packages_data}
 use Rattle.npm_lock.proofs.MoreFindings.{member_found}
 use Rattle.npm_lock.proofs.NameLists.{all_asked, are_names}
 use Rattle.npm_lock.proofs.Reports.{adds_both, adds_none}
@@ -34,7 +35,7 @@ returns c =
     let entries : c.into_iter-name-iterator.result ≡ c.in_ok-all.all.entries = cc in
     let all = c.loop-name.invariant.found [] c.loop-name.problems (rw c.in-None.ensures.steps.0 tt)
     (adds_none c.loop-name.problems) in
-    member_found (view c.args.packages.now) _ c.args.asker.folder.now (view c.args.asker.member.now)
+    member_found (packages_data c.args.lock) _ c.args.asker.folder.now (view c.args.asker.member.now)
     c.args.problems.now c.add_package.new.self c.loop-name.problems _ no_link c.in_ok-engine_problem.ensures
     c.in_ok-add_package.ensures (
       all.0,

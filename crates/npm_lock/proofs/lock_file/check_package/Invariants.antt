@@ -5,6 +5,7 @@ use Rattle.serde_json.specs.View.{view}
 use Rattle.npm_lock.specs.Findings.{Finding, IsDependencyFinding}
 use Rattle.npm_lock.specs.Private.Adding.{Adds}
 use Rattle.npm_lock.specs.Private.Groups.{AreAsked, names_of}
+use Rattle.npm_lock.specs.Private.PackageValue.{packages_data}
 use Rattle.npm_lock.specs.declared.problem.Problems.{Problems}
 use Rattle.npm_lock.proofs.lock_file.check_package.Given as goal
 
@@ -12,11 +13,11 @@ abbrev pub invariant-loop-name : goal.invariant-loop-name
 invariant-loop-name l = record {
   asked : AreAsked (view l.asker.member.now) l.is_installed l.name-iterator;
   found : (later : List Finding) (new : Problems)
-      → AllZip (IsDependencyFinding (view l.packages) l.asker.folder.now (view l.asker.member.now) l.is_installed)
+      → AllZip (IsDependencyFinding (packages_data l.lock) l.asker.folder.now (view l.asker.member.now) l.is_installed)
       (names_of l.name-iterator) later
       → Adds l.problems new later
       → (found : List Finding)
-      × AllZip (IsDependencyFinding (view l.packages) l.asker.folder.now (view l.asker.member.now) l.is_installed)
+      × AllZip (IsDependencyFinding (packages_data l.lock) l.asker.folder.now (view l.asker.member.now) l.is_installed)
       (names_of l.initial.name-iterator) found
       × Adds l.initial.problems new found;
 }

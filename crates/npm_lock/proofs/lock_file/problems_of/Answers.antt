@@ -16,11 +16,11 @@ loop-folder-preserved c = λ later new are adds.
     (adds_both _ _ _ here.0 later here.2 adds)
 
 pub returns-clause-ascending : goal.returns-clause-ascending
-returns-clause-ascending c = sorted_keys c.args.members.now.entries c.iter-folder-items.ensures.ordered
+returns-clause-ascending c = sorted_keys c.args.lock.members.now.entries c.iter-folder-items.ensures.ordered
 
 pub returns-clause-found : goal.returns-clause-found
 returns-clause-found c =
-    let entries : c.into_iter-folder-iterator.result ≡ c.args.members.now.entries = cc in
+    let entries : c.into_iter-folder-iterator.result ≡ c.args.lock.members.now.entries = cc in
     let all = c.loop-folder.invariant [] c.loop-folder.problems (rw c.in-None.ensures.steps.0 refl)
     (adds_none c.loop-folder.problems) in
     (all.0, rw entries at all.1, all.2)

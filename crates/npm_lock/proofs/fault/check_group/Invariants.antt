@@ -2,8 +2,8 @@
 use Rattle.std.proofs.Common.{◌≡◌}
 use Rattle.serde_json.specs.View.{members_view}
 use Rattle.npm_lock.specs.Faults as Faults
-use Rattle.npm_lock.proofs.fault.are_texts.Given as goal
+use Rattle.npm_lock.proofs.fault.check_group.Given as goal
 
 abbrev pub invariant-loop-spec : goal.invariant-loop-spec
-invariant-loop-spec l = Faults.are_texts (members_view l.specs.entries)
+invariant-loop-spec l = Faults.are_texts (members_view l.initial.spec-iterator)
     ≡ Faults.are_texts (members_view l.spec-iterator)

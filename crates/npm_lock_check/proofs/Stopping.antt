@@ -1,0 +1,32 @@
+-- Why a lock file was not checked.
+use Rattle.std.proofs.Common.{◌≡◌, ◌∙◌, ℕ, List, [], Option, Some, Result, Ok, Err, inr, refl, sym}
+use Rattle.std.specs.Result.{IsErrAnd, MatchResult}
+use Rattle.serde_json.proofs.OnLiterals.{serde_json_on_literals}
+use Rattle.serde_json.specs.Data.{Data}
+use Rattle.serde_json.specs.Read.{read}
+use Rattle.npm_lock_check.specs.GaugeValue.{GaugeValue}
+use Rattle.npm_lock_check.specs.Output.{IsInput, IsStopped}
+use Rattle.npm_lock_check.specs.declared.run_error.RunError.TheVariants.{Memory}
+
+no_value : (lock : Data) → read [] ≡ Some lock → ⊥
+unfolding serde_json_on_literals
+no_value lock is = cc is
+
+-- memory ran out after the input was read
+pub later : {R : Type 0} (remaining : R → Option (List ℕ)) (old new : GaugeValue R) (lock : Data)
+    → IsInput remaining old new lock → IsStopped remaining old new Memory
+later remaining old new lock input = inr (record {
+  bytes = input.bytes;
+  taken = input.taken;
+  ended = input.ended;
+  unfailed = input.unfailed;
+  such = (input.such.0, λ empty. no_value lock (rw empty at input.such.1));
+})
+
+module _ {T E F : Type 0} (Q : E → F → Type 0) where
+  -- the error before its type changed
+  pub was_err : (before : Result T E) (after : Result T F) (f : F)
+      → MatchResult before (λ x. after ≡ Ok x) (λ e. IsErrAnd after (Q e)) → after ≡ Err f
+      → (e : E) × (before ≡ Err e)
+  was_err (Ok x) after f cases is = let no : Ok x ≡ Err f = sym cases ∙ is in cc no
+  was_err (Err e) after f cases is = (e, refl)

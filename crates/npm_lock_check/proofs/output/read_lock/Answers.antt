@@ -1,0 +1,27 @@
+-- What was read is not in UTF-8.
+use Rattle.std.proofs.Common.{◌≡◌, IsUtf8, None, rules}
+use Rattle.std.specs.Io.{appended_bytes}
+use Rattle.std.specs.Io.KnownBytes.{IsAtEnd}
+use Rattle.serde_json.specs.Data.{Data}
+use Rattle.npm_lock_check.specs.Output.{IsStopped, IsTextOf}
+use Rattle.npm_lock_check.specs.declared.run_error.RunError.TheVariants.{NoJson}
+use Rattle.npm_lock_check.proofs.Stopping.{was_err}
+use Rattle.npm_lock_check.proofs.output.read_lock.Goals as goal
+
+pub returns-in_err-text-clause-refused : goal.returns-in_err-text-clause-refused
+returns-in_err-text-clause-refused g c =
+    let error = was_err _ c.from_utf8.result c.map_err-2.result _ c.map_err-2.ensures.cases c.in_err-text.was in
+    let bad : ¬ IsUtf8 c.as_slice.result.now = (rw error.1 at c.from_utf8.ensures.cases).0 in
+    let unread : (lock : Data)
+    → ¬ IsTextOf (appended_bytes c.new-bytes.result.items c.read_to_end.new.bytes.items) lock = λ lock text.
+    bad (rw c.as_slice.ensures.value (rw c.new-bytes.ensures.items at text.0)) in
+    let unfailed : c.read_to_end.new.self.failure ≡ None = search rules in
+    let ended : IsAtEnd (g.R.Read.remaining c.read_to_end.new.self.inner) = search rules in
+    let stopped : IsStopped g.R.Read.remaining c.args.reader.now c.read_to_end.new.self NoJson = record {
+      bytes = appended_bytes c.new-bytes.result.items c.read_to_end.new.bytes.items;
+      taken = c.read_to_end.ensures.taken;
+      ended = ended;
+      unfailed = unfailed;
+      such = unread;
+    } in
+    search (rules, stopped)

@@ -1,0 +1,68 @@
+//! Readers and writers that keep the kind of error of a call that failed.
+ghost use Rattle.std.specs.Prelude.{◌≡◌, None, OnOk};
+ghost use Rattle.std.specs.Io.{StartsWith, appended_bytes};
+ghost use Rattle.std.specs.Io.KnownBytes.{Appends, Consumes, IsAtEnd};
+ghost use Rattle.npm_lock_check.specs.GaugeValue.{GaugeValue, failure_of};
+
+use std::io;
+use std::io::{ErrorKind, Read, Write};
+use std::marker::Model;
+
+/// A reader or writer, and the kind of error of the last call through the gauge, if it failed.
+#[derive(Drop)]
+pub struct Gauge<T> {
+    inner: T,
+    failure: Option<ErrorKind>,
+}
+
+impl<T> Model for Gauge<T> {
+    ghost Value = { GaugeValue T };
+
+    ghost view = { λ gauge. record { inner = gauge.inner; failure = gauge.failure } };
+}
+
+impl<T> Gauge<T> {
+    /// Returns a gauge through which no call has failed.
+    pub fn new(inner: T) -> Gauge<T>
+        ensures { result ≡ (record { inner = inner; failure = None }) }
+    {
+        Gauge {
+            inner,
+            failure: None,
+        }
+    }
+}
+
+impl<R: Read> Gauge<R> {
+    /// Reads to the end.
+    pub fn read_to_end(&mut self, bytes: &mut Vec<u8>) -> io::Result<usize>
+        ensures appends { StartsWith bytes.new.items bytes.old.items }
+        ensures taken { Consumes (R.remaining self.old.inner) (R.remaining self.new.inner)
+            (appended_bytes bytes.old.items bytes.new.items) }
+        ensures ended { OnOk result (IsAtEnd (R.remaining self.new.inner)) }
+        ensures failure { self.new.failure ≡ failure_of result }
+    {
+        let read = self.inner.read_to_end(bytes);
+        self.failure = failure_of(&read);
+        read
+    }
+}
+
+impl<W: Write> Gauge<W> {
+    /// Writes all of these bytes.
+    pub fn write_all(&mut self, bytes: &[u8]) -> io::Result<()>
+        ensures written { OnOk result (Appends (W.contents self.old.inner) (W.contents self.new.inner) bytes.now) }
+        ensures failure { self.new.failure ≡ failure_of result }
+    {
+        let written = self.inner.write_all(bytes);
+        self.failure = failure_of(&written);
+        written
+    }
+}
+
+/// The kind of the error, if the call failed.
+fn failure_of<T>(outcome: &io::Result<T>) -> Option<ErrorKind>
+    ensures { result ≡ failure_of outcome.now }
+{
+    outcome.as_ref().err().map(io::Error::kind)
+}

@@ -13,7 +13,7 @@ mod comparator;
 mod comparisons;
 pub mod laws;
 pub mod line;
-pub mod parse;
+mod partial;
 pub mod read;
 pub mod set;
 pub mod set_list;

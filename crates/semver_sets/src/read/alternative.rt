@@ -8,8 +8,9 @@ ghost use Rattle.semver_sets.specs.Private.WordReading.{leading_or_none, read_ri
 ghost use Rattle.semver_sets.specs.Private.WordViews.{ends_seen, word_seen};
 
 use crate::comparator::CommonSpan;
-use crate::parse::skip_solid;
-use crate::word::{WordEnds, begins_comparator, nothing, read_leading_hyphen, read_word};
+use crate::word::{
+    WordEnds, begins_comparator, nothing, read_leading_hyphen, read_word, skip_solid,
+};
 use semver_cuts::Span;
 use semver_versions::end::EndVersion;
 use semver_versions::parse::{skip_blanks, skip_some_blanks};

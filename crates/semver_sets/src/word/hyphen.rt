@@ -1,6 +1,6 @@
 //! `1.2 - 3`, and ` - 3` at the start of a range text
 //!
-//! `#[inline(always)]`: see `parse/partial.rt`. The functions with `#[inline(never)]` are called only if there is a
+//! `#[inline(always)]`: see `partial.rt`. The functions with `#[inline(never)]` are called only if there is a
 //! hyphen, or a blank at the start. Each is called through a function of one line: the toolchain clears the place of a
 //! result where the calling function begins, and so only if it is called.
 ghost use Rattle.std.specs.Prelude.{◌≡◌, ◌∷◌, IfSome, Some, None};
@@ -13,8 +13,8 @@ ghost use Rattle.semver_sets.specs.Private.WordReading as Reading;
 ghost use Rattle.semver_sets.specs.Private.WordViews.{IsSound, ends_seen, partial_seen, read_partial_seen};
 ghost use Rattle.semver_sets.specs.Private.WordViews.{right_end_seen, some_word_seen};
 
-use crate::parse::{Partial, Shape, read_clean_partial};
-use crate::word::ends::{Form, WordEnds, WrittenVersion, next, of_one, of_two, release, zeroed};
+use crate::partial::{Partial, Shape, read_clean_partial};
+use crate::word::ends::{Form, WordEnds, WrittenVersion, of_one, of_two, release};
 use semver_versions::parse::skip_some_blanks;
 
 // `3` and ` <5` of ` - 3 <5`: the right side of a hyphen range, with the blanks around the hyphen
@@ -88,7 +88,7 @@ pub(crate) fn hyphen_ends<'a>(left: Partial<'a>, right: Partial<'a>) -> WordEnds
     } else {
         Form::UpTo
     };
-    of_two(form, zeroed(left), upper.version)
+    of_two(form, left.version, upper.version)
 }
 
 // ` - 3` is `<4.0.0-0`.
@@ -120,15 +120,15 @@ fn right_end(partial: Partial) -> RightEnd
     ensures { let p = partial_seen partial.entry in
         right_end_seen result ≡ HyphenRanges.right_row p.major p.minor p.patch (PartialText.zeroed p) }
 {
-    let Partial { major, minor, .. } = partial;
+    let WrittenVersion { major, minor, .. } = partial.version;
     match partial.shape {
         Shape::Nothing => below_triple(0, 0, 0),
-        Shape::Major => below_triple(next(major), 0, 0),
-        Shape::MajorMinor => below_triple(major, next(minor), 0),
+        Shape::Major => below_triple(major + 1, 0, 0),
+        Shape::MajorMinor => below_triple(major, minor + 1, 0),
         Shape::Full | Shape::MajorPatch | Shape::MinorPatch | Shape::Minor | Shape::Patch => {
             RightEnd {
                 is_held: true,
-                version: zeroed(partial),
+                version: partial.version,
             }
         }
     }

@@ -5,7 +5,7 @@ use Rattle.memchr.specs.Find.{Nowhere, Passes, is_byte2}
 use Rattle.semver_versions.specs.Characters.{is_blank}
 use Rattle.semver_sets.specs.Private.WordReading.{is_solid}
 use Rattle.semver_versions.specs.Lemmas.Texts.Places.{rest_of-each, rest_of-first, to-end}
-use Rattle.semver_sets.proofs.parse.skip.skip_solid.Goals as goal
+use Rattle.semver_sets.proofs.word.skip_solid.Goals as goal
 
 -- there is no blank before place n
 solid-before : (text : List ℕ) (n : ℕ) → Nowhere (Passes (is_byte2 32 9) text) 0 n

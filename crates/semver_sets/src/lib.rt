@@ -9,7 +9,6 @@
 //! `semver_versions`.
 #![tactic(auto)]
 
-mod comparator;
 mod comparisons;
 pub mod laws;
 pub mod line;

@@ -20,8 +20,8 @@ mod tilde;
 
 use crate::partial::{Partial, read_clean_partial};
 use caret::caret_ends;
-use ends::{Form, of_one};
-pub(crate) use ends::{WordEnds, WrittenVersion, nothing};
+pub(crate) use ends::{Form, WordEnds, WrittenVersion};
+use ends::{nothing, of_one};
 pub(crate) use hyphen::read_leading_hyphen;
 use hyphen::{hyphen_ends, read_right};
 use memchr::memchr2;

@@ -12,10 +12,16 @@ use Rattle.semver_sets.specs.Private.WordReading.{is_solid, or_else, or_thrown_a
 use Rattle.semver_sets.specs.Private.WordReading.{read_components, read_hyphen, read_lead, read_word}
 use Rattle.semver_sets.specs.Private.WordReading.{read_operator, read_partial, read_right, read_simple, said}
 use Rattle.semver_sets.specs.Private.WordReading.{said_hyphen, tilde_greater_lead, tilde_lead, up_to_clean, with_left}
-use Rattle.semver_sets.specs.Private.WordViews.{lead_seen}
+use Rattle.semver_sets.specs.Private.WordViews.{form_comparator, lead_seen}
 use Rattle.semver_sets.specs.declared.word.Lead.{Lead as CodeLead}
 use Rattle.semver_sets.specs.declared.word.Lead.TheVariants.{Above, AtLeast, AtMost, Below, Caret, Equal, Plain}
 use Rattle.semver_sets.specs.declared.word.Lead.TheVariants.{Tilde, TildeGreater}
+use Rattle.semver_sets.specs.declared.word.ends.Form.{Form}
+use Rattle.semver_sets.specs.declared.word.ends.Form.TheVariants.{Above as FormAbove, AtLeast as FormAtLeast}
+use Rattle.semver_sets.specs.declared.word.ends.Form.TheVariants.{AtMost as FormAtMost, AtMostLeast, BareUpTo}
+use Rattle.semver_sets.specs.declared.word.ends.Form.TheVariants.{Below as FormBelow, BelowLeast, Equal as FormEqual}
+use Rattle.semver_sets.specs.declared.word.ends.Form.TheVariants.{Exactly, Nothing, Through, UpTo}
+use Rattle.semver_versions.specs.Version.{VersionValue}
 use Rattle.semver_sets.proofs.Words.LeadReading.{lead-not_partial, lead-plain}
 use Rattle.semver_versions.specs.Lemmas.Texts.Prefixes.{with_no-begins}
 
@@ -40,6 +46,23 @@ plain-seen Below h = cc h
 plain-seen Tilde h = cc h
 plain-seen TildeGreater h = cc h
 plain-seen Caret h = cc h
+
+-- ---- ends
+
+-- every form but one has a comparator
+pub some-comparator : (f : Form) (v w : VersionValue) → (f ≡ Nothing → ⊥) → form_comparator f v w ≡ None → ⊥
+some-comparator Nothing v w other none = other refl
+some-comparator FormAtLeast v w other none = cc none
+some-comparator FormAbove v w other none = cc none
+some-comparator FormBelow v w other none = cc none
+some-comparator BelowLeast v w other none = cc none
+some-comparator FormAtMost v w other none = cc none
+some-comparator AtMostLeast v w other none = cc none
+some-comparator Exactly v w other none = cc none
+some-comparator FormEqual v w other none = cc none
+some-comparator UpTo v w other none = cc none
+some-comparator BareUpTo v w other none = cc none
+some-comparator Through v w other none = cc none
 
 -- ---- hyphens
 

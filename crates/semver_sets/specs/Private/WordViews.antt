@@ -164,11 +164,6 @@ right_end_seen e = if e.is_held then After (written_seen e.version) else Before 
 abbrev pub word_seen : WordEnds × Bor (List ℕ) → Word
 word_seen w = (ends_seen w.0, w.1.now)
 
--- the word, or none
-abbrev pub some_word_seen : Option (WordEnds × Bor (List ℕ)) → Option Word
-some_word_seen None = None
-some_word_seen (Some w) = Some (word_seen w)
-
 -- the comparator of a word, if it has one
 abbrev pub listed : Option Comparator → List Comparator
 listed None = []

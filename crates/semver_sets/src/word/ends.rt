@@ -2,12 +2,11 @@
 //!
 //! All values are flat: one form, two triples and the text after them. `#[inline(always)]`: the constructors here only
 //! hand numbers on, and in registers if they are inlined.
-ghost use Rattle.std.specs.Prelude.{◌≡◌, ◌↔◌, ◌≤◌, IfOk, IfSome, IsTrue, None, Some};
+ghost use Rattle.std.specs.Prelude.{◌≡◌, ◌≤◌, IfOk, IfSome, None, Some};
 ghost use Rattle.semver_sets.specs.Comparator as Comparators;
 ghost use Rattle.semver_versions.specs.Version as Versions;
 ghost use Rattle.semver_sets.specs.Private.WordViews.{ends_seen, form_comparator, written_seen};
 
-use crate::comparator::Comparator;
 use semver_cuts::Cut;
 use semver_versions::MAX_SAFE_INTEGER;
 use semver_versions::end::EndVersion;
@@ -55,7 +54,7 @@ pub(crate) enum Form {
 // The two ends of a comparator, or no comparator.
 #[derive(Clone, Copy)]
 pub(crate) struct WordEnds<'a> {
-    form: Form,
+    pub(crate) form: Form,
     lower: WrittenVersion<'a>,
     upper: WrittenVersion<'a>,
 }
@@ -178,29 +177,9 @@ pub(crate) fn with_minor(major: u64, minor: u64) -> WordEnds<'static>
 }
 
 impl<'a> WordEnds<'a> {
+    // Where the comparator begins. Allocates only for prerelease and build.
     #[inline(always)]
-    pub(crate) fn is_nothing(&self) -> bool
-        ensures { IsTrue result ↔ (ends_seen self.now ≡ None) }
-    {
-        match self.form {
-            Form::Nothing => true,
-            _ => false,
-        }
-    }
-
-    // The comparator with its ends built. Allocates only for prerelease and build.
-    #[inline(always)]
-    pub(crate) fn comparator(self, alloc: Global) -> Result<Comparator, AllocError>
-        requires { ¬ (ends_seen self ≡ None) }
-        ensures { IfOk result (λ c. ends_seen self.entry ≡ Some c) }
-    {
-        let lower = self.lower_cut(alloc)?;
-        let upper = self.upper_cut(alloc)?;
-        Ok(Comparator { lower, upper })
-    }
-
-    #[inline(always)]
-    fn lower_cut(&self, alloc: Global) -> Result<Cut<EndVersion>, AllocError>
+    pub(crate) fn lower_cut(&self, alloc: Global) -> Result<Cut<EndVersion>, AllocError>
         ensures { IfOk result (λ cut. IfSome (ends_seen self.now) (λ c. c.lower ≡ cut)) }
     {
         match self.form {
@@ -215,8 +194,9 @@ impl<'a> WordEnds<'a> {
         }
     }
 
+    // Where it ends.
     #[inline(always)]
-    fn upper_cut(&self, alloc: Global) -> Result<Cut<EndVersion>, AllocError>
+    pub(crate) fn upper_cut(&self, alloc: Global) -> Result<Cut<EndVersion>, AllocError>
         ensures { IfOk result (λ cut. IfSome (ends_seen self.now) (λ c. c.upper ≡ cut)) }
     {
         match self.form {

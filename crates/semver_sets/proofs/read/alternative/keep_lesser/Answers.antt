@@ -4,7 +4,7 @@ use Rattle.semver_cuts.specs.Cut.{cut_cmp}
 use Rattle.semver_cuts.specs.Lemmas.Ends.{at_most-from_not_lt}
 use Rattle.semver_versions.specs.Comparison.{version_cmp}
 use Rattle.semver_versions.specs.Lemmas.Order.{version_total}
-use Rattle.semver_sets.proofs.comparator.keep_lesser.Goals as goal
+use Rattle.semver_sets.proofs.read.alternative.keep_lesser.Goals as goal
 
 pub returns-else-lt : goal.returns-else-lt
 returns-else-lt c =

@@ -1,6 +1,6 @@
 -- Partials, as the readers see them.
 use Rattle.std.proofs.Common.{◌≡◌, ◌≢◌, ◌<◌, ◌≤◌, ℕ, arith, ◌-◌, drop, get_or, length, take, true, List, [], ◌∷◌}
-use Rattle.std.proofs.Common.{Ok, Err, Option, Some, None, refl, sym, ap, ◌∙◌}
+use Rattle.std.proofs.Common.{Ok, Err, Option, Some, None, refl, subst, sym, ap, ◌∙◌}
 use Rattle.std.proofs.lemmas.Bool.{ne_eqb}
 use Rattle.std.proofs.lemmas.List.{take_all}
 use Rattle.semver_versions.specs.declared.TheConstants.{MAX_SAFE_INTEGER}
@@ -35,6 +35,12 @@ behind-first first [] some h = absurd (omega arith)
 behind-first first (b ∷ rest) some h =
     ap (λ (c : ℕ). c ∷ rest) h
     ∙ ap (λ (l : List ℕ). first ∷ l) (sym (take_all (length (b ∷ rest) - 1) rest (omega arith)))
+
+-- a number before a dot
+pub dotted-number : (text behind : List ℕ) (number : ℕ) → Ok (number, behind) ≡ read_number text → 0 < length behind
+    → get_or behind 0 0 ≡ 46 → Ok (number, dot ∷ take (length behind - 1) (drop 1 behind)) ≡ read_number text
+dotted-number text behind number read some first =
+    subst (λ (l : List ℕ). Ok (number, l) ≡ read_number text) (behind-first 46 behind some first) read
 
 -- a number that is read is a component
 pub component-number : (text rest : List ℕ) (number : ℕ) → Ok (number, rest) ≡ read_number text → BeginsWithNo is_x text
@@ -113,9 +119,9 @@ module _ (text second third : List ℕ) (major minor patch : ℕ) (one : Ok (maj
   unfolding read_version read_unmarked read_triple read_dot
   full-version digit = rw (version-begins text digit, ← one, ← two, ← three, no-extras) refl
 
-  pub full-text : IsFullNumbers text major minor patch
+  pub full-numbers : IsFullNumbers text major minor patch
   unfolding read_partial
-  full-text =
+  full-numbers =
       let digit = number-digit text (dot ∷ second) major one in
       record {
         digit = digit;

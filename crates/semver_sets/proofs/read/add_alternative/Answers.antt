@@ -2,7 +2,7 @@ use Rattle.std.proofs.Common.{◌≡◌, ◌++◌, ◌∷◌, [], None, Some, su
 use Rattle.std.proofs.lemmas.List.{append-nil}
 use Rattle.std.proofs.lemmas.Result.{on_ok_weaker}
 use Rattle.semver_sets.specs.Private.RangeViews.{IsOneMore, IsSetOfAlternative}
-use Rattle.semver_sets.proofs.read.several.add_alternative.Goals as goal
+use Rattle.semver_sets.proofs.read.add_alternative.Goals as goal
 
 pub returns-in-Ok-Some : goal.returns-in-Ok-Some
 returns-in-Ok-Some c =

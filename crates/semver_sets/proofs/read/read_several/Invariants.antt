@@ -3,7 +3,7 @@ use Rattle.semver_sets.specs.Comparator.{Comparator}
 use Rattle.semver_sets.specs.Merging.{AreSetsOf}
 use Rattle.semver_sets.specs.Private.PieceReading.{piece_at, some_seen}
 use Rattle.semver_sets.proofs.Ranges.AlternativeLemmas.{Reads, left_length}
-use Rattle.semver_sets.proofs.read.several.add_alternatives.Given as goal
+use Rattle.semver_sets.proofs.read.read_several.Given as goal
 
 -- the sets so far are those of the alternatives so far
 abbrev pub invariant-loop-left : goal.invariant-loop-left

@@ -7,9 +7,9 @@ use Rattle.semver_sets.specs.Merging.{AreSetsOf, none}
 use Rattle.semver_sets.specs.Private.PieceReading.{some_seen}
 use Rattle.semver_sets.specs.Private.RangeViews.{IsSetOfAlternative, listed_set}
 use Rattle.semver_sets.proofs.Ranges.AlternativeLemmas.{Reads, left-shorter, left_length, reads-more, reads-start}
-use Rattle.semver_sets.proofs.Ranges.RangeReading.{all-read}
+use Rattle.semver_sets.proofs.Ranges.RangeReading.{all-read, none-gathered, some-gathered}
 use Rattle.semver_sets.proofs.Sets.SetLemmas.{reads-set}
-use Rattle.semver_sets.proofs.read.several.add_alternatives.Goals as goal
+use Rattle.semver_sets.proofs.read.read_several.Goals as goal
 
 pub loop-left-init : goal.loop-left-init
 loop-left-init c = λ text divided.
@@ -18,7 +18,7 @@ loop-left-init c = λ text divided.
     let read = reads-set first [] [] more.0 none more.1 in
     let reads = reads-start text first (Some c.args.others.now) read.comparators (sym divided) read.alternative in
     let same : c.add_alternative.new.sets ≡ listed_set more.0 =
-    more.2 ∙ ap (λ (l : List (Ends VersionValue)). l ++ listed_set more.0) c.requires in
+    more.2 ∙ ap (λ (l : List (Ends VersionValue)). l ++ listed_set more.0) c.new-sets.ensures in
     (read.comparators ∷ [], reads, subst (AreSetsOf (read.comparators ∷ [])) (sym same) read.merged)
 
 pub loop-left-smaller : goal.loop-left-smaller
@@ -43,7 +43,15 @@ loop-left-preserved c = λ text divided.
     reads (sym c.next_piece.ensures) read.alternative in
     (done ++ read.comparators ∷ [], next, subst (AreSetsOf (done ++ read.comparators ∷ [])) (sym more.2) read.merged)
 
-pub returns : goal.returns
-returns c = λ text divided.
+pub returns-in-Ok-Some : goal.returns-in-Ok-Some
+returns-in-Ok-Some c = λ text divided.
     let all = c.loop-left.invariant text divided in
-    all-read text all.0 c.loop-left.sets (some_seen c.loop-left.left) all.1 (ap some_seen c.in_default.is) all.2
+    let are = all-read text all.0 c.loop-left.sets (some_seen c.loop-left.left) all.1 (ap some_seen c.in_default.is) all.2 in
+    some-gathered text c.loop-left.sets _ c.in-Ok-Some.sets are c.in-Ok-Some.ensures.sets c.in-Ok-Some.ensures.some
+    c.in-Ok-Some.field-0-is
+
+pub returns-in-Ok-None : goal.returns-in-Ok-None
+returns-in-Ok-None c = λ text divided.
+    let all = c.loop-left.invariant text divided in
+    let are = all-read text all.0 c.loop-left.sets (some_seen c.loop-left.left) all.1 (ap some_seen c.in_default.is) all.2 in
+    none-gathered text c.loop-left.sets _ are c.in-Ok-None.ensures.sets c.in-Ok-None.field-0-is

@@ -122,7 +122,8 @@ impl Range {
     {
         a_text_means_its_sets();
         prints_are_read_back();
-        match read_full(text.as_bytes()) {
+        let bytes = text.as_bytes();
+        match read_full(bytes) {
             Some((FullLead::Caret, major, minor, patch)) => {
                 Ok(Range::of_set(caret_set(major, minor, patch)))
             }
@@ -132,7 +133,10 @@ impl Range {
             Some((FullLead::Nothing, major, minor, patch)) => {
                 Ok(Range::of_set(exact_set(major, minor, patch)))
             }
-            None => range_of_words(alloc, text),
+            None => match Sets::read(alloc, bytes) {
+                Ok(sets) => Ok(Range { sets }),
+                Err(unread) => Err(unread_error(alloc, text, unread)),
+            },
         }
     }
 
@@ -241,19 +245,6 @@ impl Range {
             Ok(None) => Ok(None),
             Err(error) => Err(error),
         }
-    }
-}
-
-// The range of any text. `inline(always)`: the sets are built in the place of the result.
-#[inline(always)]
-fn range_of_words(alloc: Global, text: &str) -> Result<Range, SemverError>
-    ensures { IsRangeAnswer text.now result }
-{
-    a_text_means_its_sets();
-    prints_are_read_back();
-    match Sets::read(alloc, text.as_bytes()) {
-        Ok(sets) => Ok(Range { sets }),
-        Err(unread) => Err(unread_error(alloc, text, unread)),
     }
 }
 

@@ -9,11 +9,10 @@
 //! `semver_versions`.
 #![tactic(auto)]
 
-mod comparator;
 mod comparisons;
 pub mod laws;
 pub mod line;
-pub mod parse;
+mod partial;
 pub mod read;
 pub mod set;
 pub mod set_list;

@@ -5,19 +5,19 @@ ghost use Rattle.std.specs.Prelude.{◌≡◌, IfErr, IfOk, OnOk};
 ghost use Rattle.semver_sets.specs.Meaning.{IsRefused};
 ghost use Rattle.semver_sets.specs.Merging.{AreSetsOfText};
 ghost use Rattle.semver_sets.specs.RangeSets.{IsRangeValue, sets_seen};
-ghost use Rattle.semver_sets.specs.Private.PieceReading.{bars_after, piece_at, piece_seen, some_seen};
-ghost use Rattle.semver_sets.specs.Private.RangeViews.{IsReadResult, IsReadResultOf};
+ghost use Rattle.semver_sets.specs.Private.PieceReading.{piece_at, piece_seen};
+ghost use Rattle.semver_sets.specs.Private.RangeViews.{IsOneMore, IsReadResultOf};
 ghost use Rattle.semver_sets.specs.declared.read.Unread.TheVariants.{OutOfMemory, Refused};
 
 mod alternative;
 pub mod full;
-mod several;
 
 use crate::set_list::Sets;
+use crate::set_list::gathered::Gathered;
 use crate::word::skip_thrown_away;
 use alternative::read_set;
 use memchr::memchr;
-use several::read_several;
+use semver_versions::parse::skip_blanks;
 use std::alloc::{AllocError, Global};
 
 /// Why a text was not read.
@@ -56,66 +56,67 @@ impl Sets {
         ensures refused { IfErr result (λ unread. unread ≡ Refused → IsRefused text.now) }
         ensures accepted { OnOk result (¬ IsRefused text.now) }
     {
-        read_pieces(alloc, text)
+        let (piece, left) = next_piece(text);
+        if let Some(others) = left {
+            return read_several(alloc, piece, others);
+        }
+        // If no word can begin a comparator, nothing is prepared to read one.
+        let words = skip_thrown_away(piece);
+        if words.is_empty() {
+            return Err(Unread::Refused);
+        }
+        match read_set(alloc, words) {
+            Ok(Some(set)) => Ok(Sets::One(set)),
+            Ok(None) => Err(Unread::Refused),
+            Err(_) => Err(Unread::OutOfMemory),
+        }
     }
 }
 
-// Reads alternative after alternative.
-#[inline(always)]
-fn read_pieces(alloc: Global, text: &[u8]) -> Result<Sets, Unread>
-    ensures { IsReadResult text.now result }
+// Reads the first alternative, and then those of the text after the first `||`. `inline(never)`: few texts have `||`.
+#[inline(never)]
+fn read_several(alloc: Global, first: &[u8], others: &[u8]) -> Result<Sets, Unread>
+    ensures { IsReadResultOf first.now others.now result }
 {
-    let (piece, left) = next_piece(text);
-    if let Some(others) = left {
-        return read_first(alloc, piece, others);
+    let mut sets = Gathered::new(alloc);
+    add_alternative(alloc, &mut sets, first)?;
+    let mut left = Some(others);
+    while let Some(rest) = left {
+        let (piece, later) = next_piece(rest);
+        add_alternative(alloc, &mut sets, skip_blanks(piece))?;
+        left = later;
     }
-    // If no word can begin a comparator, nothing is prepared to read one.
-    let words = skip_thrown_away(piece);
-    if words.is_empty() {
-        return Err(Unread::Refused);
-    }
-    match read_set(alloc, words) {
-        Ok(Some(set)) => Ok(Sets::One(set)),
+    match sets.into_sets() {
+        Ok(Some(sets)) => Ok(sets),
         Ok(None) => Err(Unread::Refused),
         Err(_) => Err(Unread::OutOfMemory),
     }
 }
 
-// Reads several alternatives. `inline(always)`: with this function of one line between, the toolchain clears the place of
-// a result only if the function that is out of line is called.
-#[inline(always)]
-fn read_first(alloc: Global, first: &[u8], others: &[u8]) -> Result<Sets, Unread>
-    ensures { IsReadResultOf first.now others.now result }
+// Adds the set of an alternative, if it gives one.
+fn add_alternative(alloc: Global, sets: &mut Gathered, text: &[u8]) -> Result<(), AllocError>
+    ensures { OnOk result (IsOneMore text.now sets.old sets.new) }
 {
-    read_several(alloc, first, others)
+    match read_set(alloc, text) {
+        Ok(Some(set)) => sets.add(set),
+        Ok(None) => Ok(()),
+        Err(error) => Err(error),
+    }
 }
 
 // The text before the first `||` (or the whole text), and what follows the `||` if there is one: `1` and `|2` of
-// `1|||2`. `inline(always)`: one loop over the
-// bars, in each of its two callers.
+// `1|||2`. `inline(always)`: one loop over the bars, in each of its two callers.
 #[inline(always)]
-pub(crate) fn next_piece(text: &[u8]) -> (&[u8], Option<&[u8]>)
+fn next_piece(text: &[u8]) -> (&[u8], Option<&[u8]>)
     ensures { piece_seen result ≡ piece_at text.now }
 {
     let mut passed = 0;
     'bars: while let Some(at) = memchr(b'|', &text[passed..]) {
         let bar = passed + at;
-        let after = skip_bars(&text[bar..]);
-        if after.is_some() {
-            return (&text[..bar], after);
+        if let [b'|', b'|', after @ ..] = &text[bar..] {
+            return (&text[..bar], Some(after));
         }
         passed = bar + 1;
     }
     (text, None)
-}
-
-// ` 2` of `|| 2`
-#[inline(always)]
-fn skip_bars(text: &[u8]) -> Option<&[u8]>
-    ensures { some_seen result ≡ bars_after text.now }
-{
-    match text {
-        [b'|', b'|', rest @ ..] => Some(rest),
-        _ => None,
-    }
 }

@@ -1,14 +1,15 @@
 //! The words of a range text, and the comparator that each of them gives.
 //!
-//! `#[inline(always)]`: see `parse/partial.rt`.
+//! `#[inline(always)]`: see `partial.rt`.
 //!
 //! Each of npm's headings has a file, with one function by cases: a line for each row of npm's table.
 ghost use Rattle.std.specs.Prelude.{◌≡◌, List, None, Some, false};
 ghost use Rattle.semver_sets.specs.Comparator.{Comparator};
 ghost use Rattle.semver_sets.specs.Division.{IsAlternative};
 ghost use Rattle.semver_versions.specs.Characters.{BeginsWithNo, is_blank};
+ghost use Rattle.semver_versions.specs.Readers.Reading.{rest_of};
 ghost use Rattle.semver_sets.specs.Private.WordReading as Reading;
-ghost use Rattle.semver_sets.specs.Private.WordViews.{IsSound, ends_seen, lead_seen, partial_seen, some_word_seen, word_seen};
+ghost use Rattle.semver_sets.specs.Private.WordViews.{IsSound, ends_seen, lead_seen, partial_seen, word_seen};
 
 mod caret;
 mod ends;
@@ -17,26 +18,31 @@ mod operator;
 mod plain;
 mod tilde;
 
-use crate::parse::{Partial, read_clean_partial, skip_solid};
+use crate::partial::{Partial, read_clean_partial};
 use caret::caret_ends;
-pub(crate) use ends::{WordEnds, nothing};
+pub(crate) use ends::{Form, WordEnds, WrittenVersion};
+use ends::{nothing, of_one};
 pub(crate) use hyphen::read_leading_hyphen;
 use hyphen::{hyphen_ends, read_right};
-use operator::{Operator, operator_ends, read_operator};
+use memchr::memchr2;
+use operator::{above_ends, at_most_ends, below_ends, equal_ends};
 use plain::plain_ends;
 use semver_versions::parse::{begins_clean, skip_blanks};
 use tilde::{read_tilde, tilde_ends, tilde_greater_ends};
 
 // `>=1.2.3` of `>=1.2.3 <2`, or nothing for `foo`, and the rest
 #[inline(always)]
-#[tactic(auto, unfolding(crate::specs::Private::WordReading::read_word))]
 pub(crate) fn read_word(text: &[u8]) -> (WordEnds, &[u8])
     requires { BeginsWithNo is_blank text.now }
     ensures { word_seen result ≡ Reading.read_word text.now }
 {
-    match some_comparator(text) {
-        Some(word) => word,
-        None => (nothing(), skip_solid(text)),
+    let (lead, operand) = read_lead(text);
+    let Some((partial, rest)) = read_clean_partial(operand) else {
+        return (nothing(), skip_solid(text));
+    };
+    match (lead, rest) {
+        (Lead::Plain, [_, ..]) => plain_or_hyphen(partial, rest),
+        _ => (lead_ends(lead, partial), rest),
     }
 }
 
@@ -52,6 +58,17 @@ pub(crate) fn begins_comparator(text: &[u8]) -> bool
             ..
         ] => true,
         _ => false,
+    }
+}
+
+// ` <2` of `foo <2`
+#[inline]
+pub(crate) fn skip_solid(text: &[u8]) -> &[u8]
+    ensures { result.now ≡ rest_of Reading.is_solid text.now }
+{
+    match memchr2(b' ', b'\t', text) {
+        Some(end) => &text[end..],
+        None => &text[text.len()..],
     }
 }
 
@@ -72,37 +89,21 @@ pub(crate) fn skip_thrown_away(text: &[u8]) -> &[u8]
     rest
 }
 
-// Calls `read_comparator`. With this function between, the toolchain clears the place of its result only if it is
-// called.
-#[inline(always)]
-fn some_comparator(text: &[u8]) -> Option<(WordEnds, &[u8])>
-    requires { BeginsWithNo is_blank text.now }
-    ensures { some_word_seen result ≡ Reading.or_else (Reading.read_hyphen text.now) (Reading.read_simple text.now) }
-{
-    read_comparator(text)
-}
-
-// A word that is not ignored: its ends, or nothing if it gives no comparator (`=*` is such a word).
-#[inline(always)]
-fn read_comparator(text: &[u8]) -> Option<(WordEnds, &[u8])>
-    requires { BeginsWithNo is_blank text.now }
-    ensures { some_word_seen result ≡ Reading.or_else (Reading.read_hyphen text.now) (Reading.read_simple text.now) }
-{
-    let (lead, operand) = read_lead(text);
-    let (partial, rest) = read_clean_partial(operand)?;
-    match (lead, rest) {
-        (Lead::Plain, [_, ..]) => Some(plain_or_hyphen(partial, rest)),
-        _ => Some((lead_ends(lead, partial), rest)),
-    }
-}
-
 // What is written before the partial of a word.
 #[derive(Clone, Copy)]
 pub(crate) enum Lead {
     // nothing
     Plain,
     // `>=`
-    Operator(Operator),
+    AtLeast,
+    // `>`
+    Above,
+    // `=`
+    Equal,
+    // `<=`
+    AtMost,
+    // `<`
+    Below,
     // `~`
     Tilde,
     // `~>`
@@ -113,17 +114,19 @@ pub(crate) enum Lead {
 
 // `^` of `^ 1.2`, and the rest without its leading blanks
 #[inline(always)]
-#[tactic(auto, unfolding(crate::specs::Private::WordReading::read_lead))]
+#[tactic(auto, unfolding(crate::specs::Private::WordReading::read_lead, crate::specs::Private::WordReading::read_operator))]
 fn read_lead(text: &[u8]) -> (Lead, &[u8])
     ensures { (lead_seen result.0, result.1.now) ≡ Reading.read_lead text.now }
 {
     match text {
         [b'^', rest @ ..] => (Lead::Caret, skip_blanks(rest)),
         [b'~', rest @ ..] => read_tilde(rest),
-        _ => match read_operator(text) {
-            Some((operator, rest)) => (Lead::Operator(operator), skip_blanks(rest)),
-            None => (Lead::Plain, text),
-        },
+        [b'>', b'=', rest @ ..] => (Lead::AtLeast, skip_blanks(rest)),
+        [b'>', rest @ ..] => (Lead::Above, skip_blanks(rest)),
+        [b'=', rest @ ..] => (Lead::Equal, skip_blanks(rest)),
+        [b'<', b'=', rest @ ..] => (Lead::AtMost, skip_blanks(rest)),
+        [b'<', rest @ ..] => (Lead::Below, skip_blanks(rest)),
+        _ => (Lead::Plain, text),
     }
 }
 
@@ -135,7 +138,11 @@ fn lead_ends(lead: Lead, partial: Partial) -> WordEnds
 {
     match lead {
         Lead::Plain => plain_ends(partial),
-        Lead::Operator(operator) => operator_ends(operator, partial),
+        Lead::AtLeast => of_one(Form::AtLeast, partial.version),
+        Lead::Above => above_ends(partial),
+        Lead::Equal => equal_ends(partial),
+        Lead::AtMost => at_most_ends(partial),
+        Lead::Below => below_ends(partial),
         Lead::Tilde => tilde_ends(partial),
         Lead::TildeGreater => tilde_greater_ends(partial),
         Lead::Caret => caret_ends(partial),

@@ -1,16 +1,14 @@
 -- Range texts: each is divided at `||` in exactly one way.
-use Rattle.std.proofs.Common.{◌≡◌, ◌+◌, ◌-◌, ◌<◌, ◌≤◌, ℕ, zero, suc, true, false, List, [], ◌∷◌, ◌++◌, length, get_or}
+use Rattle.std.proofs.Common.{◌≡◌, ◌+◌, ◌-◌, ◌<◌, ◌≤◌, ℕ, zero, suc, false, List, [], ◌∷◌, ◌++◌, length, get_or}
 use Rattle.std.proofs.Common.{take, drop, Option, Some, None, append_assoc, length-append, arith, refl, sym, ap, subst}
 use Rattle.std.proofs.Common.{◌∙◌, inl, inr}
-use Rattle.std.specs.Borrow.{Bor}
-use Rattle.std.specs.Option.{is_some}
 use Rattle.std.specs.Prelude.{◌⊎◌, ◌==◌, ◌&&◌}
 use Rattle.std.proofs.lemmas.Bool.{and_parts, cases_Bool, eqb-true}
 use Rattle.std.proofs.lemmas.List.{append-nil, drop_all, get_or-drop, take_all}
 use Rattle.memchr.specs.Find.{Nowhere, Passes, is_byte}
 use Rattle.semver_versions.specs.Characters.{bar}
 use Rattle.semver_sets.specs.Division.{EndsInBar, HasBars, HasFirstPiece, IsPieces}
-use Rattle.semver_sets.specs.Private.PieceReading.{Piece, bars_after, behind, piece_at, some_seen}
+use Rattle.semver_sets.specs.Private.PieceReading.{Piece, bars_after, behind, piece_at}
 use Rattle.semver_versions.specs.Lemmas.Texts.Places.{at-place, take-more}
 
 -- ---- `||`
@@ -22,6 +20,29 @@ bars-cases (b ∷ []) = inl refl
 bars-cases (b ∷ c ∷ rest) = elim (cases_Bool ((b == bar) && (c == bar))) [
   | inl bars ↦ inr (rest, rw bars refl)
   | inr none ↦ inl (rw none refl)
+]
+
+-- the same by its first two bytes
+pub two-bars : (text : List ℕ) → 1 < length text → get_or text 0 0 ≡ 124 → get_or text 1 0 ≡ 124
+    → Some (take (length text - 2) (drop 2 text)) ≡ bars_after text
+two-bars [] some one two = absurd (omega arith)
+two-bars (b ∷ []) some one two = absurd (omega arith)
+two-bars (b ∷ c ∷ rest) some one two =
+    let first : b ≡ 124 = one in
+    let second : c ≡ 124 = two in
+    let read : bars_after (b ∷ c ∷ rest) ≡ Some rest = rw (first, second) refl in
+    let whole : take (length (b ∷ c ∷ rest) - 2) rest ≡ rest = take_all (length (b ∷ c ∷ rest) - 2) rest (omega arith) in
+    ap (λ (l : List ℕ). Some l) whole ∙ sym read
+
+pub not-bars : (text : List ℕ) → (1 < length text → get_or text 0 0 ≡ 124 → get_or text 1 0 ≡ 124 → ⊥)
+    → None ≡ bars_after text
+not-bars [] other = refl
+not-bars (b ∷ []) other = refl
+not-bars (b ∷ c ∷ rest) other = elim (cases_Bool ((b == bar) && (c == bar))) [
+  | inr none ↦ rw none refl
+  | inl both ↦
+      let parts = and_parts _ _ both in
+      absurd (other (omega arith) (eqb-true b bar parts.0) (eqb-true c bar parts.1))
 ]
 
 -- if it does, it is two bars and the rest
@@ -259,26 +280,24 @@ abbrev pub Passed : List ℕ → ℕ → Type 0
 Passed text i = piece_at text ≡ behind (take i text) (piece_at (drop i text))
 
 -- one character more
-pub seen-step : (text : List ℕ) (i : ℕ) (after : Option (Bor (List ℕ))) → i < length text → is_some after ≡ false
-    → some_seen after ≡ bars_after (drop i text) → Passed text i → Passed text (i + 1)
-seen-step text i (Some r) h none seen passed = cc none
-seen-step text i None h none seen passed =
+pub seen-step : (text : List ℕ) (i : ℕ) → i < length text → None ≡ bars_after (drop i text) → Passed text i
+    → Passed text (i + 1)
+seen-step text i h none passed =
     let here = at-place text i h in
     let more = drop (i + 1) text in
     let b = get_or text i 0 in
     let read : piece_at (drop i text) ≡ (b ∷ (piece_at more).0, (piece_at more).1) =
-    ap piece_at here ∙ piece-step b more (sym (seen ∙ ap bars_after here)) in
+    ap piece_at here ∙ piece-step b more (sym (none ∙ ap bars_after here)) in
     passed ∙ ap (behind (take i text)) read
     ∙ ap (λ (l : List ℕ). (l, (piece_at more).1)) (sym (append_assoc (take i text) (b ∷ []) (piece_at more).0))
     ∙ ap (λ (l : List ℕ). (l ++ (piece_at more).0, (piece_at more).1)) (sym (take-more text i h))
 
 -- the piece ends where `||` begins
-pub seen-stop : (text : List ℕ) (i : ℕ) (after : Option (Bor (List ℕ))) → i < length text → is_some after ≡ true
-    → some_seen after ≡ bars_after (drop i text) → Passed text i → (take i text, some_seen after) ≡ piece_at text
-seen-stop text i None h some seen passed = cc some
-seen-stop text i (Some r) h some seen passed =
-    let read = piece-stop (drop i text) r.now (sym seen) in
-    ap (λ (l : List ℕ). (l, Some r.now)) (sym (append-nil (take i text))) ∙ ap (behind (take i text)) (sym read)
+pub seen-stop : (text after : List ℕ) (i : ℕ) → Some after ≡ bars_after (drop i text) → Passed text i
+    → (take i text, Some after) ≡ piece_at text
+seen-stop text after i seen passed =
+    let read = piece-stop (drop i text) after (sym seen) in
+    ap (λ (l : List ℕ). (l, Some after)) (sym (append-nil (take i text))) ∙ ap (behind (take i text)) (sym read)
     ∙ sym passed
 
 -- and so it does at the end of the text
@@ -304,7 +323,7 @@ pass-free text i (suc n) h free passed =
     let none : bars_after (drop (i + n) text) ≡ None =
     ap bars_after (at-place text (i + n) (omega arith))
     ∙ no-bars-here (get_or text (i + n) 0) (drop (i + n + 1) text) (free (i + n) (omega arith) (omega arith)) in
-    let after : Passed text (i + n + 1) = seen-step text (i + n) None (omega arith) refl (sym none) before in
+    let after : Passed text (i + n + 1) = seen-step text (i + n) (omega arith) (sym none) before in
     subst (Passed text) (omega arith) after
 
 free-from : (text hay : List ℕ) (i n : ℕ) → hay ≡ drop i text → Nowhere (Passes (is_byte bar) hay) 0 n

@@ -71,7 +71,7 @@ none-gathered text sets answer are same is = refused-from_empty text sets are (s
 
 -- ---- a text that is read is not refused
 
-not-refused : (text : List ℕ) (sets : List (Ends VersionValue)) → AreSetsOfText text sets → IsRangeValue sets
+pub not-refused : (text : List ℕ) (sets : List (Ends VersionValue)) → AreSetsOfText text sets → IsRangeValue sets
     → ¬ IsRefused text
 not-refused text sets are value refused = value.some (empty-from_refused text sets are refused)
 

@@ -1,5 +1,8 @@
 -- One comparator more, merged with those before it.
-use Rattle.std.proofs.Common.{◌≡◌, Bool, true, false, List, [], ◌∷◌, ◌++◌, refl, subst, inl, inr}
+use Rattle.std.proofs.Common.{◌≡◌, Bool, true, false, List, [], ◌∷◌, ◌++◌, Option, None, Some, refl, subst, sym}
+use Rattle.std.proofs.Common.{inl, inr}
+use Rattle.std.proofs.lemmas.List.{append-nil}
+use Rattle.std.specs.Prelude.{IfSome}
 use Rattle.semver_cuts.specs.declared.cut.Cut.{Cut}
 use Rattle.semver_cuts.specs.declared.cut.Cut.TheVariants.{Start, Before, After, End}
 use Rattle.semver_cuts.specs.Ends.{span_between}
@@ -9,6 +12,7 @@ use Rattle.semver_sets.specs.Comparator.{Comparator}
 use Rattle.semver_versions.specs.Comparison.{version_cmp}
 use Rattle.semver_sets.specs.Merging.{IsSetOf}
 use Rattle.semver_sets.specs.Private.RangeViews.{IsCommonSpan, common_seen}
+use Rattle.semver_sets.specs.Private.WordViews.{listed}
 use Rattle.semver_versions.specs.Version.{VersionValue}
 use Rattle.semver_versions.specs.Lemmas.Order.{version_total}
 use Rattle.semver_sets.specs.Lemmas.Merging.{set-one, set-push}
@@ -30,7 +34,7 @@ upper-from_end (After v) kept (inr h) = absurd (below-not-at_most version_total 
 upper-from_end End kept (inr h) = h.1
 
 -- one comparator more than those that are merged so far, which may be none
-pub merged-push : (found : Bool) (lower upper greatest least : Cut VersionValue) (later : Comparator)
+merged-push : (found : Bool) (lower upper greatest least : Cut VersionValue) (later : Comparator)
     → (found ≡ false → (lower ≡ Start) × (upper ≡ End)) → IsLaterGreatest version_cmp lower later.lower greatest
     → IsEarlierLeast version_cmp upper later.upper least → (comparators : List Comparator)
     → IsCommonSpan comparators (common_seen found lower upper)
@@ -45,3 +49,21 @@ merged-push false lower upper greatest least later all l u comparators merged =
     let begins = lower-from_start later.lower greatest from_start in
     let ends = upper-from_end later.upper least from_end in
     rw (merged, begins, ends) (set-one later)
+
+-- the same for a word, which gives a comparator with these ends, or none
+pub merged-some : (found : Bool) (lower upper low high greatest least : Cut VersionValue) (word : Option Comparator)
+    → (found ≡ false → (lower ≡ Start) × (upper ≡ End)) → (word ≡ None → ⊥) → IfSome word (λ c. c.lower ≡ low)
+    → IfSome word (λ c. c.upper ≡ high) → IsLaterGreatest version_cmp lower low greatest
+    → IsEarlierLeast version_cmp upper high least → (comparators : List Comparator)
+    → IsCommonSpan comparators (common_seen found lower upper)
+    → IsSetOf (comparators ++ listed word) (span_between greatest least)
+merged-some found lower upper low high greatest least None all some begins ends l u = absurd (some refl)
+merged-some found lower upper low high greatest least (Some later) all some begins ends l u =
+    merged-push found lower upper greatest least later all
+    (subst (λ (c : Cut VersionValue). IsLaterGreatest version_cmp lower c greatest) (sym begins) l)
+    (subst (λ (c : Cut VersionValue). IsEarlierLeast version_cmp upper c least) (sym ends) u)
+
+pub merged-none : (comparators : List Comparator) (common : Option Comparator) → IsCommonSpan comparators common
+    → IsCommonSpan (comparators ++ []) common
+merged-none comparators common merged =
+    subst (λ (l : List Comparator). IsCommonSpan l common) (sym (append-nil comparators)) merged

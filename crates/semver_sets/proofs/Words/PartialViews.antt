@@ -1,9 +1,10 @@
 -- Partials, as the readers see them.
-use Rattle.std.proofs.Common.{◌≡◌, ◌≢◌, ◌<◌, ◌≤◌, ℕ, arith, ◌-◌, drop, get_or, length, take, false, true, List, [], ◌∷◌}
-use Rattle.std.proofs.Common.{Ok, Option, Some, None, refl, sym, ap, ◌∙◌}
+use Rattle.std.proofs.Common.{◌≡◌, ◌≢◌, ◌<◌, ◌≤◌, ℕ, arith, ◌-◌, drop, get_or, length, take, true, List, [], ◌∷◌}
+use Rattle.std.proofs.Common.{Ok, Err, Option, Some, None, refl, subst, sym, ap, ◌∙◌}
 use Rattle.std.proofs.lemmas.Bool.{ne_eqb}
 use Rattle.std.proofs.lemmas.List.{take_all}
 use Rattle.semver_versions.specs.declared.TheConstants.{MAX_SAFE_INTEGER}
+use Rattle.semver_versions.specs.declared.parse.fault.Fault.{Fault}
 use Rattle.semver_versions.specs.Lemmas.Texts.CleanExtras.{clean_extras}
 use Rattle.semver_versions.specs.Characters.{BeginsWith, BeginsWithNo, dot, is_blank, is_digit, is_partial_mark, is_x}
 use Rattle.semver_sets.specs.PartialText.{Partial, plain_partial}
@@ -35,6 +36,12 @@ behind-first first (b ∷ rest) some h =
     ap (λ (c : ℕ). c ∷ rest) h
     ∙ ap (λ (l : List ℕ). first ∷ l) (sym (take_all (length (b ∷ rest) - 1) rest (omega arith)))
 
+-- a number before a dot
+pub dotted-number : (text behind : List ℕ) (number : ℕ) → Ok (number, behind) ≡ read_number text → 0 < length behind
+    → get_or behind 0 0 ≡ 46 → Ok (number, dot ∷ take (length behind - 1) (drop 1 behind)) ≡ read_number text
+dotted-number text behind number read some first =
+    subst (λ (l : List ℕ). Ok (number, l) ≡ read_number text) (behind-first 46 behind some first) read
+
 -- a number that is read is a component
 pub component-number : (text rest : List ℕ) (number : ℕ) → Ok (number, rest) ≡ read_number text → BeginsWithNo is_x text
     → Some (Some number, rest) ≡ read_component text
@@ -51,25 +58,37 @@ no-extras : read_extras [] ≡ (([], []), [])
 no-extras = clean_extras [] refl
 
 -- where no dot follows, there is no component more
-pub minor-none : (major : Option ℕ) (text : List ℕ) (p : Partial) → None ≡ after_dot text
+pub no-dot : (text : List ℕ) → (0 < length text → get_or text 0 0 ≢ 46) → None ≡ after_dot text
+no-dot [] h = refl
+no-dot (b ∷ rest) h = rw (ne_eqb b 46 (h (omega arith))) refl
+
+minor-none : (major : Option ℕ) (text : List ℕ) (p : Partial) → None ≡ after_dot text
     → p ≡ with_extras major None None (read_extras []).0 → Some (p, text) ≡ read_from_minor major text
 minor-none major text p none whole = rw (← none, whole, no-extras) refl
 
-pub patch-none : (major minor : Option ℕ) (text : List ℕ) (p : Partial) → None ≡ after_dot text
+patch-none : (major minor : Option ℕ) (text : List ℕ) (p : Partial) → None ≡ after_dot text
     → p ≡ with_extras major minor None (read_extras []).0 → Some (p, text) ≡ read_from_patch major minor text
 patch-none major minor text p none whole = rw (← none, whole, no-extras) refl
 
--- a text that has no digit first begins with none
-pub no-digit_first : (text : List ℕ) → (0 < length text → is_digit (get_or text 0 0) ≡ false)
-    → BeginsWithNo is_digit text
-no-digit_first [] h = tt
-no-digit_first (b ∷ rest) h = h (omega arith)
+-- neither an x nor a number is no component
+pub no-component : (text : List ℕ) (fault : Fault) → BeginsWithNo is_x text → Err fault ≡ read_number text
+    → None ≡ read_component text
+unfolding read_component
+no-component [] fault x none = refl
+no-component (b ∷ text) fault x none = rw (x, ← none) refl
 
--- neither an x nor a digit is no component
-pub no-component : (text : List ℕ) → BeginsWithNo is_x text → BeginsWithNo is_digit text → None ≡ read_component text
-unfolding read_component read_number
-no-component [] x digit = refl
-no-component (b ∷ text) x digit = rw (x, digit) refl
+-- one component, or two
+pub major-alone : (text rest : List ℕ) (major : Option ℕ) (p : Partial) → Some (major, rest) ≡ read_component text
+    → None ≡ after_dot rest → p ≡ with_extras major None None (read_extras []).0 → Some (p, rest) ≡ read_components text
+unfolding read_components
+major-alone text rest major p read none whole = rw (← read) (minor-none major rest p none whole)
+
+pub major-and-minor : (text behind second rest : List ℕ) (major minor : Option ℕ) (p : Partial)
+    → Some (major, behind) ≡ read_component text → behind ≡ dot ∷ second → Some (minor, rest) ≡ read_component second
+    → None ≡ after_dot rest → p ≡ with_extras major minor None (read_extras []).0 → Some (p, rest) ≡ read_components text
+unfolding read_components
+major-and-minor text behind second rest major minor p one dotted two none whole =
+    rw (← one, dotted, ← two) (patch-none major minor rest p none whole)
 
 -- ---- full versions
 
@@ -80,7 +99,7 @@ digit-begins [] digit = absurd digit
 digit-begins (b ∷ text) digit = rw (digit-no_partial_mark b digit, digit-no_blank (b ∷ text) digit) refl
 
 -- a number as a component
-number-component : (text rest : List ℕ) (number : ℕ) → Ok (number, rest) ≡ read_number text
+pub number-component : (text rest : List ℕ) (number : ℕ) → Ok (number, rest) ≡ read_number text
     → Some (Some number, rest) ≡ read_component text
 number-component text rest number h = component-number text rest number h
     (digit-begins_no_x text (number-digit text rest number h))
@@ -100,9 +119,9 @@ module _ (text second third : List ℕ) (major minor patch : ℕ) (one : Ok (maj
   unfolding read_version read_unmarked read_triple read_dot
   full-version digit = rw (version-begins text digit, ← one, ← two, ← three, no-extras) refl
 
-  pub full-text : IsFullNumbers text major minor patch
+  pub full-numbers : IsFullNumbers text major minor patch
   unfolding read_partial
-  full-text =
+  full-numbers =
       let digit = number-digit text (dot ∷ second) major one in
       record {
         digit = digit;

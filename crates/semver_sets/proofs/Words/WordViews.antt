@@ -1,43 +1,31 @@
 -- Words, as the readers see them.
 use Rattle.std.proofs.Common.{◌≡◌, ◌≢◌, ◌⊎◌, ◌<◌, ◌≤◌, ℕ, arith, get_or, length, false, List, [], ◌∷◌, Option}
 use Rattle.std.proofs.Common.{Some, None, refl, sym, ap, ◌∙◌, inl, inr}
-use Rattle.std.proofs.lemmas.Bool.{and_parts, cases_Bool, eqb-true, leb-true, ne_eqb}
+use Rattle.std.proofs.lemmas.Bool.{and_parts, cases_Bool, leb-true, ne_eqb}
 use Rattle.std.proofs.lemmas.Option.{same_Some}
-use Rattle.std.specs.Prelude.{◌==◌}
-use Rattle.semver_versions.specs.Characters.{BeginsWithNo, caret, is_blank, is_digit, tilde}
-use Rattle.semver_sets.specs.Operators.{Operator as SpecOperator}
+use Rattle.semver_versions.specs.Characters.{BeginsWithNo, is_blank, is_digit}
 use Rattle.semver_sets.specs.PartialText.{Partial}
 use Rattle.semver_versions.specs.Readers.Reading.{begins, read_number, rest_of, skip_one}
 use Rattle.semver_sets.specs.Private.WordReading.{Lead, ReadPartial, Word, caret_lead, lead_comparator, no_lead, operator}
 use Rattle.semver_versions.specs.Readers.Reading.{is_clean}
-use Rattle.semver_sets.specs.Private.WordReading.{or_else, read_component, read_components, read_hyphen, read_lead}
+use Rattle.semver_sets.specs.Private.WordReading.{is_solid, or_else, or_thrown_away, read_component}
+use Rattle.semver_sets.specs.Private.WordReading.{read_components, read_hyphen, read_lead, read_word}
 use Rattle.semver_sets.specs.Private.WordReading.{read_operator, read_partial, read_right, read_simple, said}
 use Rattle.semver_sets.specs.Private.WordReading.{said_hyphen, tilde_greater_lead, tilde_lead, up_to_clean, with_left}
-use Rattle.semver_sets.specs.Private.WordViews.{lead_seen}
+use Rattle.semver_sets.specs.Private.WordViews.{form_comparator, lead_seen}
 use Rattle.semver_sets.specs.declared.word.Lead.{Lead as CodeLead}
-use Rattle.semver_sets.specs.declared.word.Lead.TheVariants.{Caret, Operator, Plain, Tilde, TildeGreater}
+use Rattle.semver_sets.specs.declared.word.Lead.TheVariants.{Above, AtLeast, AtMost, Below, Caret, Equal, Plain}
+use Rattle.semver_sets.specs.declared.word.Lead.TheVariants.{Tilde, TildeGreater}
+use Rattle.semver_sets.specs.declared.word.ends.Form.{Form}
+use Rattle.semver_sets.specs.declared.word.ends.Form.TheVariants.{Above as FormAbove, AtLeast as FormAtLeast}
+use Rattle.semver_sets.specs.declared.word.ends.Form.TheVariants.{AtMost as FormAtMost, AtMostLeast, BareUpTo}
+use Rattle.semver_sets.specs.declared.word.ends.Form.TheVariants.{Below as FormBelow, BelowLeast, Equal as FormEqual}
+use Rattle.semver_sets.specs.declared.word.ends.Form.TheVariants.{Exactly, Nothing, Through, UpTo}
+use Rattle.semver_versions.specs.Version.{VersionValue}
 use Rattle.semver_sets.proofs.Words.LeadReading.{lead-not_partial, lead-plain}
 use Rattle.semver_versions.specs.Lemmas.Texts.Prefixes.{with_no-begins}
 
 -- ---- leads
-
--- neither a caret nor a tilde begins an operator
-operator-first : (b : ℕ) (text rest : List ℕ) (o : SpecOperator) → Some (o, rest) ≡ read_operator (b ∷ text)
-    → ((b == caret) ≡ false) × ((b == tilde) ≡ false)
-unfolding read_operator
-operator-first b text rest o h = (
-  elim (cases_Bool (b == caret)) [ inl here ↦ cc (rw (eqb-true b caret here) at h) | inr other ↦ other ],
-  elim (cases_Bool (b == tilde)) [ inl here ↦ cc (rw (eqb-true b tilde here) at h) | inr other ↦ other ],
-)
-
--- an operator is a lead
-pub lead-operator : (text rest : List ℕ) (o : SpecOperator) → Some (o, rest) ≡ read_operator text
-    → (operator o, rest_of is_blank rest) ≡ read_lead text
-unfolding read_lead
-lead-operator [] rest o h = unfold read_operator in cc h
-lead-operator (b ∷ text) rest o h =
-    let first = operator-first b text rest o h in
-    rw (first.0, first.1, ← h) refl
 
 -- a lead, or none
 pub lead-cases : (l : Lead) → (l ≡ no_lead) ⊎ (l ≡ no_lead → ⊥)
@@ -50,10 +38,31 @@ lead-cases caret_lead = inr (λ h. cc h)
 -- the plain one of the code
 pub plain-seen : (l : CodeLead) → lead_seen l ≡ no_lead → l ≡ Plain
 plain-seen Plain h = refl
-plain-seen (Operator o) h = cc h
+plain-seen AtLeast h = cc h
+plain-seen Above h = cc h
+plain-seen Equal h = cc h
+plain-seen AtMost h = cc h
+plain-seen Below h = cc h
 plain-seen Tilde h = cc h
 plain-seen TildeGreater h = cc h
 plain-seen Caret h = cc h
+
+-- ---- ends
+
+-- every form but one has a comparator
+pub some-comparator : (f : Form) (v w : VersionValue) → (f ≡ Nothing → ⊥) → form_comparator f v w ≡ None → ⊥
+some-comparator Nothing v w other none = other refl
+some-comparator FormAtLeast v w other none = cc none
+some-comparator FormAbove v w other none = cc none
+some-comparator FormBelow v w other none = cc none
+some-comparator BelowLeast v w other none = cc none
+some-comparator FormAtMost v w other none = cc none
+some-comparator AtMostLeast v w other none = cc none
+some-comparator Exactly v w other none = cc none
+some-comparator FormEqual v w other none = cc none
+some-comparator UpTo v w other none = cc none
+some-comparator BareUpTo v w other none = cc none
+some-comparator Through v w other none = cc none
 
 -- ---- hyphens
 
@@ -146,6 +155,15 @@ word-led text operand rest l p solid led read end = elim (lead-cases l) [
       rw (plain, at-plain text operand solid here, left-some (read_partial operand) p rest read, none, ← read) refl
   | inr some ↦ rw (at-led text operand l solid led some, ← read) refl
 ]
+
+-- a word that gives a comparator is read as it, and every other word is passed over
+pub kept : (text : List ℕ) (word : Word) → Some word ≡ comparator_at text → word ≡ read_word text
+unfolding read_word
+kept text word some = ap (λ (w : Option Word). or_thrown_away w text) some
+
+pub thrown : (text : List ℕ) → None ≡ comparator_at text → (None, rest_of is_solid text) ≡ read_word text
+unfolding read_word
+thrown text none = ap (λ (w : Option Word). or_thrown_away w text) none
 
 -- ---- first bytes
 

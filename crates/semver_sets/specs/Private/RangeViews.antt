@@ -35,11 +35,6 @@ IsNarrowed before word after = (comparators : List Comparator) → IsCommonSpan 
 abbrev pub common_seen : Bool → Cut VersionValue → Cut VersionValue → Option Comparator
 common_seen found lower upper = if found then Some (span_between lower upper) else None
 
--- there was a comparator, and a cut lies in all of them
-abbrev pub HasSpan : Option Comparator → Type 0
-HasSpan None = ⊥
-HasSpan (Some common) = HoldsCut version_cmp common
-
 -- the same span if a cut lies in it; otherwise, or if there are no comparators, none
 abbrev pub IsSpanOf : Option Comparator → Option (Ends VersionValue) → Type 0
 IsSpanOf None span = span ≡ None

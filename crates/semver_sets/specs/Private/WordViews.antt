@@ -4,18 +4,18 @@ use Rattle.std.specs.Borrow.{Bor}
 use Rattle.semver_cuts.specs.declared.cut.Cut.{Cut}
 use Rattle.semver_cuts.specs.declared.cut.Cut.TheVariants.{Before, After}
 use Rattle.semver_sets.specs.Comparator.{Comparator, above, at_least, at_most, below, exactly, from_up_to}
-use Rattle.semver_sets.specs.Operators.{Operator, equal, greater, greater_or_equal, less, less_or_equal}
+use Rattle.semver_sets.specs.Operators.{equal, greater, greater_or_equal, less, less_or_equal}
 use Rattle.semver_sets.specs.PartialText.{Partial}
 use Rattle.semver_versions.specs.Version.{VersionValue, least_of, without_build}
 use Rattle.semver_versions.specs.Readers.Reading.{read_extras}
 use Rattle.semver_sets.specs.Private.WordReading as Reading
 use Rattle.semver_sets.specs.Private.WordReading.{ReadPartial, Word, with_extras}
 use Rattle.semver_versions.specs.declared.TheConstants.{MAX_SAFE_INTEGER}
-use Rattle.semver_sets.specs.declared.parse.partial.Component.{Component}
-use Rattle.semver_sets.specs.declared.parse.partial.Partial.{Partial as CodePartial}
-use Rattle.semver_sets.specs.declared.parse.partial.Shape.{Shape}
-use Rattle.semver_sets.specs.declared.parse.partial.Shape.TheVariants.{Full, Major, MajorMinor, MajorPatch, Minor}
-use Rattle.semver_sets.specs.declared.parse.partial.Shape.TheVariants.{MinorPatch, Nothing, Patch}
+use Rattle.semver_sets.specs.declared.partial.Component.{Component}
+use Rattle.semver_sets.specs.declared.partial.Partial.{Partial as CodePartial}
+use Rattle.semver_sets.specs.declared.partial.Shape.{Shape}
+use Rattle.semver_sets.specs.declared.partial.Shape.TheVariants.{Full, Major, MajorMinor, MajorPatch, Minor}
+use Rattle.semver_sets.specs.declared.partial.Shape.TheVariants.{MinorPatch, Nothing, Patch}
 use Rattle.semver_sets.specs.declared.word.ends.WordEnds.{WordEnds}
 use Rattle.semver_sets.specs.declared.word.ends.Form.{Form}
 use Rattle.semver_sets.specs.declared.word.ends.Form.TheVariants.{Above as AboveForm, AtLeast as AtLeastForm}
@@ -27,10 +27,8 @@ use Rattle.semver_sets.specs.declared.word.ends.Form.TheVariants.{Through as Thr
 use Rattle.semver_sets.specs.declared.word.ends.WrittenVersion.{WrittenVersion}
 use Rattle.semver_sets.specs.declared.word.hyphen.RightEnd.{RightEnd}
 use Rattle.semver_sets.specs.declared.word.Lead.{Lead}
-use Rattle.semver_sets.specs.declared.word.Lead.TheVariants.{Caret, Operator as OperatorLead, Plain, Tilde}
-use Rattle.semver_sets.specs.declared.word.Lead.TheVariants.{TildeGreater}
-use Rattle.semver_sets.specs.declared.word.operator.Operator.{Operator as CodeOperator}
-use Rattle.semver_sets.specs.declared.word.operator.Operator.TheVariants.{Above, AtLeast, AtMost, Below, Equal}
+use Rattle.semver_sets.specs.declared.word.Lead.TheVariants.{Above, AtLeast, AtMost, Below, Caret, Equal, Plain}
+use Rattle.semver_sets.specs.declared.word.Lead.TheVariants.{Tilde, TildeGreater}
 
 -- ---- partials
 
@@ -85,8 +83,9 @@ has_patch Nothing = false
 
 -- a partial, with the extras that its text of extras writes
 abbrev pub partial_seen : CodePartial → Partial
-partial_seen p = with_extras (number_if (has_major p.shape) p.major) (number_if (has_minor p.shape) p.minor)
-    (number_if (has_patch p.shape) p.patch) (read_extras p.extras.now).0
+partial_seen p = with_extras (number_if (has_major p.shape) p.version.major)
+    (number_if (has_minor p.shape) p.version.minor) (number_if (has_patch p.shape) p.version.patch)
+    (read_extras p.version.extras.now).0
 
 -- a partial and the rest, or none
 abbrev pub read_partial_seen : Option (CodePartial × Bor (List ℕ)) → ReadPartial
@@ -95,32 +94,23 @@ read_partial_seen (Some r) = Some (partial_seen r.0, r.1.now)
 
 -- no number is above the limit, and an absent number is stored as 0
 pub record IsSound (p : CodePartial) : Type 0 where
-  pub major_limit : p.major ≤ MAX_SAFE_INTEGER
-  pub minor_limit : p.minor ≤ MAX_SAFE_INTEGER
-  pub patch_limit : p.patch ≤ MAX_SAFE_INTEGER
-  pub no_major : has_major p.shape ≡ false → p.major ≡ 0
-  pub no_minor : has_minor p.shape ≡ false → p.minor ≡ 0
-  pub no_patch : has_patch p.shape ≡ false → p.patch ≡ 0
+  pub major_limit : p.version.major ≤ MAX_SAFE_INTEGER
+  pub minor_limit : p.version.minor ≤ MAX_SAFE_INTEGER
+  pub patch_limit : p.version.patch ≤ MAX_SAFE_INTEGER
+  pub no_major : has_major p.shape ≡ false → p.version.major ≡ 0
+  pub no_minor : has_minor p.shape ≡ false → p.version.minor ≡ 0
+  pub no_patch : has_patch p.shape ≡ false → p.version.patch ≡ 0
 
 -- ---- the beginning of a word, before its partial
-
--- the operator
-abbrev pub operator_seen : CodeOperator → Operator
-operator_seen AtLeast = greater_or_equal
-operator_seen Above = greater
-operator_seen Equal = equal
-operator_seen AtMost = less_or_equal
-operator_seen Below = less
-
--- an operator and the rest, or none
-abbrev pub read_operator_seen : Option (CodeOperator × Bor (List ℕ)) → Option (Operator × List ℕ)
-read_operator_seen None = None
-read_operator_seen (Some read) = Some (operator_seen read.0, read.1.now)
 
 -- the lead
 abbrev pub lead_seen : Lead → Reading.Lead
 lead_seen Plain = Reading.no_lead
-lead_seen (OperatorLead o) = Reading.operator (operator_seen o)
+lead_seen AtLeast = Reading.operator greater_or_equal
+lead_seen Above = Reading.operator greater
+lead_seen Equal = Reading.operator equal
+lead_seen AtMost = Reading.operator less_or_equal
+lead_seen Below = Reading.operator less
 lead_seen Tilde = Reading.tilde_lead
 lead_seen TildeGreater = Reading.tilde_greater_lead
 lead_seen Caret = Reading.caret_lead
@@ -173,11 +163,6 @@ right_end_seen e = if e.is_held then After (written_seen e.version) else Before 
 -- the word
 abbrev pub word_seen : WordEnds × Bor (List ℕ) → Word
 word_seen w = (ends_seen w.0, w.1.now)
-
--- the word, or none
-abbrev pub some_word_seen : Option (WordEnds × Bor (List ℕ)) → Option Word
-some_word_seen None = None
-some_word_seen (Some w) = Some (word_seen w)
 
 -- the comparator of a word, if it has one
 abbrev pub listed : Option Comparator → List Comparator

@@ -1,19 +1,25 @@
 //! Reading one alternative of a range text: the comparators of its words are merged as they are read.
+//!
+//! `#[inline(always)]`: most words have an end that no other word limits, which is one test. The rare rest is in
+//! functions with `#[inline(never)]`, so that it takes no stack in the loop over the words.
+//!
+//! See docs/DECISIONS.md, "Ties between equal ends are settled by position".
 ghost use Rattle.std.specs.Prelude.{◌≡◌, IfOk, None, OnOk};
+ghost use Rattle.semver_cuts.specs.KeptEnds.{IsEarlierLeast, IsLaterGreatest};
 ghost use Rattle.semver_versions.specs.Characters.{BeginsWithNo, is_blank};
-ghost use Rattle.semver_sets.specs.Private.RangeViews.{IsNarrowed, IsSetOfAlternative, IsSpanOfAlternative};
+ghost use Rattle.semver_versions.specs.Comparison.{version_cmp};
 ghost use Rattle.semver_versions.specs.Readers.Reading.{rest_of};
+ghost use Rattle.semver_sets.specs.Private.RangeViews.{IsNarrowed, IsSetOfAlternative, IsSpanOf, IsSpanOfAlternative};
 ghost use Rattle.semver_sets.specs.Private.WordReading as Reading;
 ghost use Rattle.semver_sets.specs.Private.WordReading.{leading_or_none, read_right};
-ghost use Rattle.semver_sets.specs.Private.WordViews.{ends_seen, word_seen};
+ghost use Rattle.semver_sets.specs.Private.WordViews.{ends_seen};
 
-use crate::comparator::CommonSpan;
-use crate::parse::skip_solid;
-use crate::word::{WordEnds, begins_comparator, nothing, read_leading_hyphen, read_word};
-use semver_cuts::Span;
+use crate::word::{Form, WordEnds, begins_comparator, read_leading_hyphen, read_word, skip_solid};
+use semver_cuts::{Cut, Span};
 use semver_versions::end::EndVersion;
-use semver_versions::parse::{skip_blanks, skip_some_blanks};
+use semver_versions::parse::skip_blanks;
 use std::alloc::{AllocError, Global};
+use std::marker::Model;
 
 // The set of an alternative, or `None` if it gives none. `inline(always)`: it has one call in each of two callers.
 #[inline(always)]
@@ -25,39 +31,29 @@ pub(crate) fn read_set(alloc: Global, text: &[u8]) -> Result<Option<Span<EndVers
     Ok(common.into_set())
 }
 
-// Merges the comparators of an alternative into one. `inline(never)`: its stack is then not part of the callers.
+// Merges the comparators of an alternative into one. If a first byte begins no comparator, nothing is prepared to read
+// one. `inline(never)`: its stack is then not part of the callers.
 #[inline(never)]
 fn merge_words(alloc: Global, text: &[u8], common: &mut CommonSpan) -> Result<(), AllocError>
     requires { common.old ≡ None }
     ensures { OnOk result (IsSpanOfAlternative text.now common.new) }
 {
-    let mut rest = merge_leading(alloc, text, common)?;
+    let mut rest = match text {
+        [b' ' | b'\t', ..] => merge_leading_hyphen(alloc, text, common)?,
+        _ => text,
+    };
     while !rest.is_empty() {
-        rest = merge_next(alloc, rest, common)?;
+        rest = if begins_comparator(rest) {
+            merge_word(alloc, rest, common)?
+        } else {
+            skip_blanks(skip_solid(rest))
+        };
     }
     Ok(())
 }
 
-// Merges a hyphen range without a left side, if the text begins with one, and returns the rest. `inline(always)`: few
-// texts begin with a blank, and the others need only this test.
-#[inline(always)]
-fn merge_leading<'a>(
-    alloc: Global,
-    text: &'a [u8],
-    common: &mut CommonSpan,
-) -> Result<&'a [u8], AllocError>
-    ensures rest { IfOk result (λ rest. rest.now
-        ≡ rest_of is_blank (leading_or_none (read_right text.now) text.now).1) }
-    ensures common { OnOk result (IsNarrowed common.old (leading_or_none (read_right text.now) text.now).0
-        common.new) }
-{
-    match skip_some_blanks(text) {
-        Some(_) => merge_leading_hyphen(alloc, text, common),
-        None => Ok(text),
-    }
-}
-
-// The same for any text. `inline(never)`: its stack is then not part of `merge_words`.
+// Merges the hyphen range without a left side that a text can begin with, and returns the rest: ` - 3`.
+// `inline(never)`: few texts begin with a blank.
 #[inline(never)]
 fn merge_leading_hyphen<'a>(
     alloc: Global,
@@ -69,32 +65,13 @@ fn merge_leading_hyphen<'a>(
     ensures common { OnOk result (IsNarrowed common.old (leading_or_none (read_right text.now) text.now).0
         common.new) }
 {
-    let (ends, rest) = skip_leading_hyphen(text);
-    keep(alloc, common, ends)?;
+    let (ends, rest) = read_leading_hyphen(text);
+    common.narrow(alloc, ends)?;
     Ok(skip_blanks(rest))
 }
 
-// Merges the comparator of the first word, and returns the text after that word and its blanks. If the first byte
-// begins no comparator, nothing is prepared to read one. `inline(always)`: this test is part of the loop.
-#[inline(always)]
-#[tactic(auto, unfolding(crate::specs::Private::WordReading::read_word))]
-fn merge_next<'a>(
-    alloc: Global,
-    text: &'a [u8],
-    common: &mut CommonSpan,
-) -> Result<&'a [u8], AllocError>
-    requires { BeginsWithNo is_blank text.now }
-    ensures rest { IfOk result (λ rest. rest.now ≡ rest_of is_blank (Reading.read_word text.now).1) }
-    ensures common { OnOk result (IsNarrowed common.old (Reading.read_word text.now).0 common.new) }
-{
-    if begins_comparator(text) {
-        merge_word(alloc, text, common)
-    } else {
-        Ok(skip_blanks(skip_solid(text)))
-    }
-}
-
-// The same for any word. `inline(never)`: one call a word, whose ends never leave its stack.
+// Merges the comparator of the first word, and returns the text after that word and its blanks. `inline(never)`: one
+// call a word, whose ends never leave its stack.
 #[inline(never)]
 fn merge_word<'a>(
     alloc: Global,
@@ -106,30 +83,122 @@ fn merge_word<'a>(
     ensures common { OnOk result (IsNarrowed common.old (Reading.read_word text.now).0 common.new) }
 {
     let (ends, rest) = read_word(text);
-    keep(alloc, common, ends)?;
+    common.narrow(alloc, ends)?;
     Ok(skip_blanks(rest))
 }
 
-// Merges the comparator of a word, if it gives one.
-// `inline(always)`: the ends of a word never leave the stack of `merge_word`.
-#[inline(always)]
-fn keep(alloc: Global, common: &mut CommonSpan, ends: WordEnds) -> Result<(), AllocError>
-    ensures { OnOk result (IsNarrowed common.old (ends_seen ends.entry) common.new) }
-{
-    if !ends.is_nothing() {
-        common.narrow(ends.comparator(alloc)?);
-    }
-    Ok(())
+// The span that the comparators so far have in common, and whether there was a comparator. It may contain no cut.
+#[derive(Drop)]
+struct CommonSpan {
+    found: bool,
+    lower: Cut<EndVersion>,
+    upper: Cut<EndVersion>,
 }
 
-// The hyphen range without a left side that a text can begin with: ` - 3`
-// `inline(always)`: it has one caller.
+impl Model for CommonSpan {
+    ghost use Rattle.std.specs.Prelude.{◌≡◌, false, Option};
+    ghost use Rattle.semver_cuts.specs.declared.cut.Cut.TheVariants.{Start, End};
+    ghost use Rattle.semver_cuts.specs.Ends.{Ends};
+    ghost use Rattle.semver_sets.specs.Private.RangeViews.{common_seen};
+    ghost use Rattle.semver_versions.specs.Version.{VersionValue};
+
+    ghost Value = { Option (Ends VersionValue) };
+
+    ghost view = { λ m. common_seen m.found m.lower m.upper };
+
+    ghost invariant = { λ m. m.found ≡ false → (m.lower ≡ Start) × (m.upper ≡ End) };
+}
+
+impl CommonSpan {
+    // No comparator so far: the span of all cuts.
+    #[inline(always)]
+    fn new() -> CommonSpan
+        ensures { result ≡ None }
+    {
+        CommonSpan {
+            found: false,
+            lower: Cut::Start,
+            upper: Cut::End,
+        }
+    }
+
+    // Intersects the span with the comparator of one more word, if that gives one. Of equal lower ends the later is
+    // kept, and of equal upper ends the earlier.
+    #[inline(always)]
+    fn narrow(&mut self, alloc: Global, word: WordEnds) -> Result<(), AllocError>
+        ensures { OnOk result (IsNarrowed self.old (ends_seen word.entry) self.new) }
+    {
+        if let Form::Nothing = word.form {
+            return Ok(());
+        }
+        let lower = word.lower_cut(alloc)?;
+        let upper = word.upper_cut(alloc)?;
+        keep_greatest(&mut self.lower, lower);
+        keep_least(&mut self.upper, upper);
+        self.found = true;
+        Ok(())
+    }
+
+    // The set that the comparators give, or `None` if there was no comparator or they share no cut.
+    #[inline(always)]
+    fn into_set(self) -> Option<Span<EndVersion>>
+        ensures { IsSpanOf self result }
+    {
+        if self.found && self.lower < self.upper {
+            Some(Span::between(self.lower, self.upper))
+        } else {
+            None
+        }
+    }
+}
+
+// Keeps the greater of two lower ends, and the later of equal ones. Usually one of them is `Start`.
 #[inline(always)]
-fn skip_leading_hyphen(text: &[u8]) -> (WordEnds, &[u8])
-    ensures { word_seen result ≡ leading_or_none (read_right text.now) text.now }
+fn keep_greatest(kept: &mut Cut<EndVersion>, later: Cut<EndVersion>)
+    ensures { IsLaterGreatest version_cmp kept.old later kept.new }
 {
-    match read_leading_hyphen(text) {
-        Some(word) => word,
-        None => (nothing(), text),
+    if let Cut::Start = later {
+        return;
+    }
+    if let Cut::Start = kept {
+        *kept = later;
+    } else {
+        keep_greater(kept, later);
+    }
+}
+
+// The same for any two lower ends.
+#[inline(never)]
+fn keep_greater(kept: &mut Cut<EndVersion>, later: Cut<EndVersion>)
+    ensures { IsLaterGreatest version_cmp kept.old later kept.new }
+{
+    if later < *kept {
+        return;
+    }
+    *kept = later;
+}
+
+// Keeps the lesser of two upper ends, and the earlier of equal ones. Usually one of them is `End`.
+#[inline(always)]
+fn keep_least(kept: &mut Cut<EndVersion>, later: Cut<EndVersion>)
+    ensures { IsEarlierLeast version_cmp kept.old later kept.new }
+{
+    if let Cut::End = later {
+        return;
+    }
+    if let Cut::End = kept {
+        *kept = later;
+    } else {
+        keep_lesser(kept, later);
+    }
+}
+
+// The same for any two upper ends.
+#[inline(never)]
+fn keep_lesser(kept: &mut Cut<EndVersion>, later: Cut<EndVersion>)
+    ensures { IsEarlierLeast version_cmp kept.old later kept.new }
+{
+    if later < *kept {
+        *kept = later;
     }
 }

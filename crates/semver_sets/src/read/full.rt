@@ -2,16 +2,13 @@
 //! and its set is built at once. Each kind has a function of its own.
 //!
 //! `#[inline(always)]`: the numbers stay in registers, and the set is built in the place of the caller's result.
-ghost use Rattle.std.specs.Prelude.{◌≡◌, ◌∷◌, ℕ, IfSome, List, Ok};
+ghost use Rattle.std.specs.Prelude.{◌≡◌, ℕ, IfSome, List};
 ghost use Rattle.semver_cuts.specs.Ends.{IsCutBelow};
 ghost use Rattle.semver_cuts.specs.declared.cut.Cut.TheVariants.{Before};
-ghost use Rattle.semver_versions.specs.Characters.{dot};
 ghost use Rattle.semver_versions.specs.Comparison.{version_cmp};
-ghost use Rattle.semver_versions.specs.Readers.Reading as Reading;
 ghost use Rattle.semver_versions.specs.Version as Versions;
 ghost use Rattle.semver_sets.specs.Comparator as Comparators;
 ghost use Rattle.semver_sets.specs.FullTexts.{IsFullText, full_set};
-ghost use Rattle.semver_sets.specs.Private.RangeViews.{IsFullNumbers};
 ghost use Rattle.semver_sets.specs.declared.read.full.FullLead.TheVariants as Leads;
 
 use semver_cuts::{Cut, Span};
@@ -39,30 +36,14 @@ pub fn read_full(text: &[u8]) -> Option<(FullLead, u64, u64, u64)>
         [b'~', rest @ ..] => (FullLead::Tilde, rest),
         _ => (FullLead::Nothing, text),
     };
-    let (major, minor, patch) = read_full_triple(version)?;
-    Some((lead, major, minor, patch))
-}
-
-// The numbers of `1.2.3`, if the whole text is three numbers of at most `MAX_SAFE_INTEGER` with two dots.
-#[inline(always)]
-fn read_full_triple(text: &[u8]) -> Option<(u64, u64, u64)>
-    ensures { IfSome result (λ t. IsFullNumbers text.now t.0 t.1 t.2) }
-{
-    let (major, rest) = read_dotted(text)?;
-    let (minor, rest) = read_dotted(rest)?;
+    let Ok((major, [b'.', rest @ ..])) = read_number(version) else {
+        return None;
+    };
+    let Ok((minor, [b'.', rest @ ..])) = read_number(rest) else {
+        return None;
+    };
     match read_number(rest) {
-        Ok((patch, [])) => Some((major, minor, patch)),
-        _ => None,
-    }
-}
-
-// 1 and `2.3` of `1.2.3`: a number before a dot, and what follows the dot
-#[inline(always)]
-fn read_dotted(text: &[u8]) -> Option<(u64, &[u8])>
-    ensures { IfSome result (λ r. Ok (r.0, dot ∷ r.1.now) ≡ Reading.read_number text.now) }
-{
-    match read_number(text) {
-        Ok((number, [b'.', rest @ ..])) => Some((number, rest)),
+        Ok((patch, [])) => Some((lead, major, minor, patch)),
         _ => None,
     }
 }

@@ -72,9 +72,10 @@ impl Gathered {
         ensures { OnOk result (self.new ≡ self.old ++ set ∷ []) }
     {
         if let Some(one) = self.one.take() {
-            push(&mut self.several, one)?;
+            self.several.push(one)?;
         }
-        push(&mut self.several, set)
+        self.several.push(set)?;
+        Ok(())
     }
 
     /// Returns the sets with the index of their list, or `None` if there are none.
@@ -98,15 +99,6 @@ impl Gathered {
             None => Ok(Some(Sets::Many(Searched::of(*several.allocator(), several)?))),
         }
     }
-}
-
-// Appends the set.
-#[inline(always)]
-fn push(sets: &mut Vec<Span<EndVersion>>, set: Span<EndVersion>) -> Result<(), AllocError>
-    ensures { OnOk result (sets.new.items ≡ sets.old.items ++ set ∷ []) }
-{
-    sets.push(set)?;
-    Ok(())
 }
 
 impl<'a> Gather<'a, EndVersion> for Gathered {

@@ -63,7 +63,11 @@ impl Searched {
         ensures { IfOk result (λ searched. searched ≡ sets.items) }
     {
         let places = Places::of(alloc, &sets)?;
-        let openings = openings_of_many(alloc, &sets)?;
+        let openings = if sets.len() <= FEW {
+            Vec::new(alloc)
+        } else {
+            openings(alloc, &sets)?
+        };
         Ok(Searched {
             sets,
             places,
@@ -117,18 +121,6 @@ impl Searched {
         }
         let openings = openings_at(&self.openings, version.triple());
         is_in_opened(&self.sets, openings, version, comparisons)
-    }
-}
-
-// The openings of more than a few sets, and none of fewer. Does not allocate for these.
-#[inline]
-fn openings_of_many(alloc: Global, sets: &[Span<EndVersion>]) -> Result<Vec<Opening>, AllocError>
-    ensures { IfOk result (λ openings. FEW < length sets.now → AreOpeningsOf sets.now openings.items) }
-{
-    if sets.len() <= FEW {
-        Ok(Vec::new(alloc))
-    } else {
-        openings(alloc, sets)
     }
 }
 

@@ -2,14 +2,11 @@
 //!
 //! All values are flat: one form, two triples and the text after them. `#[inline(always)]`: the constructors here only
 //! hand numbers on, and in registers if they are inlined.
-ghost use Rattle.std.specs.Prelude.{◌≡◌, ◌↔◌, ◌≤◌, ◌+◌, IfOk, IfSome, IsTrue, None, Some};
+ghost use Rattle.std.specs.Prelude.{◌≡◌, ◌≤◌, IfOk, IfSome, None, Some};
 ghost use Rattle.semver_sets.specs.Comparator as Comparators;
-ghost use Rattle.semver_sets.specs.PartialText as PartialText;
 ghost use Rattle.semver_versions.specs.Version as Versions;
-ghost use Rattle.semver_sets.specs.Private.WordViews.{IsSound, ends_seen, form_comparator, partial_seen, written_seen};
+ghost use Rattle.semver_sets.specs.Private.WordViews.{ends_seen, form_comparator, written_seen};
 
-use crate::comparator::Comparator;
-use crate::parse::Partial;
 use semver_cuts::Cut;
 use semver_versions::MAX_SAFE_INTEGER;
 use semver_versions::end::EndVersion;
@@ -22,7 +19,7 @@ pub(crate) struct WrittenVersion<'a> {
     pub(crate) major: u64,
     pub(crate) minor: u64,
     pub(crate) patch: u64,
-    extras: &'a [u8],
+    pub(crate) extras: &'a [u8],
 }
 
 // The form of the two ends. If a form has one version, it is the lower one.
@@ -57,7 +54,7 @@ pub(crate) enum Form {
 // The two ends of a comparator, or no comparator.
 #[derive(Clone, Copy)]
 pub(crate) struct WordEnds<'a> {
-    form: Form,
+    pub(crate) form: Form,
     lower: WrittenVersion<'a>,
     upper: WrittenVersion<'a>,
 }
@@ -74,29 +71,6 @@ pub(crate) fn release(major: u64, minor: u64, patch: u64) -> WrittenVersion<'sta
         patch,
         extras: b"",
     }
-}
-
-// The numbers of a partial, with 0 for each absent one, and its extras.
-#[inline(always)]
-pub(crate) fn zeroed(partial: Partial) -> WrittenVersion
-    requires { IsSound partial }
-    ensures { written_seen result ≡ PartialText.zeroed (partial_seen partial.entry) }
-{
-    WrittenVersion {
-        major: partial.major,
-        minor: partial.minor,
-        patch: partial.patch,
-        extras: partial.extras,
-    }
-}
-
-// The number that follows this one.
-#[inline(always)]
-pub(crate) fn next(number: u64) -> u64
-    requires { number ≤ MAX_SAFE_INTEGER }
-    ensures { result ≡ number + 1 }
-{
-    number + 1
 }
 
 // The ends of a form with one version.
@@ -190,7 +164,7 @@ pub(crate) fn with_major(major: u64) -> WordEnds<'static>
     requires { major ≤ MAX_SAFE_INTEGER }
     ensures { ends_seen result ≡ Some (Comparators.with_major major) }
 {
-    up_to(release(major, 0, 0), next(major), 0, 0)
+    up_to(release(major, 0, 0), major + 1, 0, 0)
 }
 
 // All versions with this major and this minor: `>=1.2.0 <1.3.0-0`
@@ -199,33 +173,13 @@ pub(crate) fn with_minor(major: u64, minor: u64) -> WordEnds<'static>
     requires { minor ≤ MAX_SAFE_INTEGER }
     ensures { ends_seen result ≡ Some (Comparators.with_minor major minor) }
 {
-    up_to(release(major, minor, 0), major, next(minor), 0)
+    up_to(release(major, minor, 0), major, minor + 1, 0)
 }
 
 impl<'a> WordEnds<'a> {
+    // Where the comparator begins. Allocates only for prerelease and build.
     #[inline(always)]
-    pub(crate) fn is_nothing(&self) -> bool
-        ensures { IsTrue result ↔ (ends_seen self.now ≡ None) }
-    {
-        match self.form {
-            Form::Nothing => true,
-            _ => false,
-        }
-    }
-
-    // The comparator with its ends built. Allocates only for prerelease and build.
-    #[inline(always)]
-    pub(crate) fn comparator(self, alloc: Global) -> Result<Comparator, AllocError>
-        requires { ¬ (ends_seen self ≡ None) }
-        ensures { IfOk result (λ c. ends_seen self.entry ≡ Some c) }
-    {
-        let lower = self.lower_cut(alloc)?;
-        let upper = self.upper_cut(alloc)?;
-        Ok(Comparator { lower, upper })
-    }
-
-    #[inline(always)]
-    fn lower_cut(&self, alloc: Global) -> Result<Cut<EndVersion>, AllocError>
+    pub(crate) fn lower_cut(&self, alloc: Global) -> Result<Cut<EndVersion>, AllocError>
         ensures { IfOk result (λ cut. IfSome (ends_seen self.now) (λ c. c.lower ≡ cut)) }
     {
         match self.form {
@@ -240,8 +194,9 @@ impl<'a> WordEnds<'a> {
         }
     }
 
+    // Where it ends.
     #[inline(always)]
-    fn upper_cut(&self, alloc: Global) -> Result<Cut<EndVersion>, AllocError>
+    pub(crate) fn upper_cut(&self, alloc: Global) -> Result<Cut<EndVersion>, AllocError>
         ensures { IfOk result (λ cut. IfSome (ends_seen self.now) (λ c. c.upper ≡ cut)) }
     {
         match self.form {

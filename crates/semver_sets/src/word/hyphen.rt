@@ -1,8 +1,8 @@
 //! `1.2 - 3`, and ` - 3` at the start of a range text
 //!
-//! `#[inline(always)]`: see `parse/partial.rt`. The functions with `#[inline(never)]` are called only if there is a
-//! hyphen, or a blank at the start. Each is called through a function of one line: the toolchain clears the place of a
-//! result where the calling function begins, and so only if it is called.
+//! `#[inline(always)]`: see `partial.rt`. `read_right_operand` is called only if there is a hyphen, and through a
+//! function of one line: the toolchain clears the place of a result where the calling function begins, and so only if
+//! it is called.
 ghost use Rattle.std.specs.Prelude.{◌≡◌, ◌∷◌, IfSome, Some, None};
 ghost use Rattle.semver_cuts.specs.declared.cut.Cut.TheVariants.{Before};
 ghost use Rattle.semver_versions.specs.Characters.{hyphen};
@@ -11,10 +11,10 @@ ghost use Rattle.semver_sets.specs.PartialText as PartialText;
 ghost use Rattle.semver_versions.specs.Version as Versions;
 ghost use Rattle.semver_sets.specs.Private.WordReading as Reading;
 ghost use Rattle.semver_sets.specs.Private.WordViews.{IsSound, ends_seen, partial_seen, read_partial_seen};
-ghost use Rattle.semver_sets.specs.Private.WordViews.{right_end_seen, some_word_seen};
+ghost use Rattle.semver_sets.specs.Private.WordViews.{right_end_seen, word_seen};
 
-use crate::parse::{Partial, Shape, read_clean_partial};
-use crate::word::ends::{Form, WordEnds, WrittenVersion, next, of_one, of_two, release, zeroed};
+use crate::partial::{Partial, Shape, read_clean_partial};
+use crate::word::ends::{Form, WordEnds, WrittenVersion, nothing, of_one, of_two, release};
 use semver_versions::parse::skip_some_blanks;
 
 // `3` and ` <5` of ` - 3 <5`: the right side of a hyphen range, with the blanks around the hyphen
@@ -48,30 +48,15 @@ fn read_right_operand(text: &[u8]) -> Option<(Partial, &[u8])>
     read_clean_partial(skip_some_blanks(text)?)
 }
 
-// ` - 3` at the start of a range text: a hyphen range without a left side. Few texts begin with a blank.
+// The hyphen range without a left side that a text can begin with: ` - 3`
 #[inline(always)]
-#[tactic(auto, unfolding(crate::specs::Private::WordReading::read_right))]
-pub(crate) fn read_leading_hyphen(text: &[u8]) -> Option<(WordEnds, &[u8])>
-    ensures { some_word_seen result ≡ Reading.said_hyphen None (Reading.read_right text.now) }
+pub(crate) fn read_leading_hyphen(text: &[u8]) -> (WordEnds, &[u8])
+    ensures { word_seen result ≡ Reading.leading_or_none (Reading.read_right text.now) text.now }
 {
-    skip_some_blanks(text)?;
-    right_alone(text)
-}
-
-// Calls `read_right_alone`; see the top of this file.
-#[inline(always)]
-fn right_alone(text: &[u8]) -> Option<(WordEnds, &[u8])>
-    ensures { some_word_seen result ≡ Reading.said_hyphen None (Reading.read_right text.now) }
-{
-    read_right_alone(text)
-}
-
-#[inline(never)]
-fn read_right_alone(text: &[u8]) -> Option<(WordEnds, &[u8])>
-    ensures { some_word_seen result ≡ Reading.said_hyphen None (Reading.read_right text.now) }
-{
-    let (right, rest) = read_right(text)?;
-    Some((below_right(right), rest))
+    match read_right(text) {
+        Some((right, rest)) => (below_right(right), rest),
+        None => (nothing(), text),
+    }
 }
 
 // `1.2 - 3` is `>=1.2.0 <4.0.0-0`.
@@ -88,7 +73,7 @@ pub(crate) fn hyphen_ends<'a>(left: Partial<'a>, right: Partial<'a>) -> WordEnds
     } else {
         Form::UpTo
     };
-    of_two(form, zeroed(left), upper.version)
+    of_two(form, left.version, upper.version)
 }
 
 // ` - 3` is `<4.0.0-0`.
@@ -120,15 +105,15 @@ fn right_end(partial: Partial) -> RightEnd
     ensures { let p = partial_seen partial.entry in
         right_end_seen result ≡ HyphenRanges.right_row p.major p.minor p.patch (PartialText.zeroed p) }
 {
-    let Partial { major, minor, .. } = partial;
+    let WrittenVersion { major, minor, .. } = partial.version;
     match partial.shape {
         Shape::Nothing => below_triple(0, 0, 0),
-        Shape::Major => below_triple(next(major), 0, 0),
-        Shape::MajorMinor => below_triple(major, next(minor), 0),
+        Shape::Major => below_triple(major + 1, 0, 0),
+        Shape::MajorMinor => below_triple(major, minor + 1, 0),
         Shape::Full | Shape::MajorPatch | Shape::MinorPatch | Shape::Minor | Shape::Patch => {
             RightEnd {
                 is_held: true,
-                version: zeroed(partial),
+                version: partial.version,
             }
         }
     }

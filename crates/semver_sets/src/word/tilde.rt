@@ -1,6 +1,6 @@
 //! `~1.2.3`, `~1.2`, `~> 1`
 //!
-//! `#[inline(always)]`: see `parse/partial.rt`.
+//! `#[inline(always)]`: see `partial.rt`.
 ghost use Rattle.std.specs.Prelude.{◌≡◌, ◌+◌, Some};
 ghost use Rattle.semver_sets.specs.Comparator as Comparators;
 ghost use Rattle.semver_versions.specs.Version as Versions;
@@ -11,9 +11,9 @@ ghost use Rattle.semver_sets.specs.TildeRanges as TildeRanges;
 ghost use Rattle.semver_sets.specs.Private.WordReading as Reading;
 ghost use Rattle.semver_sets.specs.Private.WordViews.{IsSound, ends_seen, lead_seen, partial_seen};
 
-use crate::parse::{Partial, Shape};
+use crate::partial::{Partial, Shape};
 use crate::word::Lead;
-use crate::word::ends::{WordEnds, bare_up_to, next, nothing, with_major, with_minor, zeroed};
+use crate::word::ends::{WordEnds, WrittenVersion, bare_up_to, nothing, with_major, with_minor};
 use semver_versions::parse::skip_blanks;
 
 // `> 1.2` of `~ > 1.2`: which tilde it is, and the rest without its leading blanks
@@ -36,8 +36,8 @@ pub(crate) fn tilde_ends(partial: Partial) -> WordEnds
 {
     match partial.shape {
         Shape::Full => up_to_next_minor(partial),
-        Shape::MajorMinor => with_minor(partial.major, partial.minor),
-        Shape::Major => with_major(partial.major),
+        Shape::MajorMinor => with_minor(partial.version.major, partial.version.minor),
+        Shape::Major => with_major(partial.version.major),
         Shape::MajorPatch | Shape::MinorPatch | Shape::Minor | Shape::Patch | Shape::Nothing =>
             nothing(),
     }
@@ -62,7 +62,8 @@ fn up_to_next_minor(partial: Partial) -> WordEnds
     requires { IsSound partial }
     ensures { ends_seen result ≡ Some (Comparators.from_up_to
         (Versions.without_build (PartialText.zeroed (partial_seen partial.entry)))
-        (Versions.least_of partial.entry.major (partial.entry.minor + 1) 0)) }
+        (Versions.least_of partial.entry.version.major (partial.entry.version.minor + 1) 0)) }
 {
-    bare_up_to(zeroed(partial), partial.major, next(partial.minor), 0)
+    let WrittenVersion { major, minor, .. } = partial.version;
+    bare_up_to(partial.version, major, minor + 1, 0)
 }

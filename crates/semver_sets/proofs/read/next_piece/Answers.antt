@@ -1,12 +1,16 @@
-use Rattle.std.proofs.Common.{◌≡◌, ◌∙◌, ◌+◌, ◌-◌, ◌<◌, ◌≤◌, ℕ, List, ap, arith, drop, length, take, true, false}
-use Rattle.std.specs.Option.{is_some}
+use Rattle.std.proofs.Common.{◌≡◌, ◌≢◌, ◌∙◌, ◌+◌, ◌-◌, ◌<◌, ◌≤◌, ℕ, List, ap, arith, drop, get_or, length, rules}
+use Rattle.std.proofs.Common.{take}
+use borrow.Author.Tests.{ltb-true}
 use Rattle.std.proofs.lemmas.List.{length-drop}
 use Rattle.memchr.specs.Find.{NoneBefore, Nowhere, Passes, is_byte}
 use Rattle.semver_versions.specs.Characters.{bar}
-use Rattle.semver_sets.specs.Private.PieceReading.{bars_after, some_seen}
-use Rattle.semver_sets.proofs.Ranges.PieceLemmas.{Passed, pass-to_bar, passed-end, seen-step, seen-stop}
+use Rattle.semver_sets.specs.Private.PieceReading.{bars_after}
+use Rattle.semver_sets.proofs.Ranges.PieceLemmas.{Passed, not-bars, pass-to_bar, passed-end, seen-step}
+use Rattle.semver_sets.proofs.Ranges.PieceLemmas.{seen-stop, two-bars}
 use Rattle.semver_versions.specs.Lemmas.Texts.Places.{to-end}
 use Rattle.semver_sets.proofs.read.next_piece.Goals as goal
+use Rattle.semver_sets.proofs.read.next_piece.Goals.{else-text-bar-lt2+in-124+in_default-1}
+use Rattle.semver_sets.proofs.read.next_piece.Goals.{else-text-bar-lt2+in_default-1, then-text-bar-lt2}
 
 -- the text after the first i characters
 abbrev left : List ℕ → ℕ → List ℕ
@@ -33,26 +37,30 @@ to-end-of_text text i h none passed =
     let size = length-left text i in
     pass-to_bar text (left text i) i (length (left text i)) (to-end text i) (omega arith) none passed
 
-pub returns-then-is_some : goal.returns-then-is_some
-returns-then-is_some c =
+pub returns-in-124 : goal.returns-in-124
+returns-in-124 c =
     let text = c.args.text.now in
     let here = c.bars.passed + c.in-Some.at in
     let to = to-bar text c.bars.passed c.in-Some.at c.bars.invariant.0 c.in-Some.ensures.0 c.bars.invariant.1 in
-    let seen : some_seen c.skip_bars-after.result ≡ bars_after (drop here text) =
-    c.skip_bars-after.ensures ∙ ap bars_after (to-end text here) in
-    let some : is_some c.skip_bars-after.result ≡ true = cc (c.is_some.ensures, c.if-is_some.true) in
-    seen-stop text here c.skip_bars-after.result to.0 some seen to.1
+    let seen = two-bars (left text here) (omega arith) (omega arith) (omega arith) ∙ ap bars_after (to-end text here) in
+    seen-stop text _ here seen to.1
 
 pub bars-preserved : goal.bars-preserved
 bars-preserved c =
     let text = c.args.text.now in
     let here = c.bars.passed + c.in-Some.at in
     let to = to-bar text c.bars.passed c.in-Some.at c.bars.invariant.0 c.in-Some.ensures.0 c.bars.invariant.1 in
-    let seen : some_seen c.skip_bars-after.result ≡ bars_after (drop here text) =
-    c.skip_bars-after.ensures ∙ ap bars_after (to-end text here) in
-    let none : is_some c.skip_bars-after.result ≡ false = cc (c.is_some.ensures, c.if-is_some.false) in
+    let none = not-bars (left text here) (λ some one two. elim c.if-text-bar-lt2.branch [
+      | then-text-bar-lt2 w ↦ omega (arith, ltb-true)
+      | else-text-bar-lt2+in-124+in_default-1 w ↦
+          let other : get_or (left text here) 1 0 ≢ 124 = search rules in
+          other two
+      | else-text-bar-lt2+in_default-1 w ↦
+          let other : get_or (left text here) 0 0 ≢ 124 = search rules in
+          other one
+    ]) in
     let within : here < length text = to.0 in
-    (omega arith, seen-step text here c.skip_bars-after.result to.0 none seen to.1)
+    (omega arith, seen-step text here to.0 (none ∙ ap bars_after (to-end text here)) to.1)
 
 pub returns : goal.returns
 returns c =

@@ -4,17 +4,11 @@ use Rattle.semver_versions.specs.Characters.{BeginsWithNo, is_blank}
 use Rattle.semver_sets.specs.Comparator.{Comparator}
 use Rattle.semver_sets.specs.Division.{IsAlternative}
 use Rattle.semver_versions.specs.Readers.Reading.{rest_of}
-use Rattle.semver_sets.specs.Private.WordReading.{is_solid, or_else, or_thrown_away, read_hyphen, read_simple}
-use Rattle.semver_sets.specs.Private.WordReading.{read_word}
+use Rattle.semver_sets.specs.Private.WordReading.{is_solid, read_word}
 use Rattle.semver_sets.proofs.Ranges.DivisionLemmas.{completes-more, completes-nothing, next-shorter}
 use Rattle.semver_versions.specs.Lemmas.Texts.Prefixes.{rest_of-no}
+use Rattle.semver_sets.proofs.Words.WordViews.{thrown}
 use Rattle.semver_sets.proofs.word.skip_thrown_away.Goals as goal
-
--- a word that begins no comparator
-thrown : (text : List ℕ) → None ≡ or_else (read_hyphen text) (read_simple text)
-    → read_word text ≡ (None, rest_of is_solid text)
-unfolding read_word
-thrown text none = ap (λ w. or_thrown_away w text) (sym none)
 
 -- the text writes what the words after it write
 later-writes : (text behind : List ℕ) → read_word text ≡ (None, behind) → (comparators : List Comparator)
@@ -32,7 +26,7 @@ pub words-smaller : goal.words-smaller
 words-smaller c =
     let rest = c.words.rest.now in
     let some : 0 < length rest = some-from_not_empty rest c.is_empty.result c.is_empty.ensures c.words-test.true in
-    let read = thrown rest (c.begins_comparator.ensures c.if-not-begins_comparator.true) in
+    let read = sym (thrown rest (c.begins_comparator.ensures c.if-not-begins_comparator.true)) in
     let shorter = next-shorter rest None (rest_of is_solid rest) read some in
     let same = c.skip_blanks-rest.ensures ∙ ap (rest_of is_blank) c.skip_solid.ensures in
     subst (λ (l : List ℕ). length l < length rest) (sym same) shorter
@@ -40,7 +34,7 @@ words-smaller c =
 pub words-preserved : goal.words-preserved
 words-preserved c =
     let rest = c.words.rest.now in
-    let read = thrown rest (c.begins_comparator.ensures c.if-not-begins_comparator.true) in
+    let read = sym (thrown rest (c.begins_comparator.ensures c.if-not-begins_comparator.true)) in
     let same = c.skip_blanks-rest.ensures ∙ ap (rest_of is_blank) c.skip_solid.ensures in
     record {
       solid = subst (λ (l : List ℕ). BeginsWithNo is_blank l) (sym c.skip_blanks-rest.ensures)

@@ -1,5 +1,9 @@
+use Rattle.std.proofs.Common.{List, ℕ, subst}
+use Rattle.semver_sets.specs.Meaning.{IsRefused}
+use Rattle.semver_sets.specs.Merging.{AreSetsOfText}
+use Rattle.semver_sets.specs.RangeSets.{sets_seen}
 use Rattle.semver_sets.specs.declared.read.full.FullLead.TheVariants.{Caret, Nothing, Tilde}
-use Rattle.node_semver.proofs.Ranges.RangeAnswers.{full-read}
+use Rattle.node_semver.proofs.Ranges.RangeAnswers.{full-read, range-read, range-refused}
 use Rattle.node_semver.proofs.range.Range.parse.Goals as goal
 
 -- `^1.2.3`
@@ -9,7 +13,7 @@ returns-in-Some-Caret-default-default-default c =
     c.in-Some-Caret-default-default-default.ensures in
     full-read c.a_text_means_its_sets.ensures c.prints_are_read_back.ensures c.args.text.now _ Caret _ _ _
     c.caret_set.result c.of_set.result
-    c.as_bytes.ensures.value full c.caret_set.ensures
+    c.as_bytes-bytes.ensures.value full c.caret_set.ensures
     c.of_set.ensures
 
 -- `~1.2.3`
@@ -19,7 +23,7 @@ returns-in-Some-Tilde-default-default-default c =
     c.in-Some-Tilde-default-default-default.ensures in
     full-read c.a_text_means_its_sets.ensures c.prints_are_read_back.ensures c.args.text.now _ Tilde _ _ _
     c.tilde_set.result c.of_set-in-Some-Tilde-default-default-default.result
-    c.as_bytes.ensures.value full c.tilde_set.ensures
+    c.as_bytes-bytes.ensures.value full c.tilde_set.ensures
     c.of_set-in-Some-Tilde-default-default-default.ensures
 
 -- `1.2.3`
@@ -29,5 +33,20 @@ returns-in-Some-Nothing-default-default-default c =
     c.in-Some-Nothing-default-default-default.ensures in
     full-read c.a_text_means_its_sets.ensures c.prints_are_read_back.ensures c.args.text.now _ Nothing _ _ _
     c.exact_set.result c.of_set-in-Some-Nothing-default-default-default.result
-    c.as_bytes.ensures.value full c.exact_set.ensures
+    c.as_bytes-bytes.ensures.value full c.exact_set.ensures
     c.of_set-in-Some-Nothing-default-default-default.ensures
+
+-- any other text
+pub returns-in-Ok : goal.returns-in-Ok
+returns-in-Ok c =
+    let sets = sets_seen c.in-Ok.sets in
+    range-read c.a_text_means_its_sets.ensures c.prints_are_read_back.ensures c.args.text.now sets
+    (subst (λ (t : List ℕ). AreSetsOfText t sets) c.as_bytes-bytes.ensures.value c.in-Ok.ensures.sets)
+    c.in-Ok.ensures.holds
+
+pub unread_error-requires : goal.unread_error-requires
+unread_error-requires c = λ is. subst IsRefused c.as_bytes-bytes.ensures.value (c.in-Err.ensures.refused is)
+
+pub returns-in-Err : goal.returns-in-Err
+returns-in-Err c =
+    range-refused c.prints_are_read_back.ensures c.args.text.now c.unread_error.result c.unread_error.ensures

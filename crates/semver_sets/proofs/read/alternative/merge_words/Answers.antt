@@ -1,17 +1,20 @@
-use Rattle.std.proofs.Common.{◌≡◌, ◌<◌, ℕ, Bool, true, false, List, [], ◌∷◌, ◌++◌, Option, Some, None, length, arith}
-use Rattle.std.proofs.Common.{refl, sym, subst, ◌∙◌}
+use Rattle.std.proofs.Common.{◌≡◌, ◌≢◌, ◌<◌, ℕ, Bool, true, false, List, [], ◌∷◌, ◌++◌, Option, Some, None, length, arith}
+use Rattle.std.proofs.Common.{ap, get_or, refl, rules, sym, subst, ◌∙◌}
 use Rattle.std.specs.Prelude.{◌==◌}
-use Rattle.std.proofs.lemmas.Bool.{eqb-true}
+use Rattle.std.proofs.lemmas.Bool.{eqb-true, ne_eqb}
 use Rattle.semver_versions.specs.Characters.{BeginsWithNo, is_blank}
 use Rattle.semver_sets.specs.Comparator.{Comparator}
-use Rattle.semver_sets.specs.Private.RangeViews.{IsCommonSpan}
-use Rattle.semver_versions.specs.Readers.Reading.{rest_of}
-use Rattle.semver_sets.specs.Private.WordReading.{leading_or_none, read_right, read_word}
+use Rattle.semver_sets.specs.Private.RangeViews.{IsCommonSpan, IsNarrowed}
+use Rattle.semver_versions.specs.Readers.Reading.{begins, rest_of}
+use Rattle.semver_sets.specs.Private.WordReading.{is_solid, leading_or_none, read_right, read_word}
 use Rattle.semver_sets.specs.Private.WordViews.{listed}
 use Rattle.semver_sets.proofs.Ranges.DivisionLemmas.{Completes, completes-end, completes-leading, completes-more}
 use Rattle.semver_sets.proofs.Ranges.DivisionLemmas.{next-shorter}
-use Rattle.semver_versions.specs.Lemmas.Texts.Prefixes.{rest_of-no}
+use Rattle.semver_sets.proofs.Sets.Merging.{merged-none}
+use Rattle.semver_sets.proofs.Words.WordViews.{thrown}
+use Rattle.semver_versions.specs.Lemmas.Texts.Prefixes.{begins-with_no, rest_of-no, rest_of-none}
 use Rattle.semver_sets.proofs.read.alternative.merge_words.Goals as goal
+use Rattle.semver_sets.proofs.read.alternative.merge_words.Goals.{in-32+in_ok-rest-in-32, in_default, in_default-2}
 
 -- the remaining text after its blanks
 left-is : (text rest left : List ℕ) (done : List Comparator) → Completes text done rest → left ≡ rest
@@ -28,16 +31,51 @@ none-common : (common : Option Comparator) → common ≡ None → IsCommonSpan 
 none-common None none = refl
 none-common (Some common) none = absurd (cc none)
 
+-- a text that begins with no blank begins with no hyphen without a left side
+no-leading : (text : List ℕ) → begins is_blank text ≡ false → leading_or_none (read_right text) text ≡ (None, text)
+unfolding read_right
+no-leading text none = rw none refl
+
+-- by its first byte
+not-blank : (text : List ℕ) → (0 < length text → (get_or text 0 0 ≢ 32) × (get_or text 0 0 ≢ 9))
+    → begins is_blank text ≡ false
+not-blank [] other = refl
+not-blank (b ∷ rest) other =
+    let n = other (omega arith) in
+    rw (ne_eqb b 32 n.0, ne_eqb b 9 n.1) refl
+
+-- so nothing is passed over there
+solid-start : (text : List ℕ) (common : Option Comparator)
+    → (0 < length text → (get_or text 0 0 ≢ 32) × (get_or text 0 0 ≢ 9))
+    → (text ≡ rest_of is_blank (leading_or_none (read_right text) text).1)
+    × IsNarrowed common (leading_or_none (read_right text) text).0 common
+solid-start text common other =
+    let none : begins is_blank text ≡ false = not-blank text other in
+    rw (no-leading text none) (
+      sym (rest_of-none is_blank text (begins-with_no is_blank text none)),
+      λ comparators merged. merged-none comparators common merged,
+    )
+
 pub loop-rest-init : goal.loop-rest-init
 loop-rest-init c =
-    let word = leading_or_none (read_right c.args.text.now) c.args.text.now in
-    let start = completes-leading c.args.text.now (read_right c.args.text.now) word.0 word.1 refl refl in
+    let text = c.args.text.now in
+    let word = leading_or_none (read_right text) text in
+    let begun : (c.if-text-lt1.rest.now ≡ rest_of is_blank word.1)
+    × IsNarrowed c.args.common.now word.0 c.if-text-lt1.common = elim c.if-text-lt1.branch [
+      | in-32+in_ok-rest-in-32 w ↦ rw (w.rest-is, w.common-is) (
+        w.in_ok-rest-in-32.ensures.rest,
+        w.in_ok-rest-in-32.ensures.common,
+      )
+      | in_default w ↦ rw (w.rest-is, w.common-is) (solid-start text c.args.common.now (λ some. absurd (omega arith)))
+      | in_default-2 w ↦ rw (w.rest-is, w.common-is)
+          (solid-start text c.args.common.now (λ some. (search rules, search rules)))
+    ] in
+    let start = completes-leading text (read_right text) word.0 word.1 refl refl in
     record {
       done = listed word.0;
-      read = left-is c.args.text.now (rest_of is_blank word.1) c.in_ok-rest.rest.now (listed word.0) start
-          c.in_ok-rest.ensures.rest;
-      is_common = c.in_ok-rest.ensures.common [] (none-common c.args.common.now c.requires);
-      solid = no-blank word.1 c.in_ok-rest.rest.now c.in_ok-rest.ensures.rest;
+      read = left-is text (rest_of is_blank word.1) c.if-text-lt1.rest.now (listed word.0) start begun.0;
+      is_common = begun.1 [] (none-common c.args.common.now c.requires);
+      solid = no-blank word.1 c.if-text-lt1.rest.now begun.0;
     }
 
 some-from_not_empty : (xs : List ℕ) (r : Bool) → r ≡ (length xs == 0) → r ≡ false → 0 < length xs
@@ -50,29 +88,59 @@ none-from_empty (x ∷ xs) r e f =
     let none : length (x ∷ xs) ≡ 0 = eqb-true (length (x ∷ xs)) 0 (sym e ∙ f) in
     absurd (omega arith)
 
-pub merge_next-requires : goal.merge_next-requires
-merge_next-requires c = c.loop-rest.invariant.solid
+pub begins_comparator-requires : goal.begins_comparator-requires
+begins_comparator-requires c = c.loop-rest.invariant.solid
 
-pub loop-rest-smaller : goal.loop-rest-smaller
-loop-rest-smaller c =
+pub merge_word-requires : goal.merge_word-requires
+merge_word-requires c = c.loop-rest.invariant.solid
+
+-- a word that gives a comparator, or none
+pub loop-rest-smaller-in_ok-rest : goal.loop-rest-smaller-in_ok-rest
+loop-rest-smaller-in_ok-rest c =
     let rest = c.loop-rest.rest.now in
     let word = read_word rest in
     let some : 0 < length rest = some-from_not_empty rest c.is_empty.result c.is_empty.ensures c.loop-rest-test.true in
-    subst (λ (l : List ℕ). length l < length rest) (sym c.in_ok-rest-2.ensures.rest)
+    subst (λ (l : List ℕ). length l < length rest) (sym c.in_ok-rest.ensures.rest)
     (next-shorter rest word.0 word.1 refl some)
 
-pub loop-rest-preserved : goal.loop-rest-preserved
-loop-rest-preserved c =
+pub loop-rest-preserved-in_ok-rest : goal.loop-rest-preserved-in_ok-rest
+loop-rest-preserved-in_ok-rest c =
     let rest = c.loop-rest.rest.now in
     let word = read_word rest in
     let done = c.loop-rest.invariant.done in
     let more = completes-more c.args.text.now done rest word.0 word.1 c.loop-rest.invariant.read refl in
     record {
       done = done ++ listed word.0;
-      read = left-is c.args.text.now (rest_of is_blank word.1) c.in_ok-rest-2.rest.now (done ++ listed word.0) more
-          c.in_ok-rest-2.ensures.rest;
-      is_common = c.in_ok-rest-2.ensures.common done c.loop-rest.invariant.is_common;
-      solid = no-blank word.1 c.in_ok-rest-2.rest.now c.in_ok-rest-2.ensures.rest;
+      read = left-is c.args.text.now (rest_of is_blank word.1) c.in_ok-rest.rest.now (done ++ listed word.0) more
+          c.in_ok-rest.ensures.rest;
+      is_common = c.in_ok-rest.ensures.common done c.loop-rest.invariant.is_common;
+      solid = no-blank word.1 c.in_ok-rest.rest.now c.in_ok-rest.ensures.rest;
+    }
+
+-- a word that is passed over
+pub loop-rest-smaller : goal.loop-rest-smaller
+loop-rest-smaller c =
+    let rest = c.loop-rest.rest.now in
+    let some : 0 < length rest = some-from_not_empty rest c.is_empty.result c.is_empty.ensures c.loop-rest-test.true in
+    let read = thrown rest (c.begins_comparator.ensures c.if-begins_comparator.false) in
+    let same = c.skip_blanks-rest.ensures ∙ ap (rest_of is_blank) c.skip_solid.ensures in
+    subst (λ (l : List ℕ). length l < length rest) (sym same)
+    (next-shorter rest None (rest_of is_solid rest) (sym read) some)
+
+pub loop-rest-preserved : goal.loop-rest-preserved
+loop-rest-preserved c =
+    let rest = c.loop-rest.rest.now in
+    let done = c.loop-rest.invariant.done in
+    let read = thrown rest (c.begins_comparator.ensures c.if-begins_comparator.false) in
+    let same = c.skip_blanks-rest.ensures ∙ ap (rest_of is_blank) c.skip_solid.ensures in
+    let more = completes-more c.args.text.now done rest None (rest_of is_solid rest) c.loop-rest.invariant.read
+    (sym read) in
+    record {
+      done = done ++ [];
+      read = left-is c.args.text.now (rest_of is_blank (rest_of is_solid rest)) c.skip_blanks-rest.result.now
+          (done ++ []) more same;
+      is_common = merged-none done c.loop-rest.common c.loop-rest.invariant.is_common;
+      solid = no-blank (rest_of is_solid rest) c.skip_blanks-rest.result.now same;
     }
 
 pub returns : goal.returns

@@ -1,6 +1,0 @@
-use Rattle.semver_sets.proofs.Words.PartialViews.{number-limit}
-use Rattle.semver_sets.proofs.parse.partial.number_component.Goals as goal
-
-pub returns-in-Ok-clause-sound : goal.returns-in-Ok-clause-sound
-returns-in-Ok-clause-sound c =
-    record { limit = number-limit c.args.text.now _ _ c.in-Ok.ensures; absent = λ none. cc none }

@@ -1,0 +1,147 @@
+//! Partials: versions of which some components can be absent. Nothing is built: a partial keeps the text of its extras.
+//! That text is passed over once, to find where the word ends, and read only if the word's versions are built.
+//!
+//! `#[inline(always)]` makes one function of the readers of a word, so that numbers and shapes stay in registers.
+ghost use Rattle.std.specs.Prelude.{◌≡◌, IfSome};
+ghost use Rattle.semver_versions.specs.Characters.{is_blank, is_partial_mark};
+ghost use Rattle.semver_versions.specs.Readers.Reading.{read_extras, rest_of, skip_one};
+ghost use Rattle.semver_sets.specs.Private.WordReading as Reading;
+ghost use Rattle.semver_sets.specs.Private.WordViews.{IsComponentSound, IsSound, component_seen, component_value};
+ghost use Rattle.semver_sets.specs.Private.WordViews.{partial_seen, read_partial_seen};
+
+use crate::word::WrittenVersion;
+use semver_versions::parse::extras::skip_extras;
+use semver_versions::parse::number::{is_digit, read_number};
+use semver_versions::parse::{begins_clean, skip_blanks};
+
+// Which components of a partial are numbers.
+#[derive(Clone, Copy)]
+pub(crate) enum Shape {
+    // `1.2.3`
+    Full,
+    // `1.2`, `1.2.x`
+    MajorMinor,
+    // `1.x.3`
+    MajorPatch,
+    // `1`, `1.x`, `1.x.x`
+    Major,
+    // `x.2.3`
+    MinorPatch,
+    // `x.2`, `x.2.x`
+    Minor,
+    // `x.x.3`
+    Patch,
+    // `x`, `x.x`, `x.x.x`
+    Nothing,
+}
+
+// `1.2.x` of `1.2.x-alpha <2`: its version, with 0 for each absent number, and which components are numbers.
+#[derive(Clone, Copy)]
+pub(crate) struct Partial<'a> {
+    pub(crate) version: WrittenVersion<'a>,
+    pub(crate) shape: Shape,
+}
+
+// A number, or 0 if it is absent.
+#[derive(Clone, Copy)]
+pub(crate) struct Component {
+    number: u64,
+    is_number: bool,
+}
+
+const ABSENT: Component = Component {
+    number: 0,
+    is_number: false,
+};
+
+// `1` and `.2` of `1.2`; an absent number and `.2` of `x.2`
+#[inline(always)]
+#[tactic(auto, unfolding(crate::specs::Private::WordReading::read_component))]
+fn read_component(text: &[u8]) -> Option<(Component, &[u8])>
+    ensures read { component_seen result ≡ Reading.read_component text.now }
+    ensures sound { IfSome result (λ r. IsComponentSound r.0) }
+{
+    if let Ok((number, rest)) = read_number(text) {
+        let component = Component {
+            number,
+            is_number: true,
+        };
+        return Some((component, rest));
+    }
+    match text {
+        [b'x' | b'X' | b'*', rest @ ..] => Some((ABSENT, rest)),
+        _ => None,
+    }
+}
+
+#[inline(always)]
+fn partial_of(major: Component, minor: Component, patch: Component, extras: &[u8]) -> Partial
+    ensures seen { partial_seen result ≡ Reading.with_extras (component_value major) (component_value minor)
+        (component_value patch) (read_extras extras.now).0 }
+    ensures sound { IsComponentSound major → IsComponentSound minor → IsComponentSound patch → IsSound result }
+{
+    let shape = match (major.is_number, minor.is_number, patch.is_number) {
+        (true, true, true) => Shape::Full,
+        (true, true, false) => Shape::MajorMinor,
+        (true, false, true) => Shape::MajorPatch,
+        (true, false, false) => Shape::Major,
+        (false, true, true) => Shape::MinorPatch,
+        (false, true, false) => Shape::Minor,
+        (false, false, true) => Shape::Patch,
+        (false, false, false) => Shape::Nothing,
+    };
+    let version = WrittenVersion {
+        major: major.number,
+        minor: minor.number,
+        patch: patch.number,
+        extras,
+    };
+    Partial { version, shape }
+}
+
+// `1.2.x` and ` <2` of `1.2.x-alpha <2`
+#[inline(always)]
+#[tactic(auto, unfolding(crate::specs::Private::WordReading::read_components))]
+fn read_components(text: &[u8]) -> Option<(Partial, &[u8])>
+    ensures read { read_partial_seen result ≡ Reading.read_components text.now }
+    ensures sound { IfSome result (λ r. IsSound r.0) }
+{
+    let (major, rest) = read_component(text)?;
+    let [b'.', after @ ..] = rest else {
+        return Some((partial_of(major, ABSENT, ABSENT, b""), rest));
+    };
+    let (minor, rest) = read_component(after)?;
+    let [b'.', after @ ..] = rest else {
+        return Some((partial_of(major, minor, ABSENT, b""), rest));
+    };
+    let (patch, extras) = read_component(after)?;
+    Some((partial_of(major, minor, patch, extras), skip_extras(extras)))
+}
+
+// `1.2` of `v 1.2`: the text after an optional `v` and blanks. Most texts begin with a digit.
+#[inline(always)]
+#[tactic(auto, unfolding(semver_versions::specs::Readers::Reading::skip_one))]
+fn skip_to_components(text: &[u8]) -> &[u8]
+    ensures { result.now ≡ rest_of is_blank (skip_one is_partial_mark text.now) }
+{
+    match text {
+        [first, ..] if is_digit(*first) => text,
+        [b'v', rest @ ..] => skip_blanks(rest),
+        _ => skip_blanks(text),
+    }
+}
+
+// `v 1.2.x` and ` <2` of `v 1.2.x-alpha <2`, if the text goes on at a clean end
+#[inline(always)]
+#[tactic(auto, unfolding(crate::specs::Private::WordReading::read_partial))]
+pub(crate) fn read_clean_partial(text: &[u8]) -> Option<(Partial, &[u8])>
+    ensures read { read_partial_seen result ≡ Reading.up_to_clean (Reading.read_partial text.now) }
+    ensures sound { IfSome result (λ r. IsSound r.0) }
+{
+    let (partial, rest) = read_components(skip_to_components(text))?;
+    if begins_clean(rest) {
+        Some((partial, rest))
+    } else {
+        None
+    }
+}

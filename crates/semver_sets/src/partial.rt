@@ -74,6 +74,7 @@ fn read_component(text: &[u8]) -> Option<(Component, &[u8])>
     }
 }
 
+// The partial of three components, and of the text that begins with its extras.
 #[inline(always)]
 fn partial_of(major: Component, minor: Component, patch: Component, extras: &[u8]) -> Partial
     ensures seen { partial_seen result ≡ Reading.with_extras (component_value major) (component_value minor)

@@ -58,7 +58,7 @@ impl Sets {
     {
         let (piece, left) = next_piece(text);
         if let Some(others) = left {
-            return read_several(alloc, piece, others);
+            return read_pieces(alloc, piece, others);
         }
         // If no word can begin a comparator, nothing is prepared to read one.
         let words = skip_thrown_away(piece);
@@ -71,6 +71,14 @@ impl Sets {
             Err(_) => Err(Unread::OutOfMemory),
         }
     }
+}
+
+// Calls `read_several`. With this function between, the toolchain clears the place of its result only if it is called.
+#[inline(always)]
+fn read_pieces(alloc: Global, first: &[u8], others: &[u8]) -> Result<Sets, Unread>
+    ensures { IsReadResultOf first.now others.now result }
+{
+    read_several(alloc, first, others)
 }
 
 // Reads the first alternative, and then those of the text after the first `||`. `inline(never)`: few texts have `||`.

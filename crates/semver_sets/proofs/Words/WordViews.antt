@@ -171,10 +171,8 @@ thrown text none = ap (λ (w : Option Word). or_thrown_away w text) none
 pub record BeginsNone (b : ℕ) : Type 0 where
   pub digit : (b < 48) ⊎ (57 < b)
   pub operator : (b < 60) ⊎ (62 < b)
-  pub caret : b ≢ 94
-  pub tilde : b ≢ 126
-  pub mark : b ≢ 118
-  pub x : (b ≢ 120) × (b ≢ 88) × (b ≢ 42)
+  pub lead : (b ≢ 94) × (b ≢ 126)
+  pub partial : (b ≢ 118) × (b ≢ 120) × (b ≢ 88) × (b ≢ 42)
 
 not-digit : (b : ℕ) → (b < 48) ⊎ (57 < b) → is_digit b ≡ false
 not-digit b out = elim (cases_Bool (is_digit b)) [
@@ -193,14 +191,14 @@ none-led b text none =
     let less : b ≢ 60 = elim none.operator [ inl l ↦ omega arith | inr g ↦ omega arith ] in
     let equals : b ≢ 61 = elim none.operator [ inl l ↦ omega arith | inr g ↦ omega arith ] in
     let greater : b ≢ 62 = elim none.operator [ inl l ↦ omega arith | inr g ↦ omega arith ] in
-    rw (ne_eqb b 94 none.caret, ne_eqb b 126 none.tilde, ne_eqb b 62 greater, ne_eqb b 61 equals, ne_eqb b 60 less) refl
+    rw (ne_eqb b 94 none.lead.0, ne_eqb b 126 none.lead.1, ne_eqb b 62 greater, ne_eqb b 61 equals, ne_eqb b 60 less) refl
 
 -- and no partial
 none-partial : (b : ℕ) (text : List ℕ) → is_blank b ≡ false → BeginsNone b → None ≡ read_partial (b ∷ text)
 unfolding read_partial read_components read_component read_number rest_of skip_one
 none-partial b text solid none =
-    let x = none.x in
-    rw (ne_eqb b 118 none.mark, solid, ne_eqb b 120 x.0, ne_eqb b 88 x.1, ne_eqb b 42 x.2, not-digit b none.digit) refl
+    let x = none.partial in
+    rw (ne_eqb b 118 x.0, solid, ne_eqb b 120 x.1, ne_eqb b 88 x.2, ne_eqb b 42 x.3, not-digit b none.digit) refl
 
 -- so there is no comparator
 pub none-begins : (text : List ℕ) → BeginsWithNo is_blank text → (0 < length text → BeginsNone (get_or text 0 0))

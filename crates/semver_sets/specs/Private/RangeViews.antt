@@ -92,10 +92,6 @@ abbrev pub IsOneMore : List ℕ → List (Ends VersionValue) → List (Ends Vers
 IsOneMore text before after = (set : Option (Ends VersionValue)) × IsSetOfAlternative text set
     × (after ≡ before ++ listed_set set)
 
--- the sets of the text with these two parts before and after its first `||`
-abbrev pub AreReadSets : List ℕ → List ℕ → List (Ends VersionValue) → Type 0
-AreReadSets first others sets = (text : List ℕ) → (first, Some others) ≡ piece_at text → AreSetsOfText text sets
-
 -- the result of reading a text: its sets, with the properties of every range; or that the text is refused; or that an
 -- allocation failed
 abbrev pub IsReadResult : List ℕ → Result Sets Unread → Type 0

@@ -43,7 +43,7 @@ returns-in-Some-clause-accepted c =
     let text = c.args.text.now in
     let piece = c.next_piece.result.0.now in
     let divided = divided-as text piece c.next_piece.result.1 _ c.in-Some.is c.next_piece.ensures in
-    accepted text c.read_several.result (c.read_several.ensures text divided)
+    accepted text c.read_pieces.result (c.read_pieces.ensures text divided)
 
 pub returns-then-is_empty-clause-refused : goal.returns-then-is_empty-clause-refused
 returns-then-is_empty-clause-refused c = λ is.

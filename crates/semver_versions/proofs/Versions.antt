@@ -1,2 +1,3 @@
+pub mod NumberFirst
 pub mod VersionAnswers
 pub mod VersionParse

@@ -6,4 +6,3 @@ pub mod ReadingViews
 pub mod ListedViews
 pub mod CommonStarts
 pub mod FaultViews
-pub mod RefViews

@@ -13,7 +13,6 @@ mod triple;
 pub mod written;
 
 pub use fault::Fault;
-pub use identifiers::read_prerelease;
 pub use number::leading_digits;
 pub use skip::{begins_clean, skip_blanks, skip_some_blanks};
-pub use triple::{read_extras, read_leading_triple, read_major, read_minor_and_patch};
+pub use triple::{read_leading_triple, read_marked_triple};

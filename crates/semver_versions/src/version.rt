@@ -9,7 +9,6 @@ pub mod display;
 mod hash;
 pub(crate) mod order;
 mod parse;
-pub(crate) mod read;
 mod stepped;
 
 use crate::{Identifier, Triple};

@@ -8,7 +8,7 @@ mod display;
 mod fault;
 mod hash;
 mod order;
-mod read;
+pub(crate) mod read;
 
 use crate::end::EndVersion;
 use crate::{Identifiers, Triple};

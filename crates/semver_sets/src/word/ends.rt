@@ -10,7 +10,8 @@ ghost use Rattle.semver_sets.specs.Private.WordViews.{ends_seen, form_comparator
 use semver_cuts::Cut;
 use semver_versions::MAX_SAFE_INTEGER;
 use semver_versions::end::EndVersion;
-use semver_versions::parse::{begins_clean, read_extras, read_prerelease};
+use semver_versions::identifier::borrowed::borrow_extras;
+use semver_versions::parse::begins_clean;
 use std::alloc::{AllocError, Global};
 
 // A version as a word writes it: a triple, and the text that begins with its extras.
@@ -253,12 +254,12 @@ impl<'a> WrittenVersion<'a> {
     fn end_with_extras(&self, alloc: Global) -> Result<EndVersion, AllocError>
         ensures { IfOk result (λ e. e ≡ written_seen self.now) }
     {
-        let ((pre_release, build), _) = read_extras(alloc, self.extras)?;
+        let (pre_release, build, _) = borrow_extras(self.extras);
         EndVersion::with_extras(
             alloc,
             (self.major, self.minor, self.patch),
-            pre_release,
-            build,
+            pre_release.to_vec(alloc)?,
+            build.to_vec(alloc)?,
         )
     }
 
@@ -268,11 +269,11 @@ impl<'a> WrittenVersion<'a> {
     fn end_with_prerelease(&self, alloc: Global) -> Result<EndVersion, AllocError>
         ensures { IfOk result (λ e. e ≡ Versions.without_build (written_seen self.now)) }
     {
-        let (pre_release, _) = read_prerelease(alloc, self.extras)?;
+        let (pre_release, _, _) = borrow_extras(self.extras);
         EndVersion::with_extras(
             alloc,
             (self.major, self.minor, self.patch),
-            pre_release,
+            pre_release.to_vec(alloc)?,
             Vec::new(alloc),
         )
     }

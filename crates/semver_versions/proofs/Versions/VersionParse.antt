@@ -1,57 +1,64 @@
 -- What a reader at the start of a text says of the whole text.
-use Rattle.std.proofs.Common.{◌≡◌, ◌-◌, ◌<◌, ◌≤◌, ◌^◌, ◌⊎◌, ℕ, List, [], ◌∷◌, ◌++◌, length, Ok, Err, refl, sym, ap, ◌∙◌}
+use Rattle.std.proofs.Common.{◌≡◌, ◌-◌, ◌<◌, ◌≤◌, ◌^◌, ℕ, List, [], ◌∷◌, ◌++◌, length, Ok, Err, refl, sym, ◌∙◌}
 use Rattle.std.proofs.Common.{inl, inr, subst, arith, take, drop}
+use Rattle.std.specs.Borrow.{Bor}
 use Rattle.std.proofs.lemmas.Bool.{cases_Bool}
-use Rattle.std.specs.Prelude.{IsOk, Result, codes, nat_lt}
+use Rattle.std.specs.Prelude.{IfErr, Result, codes, nat_lt}
 use Rattle.semver_versions.specs.Lemmas.Texts.IdentifierReading.{pick-false, pick-true}
 use Rattle.semver_versions.specs.Lemmas.Texts.Places.{to-end}
 use Rattle.semver_versions.specs.Lemmas.Texts.Prefixes.{begins-append}
 use Rattle.semver_versions.specs.declared.TheConstants.{MAX_LENGTH}
 use Rattle.semver_versions.specs.Characters.{BeginsWith, is_digit}
 use Rattle.semver_versions.specs.NumberText.{number_of}
-use Rattle.semver_versions.specs.Readers.Reading.{Read, prefix_of, read_version}
-use Rattle.semver_versions.specs.Readers.ReadingViews.{IsPlainOk, IsMemoryFault}
-use Rattle.semver_versions.specs.declared.parse.fault.Fault.TheVariants.{TooLarge}
-use Rattle.semver_versions.specs.Version.{VersionValue}
+use Rattle.semver_versions.specs.Readers.Reading.{prefix_of, read_extras, read_marked_triple, read_unmarked, read_version}
+use Rattle.semver_versions.specs.Readers.Reading.{version_of}
+use Rattle.semver_versions.specs.Readers.ReadingViews.{IsBegun, seen}
+use Rattle.semver_versions.specs.declared.parse.fault.Fault.TheVariants.{LeftOver, TooLarge}
+use Rattle.semver_versions.specs.Version.{VersionValue, release}
 use Rattle.semver_versions.specs.VersionText.{IsVersionText}
 use Rattle.semver_versions.specs.declared.parse.fault.Fault.{Fault}
-use Rattle.semver_versions.specs.Lemmas.Texts.NumberReading.{ok-value}
-use Rattle.semver_versions.specs.Lemmas.Versions.OneReading.{read-version, version-read}
+use Rattle.semver_versions.specs.Lemmas.Texts.ExtrasReading.{no_extras}
+use Rattle.semver_versions.specs.Lemmas.Versions.OneReading.{read-version}
 use Rattle.semver_versions.specs.Error.{Kind, context, max_int, max_length, other, parse_int}
 use Rattle.semver_versions.specs.Fault.{IsFault, large_number, left_over, no_number, no_dot, too_large, too_long}
-use Rattle.semver_versions.specs.Readers.FaultViews.{IsMemoryOr, kind_in}
+use Rattle.semver_versions.specs.Readers.FaultViews.{IsReadFault, kind_in}
 use Rattle.semver_versions.specs.Lemmas.Versions.FaultReading.{behind-there, fault-takes, left-takes}
 
+-- the fault of a text whose triple was not read
+pub triple-fault : (text : List ℕ) (r : Result ((ℕ × ℕ × ℕ) × Bor (List ℕ)) Fault) → length text ≤ MAX_LENGTH
+    → seen r ≡ read_marked_triple text → IfErr r (IsReadFault text)
+unfolding read_version read_unmarked
+triple-fault text (Ok x) short read = tt
+triple-fault text (Err f) short read = fault-takes text f short (rw (← read) refl)
+
+-- the version of the triple and of what follows it
+begun-version : (text rest : List ℕ) (triple : ℕ × ℕ × ℕ) → IsBegun text triple rest
+    → read_version text ≡ Ok (version_of triple (read_extras rest).0, (read_extras rest).1)
+unfolding read_version read_unmarked
+begun-version text rest triple begun = rw begun.read refl
+
 -- nothing is left
-pub whole-found : (text : List ℕ) (v : VersionValue) (rest : List ℕ) → length text ≤ MAX_LENGTH
-    → read_version text ≡ Ok (v, rest) → length rest < 1 → IsVersionText text v
-whole-found text v [] short read none = read-version text v short read
-whole-found text v (b ∷ rest) short read none = absurd (omega arith)
+pub begun-found : (text rest left : List ℕ) (triple : ℕ × ℕ × ℕ) (v : VersionValue) → IsBegun text triple rest
+    → v ≡ version_of triple (read_extras rest).0 → left ≡ (read_extras rest).1 → length left < 1
+    → IsVersionText text v
+begun-found text rest [] triple v begun value end none =
+    read-version text v begun.short (begun-version text rest triple begun ∙ rw (value, ← end) refl)
+begun-found text rest (b ∷ left) triple v begun value end none = absurd (omega arith)
+
+-- three numbers are the whole text
+pub begun-release : (text rest : List ℕ) (triple : ℕ × ℕ × ℕ) → IsBegun text triple rest → length rest < 1
+    → IsVersionText text (release triple.0 triple.1 triple.2)
+begun-release text [] triple begun none =
+    begun-found text [] [] triple (release triple.0 triple.1 triple.2) begun (rw no_extras refl) (rw no_extras refl) none
+begun-release text (b ∷ rest) triple begun none = absurd (omega arith)
 
 -- something is left
-pub whole-left : (text : List ℕ) (v : VersionValue) (rest : List ℕ) → length text ≤ MAX_LENGTH
-    → read_version text ≡ Ok (v, rest) → 1 ≤ length rest → IsFault text other (length text - length rest)
-whole-left text v [] short read some = absurd (omega arith)
-whole-left text v (b ∷ rest) short read some = left-takes text v b rest short read
-
-pub left-no_version : (text : List ℕ) (v w : VersionValue) (rest : List ℕ) → read_version text ≡ Ok (v, rest)
-    → 1 ≤ length rest → IsVersionText text w → ⊥
-left-no_version text v w rest read some h =
-    let e = ok-value (w, []) (v, rest) (sym (version-read text w h) ∙ read) in
-    let none : [] ≡ rest = ap (λ (p : VersionValue × List ℕ). p.1) e in
-    let size : 0 ≡ length rest = ap length none in
-    omega arith
-
--- nothing was read
-pub whole-fault : (text : List ℕ) (f : Fault) → length text ≤ MAX_LENGTH
-    → IsMemoryFault f ⊎ (read_version text ≡ Err f) → IsMemoryOr text f
-whole-fault text f short (inl memory) = inl memory
-whole-fault text f short (inr read) = inr (fault-takes text f short read)
-
--- a version text without prerelease and build is read
-pub plain-read : {X : Type 0} (r : Result X Fault) (text : List ℕ) (v : VersionValue)
-    → IsPlainOk r (read_version text) → IsVersionText text v → v.pre_release ≡ [] → v.build ≡ [] → IsOk r
-plain-read r text v plain h = subst (λ (read : Read VersionValue). IsPlainOk r read) (version-read text v h) plain
+pub begun-left : (text rest left : List ℕ) (triple : ℕ × ℕ × ℕ) → IsBegun text triple rest
+    → left ≡ (read_extras rest).1 → 1 ≤ length left → IsReadFault text (LeftOver (length left))
+begun-left text rest [] triple begun end some = absurd (omega arith)
+begun-left text rest (b ∷ left) triple begun end some =
+    left-takes text (version_of triple (read_extras rest).0) b left begun.short
+    (begun-version text rest triple begun ∙ rw (← end) refl)
 
 -- a kind of fault that is not one of a number
 no-large : (kind : Kind) (n : ℕ) → ((m : ℕ) → kind ≡ max_int m → ⊥) → (kind ≡ parse_int → ⊥) → kind ≡ too_large n → ⊥
@@ -75,13 +82,12 @@ large-here text _ _ n (no_dot beginning digits rest count short before few all s
 large-here text _ _ n (left_over beginning v b rest short whole digit read longest) same =
     absurd (no-large other n (λ m e. cc e) (λ e. cc e) same)
 
-pub large-refused : (text : List ℕ) (left place : ℕ) → place ≡ length text - left → IsMemoryOr text (TooLarge left)
-    → BeginsWith is_digit (take (length text - place) (drop place text))
-large-refused text left place here (inl memory) = absurd (cc memory)
-large-refused text left place here (inr fault) = rw (to-end text place, here) (large-here text _ _ _ fault refl)
+pub large-refused : (text : List ℕ) (left : ℕ) → IsReadFault text (TooLarge left)
+    → BeginsWith is_digit (take (length text - (length text - left)) (drop (length text - left) text))
+large-refused text left told = rw (to-end text (length text - left)) (large-here text _ _ _ told.fault refl)
 
 -- the number at a place
-pub number-there : (text : List ℕ) (left place : ℕ) → place ≡ length text - left
-    → too_large (number_of (prefix_of is_digit (take (length text - place) (drop place text))))
-    ≡ kind_in text (TooLarge left)
-number-there text left place here = rw (to-end text place, here) refl
+pub number-there : (text : List ℕ) (left : ℕ)
+    → too_large (number_of (prefix_of is_digit
+    (take (length text - (length text - left)) (drop (length text - left) text)))) ≡ kind_in text (TooLarge left)
+number-there text left = rw (to-end text (length text - left)) refl

@@ -122,6 +122,10 @@ read_minor_and_patch major =
 unfoldable pub read_triple : List ℕ → Read (ℕ × ℕ × ℕ)
 read_triple text = read_number text >>= λ major. read_minor_and_patch major
 
+-- an optional mark, optional blanks, and a triple
+abbrev pub read_marked_triple : List ℕ → Read (ℕ × ℕ × ℕ)
+read_marked_triple text = read_triple (rest_of is_blank (skip_one is_version_mark text))
+
 -- a version of three numbers and extras
 abbrev pub version_of : ℕ × ℕ × ℕ → List IdentifierValue × List IdentifierValue → VersionValue
 version_of numbers extras = record {
@@ -141,10 +145,6 @@ read_extended numbers text =
 -- three numbers and extras
 unfoldable pub read_unmarked : List ℕ → Read VersionValue
 read_unmarked text = read_triple text >>= λ numbers. read_extended numbers.0 numbers.1
-
--- the same, after the first number
-abbrev pub read_from_major : ℕ × List ℕ → Read VersionValue
-read_from_major major = read_minor_and_patch major >>= λ numbers. read_extended numbers.0 numbers.1
 
 -- an optional mark, optional blanks, and an unmarked version
 unfoldable pub read_version : List ℕ → Read VersionValue

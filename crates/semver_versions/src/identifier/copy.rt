@@ -7,7 +7,7 @@ ghost use Rattle.semver_versions.specs.IdentifierText.{IsListed, identifiers_of}
 ghost use Rattle.semver_versions.specs.IdentifierValue.{numeric};
 
 use crate::identifier::borrowed::borrowed_of;
-use crate::parse::listed::split_first;
+use crate::parse::listed::{split_first, split_number};
 use crate::{Identifier, IdentifierRef, Identifiers};
 use std::alloc::{AllocError, Global};
 
@@ -106,6 +106,18 @@ impl<'a> Identifiers<'a> {
         }
         list_of(alloc, self.text)
     }
+
+    // The same. `inline(always)`: where most lists have identifiers, a call would take 40 instructions more.
+    #[inline(always)]
+    pub(crate) fn to_vec_inline(&self, alloc: Global) -> Result<Vec<Identifier>, AllocError>
+        ensures copies { IfOk result (λ v. values_of v.items ≡ self.now) }
+        ensures plain { self.now ≡ [] → IsOk result }
+    {
+        if self.is_empty() {
+            return Ok(Vec::new(alloc));
+        }
+        list_inline(alloc, self.text)
+    }
 }
 
 // The identifiers of such a text. `inline(never)`: a version without lists needs no stack for them.
@@ -114,12 +126,28 @@ fn list_of(alloc: Global, text: &[u8]) -> Result<Vec<Identifier>, AllocError>
     requires { IsListed text.now }
     ensures { IfOk result (λ v. values_of v.items ≡ identifiers_of text.now) }
 {
+    list_inline(alloc, text)
+}
+
+#[inline(always)]
+fn list_inline(alloc: Global, text: &[u8]) -> Result<Vec<Identifier>, AllocError>
+    requires { IsListed text.now }
+    ensures { IfOk result (λ v. values_of v.items ≡ identifiers_of text.now) }
+{
     let mut list = Vec::with_capacity(alloc, USUAL_IDENTIFIERS)?;
     let mut rest = text;
     'identifiers: while !rest.is_empty() {
-        let (first, others) = split_first(rest);
-        list.push(copy_of(alloc, borrowed_of(first))?)?;
-        rest = others;
+        match split_number(rest) {
+            Some((number, others)) => {
+                list.push(Identifier::Numeric(number))?;
+                rest = others;
+            }
+            None => {
+                let (first, others) = split_first(rest);
+                list.push(copy_of(alloc, borrowed_of(first))?)?;
+                rest = others;
+            }
+        }
     }
     Ok(list)
 }

@@ -1,13 +1,14 @@
 //! A prerelease and a build as parts of the text. Nothing is built here.
 //!
 //! `#[inline(always)]`: what is short is part of the reader around it, and hands slices on in registers.
-ghost use Rattle.std.specs.Prelude.{◌≡◌, ◌<◌, ℕ, length};
+ghost use Rattle.std.specs.Prelude.{◌≡◌, ◌<◌, ℕ, IfSome, length};
 ghost use Rattle.semver_versions.specs.IdentifierText.{IsListed, identifiers_of};
-ghost use Rattle.semver_versions.specs.Readers.ListedViews.{IsFirstSplit, IsListSplit, is_inner};
+ghost use Rattle.semver_versions.specs.Readers.ListedViews.{IsFirstSplit, IsListSplit, IsNumberSplit, is_inner};
 ghost use Rattle.semver_versions.specs.Readers.Reading as Reading;
 
 use crate::parse::extras::skip_identifiers;
 use crate::parse::identifiers::{begins_identifier, skip_hyphen, skip_plus};
+use crate::parse::number::read_number;
 use crate::parse::skip::split;
 
 // `alpha.1` and `+5` of `alpha.1+5`; if there is no list, nothing and `otherwise`.
@@ -78,5 +79,22 @@ pub(crate) fn split_first(text: &[u8]) -> (&[u8], &[u8])
     match rest {
         [_, others @ ..] => (part, others),
         [] => (part, rest),
+    }
+}
+
+// 1 and `alpha` of `1.alpha`: the number that is the first identifier, and the identifiers after it. `None` also if that
+// number is greater than `MAX_SAFE_INTEGER`.
+#[inline(always)]
+pub(crate) fn split_number(text: &[u8]) -> Option<(u64, &[u8])>
+    requires { IsListed text.now }
+    ensures { IfSome result (λ n. IsNumberSplit text.now n.0 n.1.now) }
+{
+    let Ok((number, rest)) = read_number(text) else {
+        return None;
+    };
+    match rest {
+        [] => Some((number, rest)),
+        [b'.', others @ ..] => Some((number, others)),
+        _ => None,
     }
 }

@@ -1,15 +1,12 @@
-ghost use Rattle.std.specs.Prelude.{◌≡◌, IfOk, IfSome, IsOk, []};
+ghost use Rattle.std.specs.Prelude.{◌≡◌, IfSome, Ok};
 ghost use Rattle.semver_versions.specs.Characters.{is_blank, is_version_mark};
 ghost use Rattle.semver_versions.specs.Readers.Reading as Reading;
 ghost use Rattle.semver_versions.specs.Readers.DottedReading.{read_dotted};
-ghost use Rattle.semver_versions.specs.Readers.ReadingViews.{IsLeadingTriple, extras_seen, seen};
+ghost use Rattle.semver_versions.specs.Readers.ReadingViews.{seen};
 
-use crate::Identifier;
 use crate::parse::Fault;
-use crate::parse::identifiers::{read_build, read_prerelease};
 use crate::parse::number::{is_digit, missing, read_number};
 use crate::parse::skip::skip_blanks;
-use std::alloc::{AllocError, Global};
 
 // The number after the dot that the text begins with, and the rest: 2 and `.3` for `.2.3`. `inline(always)` in this
 // file: these readers are the usual way of each version, and hand numbers on in registers.
@@ -36,9 +33,9 @@ fn skip_version_mark(text: &[u8]) -> &[u8]
     }
 }
 
-/// Returns the number after an optional `v` and blanks, and the rest: `1` and `.2.3` for `V 1.2.3`.
+// The number after an optional `v` and blanks, and the rest: `1` and `.2.3` of `V 1.2.3`
 #[inline(always)]
-pub fn read_major(text: &[u8]) -> Result<(u64, &[u8]), Fault>
+fn read_major(text: &[u8]) -> Result<(u64, &[u8]), Fault>
     ensures { seen result ≡ Reading.read_number (Reading.rest_of is_blank (Reading.skip_one is_version_mark text.now)) }
 {
     // Most texts begin with a digit: they have no mark and no blanks.
@@ -48,9 +45,9 @@ pub fn read_major(text: &[u8]) -> Result<(u64, &[u8]), Fault>
     }
 }
 
-/// Returns the triple whose major was read, and the rest: `1.2.3` and `-alpha` for 1 and `.2.3-alpha`.
+// The triple whose major was read, and the rest: `1.2.3` and `-alpha` of 1 and `.2.3-alpha`
 #[inline(always)]
-pub fn read_minor_and_patch(major: u64, text: &[u8]) -> Result<((u64, u64, u64), &[u8]), Fault>
+fn read_minor_and_patch(major: u64, text: &[u8]) -> Result<((u64, u64, u64), &[u8]), Fault>
     ensures { seen result ≡ Reading.read_minor_and_patch (major, text.now) }
 {
     let (minor, rest) = read_dotted(text)?;
@@ -58,40 +55,24 @@ pub fn read_minor_and_patch(major: u64, text: &[u8]) -> Result<((u64, u64, u64),
     Ok(((major, minor, patch), rest))
 }
 
-/// Returns three numbers that the text begins with, and the rest: `1.2.3` and `-alpha` for `1.2.3-alpha`. `None` if it
-/// does not begin with three numbers of at most `MAX_SAFE_INTEGER`.
+/// Returns three numbers after an optional `v` and blanks, and the rest: `1.2.3` and `-alpha` for `V 1.2.3-alpha`.
+#[inline(always)]
+#[tactic(auto, unfolding(crate::specs::Readers::Reading::read_triple))]
+pub fn read_marked_triple(text: &[u8]) -> Result<((u64, u64, u64), &[u8]), Fault>
+    ensures { seen result ≡ Reading.read_marked_triple text.now }
+{
+    let (major, rest) = read_major(text)?;
+    read_minor_and_patch(major, rest)
+}
+
+/// Returns the same if the text begins with a digit. Otherwise returns `None`, as for each fault.
+// The fast path of most versions: without a fault and without a mark to pass over.
 #[inline(always)]
 pub fn read_leading_triple(text: &[u8]) -> Option<((u64, u64, u64), &[u8])>
-    ensures { IfSome result (λ t. IsLeadingTriple text.now t.0 t.1.now) }
+    ensures { IfSome result (λ t. Reading.read_marked_triple text.now ≡ Ok (t.0, t.1.now)) }
 {
     let Ok((major, rest)) = read_number(text) else {
         return None;
     };
     read_minor_and_patch(major, rest).ok()
-}
-
-/// Returns an optional prerelease, an optional build, and the rest: `-alpha+5` and ` <2.0.0` for `-alpha+5 <2.0.0`.
-///
-/// # Errors
-///
-/// Returns `AllocError` if an allocation fails.
-///
-/// # Memory
-///
-/// Allocates the identifiers. Does not allocate if there are none.
-#[inline(always)]
-#[tactic(auto, unfolding(crate::specs::Readers::Reading::read_extras, crate::specs::Readers::Reading::read_build, crate::specs::Readers::Reading::skip_plus))]
-pub fn read_extras(
-    alloc: Global,
-    text: &[u8],
-) -> Result<((Vec<Identifier>, Vec<Identifier>), &[u8]), AllocError>
-    ensures read { IfOk result (λ x. extras_seen x ≡ Reading.read_extras text.now) }
-    ensures plain { (Reading.read_extras text.now).0 ≡ ([], []) → IsOk result }
-{
-    let (pre_release, rest) = read_prerelease(alloc, text)?;
-    if let [] = rest {
-        return Ok(((pre_release, Vec::new(alloc)), rest));
-    }
-    let (build, rest) = read_build(alloc, rest)?;
-    Ok(((pre_release, build), rest))
 }

@@ -3,17 +3,17 @@ ghost use Rattle.semver_versions.specs.Readers.ReadingViews.{IsBegun};
 ghost use Rattle.semver_versions.specs.Print.{version_text};
 ghost use Rattle.semver_versions.specs.declared.TheConstants.{MAX_LENGTH};
 ghost use Rattle.semver_versions.specs.Version.{VersionValue, release};
-ghost use Rattle.semver_versions.specs.declared.parse.fault.Fault.TheVariants.{TooLarge};
 ghost use Rattle.semver_versions.specs.VersionText.{IsVersionText};
-ghost use Rattle.semver_versions.specs.Error.{IsOutOfMemory, kind_of};
+ghost use Rattle.semver_versions.specs.Error.{IsOutOfMemory};
 ghost use Rattle.semver_versions.specs.Fault.{IsFaultOf};
-ghost use Rattle.semver_versions.specs.Readers.FaultViews.{IsErrorOf, IsMemoryOr, kind_in};
+ghost use Rattle.semver_versions.specs.Readers.FaultViews.{IsReadFault};
 ghost use Rattle.semver_versions.specs.ReadingBack.{HasText, VersionReadsBack};
 ghost use Rattle.semver_versions.specs.Error.{IsReadAs};
 
 use crate::parse::{Fault, read_leading_triple};
-use crate::version::read::{large_kind, read_after_triple, read_version};
-use crate::{MAX_LENGTH, SemverError, SemverErrorKind, Version};
+use crate::version_ref::VersionFault;
+use crate::version_ref::read::{read_numbers, read_rest};
+use crate::{MAX_LENGTH, SemverError, Version};
 use std::alloc::Global;
 
 impl Version {
@@ -144,30 +144,12 @@ fn version_after_triple(
     ensures plain { (v : VersionValue) → IsVersionText text.now v → v.pre_release ≡ []
         → v.build ≡ [] → IsOk result }
 {
-    match whole_after_triple(alloc, text.as_bytes(), (major, minor, patch), rest) {
-        Ok(version) => Ok(version),
+    match read_rest(text.as_bytes(), (major, minor, patch), rest) {
+        Ok(version) => match version.to_version(alloc) {
+            Ok(version) => Ok(version),
+            Err(_) => Err(out_of_memory(alloc)),
+        },
         Err(fault) => Err(refused(alloc, text, fault)),
-    }
-}
-
-// `inline(always)`: the fault stays in registers until the error is built.
-#[inline(always)]
-fn whole_after_triple<'a>(
-    alloc: Global,
-    text: &'a [u8],
-    triple: (u64, u64, u64),
-    rest: &'a [u8],
-) -> Result<Version, Fault>
-    requires { IsBegun text.now triple rest.now }
-    ensures found { IfOk result (λ v. IsVersionText text.now v) }
-    ensures fault { IfErr result (IsMemoryOr text.now) }
-    ensures plain { (v : VersionValue) → IsVersionText text.now v → v.pre_release ≡ []
-        → v.build ≡ [] → IsOk result }
-{
-    match read_after_triple(alloc, text, triple, rest) {
-        Ok((found, [])) => Ok(found),
-        Ok((_, rest)) => Err(Fault::LeftOver(rest.len())),
-        Err(fault) => Err(fault),
     }
 }
 
@@ -191,52 +173,27 @@ fn version_of_text(alloc: Global, text: &str) -> Result<Version, SemverError>
     ensures plain { (v : VersionValue) → IsVersionText text.now v → v.pre_release ≡ []
         → v.build ≡ [] → IsOk result }
 {
-    match whole(alloc, text.as_bytes()) {
-        Ok(version) => Ok(version),
+    match read_numbers(text.as_bytes()) {
+        Ok((triple, [])) => Ok(Version::new(alloc, triple.0, triple.1, triple.2)),
+        Ok((triple, rest)) => after_triple(alloc, text, triple, rest),
         Err(fault) => Err(refusal(alloc, text, fault)),
-    }
-}
-
-// `inline(always)`: the fault stays in registers until the error is built.
-#[inline(always)]
-fn whole(alloc: Global, text: &[u8]) -> Result<Version, Fault>
-    ensures found { IfOk result (λ v. IsVersionText text.now v) }
-    ensures fault { IfErr result (IsMemoryOr text.now) }
-    ensures plain { (v : VersionValue) → IsVersionText text.now v → v.pre_release ≡ []
-        → v.build ≡ [] → IsOk result }
-{
-    if text.len() > MAX_LENGTH {
-        // The fault is at the last byte.
-        return Err(Fault::TooLong(1));
-    }
-    match read_version(alloc, text) {
-        Ok((version, [])) => Ok(version),
-        Ok((_, rest)) => Err(Fault::LeftOver(rest.len())),
-        Err(fault) => Err(fault),
     }
 }
 
 // The error for a fault of this text. `inline(always)`: the error is built where it is returned.
 #[inline(always)]
 fn refusal(alloc: Global, text: &str, fault: Fault) -> SemverError
-    requires { IsMemoryOr text.now fault }
-    ensures { IsErrorOf text.now fault result }
+    requires { IsReadFault text.now fault }
+    ensures { IsOutOfMemory result ⊎ IsFaultOf text.now result }
 {
-    let (kind, left) = match fault {
-        Fault::TooLong(left) => (SemverErrorKind::MaxLengthError, left),
-        Fault::Missing(left) => (SemverErrorKind::Context("version"), left),
-        Fault::TooLarge(left) => (large_kind_at(text.as_bytes(), left), left),
-        Fault::LeftOver(left) => (SemverErrorKind::Other, left),
-        Fault::OutOfMemory => return SemverError::out_of_memory(alloc),
-    };
-    SemverError::new(alloc, text, text.len().saturating_sub(left), kind)
+    VersionFault::of(text.as_bytes(), fault).into_error(alloc, text)
 }
 
 // `inline(always)`: see `after_triple`.
 #[inline(always)]
 fn refused(alloc: Global, text: &str, fault: Fault) -> SemverError
-    requires { IsMemoryOr text.now fault }
-    ensures { IsErrorOf text.now fault result }
+    requires { IsReadFault text.now fault }
+    ensures { IsOutOfMemory result ⊎ IsFaultOf text.now result }
 {
     refusal_after_triple(alloc, text, fault)
 }
@@ -245,19 +202,17 @@ fn refused(alloc: Global, text: &str, fault: Fault) -> SemverError
 #[cold]
 #[inline(never)]
 fn refusal_after_triple(alloc: Global, text: &str, fault: Fault) -> SemverError
-    requires { IsMemoryOr text.now fault }
-    ensures { IsErrorOf text.now fault result }
+    requires { IsReadFault text.now fault }
+    ensures { IsOutOfMemory result ⊎ IsFaultOf text.now result }
 {
     refusal(alloc, text, fault)
 }
 
-// The kind of error for a number that is too large, given how many bytes are left from it on. `inline(never)`: few
-// texts have one.
+// The error for a failed allocation. `cold`, `inline(never)`: hardly any text has it.
 #[cold]
 #[inline(never)]
-fn large_kind_at(text: &[u8], left: usize) -> SemverErrorKind
-    requires { IsMemoryOr text.now (TooLarge left) }
-    ensures { kind_of result ≡ kind_in text.now (TooLarge left) }
+fn out_of_memory(alloc: Global) -> SemverError
+    ensures { IsOutOfMemory result }
 {
-    large_kind(&text[text.len().saturating_sub(left)..])
+    SemverError::out_of_memory(alloc)
 }

@@ -1,11 +1,19 @@
 //! The fault of a version text, without a copy of the text.
 ghost use Rattle.std.specs.Prelude.{◌≡◌, ◌⊎◌};
+ghost use Rattle.semver_versions.specs.Characters as Characters;
+ghost use Rattle.semver_versions.specs.Characters.{BeginsWith};
 ghost use Rattle.semver_versions.specs.Error.{IsOutOfMemory, IsRefusalAt, kind_of};
-ghost use Rattle.semver_versions.specs.VersionFault.{fault_kind_of};
+ghost use Rattle.semver_versions.specs.Fault as Told;
+ghost use Rattle.semver_versions.specs.NumberText.{number_of};
+ghost use Rattle.semver_versions.specs.Readers.FaultViews.{IsReadFault, kind_in};
+ghost use Rattle.semver_versions.specs.Readers.Reading as Reading;
+ghost use Rattle.semver_versions.specs.VersionFault.{IsVersionFault, fault_kind_of};
+ghost use Rattle.semver_versions.specs.declared.parse.fault.Fault.TheVariants.{TooLarge};
 
-use crate::version::read::large_kind;
+use crate::parse::{Fault, leading_digits};
 use crate::{SemverError, SemverErrorKind};
 use std::alloc::Global;
+use std::str;
 
 /// Why `VersionRef::parse` failed, and where. It has no copy of the text.
 ///
@@ -38,7 +46,27 @@ pub(crate) enum FaultKind {
 }
 
 impl VersionFault {
+    // The fault of this text, with its place. `inline(always)`: it stays in registers until an error is built from it.
+    #[inline(always)]
+    pub(crate) fn of(text: &[u8], fault: Fault) -> VersionFault
+        requires { IsReadFault text.now fault }
+        ensures { IsVersionFault text.now result }
+    {
+        let (kind, left) = match fault {
+            Fault::TooLong(left) => (FaultKind::TooLong, left),
+            Fault::Missing(left) => (FaultKind::Missing, left),
+            Fault::TooLarge(left) => (large_at(text, left), left),
+            Fault::LeftOver(left) => (FaultKind::LeftOver, left),
+        };
+        VersionFault {
+            kind,
+            offset: text.len() - left,
+        }
+    }
+
     /// Returns the kind of the fault, as the error of `Version::parse` has it.
+    // `inline(always)`: as `of`.
+    #[inline(always)]
     pub fn kind(self) -> SemverErrorKind
         ensures { kind_of result ≡ fault_kind_of self.kind }
     {
@@ -62,9 +90,39 @@ impl VersionFault {
     /// Returns the error with a copy of `text`, the text that was parsed: the error that `Version::parse` returns.
     ///
     /// If the allocation of the copy fails, the error has the kind `OutOfMemory`.
+    // `inline(always)`: as `of`.
+    #[inline(always)]
     pub fn into_error(self, alloc: Global, text: &str) -> SemverError
         ensures { IsOutOfMemory result ⊎ IsRefusalAt text.now (fault_kind_of self.kind) self.offset result }
     {
         SemverError::new(alloc, text, self.offset, self.kind())
+    }
+}
+
+// The kind of fault for a number that is too large, given how many bytes are left from it on. `cold`, `inline(never)`:
+// few texts have one.
+#[cold]
+#[inline(never)]
+fn large_at(text: &[u8], left: usize) -> FaultKind
+    requires { IsReadFault text.now (TooLarge left) }
+    ensures { fault_kind_of result ≡ kind_in text.now (TooLarge left) }
+{
+    match large_kind(&text[text.len() - left..]) {
+        SemverErrorKind::MaxIntError(number) => FaultKind::TooLarge(number),
+        _ => FaultKind::Overflow,
+    }
+}
+
+// The kind of error for a number that is too large: `9007199254740992`, `18446744073709551616`
+fn large_kind(text: &[u8]) -> SemverErrorKind
+    requires { BeginsWith Characters.is_digit text.now }
+    ensures { kind_of result ≡ Told.too_large (number_of (Reading.prefix_of Characters.is_digit text.now)) }
+{
+    let digits = leading_digits(text);
+    // Safe: digits are ASCII.
+    let digits = unsafe { str::from_utf8_unchecked(digits) };
+    match digits.parse::<u64>() {
+        Ok(value) => SemverErrorKind::MaxIntError(value),
+        Err(error) => SemverErrorKind::ParseIntError(error),
     }
 }

@@ -1,22 +1,17 @@
-//! Reading a version that borrows its text.
+//! Reading a version that borrows its text. `Version::parse` reads by the same functions, and copies the result.
 //!
 //! `#[inline(always)]`: the readers hand numbers and slices on in registers.
-ghost use Rattle.std.specs.Prelude.{◌≡◌, IfOk, IfErr};
-ghost use Rattle.semver_versions.specs.Readers.Reading as Reading;
-ghost use Rattle.semver_versions.specs.Readers.ReadingViews.{seen};
+ghost use Rattle.std.specs.Prelude.{IfOk, IfErr};
+ghost use Rattle.semver_versions.specs.Readers.ReadingViews.{IsBegun};
 ghost use Rattle.semver_versions.specs.Version.{VersionValue};
 ghost use Rattle.semver_versions.specs.VersionText.{IsVersionText};
-ghost use Rattle.semver_versions.specs.declared.parse.fault.Fault.TheVariants.{TooLarge};
-ghost use Rattle.semver_versions.specs.Readers.FaultViews.{kind_in};
-ghost use Rattle.semver_versions.specs.Readers.RefViews.{IsReadFault};
-ghost use Rattle.semver_versions.specs.VersionFault.{IsBorrowedAs, IsVersionFault, fault_kind_of};
+ghost use Rattle.semver_versions.specs.Readers.FaultViews.{IsReadFault};
+ghost use Rattle.semver_versions.specs.VersionFault.{IsBorrowedAs, IsVersionFault};
 
 use crate::identifier::borrowed::borrow_extras;
-use crate::parse::{Fault, read_major, read_minor_and_patch};
-use crate::version::read::large_kind;
-use crate::version_ref::fault::FaultKind;
+use crate::parse::{Fault, read_marked_triple};
 use crate::version_ref::{VersionFault, VersionRef};
-use crate::{Identifiers, MAX_LENGTH, SemverErrorKind};
+use crate::{Identifiers, MAX_LENGTH};
 
 impl<'a> VersionRef<'a> {
     /// Reads a version from a text, and borrows the text.
@@ -59,56 +54,57 @@ fn whole(text: &[u8]) -> Result<VersionRef<'_>, Fault>
     ensures found { IfOk result (λ v. IsVersionText text.now v) }
     ensures fault { IfErr result (IsReadFault text.now) }
 {
+    let (triple, rest) = read_numbers(text)?;
+    read_rest(text, triple, rest)
+}
+
+// The three numbers of a version text, and the rest: `1.2.3` and `-alpha` of `V 1.2.3-alpha`
+#[inline(always)]
+pub(crate) fn read_numbers(text: &[u8]) -> Result<((u64, u64, u64), &[u8]), Fault>
+    ensures begun { IfOk result (λ t. IsBegun text.now t.0 t.1.now) }
+    ensures fault { IfErr result (IsReadFault text.now) }
+{
     if text.len() > MAX_LENGTH {
         // The fault is at the last byte.
         return Err(Fault::TooLong(1));
     }
-    match read_borrowed(text) {
-        Ok((version, [])) => Ok(version),
-        Ok((_, rest)) => Err(Fault::LeftOver(rest.len())),
-        Err(fault) => Err(fault),
-    }
+    read_marked_triple(text)
 }
 
-// `V 1.2.3` and ` <2.0.0` of `V 1.2.3 <2.0.0`
+// The version of a text, whose three numbers were read and are followed by `rest`.
 #[inline(always)]
-#[tactic(auto, unfolding(crate::specs::Readers::Reading::read_version, crate::specs::Readers::Reading::read_unmarked, crate::specs::Readers::Reading::read_triple))]
-fn read_borrowed(text: &[u8]) -> Result<(VersionRef<'_>, &[u8]), Fault>
-    ensures { seen result ≡ Reading.read_version text.now }
+pub(crate) fn read_rest<'a>(
+    text: &[u8],
+    triple: (u64, u64, u64),
+    rest: &'a [u8],
+) -> Result<VersionRef<'a>, Fault>
+    requires { IsBegun text.now triple rest.now }
+    ensures found { IfOk result (λ v. IsVersionText text.now v) }
+    ensures fault { IfErr result (IsReadFault text.now) }
 {
-    let (major, rest) = read_major(text)?;
-    let (triple, rest) = read_minor_and_patch(major, rest)?;
-    Ok(read_extended(triple, rest))
-}
-
-// The triple with the prerelease and the build that follow it.
-#[inline(always)]
-#[tactic(auto, unfolding(crate::specs::Readers::Reading::read_extras, crate::specs::Readers::Reading::read_prerelease, crate::specs::Readers::Reading::read_build, crate::specs::Readers::Reading::skip_one, crate::specs::Readers::Reading::skip_plus))]
-fn read_extended(triple: (u64, u64, u64), text: &[u8]) -> (VersionRef<'_>, &[u8])
-    ensures version { result.0 ≡ Reading.version_of triple (Reading.read_extras text.now).0 }
-    ensures rest { result.1.now ≡ (Reading.read_extras text.now).1 }
-{
+    let _length = text.len();
     let (major, minor, patch) = triple;
     // Most versions end here.
-    if let [] = text {
-        let version = VersionRef {
+    if let [] = rest {
+        return Ok(VersionRef {
             major,
             minor,
             patch,
             pre_release: Identifiers::none(),
             build: Identifiers::none(),
-        };
-        return (version, text);
+        });
     }
-    let (pre_release, build, rest) = borrow_extras(text);
-    let version = VersionRef {
-        major,
-        minor,
-        patch,
-        pre_release,
-        build,
-    };
-    (version, rest)
+    let (pre_release, build, left) = borrow_extras(rest);
+    match left {
+        [] => Ok(VersionRef {
+            major,
+            minor,
+            patch,
+            pre_release,
+            build,
+        }),
+        _ => Err(Fault::LeftOver(left.len())),
+    }
 }
 
 // The fault with its place. `cold`, `inline(never)`: few texts have one.
@@ -118,28 +114,5 @@ fn fault_of(text: &[u8], fault: Fault) -> VersionFault
     requires { IsReadFault text.now fault }
     ensures { IsVersionFault text.now result }
 {
-    let (kind, left) = match fault {
-        Fault::TooLong(left) => (FaultKind::TooLong, left),
-        Fault::Missing(left) => (FaultKind::Missing, left),
-        Fault::TooLarge(left) => (large_at(text, left), left),
-        Fault::LeftOver(left) => (FaultKind::LeftOver, left),
-        // No reader here allocates.
-        Fault::OutOfMemory => (FaultKind::LeftOver, 0),
-    };
-    VersionFault {
-        kind,
-        offset: text.len().saturating_sub(left),
-    }
-}
-
-// The kind of fault for a number that is too large, given how many bytes are left from it on.
-#[inline(never)]
-fn large_at(text: &[u8], left: usize) -> FaultKind
-    requires { IsReadFault text.now (TooLarge left) }
-    ensures { fault_kind_of result ≡ kind_in text.now (TooLarge left) }
-{
-    match large_kind(&text[text.len().saturating_sub(left)..]) {
-        SemverErrorKind::MaxIntError(number) => FaultKind::TooLarge(number),
-        _ => FaultKind::Overflow,
-    }
+    VersionFault::of(text, fault)
 }

@@ -28,7 +28,7 @@ module _ (n : ℕ) (small : n < 2 ^ 64) where
   pub decimal-begins : BeginsWith is_digit (decimal n)
   decimal-begins = some-begins is_digit (decimal n) (decimal_nonempty n small) decimal-digits
 
-characters-of_digits : (text : List ℕ) → AreAll is_digit text → AreAll is_identifier_character text
+pub characters-of_digits : (text : List ℕ) → AreAll is_digit text → AreAll is_identifier_character text
 characters-of_digits [] all = refl
 characters-of_digits (b ∷ text) all =
     let both = and_parts (is_digit b) (list_all is_digit text) all in

@@ -13,7 +13,6 @@ use Rattle.semver_versions.specs.Readers.Reading.{rest_of, skip_one, begins, rea
 use Rattle.semver_versions.specs.Readers.Reading.{read_number, read_triple, read_dot, read_unmarked, version_of}
 use Rattle.semver_versions.specs.declared.parse.fault.Fault.{Fault}
 use Rattle.semver_versions.specs.declared.parse.fault.Fault.TheVariants.{TooLarge}
-use Rattle.semver_versions.specs.Readers.ReadingViews.{left_of}
 use Rattle.semver_versions.specs.Lemmas.Texts.Prefixes.{begins-append, rest_of-again, prefix_of-again, no-append}
 use Rattle.semver_versions.specs.Lemmas.Texts.Prefixes.{with-begins}
 use Rattle.semver_versions.specs.Lemmas.Texts.Prefixes.{with_no-begins}
@@ -26,7 +25,7 @@ use Rattle.semver_versions.specs.Lemmas.Versions.VersionReading.{numbers-again, 
 use Rattle.semver_versions.specs.Error.{Kind, max_length, other}
 use Rattle.semver_versions.specs.Fault.{IsAllDigits, IsFault, HasPrefix, large_number, left_over, no_number, no_dot}
 use Rattle.semver_versions.specs.Fault.{too_large, too_long, with_dots}
-use Rattle.semver_versions.specs.Readers.FaultViews.{kind_in}
+use Rattle.semver_versions.specs.Readers.FaultViews.{kind_in, left_of}
 use Rattle.semver_versions.specs.Lemmas.Versions.FaultReading.{AreNumbers, digits-there, fault-takes, prefix-length}
 use Rattle.semver_versions.specs.Lemmas.Versions.FaultReading.{left-takes}
 use Rattle.semver_versions.specs.Lemmas.Versions.FaultReading.{missing_at}
@@ -235,10 +234,10 @@ ReadOrFaulty text = ((v : VersionValue) × IsVersionText text v)
 
 result-takes : (text : List ℕ) (r : Result (VersionValue × List ℕ) Fault) → length text ≤ MAX_LENGTH
     → read_version text ≡ r → ReadOrFaulty text
-result-takes text (Err f) short h = inr (kind_in text f, length text - left_of f, fault-takes text f short h)
+result-takes text (Err f) short h = inr (kind_in text f, length text - left_of f, (fault-takes text f short h).fault)
 result-takes text (Ok (v, [])) short h = inl (v, read-version text v short h)
 result-takes text (Ok (v, b ∷ rest)) short h =
-    inr (other, length text - length (b ∷ rest), left-takes text v b rest short h)
+    inr (other, length text - length (b ∷ rest), (left-takes text v b rest short h).fault)
 
 -- each text is a version text or has a fault
 pub read_or_faulty : (text : List ℕ) → ReadOrFaulty text

@@ -15,8 +15,7 @@ use Rattle.semver_versions.specs.Readers.Reading.{◌>>=◌, rest_of, skip_one, 
 use Rattle.semver_versions.specs.Readers.Reading.{read_number}
 use Rattle.semver_versions.specs.Readers.Reading.{read_triple, read_dot, read_unmarked}
 use Rattle.semver_versions.specs.declared.parse.fault.Fault.{Fault}
-use Rattle.semver_versions.specs.declared.parse.fault.Fault.TheVariants.{Missing, TooLarge}
-use Rattle.semver_versions.specs.Readers.ReadingViews.{left_of}
+use Rattle.semver_versions.specs.declared.parse.fault.Fault.TheVariants.{LeftOver, Missing, TooLarge}
 use Rattle.semver_versions.specs.Lemmas.Texts.Prefixes.{rest_of-no, begins-with, begins-with_no, prefix_of-rest_of}
 use Rattle.semver_versions.specs.Lemmas.Texts.Prefixes.{prefix_of-again, prefix_of-all, prefix_of-begins}
 use Rattle.semver_versions.specs.Lemmas.Texts.LongestReading.{version-longest, version-no_digit}
@@ -26,7 +25,7 @@ use Rattle.semver_versions.specs.Lemmas.Versions.VersionReading.{version-takes}
 use Rattle.semver_versions.specs.Error.{Kind, context, other}
 use Rattle.semver_versions.specs.Fault.{IsAllDigits, IsFault, HasPrefix, large_number, left_over, no_number, no_dot}
 use Rattle.semver_versions.specs.Fault.{too_large, with_dots}
-use Rattle.semver_versions.specs.Readers.FaultViews.{kind_in}
+use Rattle.semver_versions.specs.Readers.FaultViews.{IsReadFault, kind_in}
 
 -- a chain that gave a fault
 pub bind-err : {A B : Type 0} (r : Result A Fault) (f : A → Result B Fault) (e : Fault) → (r >>= f) ≡ Err e
@@ -95,16 +94,18 @@ pub prefix-length : (text beginning rest : List ℕ) → text ≡ beginning ++ r
     → length beginning ≡ length text - length rest
 prefix-length text beginning rest e = omega (arith, ap length e, length-append beginning rest)
 
--- the text has this fault
-abbrev Has : List ℕ → Fault → Type 0
-Has text f = IsFault text (kind_in text f) (length text - left_of f)
+-- what follows a prefix is no longer than the text
+pub rest-within : (text beginning rest : List ℕ) → text ≡ beginning ++ rest → length rest ≤ length text
+rest-within text beginning rest e = omega (arith, ap length e, length-append beginning rest)
 
 -- a number or a dot is missing where the rest begins
 told-missing : (text beginning rest : List ℕ) (f : Fault) → text ≡ beginning ++ rest → missing_at rest ≡ f
-    → IsFault text (context (codes "version")) (length beginning) → Has text f
+    → IsFault text (context (codes "version")) (length beginning) → IsReadFault text f
 told-missing text beginning rest f whole told h =
-    subst (λ (g : Fault). Has text g) told
-    (subst (λ (n : ℕ). IsFault text (context (codes "version")) n) (prefix-length text beginning rest whole) h)
+    subst (λ (g : Fault). IsReadFault text g) told (record {
+      within = rest-within text beginning rest whole;
+      fault = subst (λ (n : ℕ). IsFault text (context (codes "version")) n) (prefix-length text beginning rest whole) h;
+    })
 
 -- what follows a prefix
 pub behind-there : (text beginning rest : List ℕ) → text ≡ beginning ++ rest → drop (length beginning) text ≡ rest
@@ -123,18 +124,20 @@ digits-there text beginning digits rest whole all =
 -- a number that is too large begins the rest
 told-large : (text beginning digits rest : List ℕ) (f : Fault) → text ≡ beginning ++ (digits ++ rest)
     → IsAllDigits digits rest → TooLarge (length (digits ++ rest)) ≡ f
-    → IsFault text (too_large (number_of digits)) (length beginning) → Has text f
+    → IsFault text (too_large (number_of digits)) (length beginning) → IsReadFault text f
 told-large text beginning digits rest f whole all told h =
     let there : too_large (number_of digits) ≡ kind_in text (TooLarge (length (digits ++ rest))) =
     ap (λ (l : List ℕ). too_large (number_of l)) (sym (digits-there text beginning digits rest whole all)) in
-    subst (λ (g : Fault). Has text g) told
-    (subst (λ (k : Kind). IsFault text k (length text - length (digits ++ rest))) there
-    (subst (λ (n : ℕ). IsFault text (too_large (number_of digits)) n)
-    (prefix-length text beginning (digits ++ rest) whole) h))
+    subst (λ (g : Fault). IsReadFault text g) told (record {
+      within = rest-within text beginning (digits ++ rest) whole;
+      fault = subst (λ (k : Kind). IsFault text k (length text - length (digits ++ rest))) there
+          (subst (λ (n : ℕ). IsFault text (too_large (number_of digits)) n)
+          (prefix-length text beginning (digits ++ rest) whole) h);
+    })
 
 -- if a number is expected after a prefix
 number-fault : (text before rest : List ℕ) (count : ℕ) (f : Fault) → length text ≤ MAX_LENGTH
-    → HasPrefix text before rest count → read_number rest ≡ Err f → Has text f
+    → HasPrefix text before rest count → read_number rest ≡ Err f → IsReadFault text f
 number-fault text before rest count f short prefix h = elim (number-fails rest f h) [
   | inl none ↦ told-missing text before rest f prefix.whole none.1 (no_number before rest count short prefix none.0)
   | inr l ↦
@@ -148,7 +151,7 @@ number-fault text before rest count f short prefix h = elim (number-fails rest f
 -- if a dot is expected after a prefix and a number
 dot-fault : (text before rest : List ℕ) (count : ℕ) (read : ℕ × List ℕ) (f : Fault) → length text ≤ MAX_LENGTH
     → HasPrefix text before rest count → count < 2
-    → read_number rest ≡ Ok read → read_dot read.1 ≡ Err f → Has text f
+    → read_number rest ≡ Ok read → read_dot read.1 ≡ Err f → IsReadFault text f
 dot-fault text before rest count read f short prefix few number h =
     let t = number-takes rest read.0 read.1 number in
     let p = dot-fails read.1 f h in
@@ -236,7 +239,7 @@ prefix-first text =
     }
 
 numbers-fault : (text before rest : List ℕ) (f : Fault) → length text ≤ MAX_LENGTH → HasPrefix text before rest 0
-    → read_triple rest ≡ Err f → Has text f
+    → read_triple rest ≡ Err f → IsReadFault text f
 unfolding read_triple
 numbers-fault text before rest f short prefix h = elim (bind-err (read_number rest) _ f h) [
   | inl e ↦ number-fault text before rest 0 f short prefix e
@@ -261,7 +264,7 @@ numbers-fault text before rest f short prefix h = elim (bind-err (read_number re
 
 -- where the reader gives a fault, the text has it
 pub fault-takes : (text : List ℕ) (f : Fault) → length text ≤ MAX_LENGTH → read_version text ≡ Err f
-    → IsFault text (kind_in text f) (length text - left_of f)
+    → IsReadFault text f
 unfolding read_version read_unmarked
 fault-takes text f short h =
     let first = prefix-first text in
@@ -273,8 +276,7 @@ fault-takes text f short h =
 
 -- where the reader leaves something after a version, the text has that fault
 pub left-takes : (text : List ℕ) (v : VersionValue) (b : ℕ) (rest : List ℕ) → length text ≤ MAX_LENGTH
-    → read_version text ≡ Ok (v, b ∷ rest)
-    → IsFault text other (length text - length (b ∷ rest))
+    → read_version text ≡ Ok (v, b ∷ rest) → IsReadFault text (LeftOver (length (b ∷ rest)))
 left-takes text v b rest short h =
     let t = version-takes text v (b ∷ rest) h in
     let version : IsVersionText t.taken v =
@@ -284,5 +286,8 @@ left-takes text v b rest short h =
     λ shorter behind w e g.
     let l = version-longest shorter behind (b ∷ rest) v w g.fields (ap (λ (l : List ℕ). read_version l) (sym e) ∙ h) in
     omega (arith, ap length e, ap length t.whole, length-append shorter behind, length-append t.taken (b ∷ rest)) in
-    subst (λ (n : ℕ). IsFault text other n) (prefix-length text t.taken (b ∷ rest) t.whole)
-    (left_over t.taken v b rest short t.whole (version-no_digit text (b ∷ rest) v h) version longest)
+    record {
+      within = rest-within text t.taken (b ∷ rest) t.whole;
+      fault = subst (λ (n : ℕ). IsFault text other n) (prefix-length text t.taken (b ∷ rest) t.whole)
+          (left_over t.taken v b rest short t.whole (version-no_digit text (b ∷ rest) v h) version longest);
+    }

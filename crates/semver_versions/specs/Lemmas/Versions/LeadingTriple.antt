@@ -1,22 +1,16 @@
 -- A triple that is read once, at the very start of a version text.
-use Rattle.std.proofs.Common.{◌≡◌, ◌<◌, ◌≤◌, ◌∙◌, ℕ, List, [], ◌∷◌, Ok, Err, Option}
-use Rattle.std.proofs.Common.{arith, inl, inr, length, refl, sym}
+use Rattle.std.proofs.Common.{◌≡◌, ℕ, List, [], ◌∷◌, Ok, Err, Option, inl, inr, refl, sym}
 use Rattle.std.proofs.lemmas.Bool.{cases_Bool}
 use Rattle.std.specs.Borrow.{Bor}
 use Rattle.std.specs.Prelude.{IfSome, Result}
 use Rattle.std.specs.Result.{result_ok}
 use Rattle.semver_versions.specs.Characters.{BeginsWith, is_blank, is_digit, is_version_mark}
-use Rattle.semver_versions.specs.Readers.Reading.{begins, read_extended, read_minor_and_patch, read_number}
-use Rattle.semver_versions.specs.Readers.Reading.{read_triple, read_unmarked, read_version, rest_of, skip_one}
-use Rattle.semver_versions.specs.Readers.ReadingViews.{IsLeadingTriple, seen}
-use Rattle.semver_versions.specs.Version.{release}
-use Rattle.semver_versions.specs.VersionText.{IsVersionText}
-use Rattle.semver_versions.specs.declared.TheConstants.{MAX_LENGTH}
+use Rattle.semver_versions.specs.Readers.Reading.{begins, read_marked_triple, read_minor_and_patch, read_number}
+use Rattle.semver_versions.specs.Readers.Reading.{read_triple, rest_of, skip_one}
+use Rattle.semver_versions.specs.Readers.ReadingViews.{seen}
 use Rattle.semver_versions.specs.declared.parse.fault.Fault.{Fault}
 use Rattle.semver_versions.specs.Lemmas.Texts.Characters.{digit-no_blank, digit-no_version_mark}
-use Rattle.semver_versions.specs.Lemmas.Texts.ExtrasReading.{no_extras}
 use Rattle.semver_versions.specs.Lemmas.Texts.Prefixes.{begins-with}
-use Rattle.semver_versions.specs.Lemmas.Versions.OneReading.{read-version}
 
 -- a number begins with a digit
 pub number-digit : (text rest : List ℕ) (number : ℕ) → Ok (number, rest) ≡ read_number text → BeginsWith is_digit text
@@ -37,24 +31,8 @@ version-begins (b ∷ text) digit = rw (digit-no_version_mark b digit, digit-no_
 pub leading-read : (text first : List ℕ) (major : ℕ) (r : Result ((ℕ × ℕ × ℕ) × Bor (List ℕ)) Fault)
     (found : Option ((ℕ × ℕ × ℕ) × Bor (List ℕ))) → Ok (major, first) ≡ read_number text
     → seen r ≡ read_minor_and_patch (major, first) → found ≡ result_ok r
-    → IfSome found (λ t. IsLeadingTriple text t.0 t.1.now)
+    → IfSome found (λ t. read_marked_triple text ≡ Ok (t.0, t.1.now))
 unfolding read_triple
-leading-read text first major (Ok x) found one two is = rw is (record {
-  digit = number-digit text first major one;
-  read = rw (← one) (sym two);
-})
+leading-read text first major (Ok x) found one two is =
+    rw (is, version-begins text (number-digit text first major one), ← one) (sym two)
 leading-read text first major (Err f) found one two is = rw is tt
-
--- then the version has them
-pub leading-version : (text rest : List ℕ) (triple : ℕ × ℕ × ℕ) → IsLeadingTriple text triple rest
-    → read_version text ≡ read_extended triple rest
-unfolding read_version read_unmarked
-leading-version text rest triple leading = rw (version-begins text leading.digit, leading.read) refl
-
--- and nothing else, where nothing follows
-pub leading-whole : (text rest : List ℕ) (triple : ℕ × ℕ × ℕ) → length text ≤ MAX_LENGTH
-    → IsLeadingTriple text triple rest → length rest < 1 → IsVersionText text (release triple.0 triple.1 triple.2)
-leading-whole text [] triple short leading none =
-    read-version text (release triple.0 triple.1 triple.2) short
-    (leading-version text [] triple leading ∙ rw no_extras refl)
-leading-whole text (b ∷ rest) triple short leading none = absurd (omega arith)

@@ -1,4 +1,17 @@
+use Rattle.std.proofs.Common.{subst}
+use Rattle.semver_versions.specs.Version.{IsPlain, VersionValue}
+use Rattle.semver_versions.specs.Lemmas.Versions.FaultLemmas.{version-no_fault}
+use Rattle.semver_versions.specs.Lemmas.Versions.OneReading.{one_reading}
 use Rattle.semver_versions.proofs.version.parse.version_after_triple.Goals as goal
 
+pub returns-in-Err-to_version-clause-plain : goal.returns-in-Err-to_version-clause-plain
+returns-in-Err-to_version-clause-plain c = λ v h pre build.
+    let same = one_reading c.as_bytes.result.now v c.in-Ok.version (rw c.as_bytes.ensures.value h) c.in-Ok.ensures.found in
+    rw c.in-Err-to_version.is at (c.to_version.ensures.plain (subst (λ (w : VersionValue). IsPlain w) same (record {
+      pre_release = pre;
+      build = build;
+    })))
+
 pub returns-in-Err-clause-plain : goal.returns-in-Err-clause-plain
-returns-in-Err-clause-plain c = λ v h. c.in-Err.ensures.plain v (rw c.as_bytes.ensures.value h)
+returns-in-Err-clause-plain c = λ v h pre build. absurd
+    (version-no_fault c.as_bytes.result.now v _ _ (rw c.as_bytes.ensures.value h) c.in-Err.ensures.fault.fault)

@@ -5,7 +5,7 @@ use Rattle.semver_versions.specs.Readers.Reading.{prefix_of}
 use Rattle.semver_versions.specs.Lemmas.Texts.Characters.{ascii-digits}
 use Rattle.semver_versions.specs.Lemmas.Texts.Prefixes.{prefix_of-all, prefix_of-begins}
 use Rattle.semver_versions.specs.Lemmas.Versions.LargeNumbers.{large-err, large-ok}
-use Rattle.semver_versions.proofs.version.read.large_kind.Goals as goal
+use Rattle.semver_versions.proofs.version_ref.fault.large_kind.Goals as goal
 
 pub from_utf8_unchecked-digits-requires : goal.from_utf8_unchecked-digits-requires
 from_utf8_unchecked-digits-requires c =

@@ -1,7 +1,7 @@
 use Rattle.std.proofs.Common.{◌≡◌, ◌++◌, length}
 use Rattle.semver_versions.specs.Identifier.{values_of}
 use Rattle.semver_versions.specs.IdentifierText.{IsListed, identifiers_of}
-use Rattle.semver_versions.proofs.identifier.copy.list_of.Given as goal
+use Rattle.semver_versions.proofs.identifier.copy.list_inline.Given as goal
 
 -- the identifiers so far and those of the rest are those of the text
 abbrev pub invariant-identifiers : goal.invariant-identifiers

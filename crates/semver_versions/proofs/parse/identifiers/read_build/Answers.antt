@@ -1,9 +1,0 @@
-use Rattle.semver_versions.specs.Readers.Reading.{read_build}
-use Rattle.semver_versions.specs.Lemmas.Texts.ExtrasReading.{read_list_or-plain}
-use Rattle.semver_versions.proofs.parse.identifiers.read_build.Goals as goal
-
-pub returns-clause-plain : goal.returns-clause-plain
-unfolding read_build
-returns-clause-plain c =
-    λ h. c.read_identifiers_or.ensures.plain
-    (read_list_or-plain c.args.text.now c.skip_plus.result.now (rw (← c.skip_plus.ensures) at h))

@@ -1,3 +1,4 @@
+pub mod OpenTriples
 pub mod LeastLemmas
 pub mod LeastOfSets
 pub mod HighestCut

@@ -1,6 +1,6 @@
 -- The first line of some bytes.
 use Rattle.std.proofs.Common.{◌≡◌, ◌⊎◌, ℕ, zero, suc, ◌+◌, ◌<◌, ◌==◌, true, false, ap, inl, inr, refl, ◌∙◌, sym}
-use Rattle.std.proofs.Common.{◌≢◌, List, [], ◌∷◌, ◌++◌, length, take, drop, add-one, arith, Option, None, Some, IfSome}
+use Rattle.std.proofs.Common.{◌≢◌, List, [], ◌∷◌, ◌++◌, length, take, drop, add-one, arith, Option, None, Some, IfNone, IfSome}
 use Rattle.std.proofs.Common.{◌-◌, eqb-true, length-append, subst, MatchOption}
 use Rattle.std.proofs.lemmas.Slice.Eq.{strip_prefix_is}
 use Rattle.std.proofs.lemmas.Bool.Decides.{Decides-eqb}
@@ -19,6 +19,11 @@ use Rattle.semver_pairs.proofs.AsciiLemmas.{ascii-before, ascii-past}
 
 is_newline : (b : ℕ) → (b == newline) ≡ true → b ≡ newline
 is_newline b here = eqb-true b newline here
+
+-- what holds anyhow holds where there is no value
+pub none-of : {X P : Type 0} (o : Option X) → P → IfNone o P
+none-of None holds = holds
+none-of (Some x) holds = tt
 
 -- ---- bytes without a newline
 

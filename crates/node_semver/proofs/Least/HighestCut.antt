@@ -12,6 +12,7 @@ use Rattle.semver_versions.specs.Version.{HasSameTriple, IsPrerelease, VersionVa
 use Rattle.semver_versions.specs.Lemmas.Order.{version_total}
 use Rattle.semver_versions.specs.Lemmas.Versions.Between.{triple-back}
 use Rattle.node_semver.specs.Least.{AdmitsBeyond}
+use Rattle.node_semver.proofs.Least.OpenTriples.{open_end-in_triple}
 
 -- ---- lists
 
@@ -100,30 +101,6 @@ module _ {X : Type 0} (P : Cut VersionValue → Type 0) (end : X → Cut Version
 
 -- ---- ends that open a triple
 
-pub opens-same : (c : Cut VersionValue) (v w : VersionValue) → HasSameTriple v w → Opens c v → Opens c w
-opens-same Start v w t opens = opens
-opens-same (Before p) v w t opens = (
-  opens.0,
-  record {
-    major = opens.1.major ∙ t.major;
-    minor = opens.1.minor ∙ t.minor;
-    patch = opens.1.patch ∙ t.patch;
-  },
-)
-opens-same (After p) v w t opens = (
-  opens.0,
-  record {
-    major = opens.1.major ∙ t.major;
-    minor = opens.1.minor ∙ t.minor;
-    patch = opens.1.patch ∙ t.patch;
-  },
-)
-opens-same End v w t opens = opens
-
-pub end-same : (set : Ends VersionValue) (v w : VersionValue) → HasSameTriple v w → HasOpenEnd v set → HasOpenEnd w set
-end-same set v w t (inl opens) = inl (opens-same set.lower v w t opens)
-end-same set v w t (inr opens) = inr (opens-same set.upper v w t opens)
-
 -- two versions ask the same of what an end opens: two releases, or two prereleases of one triple
 pub data AskAlike (v w : VersionValue) : Type 0 where
   both_releases : ¬ IsPrerelease v → ¬ IsPrerelease w → AskAlike v w
@@ -134,7 +111,7 @@ IsOpened set v = IsPrerelease v → HasOpenEnd v set
 
 opened-forth : (set : Ends VersionValue) (v w : VersionValue) → AskAlike v w → IsOpened set v → IsOpened set w
 opened-forth set v w (both_releases n m) opened = λ pre. absurd (m pre)
-opened-forth set v w (both_prereleases p q t) opened = λ _. end-same set v w t (opened p)
+opened-forth set v w (both_prereleases p q t) opened = λ _. open_end-in_triple set v w t (opened p)
 
 alike-back : (v w : VersionValue) → AskAlike v w → AskAlike w v
 alike-back v w (both_releases n m) = both_releases m n

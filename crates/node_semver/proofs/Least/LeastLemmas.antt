@@ -14,9 +14,10 @@ use Rattle.semver_versions.specs.Order.{IsBelow}
 use Rattle.semver_versions.specs.Version.{HasSameTriple, IsPrerelease, VersionValue, least_of, release}
 use Rattle.semver_versions.specs.Lemmas.Order.{Greater-turned, Less-version, version-Equal, version-Less, version_total}
 use Rattle.semver_sets.specs.Lemmas.Convex.{from-cmp}
-use Rattle.semver_versions.specs.Lemmas.Versions.Between.{triple-between}
+use Rattle.semver_versions.specs.Lemmas.Versions.Between.{triple-back, triple-between}
 use Rattle.node_semver.specs.Least.{build_at}
 use Rattle.semver_versions.specs.VersionSteps.{with_zero}
+use Rattle.node_semver.proofs.Least.OpenTriples.{open_end-in_triple}
 use Rattle.node_semver.specs.Private.LeastViews.{IsInsideOrNone, IsLeastInSet, IsLeastOfSet, IsLeastOfTriple}
 use Rattle.semver_versions.specs.Lemmas.Versions.VersionSteps.{none-below_first, none-between_patches, none-between_zeros}
 use Rattle.semver_versions.specs.Lemmas.Versions.VersionSteps.{patch-above, prerelease-from_below, with_zero-above}
@@ -122,12 +123,7 @@ from-closed : (set : Ends VersionValue) (m n p : ℕ) (v : VersionValue) → IsF
     → HasSameTriple v (least_of m n p) → ¬ IsPrerelease v → ¬ HasOpenEnd v set → IsBeginning set v
 from-closed set m n p v floor triple final closed =
     let least = least_of m n p in
-    let back : HasSameTriple least v = record {
-      major = sym triple.major;
-      minor = sym triple.minor;
-      patch =
-          sym triple.patch;
-    } in
+    let back = triple-back v least triple in
     record {
       at = at_most_trans version_total set.lower (Before least) (Before v) floor.at
           (at-least least v (λ less. final (prerelease-from_below v least triple (Less-version v least less))));
@@ -136,32 +132,8 @@ from-closed set m n p v floor triple final closed =
           (at-least least w (floor.none_below w admits.inside.lower)))
           (inl (Less-version w v less)) back in
           let pre = prerelease-from_below w v t (Less-version w v less) in
-          closed (open-same set w v t (admits.opened pre));
+          closed (open_end-in_triple set w v t (admits.opened pre));
     }
-  where
-    same-triple : (c : Cut VersionValue) (w v : VersionValue) → HasSameTriple w v → Opens c w → Opens c v
-    same-triple Start w v t opens = opens
-    same-triple (Before q) w v t opens = (
-      opens.0,
-      record {
-        major = opens.1.major ∙ t.major;
-        minor = opens.1.minor ∙ t.minor;
-        patch = opens.1.patch ∙ t.patch;
-      },
-    )
-    same-triple (After q) w v t opens = (
-      opens.0,
-      record {
-        major = opens.1.major ∙ t.major;
-        minor = opens.1.minor ∙ t.minor;
-        patch = opens.1.patch ∙ t.patch;
-      },
-    )
-    same-triple End w v t opens = opens
-
-    open-same : (set : Ends VersionValue) (w v : VersionValue) → HasSameTriple w v → HasOpenEnd w set → HasOpenEnd v set
-    open-same set w v t (inl opens) = inl (same-triple set.lower w v t opens)
-    open-same set w v t (inr opens) = inr (same-triple set.upper w v t opens)
 
 -- ---- the least version of a set
 

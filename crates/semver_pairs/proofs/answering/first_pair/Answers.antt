@@ -1,11 +1,6 @@
-use Rattle.std.proofs.Common.{Option, None, Some, IfNone}
+use Rattle.semver_pairs.proofs.LineLemmas.{none-of}
 use Rattle.semver_pairs.proofs.PairLemmas.{pairs-no_newline, pairs-split}
 use Rattle.semver_pairs.proofs.answering.first_pair.Goals as goal
-
--- what holds anyhow holds where there is no value
-none-of : {X P : Type 0} (o : Option X) → P → IfNone o P
-none-of None holds = holds
-none-of (Some x) holds = tt
 
 pub returns-in_err-range-clause-none : goal.returns-in_err-range-clause-none
 returns-in_err-range-clause-none c = none-of _ (pairs-no_newline _ c.in_err-range.ensures.none)

@@ -1,6 +1,7 @@
 //! The order of identifiers.
 
 ghost use Rattle.std.specs.Prelude.{◌≡◌, ◌↔◌, Some, IfSome, IsTrue, refl};
+ghost use Rattle.std.specs.Cmp.Lexicographic.{slice_cmp};
 ghost use Rattle.std.specs.Cmp.{eq_by_cmp_equiv, on_equiv, on_total, partial_equiv_from_equiv, po};
 ghost use Rattle.std.specs.Ordering.{eq_by_cmp, on};
 ghost use Rattle.semver_versions.specs.Identifier.{value_of, values_of};
@@ -103,7 +104,8 @@ impl Ord for Identifier {
 /// # Source
 ///
 /// SemVer 2.0.0, section 11.
-#[inline]
+// `inline(always)`: two tests.
+#[inline(always)]
 pub fn cmp_prereleases(a: &[Identifier], b: &[Identifier]) -> Ordering
     ensures { result ≡ prerelease_cmp (values_of a.now) (values_of b.now) }
 {
@@ -111,6 +113,15 @@ pub fn cmp_prereleases(a: &[Identifier], b: &[Identifier]) -> Ordering
         (true, true) => Ordering::Equal,
         (true, false) => Ordering::Greater,
         (false, true) => Ordering::Less,
-        (false, false) => a.cmp(b),
+        (false, false) => cmp_lists(a, b),
     }
+}
+
+// The order of two lists of identifiers. `inline(never)`: few comparisons come to it, and `Version::cmp` stays so small
+// that it is inlined where a list of versions is sorted.
+#[inline(never)]
+fn cmp_lists(a: &[Identifier], b: &[Identifier]) -> Ordering
+    ensures { result ≡ slice_cmp identifier_cmp (values_of a.now) (values_of b.now) }
+{
+    a.cmp(b)
 }

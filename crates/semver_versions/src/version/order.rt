@@ -90,7 +90,8 @@ impl Ord for Version {
 
     ghost matches_eq = { λ v w. refl };
 
-    #[inline]
+    // `inline(always)`: mostly the three numbers decide.
+    #[inline(always)]
     #[tactic(auto, using(crate::specs::Lemmas::Order::version_order))]
     fn cmp(&self, other: &Version) -> Ordering
         ensures answer { result ≡ version_cmp self.now other.now }

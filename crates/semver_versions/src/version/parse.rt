@@ -145,7 +145,7 @@ fn version_after_triple(
         → v.build ≡ [] → IsOk result }
 {
     match read_rest(text.as_bytes(), (major, minor, patch), rest) {
-        Ok(version) => match version.to_version(alloc) {
+        Ok(version) => match version.to_version_inline(alloc) {
             Ok(version) => Ok(version),
             Err(_) => Err(out_of_memory(alloc)),
         },

@@ -4,10 +4,10 @@ use Rattle.semver_versions.specs.Lemmas.Versions.FaultLemmas.{version-no_fault}
 use Rattle.semver_versions.specs.Lemmas.Versions.OneReading.{one_reading}
 use Rattle.semver_versions.proofs.version.parse.version_after_triple.Goals as goal
 
-pub returns-in-Err-to_version-clause-plain : goal.returns-in-Err-to_version-clause-plain
-returns-in-Err-to_version-clause-plain c = λ v h pre build.
+pub returns-in-Err-to_version_inline-clause-plain : goal.returns-in-Err-to_version_inline-clause-plain
+returns-in-Err-to_version_inline-clause-plain c = λ v h pre build.
     let same = one_reading c.as_bytes.result.now v c.in-Ok.version (rw c.as_bytes.ensures.value h) c.in-Ok.ensures.found in
-    rw c.in-Err-to_version.is at (c.to_version.ensures.plain (subst (λ (w : VersionValue). IsPlain w) same (record {
+    rw c.in-Err-to_version_inline.is at (c.to_version_inline.ensures.plain (subst (λ (w : VersionValue). IsPlain w) same (record {
       pre_release = pre;
       build = build;
     })))

@@ -9,8 +9,7 @@ use Rattle.semver_versions.specs.Lemmas.Texts.Places.{to-end}
 use Rattle.semver_versions.specs.Lemmas.Texts.Prefixes.{begins-append}
 use Rattle.semver_versions.specs.declared.TheConstants.{MAX_LENGTH}
 use Rattle.semver_versions.specs.Characters.{BeginsWith, is_digit}
-use Rattle.semver_versions.specs.NumberText.{number_of}
-use Rattle.semver_versions.specs.Readers.Reading.{prefix_of, read_extras, read_marked_triple, read_unmarked, read_version}
+use Rattle.semver_versions.specs.Readers.Reading.{read_extras, read_marked_triple, read_unmarked, read_version}
 use Rattle.semver_versions.specs.Readers.Reading.{version_of}
 use Rattle.semver_versions.specs.Readers.ReadingViews.{IsBegun, seen}
 use Rattle.semver_versions.specs.declared.parse.fault.Fault.TheVariants.{LeftOver, TooLarge}
@@ -21,7 +20,7 @@ use Rattle.semver_versions.specs.Lemmas.Texts.ExtrasReading.{no_extras}
 use Rattle.semver_versions.specs.Lemmas.Versions.OneReading.{read-version}
 use Rattle.semver_versions.specs.Error.{Kind, context, max_int, max_length, other, parse_int}
 use Rattle.semver_versions.specs.Fault.{IsFault, large_number, left_over, no_number, no_dot, too_large, too_long}
-use Rattle.semver_versions.specs.Readers.FaultViews.{IsReadFault, kind_in}
+use Rattle.semver_versions.specs.Readers.FaultViews.{IsReadFault}
 use Rattle.semver_versions.specs.Lemmas.Versions.FaultReading.{behind-there, fault-takes, left-takes}
 
 -- the fault of a text whose triple was not read
@@ -85,9 +84,3 @@ large-here text _ _ n (left_over beginning v b rest short whole digit read longe
 pub large-refused : (text : List ℕ) (left : ℕ) → IsReadFault text (TooLarge left)
     → BeginsWith is_digit (take (length text - (length text - left)) (drop (length text - left) text))
 large-refused text left told = rw (to-end text (length text - left)) (large-here text _ _ _ told.fault refl)
-
--- the number at a place
-pub number-there : (text : List ℕ) (left : ℕ)
-    → too_large (number_of (prefix_of is_digit
-    (take (length text - (length text - left)) (drop (length text - left) text)))) ≡ kind_in text (TooLarge left)
-number-there text left = rw (to-end text (length text - left)) refl

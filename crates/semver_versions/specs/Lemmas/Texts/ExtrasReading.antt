@@ -24,16 +24,6 @@ pub read_list_or-none : (otherwise text : List ℕ) → begins is_identifier_cha
     → read_list_or otherwise text ≡ ([], otherwise)
 read_list_or-none otherwise text h = pick-false _ _ _ h
 
--- if no identifiers are read, the text begins with none
-pub read_list_or-plain : (otherwise text : List ℕ) → (read_list_or otherwise text).0 ≡ []
-    → begins is_identifier_character text ≡ false
-read_list_or-plain otherwise text h = elim (cases_Bool (begins is_identifier_character text)) [
-  | inr none ↦ none
-  | inl some ↦
-      let v = some-values text in
-      cc (sym v.2 ∙ ap (λ (p : List IdentifierValue × List ℕ). p.0) (sym (read_list_or-some otherwise text some)) ∙ h)
-]
-
 -- the text before the rest is a prerelease text
 pub record TakesPrerelease (text : List ℕ) (identifiers : List IdentifierValue) (rest : List ℕ) : Type 0 where
   pub taken : List ℕ

@@ -42,7 +42,7 @@ parts-other b rest first others other shape = rw (other, shape) refl
 pub goes_on-character : (b : ℕ) (rest : List ℕ) → is_identifier_character b ≡ true → goes_on (b ∷ rest) ≡ true
 goes_on-character b rest h = rw h refl
 
-pub goes_on-dot : (b : ℕ) (rest : List ℕ) → (b == dot) ≡ true → begins is_identifier_character rest ≡ true
+goes_on-dot : (b : ℕ) (rest : List ℕ) → (b == dot) ≡ true → begins is_identifier_character rest ≡ true
     → goes_on (b ∷ rest) ≡ true
 goes_on-dot b rest here h = rw (eqb-true b dot here, h) refl
 

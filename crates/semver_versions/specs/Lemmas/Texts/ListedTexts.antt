@@ -1,5 +1,5 @@
 -- Texts of identifiers: their first identifier, and those after it.
-use Rattle.std.proofs.Common.{◌≡◌, ◌<◌, ◌-◌, ◌≤◌, ℕ, true, false, List, [], ◌∷◌, ◌++◌, refl, sym, ap, ◌∙◌, inl, inr}
+use Rattle.std.proofs.Common.{◌≡◌, ◌<◌, ◌-◌, ◌≤◌, ℕ, true, List, [], ◌∷◌, ◌++◌, refl, sym, ap, ◌∙◌, inl, inr}
 use Rattle.std.proofs.Common.{subst}
 use Rattle.std.proofs.Common.{arith, length, length-append, drop, take}
 use Rattle.std.proofs.lemmas.Bool.{and_parts, cases_Bool, eqb-true}
@@ -14,7 +14,7 @@ use Rattle.semver_versions.specs.Readers.Reading.{begins, list_prefix, list_rest
 use Rattle.semver_versions.specs.Lemmas.Texts.Characters.{character-no_dot}
 use Rattle.semver_versions.specs.Lemmas.Texts.Places.{to-end}
 use Rattle.semver_versions.specs.Lemmas.Texts.Prefixes.{prefix_of-rest_of}
-use Rattle.semver_versions.specs.Lemmas.Texts.ExtrasReading.{read_list_or-none, read_list_or-some}
+use Rattle.semver_versions.specs.Lemmas.Texts.ExtrasReading.{read_list_or-some}
 use Rattle.semver_versions.specs.Lemmas.Texts.IdentifierReading.{GoOn, list-takes, list-whole, parts-other, parts-shape}
 
 -- where the first part ends: at the end of the text, or at a dot
@@ -195,14 +195,4 @@ split-some otherwise text list rest some list_is rest_is =
       listed = subst IsListed (sym list_is)
           (subst (λ (l : List (List ℕ)). AllByRecursion IsIdentifierText l) (sym whole) takes.parts);
       rest_is = rest_is ∙ sym (ap (λ (r : List IdentifierValue × List ℕ). r.1) read);
-    }
-
-pub split-none : (otherwise text : List ℕ) → begins is_identifier_character text ≡ false
-    → IsListSplit (read_list_or otherwise text) [] otherwise
-split-none otherwise text none =
-    let read = read_list_or-none otherwise text none in
-    record {
-      values = sym (ap (λ (r : List IdentifierValue × List ℕ). r.0) read);
-      listed = tt;
-      rest_is = sym (ap (λ (r : List IdentifierValue × List ℕ). r.1) read);
     }

@@ -1,5 +1,5 @@
 -- The longest prefix of a text whose characters all pass, and the rest.
-use Rattle.std.proofs.Common.{◌≡◌, ℕ, suc, Bool, true, false, List, [], ◌∷◌, ◌++◌, arith, length, refl, ap, inl, inr}
+use Rattle.std.proofs.Common.{◌≡◌, ℕ, suc, Bool, true, false, List, [], ◌∷◌, ◌++◌, length, refl, ap, inl, inr}
 use Rattle.std.proofs.lemmas.Bool.{and_from, and_parts, cases_Bool, eqb-true}
 use Rattle.std.specs.Prelude.{◌==◌}
 use Rattle.std.specs.List.{list_all}
@@ -99,27 +99,6 @@ pub no-append : (test : ℕ → Bool) (text rest : List ℕ) → BeginsWithNo te
     → BeginsWithNo test (text ++ rest)
 no-append test [] rest h g = g
 no-append test (b ∷ text) rest h g = h
-
--- the longest prefix is empty exactly if the first character does not pass
-pub prefix_of-empty : (test : ℕ → Bool) (text : List ℕ) → (length (prefix_of test text) == 0) ≡ true
-    → begins test text ≡ false
-unfolding prefix_of
-prefix_of-empty test [] h = refl
-prefix_of-empty test (b ∷ rest) h = elim (cases_Bool (test b)) [
-  | inl passes ↦
-      let none : length (b ∷ prefix_of test rest) ≡ 0 = eqb-true _ _ (rw passes at h) in
-      absurd (omega arith)
-  | inr stops ↦ stops
-]
-
-pub prefix_of-some : (test : ℕ → Bool) (text : List ℕ) → (length (prefix_of test text) == 0) ≡ false
-    → begins test text ≡ true
-unfolding prefix_of
-prefix_of-some test [] h = cc h
-prefix_of-some test (b ∷ rest) h = elim (cases_Bool (test b)) [
-  | inl passes ↦ passes
-  | inr stops ↦ cc (rw stops at h)
-]
 
 never-empty : (n : ℕ) → (suc n == 0) ≡ false
 never-empty n = elim (cases_Bool (suc n == 0)) [

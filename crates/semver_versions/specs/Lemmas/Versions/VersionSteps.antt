@@ -1,5 +1,5 @@
 -- The least version, and from each version the next one, between which lies none.
-use Rattle.std.proofs.Common.{◌≡◌, ◌≢◌, ◌<◌, ◌≤◌, ◌⊎◌, ◌+◌, ◌^◌, ℕ, zero, suc, length, get_or, take, lit<, List, []}
+use Rattle.std.proofs.Common.{◌≡◌, ◌≢◌, ◌<◌, ◌≤◌, ◌⊎◌, ◌+◌, ◌^◌, ℕ, lit<, List, []}
 use Rattle.std.proofs.Common.{◌∷◌, ◌++◌, refl, sym, subst, ◌∙◌, inl, inr, arith, Ordering, Less, Equal, Greater}
 use Rattle.std.specs.Ordering.{nat_cmp, ordering_then}
 use Rattle.std.specs.Cmp.Lexicographic.{slice_cmp}
@@ -7,12 +7,10 @@ use Rattle.std.specs.List.{AllByRecursion}
 use Rattle.std.proofs.lemmas.Cmp.{ranked}
 use Rattle.semver_cuts.specs.Steps.{IsLeast, IsNext}
 use Rattle.semver_versions.specs.Comparison.{identifier_cmp, version_cmp}
-use Rattle.semver_versions.specs.Identifier.{value_of, values_of}
 use Rattle.semver_versions.specs.IdentifierValue.{IdentifierValue, alphanumeric, numeric}
 use Rattle.semver_versions.specs.Order.{IsBelow, IsListBelow, IsIdentifierBelow, before_release, by_identifiers, by_major}
 use Rattle.semver_versions.specs.Order.{by_minor, by_patch}
 use Rattle.semver_versions.specs.Version.{HasSameTriple, IsPrerelease, VersionValue, least_of}
-use Rattle.semver_versions.specs.declared.identifier.Identifier.{Identifier}
 use Rattle.semver_versions.specs.Lemmas.Order.{Greater-turned, Less-version, identifier-Less, identifier_total, list-Less}
 use Rattle.semver_versions.specs.Lemmas.Order.{version-Less}
 use Rattle.semver_versions.specs.Lemmas.Versions.Between.{major≤, minor≤, patch≤, prerelease-below, triple-between}
@@ -193,16 +191,6 @@ AreIdentifiers identifiers = AllByRecursion IsIdentifier identifiers
 identifiers-zero : (xs : List IdentifierValue) → AreIdentifiers xs → AreIdentifiers (xs ++ numeric 0 ∷ [])
 identifiers-zero [] all = (lit< tt, tt)
 identifiers-zero (x ∷ xs) all = (all.0, identifiers-zero xs all.1)
-
--- one element more
-pub known-more : (xs : List Identifier) (k : ℕ) (x : Identifier) → k < length xs → x ≡ get_or xs k x
-    → AreIdentifiers (values_of (take k xs)) → IsIdentifier (value_of x) → AreIdentifiers (values_of (take (k + 1) xs))
-known-more [] k x lt e all this = absurd (omega arith)
-known-more (y ∷ xs) zero x lt e all this = (subst (λ i. IsIdentifier (value_of i)) e this, tt)
-known-more (y ∷ xs) (suc k) x lt e all this =
-    let next : suc k + 1 ≡ suc (k + 1) = omega arith in
-    subst (λ (n : ℕ). AreIdentifiers (values_of (take n (y ∷ xs)))) (sym next)
-    (all.0, known-more xs k x (omega arith) e all.1 this)
 
 pub first-least : IsLeast version_cmp IsVersion (least_of 0 0 0)
 first-least = record {

@@ -1,8 +1,8 @@
 -- The comparisons of `Order` are total orders, and agree with its relations.
 use Rattle.std.proofs.Common.{◌≡◌, ◌≢◌, ◌<◌, ◌↔◌, ℕ, List, [], ◌∷◌, ◌++◌, refl}
-use Rattle.std.proofs.Common.{sym, ap, subst, ◌∙◌, inl, inr, arith, Bool, IsTrue, ◌==◌, ◌&&◌}
+use Rattle.std.proofs.Common.{sym, ap, subst, ◌∙◌, inl, inr, Bool, IsTrue, ◌==◌, ◌&&◌}
 use Rattle.std.specs.Ordering.{eq_by_cmp, is_eq, nat_cmp, on, then_cmp, ordering_then, ordering_reverse}
-use Rattle.std.specs.Cmp.{Equal-is, IsTotalOrder, nat_cmp_total, on_total, then_total, tied_itself, unsigned_ties}
+use Rattle.std.specs.Cmp.{Equal-is, IsTotalOrder, nat_cmp_is, nat_cmp_total, on_total, then_total, tied_itself, unsigned_ties}
 use Rattle.std.specs.Cmp.Lexicographic.{slice_cmp, lists_total, nat_list_cmp_total}
 use Rattle.std.specs.FinMap.{IsAntisymmetric, nat_cmp-IsAntisymmetric, slice_cmp-IsAntisymmetric}
 use Rattle.std.proofs.lemmas.Cmp.{ranked}
@@ -141,14 +141,19 @@ module _ {A : Type 0} (R : A → A → Ordering) (Below : A → A → Type 0) wh
   Less-list less same (x ∷ xs) (y ∷ ys) e = by_first x y xs ys less same (Less-list less same xs ys) (R x y) refl e
 
 module _ {A : Type 0} (R : A → A → Ordering) (o : IsTotalOrder R) where
-  ends-Less : (xs : List A) (next : A) (rest : List A) → slice_cmp R xs (xs ++ next ∷ rest) ≡ Less
+  -- what both begin with decides nothing
+  pub cmp-after : (common xs ys : List A) → slice_cmp R (common ++ xs) (common ++ ys) ≡ slice_cmp R xs ys
+  cmp-after [] xs ys = refl
+  cmp-after (x ∷ common) xs ys = then-tied _ _ (tied_itself o x) ∙ cmp-after common xs ys
+
+  -- a list is below one that goes on
+  pub ends-Less : (xs : List A) (next : A) (rest : List A) → slice_cmp R xs (xs ++ next ∷ rest) ≡ Less
   ends-Less [] next rest = refl
   ends-Less (x ∷ xs) next rest = then-tied _ _ (tied_itself o x) ∙ ends-Less xs next rest
 
   differs-Less : (common : List A) (a b : A) (rest other_rest : List A) → R a b ≡ Less
       → slice_cmp R (common ++ a ∷ rest) (common ++ b ∷ other_rest) ≡ Less
-  differs-Less [] a b rest other_rest e = then-Less _ _ e
-  differs-Less (x ∷ xs) a b rest other_rest e = then-tied _ _ (tied_itself o x) ∙ differs-Less xs a b rest other_rest e
+  differs-Less common a b rest other_rest e = cmp-after common (a ∷ rest) (b ∷ other_rest) ∙ then-Less _ _ e
 
   pub list-Less : (Below : A → A → Type 0) → ((a b : A) → Below a b → R a b ≡ Less)
       → (xs ys : List A) → IsListBelow Below xs ys → slice_cmp R xs ys ≡ Less
@@ -163,12 +168,7 @@ Less-number : (m n : ℕ) → nat_cmp m n ≡ Less → m < n
 Less-number m n e = ranked m n Less (sym e)
 
 number-Less : (m n : ℕ) → m < n → nat_cmp m n ≡ Less
-number-Less m n h = by_order (nat_cmp m n) refl
-  where
-    by_order : (r : Ordering) → nat_cmp m n ≡ r → r ≡ Less
-    by_order Less e = refl
-    by_order Equal e = let k : m ≡ n = ranked m n Equal (sym e) in absurd (omega arith)
-    by_order Greater e = let k : n < m = ranked m n Greater (sym e) in absurd (omega arith)
+number-Less m n h = sym (nat_cmp_is m n Less h)
 
 pub Less-identifier : (a b : IdentifierValue) → identifier_cmp a b ≡ Less → IsIdentifierBelow a b
 Less-identifier (numeric m) (numeric n) e = Less-number m n e
@@ -270,7 +270,7 @@ Less-version v w e = Less-majors v w (nat_cmp v.major w.major) refl e
 
 -- equal numbers tie
 number-tied : (m n : ℕ) → m ≡ n → nat_cmp m n ≡ Equal
-number-tied m n e = subst (λ k. nat_cmp m k ≡ Equal) e (tied_itself nat_cmp_total m)
+number-tied m n e = sym (nat_cmp_is m n Equal e)
 
 -- if the triples are equal, the prereleases decide
 same-triple : (v w : VersionValue) → HasSameTriple v w → version_cmp v w ≡ prerelease_cmp v.pre_release w.pre_release

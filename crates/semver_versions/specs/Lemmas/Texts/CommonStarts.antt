@@ -1,19 +1,21 @@
 -- The order of two texts of identifiers that begin alike.
-use Rattle.std.proofs.Common.{◌≡◌, ◌<◌, ◌-◌, ◌+◌, ◌*◌, ◌^◌, ◌≤◌, ℕ, true, false, List, [], ◌∷◌, ◌++◌, refl, sym, ap}
+use Rattle.std.proofs.Common.{◌≡◌, ◌<◌, ◌+◌, ◌*◌, ◌^◌, ◌≤◌, ℕ, true, false, List, [], ◌∷◌, ◌++◌, refl, sym, ap}
 use Rattle.std.proofs.Common.{◌∙◌, inl, inr, subst, length, take, drop, append-nil, append_assoc, arith}
-use Rattle.std.proofs.lemmas.Bool.{and_cases, and_from, and_left, and_parts, and_right, cases_Bool, eq-eqb, eqb-true}
+use Rattle.std.proofs.lemmas.Bool.{and_from, and_left, and_parts, and_right, cases_Bool, eq-eqb, eqb-true}
 use Rattle.std.proofs.lemmas.Bool.{ltb-false, ltb-true, or_cases}
 use Rattle.std.proofs.lemmas.Bool.Decides.{nat_tests}
 use Rattle.std.proofs.lemmas.Cmp.{ranked}
+use Rattle.std.proofs.lemmas.Int.Digits.{digits_value_push}
+use Rattle.std.proofs.lemmas.List.Folds.{list_all-append}
 use Rattle.std.proofs.lemmas.List.{map-append, take-append-drop, take-append-le}
 use Rattle.std.specs.Char.{digit_value}
-use Rattle.std.specs.Cmp.{IsTotalOrder, nat_cmp_is, nat_cmp_total, tied_itself}
+use Rattle.std.specs.Cmp.{nat_cmp_is, nat_cmp_total, tied_itself}
 use Rattle.std.specs.Cmp.Lexicographic.{slice_cmp, lists_total}
 use Rattle.std.specs.FinMap.{nat_cmp-IsAntisymmetric}
 use Rattle.std.specs.List.{AllByRecursion, list_all}
 use Rattle.std.specs.Ordering.{MatchOrdering, nat_cmp, ordering_then}
 use Rattle.std.specs.Prelude.{◌==◌, ◌&&◌, ◌||◌, nat_lt, not, map}
-use Rattle.std.specs.Str.Parse.{digits_value_after}
+use Rattle.std.specs.Str.Parse.{digits_value}
 use Rattle.std.specs.declared.cmp.Ordering.{Ordering}
 use Rattle.std.specs.declared.cmp.Ordering.TheVariants.{Less, Equal, Greater}
 use Rattle.semver_versions.specs.Characters.{AreAll, dot, is_digit}
@@ -25,7 +27,8 @@ use Rattle.semver_versions.specs.NumberText.{number_of}
 use Rattle.semver_versions.specs.Readers.CommonStarts.{AreApart, IsCommon, IsStart, are_decided, ends}
 use Rattle.semver_versions.specs.Readers.CommonStarts.{first_byte, is_last_digit, is_letter}
 use Rattle.semver_versions.specs.Readers.ListedViews.{is_inner}
-use Rattle.semver_versions.specs.Lemmas.Order.{Greater-turned, identifier_total}
+use Rattle.semver_versions.specs.Lemmas.Order.{Greater-turned, cmp-after, ends-Less, identifier_total}
+use Rattle.semver_versions.specs.Lemmas.Texts.Digits.{digit-value}
 use Rattle.semver_versions.specs.Lemmas.Texts.IdentifierReading.{parts-dot, parts-other, parts-shape, pick-false, pick-true}
 use Rattle.semver_versions.specs.Lemmas.Texts.ListedTexts.{parts-texts}
 
@@ -39,14 +42,6 @@ texts-tied a b same =
     sym (subst (λ (l : List ℕ). texts_cmp a l ≡ Equal) same (tied_itself (lists_total identifier_total) (identifiers_of a)))
 
 -- ---- lists that begin alike
-
--- what both begin with decides nothing
-cmp-after : {X : Type 0} (cmp : X → X → Ordering) → IsTotalOrder cmp → (xs ys zs : List X)
-    → slice_cmp cmp (xs ++ ys) (xs ++ zs) ≡ slice_cmp cmp ys zs
-cmp-after cmp total [] ys zs = refl
-cmp-after cmp total (x ∷ xs) ys zs =
-    ap (λ (o : Ordering). ordering_then o (slice_cmp cmp (xs ++ ys) (xs ++ zs))) (tied_itself total x)
-    ∙ cmp-after cmp total xs ys zs
 
 all-after : {X : Type 0} (P : X → Type 0) (xs ys : List X) → AllByRecursion P (xs ++ ys) → AllByRecursion P ys
 all-after P [] ys all = all
@@ -191,8 +186,8 @@ texts-part p f g c d apart =
 
 -- an identifier with a byte that is no digit is a text
 not-digits : (p f : List ℕ) (c : ℕ) → is_digit c ≡ false → list_all is_digit (p ++ (c ∷ f)) ≡ false
-not-digits [] f c none = rw none refl
-not-digits (b ∷ p) f c none = and_right (is_digit b) _ (not-digits p f c none)
+not-digits p f c none =
+    list_all-append is_digit p (c ∷ f) ∙ and_right (list_all is_digit p) _ (rw none refl)
 
 text-value : (text : List ℕ) → list_all is_digit text ≡ false → identifier_of text ≡ alphanumeric text
 text-value text none = rw none refl
@@ -201,9 +196,6 @@ text-value text none = rw none refl
 first-digit : (c : ℕ) → is_digit c ≡ true → 48 ≤ c
 first-digit c digit = grind (arith, nat_tests)
 
-value-of : (c : ℕ) → is_digit c ≡ true → digit_value c ≡ c - 48
-value-of c digit = grind (arith, nat_tests)
-
 numbers-part : (n c d : ℕ) → is_digit c ≡ true → is_digit d ≡ true
     → nat_cmp (n * 10 + digit_value c) (n * 10 + digit_value d) ≡ nat_cmp c d
 numbers-part n c d digit digit_too = sym (nat_cmp_is _ _ (nat_cmp c d) (agrees (nat_cmp c d) (ranked c d _ refl)))
@@ -211,28 +203,17 @@ numbers-part n c d digit digit_too = sym (nat_cmp_is _ _ (nat_cmp c d) (agrees (
     agrees : (r : Ordering) → MatchOrdering r (c < d) (c ≡ d) (d < c)
         → MatchOrdering r (n * 10 + digit_value c < n * 10 + digit_value d)
         (n * 10 + digit_value c ≡ n * 10 + digit_value d) (n * 10 + digit_value d < n * 10 + digit_value c)
-    agrees Less h = omega (arith, value-of c digit, value-of d digit_too, first-digit c digit, first-digit d digit_too)
+    agrees Less h = omega (arith, digit-value c digit, digit-value d digit_too, first-digit c digit, first-digit d digit_too)
     agrees Equal h = ap (λ (k : ℕ). n * 10 + digit_value k) h
-    agrees Greater h = omega (arith, value-of c digit, value-of d digit_too, first-digit c digit, first-digit d digit_too)
-
-after-last : (n c : ℕ) (p : List ℕ)
-    → digits_value_after 10 n (p ++ (c ∷ [])) ≡ digits_value_after 10 n p * 10 + digit_value c
-after-last n c [] = refl
-after-last n c (b ∷ p) = after-last (n * 10 + digit_value b) c p
+    agrees Greater h = omega (arith, digit-value c digit, digit-value d digit_too, first-digit c digit, first-digit d digit_too)
 
 all-last : (p : List ℕ) (c : ℕ) → list_all is_digit p ≡ true → is_digit c ≡ true
     → list_all is_digit (p ++ (c ∷ [])) ≡ true
-all-last [] c all digit = rw digit refl
-all-last (b ∷ p) c all digit =
-    let parts = and_parts (is_digit b) (list_all is_digit p) all in
-    and_from (is_digit b) _ parts.0 (all-last p c parts.1 digit)
+all-last p c all digit =
+    list_all-append is_digit p (c ∷ []) ∙ and_from (list_all is_digit p) _ all (rw digit refl)
 
 not-all : (p f : List ℕ) → list_all is_digit p ≡ false → list_all is_digit (p ++ f) ≡ false
-not-all [] f none = cc none
-not-all (b ∷ p) f none = elim (and_cases (is_digit b) (list_all is_digit p) none) [
-  | inl first ↦ and_left (is_digit b) _ first
-  | inr others ↦ and_right (is_digit b) _ (not-all p f others)
-]
+not-all p f none = list_all-append is_digit p f ∙ and_left (list_all is_digit p) _ none
 
 number-value : (text : List ℕ) → list_all is_digit text ≡ true → nat_lt (number_of text) (2 ^ 64) ≡ true
     → identifier_of text ≡ numeric (number_of text)
@@ -274,17 +255,10 @@ digits-part p c d digit digit_too apart = elim (cases_Bool (list_all is_digit p)
 
     numbers : nat_cmp (number_of (p ++ (c ∷ []))) (number_of (p ++ (d ∷ []))) ≡ nat_cmp c d
     numbers =
-        (λ i. nat_cmp (after-last 0 c p i) (after-last 0 d p i))
-        ∙ numbers-part (digits_value_after 10 0 p) c d digit digit_too
+        (λ i. nat_cmp (digits_value_push 10 p c i) (digits_value_push 10 p d i))
+        ∙ numbers-part (digits_value 10 p) c d digit digit_too
 
 -- ---- what follows a common start
-
--- identifiers that tie with nothing before them, and others after them
-longer : (xs ys : List IdentifierValue) (y : IdentifierValue) → slice_cmp identifier_cmp xs (xs ++ (y ∷ ys)) ≡ Less
-longer [] ys y = refl
-longer (x ∷ xs) ys y =
-    ap (λ (o : Ordering). ordering_then o (slice_cmp identifier_cmp xs (xs ++ (y ∷ ys)))) (tied_itself identifier_total x)
-    ∙ longer xs ys y
 
 -- the first of two texts ends where the other goes on after a dot
 end-below : (common s : List ℕ) → texts_cmp common (common ++ (dot ∷ s)) ≡ Less
@@ -295,7 +269,8 @@ end-below (b ∷ common) s =
     (texts-sides (b ∷ common) s ∙ ap (λ (l : List (List ℕ)). parts_of (b ∷ common) ++ l) r.2)
     ∙ ap (slice_cmp identifier_cmp (map identifier_of (parts_of (b ∷ common))))
     (map-append identifier_of (parts_of (b ∷ common)) (r.0 ∷ r.1))
-    ∙ longer (map identifier_of (parts_of (b ∷ common))) (map identifier_of r.1) (identifier_of r.0)
+    ∙ ends-Less identifier_cmp identifier_total (map identifier_of (parts_of (b ∷ common))) (identifier_of r.0)
+    (map identifier_of r.1)
 
 -- the first part of a text, whose first byte is below d
 record Low (text : List ℕ) (d : ℕ) : Type 0 where

@@ -18,7 +18,7 @@ use Rattle.semver_versions.specs.Lemmas.Texts.NumberReading.{refusal}
 use Rattle.semver_versions.specs.Lemmas.Texts.IdentifierReading.{pick-false, pick-true}
 
 -- the value of a digit
-digit-value : (b : ℕ) → is_digit b ≡ true → digit_value b ≡ b - 48
+pub digit-value : (b : ℕ) → is_digit b ≡ true → digit_value b ≡ b - 48
 digit-value b h = grind (arith, nat_tests)
 
 -- more digits write no less

@@ -3,6 +3,7 @@ use Rattle.std.proofs.Common.{◌≡◌, ◌<◌, ◌-◌, ◌≤◌, ℕ, true,
 use Rattle.std.proofs.Common.{subst}
 use Rattle.std.proofs.Common.{arith, length, length-append, drop, take}
 use Rattle.std.proofs.lemmas.Bool.{and_parts, cases_Bool, eqb-true}
+use Rattle.std.proofs.Math.Seq.{take-append_seam}
 use Rattle.std.specs.Prelude.{◌==◌, map}
 use Rattle.std.specs.List.{AllByRecursion, list_all}
 use Rattle.semver_versions.specs.Characters.{AreAll, BeginsWithNo, is_identifier_character, dot}
@@ -13,7 +14,7 @@ use Rattle.semver_versions.specs.Readers.ListedViews.{IsFirstSplit, IsListSplit,
 use Rattle.semver_versions.specs.Readers.Reading.{begins, list_prefix, list_rest, prefix_of, read_list_or, rest_of}
 use Rattle.semver_versions.specs.Lemmas.Texts.Characters.{character-no_dot}
 use Rattle.semver_versions.specs.Lemmas.Texts.Places.{to-end}
-use Rattle.semver_versions.specs.Lemmas.Texts.Prefixes.{prefix_of-rest_of}
+use Rattle.semver_versions.specs.Lemmas.Texts.Prefixes.{prefix_of-rest_of, rest-short}
 use Rattle.semver_versions.specs.Lemmas.Texts.ExtrasReading.{read_list_or-some}
 use Rattle.semver_versions.specs.Lemmas.Texts.IdentifierReading.{GoOn, list-takes, list-whole, parts-other, parts-shape}
 
@@ -160,20 +161,12 @@ split-shorter text (d ∷ rest) rest_is more =
 
 -- the rest of a list is no longer than the text
 pub list_rest-short : (text : List ℕ) → length (list_rest text) ≤ length text
-list_rest-short text =
-    let whole = ap length (list-whole text) in
-    let parts = length-append (list_prefix text) (list_rest text) in
-    omega arith
+list_rest-short text = rest-short text _ (list_rest text) (sym (list-whole text))
 
 take-first : (a b : List ℕ) → take (length (a ++ b) - length b) (a ++ b) ≡ a
 take-first a b =
     let size : length (a ++ b) - length b ≡ length a = (let parts = length-append a b in omega arith) in
-    rw size (take-append a b)
-  where
-    take-append : (a b : List ℕ) → take (length a) (a ++ b) ≡ a
-    take-append [] [] = refl
-    take-append [] (y ∷ b) = refl
-    take-append (x ∷ a) b = ap (λ (l : List ℕ). x ∷ l) (take-append a b)
+    rw size (take-append_seam a b)
 
 -- what is before the rest of a list is the list
 pub list-before : (text : List ℕ) → take (length text - length (list_rest text)) text ≡ list_prefix text

@@ -2,7 +2,6 @@
 use Rattle.std.proofs.Common.{◌≡◌, ◌≤◌, ℕ, Bool, true, List, [], ◌∷◌, ◌++◌, length, Ok, refl, sym, ap, ◌∙◌, inl, inr}
 use Rattle.std.proofs.Common.{arith, subst, append_assoc}
 use Rattle.std.proofs.lemmas.Bool.{cases_Bool}
-use Rattle.std.proofs.lemmas.List.{length-append}
 use Rattle.std.specs.Prelude.{◌==◌, nat_le}
 use Rattle.std.specs.List.{AllByRecursion}
 use Rattle.semver_versions.specs.declared.TheConstants.{MAX_SAFE_INTEGER}
@@ -19,31 +18,24 @@ use Rattle.semver_versions.specs.Readers.Reading.{prefix_of}
 use Rattle.semver_versions.specs.Readers.Reading.{goes_on, list_rest, read_list_or, read_version, read_number}
 use Rattle.semver_versions.specs.Readers.Reading.{read_triple}
 use Rattle.semver_versions.specs.Readers.Reading.{read_prerelease, read_unmarked, version_of}
-use Rattle.semver_versions.specs.Lemmas.Texts.Prefixes.{begins-append, prefix_of-rest_of, rest_of-all, with-begins}
+use Rattle.semver_versions.specs.Lemmas.Texts.Prefixes.{begins-append, prefix_of-rest_of, rest-short, rest_of-all, with-begins}
 use Rattle.semver_versions.specs.Lemmas.Texts.ExtrasReading.{build-takes, read_build-other, read_build-plus}
 use Rattle.semver_versions.specs.Lemmas.Texts.ExtrasReading.{read_list_or-none}
 use Rattle.semver_versions.specs.Lemmas.Texts.ExtrasReading.{read_list_or-some, prerelease-again, prerelease-listed}
 use Rattle.semver_versions.specs.Lemmas.Texts.ExtrasReading.{prerelease-takes, read_prerelease-hyphen}
 use Rattle.semver_versions.specs.Lemmas.Texts.ExtrasReading.{read_prerelease-other}
 use Rattle.semver_versions.specs.Lemmas.Texts.IdentifierReading.{GoOn, begins-first, goes_on-character, list-through}
-use Rattle.semver_versions.specs.Lemmas.Texts.IdentifierReading.{list-whole}
 use Rattle.semver_versions.specs.Lemmas.Texts.IdentifierReading.{parts-shape}
+use Rattle.semver_versions.specs.Lemmas.Texts.ListedTexts.{list_rest-short}
 use Rattle.semver_versions.specs.Lemmas.Texts.NumberReading.{answer, bind-ok, number-again, ok-value, dot-again}
 use Rattle.semver_versions.specs.Lemmas.Versions.VersionReading.{numbers-takes, regroup, version-follows}
-
--- a rest is no longer than the whole
-pub rest-short : (text taken rest : List ℕ) → text ≡ taken ++ rest → length rest ≤ length text
-rest-short text taken rest e = omega (arith, ap length e, length-append taken rest)
 
 pub rest_of-short : (test : ℕ → Bool) (text : List ℕ) → length (rest_of test text) ≤ length text
 rest_of-short test text = rest-short text _ (rest_of test text) (sym (prefix_of-rest_of test text))
 
-list-short : (text : List ℕ) → length (list_rest text) ≤ length text
-list-short text = rest-short text _ (list_rest text) (sym (list-whole text))
-
 -- a list that goes on is read at least to its end
 list-longest : (list more : List ℕ) → GoOn (parts_of list) → length (list_rest (list ++ more)) ≤ length more
-list-longest list more g = rw (list-through list more g).1 (list-short more)
+list-longest list more g = rw (list-through list more g).1 (list_rest-short more)
 
 -- a list of identifiers, with more after it
 pub record ReadsOn (list more : List ℕ) : Type 0 where

@@ -1,6 +1,7 @@
 -- The longest prefix of a text whose characters all pass, and the rest.
-use Rattle.std.proofs.Common.{◌≡◌, ℕ, suc, Bool, true, false, List, [], ◌∷◌, ◌++◌, length, refl, ap, inl, inr}
-use Rattle.std.proofs.lemmas.Bool.{and_from, and_parts, cases_Bool, eqb-true}
+use Rattle.std.proofs.Common.{◌≡◌, ◌≤◌, ℕ, Bool, true, false, List, [], ◌∷◌, ◌++◌, length, length-append, refl, ap, arith, inl, inr}
+use Rattle.std.proofs.Math.Dec.{eqb-suc-zero}
+use Rattle.std.proofs.lemmas.Bool.{and_from, and_parts, cases_Bool}
 use Rattle.std.specs.Prelude.{◌==◌}
 use Rattle.std.specs.List.{list_all}
 use Rattle.semver_versions.specs.Characters.{AreAll, BeginsWith, BeginsWithNo}
@@ -14,6 +15,10 @@ prefix_of-rest_of test (b ∷ rest) = elim (cases_Bool (test b)) [
   | inl passes ↦ rw passes (ap (λ (l : List ℕ). b ∷ l) (prefix_of-rest_of test rest))
   | inr stops ↦ rw stops refl
 ]
+
+-- a rest is no longer than the whole
+pub rest-short : (text taken rest : List ℕ) → text ≡ taken ++ rest → length rest ≤ length text
+rest-short text taken rest e = omega (arith, ap length e, length-append taken rest)
 
 pub prefix_of-all : (test : ℕ → Bool) (text : List ℕ) → AreAll test (prefix_of test text)
 unfolding prefix_of
@@ -100,17 +105,11 @@ pub no-append : (test : ℕ → Bool) (text rest : List ℕ) → BeginsWithNo te
 no-append test [] rest h g = g
 no-append test (b ∷ text) rest h g = h
 
-never-empty : (n : ℕ) → (suc n == 0) ≡ false
-never-empty n = elim (cases_Bool (suc n == 0)) [
-  | inl empty ↦ absurd (cc (eqb-true (suc n) 0 empty))
-  | inr not ↦ not
-]
-
 -- nothing is left exactly where all pass
 pub rest_of-empty : (test : ℕ → Bool) (text : List ℕ) → (length (rest_of test text) == 0) ≡ list_all test text
 unfolding rest_of
 rest_of-empty test [] = refl
 rest_of-empty test (b ∷ rest) = elim (cases_Bool (test b)) [
   | inl passes ↦ rw passes (rest_of-empty test rest)
-  | inr stops ↦ rw stops (never-empty (length rest))
+  | inr stops ↦ rw stops (eqb-suc-zero (length rest))
 ]

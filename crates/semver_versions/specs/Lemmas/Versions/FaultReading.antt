@@ -17,7 +17,7 @@ use Rattle.semver_versions.specs.Readers.Reading.{read_triple, read_dot, read_un
 use Rattle.semver_versions.specs.declared.parse.fault.Fault.{Fault}
 use Rattle.semver_versions.specs.declared.parse.fault.Fault.TheVariants.{LeftOver, Missing, TooLarge}
 use Rattle.semver_versions.specs.Lemmas.Texts.Prefixes.{rest_of-no, begins-with, begins-with_no, prefix_of-rest_of}
-use Rattle.semver_versions.specs.Lemmas.Texts.Prefixes.{prefix_of-again, prefix_of-all, prefix_of-begins}
+use Rattle.semver_versions.specs.Lemmas.Texts.Prefixes.{prefix_of-again, prefix_of-all, prefix_of-begins, rest-short}
 use Rattle.semver_versions.specs.Lemmas.Texts.LongestReading.{version-longest, version-no_digit}
 use Rattle.semver_versions.specs.Lemmas.Texts.NumberReading.{number-takes, dot-takes, refusal}
 use Rattle.semver_versions.specs.Lemmas.Texts.Marks.{mark-skip}
@@ -94,16 +94,12 @@ pub prefix-length : (text beginning rest : List ℕ) → text ≡ beginning ++ r
     → length beginning ≡ length text - length rest
 prefix-length text beginning rest e = omega (arith, ap length e, length-append beginning rest)
 
--- what follows a prefix is no longer than the text
-pub rest-within : (text beginning rest : List ℕ) → text ≡ beginning ++ rest → length rest ≤ length text
-rest-within text beginning rest e = omega (arith, ap length e, length-append beginning rest)
-
 -- a number or a dot is missing where the rest begins
 told-missing : (text beginning rest : List ℕ) (f : Fault) → text ≡ beginning ++ rest → missing_at rest ≡ f
     → IsFault text (context (codes "version")) (length beginning) → IsReadFault text f
 told-missing text beginning rest f whole told h =
     subst (λ (g : Fault). IsReadFault text g) told (record {
-      within = rest-within text beginning rest whole;
+      within = rest-short text beginning rest whole;
       fault = subst (λ (n : ℕ). IsFault text (context (codes "version")) n) (prefix-length text beginning rest whole) h;
     })
 
@@ -129,7 +125,7 @@ told-large text beginning digits rest f whole all told h =
     let there : too_large (number_of digits) ≡ kind_in text (TooLarge (length (digits ++ rest))) =
     ap (λ (l : List ℕ). too_large (number_of l)) (sym (digits-there text beginning digits rest whole all)) in
     subst (λ (g : Fault). IsReadFault text g) told (record {
-      within = rest-within text beginning (digits ++ rest) whole;
+      within = rest-short text beginning (digits ++ rest) whole;
       fault = subst (λ (k : Kind). IsFault text k (length text - length (digits ++ rest))) there
           (subst (λ (n : ℕ). IsFault text (too_large (number_of digits)) n)
           (prefix-length text beginning (digits ++ rest) whole) h);
@@ -287,7 +283,7 @@ left-takes text v b rest short h =
     let l = version-longest shorter behind (b ∷ rest) v w g.fields (ap (λ (l : List ℕ). read_version l) (sym e) ∙ h) in
     omega (arith, ap length e, ap length t.whole, length-append shorter behind, length-append t.taken (b ∷ rest)) in
     record {
-      within = rest-within text t.taken (b ∷ rest) t.whole;
+      within = rest-short text t.taken (b ∷ rest) t.whole;
       fault = subst (λ (n : ℕ). IsFault text other n) (prefix-length text t.taken (b ∷ rest) t.whole)
           (left_over t.taken v b rest short t.whole (version-no_digit text (b ∷ rest) v h) version longest);
     }

@@ -1,5 +1,5 @@
 -- The result of std's `parse` for the digits of a number that is too large.
-use Rattle.std.proofs.Common.{◌≡◌, ◌<◌, ◌^◌, ℕ, true, List, [], ◌∷◌, length, Ok, Err, refl, inl, inr, arith}
+use Rattle.std.proofs.Common.{◌≡◌, ◌^◌, ℕ, true, List, Ok, Err, refl, inl, inr}
 use Rattle.std.proofs.lemmas.Bool.{cases_Bool, lt-ltb, ltb-true}
 use Rattle.std.proofs.lemmas.Str.Parse.{parse_digits}
 use Rattle.std.proofs.lemmas.Result.{OkIff-at_err, OkIff-at_ok}
@@ -9,13 +9,9 @@ use Rattle.std.specs.declared.num.ParseIntError.{ParseIntError}
 use Rattle.semver_versions.specs.Characters.{AreAll, BeginsWith, is_digit}
 use Rattle.semver_versions.specs.NumberText.{number_of}
 use Rattle.semver_versions.specs.Lemmas.Texts.Digits.{digits-numerals}
+use Rattle.semver_versions.specs.Lemmas.Versions.VersionReading.{begins-some}
 use Rattle.semver_versions.specs.Error.{max_int, parse_int}
 use Rattle.semver_versions.specs.Fault.{too_large}
-
--- a text with a first character is not empty
-some-length : (s : List ℕ) → BeginsWith is_digit s → 0 < length s
-some-length [] h = absurd h
-some-length (b ∷ s) h = omega arith
 
 -- the result of `parse` for digits
 pub large-ok : (s : List ℕ) (r : Result ℕ ParseIntError) (value : ℕ) → ParsesUnsigned 64 10 s r → AreAll is_digit s
@@ -30,6 +26,6 @@ pub large-err : (s : List ℕ) (r : Result ℕ ParseIntError) (error : ParseIntE
 large-err s r error h all some e =
     let none = OkIff-at_err r _ _ error (parse_digits digits-numerals 64 s r h all) e in
     elim (cases_Bool (nat_lt (number_of s) (2 ^ 64))) [
-      | inl fits ↦ absurd (none (some-length s some, ltb-true _ _ fits))
+      | inl fits ↦ absurd (none (begins-some is_digit s some, ltb-true _ _ fits))
       | inr large ↦ rw large refl
     ]

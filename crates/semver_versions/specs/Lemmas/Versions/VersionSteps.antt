@@ -1,7 +1,8 @@
 -- The least version, and from each version the next one, between which lies none.
-use Rattle.std.proofs.Common.{◌≡◌, ◌≢◌, ◌<◌, ◌≤◌, ◌⊎◌, ◌+◌, ◌^◌, ℕ, lit<, List, []}
+use Rattle.std.proofs.Common.{◌≡◌, ◌≢◌, ◌<◌, ◌⊎◌, ◌+◌, ◌^◌, ℕ, lit<, List, []}
 use Rattle.std.proofs.Common.{◌∷◌, ◌++◌, refl, sym, subst, ◌∙◌, inl, inr, arith, Ordering, Less, Equal, Greater}
-use Rattle.std.specs.Ordering.{nat_cmp, ordering_then}
+use Rattle.std.proofs.Math.Nat.{eq-or-lt_of_le}
+use Rattle.std.specs.Ordering.{ordering_then}
 use Rattle.std.specs.Cmp.Lexicographic.{slice_cmp}
 use Rattle.std.specs.List.{AllByRecursion}
 use Rattle.std.proofs.lemmas.Cmp.{ranked}
@@ -12,7 +13,7 @@ use Rattle.semver_versions.specs.Order.{IsBelow, IsListBelow, IsIdentifierBelow,
 use Rattle.semver_versions.specs.Order.{by_minor, by_patch}
 use Rattle.semver_versions.specs.Version.{HasSameTriple, IsPrerelease, VersionValue, least_of}
 use Rattle.semver_versions.specs.Lemmas.Order.{Greater-turned, Less-version, identifier-Less, identifier_total, list-Less}
-use Rattle.semver_versions.specs.Lemmas.Order.{version-Less}
+use Rattle.semver_versions.specs.Lemmas.Order.{ends-Less, version-Less}
 use Rattle.semver_versions.specs.Lemmas.Versions.Between.{major≤, minor≤, patch≤, prerelease-below, triple-between}
 use Rattle.semver_versions.specs.VersionSteps.{IsIdentifier, IsVersion, next_by, next_version, with_zero}
 
@@ -43,8 +44,7 @@ none-below_zeros x (y ∷ ys) e =
 
 -- a list is below itself with a 0 more
 pub zero-above : (xs : List IdentifierValue) → slice_cmp identifier_cmp xs (xs ++ numeric 0 ∷ []) ≡ Less
-zero-above xs = list-Less identifier_cmp identifier_total IsIdentifierBelow identifier-Less xs (xs ++ numeric 0 ∷ [])
-    (inl (record { next = numeric 0; rest = []; goes_on = refl }))
+zero-above xs = ends-Less identifier_cmp identifier_total xs (numeric 0) []
 
 -- and no list lies between the two
 pub none-before_zero : (xs ys : List IdentifierValue) → slice_cmp identifier_cmp xs ys ≡ Less
@@ -114,14 +114,6 @@ none-below_first w below =
 pub patch-above : (v : VersionValue) → IsBelow v (least_of v.major v.minor (v.patch + 1))
 patch-above v = by_patch refl refl (omega arith)
 
-at_most-or_less : (a b : ℕ) → a ≤ b → (a ≡ b) ⊎ (a < b)
-at_most-or_less a b h = by_order (nat_cmp a b) refl
-  where
-    by_order : (r : Ordering) → nat_cmp a b ≡ r → (a ≡ b) ⊎ (a < b)
-    by_order Less e = inr (ranked a b Less (sym e))
-    by_order Equal e = inl (ranked a b Equal (sym e))
-    by_order Greater e = let k : b < a = ranked a b Greater (sym e) in absurd (omega arith)
-
 pub none-between_patches : (v w : VersionValue) → ¬ IsPrerelease v → IsBelow v w
     → ¬ IsBelow w (least_of v.major v.minor (v.patch + 1))
 none-between_patches v w release above below =
@@ -134,7 +126,7 @@ none-between_patches v w release above below =
     let minor : v.minor ≡ w.minor = omega arith in
     let lower_patch = patch≤ v w (inl above) major minor in
     let upper_patch = patch≤ w next (inl below) (sym major) (sym minor) in
-    elim (at_most-or_less v.patch w.patch lower_patch) [
+    elim (eq-or-lt_of_le lower_patch) [
       | inl same ↦ release (prerelease-from_below v w (record { major = major; minor = minor; patch = same }) above)
       | inr less ↦
           let patch : w.patch ≡ v.patch + 1 = omega arith in

@@ -1,3 +1,4 @@
+pub mod AfterCommonStart
 pub mod ByteTable
 pub mod Characters
 pub mod CleanExtras
@@ -5,7 +6,9 @@ pub mod CommonStarts
 pub mod DecimalReading
 pub mod Digits
 pub mod ExtrasReading
+pub mod FirstDifference
 pub mod IdentifierReading
+pub mod IdentifierStarts
 pub mod LineText
 pub mod ListReading
 pub mod ListedTexts

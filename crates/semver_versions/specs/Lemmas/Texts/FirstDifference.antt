@@ -60,9 +60,11 @@ numbers-part n c d digit digit_too = sym (nat_cmp_is _ _ (nat_cmp c d) (agrees (
     agrees : (r : Ordering) → MatchOrdering r (c < d) (c ≡ d) (d < c)
         → MatchOrdering r (n * 10 + digit_value c < n * 10 + digit_value d)
         (n * 10 + digit_value c ≡ n * 10 + digit_value d) (n * 10 + digit_value d < n * 10 + digit_value c)
-    agrees Less h = omega (arith, digit-value c digit, digit-value d digit_too, first-digit c digit, first-digit d digit_too)
+    agrees Less h =
+        omega (arith, digit-value c digit, digit-value d digit_too, first-digit c digit, first-digit d digit_too)
     agrees Equal h = ap (λ (k : ℕ). n * 10 + digit_value k) h
-    agrees Greater h = omega (arith, digit-value c digit, digit-value d digit_too, first-digit c digit, first-digit d digit_too)
+    agrees Greater h =
+        omega (arith, digit-value c digit, digit-value d digit_too, first-digit c digit, first-digit d digit_too)
 
 all-last : (p : List ℕ) (c : ℕ) → list_all is_digit p ≡ true → is_digit c ≡ true
     → list_all is_digit (p ++ (c ∷ [])) ≡ true

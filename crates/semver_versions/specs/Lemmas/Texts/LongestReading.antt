@@ -18,7 +18,8 @@ use Rattle.semver_versions.specs.Readers.Reading.{prefix_of}
 use Rattle.semver_versions.specs.Readers.Reading.{goes_on, list_rest, read_list_or, read_version, read_number}
 use Rattle.semver_versions.specs.Readers.Reading.{read_triple}
 use Rattle.semver_versions.specs.Readers.Reading.{read_prerelease, read_unmarked, version_of}
-use Rattle.semver_versions.specs.Lemmas.Texts.Prefixes.{begins-append, prefix_of-rest_of, rest-short, rest_of-all, with-begins}
+use Rattle.semver_versions.specs.Lemmas.Texts.Prefixes.{begins-append, prefix_of-rest_of, rest-short, rest_of-all}
+use Rattle.semver_versions.specs.Lemmas.Texts.Prefixes.{with-begins}
 use Rattle.semver_versions.specs.Lemmas.Texts.ExtrasReading.{build-takes, read_build-other, read_build-plus}
 use Rattle.semver_versions.specs.Lemmas.Texts.ExtrasReading.{read_list_or-none}
 use Rattle.semver_versions.specs.Lemmas.Texts.ExtrasReading.{read_list_or-some, prerelease-again, prerelease-listed}

@@ -39,12 +39,9 @@ fn main(rt: HostRuntime) -> ExitCode {
 
 /// Checks standard input, with what the arguments ask for.
 fn checked(rt: &HostRuntime) -> Result<Problems, RunError> {
-    let words = env::args(rt).map_err(|error| read_error(&error))?;
     // The first word is the program's name.
-    let words: Vec<String> = words
-        .skip(1)
-        .collect(rt.alloc())
-        .map_err(|_| RunError::Memory)?;
+    let words = env::args(rt).map_err(read_error)?.skip(1);
+    let words: Vec<String> = words.collect(rt.alloc()).map_err(|_| RunError::Memory)?;
     let node = node_of(rt.alloc(), &words)?;
     let mut reader = Gauge::new(rt.stdin());
     let mut writer = Gauge::new(rt.stdout());

@@ -56,11 +56,9 @@ fn read_lock<R: Read>(alloc: Global, reader: &mut Gauge<R>) -> Result<Value, Run
     ensures refused { IfErr result (IsStopped R.remaining reader.old reader.new) }
 {
     let mut bytes = Vec::new(alloc);
-    reader
-        .read_to_end(&mut bytes)
-        .map_err(|error| read_error(&error))?;
+    reader.read_to_end(&mut bytes).map_err(read_error)?;
     let text = str::from_utf8(bytes.as_slice()).map_err(|_| RunError::NoJson)?;
-    Value::from_str(alloc, text).map_err(|error| json_error(&error))
+    Value::from_str(alloc, text).map_err(json_error)
 }
 
 /// The lines of problems.

@@ -36,9 +36,9 @@ pub enum RunError {
 }
 
 /// Why a read failed: `Memory` if the buffer could not grow.
-pub(crate) fn read_error(error: &io::Error) -> RunError
-    ensures memory { result ≡ RunError.Memory ↔ error_kind error.now ≡ ErrorKind.OutOfMemory }
-    ensures read { result ≡ RunError.Read ↔ ¬ (error_kind error.now ≡ ErrorKind.OutOfMemory) }
+pub(crate) fn read_error(error: io::Error) -> RunError
+    ensures memory { result ≡ RunError.Memory ↔ error_kind error ≡ ErrorKind.OutOfMemory }
+    ensures read { result ≡ RunError.Read ↔ ¬ (error_kind error ≡ ErrorKind.OutOfMemory) }
 {
     match error.kind() {
         ErrorKind::OutOfMemory => RunError::Memory,
@@ -47,9 +47,9 @@ pub(crate) fn read_error(error: &io::Error) -> RunError
 }
 
 /// Why a text was not read as JSON: `Memory` if an allocation failed.
-pub(crate) fn json_error(error: &serde_json::Error) -> RunError
-    ensures memory { result ≡ RunError.Memory ↔ IsMemory error.now }
-    ensures json { result ≡ RunError.NoJson ↔ ¬ IsMemory error.now }
+pub(crate) fn json_error(error: serde_json::Error) -> RunError
+    ensures memory { result ≡ RunError.Memory ↔ IsMemory error }
+    ensures json { result ≡ RunError.NoJson ↔ ¬ IsMemory error }
 {
     if error.is_memory() {
         RunError::Memory

@@ -3,4 +3,5 @@ pub mod Groups
 pub mod LockRows
 pub mod MoreFindings
 pub mod NameLists
+pub mod ProblemTexts
 pub mod Reports

@@ -1,6 +1,7 @@
 -- How a report grows by findings.
 use Rattle.std.proofs.Common.{◌≡◌, ℕ, ◌+◌, List, [], ◌∷◌, ◌++◌, Bool, true, false, cond}
-use Rattle.std.proofs.Common.{Option, Some, None, append_assoc, append-nil, arith, map, refl}
+use Rattle.std.proofs.Common.{Option, Some, None, append_assoc, append-nil, arith, map, map-id, option_map, refl}
+use Rattle.std.proofs.lemmas.List.{map-append}
 use Rattle.std.proofs.lemmas.List.Elements.{filter_map-append}
 use Rattle.std.proofs.lemmas.List.Sums.{sum_by_push}
 use Rattle.std.specs.List.{count_by, filter_map}
@@ -10,6 +11,7 @@ use Rattle.npm_lock.specs.Findings.{Finding, counted, is_dependency, is_package,
 use Rattle.npm_lock.specs.Findings.{problem_of}
 use Rattle.npm_lock.specs.Outcomes.{ProblemValue, problem_value}
 use Rattle.npm_lock.specs.Private.Adding.{Adds}
+use Rattle.npm_lock.specs.declared.problem.Problem.{Problem}
 use Rattle.npm_lock.specs.declared.problem.Problems.{Problems}
 
 as_list : (found : Finding) → (problem : Option ProblemValue) → problem_of found ≡ problem
@@ -48,6 +50,13 @@ grown old new found list packages dependencies unchecked = λ before report. rec
   dependencies = count_grows is_dependency before found _ _ report.dependencies (dependencies _ report.dependencies);
   unchecked = count_grows is_unchecked_finding before found _ _ report.unchecked (unchecked _ report.unchecked);
 }
+
+-- the list after one more problem, or none
+pub listed : (old new more : List Problem) (problem : Option Problem) → map (λ x. x) more ≡ option_to_list problem
+    → new ≡ old ++ more
+    → map problem_value new ≡ map problem_value old ++ option_to_list (option_map problem_value problem)
+listed old new more None is grows = rw (grows, ← map-id more, is, append-nil, append-nil) refl
+listed old new more (Some problem) is grows = rw (grows, ← map-id more, is) (map-append problem_value old (problem ∷ []))
 
 -- a count that is not changed
 pub same_count : (old new : ℕ) → new ≡ old → (n : ℕ) → old ≡ counted n → new ≡ counted (old + 0)

@@ -61,9 +61,9 @@ pub(crate) fn lock_of<'v>(
     ensures node { IfOk result (λ found. found.node ≡ node.entry) }
     ensures refused { IfErr result (λ fault. Faults.lock_fault (view lock.now) ≡ Some fault) }
 {
-    if !has_format(lock) {
+    let Some(2 | 3) = lock.get("lockfileVersion").and_then(Value::as_u64) else {
         return Err(Fault::Version);
-    }
+    };
     let packages = lock.get("packages").ok_or(Fault::Packages)?;
     let members = packages.as_object().ok_or(Fault::Packages)?;
     let lock = Lock {
@@ -77,21 +77,11 @@ pub(crate) fn lock_of<'v>(
     Ok(lock)
 }
 
-/// Returns `true` if `lockfileVersion` is 2 or 3.
-fn has_format(lock: &Value) -> bool
-    ensures { result ≡ Faults.has_format (view lock.now) }
-{
-    let version = lock.get("lockfileVersion").and_then(Value::as_u64);
-    matches!(version, Some(2 | 3))
-}
-
 /// Fails if a member of `packages` has a fault. The target of a link is a package and no link.
 fn check_member(lock: Lock<'_>, member: &Value) -> Result<(), Fault>
     ensures { result_err result ≡ Faults.member_fault (packages_data lock.entry) (view member.now) }
 {
-    if !member.is_object() {
-        return Err(Fault::Package);
-    }
+    member.as_object().ok_or(Fault::Package)?;
     if is_link(member) {
         return match lock.target_of(member) {
             Some(target) if !is_link(target.member) => Ok(()),

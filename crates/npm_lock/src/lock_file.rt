@@ -5,11 +5,8 @@ ghost use Rattle.std.specs.List.Sorted.{IsStrictlySortedBy};
 ghost use Rattle.std.specs.Ordering.{nat_cmp};
 ghost use Rattle.serde_json.specs.View.{members_view, view};
 ghost use Rattle.npm_lock.specs.Faults as Faults;
-ghost use Rattle.npm_lock.specs.Findings.{AreFindings, AreMemberFindings, Finding, IsChecked, IsNodeOutcome, IsReport};
-ghost use Rattle.npm_lock.specs.Findings.{keys_of};
+ghost use Rattle.npm_lock.specs.Findings.{AreFindings, AreMemberFindings, Finding, IsChecked, IsReport, keys_of};
 ghost use Rattle.npm_lock.specs.declared.fault.Fault.{Fault};
-ghost use Rattle.npm_lock.specs.Outcomes as Outcomes;
-ghost use Rattle.npm_lock.specs.Outcomes.{problem_value};
 ghost use Rattle.npm_lock.specs.Private.Adding.{Adds};
 ghost use Rattle.npm_lock.specs.Private.PackageValue.{packages_data};
 
@@ -17,10 +14,9 @@ use crate::Result;
 use crate::asked::asked_of;
 use crate::fault::{CheckError, lock_of};
 use crate::folder::is_installed;
-use crate::outcome::{outcome_of, problem_of};
+use crate::outcome::{engine_problem, outcome_of};
 use crate::place::{Lock, Package, is_link};
-use crate::problem::{Kind, Problem, Problems};
-use crate::verdict::is_admitted;
+use crate::problem::Problems;
 use node_semver::Version;
 use serde_json::Value;
 use std::alloc::Global;
@@ -76,32 +72,4 @@ fn check_package(lock: Lock<'_>, asker: Package<'_>, problems: &mut Problems) ->
         problems.add_dependency(problem, unchecked)?;
     }
     Ok(())
-}
-
-/// The problem of a package whose `engines.node` does not admit the version of Node, if one is given.
-fn engine_problem(lock: Lock<'_>, asker: Package<'_>) -> Result<Option<Problem>>
-    ensures { IfOk result (λ problem. IsNodeOutcome (option_map (λ version. version.now) lock.entry.node)
-        asker.entry.folder.now (view asker.entry.member.now) (option_map problem_value problem)) }
-{
-    let Some(version) = lock.node else {
-        return Ok(None);
-    };
-    let Some(spec) = engine_of(asker.member) else {
-        return Ok(None);
-    };
-    let (alloc, folder) = (lock.alloc, asker.folder);
-    if is_admitted(alloc, spec, version)? {
-        return Ok(None);
-    }
-    let version = version.to_string(alloc)?;
-    let version = Some(version.as_str());
-    let problem = problem_of(alloc, Kind::Engine, folder, "node", spec, None, version)?;
-    Ok(Some(problem))
-}
-
-/// What a package says of Node. Old packages have a list there, which says nothing.
-fn engine_of(member: &Value) -> Option<&str>
-    ensures { option_map (λ text. text.now) result ≡ Outcomes.engine_of (view member.now) }
-{
-    member.get("engines")?.get("node")?.as_str()
 }

@@ -1,6 +1,7 @@
-//! What is wrong with one dependency.
+//! What is wrong with one dependency, and with the version of Node.
 ghost use Rattle.std.specs.Prelude.{◌≡◌, IfOk, option_map, string_bytes};
 ghost use Rattle.serde_json.specs.View.{view};
+ghost use Rattle.npm_lock.specs.Findings.{IsNodeOutcome};
 ghost use Rattle.npm_lock.specs.Outcomes as Outcomes;
 ghost use Rattle.npm_lock.specs.Outcomes.{IsOutcome, problem_value};
 ghost use Rattle.npm_lock.specs.Private.PackageValue.{asked_value, packages_data};
@@ -9,7 +10,7 @@ use crate::Result;
 use crate::asked::Asked;
 use crate::place::{Lock, Package};
 use crate::problem::{Kind, Problem};
-use crate::verdict::{Verdict, verdict_of};
+use crate::verdict::{Verdict, is_admitted, verdict_of};
 use serde_json::Value;
 use std::alloc::Global;
 
@@ -25,56 +26,56 @@ pub(crate) fn outcome_of(
     ensures { IfOk result (λ pair. IsOutcome (packages_data lock.entry) asker.entry.folder.now is_installed name.now
         (asked_value asked.entry) (option_map problem_value pair.0) pair.1) }
 {
-    let (alloc, folder, spec) = (lock.alloc, asker.folder, asked.spec);
-    let Some((found, is_own)) = lock.find(folder, name)? else {
-        if !asked.is_needed {
-            return Ok((None, false));
-        }
-        let problem = problem_of(alloc, Kind::Missing, folder, name, spec, None, None)?;
-        return Ok((Some(problem), false));
+    let alloc = lock.alloc;
+    let found = lock.find(asker.folder, name)?;
+    let kind = match found {
+        None if asked.is_needed => Kind::Missing,
+        None => return Ok((None, false)),
+        Some((_, is_own)) if asked.is_peer && is_installed && is_own => Kind::PeerLocal,
+        Some((found, _)) => match verdict_of(alloc, asked.spec, version_of(found.member))? {
+            Verdict::Valid => return Ok((None, false)),
+            Verdict::Unchecked => return Ok((None, true)),
+            Verdict::Invalid => Kind::Invalid,
+        },
     };
-    let (to, version) = (Some(found.folder), version_of(found.member));
-    if asked.is_peer && is_installed && is_own {
-        let problem = problem_of(alloc, Kind::PeerLocal, folder, name, spec, to, version)?;
-        return Ok((Some(problem), false));
-    }
-    match verdict_of(alloc, spec, version)? {
-        Verdict::Valid => Ok((None, false)),
-        Verdict::Unchecked => Ok((None, true)),
-        Verdict::Invalid => {
-            let problem = problem_of(alloc, Kind::Invalid, folder, name, spec, to, version)?;
-            Ok((Some(problem), false))
-        }
-    }
+    let problem = Problem {
+        kind,
+        from: String::from_str(alloc, asker.folder)?,
+        name: String::from_str(alloc, name)?,
+        spec: String::from_str(alloc, asked.spec)?,
+        to: copied(alloc, found.map(|(found, _)| found.folder))?,
+        version: copied(alloc, found.and_then(|(found, _)| version_of(found.member)))?,
+    };
+    Ok((Some(problem), false))
 }
 
-/// A problem with copies of these texts.
-pub(crate) fn problem_of(
-    alloc: Global,
-    kind: Kind,
-    from: &str,
-    name: &str,
-    spec: &str,
-    to: Option<&str>,
-    version: Option<&str>,
-) -> Result<Problem>
-    ensures { IfOk result (λ problem. problem_value problem ≡ (record {
-      kind = kind;
-      from = from.now;
-      name = name.now;
-      spec = spec.now;
-      to = option_map (λ text. text.now) to.entry;
-      version = option_map (λ text. text.now) version.entry;
-    })) }
+/// The problem of a package whose `engines.node` does not admit the version of Node, if one is given.
+pub(crate) fn engine_problem(lock: Lock<'_>, asker: Package<'_>) -> Result<Option<Problem>>
+    ensures { IfOk result (λ problem. IsNodeOutcome (option_map (λ version. version.now) lock.entry.node)
+        asker.entry.folder.now (view asker.entry.member.now) (option_map problem_value problem)) }
 {
-    Ok(Problem {
-        kind,
-        from: String::from_str(alloc, from)?,
-        name: String::from_str(alloc, name)?,
+    let alloc = lock.alloc;
+    let (Some(node), Some(spec)) = (lock.node, engine_of(asker.member)) else {
+        return Ok(None);
+    };
+    if is_admitted(alloc, spec, node)? {
+        return Ok(None);
+    }
+    Ok(Some(Problem {
+        kind: Kind::Engine,
+        from: String::from_str(alloc, asker.folder)?,
+        name: String::from_str(alloc, "node")?,
         spec: String::from_str(alloc, spec)?,
-        to: copied(alloc, to)?,
-        version: copied(alloc, version)?,
-    })
+        to: None,
+        version: Some(node.to_string(alloc)?),
+    }))
+}
+
+/// What a package says of Node. Old packages have a list there, which says nothing.
+fn engine_of(member: &Value) -> Option<&str>
+    ensures { option_map (λ text. text.now) result ≡ Outcomes.engine_of (view member.now) }
+{
+    member.get("engines")?.get("node")?.as_str()
 }
 
 /// The version of a package, if it has one.

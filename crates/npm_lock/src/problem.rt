@@ -1,5 +1,5 @@
 //! What is wrong with an installed package, and its JSON object.
-ghost use Rattle.std.specs.Prelude.{◌≡◌, [], ◌∷◌, ◌++◌, IfOk, OnOk, map, option_map, option_to_list};
+ghost use Rattle.std.specs.Prelude.{◌≡◌, [], ◌∷◌, IfOk, OnOk, option_map};
 ghost use Rattle.serde_json.specs.Data.{put as with_member, string};
 ghost use Rattle.serde_json.specs.View.{members_view, view};
 ghost use Rattle.npm_lock.specs.Findings.{IsReport, of_dependency, of_package};
@@ -112,34 +112,16 @@ impl Problems {
         ensures { OnOk result (Adds self.old self.new (of_package (option_map problem_value problem) ∷ [])) }
     {
         self.packages = self.packages.saturating_add(1);
-        self.push(problem)
+        self.list.extend(problem)
     }
 
     /// Adds what is found out about one dependency.
-    pub(crate) fn add_dependency(
-        &mut self,
-        problem: Option<Problem>,
-        is_unchecked: bool,
-    ) -> Result<()>
+    pub(crate) fn add_dependency(&mut self, problem: Option<Problem>, unchecked: bool) -> Result<()>
         ensures { OnOk result (Adds self.old self.new
-            (of_dependency (option_map problem_value problem) is_unchecked ∷ [])) }
+            (of_dependency (option_map problem_value problem) unchecked ∷ [])) }
     {
         self.dependencies = self.dependencies.saturating_add(1);
-        self.unchecked = self.unchecked.saturating_add(usize::from(is_unchecked));
-        self.push(problem)
-    }
-
-    /// Adds a problem to the list, if there is one.
-    fn push(&mut self, problem: Option<Problem>) -> Result<()>
-        ensures list { OnOk result (map problem_value self.new.list.items
-            ≡ map problem_value self.old.list.items ++ option_to_list (option_map problem_value problem)) }
-        ensures packages { self.new.packages ≡ self.old.packages }
-        ensures dependencies { self.new.dependencies ≡ self.old.dependencies }
-        ensures unchecked { self.new.unchecked ≡ self.old.unchecked }
-    {
-        match problem {
-            Some(problem) => Ok(self.list.push(problem)?),
-            None => Ok(()),
-        }
+        self.unchecked = self.unchecked.saturating_add(usize::from(unchecked));
+        self.list.extend(problem)
     }
 }

@@ -53,20 +53,14 @@ fn is_satisfied(range: &Range, version: Option<&str>) -> bool
     let Some(text) = version else {
         return false;
     };
-    match VersionRef::parse(text) {
-        Ok(version) => range.satisfies(&version),
-        Err(_) => false,
-    }
+    VersionRef::parse(text).is_ok_and(|version| range.satisfies(&version))
 }
 
 /// Returns `true` if a version satisfies a range text. A text that is refused admits none.
 pub(crate) fn is_admitted(alloc: Global, text: &str, version: &Version) -> Result<bool>
     ensures { IfOk result (λ admitted. IsTrue admitted ↔ IsAdmittedBy text.now version.now) }
 {
-    match range_of(alloc, text)? {
-        Some(range) => Ok(range.satisfies(version)),
-        None => Ok(false),
-    }
+    Ok(range_of(alloc, text)?.is_some_and(|range| range.satisfies(version)))
 }
 
 /// The range of a text, or `None` if the text is refused.

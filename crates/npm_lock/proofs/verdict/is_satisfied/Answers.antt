@@ -1,6 +1,6 @@
 use Rattle.std.proofs.Common.{◌≡◌, ◌↔◌, ℕ, List, Bool, IsTrue, Option, Some, true, false, ap, if◌then◌else◌}
-use Rattle.std.proofs.Common.{option_map, refl}
-use Rattle.node_semver.specs.Ranges.{IsRefused, TextAdmits}
+use Rattle.std.proofs.Common.{Err, IfOk, Ok, Result, option_map, refl, rules}
+use Rattle.node_semver.specs.Ranges.{IsRefused, RangeAdmits, TextAdmits}
 use Rattle.node_semver.specs.Versions.{IsVersionText, VersionValue}
 use Rattle.npm_lock.specs.Verdict.{IsVerdictOfText, asks_for_any, no_version, satisfied, unsatisfied}
 use Rattle.npm_lock.specs.declared.verdict.Verdict.TheVariants.{Invalid, Valid}
@@ -13,16 +13,26 @@ decided version text written v true some good is reads means = satisfied written
 decided version text written v false some good is reads means = unsatisfied written v some good is reads
     (λ h. let no : false ≡ true = means.1 h in cc no)
 
+judged : {E : Type 0} (version : Option (List ℕ)) (text written : List ℕ) (answer : Bool)
+    (parsed : Result VersionValue E) → asks_for_any text ≡ false → ¬ IsRefused text → version ≡ Some written
+    → IfOk parsed (λ v. IsVersionText written v)
+    → ((e : E) → parsed ≡ Err e → (v : VersionValue) → ¬ IsVersionText written v)
+    → ((v : VersionValue) → parsed ≡ Ok v → IsTrue answer ↔ TextAdmits text v)
+    → ((e : E) → parsed ≡ Err e → answer ≡ false)
+    → IsVerdictOfText version text (if answer then Valid else Invalid)
+judged version text written answer (Ok v) some good is reads unread admits fails =
+    decided version text written v answer some good is reads (admits v refl)
+judged version text written answer (Err e) some good is reads unread admits fails =
+    rw (fails e refl) (no_version some good (rw is (unread e refl)))
+
 pub returns-in_default : goal.returns-in_default
 returns-in_default c = λ text some good means. no_version some good (rw c.in_default.is tt)
 
-pub returns-in-Ok : goal.returns-in-Ok
-returns-in-Ok c = λ text some good means. decided _ text c.in-Some.text.now _ c.satisfies.result some good
-    (ap (option_map (λ t. t.now)) c.in-Some.is) c.in-Ok.ensures.found (
-      (λ yes. (means _).0 (c.satisfies.ensures.0 yes)),
-      (λ h. c.satisfies.ensures.1 ((means _).1 h)),
-    )
-
-pub returns-in-Err : goal.returns-in-Err
-returns-in-Err c = λ text some good means. no_version some good (rw c.in-Some.is (λ v read.
-    absurd (rw c.in-Err.is at (c.parse.ensures.only v read))))
+pub returns : goal.returns
+returns c = λ text some good means. judged _ text c.in-Some.text.now c.is_ok_and.result c.parse.result some good
+    (ap (option_map (λ t. t.now)) c.in-Some.is) c.parse.ensures.found
+    (λ e is v read. rw is at (c.parse.ensures.only v read))
+    (λ v is. let h = rw is at c.is_ok_and.ensures in
+    let told : IsTrue c.is_ok_and.result ↔ RangeAdmits c.args.range.now v = search rules in
+    ((λ yes. (means v).0 (told.0 yes)), (λ admits. told.1 ((means v).1 admits))))
+    (λ e is. rw is at c.is_ok_and.ensures)

@@ -1,12 +1,13 @@
-use Rattle.std.proofs.Common.{◌∙◌}
-use Rattle.std.proofs.lemmas.Result.{on_ok_weaker}
-use Rattle.npm_lock.proofs.Reports.{as_number, grown, same_count}
+-- The list grows by what `extend` takes from the option.
+use Rattle.std.proofs.Common.{refl}
+use Rattle.std.proofs.lemmas.Iterator.Adapters.{YieldsList-from_once, fact_from_extend}
+use Rattle.npm_lock.proofs.Reports.{as_number, grown, listed, same_count}
 use Rattle.npm_lock.proofs.problem.Problems.add_dependency.Goals as goal
 
 pub returns : goal.returns
-returns c = on_ok_weaker _
-    (λ list. grown c.args.self.now c.push.new.self _ list
-    (same_count _ _ c.push.ensures.packages)
-    (λ n held. c.push.ensures.dependencies ∙ c.saturating_add-self.ensures)
-    (λ n held. as_number _ _ _ _ c.from.ensures (c.push.ensures.unchecked ∙ c.saturating_add-self-2.ensures)))
-    c.push.ensures.list
+returns c = fact_from_extend (λ x. x) c.extend.result c.extend.ensures.ran
+    (λ it is. YieldsList-from_once c.args.problem is.0)
+    (λ more items grows. grown c.args.self.now _ _ (listed _ _ more c.args.problem items grows.0)
+    (same_count _ _ refl)
+    (λ n held. c.saturating_add-self.ensures)
+    (λ n held. as_number _ _ _ _ c.from.ensures c.saturating_add-self-2.ensures))

@@ -1,0 +1,41 @@
+use Rattle.std.proofs.Common.{◌≡◌, ◌∙◌, ℕ, List, None, Option, Some, true, ap, option_map, refl, sym}
+use Rattle.node_semver.specs.Versions.{VersionValue}
+use Rattle.serde_json.specs.Data.{Data}
+use Rattle.serde_json.specs.View.{view}
+use Rattle.npm_lock.specs.Findings.{IsNodeOutcome}
+use Rattle.npm_lock.specs.Outcomes.{admitted, engine, engine_of, unsaid}
+use Rattle.npm_lock.specs.Verdict.{IsAdmittedBy}
+use Rattle.npm_lock.specs.declared.problem.Kind.TheVariants.{Engine}
+use Rattle.npm_lock.proofs.ProblemTexts.{with_texts}
+use Rattle.npm_lock.proofs.outcome.engine_problem.Goals as goal
+use Rattle.npm_lock.proofs.outcome.engine_problem.Goals.{in_default-via-in-Some+in_default, in_default-via-in_default}
+
+says_nothing : (node : Option VersionValue) (folder : List ℕ) (member : Data) → engine_of member ≡ None
+    → IsNodeOutcome node folder member None
+says_nothing None folder member is = refl
+says_nothing (Some node) folder member is = unsaid is
+
+pub returns-in_default : goal.returns-in_default
+returns-in_default c = elim c.in_default.branch [
+  | in_default-via-in-Some+in_default w ↦ says_nothing _ _ _
+      (sym c.engine_of.ensures ∙ ap (option_map (λ t. t.now)) w.in_default.is-1)
+  | in_default-via-in_default w ↦ rw w.in_default.is-0 refl
+]
+
+pub returns-then-branch : goal.returns-then-branch
+returns-then-branch c = rw c.in-Some-Some.is-0 (admitted c.in-Some-Some.spec.now
+    (sym c.engine_of.ensures ∙ ap (option_map (λ t. t.now)) c.in-Some-Some.is-1)
+    (c.in_ok-is_admitted.ensures.0 c.if-branch.true))
+
+pub returns : goal.returns
+returns c =
+    let turned_away : ¬ IsAdmittedBy c.in-Some-Some.spec.now c.in-Some-Some.node.now = λ h.
+    let yes : c.in_ok-is_admitted.field-0 ≡ true = c.in_ok-is_admitted.ensures.1 h in
+    cc (yes, c.if-branch.false) in
+    let outcome = engine c.in-Some-Some.spec.now
+    (sym c.engine_of.ensures ∙ ap (option_map (λ t. t.now)) c.in-Some-Some.is-1) turned_away in
+    with_texts (λ problem. IsNodeOutcome (option_map (λ version. version.now) c.args.lock.node) c.args.asker.folder.now
+    (view c.args.asker.member.now) (Some problem)) _ Engine c.in_ok-from_str.field-0 c.in_ok-from_str-2.field-0
+    c.in_ok-from_str-3.field-0 None (Some c.in_ok-to_string.field-0) _ _ _ None _ refl c.in_ok-from_str.ensures.ok
+    c.in_ok-from_str-2.ensures.ok c.in_ok-from_str-3.ensures.ok refl (ap Some c.in_ok-to_string.ensures.ok)
+    (rw c.in-Some-Some.is-0 outcome)

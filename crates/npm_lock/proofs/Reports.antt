@@ -55,7 +55,7 @@ grown old new found list packages dependencies unchecked = λ before report. rec
 pub listed : (old new more : List Problem) (problem : Option Problem) → map (λ x. x) more ≡ option_to_list problem
     → new ≡ old ++ more
     → map problem_value new ≡ map problem_value old ++ option_to_list (option_map problem_value problem)
-listed old new more None is grows = rw (grows, ← map-id more, is, append-nil, append-nil) refl
+listed old new more None is grows = rw (grows, ← map-id more, is) (map-append problem_value old [])
 listed old new more (Some problem) is grows = rw (grows, ← map-id more, is) (map-append problem_value old (problem ∷ []))
 
 -- a count that is not changed

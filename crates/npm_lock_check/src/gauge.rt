@@ -1,5 +1,5 @@
 //! Readers and writers that keep the kind of error of a call that failed.
-ghost use Rattle.std.specs.Prelude.{◌≡◌, None, OnOk};
+ghost use Rattle.std.specs.Prelude.{◌≡◌, ◌+◌, IfOk, None, OnOk, vec_len};
 ghost use Rattle.std.specs.Io.{StartsWith, appended_bytes};
 ghost use Rattle.std.specs.Io.KnownBytes.{Appends, Consumes, IsAtEnd};
 ghost use Rattle.npm_lock_check.specs.GaugeValue.{GaugeValue, failure_of};
@@ -36,6 +36,7 @@ impl<T> Gauge<T> {
 impl<R: Read> Gauge<R> {
     /// Reads to the end.
     pub fn read_to_end(&mut self, bytes: &mut Vec<u8>) -> io::Result<usize>
+        ensures count { IfOk result (λ count. vec_len bytes.new ≡ vec_len bytes.old + count) }
         ensures appends { StartsWith bytes.new.items bytes.old.items }
         ensures taken { Consumes (R.remaining self.old.inner) (R.remaining self.new.inner)
             (appended_bytes bytes.old.items bytes.new.items) }

@@ -1,6 +1,6 @@
 -- The print of a set is one word, or two with a blank between, whose comparators merge into a set of the same cuts.
 use Rattle.std.proofs.Common.{◌≡◌, ℕ, List, [], ◌∷◌, ◌++◌, Some, Equal, codes, refl, sym, subst, inl, inr}
-use Rattle.std.proofs.lemmas.Bool.{cases_Bool}
+use Rattle.std.proofs.lemmas.Bool.{cases_Bool, cond-false, cond-true}
 use Rattle.std.specs.Cmp.{Equal-is, tied_itself}
 use Rattle.std.specs.Ordering.{eq_by_cmp}
 use Rattle.semver_cuts.specs.declared.cut.Cut.{Cut}
@@ -21,7 +21,6 @@ use Rattle.semver_sets.specs.RangePrint.{both_text, ends_text, lower_text, set_t
 use Rattle.semver_sets.specs.RangeSets.{IsRangeSet, IsReadCut, IsReadVersion}
 use Rattle.semver_versions.specs.Version.{VersionValue}
 use Rattle.semver_sets.specs.Private.WordReading.{is_solid}
-use Rattle.semver_versions.specs.Lemmas.Texts.IdentifierReading.{pick-false, pick-true}
 use Rattle.semver_sets.specs.Lemmas.Merging.{set-one, set-push}
 use Rattle.semver_sets.proofs.Words.NoBars.{HasNoBar, none-append}
 use Rattle.semver_versions.specs.Lemmas.Texts.Prefixes.{begins-append}
@@ -149,10 +148,10 @@ between-read v w lt a b =
     let both = both_text (Before v) (After w) in
     elim (cases_Bool (eq_by_cmp version_cmp v w)) [
       | inl same ↦
-          subst (λ (text : List ℕ). IsReadAlike text set) (sym (pick-true _ (version_text v) both same))
+          subst (λ (text : List ℕ). IsReadAlike text set) (sym (cond-true _ (version_text v) both same))
           (same-print_read v w a ((Equal-is (version_cmp v w)).0 same))
       | inr other ↦
-          subst (λ (text : List ℕ). IsReadAlike text set) (sym (pick-false _ (version_text v) both other))
+          subst (λ (text : List ℕ). IsReadAlike text set) (sym (cond-false _ (version_text v) both other))
           (two-read (lower_text (Before v)) (upper_text (After w)) (Before v) (After w)
           (at_least-word v (codes " " ++ upper_text (After w)) a refl) (at_most-word w b) refl refl lt)
     ]

@@ -4,12 +4,11 @@ use Rattle.std.proofs.Common.{take, drop, Option, Some, None, append_assoc, leng
 use Rattle.std.proofs.Common.{◌∙◌, inl, inr}
 use Rattle.std.specs.Prelude.{◌⊎◌, ◌==◌, ◌&&◌}
 use Rattle.std.proofs.lemmas.Bool.{and_parts, cases_Bool, eqb-true}
-use Rattle.std.proofs.lemmas.List.{append-nil, drop_all, get_or-drop, take_all}
+use Rattle.std.proofs.lemmas.List.{append-nil, drop_all, drop_more, get_or-drop, take_all, take_more}
 use Rattle.memchr.specs.Find.{Nowhere, Passes, is_byte}
 use Rattle.semver_versions.specs.Characters.{bar}
 use Rattle.semver_sets.specs.Division.{EndsInBar, HasBars, HasFirstPiece, IsPieces}
 use Rattle.semver_sets.specs.Private.PieceReading.{Piece, bars_after, behind, piece_at}
-use Rattle.semver_versions.specs.Lemmas.Texts.Places.{at-place, take-more}
 
 -- ---- `||`
 
@@ -283,14 +282,14 @@ Passed text i = piece_at text ≡ behind (take i text) (piece_at (drop i text))
 pub seen-step : (text : List ℕ) (i : ℕ) → i < length text → None ≡ bars_after (drop i text) → Passed text i
     → Passed text (i + 1)
 seen-step text i h none passed =
-    let here = at-place text i h in
+    let here = drop_more text i 0 h in
     let more = drop (i + 1) text in
     let b = get_or text i 0 in
     let read : piece_at (drop i text) ≡ (b ∷ (piece_at more).0, (piece_at more).1) =
     ap piece_at here ∙ piece-step b more (sym (none ∙ ap bars_after here)) in
     passed ∙ ap (behind (take i text)) read
     ∙ ap (λ (l : List ℕ). (l, (piece_at more).1)) (sym (append_assoc (take i text) (b ∷ []) (piece_at more).0))
-    ∙ ap (λ (l : List ℕ). (l ++ (piece_at more).0, (piece_at more).1)) (sym (take-more text i h))
+    ∙ ap (λ (l : List ℕ). (l ++ (piece_at more).0, (piece_at more).1)) (sym (take_more text i 0 h))
 
 -- the piece ends where `||` begins
 pub seen-stop : (text after : List ℕ) (i : ℕ) → Some after ≡ bars_after (drop i text) → Passed text i
@@ -321,7 +320,7 @@ pass-free text i (suc n) h free passed =
     let before : Passed text (i + n) = pass-free text i n (omega arith)
     (λ k low high. free k low (omega arith)) passed in
     let none : bars_after (drop (i + n) text) ≡ None =
-    ap bars_after (at-place text (i + n) (omega arith))
+    ap bars_after (drop_more text (i + n) 0 (omega arith))
     ∙ no-bars-here (get_or text (i + n) 0) (drop (i + n + 1) text) (free (i + n) (omega arith) (omega arith)) in
     let after : Passed text (i + n + 1) = seen-step text (i + n) (omega arith) (sym none) before in
     subst (Passed text) (omega arith) after

@@ -1,6 +1,7 @@
 -- A number that is the first identifier of a list.
 use Rattle.std.proofs.Common.{◌≡◌, ◌<◌, ◌-◌, ◌≤◌, ◌^◌, ℕ, List, [], ◌∷◌, ◌++◌, Ok, sym, ap, ◌∙◌, subst, refl}
 use Rattle.std.proofs.Common.{arith, drop, get_or, length, length-append, take}
+use Rattle.std.proofs.lemmas.List.{take_rest}
 use Rattle.std.proofs.lemmas.Bool.{lt-ltb}
 use Rattle.semver_versions.specs.Characters.{AreAll, BeginsWithNo, dot, is_digit, is_identifier_character}
 use Rattle.semver_versions.specs.IdentifierText.{IsListed, identifier_of, identifiers_of}
@@ -12,7 +13,6 @@ use Rattle.semver_versions.specs.declared.TheConstants.{MAX_SAFE_INTEGER}
 use Rattle.semver_versions.specs.Lemmas.Texts.DecimalReading.{characters-of_digits}
 use Rattle.semver_versions.specs.Lemmas.Texts.ListedTexts.{first-alone, first-before}
 use Rattle.semver_versions.specs.Lemmas.Texts.NumberReading.{TakesNumber, number-takes}
-use Rattle.semver_versions.specs.Lemmas.Texts.Places.{to-end}
 use Rattle.semver_versions.specs.Lemmas.Texts.Prefixes.{prefix_of-again, rest_of-again}
 use Rattle.semver_versions.specs.Lemmas.Versions.VersionReading.{begins-some}
 
@@ -78,7 +78,7 @@ number-before text (b ∷ left) number listed read more here =
     let behind = longer text (b ∷ left) number t in
     let some : 0 < length text = omega arith in
     let shorter : length left < length text = omega arith in
-    subst (λ (l : List ℕ). IsNumberSplit text number l) (sym (to-end (b ∷ left) 1))
+    subst (λ (l : List ℕ). IsNumberSplit text number l) (sym (take_rest (b ∷ left) 1))
     (first-number text t.digits left number
     (subst (λ (l : List ℕ). IsFirstSplit text l left) e.prefix (first-before text left b listed some e.rest)) t.read
     shorter)

@@ -1,11 +1,10 @@
 -- What a reader at the start of a text says of the whole text.
 use Rattle.std.proofs.Common.{◌≡◌, ◌-◌, ◌<◌, ◌≤◌, ◌^◌, ℕ, List, [], ◌∷◌, ◌++◌, length, Ok, Err, refl, sym, ◌∙◌}
 use Rattle.std.proofs.Common.{inl, inr, subst, arith, take, drop}
+use Rattle.std.proofs.lemmas.List.{take_rest}
 use Rattle.std.specs.Borrow.{Bor}
-use Rattle.std.proofs.lemmas.Bool.{cases_Bool}
+use Rattle.std.proofs.lemmas.Bool.{cases_Bool, cond-false, cond-true}
 use Rattle.std.specs.Prelude.{IfErr, Result, codes, nat_lt}
-use Rattle.semver_versions.specs.Lemmas.Texts.IdentifierReading.{pick-false, pick-true}
-use Rattle.semver_versions.specs.Lemmas.Texts.Places.{to-end}
 use Rattle.semver_versions.specs.Lemmas.Texts.Prefixes.{begins-append}
 use Rattle.semver_versions.specs.declared.TheConstants.{MAX_LENGTH}
 use Rattle.semver_versions.specs.Characters.{BeginsWith, is_digit}
@@ -62,8 +61,8 @@ begun-left text rest (b ∷ left) triple begun end some =
 -- a kind of fault that is not one of a number
 no-large : (kind : Kind) (n : ℕ) → ((m : ℕ) → kind ≡ max_int m → ⊥) → (kind ≡ parse_int → ⊥) → kind ≡ too_large n → ⊥
 no-large kind n ints parses same = elim (cases_Bool (nat_lt n (2 ^ 64))) [
-  | inl fits ↦ ints n (same ∙ pick-true _ _ _ fits)
-  | inr large ↦ parses (same ∙ pick-false _ _ _ large)
+  | inl fits ↦ ints n (same ∙ cond-true _ _ _ fits)
+  | inr large ↦ parses (same ∙ cond-false _ _ _ large)
 ]
 
 -- the fault of a number that is too large is where that number begins
@@ -83,4 +82,4 @@ large-here text _ _ n (left_over beginning v b rest short whole digit read longe
 
 pub large-refused : (text : List ℕ) (left : ℕ) → IsReadFault text (TooLarge left)
     → BeginsWith is_digit (take (length text - (length text - left)) (drop (length text - left) text))
-large-refused text left told = rw (to-end text (length text - left)) (large-here text _ _ _ told.fault refl)
+large-refused text left told = rw (take_rest text (length text - left)) (large-here text _ _ _ told.fault refl)

@@ -1,13 +1,12 @@
 use Rattle.std.proofs.Common.{◌≡◌, ◌≢◌, ◌∙◌, ◌+◌, ◌-◌, ◌<◌, ◌≤◌, ℕ, List, ap, arith, drop, get_or, length, rules}
 use Rattle.std.proofs.Common.{take}
 use borrow.Author.Tests.{ltb-true}
-use Rattle.std.proofs.lemmas.List.{length-drop}
+use Rattle.std.proofs.lemmas.List.{length-drop, take_rest}
 use Rattle.memchr.specs.Find.{NoneBefore, Nowhere, Passes, is_byte}
 use Rattle.semver_versions.specs.Characters.{bar}
 use Rattle.semver_sets.specs.Private.PieceReading.{bars_after}
 use Rattle.semver_sets.proofs.Ranges.PieceLemmas.{Passed, not-bars, pass-to_bar, passed-end, seen-step}
 use Rattle.semver_sets.proofs.Ranges.PieceLemmas.{seen-stop, two-bars}
-use Rattle.semver_versions.specs.Lemmas.Texts.Places.{to-end}
 use Rattle.semver_sets.proofs.read.next_piece.Goals as goal
 use Rattle.semver_sets.proofs.read.next_piece.Goals.{else-text-bar-lt2+in-124+in_default-1}
 use Rattle.semver_sets.proofs.read.next_piece.Goals.{else-text-bar-lt2+in_default-1, then-text-bar-lt2}
@@ -17,7 +16,7 @@ abbrev left : List ℕ → ℕ → List ℕ
 left text i = take (length text - i) (drop i text)
 
 length-left : (text : List ℕ) (i : ℕ) → length (left text i) ≡ length text - i
-length-left text i = ap length (to-end text i) ∙ length-drop i text
+length-left text i = ap length (take_rest text i) ∙ length-drop i text
 
 -- all before the first bar of the remaining text is passed
 to-bar : (text : List ℕ) (i n : ℕ) → i ≤ length text
@@ -27,7 +26,7 @@ to-bar text i n h none passed =
     let size = length-left text i in
     let high : n < length (left text i) = none.high in
     let within : i + n < length text = omega arith in
-    (within, pass-to_bar text (left text i) i n (to-end text i) (omega arith) none.before passed)
+    (within, pass-to_bar text (left text i) i n (take_rest text i) (omega arith) none.before passed)
 
 -- and where there is none, all is
 to-end-of_text : (text : List ℕ) (i : ℕ) → i ≤ length text
@@ -35,14 +34,14 @@ to-end-of_text : (text : List ℕ) (i : ℕ) → i ≤ length text
     → Passed text i → Passed text (i + length (left text i))
 to-end-of_text text i h none passed =
     let size = length-left text i in
-    pass-to_bar text (left text i) i (length (left text i)) (to-end text i) (omega arith) none passed
+    pass-to_bar text (left text i) i (length (left text i)) (take_rest text i) (omega arith) none passed
 
 pub returns-in-124 : goal.returns-in-124
 returns-in-124 c =
     let text = c.args.text.now in
     let here = c.bars.passed + c.in-Some.at in
     let to = to-bar text c.bars.passed c.in-Some.at c.bars.invariant.0 c.in-Some.ensures.0 c.bars.invariant.1 in
-    let seen = two-bars (left text here) (omega arith) (omega arith) (omega arith) ∙ ap bars_after (to-end text here) in
+    let seen = two-bars (left text here) (omega arith) (omega arith) (omega arith) ∙ ap bars_after (take_rest text here) in
     seen-stop text _ here seen to.1
 
 pub bars-preserved : goal.bars-preserved
@@ -60,7 +59,7 @@ bars-preserved c =
           other one
     ]) in
     let within : here < length text = to.0 in
-    (omega arith, seen-step text here to.0 (none ∙ ap bars_after (to-end text here)) to.1)
+    (omega arith, seen-step text here to.0 (none ∙ ap bars_after (take_rest text here)) to.1)
 
 pub returns : goal.returns
 returns c =

@@ -1,10 +1,11 @@
 use Rattle.std.proofs.Common.{◌≡◌, ◌<◌, ℕ, true, List, arith, get_or, length, sym, ap, ◌∙◌, inl, inr}
+use Rattle.std.proofs.lemmas.List.{take_rest}
 use Rattle.std.specs.Prelude.{not}
 use Rattle.std.proofs.lemmas.Bool.{cases_Bool}
 use Rattle.memchr.specs.Find.{Nowhere, Passes, is_byte2}
 use Rattle.semver_versions.specs.Characters.{is_blank}
 use Rattle.semver_sets.specs.Private.WordReading.{is_solid}
-use Rattle.semver_versions.specs.Lemmas.Texts.Places.{rest_of-each, rest_of-first, to-end}
+use Rattle.semver_versions.specs.Lemmas.Texts.Places.{rest_of-each, rest_of-first}
 use Rattle.semver_sets.proofs.word.skip_solid.Goals as goal
 
 -- there is no blank before place n
@@ -19,11 +20,11 @@ pub returns-in-Some : goal.returns-in-Some
 returns-in-Some c =
     let text = c.args.text.now in
     let end = c.in-Some.end in
-    to-end text end
+    take_rest text end
     ∙ sym (rest_of-first is_solid text end c.in-Some.ensures.0.high (solid-before text end c.in-Some.ensures.0.before)
     (ap not c.in-Some.ensures.1))
 
 pub returns-in-None : goal.returns-in-None
 returns-in-None c =
     let text = c.args.text.now in
-    to-end text (length text) ∙ sym (rest_of-each is_solid text (solid-before text (length text) c.in-None.ensures))
+    take_rest text (length text) ∙ sym (rest_of-each is_solid text (solid-before text (length text) c.in-None.ensures))

@@ -1,8 +1,8 @@
 use Rattle.std.proofs.Common.{◌++◌, ◌∷◌, ◌<◌, ◌^◌, ◌∙◌, ◌-◌, ℕ, List, zero, suc, arith, sym, subst, ap, take, drop}
+use Rattle.std.proofs.lemmas.List.{take_rest}
 use Rattle.std.specs.Prelude.{IsAscii, IsUtf8, decimal}
 use Rattle.std.proofs.lemmas.Fmt.{IsAscii-decimal}
 use Rattle.std.proofs.lemmas.Str.{IsAscii-append, IsUtf8-from_ascii}
-use Rattle.semver_versions.specs.Lemmas.Texts.Places.{to-end}
 use Rattle.semver_versions.proofs.line.triple_text.Goals as goal
 
 dot-ascii : (text : List ℕ) → IsAscii text → IsAscii (46 ∷ text)
@@ -22,6 +22,6 @@ from_utf8_unchecked-requires c =
     let line = c.put_triple_last-start.new.line in
     let start = c.put_triple_last-start.result in
     let whole = ap (λ (n : ℕ). take (n - start) (drop start line)) (sym c.put_triple_last-start.array_long)
-    ∙ to-end line start ∙ c.put_triple_last-start.ensures.text in
+    ∙ take_rest line start ∙ c.put_triple_last-start.ensures.text in
     subst IsUtf8 (sym whole) (triple-utf8 c.args.major c.args.minor c.args.patch
     c.ranges.major.fits c.ranges.minor.fits c.ranges.patch.fits)

@@ -2,7 +2,7 @@
 -- numbers.
 use Rattle.std.proofs.Common.{◌≡◌, ◌<◌, ◌^◌, ℕ, true, false, List, [], ◌∷◌, ◌++◌, refl, sym, ap}
 use Rattle.std.proofs.Common.{◌∙◌, inl, inr, subst, append_assoc, arith}
-use Rattle.std.proofs.lemmas.Bool.{cases_Bool, eqb-true}
+use Rattle.std.proofs.lemmas.Bool.{cases_Bool, cond-false, cond-true, eqb-true}
 use Rattle.std.proofs.lemmas.Bool.Decides.{nat_tests}
 use Rattle.std.proofs.lemmas.List.{map-append}
 use Rattle.std.specs.Cmp.{nat_cmp_is, nat_cmp_total}
@@ -19,7 +19,7 @@ use Rattle.semver_versions.specs.IdentifierValue.{IdentifierValue, alphanumeric,
 use Rattle.semver_versions.specs.NumberText.{number_of}
 use Rattle.semver_versions.specs.Readers.CommonStarts.{ends, first_byte}
 use Rattle.semver_versions.specs.Lemmas.Order.{cmp-after, ends-Less, identifier_total}
-use Rattle.semver_versions.specs.Lemmas.Texts.IdentifierReading.{parts-dot, parts-other, parts-shape, pick-false, pick-true}
+use Rattle.semver_versions.specs.Lemmas.Texts.IdentifierReading.{parts-dot, parts-other, parts-shape}
 use Rattle.semver_versions.specs.Lemmas.Texts.IdentifierStarts.{after-start, last-start, parts-inner, texts_cmp}
 use Rattle.semver_versions.specs.Lemmas.Texts.IdentifierStarts.{texts-sides, texts-some}
 use Rattle.semver_versions.specs.Lemmas.Texts.FirstDifference.{digits-part, first-decides, first-digit}
@@ -65,9 +65,9 @@ letter-above p f g d none h =
     ap (identifier_cmp (identifier_of (p ++ f))) (text-value (p ++ (d ∷ g)) (not-digits p g d none))
     ∙ elim (cases_Bool (list_all is_digit (p ++ f) && nat_lt (number_of (p ++ f)) (2 ^ 64))) [
       | inl number ↦ ap (λ (i : IdentifierValue). identifier_cmp i (alphanumeric (p ++ (d ∷ g))))
-          (pick-true _ (numeric (number_of (p ++ f))) (alphanumeric (p ++ f)) number)
+          (cond-true _ (numeric (number_of (p ++ f))) (alphanumeric (p ++ f)) number)
       | inr text ↦ ap (λ (i : IdentifierValue). identifier_cmp i (alphanumeric (p ++ (d ∷ g))))
-          (pick-false _ (numeric (number_of (p ++ f))) (alphanumeric (p ++ f)) text)
+          (cond-false _ (numeric (number_of (p ++ f))) (alphanumeric (p ++ f)) text)
           ∙ cmp-after nat_cmp nat_cmp_total p f (d ∷ g) ∙ texts-below f g d h
     ]
 

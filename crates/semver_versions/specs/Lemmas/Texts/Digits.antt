@@ -1,7 +1,7 @@
 -- Numbers, as a loop goes over their digits.
 use Rattle.std.proofs.Common.{◌≡◌, ◌+◌, ◌-◌, ◌*◌, ◌<◌, ◌≤◌, ◌^◌, ℕ, true, false, List, [], ◌∷◌, length, Option}
 use Rattle.std.proofs.Common.{Some, None, refl, sym, ap, ◌∙◌, inl, inr, subst, arith, rules}
-use Rattle.std.proofs.lemmas.Bool.{and_from, and_right, cases_Bool, le-ltb, lt-leb, ltb-false}
+use Rattle.std.proofs.lemmas.Bool.{and_from, and_right, cases_Bool, cond-false, cond-true, le-ltb, lt-leb, ltb-false}
 use Rattle.std.proofs.lemmas.Str.Parse.{IsNumeralModel, numerals_by_value}
 use Rattle.std.proofs.lemmas.Bool.Decides.{nat_tests}
 use Rattle.std.specs.Char.{digit_value}
@@ -15,7 +15,6 @@ use Rattle.semver_versions.specs.Readers.Reading.{begins, prefix_of, read_number
 use Rattle.semver_versions.specs.declared.parse.fault.Fault.TheVariants.{TooLarge}
 use Rattle.semver_versions.specs.Lemmas.Texts.Prefixes.{with-begins}
 use Rattle.semver_versions.specs.Lemmas.Texts.NumberReading.{refusal}
-use Rattle.semver_versions.specs.Lemmas.Texts.IdentifierReading.{pick-false, pick-true}
 
 -- the value of a digit
 pub digit-value : (b : ℕ) → is_digit b ≡ true → digit_value b ≡ b - 48
@@ -70,12 +69,12 @@ none-numeric s n b ds none all value = elim (cases_Bool (is_digit b)) [
       let not_all : list_all is_digit s ≡ false = sym all ∙ rw other refl in
       rw not_all refl
   | inl digit ↦ elim (cases_Bool (nat_lt (n * 10 + (b - 48)) (2 ^ 64))) [
-    | inl fits ↦ cc (none ∙ pick-true _ (Some (n * 10 + (b - 48))) None (and_from _ _ digit fits))
+    | inl fits ↦ cc (none ∙ cond-true _ (Some (n * 10 + (b - 48))) None (and_from _ _ digit fits))
     | inr large ↦
         let more : n * 10 + (b - 48) ≤ number_of s =
         subst (λ (m : ℕ). n * 10 + (b - 48) ≤ m) value (one-digit n b ds digit) in
         let bound : 2 ^ 64 ≤ n * 10 + (b - 48) = ltb-false _ _ large in
         let above : nat_lt (number_of s) (2 ^ 64) ≡ false = le-ltb _ _ (omega arith) in
-        sym (pick-false _ (Some (number_of s)) None (and_right (list_all is_digit s) _ above))
+        sym (cond-false _ (Some (number_of s)) None (and_right (list_all is_digit s) _ above))
   ]
 ]

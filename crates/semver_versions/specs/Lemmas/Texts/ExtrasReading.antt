@@ -1,7 +1,7 @@
 -- Prereleases, builds and extras: the readers read exactly these texts.
 use Rattle.std.proofs.Common.{◌≡◌, ◌⊎◌, ℕ, true, false, List, [], ◌∷◌, ◌++◌, refl, sym, ap, ◌∙◌, inl, inr, subst}
 use Rattle.std.proofs.Common.{append_assoc}
-use Rattle.std.proofs.lemmas.Bool.{cases_Bool, eqb-true, or_parts}
+use Rattle.std.proofs.lemmas.Bool.{cases_Bool, cond-false, cond-true, eqb-true, or_parts}
 use Rattle.std.specs.Prelude.{◌==◌}
 use Rattle.semver_versions.specs.Characters.{BeginsWith, BeginsWithNo, hyphen, is_identifier_character, plus, dot}
 use Rattle.semver_versions.specs.IdentifierText.{IsBuildText, IsExtrasText, IsIdentifierList, IsPrereleaseText}
@@ -12,17 +12,17 @@ use Rattle.semver_versions.specs.Lemmas.Texts.Prefixes.{begins-append, with-begi
 use Rattle.semver_versions.specs.Lemmas.Texts.IdentifierReading.{EndsExtras, ends-list, ends-plus, first-stays}
 use Rattle.semver_versions.specs.Lemmas.Texts.IdentifierReading.{goes_on-character}
 use Rattle.semver_versions.specs.Lemmas.Texts.IdentifierReading.{is_of_list, list-again, list-takes, list-whole}
-use Rattle.semver_versions.specs.Lemmas.Texts.IdentifierReading.{pick-false, pick-true, some-values, stops-list}
+use Rattle.semver_versions.specs.Lemmas.Texts.IdentifierReading.{some-values, stops-list}
 use Rattle.semver_versions.specs.Lemmas.Texts.Characters.{other-no_hyphen}
 
 -- the reader's result in each case
 pub read_list_or-some : (otherwise text : List ℕ) → begins is_identifier_character text ≡ true
     → read_list_or otherwise text ≡ (list_values text, list_rest text)
-read_list_or-some otherwise text h = pick-true _ _ _ h
+read_list_or-some otherwise text h = cond-true _ _ _ h
 
 pub read_list_or-none : (otherwise text : List ℕ) → begins is_identifier_character text ≡ false
     → read_list_or otherwise text ≡ ([], otherwise)
-read_list_or-none otherwise text h = pick-false _ _ _ h
+read_list_or-none otherwise text h = cond-false _ _ _ h
 
 -- the text before the rest is a prerelease text
 pub record TakesPrerelease (text : List ℕ) (identifiers : List IdentifierValue) (rest : List ℕ) : Type 0 where
@@ -50,21 +50,21 @@ listed-prerelease taken list (i ∷ is) some how read = (list, how, read)
 pub read_prerelease-hyphen : (b : ℕ) (rest : List ℕ) → (b == hyphen) ≡ true
     → read_prerelease (b ∷ rest) ≡ read_list_or (b ∷ rest) rest
 unfolding read_prerelease skip_one
-read_prerelease-hyphen b rest h = ap (read_list_or (b ∷ rest)) (pick-true (b == hyphen) rest (b ∷ rest) h)
+read_prerelease-hyphen b rest h = ap (read_list_or (b ∷ rest)) (cond-true (b == hyphen) rest (b ∷ rest) h)
 
 pub read_prerelease-other : (b : ℕ) (rest : List ℕ) → (b == hyphen) ≡ false
     → read_prerelease (b ∷ rest) ≡ read_list_or (b ∷ rest) (b ∷ rest)
 unfolding read_prerelease skip_one
-read_prerelease-other b rest h = ap (read_list_or (b ∷ rest)) (pick-false (b == hyphen) rest (b ∷ rest) h)
+read_prerelease-other b rest h = ap (read_list_or (b ∷ rest)) (cond-false (b == hyphen) rest (b ∷ rest) h)
 
 pub read_build-plus : (b : ℕ) (rest : List ℕ) → (b == plus) ≡ true
     → read_build (b ∷ rest) ≡ read_list_or (b ∷ rest) rest
 unfolding read_build skip_plus
-read_build-plus b rest h = ap (read_list_or (b ∷ rest)) (pick-true (b == plus) rest [] h)
+read_build-plus b rest h = ap (read_list_or (b ∷ rest)) (cond-true (b == plus) rest [] h)
 
 pub read_build-other : (b : ℕ) (rest : List ℕ) → (b == plus) ≡ false → read_build (b ∷ rest) ≡ ([], b ∷ rest)
 unfolding read_build skip_plus
-read_build-other b rest h = ap (read_list_or (b ∷ rest)) (pick-false (b == plus) rest [] h)
+read_build-other b rest h = ap (read_list_or (b ∷ rest)) (cond-false (b == plus) rest [] h)
 
 -- as read
 abbrev Takes : List ℕ → List IdentifierValue × List ℕ → Type 0

@@ -1,7 +1,7 @@
 -- Two identifiers that are equal up to bytes that differ: these bytes decide their order.
 use Rattle.std.proofs.Common.{◌≡◌, ◌<◌, ◌+◌, ◌*◌, ◌^◌, ◌≤◌, ℕ, true, false, List, [], ◌∷◌, ◌++◌, refl, sym, ap}
 use Rattle.std.proofs.Common.{◌∙◌, inl, inr, arith}
-use Rattle.std.proofs.lemmas.Bool.{and_from, and_left, and_right, cases_Bool, eq-eqb}
+use Rattle.std.proofs.lemmas.Bool.{and_from, and_left, and_right, cases_Bool, cond-false, cond-true, eq-eqb}
 use Rattle.std.proofs.lemmas.Bool.{ltb-false, ltb-true}
 use Rattle.std.proofs.lemmas.Bool.Decides.{nat_tests}
 use Rattle.std.proofs.lemmas.Cmp.{ranked}
@@ -24,7 +24,6 @@ use Rattle.semver_versions.specs.IdentifierValue.{alphanumeric, numeric}
 use Rattle.semver_versions.specs.NumberText.{number_of}
 use Rattle.semver_versions.specs.Lemmas.Order.{cmp-after}
 use Rattle.semver_versions.specs.Lemmas.Texts.Digits.{digit-value}
-use Rattle.semver_versions.specs.Lemmas.Texts.IdentifierReading.{pick-false, pick-true}
 
 -- bytes that differ decide, whatever follows
 pub first-decides : (c d : ℕ) (o : Ordering) → (c == d) ≡ false → ordering_then (nat_cmp c d) o ≡ nat_cmp c d
@@ -76,11 +75,11 @@ not-all p f none = list_all-append is_digit p f ∙ and_left (list_all is_digit 
 
 number-value : (text : List ℕ) → list_all is_digit text ≡ true → nat_lt (number_of text) (2 ^ 64) ≡ true
     → identifier_of text ≡ numeric (number_of text)
-number-value text all fits = pick-true _ (numeric (number_of text)) (alphanumeric text) (and_from _ _ all fits)
+number-value text all fits = cond-true _ (numeric (number_of text)) (alphanumeric text) (and_from _ _ all fits)
 
 large-value : (text : List ℕ) → nat_lt (number_of text) (2 ^ 64) ≡ false → identifier_of text ≡ alphanumeric text
 large-value text large =
-    pick-false _ (numeric (number_of text)) (alphanumeric text) (and_right (list_all is_digit text) _ large)
+    cond-false _ (numeric (number_of text)) (alphanumeric text) (and_right (list_all is_digit text) _ large)
 
 -- identifiers that differ in their last digits alone
 pub digits-part : (p : List ℕ) (c d : ℕ) → is_digit c ≡ true → is_digit d ≡ true → (c == d) ≡ false

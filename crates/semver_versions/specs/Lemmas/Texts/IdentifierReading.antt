@@ -2,7 +2,7 @@
 use Rattle.std.proofs.Common.{◌≡◌, ◌⊎◌, ℕ, Bool, true, false, List, [], ◌∷◌, ◌++◌, refl, sym, ap, ◌∙◌, inl, inr, subst}
 use Rattle.std.proofs.Common.{append-nil}
 use Rattle.std.proofs.lemmas.Bool.{and_from, and_parts, cases_Bool, eqb-true, or_parts}
-use Rattle.std.specs.Prelude.{◌==◌, ◌||◌, if◌then◌else◌, map}
+use Rattle.std.specs.Prelude.{◌==◌, ◌||◌, map}
 use Rattle.std.specs.List.{AllByRecursion, list_all}
 use Rattle.semver_versions.specs.Characters.{AreAll, BeginsWith, BeginsWithNo, is_identifier_character, plus, dot}
 use Rattle.semver_versions.specs.IdentifierText.{IsIdentifierList, IsIdentifierText, identifier_of, parts_of}
@@ -250,11 +250,3 @@ pub some-values : (text : List ℕ)
 some-values text =
     let r = parts-shape (list_prefix text) in
     (identifier_of r.0, map identifier_of r.1, ap (λ (l : List (List ℕ)). map identifier_of l) r.2)
-
-pub pick-true : {T : Type 0} (test : Bool) (x y : T) → test ≡ true → (if test then x else y) ≡ x
-pick-true true x y h = refl
-pick-true false x y h = cc h
-
-pub pick-false : {T : Type 0} (test : Bool) (x y : T) → test ≡ false → (if test then x else y) ≡ y
-pick-false true x y h = cc h
-pick-false false x y h = refl

@@ -2,6 +2,7 @@
 use Rattle.std.proofs.Common.{◌≡◌, ◌<◌, ◌-◌, ◌≤◌, ℕ, true, List, [], ◌∷◌, ◌++◌, refl, sym, ap, ◌∙◌, inl, inr}
 use Rattle.std.proofs.Common.{subst}
 use Rattle.std.proofs.Common.{arith, length, length-append, drop, take}
+use Rattle.std.proofs.lemmas.List.{take_rest}
 use Rattle.std.proofs.lemmas.Bool.{and_parts, cases_Bool, eqb-true}
 use Rattle.std.proofs.Math.Seq.{take-append_seam}
 use Rattle.std.specs.Prelude.{◌==◌, map}
@@ -13,7 +14,6 @@ use Rattle.semver_versions.specs.IdentifierValue.{IdentifierValue}
 use Rattle.semver_versions.specs.Readers.ListedViews.{IsFirstSplit, IsListSplit, is_inner}
 use Rattle.semver_versions.specs.Readers.Reading.{begins, list_prefix, list_rest, prefix_of, read_list_or, rest_of}
 use Rattle.semver_versions.specs.Lemmas.Texts.Characters.{character-no_dot}
-use Rattle.semver_versions.specs.Lemmas.Texts.Places.{to-end}
 use Rattle.semver_versions.specs.Lemmas.Texts.Prefixes.{prefix_of-rest_of, rest-short}
 use Rattle.semver_versions.specs.Lemmas.Texts.ExtrasReading.{read_list_or-some}
 use Rattle.semver_versions.specs.Lemmas.Texts.IdentifierReading.{GoOn, list-takes, list-whole, parts-other, parts-shape}
@@ -145,7 +145,7 @@ pub split-before : (text part rest : List ℕ) → IsListed text → 0 < length 
     → IsFirstSplit text part (take (length rest - 1) (drop 1 rest))
 split-before text part [] listed some part_is rest_is more = absurd (omega arith)
 split-before text part (d ∷ rest) listed some part_is rest_is more =
-    subst (λ (l : List ℕ). IsFirstSplit text part l) (sym (to-end (d ∷ rest) 1))
+    subst (λ (l : List ℕ). IsFirstSplit text part l) (sym (take_rest (d ∷ rest) 1))
     (subst (λ (l : List ℕ). IsFirstSplit text l rest) (sym part_is) (first-before text rest d listed some (sym rest_is)))
 
 pub split-shorter : (text rest : List ℕ) → rest ≡ rest_of is_identifier_character text → 1 ≤ length rest
@@ -156,7 +156,7 @@ split-shorter text (d ∷ rest) rest_is more =
     let parts = length-append (prefix_of is_identifier_character text) (rest_of is_identifier_character text) in
     let here : length (d ∷ rest) ≡ length (rest_of is_identifier_character text) = ap length rest_is in
     let size : length (take (length (d ∷ rest) - 1) (drop 1 (d ∷ rest))) ≡ length rest =
-    ap length (to-end (d ∷ rest) 1) in
+    ap length (take_rest (d ∷ rest) 1) in
     omega arith
 
 -- the rest of a list is no longer than the text

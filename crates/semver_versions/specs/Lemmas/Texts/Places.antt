@@ -1,43 +1,30 @@
 -- The longest prefix whose characters all pass, from place to place, as a loop goes over a text.
 use Rattle.std.proofs.Common.{◌≡◌, ◌+◌, ◌-◌, ◌<◌, ◌≤◌, ℕ, Bool, true, false, List, [], ◌∷◌, ◌++◌, length, get_or, take}
-use Rattle.std.proofs.Common.{drop, refl, sym, ap, ◌∙◌, add-one, append-nil, append_assoc, drop-cons, suc, zero, arith}
-use Rattle.std.proofs.lemmas.List.{drop_all, take_rest}
-use Rattle.std.proofs.Math.Seq.{take-suc}
+use Rattle.std.proofs.Common.{drop, refl, sym, ap, ◌∙◌, append-nil, append_assoc, suc, zero, arith}
+use Rattle.std.proofs.lemmas.List.{drop_all, drop_more, take_more, take_rest}
 use Rattle.semver_versions.specs.Readers.Reading.{rest_of, prefix_of, skip_one}
-
--- the text from a place on
-pub at-place : (s : List ℕ) (i : ℕ) → i < length s → drop i s ≡ get_or s i 0 ∷ drop (i + 1) s
-at-place s i h = rw (add-one, drop-cons s i 0) refl
-
--- one character more
-pub take-more : (s : List ℕ) (i : ℕ) → i < length s → take (i + 1) s ≡ take i s ++ (get_or s i 0 ∷ [])
-take-more s i h = rw add-one (take-suc s i 0 h)
-
--- a slice up to the end
-pub to-end : (s : List ℕ) (i : ℕ) → take (length s - i) (drop i s) ≡ drop i s
-to-end s i = take_rest s i
 
 -- a character that passes is gone over
 pub rest_of-step : (test : ℕ → Bool) (s : List ℕ) (i : ℕ) → i < length s → test (get_or s i 0) ≡ true
     → rest_of test (drop i s) ≡ rest_of test (drop (i + 1) s)
 unfolding rest_of
-rest_of-step test s i h passes = ap (rest_of test) (at-place s i h) ∙ rw passes refl
+rest_of-step test s i h passes = ap (rest_of test) (drop_more s i 0 h) ∙ rw passes refl
 
 pub prefix_of-step : (test : ℕ → Bool) (s : List ℕ) (i : ℕ) → i < length s → test (get_or s i 0) ≡ true
     → prefix_of test (drop i s) ≡ get_or s i 0 ∷ prefix_of test (drop (i + 1) s)
 unfolding prefix_of
-prefix_of-step test s i h passes = ap (prefix_of test) (at-place s i h) ∙ rw passes refl
+prefix_of-step test s i h passes = ap (prefix_of test) (drop_more s i 0 h) ∙ rw passes refl
 
 -- one that doesn't ends it
 pub rest_of-stop : (test : ℕ → Bool) (s : List ℕ) (i : ℕ) → i < length s → test (get_or s i 0) ≡ false
     → rest_of test (drop i s) ≡ drop i s
 unfolding rest_of
-rest_of-stop test s i h stops = ap (rest_of test) (at-place s i h) ∙ rw stops (sym (at-place s i h))
+rest_of-stop test s i h stops = ap (rest_of test) (drop_more s i 0 h) ∙ rw stops (sym (drop_more s i 0 h))
 
 pub prefix_of-stop : (test : ℕ → Bool) (s : List ℕ) (i : ℕ) → i < length s → test (get_or s i 0) ≡ false
     → prefix_of test (drop i s) ≡ []
 unfolding prefix_of
-prefix_of-stop test s i h stops = ap (prefix_of test) (at-place s i h) ∙ rw stops refl
+prefix_of-stop test s i h stops = ap (prefix_of test) (drop_more s i 0 h) ∙ rw stops refl
 
 -- and so does the end of the text
 pub rest_of-end : (test : ℕ → Bool) (s : List ℕ) (i : ℕ) → length s ≤ i → rest_of test (drop i s) ≡ drop i s
@@ -53,7 +40,7 @@ pub skip_one-first : (test : ℕ → Bool) (s : List ℕ) → 1 ≤ length s →
     → take (length s - 1) (drop 1 s) ≡ skip_one test s
 unfolding skip_one
 skip_one-first test [] some passes = absurd (omega arith)
-skip_one-first test (b ∷ s) some passes = rw passes (to-end (b ∷ s) 1)
+skip_one-first test (b ∷ s) some passes = rw passes (take_rest (b ∷ s) 1)
 
 -- and nothing where there is none
 pub skip_one-empty : (test : ℕ → Bool) (s : List ℕ) → length s < 1 → s ≡ skip_one test s
@@ -76,7 +63,7 @@ pub over-step : (test : ℕ → Bool) (s : List ℕ) (i : ℕ) → i < length s 
 over-step test s i h passes over = record {
   prefix = over.prefix ∙ ap (λ (l : List ℕ). take i s ++ l) (prefix_of-step test s i h passes)
       ∙ sym (append_assoc (take i s) (get_or s i 0 ∷ []) (prefix_of test (drop (i + 1) s)))
-      ∙ ap (λ (l : List ℕ). l ++ prefix_of test (drop (i + 1) s)) (sym (take-more s i h));
+      ∙ ap (λ (l : List ℕ). l ++ prefix_of test (drop (i + 1) s)) (sym (take_more s i 0 h));
   rest = over.rest ∙ rest_of-step test s i h passes;
 }
 

@@ -1,7 +1,7 @@
 -- Laws of faults: each text is a version text or has a fault, never both, and one fault at most.
 use Rattle.std.proofs.Common.{◌≡◌, ◌⊎◌, ◌≤◌, ◌<◌, ℕ, ◌-◌, true, List, [], ◌∷◌, ◌++◌, length, Ok, Err, refl, sym, ap}
 use Rattle.std.proofs.Common.{◌∙◌, inl, inr, arith, subst, append_assoc, append-nil}
-use Rattle.std.proofs.lemmas.Bool.{cases_Bool, le-leb, leb-false, leb-true, lt-leb}
+use Rattle.std.proofs.lemmas.Bool.{cases_Bool, cond-false, cond-true, le-leb, leb-false, leb-true, lt-leb}
 use Rattle.std.proofs.lemmas.List.{length-append}
 use Rattle.std.specs.Prelude.{Option, Some, None, Result, ◌==◌, if◌then◌else◌, nat_le}
 use Rattle.semver_versions.specs.declared.TheConstants.{MAX_LENGTH, MAX_SAFE_INTEGER}
@@ -16,7 +16,6 @@ use Rattle.semver_versions.specs.declared.parse.fault.Fault.TheVariants.{TooLarg
 use Rattle.semver_versions.specs.Lemmas.Texts.Prefixes.{begins-append, rest_of-again, prefix_of-again, no-append}
 use Rattle.semver_versions.specs.Lemmas.Texts.Prefixes.{with-begins}
 use Rattle.semver_versions.specs.Lemmas.Texts.Prefixes.{with_no-begins}
-use Rattle.semver_versions.specs.Lemmas.Texts.IdentifierReading.{pick-false, pick-true}
 use Rattle.semver_versions.specs.Lemmas.Texts.LongestReading.{version-longest}
 use Rattle.semver_versions.specs.Lemmas.Texts.NumberReading.{number-again, dot-again}
 use Rattle.semver_versions.specs.Lemmas.Texts.Marks.{skip_one-mark}
@@ -49,7 +48,7 @@ fault_of text = if nat_le (length text) MAX_LENGTH then told text (read_version 
 
 -- of a text that is short
 short-told : (text : List ℕ) → length text ≤ MAX_LENGTH → fault_of text ≡ told text (read_version text)
-short-told text short = pick-true _ _ _ (le-leb _ _ short)
+short-told text short = cond-true _ _ _ (le-leb _ _ short)
 
 -- no number is read
 no-number : (text : List ℕ) → BeginsWithNo is_digit text → read_number text ≡ Err (missing_at text)
@@ -185,7 +184,7 @@ left-told text version v w b rest (c ∷ left) short whole h longest read =
 -- each fault is reported by the reader
 pub fault-again : (text : List ℕ) (kind : Kind) (offset : ℕ) → IsFault text kind offset
     → fault_of text ≡ Some (kind, offset)
-fault-again text kind offset (too_long long) = pick-false _ _ _ (lt-leb _ _ long)
+fault-again text kind offset (too_long long) = cond-false _ _ _ (lt-leb _ _ long)
 fault-again text kind offset (no_number before rest count short h none) =
     let stops = numbers-stop h.numbers rest (missing_at rest) h.read (omega (arith, h.few, h.counted))
     (no-number rest none) in

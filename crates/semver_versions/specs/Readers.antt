@@ -6,3 +6,4 @@ pub mod ReadingViews
 pub mod ListedViews
 pub mod CommonStarts
 pub mod FaultViews
+pub mod ParsedViews

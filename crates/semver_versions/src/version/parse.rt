@@ -7,6 +7,7 @@ ghost use Rattle.semver_versions.specs.VersionText.{IsVersionText};
 ghost use Rattle.semver_versions.specs.Error.{IsOutOfMemory};
 ghost use Rattle.semver_versions.specs.Fault.{IsFaultOf};
 ghost use Rattle.semver_versions.specs.Readers.FaultViews.{IsReadFault};
+ghost use Rattle.semver_versions.specs.Readers.ParsedViews.{IsParsed};
 ghost use Rattle.semver_versions.specs.ReadingBack.{HasText, VersionReadsBack};
 ghost use Rattle.semver_versions.specs.Error.{IsReadAs};
 
@@ -96,10 +97,7 @@ fn version_in_parts(
     begun: Option<((u64, u64, u64), &[u8])>,
 ) -> Result<Version, SemverError>
     requires { IfSome begun (λ t. IsBegun text.now t.0 t.1.now) }
-    ensures found { IfOk result (λ v. IsVersionText text.now v) }
-    ensures fault { IfErr result (λ e. IsOutOfMemory e ⊎ IsFaultOf text.now e) }
-    ensures plain { (v : VersionValue) → IsVersionText text.now v → v.pre_release ≡ []
-        → v.build ≡ [] → IsOk result }
+    ensures { IsParsed text.now result }
 {
     match begun {
         Some((triple, rest)) => after_triple(alloc, text, triple, rest),
@@ -120,10 +118,7 @@ fn after_triple(
     rest: &[u8],
 ) -> Result<Version, SemverError>
     requires { IsBegun text.now triple rest.now }
-    ensures found { IfOk result (λ v. IsVersionText text.now v) }
-    ensures fault { IfErr result (λ e. IsOutOfMemory e ⊎ IsFaultOf text.now e) }
-    ensures plain { (v : VersionValue) → IsVersionText text.now v → v.pre_release ≡ []
-        → v.build ≡ [] → IsOk result }
+    ensures { IsParsed text.now result }
 {
     version_after_triple(alloc, text, triple.0, triple.1, triple.2, rest)
 }
@@ -139,10 +134,7 @@ fn version_after_triple(
     rest: &[u8],
 ) -> Result<Version, SemverError>
     requires { IsBegun text.now (major, minor, patch) rest.now }
-    ensures found { IfOk result (λ v. IsVersionText text.now v) }
-    ensures fault { IfErr result (λ e. IsOutOfMemory e ⊎ IsFaultOf text.now e) }
-    ensures plain { (v : VersionValue) → IsVersionText text.now v → v.pre_release ≡ []
-        → v.build ≡ [] → IsOk result }
+    ensures { IsParsed text.now result }
 {
     match read_rest(text.as_bytes(), (major, minor, patch), rest) {
         Ok(version) => match version.to_version_inline(alloc) {
@@ -157,10 +149,7 @@ fn version_after_triple(
 // `inline(always)`: see `after_triple`.
 #[inline(always)]
 fn from_start(alloc: Global, text: &str) -> Result<Version, SemverError>
-    ensures found { IfOk result (λ v. IsVersionText text.now v) }
-    ensures fault { IfErr result (λ e. IsOutOfMemory e ⊎ IsFaultOf text.now e) }
-    ensures plain { (v : VersionValue) → IsVersionText text.now v → v.pre_release ≡ []
-        → v.build ≡ [] → IsOk result }
+    ensures { IsParsed text.now result }
 {
     version_of_text(alloc, text)
 }
@@ -168,10 +157,7 @@ fn from_start(alloc: Global, text: &str) -> Result<Version, SemverError>
 // `inline(never)`: see `after_triple`.
 #[inline(never)]
 fn version_of_text(alloc: Global, text: &str) -> Result<Version, SemverError>
-    ensures found { IfOk result (λ v. IsVersionText text.now v) }
-    ensures fault { IfErr result (λ e. IsOutOfMemory e ⊎ IsFaultOf text.now e) }
-    ensures plain { (v : VersionValue) → IsVersionText text.now v → v.pre_release ≡ []
-        → v.build ≡ [] → IsOk result }
+    ensures { IsParsed text.now result }
 {
     match read_numbers(text.as_bytes()) {
         Ok((triple, [])) => Ok(Version::new(alloc, triple.0, triple.1, triple.2)),

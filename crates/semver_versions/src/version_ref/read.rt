@@ -82,7 +82,6 @@ pub(crate) fn read_rest<'a>(
     ensures found { IfOk result (λ v. IsVersionText text.now v) }
     ensures fault { IfErr result (IsReadFault text.now) }
 {
-    let _length = text.len();
     let (major, minor, patch) = triple;
     // Most versions end here.
     if let [] = rest {

@@ -1,17 +1,25 @@
-use Rattle.std.proofs.Common.{subst}
+use Rattle.std.proofs.Common.{rules, subst}
 use Rattle.semver_versions.specs.Version.{IsPlain, VersionValue}
 use Rattle.semver_versions.specs.Lemmas.Versions.FaultLemmas.{version-no_fault}
 use Rattle.semver_versions.specs.Lemmas.Versions.OneReading.{one_reading}
 use Rattle.semver_versions.proofs.version.parse.version_after_triple.Goals as goal
 
-pub returns-in-Err-to_version_inline-clause-plain : goal.returns-in-Err-to_version_inline-clause-plain
-returns-in-Err-to_version_inline-clause-plain c = λ v h pre build.
-    let same = one_reading c.as_bytes.result.now v c.in-Ok.version (rw c.as_bytes.ensures.value h) c.in-Ok.ensures.found in
-    rw c.in-Err-to_version_inline.is at (c.to_version_inline.ensures.plain (subst (λ (w : VersionValue). IsPlain w) same (record {
-      pre_release = pre;
-      build = build;
-    })))
+pub returns-in-Err-to_version_inline : goal.returns-in-Err-to_version_inline
+returns-in-Err-to_version_inline c = record {
+  found = search rules;
+  fault = search rules;
+  plain = λ v h pre build.
+      let same = one_reading c.as_bytes.result.now v c.in-Ok.version (rw c.as_bytes.ensures.value h) c.in-Ok.ensures.found in
+      rw c.in-Err-to_version_inline.is at (c.to_version_inline.ensures.plain (subst (λ (w : VersionValue). IsPlain w) same (record {
+        pre_release = pre;
+        build = build;
+      })));
+}
 
-pub returns-in-Err-clause-plain : goal.returns-in-Err-clause-plain
-returns-in-Err-clause-plain c = λ v h pre build. absurd
-    (version-no_fault c.as_bytes.result.now v _ _ (rw c.as_bytes.ensures.value h) c.in-Err.ensures.fault.fault)
+pub returns-in-Err : goal.returns-in-Err
+returns-in-Err c = record {
+  found = search rules;
+  fault = search rules;
+  plain = λ v h pre build. absurd
+      (version-no_fault c.as_bytes.result.now v _ _ (rw c.as_bytes.ensures.value h) c.in-Err.ensures.fault.fault);
+}

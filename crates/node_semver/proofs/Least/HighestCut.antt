@@ -2,12 +2,12 @@
 use Rattle.std.proofs.Common.{◌∙◌, List, [], ◌∷◌, inl, inr}
 use Rattle.std.specs.List.{AllByRecursion}
 use Rattle.semver_cuts.specs.declared.cut.Cut.{Cut}
-use Rattle.semver_cuts.specs.declared.cut.Cut.TheVariants.{Start, Before, After, End}
+use Rattle.semver_cuts.specs.declared.cut.Cut.TheVariants.{Before}
 use Rattle.semver_cuts.specs.Ends.{Ends, IsCutAtMost}
 use Rattle.semver_cuts.specs.Lemmas.Ends.{at_most-below, at_most-or-below, at_most_refl, at_most_trans}
 use Rattle.semver_cuts.specs.Lemmas.Ends.{below-not-at_most}
 use Rattle.semver_versions.specs.Comparison.{version_cmp}
-use Rattle.semver_sets.specs.Meaning.{AnyByRecursion, HasOpenEnd, Opens, SetAdmits}
+use Rattle.semver_sets.specs.Meaning.{AnyByRecursion, HasOpenEnd, SetAdmits}
 use Rattle.semver_versions.specs.Version.{HasSameTriple, IsPrerelease, VersionValue}
 use Rattle.semver_versions.specs.Lemmas.Order.{version_total}
 use Rattle.semver_versions.specs.Lemmas.Versions.Between.{triple-back}

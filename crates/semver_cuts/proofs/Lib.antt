@@ -10,7 +10,7 @@ pub mod LoopSteps
 pub mod Joining
 -- ---- walks along the merged spans of two lists
 pub mod Walks
--- ---- the intersection of two lists: along ascending spans, and by the pairs of spans that meet
+-- ---- the intersection of two lists, along ascending spans
 pub mod Intersections
 -- ---- the difference of two lists: the pieces of each span
 pub mod Differences

@@ -13,8 +13,8 @@ use Rattle.semver_cuts.specs.Places.{span_at}
 use Rattle.semver_cuts.specs.Sharing.{CoversAll, HaveCommonCut, ShareCut}
 use Rattle.semver_cuts.specs.Lemmas.Apart.{apart-above, apart-behind, rising-behind}
 use Rattle.semver_cuts.specs.Lemmas.Ends.{at_most-or-below, at_most_refl, at_most_trans, below-at_most}
+use Rattle.semver_cuts.specs.Lemmas.InSome.{some-above}
 use Rattle.semver_cuts.specs.Lemmas.Ends.{below-not-at_most, below_trans}
-use Rattle.semver_cuts.proofs.Differences.GreatestSpans.{some-above}
 
 module _ {T : Type 0} (cmp : T → T → Ordering) where
   -- the spans of a merged list from a place on are merged
@@ -50,7 +50,7 @@ module _ {T : Type 0} {cmp : T → T → Ordering} (o : IsTotalOrder cmp) where
       → IsInSome cmp spans cut
       → IsCutBelow cmp span.upper cut
   later-above span spans cut are is =
-      some-above cmp o span.upper cut spans (apart-above o span spans are.apart are.rising.1) is
+      some-above o cut span.upper spans (apart-above o span spans are.apart are.rising.1) is
 
   -- and each cut is at or above the lower end of the first one
   pub all-from_first : (span : Ends T) (spans : List (Ends T)) (cut : Cut T) → AreMerged cmp (span ∷ spans)

@@ -4,7 +4,5 @@
 pub mod Placed
 -- how sorted spans are joined
 pub mod Joining
--- which spans of two lists meet, found along both lists sorted
-pub mod Meeting
 -- the pieces of a span outside spans that are apart
 pub mod Difference

@@ -6,7 +6,6 @@ ghost use Rattle.semver_cuts.specs.Ends.{Ends, IsCutBelow, span_between};
 mod common;
 mod difference;
 mod joined;
-mod meeting;
 mod merged;
 mod near;
 mod placed;

@@ -9,8 +9,8 @@ use std::alloc::{AllocError, Global};
 /// the two.
 ///
 /// A type can represent more than its values. The ghost member `is_value` says what counts as a value, and
-/// [`Stepped::known`] proves that a given `Self` is one. The type also decides for which values [`Stepped::next`]
-/// returns `None`.
+/// [`Stepped::known`] proves that a given `Self` is one. The type also decides for which values
+/// [`Stepped::next`] returns `None`.
 ///
 /// # Examples
 ///

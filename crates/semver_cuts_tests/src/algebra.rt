@@ -51,7 +51,7 @@ fn gathered<'a>(
     let places = Places::of(alloc, others)?;
     let merged = MergedSpans::with(others, &places);
     match operation {
-        Operation::Common => merged.common_with(alloc, ones, &mut taken),
+        Operation::Common => merged.common_with(ones, &mut taken),
         Operation::Difference => merged.subtract_from(ones, &mut taken),
     }?;
     Ok(taken)

@@ -7,8 +7,9 @@ use Rattle.semver_cuts.specs.SpanLists.{AreApart, IsInSome, IsWithin}
 use Rattle.semver_cuts.specs.Ends.{Ends, IsCutBelow, IsInSpan}
 use Rattle.semver_cuts.specs.Joined.{AreRising}
 use Rattle.semver_cuts.specs.Lemmas.Apart.{apart-above, apart-tail}
-use Rattle.semver_cuts.specs.Lemmas.Ends.{at_most-below, at_most-or-below, at_most_refl, at_most_trans, below-at_most}
+use Rattle.semver_cuts.specs.Lemmas.Ends.{at_most-below, at_most-or-below, at_most_refl, at_most_trans}
 use Rattle.semver_cuts.specs.Lemmas.Ends.{below-not-at_most, below_irrefl, below_trans}
+use Rattle.semver_cuts.specs.Lemmas.InSome.{some-above}
 use Rattle.semver_cuts.specs.Lemmas.Lists.{all_both, all_map}
 
 module _ {T : Type 0} (cmp : T → T → Ordering) where
@@ -18,14 +19,6 @@ module _ {T : Type 0} (cmp : T → T → Ordering) where
   none-above o cut [] above is = elim is [ ]
   none-above o cut (span ∷ spans) above (inl here) = below-not-at_most o cut span.lower above.0 here.lower
   none-above o cut (span ∷ spans) above (inr there) = none-above o cut spans above.1 there
-
-  -- if spans all begin above a cut, the cuts in them are above it
-  pub some-above : IsTotalOrder cmp → (bound cut : Cut T) (spans : List (Ends T))
-      → AllByRecursion (λ (s : Ends T). IsCutBelow cmp bound s.lower) spans → IsInSome cmp spans cut
-      → IsCutBelow cmp bound cut
-  some-above o bound cut [] above is = elim is [ ]
-  some-above o bound cut (span ∷ spans) above (inl here) = below-at_most o bound span.lower cut above.0 here.lower
-  some-above o bound cut (span ∷ spans) above (inr there) = some-above o bound cut spans above.1 there
 
   -- each cut of an element of a list lies in some span of the list
   pub each-in_some : (spans : List (Ends T))
@@ -75,7 +68,7 @@ module _ {T : Type 0} {cmp : T → T → Ordering} (o : IsTotalOrder cmp) where
       let free : ¬ (IsInSome cmp (span ∷ spans) span.upper) = (ends-free (span ∷ spans) apart rising).0 in (
         λ cut below. ⊎_elim (λ here. absurd (below-not-at_most o cut span.lower below here.lower))
             (λ there. absurd (below_irrefl o cut (below_trans o cut span.lower cut below
-            (below_trans o span.lower span.upper cut rising.0 (some-above cmp o span.upper cut spans above there))))),
+            (below_trans o span.lower span.upper cut rising.0 (some-above o cut span.upper spans above there))))),
         all_both (HasGapBelow spans) Above (HasGapBelow (span ∷ spans))
             (λ s gap h cut below. ⊎_elim
             (λ here. (span.upper, here.upper, h, free))
@@ -85,7 +78,7 @@ module _ {T : Type 0} {cmp : T → T → Ordering} (o : IsTotalOrder cmp) where
               g.1,
               g.2,
               ⊎_elim (past_end span g.0 (below_trans o span.upper cut g.0
-                  (some-above cmp o span.upper cut spans above there) g.1)) g.3,
+                  (some-above o cut span.upper spans above there) g.1)) g.3,
             )))
             spans (gaps-below spans (apart-tail cmp span spans apart) rising.1) above,
       )

@@ -113,10 +113,6 @@ module _ {T : Type 0} {cmp : T → T → Ordering} (o : IsTotalOrder cmp) where
     in-order ps (sorted-tail p ps up),
   )
 
-  pub sorted-order : (ps : List (PlacedSpan T)) → IsSorted (placed_cmp cmp) ps → AreInOrder cmp ps
-  unfolding before
-  sorted-order ps up = in-order ps up
-
   -- ---- the spans of a list, sorted and joined
 
   module _ (spans : List (Ends T)) (rising : AreRising cmp spans) where

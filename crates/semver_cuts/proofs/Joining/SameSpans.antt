@@ -1,21 +1,16 @@
 -- Merged lists with the same cuts have the same spans.
-use Rattle.std.proofs.Common.{◌≡◌, ◌↔◌, List, [], ◌∷◌, Ordering, Equal, inl, inr, ⊎_elim}
+use Rattle.std.proofs.Common.{◌↔◌, List, [], ◌∷◌, Ordering, inl, inr, ⊎_elim}
 use Rattle.std.specs.Cmp.{IsTotalOrder}
 use Rattle.semver_cuts.specs.declared.cut.Cut.{Cut}
-use Rattle.semver_cuts.specs.Cut.{cut_cmp}
 use Rattle.semver_cuts.specs.SpanLists.{IsInSome}
 use Rattle.semver_cuts.specs.Ends.{Ends, IsCutAtMost, IsInSpan}
 use Rattle.semver_cuts.specs.Joined.{AreMerged, AreSameSpans}
 use Rattle.semver_cuts.specs.Lemmas.Apart.{apart-tail}
-use Rattle.semver_cuts.specs.Lemmas.Ends.{at_most-below, at_most-or-below, below-at_most, below-not-at_most}
+use Rattle.semver_cuts.specs.Lemmas.Ends.{at_most-below, at_most-both, at_most-or-below, below-at_most, below-not-at_most}
 use Rattle.semver_cuts.specs.Lemmas.Ends.{below_irrefl}
 use Rattle.semver_cuts.proofs.Walks.{all-from_first, first-cut, later-above}
 
 module _ {T : Type 0} {cmp : T → T → Ordering} (o : IsTotalOrder cmp) where
-  equal-by : (c d : Cut T) → IsCutAtMost cmp c d → IsCutAtMost cmp d c → cut_cmp cmp c d ≡ Equal
-  equal-by c d (inl lt) le = absurd (below-not-at_most o c d lt le)
-  equal-by c d (inr same) le = same
-
   -- the first span of one list does not end lower than that of the other
   ends-no_lower : (one : Ends T) (ones : List (Ends T)) (other : Ends T) → AreMerged cmp (one ∷ ones)
       → ((cut : Cut T) → IsInSpan cmp other cut → IsInSome cmp (one ∷ ones) cut) → IsCutAtMost cmp other.lower one.lower
@@ -62,8 +57,8 @@ module _ {T : Type 0} {cmp : T → T → Ordering} (o : IsTotalOrder cmp) where
       let high' : IsCutAtMost cmp one.upper other.upper =
       ends-no_lower other others one others_are (λ cut is. (same cut).0 (inl is)) low' in (
         record {
-          lower = equal-by one.lower other.lower low' low;
-          upper = equal-by one.upper other.upper high' high;
+          lower = at_most-both o one.lower other.lower low' low;
+          upper = at_most-both o one.upper other.upper high' high;
         },
         same-spans ones others (tail-merged one ones are) (tail-merged other others others_are)
             (λ cut. (

@@ -44,9 +44,6 @@ module _ {X : Type 0} where
   among-at (y ∷ xs) x zero low at = inl (sym at)
   among-at (y ∷ xs) x (suc k) low at = inr (among-at xs x k (omega arith) at)
 
-  pub among-from_contains : (xs : List X) (x : X) → Contains xs x → IsAmong xs x
-  among-from_contains xs x h = among-at xs x h.0 h.1 h.2
-
   among-more : (x : X) (xs : List X) → AllByRecursion (λ (y : X). IsAmong xs y) xs
       → AllByRecursion (λ (y : X). IsAmong (x ∷ xs) y) xs
   among-more x xs all = all_map (λ (y : X). IsAmong xs y) (λ (y : X). IsAmong (x ∷ xs) y) (λ y h. inr h) xs all

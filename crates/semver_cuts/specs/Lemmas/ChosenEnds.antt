@@ -183,10 +183,6 @@ module _ {T : Type 0} {cmp : T → T → Ordering} (o : IsTotalOrder cmp) where
   chosen_lower-some spans chosen is =
       chosen-some (λ (s : Ends T). s.lower) (λ c d. IsCutAtMost cmp c d) (λ c d. IsCutBelow cmp c d) spans chosen is
 
-  pub chosen_upper-some : (spans : List (Ends T)) (chosen : Cut T) → IsFirstLeastUpper cmp spans chosen → spans ≢ []
-  chosen_upper-some spans chosen is =
-      chosen-some (λ (s : Ends T). s.upper) (λ c d. IsCutBelow cmp d c) (λ c d. IsCutAtMost cmp d c) spans chosen is
-
   -- ---- the intersection of the spans
 
   module _ (spans : List (Ends T)) (lower upper : Cut T) (l : IsLastGreatestLower cmp spans lower)

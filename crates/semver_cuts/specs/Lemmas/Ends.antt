@@ -16,9 +16,6 @@ use Rattle.semver_cuts.specs.Ends.{AreSameEnds, Ends, IsCutAtMost, IsCutBelow, I
 less≢equal : (r : Ordering) → r ≡ Less → r ≡ Equal → ⊥
 less≢equal r p q = true≢false (ap is_lt (sym p ∙ q))
 
-less≢greater : (r : Ordering) → r ≡ Less → r ≡ Greater → ⊥
-less≢greater r p q = true≢false (ap is_lt (sym p ∙ q))
-
 module _ {T : Type 0} {cmp : T → T → Ordering} (o : IsTotalOrder cmp) where
   -- a cut is the same cut as itself
   pub cut_cmp-refl : (c : Cut T) → cut_cmp cmp c c ≡ Equal
@@ -88,6 +85,11 @@ module _ {T : Type 0} {cmp : T → T → Ordering} (o : IsTotalOrder cmp) where
   -- and not both
   pub below-not-at_most : (c d : Cut T) → IsCutBelow cmp c d → ¬ (IsCutAtMost cmp d c)
   below-not-at_most c d p q = below_irrefl c (below-at_most c d c p q)
+
+  -- two cuts of which each is at most the other are the same
+  pub at_most-both : (c d : Cut T) → IsCutAtMost cmp c d → IsCutAtMost cmp d c → cut_cmp cmp c d ≡ Equal
+  at_most-both c d (inl less) back = absurd (below-not-at_most c d less back)
+  at_most-both c d (inr same) back = same
 
   not_below_by : (c d : Cut T) (r : Ordering) → cut_cmp cmp c d ≡ r → is_lt r ≡ false → IsCutAtMost cmp d c
   not_below_by c d Less p h = absurd (true≢false h)

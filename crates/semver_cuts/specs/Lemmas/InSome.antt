@@ -1,33 +1,15 @@
 -- Cuts in some span of a list: of two lists one after the other, and found or not found.
-use Rattle.std.specs.Prelude.{◌≡◌, ◌⊎◌, ◌↔◌, List, [], ◌∷◌, ◌++◌, refl}
+use Rattle.std.specs.Prelude.{◌≡◌, ◌⊎◌, List, [], ◌∷◌, ◌++◌, refl}
 use mathlib.Core.Logic.{inl, inr}
 use Rattle.std.specs.declared.cmp.Ordering.{Ordering}
 use Rattle.std.specs.Cmp.{IsTotalOrder}
 use Rattle.std.specs.List.{AllByRecursion}
 use Rattle.semver_cuts.specs.declared.cut.Cut.{Cut}
-use Rattle.semver_cuts.specs.Ends.{Ends, HoldsCut, IsInSpan}
+use Rattle.semver_cuts.specs.Ends.{Ends, HoldsCut, IsCutBelow, IsInSpan}
 use Rattle.semver_cuts.specs.SpanLists.{IsInSome}
-use Rattle.semver_cuts.specs.Sharing.{AnyByRecursion}
-use Rattle.semver_cuts.specs.Lemmas.Ends.{at_most-or-below, below-not-at_most}
+use Rattle.semver_cuts.specs.Lemmas.Ends.{at_most-or-below, below-at_most, below-not-at_most}
 
 module _ {T : Type 0} (cmp : T → T → Ordering) (cut : Cut T) where
-  some_of : (spans : List (Ends T)) → IsInSome cmp spans cut
-      → AnyByRecursion (λ (span : Ends T). IsInSpan cmp span cut) spans
-  some_of [] is = is
-  some_of (span ∷ spans) (inl here) = inl here
-  some_of (span ∷ spans) (inr there) = inr (some_of spans there)
-
-  of_some : (spans : List (Ends T)) → AnyByRecursion (λ (span : Ends T). IsInSpan cmp span cut) spans
-      → IsInSome cmp spans cut
-  of_some [] is = is
-  of_some (span ∷ spans) (inl here) = inl here
-  of_some (span ∷ spans) (inr there) = inr (of_some spans there)
-
-  -- the cut lies in some span of the list if it lies in one of them
-  pub in_some-any : (spans : List (Ends T))
-      → IsInSome cmp spans cut ↔ AnyByRecursion (λ (span : Ends T). IsInSpan cmp span cut) spans
-  in_some-any spans = (some_of spans, of_some spans)
-
   -- if it lies in a span of the first of two lists, it does in the two together
   pub in_some-left : (ones others : List (Ends T)) → IsInSome cmp ones cut → IsInSome cmp (ones ++ others) cut
   in_some-left [] others is = absurd is
@@ -66,6 +48,13 @@ module _ {T : Type 0} {cmp : T → T → Ordering} (o : IsTotalOrder cmp) (cut :
     ]
     | inr early ↦ inr (λ is. below-not-at_most o cut span.lower early is.lower)
   ]
+
+  -- if spans all begin above a cut, the cuts in them are above it
+  pub some-above : (bound : Cut T) (spans : List (Ends T))
+      → AllByRecursion (λ (s : Ends T). IsCutBelow cmp bound s.lower) spans → IsInSome cmp spans cut → IsCutBelow cmp bound cut
+  some-above bound [] above is = absurd is
+  some-above bound (span ∷ spans) above (inl here) = below-at_most o bound span.lower cut above.0 here.lower
+  some-above bound (span ∷ spans) above (inr there) = some-above bound spans above.1 there
 
   -- and it lies in some span of a list, or in none
   pub in_some-or_not : (spans : List (Ends T)) → IsInSome cmp spans cut ⊎ (¬ IsInSome cmp spans cut)

@@ -96,7 +96,3 @@ module _ {T : Type 0} {cmp : T → T → Ordering} (o : IsTotalOrder cmp) where
     joined = apart-joined spans are.rising are.apart;
     none = λ apart. refl;
   }
-
-  -- as one span always is
-  pub places_of-one : (span : Ends T) → IsCutBelow cmp span.lower span.upper → IsPlacesOf cmp (span ∷ []) []
-  places_of-one span rising = places_of-merged (span ∷ []) (record { rising = (rising, tt); apart = tt })

@@ -1,23 +1,17 @@
 //! The intersection of two lists of spans.
 ghost use Rattle.std.specs.Prelude.{◌≡◌, ◌++◌, OnOk};
-ghost use Rattle.std.specs.List.{AllByRecursion, flat_map};
 ghost use Rattle.semver_cuts.specs.SpanLists.{AreApart};
 ghost use Rattle.semver_cuts.specs.Joined.{AreRising};
 ghost use Rattle.semver_cuts.specs.CommonSpans.{common_of, common_spans, common_with};
-ghost use Rattle.semver_cuts.specs.Private.Meeting.{AreBothWithin, common_at};
 
 use crate::Span;
 use crate::algebra::Gather;
-use crate::algebra::meeting::meeting;
 use crate::algebra::merged::MergedSpans;
 use crate::algebra::near::first_near;
-use std::alloc::{AllocError, Global};
+use std::alloc::AllocError;
 
 // If the merged list has fewer spans than this, each pair of spans is tried.
 const FEW: usize = 3;
-
-// If there are at most so many pairs of spans, and the merged list is not in order, each pair is tried.
-const FEW_PAIRS: usize = 128;
 
 impl<'a, 'p, T: Ord> MergedSpans<'a, 'p, T> {
     /// Passes the intersection of `ones` and this list to `into`: for each span of `ones` and each span of this list,
@@ -32,9 +26,7 @@ impl<'a, 'p, T: Ord> MergedSpans<'a, 'p, T> {
     ///
     /// # Memory
     ///
-    /// Does not allocate, apart from what `into` allocates, if this list is merged as it stands (as one span always
-    /// is), or if there are few pairs. Otherwise allocates room for both lists in sorted order and for the pairs of
-    /// spans that meet.
+    /// Does not allocate, apart from what `into` allocates.
     ///
     /// # Examples
     ///
@@ -43,7 +35,6 @@ impl<'a, 'p, T: Ord> MergedSpans<'a, 'p, T> {
     /// `Before(1)` up to `Before(3)` is empty.
     pub fn common_with<S: Gather<'a, T>>(
         &self,
-        alloc: Global,
         ones: &'a [Span<T>],
         into: &mut S,
     ) -> Result<(), AllocError>
@@ -54,50 +45,11 @@ impl<'a, 'p, T: Ord> MergedSpans<'a, 'p, T> {
         if let ([this], [that]) = (ones, others) {
             return common_of(this, that, into);
         }
-        if others.len() < FEW {
+        if others.len() < FEW || !self.is_itself() {
             return common_of_all(ones, others, into);
         }
-        if self.is_itself() {
-            return common_ascending(ones, others, into);
-        }
-        if ones.len().saturating_mul(others.len()) <= FEW_PAIRS {
-            return common_of_all(ones, others, into);
-        }
-        common_of_meeting(alloc, ones, others, into)
+        common_ascending(ones, others, into)
     }
-}
-
-// Finds the pairs of spans that meet, and passes the intersection of each pair. `inline(never)`: long lists out of
-// order are rare, and `common_with` then has no stack for the lists that this function allocates.
-#[inline(never)]
-fn common_of_meeting<'a, T: Ord, S: Gather<'a, T>>(
-    alloc: Global,
-    ones: &'a [Span<T>],
-    others: &'a [Span<T>],
-    into: &mut S,
-) -> Result<(), AllocError>
-    ensures { OnOk result (S.gathered into.new ≡ S.gathered into.old ++ common_spans T.cmp ones.now others.now) }
-{
-    let pairs = meeting(alloc, ones, others)?;
-    common_of_pairs(ones, others, &pairs, into)
-}
-
-// Passes the intersection of the spans at each pair of places.
-fn common_of_pairs<'a, T: Ord, S: Gather<'a, T>>(
-    ones: &'a [Span<T>],
-    others: &'a [Span<T>],
-    pairs: &[(usize, usize)],
-    into: &mut S,
-) -> Result<(), AllocError>
-    requires { AllByRecursion (AreBothWithin ones.now others.now) pairs.now }
-    ensures { OnOk result
-        (S.gathered into.new ≡ S.gathered into.old ++ flat_map (common_at T.cmp ones.now others.now) pairs.now) }
-{
-    for pair in pairs {
-        let (place, other) = *pair;
-        common_of(&ones[place], &others[other], into)?;
-    }
-    Ok(())
 }
 
 // Passes the intersection of each span with each span, pair by pair.

@@ -1,3 +1,4 @@
 mod OrderExamples
 mod PrintExamples
 pub mod ErrorExamples
+mod StrictExamples

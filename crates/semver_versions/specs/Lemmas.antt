@@ -1,4 +1,5 @@
 pub mod Order
+pub mod BuildOrder
 pub mod Hash
 pub mod Print
 -- ---- the readers of texts

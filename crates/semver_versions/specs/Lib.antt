@@ -12,14 +12,17 @@ pub mod Triple
 pub mod VersionText
 pub mod Order
 pub mod Comparison
+pub mod BuildOrder
 pub mod Print
 pub mod Hash
 -- ---- errors, and the fault of a text that is no version text
 pub mod Error
 pub mod Fault
-pub mod VersionFault
--- ---- versions: the least one and the next
+pub mod StrictVersionText
+-- ---- versions: the least one and the next; raised ones
 pub mod VersionSteps
+pub mod Bump
+pub mod BumpBetween
 -- ---- prints that are read again
 pub mod ReadingBack
 -- ---- JSON strings
@@ -29,6 +32,7 @@ pub mod ErrorLocation
 pub mod ErrorParts
 pub mod ErrorText
 pub mod ErrorEquality
+pub mod VersionFault
 -- ---- laws over texts alone
 pub mod VersionLaws
 -- ---- how a contract sees values of the program

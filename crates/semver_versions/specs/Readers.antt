@@ -7,3 +7,4 @@ pub mod ListedViews
 pub mod CommonStarts
 pub mod FaultViews
 pub mod ParsedViews
+pub mod StrictViews

@@ -1,8 +1,10 @@
--- What a contract sees of the fault that `VersionRef::parse` returns: its kind and its byte offset.
-use Rattle.std.specs.Prelude.{◌≡◌, ℕ, List, codes, Result, Ok, Err}
+-- What a contract sees of the faults that `VersionRef::parse` and `parse_strict` return: kind and byte offset.
+use Rattle.std.specs.Prelude.{◌≡◌, ℕ, List, codes, Option, Result, Ok, Err}
 use Rattle.semver_versions.specs.Version.{VersionValue}
 use Rattle.semver_versions.specs.Error.{Kind, context, max_int, max_length, other, parse_int}
+use Rattle.semver_versions.specs.ErrorText.{text_of}
 use Rattle.semver_versions.specs.Fault.{IsFault}
+use Rattle.semver_versions.specs.StrictVersionText.{IsStrictFault}
 use Rattle.semver_versions.specs.declared.version_ref.fault.VersionFault.{VersionFault}
 use Rattle.semver_versions.specs.declared.version_ref.fault.FaultKind.{FaultKind}
 use Rattle.semver_versions.specs.declared.version_ref.fault.FaultKind.TheVariants.{TooLong, Missing, TooLarge, Overflow, LeftOver}
@@ -14,9 +16,17 @@ fault_kind_of (TooLarge number) = max_int number
 fault_kind_of Overflow = parse_int
 fault_kind_of LeftOver = other
 
+-- the text that a fault prints: that of its kind
+abbrev pub fault_text : VersionFault → Option (List ℕ)
+fault_text f = text_of (fault_kind_of f.kind)
+
 -- it is the fault of this text
 abbrev pub IsVersionFault : List ℕ → VersionFault → Type 0
 IsVersionFault text f = IsFault text (fault_kind_of f.kind) f.offset
+
+-- it is the strict fault of this text
+abbrev pub IsStrictVersionFault : List ℕ → VersionFault → Type 0
+IsStrictVersionFault text f = IsStrictFault text (fault_kind_of f.kind) f.offset
 
 -- the result is this version
 abbrev pub IsBorrowedAs : {E : Type 0} → VersionValue → Result VersionValue E → Type 0

@@ -15,6 +15,7 @@ mod span;
 
 pub use equality::{a_kind_is_always_copied, errors_are_equal_where_their_parts_are};
 pub use kind::SemverErrorKind;
+pub(crate) use lines::location_in;
 pub use span::SourceSpan;
 use std::alloc::{AllocError, Global};
 use thiserror::Error;
@@ -157,9 +158,7 @@ impl SemverError {
         ensures line { let e = refusal_of self.now in result.0 ≡ lines_before e.input e.offset }
         ensures column { let e = refusal_of self.now in result.1 ≡ column_at e.input e.offset }
     {
-        let text = self.input.as_bytes();
-        let prefix = &text[..self.offset().min(text.len())];
-        (lines::newlines(prefix), lines::last_line_length(prefix))
+        location_in(self.input.as_bytes(), self.offset())
     }
 }
 

@@ -9,10 +9,11 @@ pub mod identifiers;
 pub mod listed;
 pub mod number;
 pub mod skip;
+pub(crate) mod strict;
 mod triple;
 pub mod written;
 
 pub use fault::Fault;
 pub use number::leading_digits;
-pub use skip::{begins_clean, skip_blanks, skip_some_blanks};
+pub use skip::{is_clean_end, skip_blanks, skip_some_blanks};
 pub use triple::{read_leading_triple, read_marked_triple};

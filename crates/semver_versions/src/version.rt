@@ -4,12 +4,16 @@ ghost use Rattle.semver_versions.specs.Version.{IsPrerelease, release, with_pre_
 
 pub mod admits;
 pub mod as_version;
+mod build_order;
+pub mod bump;
 mod copy;
+mod diff;
 pub mod display;
 mod hash;
 pub(crate) mod order;
 mod parse;
 mod stepped;
+mod strict;
 
 use crate::{Identifier, Triple};
 use std::alloc::{AllocError, Global};

@@ -9,6 +9,7 @@ mod fault;
 mod hash;
 mod order;
 pub(crate) mod read;
+mod strict;
 
 use crate::end::EndVersion;
 use crate::{Identifiers, Triple};

@@ -5,6 +5,8 @@ use Rattle.semver_versions.specs.IdentifierValue.{IdentifierValue, numeric, alph
 use Rattle.semver_versions.specs.Version.{VersionValue, release}
 use Rattle.semver_versions.specs.Order.{IsBelow, IsSame}
 use Rattle.semver_versions.specs.Comparison.{version_cmp}
+use Rattle.semver_versions.specs.BuildOrder.{IsBelowWithBuild, version_build_cmp}
+use Rattle.semver_versions.specs.Lemmas.BuildOrder.{version_build_cmp-means}
 use Rattle.semver_versions.specs.Lemmas.Order.{version_cmp-means}
 
 -- `1.0.0` with these prerelease identifiers
@@ -74,3 +76,28 @@ chain-IsBelow = (version_cmp-means _ _).below.0 alpha-below
 
 build-IsSame : IsSame (record (release 1 0 0) { build = numeric 1 ∷ [] }) (release 1 0 0)
 build-IsSame = (version_cmp-means _ _).same.0 build-same
+
+-- ---- with builds
+
+-- `1.0.0` with these build identifiers
+abbrev built : List IdentifierValue → VersionValue
+built identifiers = record (release 1 0 0) { build = identifiers }
+
+no_build-below : version_build_cmp (built []) (built (numeric 0 ∷ [])) ≡ Less
+no_build-below = refl
+
+build_2-below : version_build_cmp (built (numeric 2 ∷ [])) (built (numeric 11 ∷ [])) ≡ Less
+build_2-below = refl
+
+build_number-below : version_build_cmp (built (numeric 11 ∷ [])) (built (word (codes "a") ∷ [])) ≡ Less
+build_number-below = refl
+
+build_a-below : version_build_cmp (built (word (codes "a") ∷ [])) (built (word (codes "a") ∷ numeric 1 ∷ [])) ≡ Less
+build_a-below = refl
+
+-- precedence comes first
+precedence-below : version_build_cmp (built (word (codes "a") ∷ [])) (release 1 0 1) ≡ Less
+precedence-below = refl
+
+no_build-IsBelowWithBuild : IsBelowWithBuild (built []) (built (numeric 0 ∷ []))
+no_build-IsBelowWithBuild = (version_build_cmp-means _ _).below.0 no_build-below

@@ -83,18 +83,18 @@ Greater-turned {R = R} o x y =
     by_reverse Greater e = cc e
 
 -- the first decides, unless it is `Equal`
-then-Less : (r s : Ordering) → r ≡ Less → ordering_then r s ≡ Less
+pub then-Less : (r s : Ordering) → r ≡ Less → ordering_then r s ≡ Less
 then-Less r s e = ap (λ k. ordering_then k s) e
 
-then-tied : (r s : Ordering) → r ≡ Equal → ordering_then r s ≡ s
+pub then-tied : (r s : Ordering) → r ≡ Equal → ordering_then r s ≡ s
 then-tied r s e = ap (λ k. ordering_then k s) e
 
-then-first : (r s : Ordering) → ordering_then r s ≡ Equal → r ≡ Equal
+pub then-first : (r s : Ordering) → ordering_then r s ≡ Equal → r ≡ Equal
 then-first Less s e = cc e
 then-first Equal s e = refl
 then-first Greater s e = cc e
 
-then-second : (r s : Ordering) → ordering_then r s ≡ Equal → s ≡ Equal
+pub then-second : (r s : Ordering) → ordering_then r s ≡ Equal → s ≡ Equal
 then-second Less s e = cc e
 then-second Equal s e = e
 then-second Greater s e = cc e
@@ -209,6 +209,12 @@ identifier_cmp-means a b = record {
 -- the same for the result of a function
 pub identifier_order : (a b : IdentifierValue) (r : Ordering) → r ≡ identifier_cmp a b → IdentifierOrderMeans a b r
 identifier_order a b r e = subst (IdentifierOrderMeans a b) (sym e) (identifier_cmp-means a b)
+
+pub identifier_same : (a b : IdentifierValue) (r : Bool) → r ≡ eq_by_cmp identifier_cmp a b → IsTrue r ↔ (a ≡ b)
+identifier_same a b r e = (
+  λ t. (identifier_cmp-means a b).same.0 ((Equal-is (identifier_cmp a b)).0 (sym e ∙ t)),
+  λ s. e ∙ (Equal-is (identifier_cmp a b)).1 ((identifier_cmp-means a b).same.1 s),
+)
 
 -- ---- versions
 

@@ -151,6 +151,6 @@ unfoldable pub read_version : List ℕ → Read VersionValue
 read_version text = read_unmarked (rest_of is_blank (skip_one is_version_mark text))
 
 -- `true` if a word can end before this text
-abbrev pub is_clean : List ℕ → Bool
-is_clean [] = true
-is_clean (b ∷ rest) = is_blank b
+abbrev pub is_clean_end : List ℕ → Bool
+is_clean_end [] = true
+is_clean_end (b ∷ rest) = is_blank b

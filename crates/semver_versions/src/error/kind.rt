@@ -31,7 +31,9 @@ pub enum SemverErrorKind {
     Context(&'static str),
     /// No alternative of a range text gives a set. The offset is 0.
     NoValidRanges,
-    /// A version text goes on after the version. The offset is that of the first byte after it.
+    /// A version text goes on after the version: the offset is that of the first byte after it. Or `parse_strict` was
+    /// given a version text that is not strict: the offset is that of the first number or identifier that is not
+    /// strictly written.
     Other,
     /// An allocation failed.
     OutOfMemory,

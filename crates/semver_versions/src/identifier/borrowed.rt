@@ -10,6 +10,9 @@ ghost use Rattle.semver_versions.specs.IdentifierText as IdentifierText;
 ghost use Rattle.semver_versions.specs.IdentifierText.{IsListed, identifiers_of};
 ghost use Rattle.semver_versions.specs.Readers.Reading as Reading;
 
+mod length;
+mod order;
+
 use crate::Identifier;
 use crate::end::{EndVersion, Zero};
 use crate::identifier::common_start::{are_decided, common_length, first_byte, last_start};
@@ -152,7 +155,7 @@ pub(crate) fn by_reference(identifier: &Identifier) -> IdentifierRef<'_>
 
 // The order of two identifiers: a number is less than a text. `inline(always)`: both stay in registers.
 #[inline(always)]
-fn cmp_identifiers(a: IdentifierRef<'_>, b: IdentifierRef<'_>) -> Ordering
+pub(crate) fn cmp_identifiers(a: IdentifierRef<'_>, b: IdentifierRef<'_>) -> Ordering
     ensures { result ≡ identifier_cmp (borrowed_value a.entry) (borrowed_value b.entry) }
 {
     match (a, b) {
@@ -233,6 +236,14 @@ fn cmp_list_with_text(list: &[Identifier], text: &[u8]) -> Ordering
         one = after_first;
         other = after_second;
     }
+}
+
+// The order of two lists of identifiers. An empty list is less than every other.
+#[inline]
+pub(crate) fn cmp_lists_borrowed(a: &Identifiers<'_>, b: &Identifiers<'_>) -> Ordering
+    ensures { result ≡ slice_cmp identifier_cmp a.now b.now }
+{
+    cmp_texts(a.text, b.text)
 }
 
 /// Returns the order of two prereleases of one triple. An empty list means the release, which is greater than each of

@@ -117,10 +117,10 @@ pub fn cmp_prereleases(a: &[Identifier], b: &[Identifier]) -> Ordering
     }
 }
 
-// The order of two lists of identifiers. `inline(never)`: few comparisons come to it, and `Version::cmp` stays so small
-// that it is inlined where a list of versions is sorted.
+// The order of two lists of identifiers. An empty list is less than every other. `inline(never)`: few comparisons come to
+// it, and `Version::cmp` stays so small that it is inlined where a list of versions is sorted.
 #[inline(never)]
-fn cmp_lists(a: &[Identifier], b: &[Identifier]) -> Ordering
+pub(crate) fn cmp_lists(a: &[Identifier], b: &[Identifier]) -> Ordering
     ensures { result ≡ slice_cmp identifier_cmp (values_of a.now) (values_of b.now) }
 {
     a.cmp(b)

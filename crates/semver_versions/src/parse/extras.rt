@@ -5,7 +5,7 @@ ghost use Rattle.semver_versions.specs.Readers.Reading as Reading;
 use crate::parse::identifiers::{
     begins_identifier, is_identifier_character, skip_hyphen, skip_plus,
 };
-use crate::parse::skip::begins_clean;
+use crate::parse::skip::is_clean_end;
 
 // Returns `true` if a list of identifiers goes on here: with an identifier character, or a dot and one.
 // `inline(always)`: the test of a loop.
@@ -104,7 +104,7 @@ fn skip_build(text: &[u8]) -> &[u8]
 pub fn skip_extras(text: &[u8]) -> &[u8]
     ensures { result.now ≡ (Reading.read_extras text.now).1 }
 {
-    if begins_clean(text) {
+    if is_clean_end(text) {
         text
     } else {
         skip_some_extras(text)

@@ -27,9 +27,9 @@ pub(crate) fn is_identifier_character(byte: u8) -> bool
     IDENTIFIER_CHARACTERS[byte as usize] != b','
 }
 
-// Returns `true` if the text begins with an identifier.
+/// Returns `true` if the text begins with an identifier.
 #[inline(always)]
-pub(crate) fn begins_identifier(text: &[u8]) -> bool
+pub fn begins_identifier(text: &[u8]) -> bool
     ensures { result ≡ Reading.begins Characters.is_identifier_character text.now }
 {
     match text {

@@ -6,9 +6,9 @@ ghost use Rattle.semver_versions.specs.Characters as Characters;
 ghost use Rattle.semver_versions.specs.Readers.Reading as Reading;
 ghost use Rattle.semver_versions.specs.Readers.ReadingViews.{IsTest};
 
-// The longest prefix whose bytes all pass the test, and the rest.
+/// Returns the longest prefix whose bytes all pass the test, and the rest.
 #[inline(always)]
-pub(crate) fn split<F: Fn(u8) -> bool>(text: &[u8], passes: F) -> (&[u8], &[u8])
+pub fn split<F: Fn(u8) -> bool>(text: &[u8], passes: F) -> (&[u8], &[u8])
     requires { F.IsAlwaysCallable passes }
     ensures prefix { (test : ℕ → Bool) → IsTest (F.post passes) test → result.0.now ≡ Reading.prefix_of test text.now }
     ensures rest { (test : ℕ → Bool) → IsTest (F.post passes) test → result.1.now ≡ Reading.rest_of test text.now }
@@ -64,8 +64,8 @@ pub fn skip_some_blanks(text: &[u8]) -> Option<&[u8]>
 
 // Returns `true` if a word can end before this text.
 #[inline(always)]
-pub fn begins_clean(text: &[u8]) -> bool
-    ensures { result ≡ Reading.is_clean text.now }
+pub fn is_clean_end(text: &[u8]) -> bool
+    ensures { result ≡ Reading.is_clean_end text.now }
 {
     match text {
         [] => true,

@@ -2,7 +2,7 @@
 ghost use Rattle.std.specs.Prelude.{◌↔◌, IsTrue};
 ghost use Rattle.semver_versions.specs.Version.{VersionValue};
 
-use crate::Version;
+use crate::{AsVersion, Version, VersionRef};
 
 /// A collection of versions that a version can satisfy, such as `node_semver::Range`.
 ///
@@ -11,8 +11,8 @@ pub trait Admits {
     ghost admits: { Self → VersionValue → Type 0 };
 
     /// Returns `true` if the version is admitted.
-    fn admits_version(&self, version: &Version) -> bool
-        ensures { IsTrue result ↔ admits self.now version.now };
+    fn admits_version<V: AsVersion>(&self, version: &V) -> bool
+        ensures { IsTrue result ↔ admits self.now (V.seen version.now) };
 }
 
 impl Version {
@@ -26,6 +26,20 @@ impl Version {
     ///
     /// `1.2.3+b` satisfies `=1.2.3+a`, because builds are ignored. `1.2.4` does not.
     // `inline(always)`: this call is that of the range.
+    #[inline(always)]
+    pub fn satisfies<R: Admits>(&self, range: &R) -> bool
+        ensures { IsTrue result ↔ R.admits range.now self.now }
+    {
+        range.admits_version(self)
+    }
+}
+
+impl<'a> VersionRef<'a> {
+    /// Returns `true` if the version satisfies the range, as [`Version::satisfies`] does.
+    ///
+    /// # Memory
+    ///
+    /// Does not allocate.
     #[inline(always)]
     pub fn satisfies<R: Admits>(&self, range: &R) -> bool
         ensures { IsTrue result ↔ R.admits range.now self.now }

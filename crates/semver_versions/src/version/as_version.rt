@@ -16,6 +16,9 @@ use std::cmp::Ordering;
 /// release. A contract sees the value as a version value, `seen`. Values that are seen as the same version satisfy the
 /// same ranges.
 ///
+/// A type of your own that holds a version, such as a key of a registry with its text, can have the trait: `seen` is that
+/// version, and each function calls the one of the version.
+///
 /// # Memory
 ///
 /// No function allocates.

@@ -33,8 +33,8 @@ impl Stepped for Version {
         let _major = self.major;
         let _minor = self.minor;
         let _patch = self.patch;
-        known_identifiers(&self.pre_release);
-        known_identifiers(&self.build);
+        prove_identifiers(&self.pre_release);
+        prove_identifiers(&self.build);
     }
 
     fn least(alloc: Global) -> Result<Version, AllocError>
@@ -69,15 +69,15 @@ impl Stepped for Version {
 }
 
 // Does nothing when it runs: its contract is that the elements of a list are identifiers.
-fn known_identifiers(identifiers: &[Identifier])
+fn prove_identifiers(identifiers: &[Identifier])
     ensures { AllByRecursion IsIdentifier (values_of identifiers.now) }
 {
     'identifiers: for identifier in identifiers {
-        known_identifier(identifier);
+        prove_identifier(identifier);
     }
 }
 
-fn known_identifier(identifier: &Identifier)
+fn prove_identifier(identifier: &Identifier)
     ensures { IsIdentifier (value_of identifier.now) }
 {
     match identifier {

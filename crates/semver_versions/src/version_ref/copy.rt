@@ -1,9 +1,21 @@
-//! A version with lists of its own, of one that borrows its text.
-ghost use Rattle.std.specs.Prelude.{◌≡◌, IfOk, IsOk};
+//! Copies of a version that borrows its text: with lists of its own, and one that borrows the same text.
+ghost use Rattle.std.specs.Prelude.{◌≡◌, ⊤, IfOk, IsOk};
 ghost use Rattle.semver_versions.specs.Version.{IsPlain};
 
 use crate::{Version, VersionRef};
 use std::alloc::{AllocError, Global};
+
+/// Returns the same version, which borrows the same text, as `copy` does. Always returns `Ok`.
+impl<'a> Clone for VersionRef<'a> {
+    ghost is_clone = { λ v copy. copy ≡ v };
+
+    ghost is_infallible = { λ v. ⊤ };
+
+    #[inline]
+    fn clone(&self) -> Result<VersionRef<'a>, AllocError> {
+        Ok(self.copy())
+    }
+}
 
 impl<'a> VersionRef<'a> {
     /// Returns the same version with lists of its own, which borrows nothing.

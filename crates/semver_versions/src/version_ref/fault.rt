@@ -3,6 +3,7 @@ ghost use Rattle.std.specs.Prelude.{◌≡◌, ◌⊎◌};
 ghost use Rattle.semver_versions.specs.Characters as Characters;
 ghost use Rattle.semver_versions.specs.Characters.{BeginsWith};
 ghost use Rattle.semver_versions.specs.Error.{IsOutOfMemory, IsRefusalAt, kind_of};
+ghost use Rattle.semver_versions.specs.ErrorLocation.{column_at, lines_before};
 ghost use Rattle.semver_versions.specs.Fault as Told;
 ghost use Rattle.semver_versions.specs.NumberText.{number_of};
 ghost use Rattle.semver_versions.specs.Readers.FaultViews.{IsReadFault, kind_in};
@@ -11,11 +12,15 @@ ghost use Rattle.semver_versions.specs.VersionFault.{IsVersionFault, fault_kind_
 ghost use Rattle.semver_versions.specs.declared.parse.fault.Fault.TheVariants.{TooLarge};
 
 use crate::parse::{Fault, leading_digits};
+
+mod display;
+
+use crate::error::location_in;
 use crate::{SemverError, SemverErrorKind};
 use std::alloc::Global;
 use std::str;
 
-/// Why `VersionRef::parse` failed, and where. It has no copy of the text.
+/// Why `VersionRef::parse` or `parse_strict` failed, and where. It has no copy of the text.
 ///
 /// # Memory
 ///
@@ -23,15 +28,15 @@ use std::str;
 ///
 /// # Examples
 ///
-/// That of `1.2` has the kind `Context("version")` and the offset 3.
-#[derive(Clone, Copy, Debug)]
+/// That of `1.2` has the kind `Context("version")` and the offset 3, and prints `Failed to parse version.`
+#[derive(Clone, Copy, Debug, PartialEq, Eq)]
 pub struct VersionFault {
     pub(crate) kind: FaultKind,
     pub(crate) offset: usize,
 }
 
 // The kinds of such a fault.
-#[derive(Clone, Copy, Debug)]
+#[derive(Clone, Copy, Debug, PartialEq, Eq)]
 pub(crate) enum FaultKind {
     // more than 256 bytes
     TooLong,
@@ -85,6 +90,15 @@ impl VersionFault {
         ensures { result ≡ self.offset }
     {
         self.offset
+    }
+
+    /// Returns the line and the column of the fault in `text`, the text that was parsed, as
+    /// [`SemverError::location`] has them. Both count from 0, and the column counts bytes.
+    pub fn location(self, text: &str) -> (usize, usize)
+        ensures line { result.0 ≡ lines_before text.now self.offset }
+        ensures column { result.1 ≡ column_at text.now self.offset }
+    {
+        location_in(text.as_bytes(), self.offset)
     }
 
     /// Returns the error with a copy of `text`, the text that was parsed: the error that `Version::parse` returns.

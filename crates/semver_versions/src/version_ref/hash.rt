@@ -1,5 +1,5 @@
 //! How versions that borrow their text are hashed.
-ghost use Rattle.std.specs.Prelude.{◌≡◌, ◌+◌, ◌≤◌, flat_map, fold, length};
+ghost use Rattle.std.specs.Prelude.{◌≡◌, flat_map, fold};
 ghost use Rattle.semver_versions.specs.Hash.{identifier_writes, version_writes};
 ghost use Rattle.semver_versions.specs.IdentifierText.{IsListed, identifiers_of};
 ghost use Rattle.semver_versions.specs.Lemmas.Hash.{version_alike};
@@ -24,23 +24,9 @@ impl<'a> Hash for VersionRef<'a> {
         self.major.hash(state);
         self.minor.hash(state);
         self.patch.hash(state);
-        state.write_usize(count_of(self.pre_release.text));
+        state.write_usize(self.pre_release.len());
         hash_list(self.pre_release.text, state);
     }
-}
-
-// The number of identifiers.
-fn count_of(text: &[u8]) -> usize
-    requires { IsListed text.now }
-    ensures { result ≡ length (identifiers_of text.now) }
-{
-    let mut count: usize = 0;
-    let mut rest = text;
-    'identifiers: while !rest.is_empty() {
-        (_, rest) = split_first(rest);
-        count += 1;
-    }
-    count
 }
 
 // Feeds each identifier. It calls itself at most 128 times, since a version has at most 256 bytes.

@@ -3,10 +3,11 @@ ghost use Rattle.std.specs.Prelude.{◌≡◌, ◌↔◌, Some, IfSome, IsTrue, 
 ghost use Rattle.std.specs.Cmp.{eq_by_cmp_equiv, partial_equiv_from_equiv, po};
 ghost use Rattle.std.specs.Ordering.{eq_by_cmp};
 ghost use Rattle.semver_versions.specs.Order.{IsSame, OrderMeans};
+ghost use Rattle.semver_versions.specs.BuildOrder.{BuildOrderMeans, version_build_cmp};
 ghost use Rattle.semver_versions.specs.Comparison.{version_cmp};
 ghost use Rattle.semver_versions.specs.Lemmas.Order.{version_total};
 
-use crate::identifier::borrowed::{cmp_borrowed, cmp_with_borrowed};
+use crate::identifier::borrowed::{cmp_borrowed, cmp_lists_borrowed, cmp_with_borrowed};
 use crate::{Version, VersionRef};
 use std::cmp::Ordering;
 
@@ -75,6 +76,25 @@ impl<'a> Ord for VersionRef<'a> {
     {
         match self.triple().cmp(&other.triple()) {
             Ordering::Equal => cmp_borrowed(&self.pre_release, &other.pre_release),
+            order => order,
+        }
+    }
+}
+
+impl<'a> VersionRef<'a> {
+    /// Returns the order with builds, as [`Version::compare_build`] does for the `Version`s of the texts.
+    ///
+    /// # Memory
+    ///
+    /// Does not allocate.
+    #[inline]
+    #[tactic(auto, using(crate::specs::Lemmas::BuildOrder::version_build_order))]
+    pub fn compare_build(&self, other: &VersionRef<'a>) -> Ordering
+        ensures answer { result ≡ version_build_cmp self.now other.now }
+        ensures order { BuildOrderMeans self.now other.now result }
+    {
+        match self.cmp(other) {
+            Ordering::Equal => cmp_lists_borrowed(&self.build, &other.build),
             order => order,
         }
     }

@@ -1,17 +1,17 @@
 -- A text that begins with a blank, or is empty, has no extras.
 use Rattle.std.proofs.Common.{◌≡◌, ℕ, true, List, [], ◌∷◌, refl}
 use Rattle.semver_versions.specs.Characters.{IsCleanEnd}
-use Rattle.semver_versions.specs.Readers.Reading.{is_clean, read_extras}
+use Rattle.semver_versions.specs.Readers.Reading.{is_clean_end, read_extras}
 use Rattle.semver_versions.specs.Lemmas.Texts.ExtrasReading.{extras-again}
 use Rattle.semver_versions.specs.Lemmas.Versions.VersionReading.{clean-ends_extras}
 
 -- a clean end, as it is tested
-pub clean-end : (text : List ℕ) → is_clean text ≡ true → IsCleanEnd text
+pub clean-end : (text : List ℕ) → is_clean_end text ≡ true → IsCleanEnd text
 clean-end [] h = tt
 clean-end (b ∷ rest) h = h
 
 -- a text at a clean end begins with no extras
-pub clean_extras : (text : List ℕ) → is_clean text ≡ true → read_extras text ≡ (([], []), text)
+pub clean_extras : (text : List ℕ) → is_clean_end text ≡ true → read_extras text ≡ (([], []), text)
 clean_extras text h =
     extras-again [] text [] [] (record { prefix = []; rest = []; whole = refl; first = refl; second = refl })
     (clean-ends_extras text (clean-end text h))

@@ -7,7 +7,7 @@ use Rattle.semver_versions.proofs.parse.extras.skip_extras.Goals as goal
 abbrev Extras : Type 0
 Extras = (List IdentifierValue × List IdentifierValue) × List ℕ
 
-pub returns-then-begins_clean : goal.returns-then-begins_clean
-returns-then-begins_clean c =
-    let clean = sym c.begins_clean.ensures ∙ c.if-begins_clean.true in
+pub returns-then-is_clean_end : goal.returns-then-is_clean_end
+returns-then-is_clean_end c =
+    let clean = sym c.is_clean_end.ensures ∙ c.if-is_clean_end.true in
     sym (ap (λ (read : Extras). read.1) (clean_extras c.args.text.now clean))

@@ -1,6 +1,6 @@
 use Rattle.std.proofs.Common.{◌≡◌, ◌+◌, ◌≤◌, length}
 use Rattle.semver_versions.specs.IdentifierText.{IsListed, identifiers_of}
-use Rattle.semver_versions.proofs.version_ref.hash.count_of.Given as goal
+use Rattle.semver_versions.proofs.identifier.borrowed.length.count_of.Given as goal
 
 -- the identifiers so far and those of the rest are those of the text
 abbrev pub invariant-identifiers : goal.invariant-identifiers

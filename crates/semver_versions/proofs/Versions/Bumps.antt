@@ -1,0 +1,111 @@
+-- The last number of a list of identifiers: there is only one, and it is raised only below the limit.
+use Rattle.std.proofs.Common.{◌≡◌, ◌≤◌, ◌∙◌, ℕ, List, [], ◌∷◌, ◌++◌, ◌≢◌, ◌⊎◌, Bool, false, length, Option, None, Some, Result, Ok, Err, IfErr, arith, inl, inr, refl, subst, sym}
+use Rattle.std.specs.List.{AllByRecursion}
+use Rattle.std.specs.Prelude.{◌==◌}
+use Rattle.semver_versions.specs.Identifier.{values_of}
+use Rattle.semver_versions.specs.declared.identifier.Identifier.{Identifier}
+use Rattle.semver_versions.specs.Bump.{BeginsNumbered, HasNoNext, IsNext, IsNextOf, IsSplitAtLastNumber, IsText, new_identifiers}
+use Rattle.semver_versions.specs.IdentifierValue.{IdentifierValue, numeric}
+use Rattle.semver_versions.specs.declared.TheConstants.{MAX_SAFE_INTEGER}
+use Rattle.semver_versions.specs.declared.version.bump.IdentifierBase.{IdentifierBase}
+use Rattle.semver_versions.specs.declared.version.bump.IdentifierBase.TheVariants.{Absent, One, Zero}
+
+-- texts have no number among them
+texts-none : (before after : List IdentifierValue) (number : ℕ)
+    → AllByRecursion IsText (before ++ (numeric number ∷ after)) → ⊥
+texts-none [] after number all = all.0
+texts-none (x ∷ before) after number all = texts-none before after number all.1
+
+last-unique : (before before' after after' : List IdentifierValue) (number number' : ℕ)
+    → before ++ (numeric number ∷ after) ≡ before' ++ (numeric number' ∷ after')
+    → AllByRecursion IsText after → AllByRecursion IsText after' → number ≡ number'
+last-unique [] [] after after' number number' same all all' = cc same
+last-unique [] (x ∷ before') after after' number number' same all all' =
+    let rest : after ≡ before' ++ (numeric number' ∷ after') = cc same in
+    absurd (texts-none before' after' number' (subst (AllByRecursion IsText) rest all))
+last-unique (x ∷ before) [] after after' number number' same all all' =
+    let rest : after' ≡ before ++ (numeric number ∷ after) = cc same in
+    absurd (texts-none before after number (subst (AllByRecursion IsText) rest all'))
+last-unique (x ∷ before) (y ∷ before') after after' number number' same all all' =
+    let rest : before ++ (numeric number ∷ after) ≡ before' ++ (numeric number' ∷ after') = cc same in
+    last-unique before before' after after' number number' rest all all'
+
+-- where the last number is at the limit, no identifiers are next
+pub no_next_at_limit : (base : IdentifierBase) (one before after : List IdentifierValue) (number : ℕ)
+    → IsSplitAtLastNumber one before number after → MAX_SAFE_INTEGER ≤ number → HasNoNext None base one
+no_next_at_limit base one before after number split limit other next = elim next [
+  | inl raised ↦
+      let same = last-unique before raised.before after raised.after number raised.number
+      (sym split.whole ∙ raised.split.whole) split.texts raised.split.texts in
+      let below = raised.limit in
+      absurd (omega (arith, same, below, limit))
+  | inr texts ↦ texts-none before after number (subst (AllByRecursion IsText) split.whole texts.0)
+]
+
+-- ---- with an identifier
+
+-- a prerelease that begins with the identifier and a number has a number
+numbered-none : (identifier : IdentifierValue) (one : List IdentifierValue) → BeginsNumbered identifier one
+    → AllByRecursion IsText one → ⊥
+numbered-none identifier one begins all =
+    texts-none (identifier ∷ []) begins.rest begins.number (subst (AllByRecursion IsText) begins.whole all)
+
+-- so its last number is raised
+pub next_with : (identifier : IdentifierValue) (base : IdentifierBase) (one other : List IdentifierValue)
+    → BeginsNumbered identifier one → IsNext None base one other → IsNext (Some identifier) base one other
+next_with identifier base one other begins next = elim next [
+  | inl raised ↦ inl (begins, raised)
+  | inr texts ↦ absurd (numbered-none identifier one begins texts.0)
+]
+
+pub no_next_with : (identifier : IdentifierValue) (base : IdentifierBase) (one : List IdentifierValue)
+    → BeginsNumbered identifier one → HasNoNext None base one → HasNoNext (Some identifier) base one
+no_next_with identifier base one begins none other next = elim next [
+  | inl raised ↦ none other (inl raised.1)
+  | inr new ↦ new.0 begins
+]
+
+-- the identifier alone would stay as it is
+pub no_next_alone : (identifier : IdentifierValue) (one : List IdentifierValue) → one ≡ identifier ∷ []
+    → HasNoNext (Some identifier) Absent one
+no_next_alone identifier one alone other next = elim next [
+  | inl raised ↦ cc (raised.0.whole, alone)
+  | inr new ↦ new.2 (new.1 ∙ sym alone)
+]
+
+-- any other prerelease becomes a new one
+new-other : (identifier : IdentifierValue) (base : IdentifierBase) (one : List IdentifierValue)
+    → (¬ BeginsNumbered identifier one) → (base ≡ Absent → one ≢ identifier ∷ [])
+    → new_identifiers (Some identifier) base ≢ one
+new-other identifier Zero one begins alone same =
+    begins (record { number = 0; rest = []; whole = sym same })
+new-other identifier One one begins alone same =
+    begins (record { number = 1; rest = []; whole = sym same })
+new-other identifier Absent one begins alone same = alone refl (sym same)
+
+pub next_new : (identifier : IdentifierValue) (base : IdentifierBase) (one other : List IdentifierValue)
+    → (¬ BeginsNumbered identifier one) → (base ≡ Absent → one ≢ identifier ∷ [])
+    → other ≡ new_identifiers (Some identifier) base → IsNext (Some identifier) base one other
+next_new identifier base one other begins alone is =
+    inr (begins, is, λ same. new-other identifier base one begins alone (sym is ∙ same))
+
+-- an error has one of two reasons; the second gives another
+pub other-reason : {A E : Type 0} → (Memory Reason Other : E → Type 0) (result : Result A E)
+    → ((e : E) → Reason e → Other e) → IfErr result (λ e. Memory e ⊎ Reason e) → IfErr result (λ e. Memory e ⊎ Other e)
+other-reason Memory Reason Other (Ok value) gives reasons = tt
+other-reason Memory Reason Other (Err e) gives reasons = elim reasons [
+  | inl memory ↦ inl memory
+  | inr reason ↦ inr (gives e reason)
+]
+
+-- what follows the prerelease of a version that has one
+pub next-of_some : (identifier : Option IdentifierValue) (base : IdentifierBase) (one other : List IdentifierValue)
+    → one ≢ [] → IsNextOf identifier base one other → IsNext identifier base one other
+next-of_some identifier base [] other some next = absurd (some refl)
+next-of_some identifier base (x ∷ xs) other some next = next.1
+
+-- identifiers that are not empty
+pub some-identifiers : (identifiers : List Identifier) (empty : Bool) → empty ≡ (length identifiers == 0)
+    → empty ≡ false → values_of identifiers ≢ []
+some-identifiers [] empty is none same = cc (is, none)
+some-identifiers (x ∷ xs) empty is none same = cc same

@@ -1,0 +1,165 @@
+-- The numbers and the prerelease of a strict text, as its reader finds them.
+use Rattle.std.proofs.Common.{◌≡◌, ◌+◌, ◌-◌, ◌≤◌, ℕ, Bool, false, List, [], ◌∷◌, length, refl, sym, ap, ◌∙◌}
+use Rattle.std.proofs.Common.{inl, inr, arith, drop, subst, suc, take}
+use Rattle.std.proofs.lemmas.Bool.{cases_Bool}
+use Rattle.std.specs.Prelude.{◌==◌, not}
+use Rattle.std.specs.List.{list_all, prefix_len}
+use Rattle.semver_versions.specs.Characters.{BeginsWithNo, hyphen, plus}
+use Rattle.semver_versions.specs.IdentifierText.{parts_of}
+use Rattle.semver_versions.specs.Readers.Reading.{prefix_of, rest_of}
+use Rattle.semver_versions.specs.Readers.StrictViews.{IsStrictUpTo, IsUnstrictFrom, is_listed}
+use Rattle.semver_versions.specs.Lemmas.Versions.FaultLemmas.{one_fault, version-no_fault}
+use Rattle.semver_versions.specs.VersionLaws.{HasOneStrictFault, IsNeverStrictAndFaulty}
+use Rattle.semver_versions.specs.StrictVersionText.{IsStrictlyWritten, IsUnstrictAt, first_failing, identifier, loose}
+use Rattle.semver_versions.specs.StrictVersionText.{is_strict_identifier, is_strict_number, number, numbers_text}
+use Rattle.semver_versions.specs.StrictVersionText.{prerelease_text, unstrict}
+use Rattle.semver_versions.specs.declared.parse.strict.Part.TheVariants.{Identifier, Number}
+use Rattle.semver_versions.proofs.Versions.StrictParts.{part-length}
+
+-- std's words for the longest prefix whose characters all pass
+pub taken : (test : ℕ → Bool) (text : List ℕ) → take (prefix_len test text) text ≡ prefix_of test text
+unfolding prefix_of
+taken test [] = refl
+taken test (b ∷ text) = elim (cases_Bool (test b)) [
+  | inl passes ↦
+      let one : 1 + prefix_len test text ≡ suc (prefix_len test text) = omega arith in
+      rw (passes, one) (ap (λ (l : List ℕ). b ∷ l) (taken test text))
+  | inr stops ↦ rw stops refl
+]
+
+-- what follows the first hyphen
+abbrev behind : List ℕ → List ℕ
+behind text = drop (prefix_len (λ b. not (b == hyphen)) text + 1) text
+
+-- one character more, which is no hyphen
+behind-other : (b : ℕ) (text : List ℕ) → (b == hyphen) ≡ false → behind (b ∷ text) ≡ behind text
+behind-other b text other =
+    let one : 1 + prefix_len (λ c. not (c == hyphen)) text + 1 ≡ suc (prefix_len (λ c. not (c == hyphen)) text + 1) =
+    omega arith in
+    rw (other, one) refl
+
+-- the identifiers after the hyphen
+behind-hyphen : (text identifiers : List ℕ) → rest_of (is_listed Number) text ≡ hyphen ∷ identifiers
+    → behind (prefix_of (is_listed Identifier) text) ≡ prefix_of (is_listed Identifier) identifiers
+unfolding prefix_of rest_of
+behind-hyphen [] identifiers e = cc e
+behind-hyphen (b ∷ text) identifiers e = elim (cases_Bool (b == hyphen)) [
+  | inl here ↦
+      let same : b ∷ text ≡ hyphen ∷ identifiers = rw here at e in
+      let is : b ≡ hyphen = cc same in
+      let tail : text ≡ identifiers = cc same in
+      rw is (ap (prefix_of (is_listed Identifier)) tail)
+  | inr other ↦ elim (cases_Bool (b == plus)) [
+    | inl mark ↦
+        let same : b ∷ text ≡ hyphen ∷ identifiers = rw (other, mark) at e in
+        let is : b ≡ hyphen = cc same in
+        absurd (let no : (hyphen == hyphen) ≡ false = rw is at other in cc no)
+    | inr none ↦
+        let rest : rest_of (is_listed Number) text ≡ hyphen ∷ identifiers = rw (other, none) at e in
+        rw none (behind-other b (prefix_of (is_listed Identifier) text) other) ∙ behind-hyphen text identifiers rest
+  ]
+]
+
+-- nothing, if there is no hyphen before the build
+behind-none : (text : List ℕ) → BeginsWithNo (λ b. b == hyphen) (rest_of (is_listed Number) text)
+    → behind (prefix_of (is_listed Identifier) text) ≡ []
+unfolding prefix_of rest_of
+behind-none [] none = refl
+behind-none (b ∷ text) none = elim (cases_Bool (b == hyphen)) [
+  | inl here ↦ absurd (let no : (b == hyphen) ≡ false = rw here at none in cc (sym here ∙ no))
+  | inr other ↦ elim (cases_Bool (b == plus)) [
+    | inl mark ↦ rw mark refl
+    | inr more ↦
+        let rest : BeginsWithNo (λ b. b == hyphen) (rest_of (is_listed Number) text) = rw (other, more) at none in
+        rw more (behind-other b (prefix_of (is_listed Identifier) text) other) ∙ behind-none text rest
+  ]
+]
+
+-- the numbers
+numbers-are : (text : List ℕ) → numbers_text text ≡ prefix_of (is_listed Number) text
+numbers-are text = taken (is_listed Number) text
+
+-- and the prerelease
+prerelease-hyphen : (text identifiers : List ℕ) → rest_of (is_listed Number) text ≡ hyphen ∷ identifiers
+    → prerelease_text text ≡ prefix_of (is_listed Identifier) identifiers
+prerelease-hyphen text identifiers e =
+    ap behind (taken (is_listed Identifier) text) ∙ behind-hyphen text identifiers e
+
+prerelease-none : (text : List ℕ) → BeginsWithNo (λ b. b == hyphen) (rest_of (is_listed Number) text)
+    → prerelease_text text ≡ []
+prerelease-none text none = ap behind (taken (is_listed Identifier) text) ∙ behind-none text none
+
+-- ---- what the reader found
+
+-- all numbers, and no prerelease after a hyphen
+pub strict-numbers : (text rest : List ℕ) → IsStrictUpTo Number text rest → BeginsWithNo (λ b. b == hyphen) rest
+    → IsStrictlyWritten text
+strict-numbers text rest h none =
+    record {
+      numbers = ap (λ (l : List ℕ). list_all is_strict_number (parts_of l)) (numbers-are text) ∙ h.strict;
+      identifiers = ap (λ (l : List ℕ). list_all is_strict_identifier (parts_of l))
+          (prerelease-none text (subst (BeginsWithNo (λ b. b == hyphen)) h.follows none));
+    }
+
+-- all numbers and all identifiers
+pub strict-all : (text rest identifiers others : List ℕ) → IsStrictUpTo Number text rest → rest ≡ hyphen ∷ identifiers
+    → IsStrictUpTo Identifier identifiers others → IsStrictlyWritten text
+strict-all text rest identifiers others h e g =
+    record {
+      numbers = ap (λ (l : List ℕ). list_all is_strict_number (parts_of l)) (numbers-are text) ∙ h.strict;
+      identifiers = ap (λ (l : List ℕ). list_all is_strict_identifier (parts_of l))
+          (prerelease-hyphen text identifiers (sym h.follows ∙ e)) ∙ g.strict;
+    }
+
+-- a number that is not strictly written
+pub unstrict-number : (text : List ℕ) (left : ℕ) → IsUnstrictFrom Number text left
+    → IsUnstrictAt text (length text - left)
+unstrict-number text left h =
+    subst (IsUnstrictAt text)
+    (ap (first_failing is_strict_number) (numbers-are text) ∙ h.offset)
+    (number (ap (λ (l : List ℕ). list_all is_strict_number (parts_of l)) (numbers-are text) ∙ h.unstrict))
+
+-- an identifier that is not
+pub unstrict-within : (text rest identifiers : List ℕ) (left : ℕ) → IsStrictUpTo Number text rest
+    → rest ≡ hyphen ∷ identifiers → IsUnstrictFrom Identifier identifiers left → left ≤ length text
+unstrict-within text rest identifiers left h e g =
+    omega (arith, g.within, part-length (is_listed Number) text hyphen identifiers (sym h.follows ∙ e))
+
+pub unstrict-identifier : (text rest identifiers : List ℕ) (left : ℕ) → IsStrictUpTo Number text rest
+    → rest ≡ hyphen ∷ identifiers → IsUnstrictFrom Identifier identifiers left
+    → IsUnstrictAt text (length text - left)
+unstrict-identifier text rest identifiers left h e g =
+    let read = prerelease-hyphen text identifiers (sym h.follows ∙ e) in
+    let place : first_failing is_strict_identifier (prerelease_text text) ≡ length identifiers - left =
+    ap (first_failing is_strict_identifier) read ∙ g.offset in
+    let size = part-length (is_listed Number) text hyphen identifiers (sym h.follows ∙ e) in
+    let numbers : length (numbers_text text) ≡ length (prefix_of (is_listed Number) text) = ap length (numbers-are text) in
+    subst (IsUnstrictAt text) (omega (arith, place, numbers, size, g.within))
+    (identifier (ap (λ (l : List ℕ). list_all is_strict_number (parts_of l)) (numbers-are text) ∙ h.strict)
+    (ap (λ (l : List ℕ). list_all is_strict_identifier (parts_of l)) read ∙ g.unstrict))
+
+-- what has such a place is not strictly written
+pub unstrict-not : (text : List ℕ) (offset : ℕ) → IsUnstrictAt text offset → ¬ IsStrictlyWritten text
+unstrict-not text offset (number fails) s = cc (sym fails ∙ s.numbers)
+unstrict-not text offset (identifier numbers fails) s = cc (sym fails ∙ s.identifiers)
+
+-- ---- one fault
+
+-- a text has one such place at most
+one-place : (text : List ℕ) (m n : ℕ) → IsUnstrictAt text m → IsUnstrictAt text n → m ≡ n
+one-place text m n (number fails) (number again) = refl
+one-place text m n (number fails) (identifier numbers again) = cc (sym fails ∙ numbers)
+one-place text m n (identifier numbers fails) (number again) = cc (sym again ∙ numbers)
+one-place text m n (identifier numbers fails) (identifier others again) = refl
+
+-- and one strict fault
+pub one_strict_fault : (text : List ℕ) → HasOneStrictFault text
+one_strict_fault text k l m n (loose _ _ h) (loose _ _ g) = one_fault text k l m n h g
+one_strict_fault text k l m n (loose _ _ h) (unstrict v _ read at) = absurd (version-no_fault text v k m read h)
+one_strict_fault text k l m n (unstrict v _ read at) (loose _ _ g) = absurd (version-no_fault text v l n read g)
+one_strict_fault text k l m n (unstrict v _ read at) (unstrict w _ again there) = (refl, one-place text m n at there)
+
+-- a strict version text has none
+pub strict-no_fault : (text : List ℕ) → IsNeverStrictAndFaulty text
+strict-no_fault text v kind offset h (loose _ _ g) = version-no_fault text v kind offset h.version g
+strict-no_fault text v kind offset h (unstrict w _ read at) = unstrict-not text offset at h.strict

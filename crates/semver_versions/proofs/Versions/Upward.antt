@@ -1,0 +1,100 @@
+-- A bumped version is above the version, but after `pre`, and after `prerelease` with an identifier.
+use Rattle.std.proofs.Common.{◌≡◌, ◌≢◌, ◌+◌, List, [], ◌∷◌, ◌++◌, ◌∙◌, Option, Some, None, arith, inl, inr, refl, subst, sym}
+use Rattle.semver_versions.specs.Bump.{IsBumped, IsNextOf, IsUpward, base_identifiers}
+use Rattle.semver_versions.specs.IdentifierValue.{IdentifierValue, numeric}
+use Rattle.semver_versions.specs.Order.{IsBelow, IsIdentifierBelow, IsListBelow, before_release}
+use Rattle.semver_versions.specs.Order.{by_identifiers, by_major, by_minor, by_patch}
+use Rattle.semver_versions.specs.Triple.{triple_of}
+use Rattle.semver_versions.specs.Version.{HasSameTriple, IsPrerelease, VersionValue}
+use Rattle.semver_versions.specs.declared.version.bump.Bump.{Bump}
+use Rattle.semver_versions.specs.declared.version.bump.Bump.TheVariants.{Major, Minor, Patch, Pre}
+use Rattle.semver_versions.specs.declared.version.bump.Bump.TheVariants.{PreMajor, PreMinor, PrePatch, PreRelease}
+use Rattle.semver_versions.specs.declared.version.bump.IdentifierBase.{IdentifierBase}
+
+-- ---- identifiers
+
+-- more identifiers
+longer : (one more : List IdentifierValue) → more ≢ [] → IsListBelow IsIdentifierBelow one (one ++ more)
+longer one [] some = absurd (some refl)
+longer one (x ∷ more) some = inl (record { next = x; rest = more; goes_on = refl })
+
+pub next-below : (base : IdentifierBase) (one other : List IdentifierValue) → one ≢ [] → IsNextOf None base one other
+    → IsListBelow IsIdentifierBelow one other
+next-below base [] other some next = absurd (some refl)
+next-below base (x ∷ xs) other some next = elim next.1 [
+  | inl raised ↦ inr (record {
+    common = raised.before;
+    next = numeric raised.number;
+    rest = raised.after;
+    other_next = numeric (raised.number + 1);
+    other_rest = raised.after;
+    first = raised.split.whole;
+    second = raised.raised;
+    below = omega arith;
+  })
+  | inr texts ↦ subst (IsListBelow IsIdentifierBelow (x ∷ xs)) (sym texts.1)
+      (longer (x ∷ xs) (base_identifiers base) next.0)
+]
+
+some-append : {A : Type 0} (before : List A) (x : A) (after : List A) → before ++ (x ∷ after) ≢ []
+some-append [] x after same = cc same
+some-append (y ∷ before) x after same = cc same
+
+-- what is above a list is not empty
+below-some : (one other : List IdentifierValue) → IsListBelow IsIdentifierBelow one other → other ≢ []
+below-some one other below none = elim below [
+  | inl more ↦ some-append one more.next more.rest (sym more.goes_on ∙ none)
+  | inr next ↦ some-append next.common next.other_next next.other_rest (sym next.second ∙ none)
+]
+
+-- ---- by the kinds of bump
+
+-- the next prerelease of a prerelease
+pub next-above : (base : IdentifierBase) (v w : VersionValue) → HasSameTriple v w → IsPrerelease v
+    → IsNextOf None base v.pre_release w.pre_release → IsBelow v w
+next-above base v w triple pre next =
+    let below = next-below base v.pre_release w.pre_release pre next in
+    by_identifiers triple pre (below-some v.pre_release w.pre_release below) below
+
+same-triple : (v w : VersionValue) → (triple_of w).major ≡ v.major → (triple_of w).minor ≡ v.minor
+    → (triple_of w).patch ≡ v.patch → HasSameTriple v w
+same-triple v w major minor patch = record { major = sym major; minor = sym minor; patch = sym patch }
+
+-- its release
+released : (v w : VersionValue) → HasSameTriple v w → IsPrerelease v → w.pre_release ≡ [] → IsBelow v w
+released v w triple pre none = before_release triple pre (λ some. some none)
+
+next-major : (v w : VersionValue) → w.major ≡ v.major + 1 → IsBelow v w
+next-major v w major = by_major (omega (arith, major))
+
+next-minor : (v w : VersionValue) → w.major ≡ v.major → w.minor ≡ v.minor + 1 → IsBelow v w
+next-minor v w major minor = by_minor (sym major) (omega (arith, minor))
+
+next-patch : (v w : VersionValue) → w.major ≡ v.major → w.minor ≡ v.minor → w.patch ≡ v.patch + 1 → IsBelow v w
+next-patch v w major minor patch = by_patch (sym major) (sym minor) (omega (arith, patch))
+
+pub above-version : (bump : Bump) (identifier : Option IdentifierValue) (base : IdentifierBase) (v w : VersionValue)
+    → IsUpward bump identifier → IsBumped bump identifier base v w → IsBelow v w
+above-version Major identifier base v w up bumped = elim bumped.triple [
+  | inl before ↦ released v w (same-triple v w before.1.0 (before.1.1 ∙ sym before.0.1) (before.1.2 ∙ sym before.0.2))
+      before.0.0 bumped.pre_release
+  | inr next ↦ next-major v w next.1.0
+]
+above-version Minor identifier base v w up bumped = elim bumped.triple [
+  | inl before ↦ released v w (same-triple v w before.1.0 before.1.1 (before.1.2 ∙ sym before.0.1)) before.0.0
+      bumped.pre_release
+  | inr next ↦ next-minor v w next.1.0 next.1.1
+]
+above-version Patch identifier base v w up bumped = elim bumped.triple [
+  | inl before ↦ released v w (same-triple v w before.1.0 before.1.1 before.1.2) before.0 bumped.pre_release
+  | inr next ↦ next-patch v w next.1.0 next.1.1 next.1.2
+]
+above-version PreMajor identifier base v w up bumped = next-major v w bumped.triple.0
+above-version PreMinor identifier base v w up bumped = next-minor v w bumped.triple.0 bumped.triple.1
+above-version PrePatch identifier base v w up bumped = next-patch v w bumped.triple.0 bumped.triple.1 bumped.triple.2
+above-version PreRelease (Some identifier) base v w up bumped = absurd up
+above-version PreRelease None base v w up bumped = elim bumped.triple [
+  | inl before ↦ next-above base v w (same-triple v w before.1.0 before.1.1 before.1.2) before.0 bumped.pre_release
+  | inr next ↦ next-patch v w next.1.0 next.1.1 next.1.2
+]
+above-version Pre identifier base v w up bumped = absurd up

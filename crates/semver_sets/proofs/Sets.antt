@@ -2,6 +2,7 @@ pub mod SomeElement
 pub mod Searching
 pub mod OpeningOrder
 pub mod Openings
+pub mod Inside
 pub mod Merging
 pub mod AlternativeSets
 pub mod SetLemmas

@@ -27,7 +27,7 @@ pub data IsWord (word rest : List ℕ) (comparator : Option Comparator) : Type 0
   hyphen_range : IsHyphenText word comparator → IsCleanEnd rest → IsWord word rest comparator
   simple : NoneAt IsHyphenText (word ++ rest) → IsSimpleText word comparator → IsCleanEnd rest
       → IsWord word rest comparator
-  thrown_away : NoneAt IsHyphenText (word ++ rest) → NoneAt IsSimpleText (word ++ rest)
+  ignored : NoneAt IsHyphenText (word ++ rest) → NoneAt IsSimpleText (word ++ rest)
       → AreAll (λ b. not (is_blank b)) word → IsCleanEnd rest → comparator ≡ None → IsWord word rest comparator
 
 -- a first word, all blanks after it, and the rest

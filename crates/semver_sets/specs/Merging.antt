@@ -3,10 +3,10 @@
 --
 -- `>=1.2.3-rc.4 >=1.0.0 <2.0.0` gives the set from just before 1.2.3-rc.4 up to just before 2.0.0. The set of
 -- `>=1.0.0+a >=1.0.0+b` begins just before 1.0.0+b, and that of `<1.0.0+a <1.0.0+b` ends just before 1.0.0+a.
-use Rattle.std.specs.Prelude.{◌≡◌, ◌≢◌, ◌↔◌, ℕ, List, [], ◌∷◌}
+use Rattle.std.specs.Prelude.{◌≡◌, ◌≢◌, ◌↔◌, ℕ, List, [], ◌∷◌, Option, Some, None, IfSome, IsSome}
 use Rattle.std.specs.List.{AllByRecursion}
 use Rattle.semver_cuts.specs.declared.cut.Cut.TheVariants.{Start, End}
-use Rattle.semver_cuts.specs.Ends.{Ends}
+use Rattle.semver_cuts.specs.Ends.{Ends, HoldsCut}
 use Rattle.semver_cuts.specs.ChosenEnds.{IsLastGreatestLower, IsFirstLeastUpper}
 use Rattle.semver_sets.specs.Comparator.{Comparator}
 use Rattle.semver_versions.specs.Comparison.{version_cmp}
@@ -18,6 +18,17 @@ use Rattle.semver_versions.specs.Version.{IsPrerelease, VersionValue}
 pub record IsSetOf (comparators : List Comparator) (set : Ends VersionValue) : Type 0 where
   pub lower : IsLastGreatestLower version_cmp comparators set.lower
   pub upper : IsFirstLeastUpper version_cmp comparators set.upper
+
+-- the span that comparators have in common, which can contain no cut; or none if there are no comparators
+abbrev pub IsCommonSpan : List Comparator → Option Comparator → Type 0
+IsCommonSpan comparators None = comparators ≡ []
+IsCommonSpan comparators (Some common) = IsSetOf comparators common
+
+-- that span if a cut lies in it; otherwise, or if there are no comparators, none
+abbrev pub IsSpanOf : Option Comparator → Option (Ends VersionValue) → Type 0
+IsSpanOf None span = span ≡ None
+IsSpanOf (Some common) span =
+    (IsSome span ↔ HoldsCut version_cmp common) × IfSome span (λ ends. ends ≡ common)
 
 -- the set of all cuts, from the start to the end
 abbrev pub all_cuts : Ends VersionValue

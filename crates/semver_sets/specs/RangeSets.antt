@@ -1,5 +1,5 @@
 -- A range as a contract sees it, the list of its sets, and the properties of every range: it has at least one set, each
--- set contains a cut, and a range text can write its ends.
+-- set contains a cut, and no number of an end is above 9007199254740992.
 use Rattle.std.specs.Prelude.{◌≢◌, ◌≤◌, ◌+◌, List, [], ◌∷◌, Option, Some, None}
 use Rattle.std.specs.List.{AllByRecursion}
 use Rattle.semver_cuts.specs.declared.cut.Cut.{Cut}
@@ -22,8 +22,9 @@ abbrev pub sets_of_some : Option Sets → List (Ends VersionValue)
 sets_of_some None = []
 sets_of_some (Some sets) = sets_seen sets
 
--- a version at an end: its numbers are those of a text, or one greater, as the 2 of `<2.0.0-0`, where `^1` ends
-pub record IsReadVersion (v : VersionValue) : Type 0 where
+-- A version at an end of a range. Its numbers are those of a text or one greater, as the 2 of `<2.0.0-0`, where `^1`
+-- ends: so `<9007199254740992.0.0-0` is the end of `^9007199254740991`. Its identifiers are those of a text.
+pub record IsRangeEnd (v : VersionValue) : Type 0 where
   pub major : v.major ≤ MAX_SAFE_INTEGER + 1
   pub minor : v.minor ≤ MAX_SAFE_INTEGER + 1
   pub patch : v.patch ≤ MAX_SAFE_INTEGER + 1
@@ -31,17 +32,17 @@ pub record IsReadVersion (v : VersionValue) : Type 0 where
   pub build : AllByRecursion IsReadIdentifier v.build
 
 -- a cut at such a version, or the start, or the end
-abbrev pub IsReadCut : Cut VersionValue → Type 0
-IsReadCut Start = Unit {0}
-IsReadCut (Before v) = IsReadVersion v
-IsReadCut (After v) = IsReadVersion v
-IsReadCut End = Unit {0}
+abbrev pub IsRangeCut : Cut VersionValue → Type 0
+IsRangeCut Start = Unit {0}
+IsRangeCut (Before v) = IsRangeEnd v
+IsRangeCut (After v) = IsRangeEnd v
+IsRangeCut End = Unit {0}
 
 -- a set contains a cut, and its two ends are such cuts
 pub record IsRangeSet (set : Ends VersionValue) : Type 0 where
   pub holds : HoldsCut version_cmp set
-  pub lower : IsReadCut set.lower
-  pub upper : IsReadCut set.upper
+  pub lower : IsRangeCut set.lower
+  pub upper : IsRangeCut set.upper
 
 -- at least one such set
 pub record IsRangeValue (sets : List (Ends VersionValue)) : Type 0 where

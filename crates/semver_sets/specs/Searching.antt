@@ -7,7 +7,7 @@ use Rattle.semver_cuts.specs.Ends.{Ends}
 use Rattle.semver_cuts.specs.Starts.{count_of_starts}
 use Rattle.semver_versions.specs.Comparison.{version_cmp}
 use Rattle.semver_versions.specs.IdentifierValue.{IdentifierValue}
-use Rattle.semver_sets.specs.Meaning.{RangeAdmits}
+use Rattle.semver_sets.specs.Meaning.{RangeAdmits, RangeContains}
 use Rattle.semver_versions.specs.Version.{IsPrerelease, VersionValue}
 
 -- ---- what `Meaning` says of ends, as tests
@@ -50,3 +50,10 @@ pub record IsShortSearch (sets : List (Ends VersionValue)) (v : VersionValue) (b
       → after ≤ before + digits + 1
   pub prerelease : IsPrerelease v → after ≤ before + 2 * count_of_opening v sets
   pub admitted : RangeAdmits sets v → before + 2 ≤ after
+
+-- The count never falls. For any version, also a prerelease, it grows by at most the number of binary digits of the number
+-- of merged spans, plus one. For a version that the range contains it grows by at least two.
+pub record IsShortSearchInside (sets : List (Ends VersionValue)) (v : VersionValue) (before after : ℕ) : Type 0 where
+  pub adds : before ≤ after
+  pub short : (digits : ℕ) → HasDigits (count_of_starts version_cmp sets) digits → after ≤ before + digits + 1
+  pub contained : RangeContains sets v → before + 2 ≤ after

@@ -12,7 +12,7 @@ ghost use Rattle.semver_sets.specs.Private.WordViews.{partial_seen, read_partial
 use crate::word::WrittenVersion;
 use semver_versions::parse::extras::skip_extras;
 use semver_versions::parse::number::{is_digit, read_number};
-use semver_versions::parse::{begins_clean, skip_blanks};
+use semver_versions::parse::{is_clean_end, skip_blanks};
 
 // Which components of a partial are numbers.
 #[derive(Clone, Copy)]
@@ -140,7 +140,7 @@ pub(crate) fn read_clean_partial(text: &[u8]) -> Option<(Partial, &[u8])>
     ensures sound { IfSome result (λ r. IsSound r.0) }
 {
     let (partial, rest) = read_components(skip_to_components(text))?;
-    if begins_clean(rest) {
+    if is_clean_end(rest) {
         Some((partial, rest))
     } else {
         None

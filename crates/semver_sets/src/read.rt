@@ -1,7 +1,8 @@
 //! Reading a range text: one alternative after another, each word by word.
 //!
 //! See docs/DECISIONS.md, "A word is defined by its text, not by how it is found".
-ghost use Rattle.std.specs.Prelude.{◌≡◌, IfErr, IfOk, OnOk};
+ghost use Rattle.std.specs.Prelude.{◌≡◌, ◌∷◌, [], IfErr, IfNone, IfOk, IfSome, OnOk};
+ghost use Rattle.semver_sets.specs.Division.{HasFirstPiece, IsPieces};
 ghost use Rattle.semver_sets.specs.Meaning.{IsRefused};
 ghost use Rattle.semver_sets.specs.Merging.{AreSetsOfText};
 ghost use Rattle.semver_sets.specs.RangeSets.{IsRangeValue, sets_seen};
@@ -9,12 +10,12 @@ ghost use Rattle.semver_sets.specs.Private.PieceReading.{piece_at, piece_seen};
 ghost use Rattle.semver_sets.specs.Private.RangeViews.{IsOneMore, IsReadResultOf};
 ghost use Rattle.semver_sets.specs.declared.read.Unread.TheVariants.{OutOfMemory, Refused};
 
-mod alternative;
+pub mod alternative;
 pub mod full;
 
 use crate::set_list::Sets;
 use crate::set_list::gathered::Gathered;
-use crate::word::skip_thrown_away;
+use crate::word::skip_ignored;
 use alternative::read_set;
 use memchr::memchr;
 use semver_versions::parse::skip_blanks;
@@ -61,7 +62,7 @@ impl Sets {
             return read_pieces(alloc, piece, others);
         }
         // If no word can begin a comparator, nothing is prepared to read one.
-        let words = skip_thrown_away(piece);
+        let words = skip_ignored(piece);
         if words.is_empty() {
             return Err(Unread::Refused);
         }
@@ -110,6 +111,20 @@ fn add_alternative(alloc: Global, sets: &mut Gathered, text: &[u8]) -> Result<()
         Ok(None) => Ok(()),
         Err(error) => Err(error),
     }
+}
+
+/// Returns the text before the first `||`, and what follows the `||`: `1` and `|2` for `1|||2`. If there is no `||`,
+/// returns the whole text and `None`.
+///
+/// # Memory
+///
+/// Does not allocate.
+#[inline(always)]
+pub fn first_piece(text: &[u8]) -> (&[u8], Option<&[u8]>)
+    ensures first { IfSome result.1 (λ others. HasFirstPiece text.now result.0.now others.now) }
+    ensures last { IfNone result.1 (IsPieces text.now (result.0.now ∷ [])) }
+{
+    next_piece(text)
 }
 
 // The text before the first `||` (or the whole text), and what follows the `||` if there is one: `1` and `|2` of

@@ -59,7 +59,7 @@ fn admits_prerelease<V: AsVersion, C: Counts>(
     admits_opened(set, version, comparisons)
 }
 
-// The same, inlined.
+// The same. `inline(always)`: the search among many sets calls it in a loop.
 #[inline(always)]
 pub(crate) fn admits_opened<V: AsVersion, C: Counts>(
     set: &Span<EndVersion>,

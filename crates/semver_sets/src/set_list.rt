@@ -7,9 +7,9 @@
 ghost use Rattle.std.specs.Prelude.{◌≡◌, ◌↔◌, IsTrue};
 ghost use Rattle.semver_cuts.specs.Sharing.{ShareCut};
 ghost use Rattle.semver_versions.specs.Comparison.{version_cmp};
-ghost use Rattle.semver_sets.specs.Meaning.{RangeAdmits};
+ghost use Rattle.semver_sets.specs.Meaning.{RangeAdmits, RangeContains};
 ghost use Rattle.semver_sets.specs.RangeSets.{sets_seen};
-ghost use Rattle.semver_sets.specs.Searching.{IsShortSearch};
+ghost use Rattle.semver_sets.specs.Searching.{IsShortSearch, IsShortSearchInside};
 
 pub(crate) mod copy;
 pub mod gathered;
@@ -18,7 +18,7 @@ pub mod searched;
 mod union;
 
 use crate::Counts;
-use crate::set::admits;
+use crate::set::{admits, has_inside};
 use crate::set_list::searched::Searched;
 use semver_cuts::Span;
 use semver_cuts::algebra::MergedSpans;
@@ -91,6 +91,22 @@ impl Sets {
         match self {
             Sets::One(set) => admits(set, version, comparisons),
             Sets::Many(sets) => sets.admits(version, comparisons),
+        }
+    }
+
+    /// Returns `true` if the version lies inside one of the sets, and adds the comparisons that this takes to
+    /// `comparisons`.
+    ///
+    /// A prerelease is treated as a release is: no end has to be a prerelease of its triple.
+    #[inline(always)]
+    pub fn contains<V: AsVersion, C: Counts>(&self, version: &V, comparisons: &mut C) -> bool
+        ensures answer { IsTrue result ↔ RangeContains (sets_seen self.now) (V.seen version.now) }
+        ensures short { IsShortSearchInside (sets_seen self.now) (V.seen version.now) (C.count comparisons.old)
+            (C.count comparisons.new) }
+    {
+        match self {
+            Sets::One(set) => has_inside(set, version, comparisons),
+            Sets::Many(sets) => sets.contains(version, comparisons),
         }
     }
 }

@@ -27,7 +27,7 @@ use hyphen::{hyphen_ends, read_right};
 use memchr::memchr2;
 use operator::{above_ends, at_most_ends, below_ends, equal_ends};
 use plain::plain_ends;
-use semver_versions::parse::{begins_clean, skip_blanks};
+use semver_versions::parse::{is_clean_end, skip_blanks};
 use tilde::{read_tilde, tilde_ends, tilde_greater_ends};
 
 // `>=1.2.3` of `>=1.2.3 <2`, or nothing for `foo`, and the rest
@@ -38,7 +38,7 @@ pub(crate) fn read_word(text: &[u8]) -> (WordEnds, &[u8])
 {
     let (lead, operand) = read_lead(text);
     let Some((partial, rest)) = read_clean_partial(operand) else {
-        return (nothing(), skip_solid(text));
+        return (nothing(), skip_to_blank(text));
     };
     match (lead, rest) {
         (Lead::Plain, [_, ..]) => plain_or_hyphen(partial, rest),
@@ -61,10 +61,10 @@ pub(crate) fn begins_comparator(text: &[u8]) -> bool
     }
 }
 
-// ` <2` of `foo <2`
+// ` <2` of `foo <2`: the text from its first blank on
 #[inline]
-pub(crate) fn skip_solid(text: &[u8]) -> &[u8]
-    ensures { result.now ≡ rest_of Reading.is_solid text.now }
+pub(crate) fn skip_to_blank(text: &[u8]) -> &[u8]
+    ensures { result.now ≡ rest_of Reading.is_not_blank text.now }
 {
     match memchr2(b' ', b'\t', text) {
         Some(end) => &text[end..],
@@ -75,16 +75,16 @@ pub(crate) fn skip_solid(text: &[u8]) -> &[u8]
 // The text without its leading words whose first byte begins no comparator. These words are ignored, so nothing has to
 // be kept for merging yet.
 #[inline(always)]
-pub(crate) fn skip_thrown_away(text: &[u8]) -> &[u8]
+pub(crate) fn skip_ignored(text: &[u8]) -> &[u8]
     ensures { (comparators : List Comparator) → IsAlternative result.now comparators
         → IsAlternative text.now comparators }
 {
-    if begins_clean(text) {
+    if is_clean_end(text) {
         return text;
     }
     let mut rest = text;
     'words: while !rest.is_empty() && !begins_comparator(rest) {
-        rest = skip_blanks(skip_solid(rest));
+        rest = skip_blanks(skip_to_blank(rest));
     }
     rest
 }

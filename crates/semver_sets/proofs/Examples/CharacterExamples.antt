@@ -99,12 +99,12 @@ pub words-written : AreWritten words
 words-written = all-written words words-computed
 
 -- and the other is ignored, except a blank, after which the word has ended
-abbrev others_thrown_away : List (List ℕ × List Comparator)
-others_thrown_away = map (λ b. (with_byte b, [])) (filter (λ b. not (is_blank b)) others)
+abbrev others_ignored : List (List ℕ × List Comparator)
+others_ignored = map (λ b. (with_byte b, [])) (filter (λ b. not (is_blank b)) others)
 
-others_thrown_away-computed : AreComputed others_thrown_away
+others_ignored-computed : AreComputed others_ignored
 unfolding alternatives_in
-others_thrown_away-computed = refl
+others_ignored-computed = refl
 
-pub others_thrown_away-written : AreWritten others_thrown_away
-others_thrown_away-written = all-written others_thrown_away others_thrown_away-computed
+pub others_ignored-written : AreWritten others_ignored
+others_ignored-written = all-written others_ignored others_ignored-computed

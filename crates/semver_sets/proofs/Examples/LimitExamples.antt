@@ -7,7 +7,7 @@ use Rattle.semver_cuts.specs.Ends.{Ends}
 use Rattle.semver_versions.specs.declared.TheConstants.{MAX_SAFE_INTEGER}
 use Rattle.semver_sets.specs.Comparator.{from_up_to, with_major, with_minor}
 use Rattle.semver_sets.specs.Merging.{AreSetsOfText}
-use Rattle.semver_sets.specs.RangeSets.{IsReadVersion}
+use Rattle.semver_sets.specs.RangeSets.{IsRangeEnd}
 use Rattle.semver_versions.specs.Version.{VersionValue, least_of, release}
 use Rattle.semver_sets.proofs.Examples.SetComputing.{merged-by, sets_in}
 
@@ -25,7 +25,7 @@ pub record EndsAt (text : List ℕ) (number : VersionValue → ℕ) (n : ℕ) : 
 
 -- each version that a range can have at an end has a number of at most where the text ends
 abbrev pub IsReachedBy : List ℕ → (VersionValue → ℕ) → Type 0
-IsReachedBy text number = (v : VersionValue) → IsReadVersion v → (n : ℕ) × EndsAt text number n × (number v ≤ n)
+IsReachedBy text number = (v : VersionValue) → IsRangeEnd v → (n : ℕ) × EndsAt text number n × (number v ≤ n)
 
 -- `^9007199254740991`
 pub major-reached : IsReachedBy (codes "^" ++ greatest) (λ v. v.major)

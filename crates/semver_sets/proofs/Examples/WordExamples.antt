@@ -161,8 +161,8 @@ hyphen_ranges-written = all-written hyphen_ranges hyphen_ranges-computed
 
 -- ---- words that are ignored, or have no comparator: npm's "Range Grammar" in its loose form
 
-abbrev thrown_away : List (List ℕ × List Comparator)
-thrown_away =
+abbrev ignored : List (List ℕ × List Comparator)
+ignored =
     (codes "foo >=1.0.0", at_least (release 1 0 0) ∷ [])
     ∷ (codes "> =1", with_major 1 ∷ [])
     ∷ (codes "1 -2", with_major 1 ∷ [])
@@ -180,9 +180,9 @@ thrown_away =
     ∷ (codes "9007199254740992 - 1", with_major 1 ∷ [])
     ∷ []
 
-thrown_away-computed : AreComputed thrown_away
+ignored-computed : AreComputed ignored
 unfolding alternatives_in
-thrown_away-computed = refl
+ignored-computed = refl
 
-pub thrown_away-written : AreWritten thrown_away
-thrown_away-written = all-written thrown_away thrown_away-computed
+pub ignored-written : AreWritten ignored
+ignored-written = all-written ignored ignored-computed

@@ -18,9 +18,9 @@ use Rattle.semver_sets.specs.Merging.{IsSetOf}
 use Rattle.semver_sets.specs.Operators.{greater, greater_or_equal, less, less_or_equal}
 use Rattle.semver_versions.specs.Print.{version_text}
 use Rattle.semver_sets.specs.RangePrint.{both_text, ends_text, lower_text, set_text, upper_text}
-use Rattle.semver_sets.specs.RangeSets.{IsRangeSet, IsReadCut, IsReadVersion}
+use Rattle.semver_sets.specs.RangeSets.{IsRangeCut, IsRangeEnd, IsRangeSet}
 use Rattle.semver_versions.specs.Version.{VersionValue}
-use Rattle.semver_sets.specs.Private.WordReading.{is_solid}
+use Rattle.semver_sets.specs.Private.WordReading.{is_not_blank}
 use Rattle.semver_sets.specs.Lemmas.Merging.{set-one, set-push}
 use Rattle.semver_sets.proofs.Words.NoBars.{HasNoBar, none-append}
 use Rattle.semver_versions.specs.Lemmas.Texts.Prefixes.{begins-append}
@@ -40,7 +40,7 @@ pub record IsReadAlike (text : List ℕ) (set : Ends VersionValue) : Type 0 wher
   pub holds : HoldsCut version_cmp read
   pub same : AreSameEnds version_cmp read set
   pub no_bar : HasNoBar text
-  pub begins : BeginsWith is_solid text
+  pub begins : BeginsWith is_not_blank text
 
 itself : (set : Ends VersionValue) → AreSameEnds version_cmp set set
 itself set = record {
@@ -95,7 +95,7 @@ two-read one other lower upper first second starts ends lt =
       holds = (holds-below version_total set).1 lt;
       same = itself set;
       no_bar = none-append one (codes " " ++ other) first.no_bar (none-append (codes " ") other refl second.no_bar);
-      begins = begins-append is_solid one (codes " " ++ other) first.begins;
+      begins = begins-append is_not_blank one (codes " " ++ other) first.begins;
     }
 
 -- ---- the ends of a set
@@ -107,10 +107,10 @@ IsTextEnd (Before v) = IsTextVersion v
 IsTextEnd (After v) = IsTextVersion v
 IsTextEnd End = Unit {0}
 
-ends_version-text : (v : VersionValue) → IsReadVersion v → HasTextNumbers v → IsTextVersion v
+ends_version-text : (v : VersionValue) → IsRangeEnd v → HasTextNumbers v → IsTextVersion v
 ends_version-text v read numbers = record { numbers = numbers; pre_release = read.pre_release; build = read.build }
 
-text-end : (cut : Cut VersionValue) → IsReadCut cut → IsTextCut cut → IsTextEnd cut
+text-end : (cut : Cut VersionValue) → IsRangeCut cut → IsTextCut cut → IsTextEnd cut
 text-end Start read is = tt
 text-end (Before v) read is = ends_version-text v read is
 text-end (After v) read is = ends_version-text v read is

@@ -13,7 +13,7 @@ use Rattle.semver_sets.specs.Operators.{operator_comparator, operator_text}
 use Rattle.semver_sets.specs.PartialText.{IsPartialText, IsUnmarkedPartial, Partial, three}
 use Rattle.semver_versions.specs.Print.{version_text}
 use Rattle.semver_versions.specs.Version.{VersionValue}
-use Rattle.semver_sets.specs.Private.WordReading.{Lead, is_solid, operator, read_hyphen, read_lead, read_partial}
+use Rattle.semver_sets.specs.Private.WordReading.{Lead, is_not_blank, operator, read_hyphen, read_lead, read_partial}
 use Rattle.semver_sets.specs.Private.WordReading.{with_left}
 use Rattle.semver_sets.proofs.Words.HyphenReading.{left-ends, right-none}
 use Rattle.semver_sets.proofs.Words.LeadReading.{lead-not_partial, lead-operator}
@@ -70,7 +70,7 @@ partial-printed v is =
 pub record IsPrintedWord (text rest : List ℕ) (c : Comparator) : Type 0 where
   pub word : IsWord text rest (Some c)
   pub no_bar : HasNoBar text
-  pub begins : BeginsWith is_solid text
+  pub begins : BeginsWith is_not_blank text
 
 -- what begins with a digit begins with no `=`
 digit-no_equals : (text : List ℕ) → BeginsWith is_digit text → BeginsWithNo (λ b. b == 61) text
@@ -81,19 +81,19 @@ digit-no_equals (b ∷ text) digit = elim (cases_Bool (b == 61)) [
 ]
 
 -- a character that is no blank, and the fact
-pub solid-begins : (text : List ℕ) → BeginsWith is_solid text → BeginsWithNo is_blank text
+pub solid-begins : (text : List ℕ) → BeginsWith is_not_blank text → BeginsWithNo is_blank text
 solid-begins [] solid = tt
 solid-begins (b ∷ text) solid = elim (cases_Bool (is_blank b)) [
   | inr none ↦ none
   | inl blank ↦ cc (rw blank at solid)
 ]
 
-digit-solid : (text : List ℕ) → BeginsWith is_digit text → BeginsWith is_solid text
+digit-solid : (text : List ℕ) → BeginsWith is_digit text → BeginsWith is_not_blank text
 digit-solid [] digit = digit
 digit-solid (b ∷ text) digit = rw (digit-no_blank (b ∷ text) digit) refl
 
 -- an operator begins with no blank
-operator-begins : (o : Operator) (behind : List ℕ) → BeginsWith is_solid (operator_text o ++ behind)
+operator-begins : (o : Operator) (behind : List ℕ) → BeginsWith is_not_blank (operator_text o ++ behind)
 operator-begins greater_or_equal behind = refl
 operator-begins greater behind = refl
 operator-begins equal behind = refl

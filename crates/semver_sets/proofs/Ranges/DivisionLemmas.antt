@@ -153,12 +153,12 @@ pub record Completes (text : List ℕ) (done : List Comparator) (rest : List ℕ
   pub whole : (words : List (Option Comparator)) → IsDivision rest words
       → (all : List (Option Comparator)) × IsDivision text all × (comparators_of all ≡ done ++ comparators_of words)
 
-empty-thrown : IsDivision [] (None ∷ [])
-empty-thrown = divide-last [] None (has-word [] None [] word-of_nothing)
+empty-ignored : IsDivision [] (None ∷ [])
+empty-ignored = divide-last [] None (has-word [] None [] word-of_nothing)
 
 -- nothing is left of the end of a text
 pub division-of_end : (words : List (Option Comparator)) → IsDivision [] words → comparators_of words ≡ []
-division-of_end words d = ap comparators_of (division-unique [] words (None ∷ []) d empty-thrown)
+division-of_end words d = ap comparators_of (division-unique [] words (None ∷ []) d empty-ignored)
 
 -- at the start nothing is read
 pub completes-nothing : (text : List ℕ) → Completes text [] text
@@ -181,10 +181,10 @@ completes-start [] none = completes-nothing []
 completes-start (b ∷ rest) none = elim (cases_Bool (is_blank b)) [
   | inr solid ↦ rw solid (completes-nothing (b ∷ rest))
   | inl blank ↦ elim (word-after_blanks b rest blank none) [
-    | inl thrown ↦ record {
+    | inl ignored ↦ record {
       whole = λ words d. (
         None ∷ words,
-        divide-more (b ∷ rest) None rest b words (has-word (b ∷ rest) None (b ∷ rest) thrown) d,
+        divide-more (b ∷ rest) None rest b words (has-word (b ∷ rest) None (b ∷ rest) ignored) d,
         refl,
       );
     }
@@ -240,7 +240,7 @@ completes-leading text (Some right) leading rest some read =
 -- all is read
 pub completes-end : (text : List ℕ) (done : List Comparator) → Completes text done [] → IsAlternative text done
 completes-end text done completes =
-    let whole = completes.whole (None ∷ []) empty-thrown in
+    let whole = completes.whole (None ∷ []) empty-ignored in
     record { words = whole.0; divided = whole.1; kept = sym (whole.2 ∙ append-nil done) }
 
 -- ---- the comparators of an alternative are one list

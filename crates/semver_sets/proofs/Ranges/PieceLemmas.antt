@@ -2,13 +2,14 @@
 use Rattle.std.proofs.Common.{◌≡◌, ◌+◌, ◌-◌, ◌<◌, ◌≤◌, ℕ, zero, suc, false, List, [], ◌∷◌, ◌++◌, length, get_or}
 use Rattle.std.proofs.Common.{take, drop, Option, Some, None, append_assoc, length-append, arith, refl, sym, ap, subst}
 use Rattle.std.proofs.Common.{◌∙◌, inl, inr}
-use Rattle.std.specs.Prelude.{◌⊎◌, ◌==◌, ◌&&◌}
+use Rattle.std.specs.Prelude.{◌⊎◌, ◌==◌, ◌&&◌, IfNone, IfSome}
+use Rattle.std.specs.Borrow.{Bor}
 use Rattle.std.proofs.lemmas.Bool.{and_parts, cases_Bool, eqb-true}
 use Rattle.std.proofs.lemmas.List.{append-nil, drop_all, drop_more, get_or-drop, take_all, take_more}
 use Rattle.memchr.specs.Find.{Nowhere, Passes, is_byte}
 use Rattle.semver_versions.specs.Characters.{bar}
 use Rattle.semver_sets.specs.Division.{EndsInBar, HasBars, HasFirstPiece, IsPieces}
-use Rattle.semver_sets.specs.Private.PieceReading.{Piece, bars_after, behind, piece_at}
+use Rattle.semver_sets.specs.Private.PieceReading.{Piece, bars_after, behind, piece_at, some_seen}
 
 -- ---- `||`
 
@@ -170,6 +171,17 @@ piece-last text piece same =
     let read : IsRead text (piece, None) = subst (IsRead text) same (is-read text) in
     let whole : text ≡ piece = read.whole ∙ append-nil piece in
     (whole, subst (λ (l : List ℕ). ¬ HasBars l) (sym whole) read.no_bars)
+
+-- the same for a piece and what follows it, if there is more
+pub first-found : (text piece : List ℕ) (left : Option (Bor (List ℕ))) → (piece, some_seen left) ≡ piece_at text
+    → IfSome left (λ others. HasFirstPiece text piece others.now)
+first-found text piece None same = tt
+first-found text piece (Some others) same = piece-first text piece others.now (sym same)
+
+pub last-found : (text piece : List ℕ) (left : Option (Bor (List ℕ))) → (piece, some_seen left) ≡ piece_at text
+    → IfNone left (IsPieces text (piece ∷ []))
+last-found text piece None same = piece-last text piece (sym same)
+last-found text piece (Some others) same = tt
 
 -- what follows a piece is shorter than the text
 pub piece-shorter : (text piece rest : List ℕ) → HasFirstPiece text piece rest → length rest < length text

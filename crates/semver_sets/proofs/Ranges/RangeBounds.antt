@@ -7,7 +7,7 @@ use Rattle.semver_sets.specs.Comparator.{Comparator}
 use Rattle.semver_sets.specs.Division.{AreAlternatives, AreLaterAlternatives, IsAlternative, IsDivision, comparators_of}
 use Rattle.semver_sets.specs.Meaning.{GiveSet}
 use Rattle.semver_sets.specs.Merging.{AreSetsOf, AreSetsOfText, IsSetOf, no_more, none, one_more}
-use Rattle.semver_sets.specs.RangeSets.{IsRangeSet, IsRangeValue, IsReadCut}
+use Rattle.semver_sets.specs.RangeSets.{IsRangeCut, IsRangeSet, IsRangeValue}
 use Rattle.semver_versions.specs.Version.{VersionValue}
 use Rattle.semver_sets.specs.Lemmas.Merging.{merged-gives}
 use Rattle.semver_sets.proofs.Words.WordBounds.{IsReadEnds, IsReadWord, word-bounded}
@@ -64,8 +64,8 @@ set-bounded comparators set gives is read =
     (subst (AllByRecursion IsReadEnds) is.upper.parts read) in
     record {
       holds = (merged-gives comparators set is).0 gives;
-      lower = subst IsReadCut is.lower.end_of low.lower;
-      upper = subst IsReadCut is.upper.end_of high.upper;
+      lower = subst IsRangeCut is.lower.end_of low.lower;
+      upper = subst IsRangeCut is.upper.end_of high.upper;
     }
 
 -- so are the sets of such alternatives

@@ -5,10 +5,8 @@ use Rattle.semver_cuts.specs.Ends.{Ends}
 use Rattle.semver_sets.specs.Comparator.{Comparator}
 use Rattle.semver_sets.specs.Meaning.{IsRefused}
 use Rattle.semver_sets.specs.Merging.{AreSetsOf, AreSetsOfText, none}
-use Rattle.semver_sets.specs.FullTexts.{IsFullText}
 use Rattle.semver_sets.specs.RangeSets.{IsRangeValue, sets_of_some, sets_seen}
 use Rattle.semver_sets.specs.declared.read.Unread.{Unread}
-use Rattle.semver_sets.specs.declared.read.full.FullLead.{FullLead}
 use Rattle.semver_sets.specs.declared.set_list.Sets.{Sets}
 use Rattle.semver_versions.specs.Version.{VersionValue}
 use Rattle.semver_sets.specs.Private.PieceReading.{piece_at}
@@ -79,7 +77,3 @@ pub accepted : (text : List ℕ) (result : Result Sets Unread) → IsReadResult 
     → OnOk result (¬ IsRefused text)
 accepted text (Ok sets) read = not-refused text (sets_seen sets) read.0 read.1
 accepted text (Err unread) read = tt
-
-pub full-accepted : (text : List ℕ) (lead : FullLead) (major minor patch : ℕ) → IsFullText text lead major minor patch
-    → ¬ IsRefused text
-full-accepted text lead major minor patch full refused = cc (empty-from_refused text _ full.sets refused)

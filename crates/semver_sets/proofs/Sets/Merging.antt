@@ -11,8 +11,7 @@ use Rattle.semver_cuts.specs.Lemmas.Ends.{below-not-at_most}
 use Rattle.semver_sets.specs.Comparator.{Comparator}
 use Rattle.semver_versions.specs.Comparison.{version_cmp}
 use Rattle.semver_sets.specs.Merging.{IsSetOf}
-use Rattle.semver_sets.specs.Private.RangeViews.{IsCommonSpan, common_seen}
-use Rattle.semver_sets.specs.Private.WordViews.{listed}
+use Rattle.semver_sets.specs.Private.RangeViews.{IsCommonSpan, IsNarrowed, common_seen}
 use Rattle.semver_versions.specs.Version.{VersionValue}
 use Rattle.semver_versions.specs.Lemmas.Order.{version_total}
 use Rattle.semver_sets.specs.Lemmas.Merging.{set-one, set-push}
@@ -34,7 +33,7 @@ upper-from_end (After v) kept (inr h) = absurd (below-not-at_most version_total 
 upper-from_end End kept (inr h) = h.1
 
 -- one comparator more than those that are merged so far, which may be none
-merged-push : (found : Bool) (lower upper greatest least : Cut VersionValue) (later : Comparator)
+pub merged-push : (found : Bool) (lower upper greatest least : Cut VersionValue) (later : Comparator)
     → (found ≡ false → (lower ≡ Start) × (upper ≡ End)) → IsLaterGreatest version_cmp lower later.lower greatest
     → IsEarlierLeast version_cmp upper later.upper least → (comparators : List Comparator)
     → IsCommonSpan comparators (common_seen found lower upper)
@@ -50,18 +49,15 @@ merged-push false lower upper greatest least later all l u comparators merged =
     let ends = upper-from_end later.upper least from_end in
     rw (merged, begins, ends) (set-one later)
 
--- the same for a word, which gives a comparator with these ends, or none
-pub merged-some : (found : Bool) (lower upper low high greatest least : Cut VersionValue) (word : Option Comparator)
-    → (found ≡ false → (lower ≡ Start) × (upper ≡ End)) → (word ≡ None → ⊥) → IfSome word (λ c. c.lower ≡ low)
-    → IfSome word (λ c. c.upper ≡ high) → IsLaterGreatest version_cmp lower low greatest
-    → IsEarlierLeast version_cmp upper high least → (comparators : List Comparator)
-    → IsCommonSpan comparators (common_seen found lower upper)
-    → IsSetOf (comparators ++ listed word) (span_between greatest least)
-merged-some found lower upper low high greatest least None all some begins ends l u = absurd (some refl)
-merged-some found lower upper low high greatest least (Some later) all some begins ends l u =
-    merged-push found lower upper greatest least later all
-    (subst (λ (c : Cut VersionValue). IsLaterGreatest version_cmp lower c greatest) (sym begins) l)
-    (subst (λ (c : Cut VersionValue). IsEarlierLeast version_cmp upper c least) (sym ends) u)
+-- the same for a word, which gives a comparator with these ends
+pub narrowed-word : (before after : Option Comparator) (low high : Cut VersionValue) (word : Option Comparator)
+    → (word ≡ None → ⊥) → IfSome word (λ c. c.lower ≡ low) → IfSome word (λ c. c.upper ≡ high)
+    → ((comparators : List Comparator) → IsCommonSpan comparators before
+    → IsCommonSpan (comparators ++ span_between low high ∷ []) after) → IsNarrowed before word after
+narrowed-word before after low high None some begins ends narrows = absurd (some refl)
+narrowed-word before after low high (Some later) some begins ends narrows = λ comparators merged.
+    subst (λ (c : Comparator). IsCommonSpan (comparators ++ c ∷ []) after)
+    (sym (λ i. span_between (begins i) (ends i))) (narrows comparators merged)
 
 pub merged-none : (comparators : List Comparator) (common : Option Comparator) → IsCommonSpan comparators common
     → IsCommonSpan (comparators ++ []) common

@@ -378,12 +378,12 @@ starts-by Less y e = absurd (cc e)
 starts-by Equal y e = refl
 starts-by Greater y e = absurd (cc e)
 
-starts-once : (set : Ends VersionValue) → count_of_starts version_cmp (set ∷ []) ≡ 1
+pub starts-once : (set : Ends VersionValue) → count_of_starts version_cmp (set ∷ []) ≡ 1
 starts-once set =
     starts-by (cut_cmp version_cmp set.lower set.lower) (cut_cmp version_cmp set.lower set.upper)
     (cut_cmp-refl version_total set.lower)
 
-some-digit : (digits before after : ℕ) → 1 < 2 ^ digits → after ≤ before + 2 → after ≤ before + digits + 1
+pub some-digit : (digits before after : ℕ) → 1 < 2 ^ digits → after ≤ before + 2 → after ≤ before + digits + 1
 some-digit zero before after fits short = absurd (omega arith)
 some-digit (suc digits) before after fits short = omega arith
 

@@ -6,35 +6,14 @@ use Rattle.semver_cuts.specs.Ends.{Ends}
 use Rattle.semver_sets.specs.Comparator.{Comparator}
 use Rattle.semver_sets.specs.Division.{IsAlternative}
 use Rattle.semver_sets.specs.Meaning.{AnyByRecursion, GiveSet, IsRefused, RangeAdmits, TextAdmits}
-use Rattle.semver_sets.specs.Merging.{AreSetsOf, AreSetsOfText, IsSetOf, no_more, none, one_more}
+use Rattle.semver_sets.specs.Merging.{AreSetsOf, AreSetsOfText, no_more, none, one_more}
 use Rattle.semver_versions.specs.Version.{VersionValue}
 use Rattle.semver_sets.specs.Private.RangeViews.{IsSetOfAlternative, given, listed_set, not_given}
 use Rattle.semver_sets.proofs.Ranges.AlternativeLemmas.{written-unique}
 use Rattle.semver_sets.proofs.Ranges.MeaningLemmas.{AdmitSome, NoneGive, none-from_refused, refused-from_none}
-use Rattle.semver_sets.specs.Lemmas.Merging.{merged-admits, set-unique}
+use Rattle.semver_sets.specs.Lemmas.Merging.{merged-admits, more-none, more-set, set-unique}
 
 -- ---- one alternative after another
-
--- one more alternative that gives a set
-more-set : (done : List (List Comparator)) (sets : List (Ends VersionValue)) (a : List Comparator)
-    (set : Ends VersionValue)
-    → AreSetsOf done sets → GiveSet a → IsSetOf a set → AreSetsOf (done ++ a ∷ []) (sets ++ set ∷ [])
-more-set [] [] a set none gives is = one_more a [] set [] gives is none
-more-set [] (s ∷ sets) a set m gives is = elim m [ ]
-more-set (c ∷ done) (s ∷ sets) a set (one_more _ _ _ _ g i more) gives is =
-    one_more c (done ++ a ∷ []) s (sets ++ set ∷ []) g i (more-set done sets a set more gives is)
-more-set (c ∷ done) sets a set (no_more _ _ _ n more) gives is =
-    no_more c (done ++ a ∷ []) (sets ++ set ∷ []) n (more-set done sets a set more gives is)
-
--- one more alternative that gives none
-more-none : (done : List (List Comparator)) (sets : List (Ends VersionValue)) (a : List Comparator)
-    → AreSetsOf done sets → ¬ GiveSet a → AreSetsOf (done ++ a ∷ []) sets
-more-none [] [] a none nothing = no_more a [] [] nothing none
-more-none [] (s ∷ sets) a m nothing = elim m [ ]
-more-none (c ∷ done) (s ∷ sets) a (one_more _ _ _ _ g i more) nothing =
-    one_more c (done ++ a ∷ []) s sets g i (more-none done sets a more nothing)
-more-none (c ∷ done) sets a (no_more _ _ _ n more) nothing =
-    no_more c (done ++ a ∷ []) sets n (more-none done sets a more nothing)
 
 -- an alternative that is read, and the set that it gives
 pub record ReadsMore (text : List ℕ) (done : List (List Comparator)) (more : List (Ends VersionValue)) : Type 0 where

@@ -7,16 +7,16 @@ use Rattle.semver_versions.specs.Characters.{BeginsWith, BeginsWithNo, dot, is_b
 use Rattle.semver_versions.specs.Characters.{IsCleanEnd}
 use Rattle.semver_sets.specs.PartialText.{Partial}
 use Rattle.semver_sets.specs.Private.WordReading.{ReadPartial, up_to_clean}
-use Rattle.semver_versions.specs.Readers.Reading.{is_clean}
+use Rattle.semver_versions.specs.Readers.Reading.{is_clean_end}
 use Rattle.semver_versions.specs.Lemmas.Texts.Characters.{blank-cases}
 
 -- the test of a clean end, and the fact
-pub clean-true : (rest : List ℕ) → is_clean rest ≡ true → IsCleanEnd rest
+pub clean-true : (rest : List ℕ) → is_clean_end rest ≡ true → IsCleanEnd rest
 clean-true [] h = tt
 clean-true (b ∷ rest) h = h
 
 -- the fact, and the test
-pub true-clean : (rest : List ℕ) → IsCleanEnd rest → is_clean rest ≡ true
+pub true-clean : (rest : List ℕ) → IsCleanEnd rest → is_clean_end rest ≡ true
 true-clean [] h = refl
 true-clean (b ∷ rest) h = h
 
@@ -34,7 +34,7 @@ blanks-clean (b ∷ blanks) rest h = h
 pub up_to_clean-takes : (read : ReadPartial) (r : Partial × List ℕ) → up_to_clean read ≡ Some r
     → (read ≡ Some r) × IsCleanEnd r.1
 up_to_clean-takes None r h = cc h
-up_to_clean-takes (Some s) r h = elim (cases_Bool (is_clean s.1)) [
+up_to_clean-takes (Some s) r h = elim (cases_Bool (is_clean_end s.1)) [
   | inr unclean ↦ cc (rw unclean at h)
   | inl clean ↦
       let same : Some s ≡ Some r = rw clean at h in

@@ -8,7 +8,7 @@ use Rattle.semver_sets.specs.PartialText.{IsComponentText, IsLed, IsPartialText,
 use Rattle.semver_sets.specs.PartialText.{plain_partial, three, two, zeroed}
 use Rattle.semver_versions.specs.IdentifierText.{IsReadIdentifier}
 use Rattle.semver_versions.specs.Lemmas.Versions.ReadIdentifiers.{build-read, prerelease-read}
-use Rattle.semver_sets.specs.RangeSets.{IsReadVersion}
+use Rattle.semver_sets.specs.RangeSets.{IsRangeEnd}
 use Rattle.semver_versions.specs.Version.{VersionValue, least_of, release, without_build}
 
 -- ---- partials
@@ -61,7 +61,7 @@ pub or-zero : (component : Option ℕ) → IsReadComponent component → unwrap_
 or-zero None is = omega arith
 or-zero (Some number) is = omega arith
 
-pub zeroed-read : (p : Partial) → IsReadPartial p → IsReadVersion (zeroed p)
+pub zeroed-read : (p : Partial) → IsReadPartial p → IsRangeEnd (zeroed p)
 zeroed-read p is = record {
   major = or-zero p.major is.major;
   minor = or-zero p.minor is.minor;
@@ -70,17 +70,17 @@ zeroed-read p is = record {
   build = is.build;
 }
 
-pub without_build-read : (v : VersionValue) → IsReadVersion v → IsReadVersion (without_build v)
+pub without_build-read : (v : VersionValue) → IsRangeEnd v → IsRangeEnd (without_build v)
 without_build-read v is =
     record { major = is.major; minor = is.minor; patch = is.patch; pre_release = is.pre_release; build = tt }
 
 pub release-read : (m n p : ℕ) → m ≤ MAX_SAFE_INTEGER + 1 → n ≤ MAX_SAFE_INTEGER + 1 → p ≤ MAX_SAFE_INTEGER + 1
-    → IsReadVersion (release m n p)
+    → IsRangeEnd (release m n p)
 release-read m n p a b c = record { major = a; minor = b; patch = c; pre_release = tt; build = tt }
 
 zero-read : IsReadIdentifier (numeric 0)
 zero-read = (48 ∷ [], (refl, refl), refl)
 
 pub least-read : (m n p : ℕ) → m ≤ MAX_SAFE_INTEGER + 1 → n ≤ MAX_SAFE_INTEGER + 1 → p ≤ MAX_SAFE_INTEGER + 1
-    → IsReadVersion (least_of m n p)
+    → IsRangeEnd (least_of m n p)
 least-read m n p a b c = record { major = a; minor = b; patch = c; pre_release = (zero-read, tt); build = tt }

@@ -6,12 +6,12 @@ use Rattle.semver_sets.specs.CaretRanges.{caret_row}
 use Rattle.semver_sets.specs.Comparator.{Comparator, above, at_least, at_most, below, from_up_to, with_major}
 use Rattle.semver_sets.specs.Comparator.{with_minor}
 use Rattle.semver_sets.specs.Division.{IsSimpleText, IsWord, by_caret, by_operator, by_tilde, hyphen_range, plain}
-use Rattle.semver_sets.specs.Division.{simple, thrown_away}
+use Rattle.semver_sets.specs.Division.{ignored, simple}
 use Rattle.semver_sets.specs.HyphenRanges.{IsHyphenText, IsLeftText, left_cut, right_row}
 use Rattle.semver_sets.specs.Operators.{Operator, equal, equal_row, greater, greater_or_equal, greater_row, less}
 use Rattle.semver_sets.specs.Operators.{less_or_equal, less_or_equal_row, less_row, operator_comparator, plain_row}
 use Rattle.semver_sets.specs.PartialText.{Partial, zeroed}
-use Rattle.semver_sets.specs.RangeSets.{IsReadCut, IsReadVersion}
+use Rattle.semver_sets.specs.RangeSets.{IsRangeCut, IsRangeEnd}
 use Rattle.semver_sets.specs.TildeRanges.{IsTildeText, tilde_greater_row, tilde_row, with_tilde, with_tilde_greater}
 use Rattle.semver_versions.specs.Version.{VersionValue, least_of, release, without_build}
 use Rattle.semver_sets.proofs.Words.PartialBounds.{IsReadComponent, IsReadPartial, least-read, led-read, or-zero}
@@ -21,27 +21,27 @@ use Rattle.semver_sets.proofs.Words.PartialBounds.{partial-read, release-read, w
 
 -- both ends are ones that a range can have
 pub record IsReadEnds (c : Comparator) : Type 0 where
-  pub lower : IsReadCut c.lower
-  pub upper : IsReadCut c.upper
+  pub lower : IsRangeCut c.lower
+  pub upper : IsRangeCut c.upper
 
 -- and those of a word, where it writes a comparator
 abbrev pub IsReadWord : Option Comparator → Type 0
 IsReadWord None = Unit {0}
 IsReadWord (Some c) = IsReadEnds c
 
-from_up_to-read : (v w : VersionValue) → IsReadVersion v → IsReadVersion w → IsReadEnds (from_up_to v w)
+from_up_to-read : (v w : VersionValue) → IsRangeEnd v → IsRangeEnd w → IsReadEnds (from_up_to v w)
 from_up_to-read v w a b = record { lower = a; upper = b }
 
-at_least-read : (v : VersionValue) → IsReadVersion v → IsReadEnds (at_least v)
+at_least-read : (v : VersionValue) → IsRangeEnd v → IsReadEnds (at_least v)
 at_least-read v a = record { lower = a; upper = tt }
 
-above-read : (v : VersionValue) → IsReadVersion v → IsReadEnds (above v)
+above-read : (v : VersionValue) → IsRangeEnd v → IsReadEnds (above v)
 above-read v a = record { lower = a; upper = tt }
 
-at_most-read : (v : VersionValue) → IsReadVersion v → IsReadEnds (at_most v)
+at_most-read : (v : VersionValue) → IsRangeEnd v → IsReadEnds (at_most v)
 at_most-read v a = record { lower = tt; upper = a }
 
-below-read : (v : VersionValue) → IsReadVersion v → IsReadEnds (below v)
+below-read : (v : VersionValue) → IsRangeEnd v → IsReadEnds (below v)
 below-read v a = record { lower = tt; upper = a }
 
 major-read : (major : ℕ) → major ≤ MAX_SAFE_INTEGER → IsReadEnds (with_major major)
@@ -60,7 +60,7 @@ minor-read major minor a b =
 -- ---- the tables
 
 greater-read : (major minor patch : Option ℕ) (z : VersionValue) → IsReadComponent major → IsReadComponent minor
-    → IsReadVersion z → IsReadEnds (greater_row major minor patch z)
+    → IsRangeEnd z → IsReadEnds (greater_row major minor patch z)
 greater-read (Some major) (Some minor) None z a b v = at_least-read (release major (minor + 1) 0)
     (release-read major (minor + 1) 0 (omega arith) (omega arith) (omega arith))
 greater-read (Some major) None None z a b v = at_least-read (release (major + 1) 0 0)
@@ -70,7 +70,7 @@ greater-read (Some major) None (Some patch) z a b v = above-read z v
 greater-read None minor patch z a b v = above-read z v
 
 less-read : (major minor patch : Option ℕ) (z : VersionValue) → IsReadComponent major → IsReadComponent minor
-    → IsReadVersion z → IsReadEnds (less_row major minor patch z)
+    → IsRangeEnd z → IsReadEnds (less_row major minor patch z)
 less-read (Some major) (Some minor) None z a b v = below-read (least_of major minor 0)
     (least-read major minor 0 (omega arith) (omega arith) (omega arith))
 less-read (Some major) (Some minor) (Some patch) z a b v = below-read z v
@@ -78,13 +78,13 @@ less-read (Some major) None patch z a b v = below-read z v
 less-read None minor patch z a b v = below-read z v
 
 less_or_equal-read : (major minor patch : Option ℕ) (z : VersionValue) → IsReadComponent major → IsReadComponent minor
-    → IsReadVersion z → IsReadEnds (less_or_equal_row major minor patch z)
+    → IsRangeEnd z → IsReadEnds (less_or_equal_row major minor patch z)
 less_or_equal-read major minor (Some patch) z a b v = at_most-read z v
 less_or_equal-read major minor None z a b v = at_most-read (least_of (unwrap_or major 0) (unwrap_or minor 0) 0)
     (least-read (unwrap_or major 0) (unwrap_or minor 0) 0 (or-zero major a) (or-zero minor b) (omega arith))
 
 equal-read : (major minor patch : Option ℕ) (z : VersionValue) → IsReadComponent major → IsReadComponent minor
-    → IsReadVersion z → IsReadWord (equal_row major minor patch z)
+    → IsRangeEnd z → IsReadWord (equal_row major minor patch z)
 equal-read (Some major) (Some minor) (Some patch) z a b v =
     record { lower = without_build-read z v; upper = without_build-read z v }
 equal-read (Some major) (Some minor) None z a b v = minor-read major minor a b
@@ -92,7 +92,7 @@ equal-read (Some major) None patch z a b v = major-read major a
 equal-read None minor patch z a b v = tt
 
 alone-read : (major minor patch : Option ℕ) (z : VersionValue) → IsReadComponent major → IsReadComponent minor
-    → IsReadVersion z → IsReadEnds (plain_row major minor patch z)
+    → IsRangeEnd z → IsReadEnds (plain_row major minor patch z)
 alone-read (Some major) (Some minor) (Some patch) z a b v = record { lower = v; upper = v }
 alone-read (Some major) (Some minor) None z a b v = minor-read major minor a b
 alone-read (Some major) None patch z a b v = major-read major a
@@ -108,7 +108,7 @@ operator-read less_or_equal p is =
 operator-read less p is = less-read p.major p.minor p.patch (zeroed p) is.major is.minor (zeroed-read p is)
 
 tilde-read : (major minor patch : Option ℕ) (z : VersionValue) → IsReadComponent major → IsReadComponent minor
-    → IsReadVersion z → IsReadWord (tilde_row major minor patch z)
+    → IsRangeEnd z → IsReadWord (tilde_row major minor patch z)
 tilde-read (Some major) (Some minor) (Some patch) z a b v =
     from_up_to-read (without_build z) (least_of major (minor + 1) 0) (without_build-read z v)
     (least-read major (minor + 1) 0 (omega arith) (omega arith) (omega arith))
@@ -118,7 +118,7 @@ tilde-read (Some major) None (Some patch) z a b v = tt
 tilde-read None minor patch z a b v = tt
 
 tilde_greater-read : (major minor patch : Option ℕ) (z : VersionValue) → IsReadComponent major → IsReadComponent minor
-    → IsReadVersion z → IsReadWord (tilde_greater_row major minor patch z)
+    → IsRangeEnd z → IsReadWord (tilde_greater_row major minor patch z)
 tilde_greater-read (Some major) (Some minor) None z a b v =
     from_up_to-read (without_build z) (least_of major (minor + 1) 0) (without_build-read z v)
     (least-read major (minor + 1) 0 (omega arith) (omega arith) (omega arith))
@@ -128,7 +128,7 @@ tilde_greater-read (Some major) None patch z a b v = tilde-read (Some major) Non
 tilde_greater-read None minor patch z a b v = tilde-read None minor patch z a b v
 
 caret-read : (major minor patch : Option ℕ) (z : VersionValue) → IsReadComponent major → IsReadComponent minor
-    → IsReadComponent patch → IsReadVersion z → IsReadWord (caret_row major minor patch z)
+    → IsReadComponent patch → IsRangeEnd z → IsReadWord (caret_row major minor patch z)
 caret-read (Some zero) None None z a b c v = below-read (least_of 1 0 0)
     (least-read 1 0 0 (omega arith) (omega arith) (omega arith))
 caret-read (Some (suc major)) None None z a b c v = major-read (suc major) a
@@ -153,12 +153,12 @@ caret-read (Some zero) None (Some patch) z a b c v = tt
 caret-read (Some (suc major)) None (Some patch) z a b c v = tt
 caret-read None minor patch z a b c v = tt
 
-left-read : (text : List ℕ) (left : Option Partial) → IsLeftText text left → IsReadCut (left_cut left)
+left-read : (text : List ℕ) (left : Option Partial) → IsLeftText text left → IsRangeCut (left_cut left)
 left-read text None is = tt
 left-read text (Some p) is = zeroed-read p (partial-read text p is)
 
 right-read : (major minor patch : Option ℕ) (z : VersionValue) → IsReadComponent major → IsReadComponent minor
-    → IsReadVersion z → IsReadCut (right_row major minor patch z)
+    → IsRangeEnd z → IsRangeCut (right_row major minor patch z)
 right-read None None None z a b v = least-read 0 0 0 (omega arith) (omega arith) (omega arith)
 right-read (Some major) None None z a b v = least-read (major + 1) 0 0 (omega arith) (omega arith) (omega arith)
 right-read (Some major) (Some minor) None z a b v =
@@ -205,4 +205,4 @@ simple-word text c (by_caret w) =
 pub word-bounded : (word rest : List ℕ) (c : Option Comparator) → IsWord word rest c → IsReadWord c
 word-bounded word rest c (hyphen_range is clean) = hyphen-word word c is
 word-bounded word rest c (simple none is clean) = simple-word word c is
-word-bounded word rest c (thrown_away none nothing solid clean same) = subst IsReadWord (sym same) tt
+word-bounded word rest c (ignored none nothing solid clean same) = subst IsReadWord (sym same) tt

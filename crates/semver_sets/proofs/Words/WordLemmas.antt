@@ -5,12 +5,12 @@ use Rattle.std.proofs.lemmas.Bool.{cases_Bool, eqb-true, or_cases}
 use Rattle.std.specs.Prelude.{◌==◌}
 use Rattle.semver_versions.specs.Characters.{BeginsWithNo, is_blank}
 use Rattle.semver_sets.specs.Comparator.{Comparator}
-use Rattle.semver_sets.specs.Division.{IsSimpleText, IsWord, NoneAt, hyphen_range, simple, thrown_away}
+use Rattle.semver_sets.specs.Division.{IsSimpleText, IsWord, NoneAt, hyphen_range, ignored, simple}
 use Rattle.semver_versions.specs.Characters.{IsCleanEnd}
 use Rattle.semver_sets.specs.HyphenRanges.{IsHyphenText, hyphen_comparator}
 use Rattle.semver_sets.specs.PartialText.{Partial}
 use Rattle.semver_versions.specs.Readers.Reading.{prefix_of, rest_of}
-use Rattle.semver_sets.specs.Private.WordReading.{ReadPartial, Word, is_solid, no_lead, or_else, or_thrown_away}
+use Rattle.semver_sets.specs.Private.WordReading.{ReadPartial, Word, is_not_blank, no_lead, or_else, or_ignored}
 use Rattle.semver_sets.specs.Private.WordReading.{read_hyphen, read_lead, read_operator, read_partial, read_right}
 use Rattle.semver_sets.specs.Private.WordReading.{read_simple, read_word, said, up_to_clean, with_left}
 use Rattle.semver_sets.proofs.Words.HyphenReading.{hyphen-again, hyphen-takes}
@@ -21,14 +21,14 @@ use Rattle.semver_versions.specs.Lemmas.Texts.Prefixes.{with_no-begins}
 use Rattle.semver_sets.proofs.Words.SimpleReading.{simple-again, simple-takes}
 
 -- what begins with no solid character is the end or begins with a blank
-clean-from_no_solid : (text : List ℕ) → BeginsWithNo is_solid text → IsCleanEnd text
+clean-from_no_solid : (text : List ℕ) → BeginsWithNo is_not_blank text → IsCleanEnd text
 clean-from_no_solid [] h = tt
 clean-from_no_solid (b ∷ rest) h = elim (cases_Bool (is_blank b)) [
   | inl blank ↦ blank
   | inr solid ↦ cc (rw solid at h)
 ]
 
-no_solid-from_clean : (text : List ℕ) → IsCleanEnd text → BeginsWithNo is_solid text
+no_solid-from_clean : (text : List ℕ) → IsCleanEnd text → BeginsWithNo is_not_blank text
 no_solid-from_clean [] h = tt
 no_solid-from_clean (b ∷ rest) h = rw h refl
 
@@ -64,8 +64,8 @@ pub record HasWord (text : List ℕ) (comparator : Option Comparator) (rest : Li
 
 word-takes : (text : List ℕ) (hyphen simple_word : Option Word) → read_hyphen text ≡ hyphen
     → read_simple text ≡ simple_word
-    → HasWord text (or_thrown_away (or_else hyphen simple_word) text).0
-    (or_thrown_away (or_else hyphen simple_word) text).1
+    → HasWord text (or_ignored (or_else hyphen simple_word) text).0
+    (or_ignored (or_else hyphen simple_word) text).1
 word-takes text (Some w) s r q =
     let t = hyphen-takes text w.0 w.1 r in
     record { word = t.taken; whole = t.whole; is_word = hyphen_range t.read t.clean; clean = t.clean }
@@ -78,14 +78,14 @@ word-takes text None (Some w) r q =
       clean = t.clean;
     }
 word-takes text None None r q =
-    let clean = clean-from_no_solid (rest_of is_solid text) (rest_of-no is_solid text) in
-    let whole = sym (prefix_of-rest_of is_solid text) in
+    let clean = clean-from_no_solid (rest_of is_not_blank text) (rest_of-no is_not_blank text) in
+    let whole = sym (prefix_of-rest_of is_not_blank text) in
     record {
-      word = prefix_of is_solid text;
+      word = prefix_of is_not_blank text;
       whole = whole;
-      is_word = thrown_away (subst (NoneAt IsHyphenText) whole (no-hyphen text r))
+      is_word = ignored (subst (NoneAt IsHyphenText) whole (no-hyphen text r))
           (subst (NoneAt IsSimpleText) whole (no-simple text q))
-          (prefix_of-all is_solid text) clean refl;
+          (prefix_of-all is_not_blank text) clean refl;
       clean = clean;
     }
 
@@ -104,11 +104,11 @@ word-again word rest comparator (simple none read clean) =
       hyphen-none (word ++ rest) (read_hyphen (word ++ rest)) refl none,
       simple-again word rest comparator read clean,
     ) refl
-word-again word rest comparator (thrown_away none nothing solid clean nil) =
+word-again word rest comparator (ignored none nothing solid clean nil) =
     rw (
       hyphen-none (word ++ rest) (read_hyphen (word ++ rest)) refl none,
       simple-unread (word ++ rest) (read_simple (word ++ rest)) refl nothing,
-      rest_of-again is_solid word rest solid (no_solid-from_clean rest clean),
+      rest_of-again is_not_blank word rest solid (no_solid-from_clean rest clean),
       nil,
     ) refl
 
@@ -141,24 +141,24 @@ blank-lead b rest blank = elim (or_cases (b == 32) (b == 9) blank) [
   | inr tab ↦ rw (eqb-true b 9 tab) refl
 ]
 
-blank-thrown : (b : ℕ) (rest : List ℕ) → is_blank b ≡ true → rest_of is_solid (b ∷ rest) ≡ b ∷ rest
+blank-ignored : (b : ℕ) (rest : List ℕ) → is_blank b ≡ true → rest_of is_not_blank (b ∷ rest) ≡ b ∷ rest
 unfolding rest_of
-blank-thrown b rest blank = rw blank refl
+blank-ignored b rest blank = rw blank refl
 
 word-from : (text : List ℕ) (hyphen simple_word : Option Word) → read_hyphen text ≡ hyphen
     → read_simple text ≡ simple_word
-    → read_word text ≡ or_thrown_away (or_else hyphen simple_word) text
+    → read_word text ≡ or_ignored (or_else hyphen simple_word) text
 unfolding read_word
 word-from text hyphen simple_word h g = rw (h, g) refl
 
 -- a text that begins with this partial, and with nothing before it
 word-of_partial : (text : List ℕ) (p : ReadPartial) (found : Option Word) → read_right text ≡ None
     → read_lead text ≡ (no_lead, text) → read_partial text ≡ p
-    → or_else (with_left p) (said no_lead (up_to_clean p)) ≡ found → read_word text ≡ or_thrown_away found text
+    → or_else (with_left p) (said no_lead (up_to_clean p)) ≡ found → read_word text ≡ or_ignored found text
 word-of_partial text p found right lead read is =
     let hyphen : read_hyphen text ≡ with_left p = hyphen-with_left text right ∙ ap with_left read in
     word-from text (with_left p) (said no_lead (up_to_clean p)) hyphen (simple-of_partial text p lead read)
-    ∙ ap (λ (w : Option Word). or_thrown_away w text) is
+    ∙ ap (λ (w : Option Word). or_ignored w text) is
 
 -- if a word that begins with a blank is read, it is the one after its blanks; else the empty word is ignored
 blank-word : (b : ℕ) (rest : List ℕ) (p : ReadPartial) (found : Option Word) → is_blank b ≡ true
@@ -167,7 +167,7 @@ blank-word : (b : ℕ) (rest : List ℕ) (p : ReadPartial) (found : Option Word)
     → (read_word (b ∷ rest) ≡ (None, b ∷ rest)) ⊎ (read_word (b ∷ rest) ≡ read_word (rest_of is_blank (b ∷ rest)))
 blank-word b rest p None blank right read is =
     inl (word-of_partial (b ∷ rest) p None right (blank-lead b rest blank) read is
-    ∙ ap (λ (l : List ℕ). (None, l)) (blank-thrown b rest blank))
+    ∙ ap (λ (l : List ℕ). (None, l)) (blank-ignored b rest blank))
 blank-word b rest None (Some w) blank right read is = cc is
 blank-word b rest (Some r) (Some w) blank right read is =
     let others = rest_of is_blank (b ∷ rest) in

@@ -7,8 +7,8 @@ use Rattle.semver_versions.specs.Characters.{BeginsWithNo, is_blank, is_digit}
 use Rattle.semver_sets.specs.PartialText.{Partial}
 use Rattle.semver_versions.specs.Readers.Reading.{begins, read_number, rest_of, skip_one}
 use Rattle.semver_sets.specs.Private.WordReading.{Lead, ReadPartial, Word, caret_lead, lead_comparator, no_lead, operator}
-use Rattle.semver_versions.specs.Readers.Reading.{is_clean}
-use Rattle.semver_sets.specs.Private.WordReading.{is_solid, or_else, or_thrown_away, read_component}
+use Rattle.semver_versions.specs.Readers.Reading.{is_clean_end}
+use Rattle.semver_sets.specs.Private.WordReading.{is_not_blank, or_else, or_ignored, read_component}
 use Rattle.semver_sets.specs.Private.WordReading.{read_components, read_hyphen, read_lead, read_word}
 use Rattle.semver_sets.specs.Private.WordReading.{read_operator, read_partial, read_right, read_simple, said}
 use Rattle.semver_sets.specs.Private.WordReading.{said_hyphen, tilde_greater_lead, tilde_lead, up_to_clean, with_left}
@@ -77,7 +77,7 @@ unfolding read_hyphen
 hyphen-left text h = rw (right-none text (with_no-begins is_blank text h)) refl
 
 -- a text at no clean end begins with no blank
-unclean-blank : (text : List ℕ) → is_clean text ≡ false → begins is_blank text ≡ false
+unclean-blank : (text : List ℕ) → is_clean_end text ≡ false → begins is_blank text ≡ false
 unclean-blank [] h = refl
 unclean-blank (b ∷ rest) h = h
 
@@ -112,7 +112,7 @@ at-led text operand l solid led some =
 -- a left side ends at a clean end
 left-none : (read : ReadPartial) → None ≡ up_to_clean read → with_left read ≡ None
 left-none None h = refl
-left-none (Some r) h = elim (cases_Bool (is_clean r.1)) [
+left-none (Some r) h = elim (cases_Bool (is_clean_end r.1)) [
   | inl clean ↦ cc (rw clean at h)
   | inr unclean ↦ rw (right-none r.1 (unclean-blank r.1 unclean)) refl
 ]
@@ -120,7 +120,7 @@ left-none (Some r) h = elim (cases_Bool (is_clean r.1)) [
 left-some : (read : ReadPartial) (p : Partial) (rest : List ℕ) → Some (p, rest) ≡ up_to_clean read
     → with_left read ≡ said_hyphen (Some p) (read_right rest)
 left-some None p rest h = cc h
-left-some (Some r) p rest h = elim (cases_Bool (is_clean r.1)) [
+left-some (Some r) p rest h = elim (cases_Bool (is_clean_end r.1)) [
   | inl clean ↦
       let same = same_Some (p, rest) r (rw clean at h) in
       ap (λ (x : Partial × List ℕ). said_hyphen (Some x.0) (read_right x.1)) (sym same)
@@ -159,11 +159,11 @@ word-led text operand rest l p solid led read end = elim (lead-cases l) [
 -- a word that gives a comparator is read as it, and every other word is passed over
 pub kept : (text : List ℕ) (word : Word) → Some word ≡ comparator_at text → word ≡ read_word text
 unfolding read_word
-kept text word some = ap (λ (w : Option Word). or_thrown_away w text) some
+kept text word some = ap (λ (w : Option Word). or_ignored w text) some
 
-pub thrown : (text : List ℕ) → None ≡ comparator_at text → (None, rest_of is_solid text) ≡ read_word text
+pub ignored : (text : List ℕ) → None ≡ comparator_at text → (None, rest_of is_not_blank text) ≡ read_word text
 unfolding read_word
-thrown text none = ap (λ (w : Option Word). or_thrown_away w text) none
+ignored text none = ap (λ (w : Option Word). or_ignored w text) none
 
 -- ---- first bytes
 

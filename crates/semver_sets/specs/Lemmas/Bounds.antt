@@ -1,5 +1,5 @@
--- What the sets of a range always hold, and when a list of them is empty.
-use Rattle.std.proofs.Common.{◌≡◌, ◌≢◌, ℕ, List, [], ◌∷◌, length, ap, arith, refl, sym, ◌∙◌, inr, false, ◌==◌}
+-- What the sets of a range always hold.
+use Rattle.std.proofs.Common.{[], ◌∷◌, inr, refl}
 use Rattle.semver_cuts.specs.declared.cut.Cut.TheVariants.{Start}
 use Rattle.semver_cuts.specs.Ends.{Ends, HoldsCut, IsCutBelow}
 use Rattle.semver_cuts.specs.Lemmas.TwoSpans.{holds-below}
@@ -22,13 +22,3 @@ all_cuts_bounded = record {
   some = λ same. cc same;
   each = (record { holds = all_cuts-hold; lower = tt; upper = tt }, tt);
 }
-
--- a list of no length is empty
-pub no-items : {X : Type 0} (items : List X) (len : ℕ) → len ≡ length items → len ≡ 0 → items ≡ []
-no-items [] len is zero = refl
-no-items (x ∷ items) len is zero = absurd (omega arith)
-
--- items that are counted are some
-pub some-items : {X : Type 0} (items : List X) (count : ℕ) → count ≡ length items → (count == 0) ≡ false → items ≢ []
-some-items [] count same some = λ e. cc (sym some ∙ ap (λ (n : ℕ). n == 0) same)
-some-items (x ∷ items) count same some = λ e. cc e

@@ -15,7 +15,7 @@ use Rattle.semver_cuts.specs.Lemmas.ChosenEnds.{in_every-between}
 use Rattle.semver_sets.specs.Comparator.{Comparator}
 use Rattle.semver_versions.specs.Comparison.{version_cmp}
 use Rattle.semver_sets.specs.Meaning.{AnyByRecursion, GiveSet, HasOpenEnd, IsInside, Opens}
-use Rattle.semver_sets.specs.Merging.{AdmitsTheSame, HasOneSet, IsSetOf, LosesNothing}
+use Rattle.semver_sets.specs.Merging.{AdmitsTheSame, AreSetsOf, HasOneSet, IsSetOf, LosesNothing, no_more, none, one_more}
 use Rattle.semver_versions.specs.Version.{IsPrerelease, VersionValue}
 use Rattle.semver_versions.specs.Lemmas.Order.{version_total}
 use Rattle.semver_sets.specs.Lemmas.Convex.{convex-lower, convex-upper}
@@ -79,7 +79,8 @@ both-all P Q (x ∷ xs) a b = ((a.0, b.0), both-all P Q xs a.1 b.1)
 
 module _ (comparators : List Comparator) (set : Ends VersionValue) (is : IsSetOf comparators set)
     (v : VersionValue) where
-  inside-set : AllByRecursion (IsInside v) comparators ↔ IsInside v set
+  -- a version lies inside all comparators exactly if it lies inside their set
+  pub inside-set : AllByRecursion (IsInside v) comparators ↔ IsInside v set
   inside-set = in_every-between version_total comparators set.lower set.upper is.lower is.upper (Before v)
 
   -- an end that opens the triple has the set's end between it and the version
@@ -160,3 +161,26 @@ one-set [] some = absurd (some refl)
 one-set (c ∷ comparators) some =
     let all = set-of-more (c ∷ []) comparators c (set-one c) in
     (all.0, all.1, λ other is. set-unique (c ∷ comparators) other all.0 is all.1)
+
+-- ---- one alternative after another
+
+-- one more alternative that gives a set
+pub more-set : (done : List (List Comparator)) (sets : List (Ends VersionValue)) (a : List Comparator)
+    (set : Ends VersionValue)
+    → AreSetsOf done sets → GiveSet a → IsSetOf a set → AreSetsOf (done ++ a ∷ []) (sets ++ set ∷ [])
+more-set [] [] a set none gives is = one_more a [] set [] gives is none
+more-set [] (s ∷ sets) a set m gives is = elim m [ ]
+more-set (c ∷ done) (s ∷ sets) a set (one_more _ _ _ _ g i more) gives is =
+    one_more c (done ++ a ∷ []) s (sets ++ set ∷ []) g i (more-set done sets a set more gives is)
+more-set (c ∷ done) sets a set (no_more _ _ _ n more) gives is =
+    no_more c (done ++ a ∷ []) (sets ++ set ∷ []) n (more-set done sets a set more gives is)
+
+-- one more alternative that gives none
+pub more-none : (done : List (List Comparator)) (sets : List (Ends VersionValue)) (a : List Comparator)
+    → AreSetsOf done sets → ¬ GiveSet a → AreSetsOf (done ++ a ∷ []) sets
+more-none [] [] a none nothing = no_more a [] [] nothing none
+more-none [] (s ∷ sets) a m nothing = elim m [ ]
+more-none (c ∷ done) (s ∷ sets) a (one_more _ _ _ _ g i more) nothing =
+    one_more c (done ++ a ∷ []) s sets g i (more-none done sets a more nothing)
+more-none (c ∷ done) sets a (no_more _ _ _ n more) nothing =
+    no_more c (done ++ a ∷ []) sets n (more-none done sets a more nothing)

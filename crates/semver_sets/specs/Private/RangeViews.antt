@@ -1,13 +1,14 @@
 -- What the private functions compute that make the sets of a range.
-use Rattle.std.specs.Prelude.{◌≡◌, ◌≤◌, ◌↔◌, ℕ, Bool, List, [], ◌∷◌, ◌++◌, if◌then◌else◌, Option, Some, None}
-use Rattle.std.specs.Prelude.{IfSome, IsSome, Result, Ok, Err}
+use Rattle.std.specs.Prelude.{◌≡◌, ◌≤◌, ℕ, Bool, List, [], ◌∷◌, ◌++◌, if◌then◌else◌, Option, Some, None}
+use Rattle.std.specs.Prelude.{Result, Ok, Err}
 use Rattle.semver_cuts.specs.declared.cut.Cut.{Cut}
-use Rattle.semver_cuts.specs.Ends.{Ends, HoldsCut, IsCutBelow, span_between}
+use Rattle.semver_cuts.specs.Ends.{Ends, IsCutBelow, span_between}
 use Rattle.semver_sets.specs.Comparator.{Comparator}
 use Rattle.semver_versions.specs.Comparison.{version_cmp}
 use Rattle.semver_sets.specs.Division.{HasBars, IsAlternative}
 use Rattle.semver_sets.specs.Meaning.{GiveSet, IsRefused}
 use Rattle.semver_sets.specs.Merging.{AreSetsOfText, IsSetOf}
+pub use Rattle.semver_sets.specs.Merging.{IsCommonSpan, IsSpanOf}
 use Rattle.semver_sets.specs.RangeSets.{IsRangeValue, sets_seen}
 use Rattle.semver_sets.specs.PartialText.{plain_partial}
 use Rattle.semver_versions.specs.Version.{VersionValue, release}
@@ -21,11 +22,6 @@ use Rattle.semver_sets.specs.declared.read.Unread.{Unread}
 use Rattle.semver_sets.specs.declared.read.Unread.TheVariants.{OutOfMemory, Refused}
 use Rattle.semver_sets.specs.declared.set_list.Sets.{Sets}
 
--- the common span of the comparators, or none if there are none
-abbrev pub IsCommonSpan : List Comparator → Option Comparator → Type 0
-IsCommonSpan comparators None = comparators ≡ []
-IsCommonSpan comparators (Some common) = IsSetOf comparators common
-
 -- the common span before and after one more word, which narrows it if it gives a comparator
 abbrev pub IsNarrowed : Option Comparator → Option Comparator → Option Comparator → Type 0
 IsNarrowed before word after = (comparators : List Comparator) → IsCommonSpan comparators before
@@ -34,12 +30,6 @@ IsNarrowed before word after = (comparators : List Comparator) → IsCommonSpan 
 -- the common span of the comparators so far, as a contract sees it: none before the first
 abbrev pub common_seen : Bool → Cut VersionValue → Cut VersionValue → Option Comparator
 common_seen found lower upper = if found then Some (span_between lower upper) else None
-
--- the same span if a cut lies in it; otherwise, or if there are no comparators, none
-abbrev pub IsSpanOf : Option Comparator → Option (Ends VersionValue) → Type 0
-IsSpanOf None span = span ≡ None
-IsSpanOf (Some common) span =
-    (IsSome span ↔ HoldsCut version_cmp common) × IfSome span (λ ends. ends ≡ common)
 
 -- the common span of the comparators of an alternative
 abbrev pub IsSpanOfAlternative : List ℕ → Option Comparator → Type 0

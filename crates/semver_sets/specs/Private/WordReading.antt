@@ -10,11 +10,12 @@ use Rattle.semver_sets.specs.Operators.{Operator, equal, greater, greater_or_equ
 use Rattle.semver_sets.specs.Operators.{less_or_equal, operator_comparator, plain_comparator}
 use Rattle.semver_sets.specs.PartialText.{Partial, plain_partial, zeroed}
 use Rattle.semver_sets.specs.TildeRanges.{tilde_greater_row, tilde_row}
-use Rattle.semver_versions.specs.Readers.Reading.{Read, begins, is_clean, read_extras, read_number, rest_of, skip_one}
+use Rattle.semver_versions.specs.Readers.Reading.{Read, begins, is_clean_end, read_extras, read_number, rest_of}
+use Rattle.semver_versions.specs.Readers.Reading.{skip_one}
 
 -- any character but a blank
-abbrev pub is_solid : ℕ → Bool
-is_solid b = not (is_blank b)
+abbrev pub is_not_blank : ℕ → Bool
+is_not_blank b = not (is_blank b)
 
 -- ---- partials
 
@@ -87,7 +88,7 @@ read_partial text = read_components (rest_of is_blank (skip_one is_partial_mark 
 -- that partial, if it ends at a clean end
 abbrev pub up_to_clean : ReadPartial → ReadPartial
 up_to_clean None = None
-up_to_clean (Some r) = if is_clean r.1 then Some r else None
+up_to_clean (Some r) = if is_clean_end r.1 then Some r else None
 
 -- ---- the beginning of a word, before its partial
 
@@ -182,13 +183,13 @@ unfoldable pub read_hyphen : List ℕ → Option Word
 read_hyphen text = or_else (said_hyphen None (read_right text)) (with_left (read_partial text))
 
 -- that word, or no comparator and the bytes from the next blank on
-abbrev pub or_thrown_away : Option Word → List ℕ → Word
-or_thrown_away (Some word) text = word
-or_thrown_away None text = (None, rest_of is_solid text)
+abbrev pub or_ignored : Option Word → List ℕ → Word
+or_ignored (Some word) text = word
+or_ignored None text = (None, rest_of is_not_blank text)
 
 -- the word that a text begins with
 unfoldable pub read_word : List ℕ → Word
-read_word text = or_thrown_away (or_else (read_hyphen text) (read_simple text)) text
+read_word text = or_ignored (or_else (read_hyphen text) (read_simple text)) text
 
 -- a hyphen range without a left side that a text begins with; or no word, and the text
 abbrev pub leading_or_none : ReadPartial → List ℕ → Word

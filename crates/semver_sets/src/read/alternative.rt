@@ -4,17 +4,22 @@
 //! functions with `#[inline(never)]`, so that it takes no stack in the loop over the words.
 //!
 //! See docs/DECISIONS.md, "Ties between equal ends are settled by position".
-ghost use Rattle.std.specs.Prelude.{◌≡◌, IfOk, None, OnOk};
+ghost use Rattle.std.specs.Prelude.{◌≡◌, ◌++◌, ◌∷◌, [], IfOk, List, None, OnOk};
+ghost use Rattle.semver_cuts.specs.Ends.{span_between};
 ghost use Rattle.semver_cuts.specs.KeptEnds.{IsEarlierLeast, IsLaterGreatest};
 ghost use Rattle.semver_versions.specs.Characters.{BeginsWithNo, is_blank};
 ghost use Rattle.semver_versions.specs.Comparison.{version_cmp};
 ghost use Rattle.semver_versions.specs.Readers.Reading.{rest_of};
-ghost use Rattle.semver_sets.specs.Private.RangeViews.{IsNarrowed, IsSetOfAlternative, IsSpanOf, IsSpanOfAlternative};
+ghost use Rattle.semver_sets.specs.Comparator.{Comparator};
+ghost use Rattle.semver_sets.specs.Merging.{IsCommonSpan, IsSpanOf};
+ghost use Rattle.semver_sets.specs.Private.RangeViews.{IsNarrowed, IsSetOfAlternative, IsSpanOfAlternative};
 ghost use Rattle.semver_sets.specs.Private.WordReading as Reading;
 ghost use Rattle.semver_sets.specs.Private.WordReading.{leading_or_none, read_right};
 ghost use Rattle.semver_sets.specs.Private.WordViews.{ends_seen};
 
-use crate::word::{Form, WordEnds, begins_comparator, read_leading_hyphen, read_word, skip_solid};
+use crate::word::{
+    Form, WordEnds, begins_comparator, read_leading_hyphen, read_word, skip_to_blank,
+};
 use semver_cuts::{Cut, Span};
 use semver_versions::end::EndVersion;
 use semver_versions::parse::skip_blanks;
@@ -46,7 +51,7 @@ fn merge_words(alloc: Global, text: &[u8], common: &mut CommonSpan) -> Result<()
         rest = if begins_comparator(rest) {
             merge_word(alloc, rest, common)?
         } else {
-            skip_blanks(skip_solid(rest))
+            skip_blanks(skip_to_blank(rest))
         };
     }
     Ok(())
@@ -87,9 +92,11 @@ fn merge_word<'a>(
     Ok(skip_blanks(rest))
 }
 
-// The span that the comparators so far have in common, and whether there was a comparator. It may contain no cut.
+/// The span that the comparators so far have in common, and whether there was a comparator. It may contain no cut.
+///
+/// A contract sees the span, or none before the first comparator.
 #[derive(Drop)]
-struct CommonSpan {
+pub struct CommonSpan {
     found: bool,
     lower: Cut<EndVersion>,
     upper: Cut<EndVersion>,
@@ -110,9 +117,9 @@ impl Model for CommonSpan {
 }
 
 impl CommonSpan {
-    // No comparator so far: the span of all cuts.
+    /// Returns the span before the first comparator. Does not allocate.
     #[inline(always)]
-    fn new() -> CommonSpan
+    pub fn new() -> CommonSpan
         ensures { result ≡ None }
     {
         CommonSpan {
@@ -133,15 +140,33 @@ impl CommonSpan {
         }
         let lower = word.lower_cut(alloc)?;
         let upper = word.upper_cut(alloc)?;
-        keep_greatest(&mut self.lower, lower);
-        keep_least(&mut self.upper, upper);
-        self.found = true;
+        self.narrow_to(lower, upper);
         Ok(())
     }
 
-    // The set that the comparators give, or `None` if there was no comparator or they share no cut.
+    /// Intersects the span with one more comparator, which goes from `lower` to `upper`. Of equal lower ends the later
+    /// is kept, and of equal upper ends the earlier.
+    ///
+    /// # Memory
+    ///
+    /// Does not allocate.
     #[inline(always)]
-    fn into_set(self) -> Option<Span<EndVersion>>
+    pub fn narrow_to(&mut self, lower: Cut<EndVersion>, upper: Cut<EndVersion>)
+        ensures { (comparators : List Comparator) → IsCommonSpan comparators self.old
+            → IsCommonSpan (comparators ++ span_between lower upper ∷ []) self.new }
+    {
+        keep_greatest(&mut self.lower, lower);
+        keep_least(&mut self.upper, upper);
+        self.found = true;
+    }
+
+    /// Returns the set that the comparators give, or `None` if there was no comparator or they share no cut.
+    ///
+    /// # Memory
+    ///
+    /// Does not allocate.
+    #[inline(always)]
+    pub fn into_set(self) -> Option<Span<EndVersion>>
         ensures { IsSpanOf self result }
     {
         if self.found && self.lower < self.upper {

@@ -8,8 +8,8 @@ ghost use Rattle.semver_cuts.specs.SpanLists.{IsInSome};
 ghost use Rattle.semver_cuts.specs.Places.{IsPlacesOf, span_at};
 ghost use Rattle.semver_cuts.specs.Starts.{count_of_starts};
 ghost use Rattle.semver_versions.specs.Comparison.{version_cmp};
-ghost use Rattle.semver_sets.specs.Meaning.{AnyByRecursion, IsInside, RangeAdmits};
-ghost use Rattle.semver_sets.specs.Searching.{HasDigits, IsShortSearch, count_of_opening};
+ghost use Rattle.semver_sets.specs.Meaning.{AnyByRecursion, IsInside, RangeAdmits, RangeContains};
+ghost use Rattle.semver_sets.specs.Searching.{HasDigits, IsShortSearch, IsShortSearchInside, count_of_opening};
 ghost use Rattle.semver_versions.specs.Version.{IsPrerelease};
 ghost use Rattle.semver_sets.specs.Private.SearchViews.{AreOpeningsOf};
 
@@ -121,6 +121,17 @@ impl Searched {
         }
         let openings = openings_at(&self.openings, version.triple());
         is_in_opened(&self.sets, openings, version, comparisons)
+    }
+
+    // Returns `true` if the version lies inside one of the sets: if it lies in one of the merged spans.
+    // `inline(never)`: see `set_list.rt`.
+    #[inline(never)]
+    pub(crate) fn contains<V: AsVersion, C: Counts>(&self, version: &V, comparisons: &mut C) -> bool
+        ensures answer { IsTrue result ↔ RangeContains self.now (V.seen version.now) }
+        ensures short { IsShortSearchInside self.now (V.seen version.now) (C.count comparisons.old)
+            (C.count comparisons.new) }
+    {
+        is_in_some(&self.merged(), version, comparisons)
     }
 }
 

@@ -11,7 +11,7 @@ use semver_cuts::Cut;
 use semver_versions::MAX_SAFE_INTEGER;
 use semver_versions::end::EndVersion;
 use semver_versions::identifier::borrowed::borrow_extras;
-use semver_versions::parse::begins_clean;
+use semver_versions::parse::is_clean_end;
 use std::alloc::{AllocError, Global};
 
 // A version as a word writes it: a triple, and the text that begins with its extras.
@@ -220,7 +220,7 @@ impl<'a> WrittenVersion<'a> {
     fn end(&self, alloc: Global) -> Result<EndVersion, AllocError>
         ensures { IfOk result (λ e. e ≡ written_seen self.now) }
     {
-        if begins_clean(self.extras) {
+        if is_clean_end(self.extras) {
             Ok(EndVersion::release(self.major, self.minor, self.patch))
         } else {
             self.end_with_extras(alloc)
@@ -233,7 +233,7 @@ impl<'a> WrittenVersion<'a> {
     fn bare_end(&self, alloc: Global) -> Result<EndVersion, AllocError>
         ensures { IfOk result (λ e. e ≡ Versions.without_build (written_seen self.now)) }
     {
-        if begins_clean(self.extras) {
+        if is_clean_end(self.extras) {
             Ok(EndVersion::release(self.major, self.minor, self.patch))
         } else {
             self.end_with_prerelease(alloc)
@@ -263,7 +263,7 @@ impl<'a> WrittenVersion<'a> {
         )
     }
 
-    // The same without the build. `inline(never)`: as above.
+    // The same without the build. `inline(never)`: few versions have extras, as at `end_with_extras`.
     #[inline(never)]
     #[tactic(auto, unfolding(semver_versions::specs::Readers::Reading::read_extras))]
     fn end_with_prerelease(&self, alloc: Global) -> Result<EndVersion, AllocError>

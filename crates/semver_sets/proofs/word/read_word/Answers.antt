@@ -3,7 +3,7 @@ use borrow.Author.Tests.{ltb-true}
 use Rattle.semver_sets.specs.Comparator.{Comparator}
 use Rattle.semver_sets.specs.Private.WordReading.{Word, no_lead}
 use Rattle.semver_sets.specs.Private.WordViews.{lead_seen}
-use Rattle.semver_sets.proofs.Words.WordViews.{kept, no-bytes, none-missing, plain-seen, thrown, word-plain, word-led}
+use Rattle.semver_sets.proofs.Words.WordViews.{ignored, kept, no-bytes, none-missing, plain-seen, word-led, word-plain}
 use Rattle.semver_sets.proofs.word.read_word.Goals as goal
 use Rattle.semver_sets.proofs.word.read_word.Goals.{in_default-2-via-in-Plain+then-rest-lt1}
 use Rattle.semver_sets.proofs.word.read_word.Goals.{in_default-2-via-in_default}
@@ -11,7 +11,7 @@ use Rattle.semver_sets.proofs.word.read_word.Goals.{in_default-2-via-in_default}
 pub returns-in_default : goal.returns-in_default
 returns-in_default c =
     let missing = none-missing c.args.text.now _ _ c.requires c.read_lead-lead.ensures c.in_default.ensures.read in
-    rw (c.nothing.ensures, c.skip_solid.ensures) (thrown c.args.text.now missing)
+    rw (c.nothing.ensures, c.skip_to_blank.ensures) (ignored c.args.text.now missing)
 
 pub returns-in-Plain-len1-up : goal.returns-in-Plain-len1-up
 returns-in-Plain-len1-up c =

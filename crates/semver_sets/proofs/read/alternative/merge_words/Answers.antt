@@ -6,12 +6,12 @@ use Rattle.semver_versions.specs.Characters.{BeginsWithNo, is_blank}
 use Rattle.semver_sets.specs.Comparator.{Comparator}
 use Rattle.semver_sets.specs.Private.RangeViews.{IsCommonSpan, IsNarrowed}
 use Rattle.semver_versions.specs.Readers.Reading.{begins, rest_of}
-use Rattle.semver_sets.specs.Private.WordReading.{is_solid, leading_or_none, read_right, read_word}
+use Rattle.semver_sets.specs.Private.WordReading.{is_not_blank, leading_or_none, read_right, read_word}
 use Rattle.semver_sets.specs.Private.WordViews.{listed}
 use Rattle.semver_sets.proofs.Ranges.DivisionLemmas.{Completes, completes-end, completes-leading, completes-more}
 use Rattle.semver_sets.proofs.Ranges.DivisionLemmas.{next-shorter}
 use Rattle.semver_sets.proofs.Sets.Merging.{merged-none}
-use Rattle.semver_sets.proofs.Words.WordViews.{thrown}
+use Rattle.semver_sets.proofs.Words.WordViews.{ignored}
 use Rattle.semver_versions.specs.Lemmas.Texts.Prefixes.{begins-with_no, rest_of-no, rest_of-none}
 use Rattle.semver_sets.proofs.read.alternative.merge_words.Goals as goal
 use Rattle.semver_sets.proofs.read.alternative.merge_words.Goals.{in-32+in_ok-rest-in-32, in_default, in_default-2}
@@ -122,25 +122,25 @@ pub loop-rest-smaller : goal.loop-rest-smaller
 loop-rest-smaller c =
     let rest = c.loop-rest.rest.now in
     let some : 0 < length rest = some-from_not_empty rest c.is_empty.result c.is_empty.ensures c.loop-rest-test.true in
-    let read = thrown rest (c.begins_comparator.ensures c.if-begins_comparator.false) in
-    let same = c.skip_blanks-rest.ensures ∙ ap (rest_of is_blank) c.skip_solid.ensures in
+    let read = ignored rest (c.begins_comparator.ensures c.if-begins_comparator.false) in
+    let same = c.skip_blanks-rest.ensures ∙ ap (rest_of is_blank) c.skip_to_blank.ensures in
     subst (λ (l : List ℕ). length l < length rest) (sym same)
-    (next-shorter rest None (rest_of is_solid rest) (sym read) some)
+    (next-shorter rest None (rest_of is_not_blank rest) (sym read) some)
 
 pub loop-rest-preserved : goal.loop-rest-preserved
 loop-rest-preserved c =
     let rest = c.loop-rest.rest.now in
     let done = c.loop-rest.invariant.done in
-    let read = thrown rest (c.begins_comparator.ensures c.if-begins_comparator.false) in
-    let same = c.skip_blanks-rest.ensures ∙ ap (rest_of is_blank) c.skip_solid.ensures in
-    let more = completes-more c.args.text.now done rest None (rest_of is_solid rest) c.loop-rest.invariant.read
+    let read = ignored rest (c.begins_comparator.ensures c.if-begins_comparator.false) in
+    let same = c.skip_blanks-rest.ensures ∙ ap (rest_of is_blank) c.skip_to_blank.ensures in
+    let more = completes-more c.args.text.now done rest None (rest_of is_not_blank rest) c.loop-rest.invariant.read
     (sym read) in
     record {
       done = done ++ [];
-      read = left-is c.args.text.now (rest_of is_blank (rest_of is_solid rest)) c.skip_blanks-rest.result.now
+      read = left-is c.args.text.now (rest_of is_blank (rest_of is_not_blank rest)) c.skip_blanks-rest.result.now
           (done ++ []) more same;
       is_common = merged-none done c.loop-rest.common c.loop-rest.invariant.is_common;
-      solid = no-blank (rest_of is_solid rest) c.skip_blanks-rest.result.now same;
+      solid = no-blank (rest_of is_not_blank rest) c.skip_blanks-rest.result.now same;
     }
 
 pub returns : goal.returns

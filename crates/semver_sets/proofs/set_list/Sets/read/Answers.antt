@@ -47,17 +47,17 @@ returns-in-Some-clause-accepted c =
 
 pub returns-then-is_empty-clause-refused : goal.returns-then-is_empty-clause-refused
 returns-then-is_empty-clause-refused c = λ is.
-    let words = c.skip_thrown_away-words.result.now in
+    let words = c.skip_ignored-words.result.now in
     let none = words-none words c.is_empty.result c.is_empty.ensures c.if-is_empty.true in
     let only = only-piece c.args.text.now _ words c.next_piece.result.1 None c.in_default.is c.next_piece.ensures
-    c.skip_thrown_away-words.ensures (subst (λ (l : List ℕ). IsSetOfAlternative l None) (sym none) nothing-given) in
+    c.skip_ignored-words.ensures (subst (λ (l : List ℕ). IsSetOfAlternative l None) (sym none) nothing-given) in
     none-read c.args.text.now _ only.0 only.1
 
 pub returns-in-Ok-Some-clause-sets : goal.returns-in-Ok-Some-clause-sets
 returns-in-Ok-Some-clause-sets c =
-    let words = c.skip_thrown_away-words.result.now in
+    let words = c.skip_ignored-words.result.now in
     let only = only-piece c.args.text.now _ words c.next_piece.result.1 (Some c.in-Ok-Some.set) c.in_default.is
-    c.next_piece.ensures c.skip_thrown_away-words.ensures
+    c.next_piece.ensures c.skip_ignored-words.ensures
     (subst (IsSetOfAlternative words) c.in-Ok-Some.field-0-is c.in-Ok-Some.ensures) in
     one-read c.args.text.now _ (Some c.in-Ok-Some.set) only.0 only.1
 
@@ -72,8 +72,8 @@ returns-in-Ok-Some-clause-accepted c =
 
 pub returns-in-Ok-None-clause-refused : goal.returns-in-Ok-None-clause-refused
 returns-in-Ok-None-clause-refused c = λ is.
-    let words = c.skip_thrown_away-words.result.now in
+    let words = c.skip_ignored-words.result.now in
     let only = only-piece c.args.text.now _ words c.next_piece.result.1 None c.in_default.is c.next_piece.ensures
-    c.skip_thrown_away-words.ensures
+    c.skip_ignored-words.ensures
     (subst (IsSetOfAlternative words) c.in-Ok-None.field-0-is c.in-Ok-None.ensures) in
     none-read c.args.text.now _ only.0 only.1

@@ -4,11 +4,11 @@ use Rattle.semver_versions.specs.Characters.{BeginsWithNo, is_blank}
 use Rattle.semver_sets.specs.Comparator.{Comparator}
 use Rattle.semver_sets.specs.Division.{IsAlternative}
 use Rattle.semver_versions.specs.Readers.Reading.{rest_of}
-use Rattle.semver_sets.specs.Private.WordReading.{is_solid, read_word}
+use Rattle.semver_sets.specs.Private.WordReading.{is_not_blank, read_word}
 use Rattle.semver_sets.proofs.Ranges.DivisionLemmas.{completes-more, completes-nothing, next-shorter}
 use Rattle.semver_versions.specs.Lemmas.Texts.Prefixes.{rest_of-no}
-use Rattle.semver_sets.proofs.Words.WordViews.{thrown}
-use Rattle.semver_sets.proofs.word.skip_thrown_away.Goals as goal
+use Rattle.semver_sets.proofs.Words.WordViews.{ignored}
+use Rattle.semver_sets.proofs.word.skip_ignored.Goals as goal
 
 -- the text writes what the words after it write
 later-writes : (text behind : List ℕ) → read_word text ≡ (None, behind) → (comparators : List Comparator)
@@ -26,20 +26,20 @@ pub words-smaller : goal.words-smaller
 words-smaller c =
     let rest = c.words.rest.now in
     let some : 0 < length rest = some-from_not_empty rest c.is_empty.result c.is_empty.ensures c.words-test.true in
-    let read = sym (thrown rest (c.begins_comparator.ensures c.if-not-begins_comparator.true)) in
-    let shorter = next-shorter rest None (rest_of is_solid rest) read some in
-    let same = c.skip_blanks-rest.ensures ∙ ap (rest_of is_blank) c.skip_solid.ensures in
+    let read = sym (ignored rest (c.begins_comparator.ensures c.if-not-begins_comparator.true)) in
+    let shorter = next-shorter rest None (rest_of is_not_blank rest) read some in
+    let same = c.skip_blanks-rest.ensures ∙ ap (rest_of is_blank) c.skip_to_blank.ensures in
     subst (λ (l : List ℕ). length l < length rest) (sym same) shorter
 
 pub words-preserved : goal.words-preserved
 words-preserved c =
     let rest = c.words.rest.now in
-    let read = sym (thrown rest (c.begins_comparator.ensures c.if-not-begins_comparator.true)) in
-    let same = c.skip_blanks-rest.ensures ∙ ap (rest_of is_blank) c.skip_solid.ensures in
+    let read = sym (ignored rest (c.begins_comparator.ensures c.if-not-begins_comparator.true)) in
+    let same = c.skip_blanks-rest.ensures ∙ ap (rest_of is_blank) c.skip_to_blank.ensures in
     record {
       solid = subst (λ (l : List ℕ). BeginsWithNo is_blank l) (sym c.skip_blanks-rest.ensures)
-          (rest_of-no is_blank c.skip_solid.result.now);
+          (rest_of-no is_blank c.skip_to_blank.result.now);
       later = λ comparators a. c.words.invariant.later comparators
-          (later-writes rest (rest_of is_solid rest) read comparators
+          (later-writes rest (rest_of is_not_blank rest) read comparators
           (subst (λ (l : List ℕ). IsAlternative l comparators) same a));
     }

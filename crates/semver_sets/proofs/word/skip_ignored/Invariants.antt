@@ -2,7 +2,7 @@ use Rattle.std.proofs.Common.{List, length}
 use Rattle.semver_versions.specs.Characters.{BeginsWithNo, is_blank}
 use Rattle.semver_sets.specs.Comparator.{Comparator}
 use Rattle.semver_sets.specs.Division.{IsAlternative}
-use Rattle.semver_sets.proofs.word.skip_thrown_away.Given as goal
+use Rattle.semver_sets.proofs.word.skip_ignored.Given as goal
 
 abbrev pub invariant-words : goal.invariant-words
 invariant-words l = record {

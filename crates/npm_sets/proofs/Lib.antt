@@ -1,0 +1,5 @@
+-- Lemmas, by subject. The other folders hold the proofs of functions, by module.
+pub mod Chunks
+pub mod Pieces
+-- ---- worked examples, which compute
+pub mod Examples

@@ -1,0 +1,4 @@
+pub mod EndBounds
+pub mod WordReading
+pub mod PieceReading
+pub mod TextReading

@@ -1,0 +1,439 @@
+-- The pieces of a text, as they are read one after another, and what their sets admit.
+use Rattle.std.proofs.Common.{◌≡◌, ◌≢◌, ◌↔◌, ◌∙◌, ◌<◌, ℕ, suc, Bool, true, false, List, [], ◌∷◌, ◌++◌, Option, Some, None}
+use Rattle.std.proofs.Common.{ap, arith, inl, inr, length, length-append, refl, subst, sym}
+use Rattle.std.specs.Prelude.{◌==◌, ◌&&◌, IfSome, IfNone}
+use Rattle.std.specs.Borrow.{Bor}
+use Rattle.std.specs.List.{AllByRecursion}
+use Rattle.std.proofs.lemmas.Bool.{and_parts, cases_Bool, eqb-true}
+use Rattle.std.proofs.lemmas.List.{append-nil}
+use Rattle.semver_cuts.specs.declared.cut.Cut.TheVariants.{Start, Before}
+use Rattle.semver_cuts.specs.Ends.{Ends}
+use Rattle.semver_cuts.specs.Lemmas.Lists.{all_middle}
+use Rattle.semver_versions.specs.Characters.{bar}
+use Rattle.semver_versions.specs.Lemmas.Order.{Less-version}
+use Rattle.semver_versions.specs.Lemmas.Versions.VersionSteps.{none-below_first}
+use Rattle.semver_versions.specs.Version.{VersionValue, least_of}
+use Rattle.semver_sets.specs.Comparator.{Comparator}
+use Rattle.semver_sets.specs.Division.{EndsInBar, HasBars, HasFirstPiece, IsPieces}
+use Rattle.semver_sets.specs.Lemmas.Merging.{inside-set, merged-admits, merged-gives}
+use Rattle.semver_sets.specs.Meaning.{AnyByRecursion, GiveSet, IsInside}
+use Rattle.semver_sets.specs.Merging.{AreSetsOf, IsSetOf, no_more, none, one_more}
+use Rattle.semver_sets.specs.RangeSets.{IsRangeSet, IsRangeValue, IsRangeCut, sets_of_some, sets_seen}
+use Rattle.semver_sets.specs.declared.set_list.Sets.{Sets}
+use Rattle.npm_sets.specs.NpmMeaning.{AreNpmSets, IsNpmRefused, NpmAdmit, NpmSetAdmits, NpmSetsAdmit, NpmTextAdmits}
+use Rattle.npm_sets.specs.NpmMeaning.{alternatives_of, or_no_alternatives, piece_comparators, pieces_alternatives}
+use Rattle.npm_sets.specs.NpmMeaning.{with_piece}
+use Rattle.npm_sets.specs.Private.ReadViews.{AreReadEnds, IsAdded, has_some, listed, prepend, some_seen}
+use Rattle.npm_sets.specs.Rows.{no_versions}
+use Rattle.npm_sets.specs.WordTexts.{before_first, pieces_of}
+use Rattle.npm_sets.specs.declared.options.NpmOptions.{NpmOptions}
+use Rattle.npm_sets.proofs.Pieces.EndBounds.{zero-read}
+use Rattle.npm_sets.proofs.Pieces.WordReading.{prepend-append, prepend-none}
+
+-- ---- pieces
+
+bars-step : (others : List ℕ) → pieces_of (bar ∷ bar ∷ others) ≡ [] ∷ pieces_of others
+unfolding pieces_of
+bars-step others = refl
+
+piece-step : (b c : ℕ) (rest : List ℕ) → ((b == bar) && (c == bar)) ≡ false
+    → pieces_of (b ∷ c ∷ rest) ≡ before_first b (pieces_of (c ∷ rest))
+unfolding pieces_of
+piece-step b c rest h = rw h refl
+
+pieces-short : (b : ℕ) → pieces_of (b ∷ []) ≡ (b ∷ []) ∷ []
+unfolding pieces_of
+pieces-short b = refl
+
+pieces-nothing : pieces_of [] ≡ [] ∷ []
+unfolding pieces_of
+pieces-nothing = refl
+
+-- two characters that are not both bars
+not-both : (b c : ℕ) (rest : List ℕ) → ¬ HasBars (b ∷ c ∷ rest) → ((b == bar) && (c == bar)) ≡ false
+not-both b c rest free = elim (cases_Bool ((b == bar) && (c == bar))) [
+  | inr differ ↦ differ
+  | inl both ↦
+      let parts = and_parts (b == bar) (c == bar) both in
+      let first : b ≡ bar = eqb-true b bar parts.0 in
+      let second : c ≡ bar = eqb-true c bar parts.1 in
+      absurd (free ([], rest, λ i. first i ∷ second i ∷ rest))
+]
+
+-- a first piece without bars
+first-piece : (piece others : List ℕ) → ¬ HasBars piece → ¬ EndsInBar piece
+    → pieces_of (piece ++ (bar ∷ bar ∷ others)) ≡ piece ∷ pieces_of others
+first-piece [] others free ends = bars-step others
+first-piece (b ∷ []) others free ends = elim (cases_Bool (b == bar)) [
+  | inl same ↦ absurd (ends ([], ap (λ (n : ℕ). n ∷ []) (eqb-true b bar same)))
+  | inr other ↦
+      let h : ((b == bar) && (bar == bar)) ≡ false = rw other refl in
+      piece-step b bar (bar ∷ others) h ∙ ap (before_first b) (bars-step others)
+]
+first-piece (b ∷ c ∷ piece) others free ends =
+    piece-step b c (piece ++ (bar ∷ bar ∷ others)) (not-both b c piece free)
+    ∙ ap (before_first b) (first-piece (c ∷ piece) others
+    (λ has. free (b ∷ has.0, has.1, ap (λ (l : List ℕ). b ∷ l) has.2))
+    (λ has. ends (b ∷ has.0, ap (λ (l : List ℕ). b ∷ l) has.1)))
+
+-- a text without bars
+only-piece : (text : List ℕ) → ¬ HasBars text → pieces_of text ≡ text ∷ []
+only-piece [] free = pieces-nothing
+only-piece (b ∷ []) free = pieces-short b
+only-piece (b ∷ c ∷ text) free =
+    piece-step b c text (not-both b c text free)
+    ∙ ap (before_first b)
+    (only-piece (c ∷ text) (λ has. free (b ∷ has.0, has.1, ap (λ (l : List ℕ). b ∷ l) has.2)))
+
+-- ---- the alternatives so far
+
+pieces-more : (options : NpmOptions) (piece : List ℕ) (pieces : List (List ℕ))
+    → pieces_alternatives options (piece ∷ pieces)
+    ≡ with_piece (piece_comparators options piece) (pieces_alternatives options pieces)
+unfolding pieces_alternatives
+pieces-more options piece pieces = refl
+
+pieces-end : (options : NpmOptions) → pieces_alternatives options [] ≡ Some []
+unfolding pieces_alternatives
+pieces-end options = refl
+
+-- the alternatives of the rest of a text, if there is more
+abbrev pub left_alternatives : NpmOptions → Option (List ℕ) → Option (List (List Comparator))
+left_alternatives options None = Some []
+left_alternatives options (Some text) = pieces_alternatives options (pieces_of text)
+
+-- those of a text, from its first piece
+pub first-of : (options : NpmOptions) (text piece : List ℕ) (later : Option (Bor (List ℕ)))
+    → IfSome later (λ others. HasFirstPiece text piece others.now) → IfNone later (IsPieces text (piece ∷ []))
+    → left_alternatives options (Some text)
+    ≡ with_piece (piece_comparators options piece) (left_alternatives options (some_seen later))
+first-of options text piece (Some others) first last =
+    ap (pieces_alternatives options) (ap pieces_of first.whole
+    ∙ first-piece piece others.now first.no_bars first.ends_in_none)
+    ∙ pieces-more options piece (pieces_of others.now)
+first-of options text piece None first last =
+    ap (pieces_alternatives options) (only-piece text last.1
+    ∙ ap (λ (l : List ℕ). l ∷ []) last.0)
+    ∙ pieces-more options piece []
+    ∙ ap (with_piece (piece_comparators options piece)) (pieces-end options)
+
+-- what is left is shorter
+abbrev pub left_length : Option (List ℕ) → ℕ
+left_length None = 0
+left_length (Some text) = suc (length text)
+
+pub left-shorter : (text piece : List ℕ) (later : Option (Bor (List ℕ)))
+    → IfSome later (λ others. HasFirstPiece text piece others.now)
+    → left_length (some_seen later) < left_length (Some text)
+left-shorter text piece None first = omega arith
+left-shorter text piece (Some others) first =
+    let whole : length text ≡ length (piece ++ (bar ∷ bar ∷ others.now)) = ap length first.whole in
+    omega (arith, length-append piece (bar ∷ bar ∷ others.now))
+
+with-some : (comparators : List Comparator) (more : Option (List (List Comparator)))
+    → with_piece (Some comparators) more ≡ prepend (listed comparators) more
+with-some [] None = refl
+with-some [] (Some more) = refl
+with-some (c ∷ comparators) None = refl
+with-some (c ∷ comparators) (Some more) = refl
+
+-- all comparators of an alternative have ends that a range can have
+abbrev pub AreReadAlternative : List Comparator → Type 0
+AreReadAlternative comparators = AllByRecursion AreReadEnds comparators
+
+-- the alternatives before the rest of a text, and their sets
+pub record PiecesSoFar (options : NpmOptions) (text : List ℕ) (left : Option (List ℕ)) (sets : List (Ends VersionValue))
+    (found : Bool) : Type 0 where
+  pub done : List (List Comparator)
+  pub read : prepend done (left_alternatives options left) ≡ left_alternatives options (Some text)
+  pub merged : AreSetsOf done sets
+  pub found_is : found ≡ has_some done
+  pub bounded : AllByRecursion AreReadAlternative done
+
+pub pieces-start : (options : NpmOptions) (text : List ℕ) (left : Option (List ℕ)) (sets : List (Ends VersionValue))
+    → left ≡ Some text → sets ≡ [] → PiecesSoFar options text left sets false
+pieces-start options text left sets is empty = record {
+  done = [];
+  read = prepend-none (left_alternatives options left) ∙ ap (left_alternatives options) is;
+  merged = subst (AreSetsOf []) (sym empty) none;
+  found_is = refl;
+  bounded = tt;
+}
+
+sets-append : (done next : List (List Comparator)) (sets more : List (Ends VersionValue)) → AreSetsOf done sets
+    → AreSetsOf next more → AreSetsOf (done ++ next) (sets ++ more)
+sets-append [] next [] more none later = later
+sets-append [] next (s ∷ sets) more m later = elim m [ ]
+sets-append (c ∷ done) next (s ∷ sets) more (one_more _ _ _ _ g i rest) later =
+    one_more c (done ++ next) s (sets ++ more) g i (sets-append done next sets more rest later)
+sets-append (c ∷ done) next sets more (no_more _ _ _ n rest) later =
+    no_more c (done ++ next) (sets ++ more) n (sets-append done next sets more rest later)
+
+has-more : (done : List (List Comparator)) (comparators : List Comparator) → true ≡ has_some comparators
+    → true ≡ has_some (done ++ listed comparators)
+has-more done [] some = cc some
+has-more [] (c ∷ comparators) some = refl
+has-more (d ∷ done) (c ∷ comparators) some = refl
+
+has-same : (done : List (List Comparator)) (comparators : List Comparator) → false ≡ has_some comparators
+    → has_some done ≡ has_some (done ++ listed comparators)
+has-same done [] some = ap has_some (sym (append-nil done))
+has-same done (c ∷ comparators) some = cc some
+
+all-more : (done : List (List Comparator)) (comparators : List Comparator) → AllByRecursion AreReadAlternative done
+    → AllByRecursion AreReadEnds comparators → AllByRecursion AreReadAlternative (done ++ listed comparators)
+all-more [] [] all here = tt
+all-more [] (c ∷ comparators) all here = (here, tt)
+all-more (d ∷ done) comparators all here = (all.0, all-more done comparators all.1 here)
+
+-- after one more piece, where it is known whether it has a comparator
+pieces-more_read : (options : NpmOptions) (text rest piece : List ℕ) (later : Option (List ℕ))
+    (before after : List (Ends VersionValue)) (found here now : Bool)
+    → PiecesSoFar options text (Some rest) before found
+    → left_alternatives options (Some rest)
+    ≡ with_piece (piece_comparators options piece) (left_alternatives options later)
+    → (added : IsAdded (piece_comparators options piece) before after here)
+    → ((done : List (List Comparator)) → found ≡ has_some done → now ≡ has_some (done ++ listed added.comparators))
+    → PiecesSoFar options text later after now
+pieces-more_read options text rest piece later before after found here now so first added tells = record {
+  done = so.done ++ listed added.comparators;
+  read =
+      prepend-append so.done (listed added.comparators) (left_alternatives options later)
+      ∙ ap (prepend so.done)
+      (sym (first
+      ∙ ap (λ (v : Option (List Comparator)). with_piece v (left_alternatives options later)) added.value_is
+      ∙ with-some added.comparators (left_alternatives options later)))
+      ∙ so.read;
+  merged = subst (AreSetsOf (so.done ++ listed added.comparators)) (sym added.added)
+      (sets-append so.done (listed added.comparators) before added.more so.merged added.merged);
+  found_is = tells so.done so.found_is;
+  bounded = all-more so.done added.comparators so.bounded added.bounded;
+}
+
+-- a piece with a comparator
+pub pieces-found : (options : NpmOptions) (text rest piece : List ℕ) (later : Option (List ℕ))
+    (before after : List (Ends VersionValue)) (found here : Bool)
+    → PiecesSoFar options text (Some rest) before found
+    → left_alternatives options (Some rest)
+    ≡ with_piece (piece_comparators options piece) (left_alternatives options later)
+    → IsAdded (piece_comparators options piece) before after here → here ≡ true
+    → PiecesSoFar options text later after true
+pieces-found options text rest piece later before after found here so first added is =
+    pieces-more_read options text rest piece later before after found here true so first added
+    (λ done was. has-more done added.comparators (sym is ∙ added.found_is))
+
+-- a piece without
+pub pieces-passed : (options : NpmOptions) (text rest piece : List ℕ) (later : Option (List ℕ))
+    (before after : List (Ends VersionValue)) (found here : Bool)
+    → PiecesSoFar options text (Some rest) before found
+    → left_alternatives options (Some rest)
+    ≡ with_piece (piece_comparators options piece) (left_alternatives options later)
+    → IsAdded (piece_comparators options piece) before after here → here ≡ false
+    → PiecesSoFar options text later after found
+pieces-passed options text rest piece later before after found here so first added is =
+    pieces-more_read options text rest piece later before after found here found so first added
+    (λ done was. was ∙ has-same done added.comparators (sym is ∙ added.found_is))
+
+-- a piece that refuses the text
+pub pieces-refused : (options : NpmOptions) (text rest piece : List ℕ) (later : Option (List ℕ))
+    (before : List (Ends VersionValue)) (found : Bool)
+    → PiecesSoFar options text (Some rest) before found
+    → left_alternatives options (Some rest)
+    ≡ with_piece (piece_comparators options piece) (left_alternatives options later)
+    → piece_comparators options piece ≡ None → IsNpmRefused options text
+pieces-refused options text rest piece later before found so first refused =
+    ap or_no_alternatives
+    (sym so.read
+    ∙ ap (prepend so.done)
+    (first ∙ ap (λ (v : Option (List Comparator)). with_piece v (left_alternatives options later)) refused))
+
+-- ---- all alternatives
+
+-- where nothing is left, those so far are all
+pub all-done : (options : NpmOptions) (text : List ℕ) (left : Option (List ℕ)) (sets : List (Ends VersionValue))
+    (found : Bool) → (so : PiecesSoFar options text left sets found) → left ≡ None
+    → alternatives_of options text ≡ so.done
+all-done options text left sets found so end =
+    ap or_no_alternatives (sym so.read ∙ ap (λ (l : Option (List ℕ)). prepend so.done (left_alternatives options l)) end)
+    ∙ append-nil so.done
+
+none-some : {X : Type 0} (xs : List X) → false ≡ has_some xs → xs ≡ []
+none-some [] h = refl
+none-some (x ∷ xs) h = cc h
+
+some-some : {X : Type 0} (xs : List X) → true ≡ has_some xs → xs ≢ []
+some-some [] h = λ none. cc h
+some-some (x ∷ xs) h = λ none. cc none
+
+-- a text without comparators is refused
+pub none-refused : (options : NpmOptions) (text : List ℕ) (left : Option (List ℕ)) (sets : List (Ends VersionValue))
+    (found : Bool) → PiecesSoFar options text left sets found → left ≡ None → found ≡ false
+    → IsNpmRefused options text
+none-refused options text left sets found so end is =
+    all-done options text left sets found so end ∙ none-some so.done (sym is ∙ so.found_is)
+
+-- and one with a comparator is not
+pub some-accepted : (options : NpmOptions) (text : List ℕ) (left : Option (List ℕ)) (sets : List (Ends VersionValue))
+    (found : Bool) → PiecesSoFar options text left sets found → left ≡ None → found ≡ true
+    → ¬ IsNpmRefused options text
+some-accepted options text left sets found so end is refused =
+    some-some so.done (sym is ∙ so.found_is) (sym (all-done options text left sets found so end) ∙ refused)
+
+-- the sets are those of all alternatives
+sets-done : (options : NpmOptions) (text : List ℕ) (left : Option (List ℕ)) (sets : List (Ends VersionValue))
+    (found : Bool) → PiecesSoFar options text left sets found → left ≡ None
+    → AreSetsOf (alternatives_of options text) sets
+sets-done options text left sets found so end =
+    subst (λ (l : List (List Comparator)). AreSetsOf l sets) (sym (all-done options text left sets found so end)) so.merged
+
+-- ---- what the sets hold
+
+set-bounded : (comparators : List Comparator) (set : Ends VersionValue) → GiveSet comparators
+    → IsSetOf comparators set → AreReadAlternative comparators → IsRangeSet set
+set-bounded comparators set gives is read =
+    let low : AreReadEnds is.lower.span = all_middle AreReadEnds is.lower.before is.lower.after is.lower.span
+    (subst (AllByRecursion AreReadEnds) is.lower.parts read) in
+    let high : AreReadEnds is.upper.span = all_middle AreReadEnds is.upper.before is.upper.after is.upper.span
+    (subst (AllByRecursion AreReadEnds) is.upper.parts read) in
+    record {
+      holds = (merged-gives comparators set is).0 gives;
+      lower = subst IsRangeCut is.lower.end_of low.lower;
+      upper = subst IsRangeCut is.upper.end_of high.upper;
+    }
+
+sets-bounded : (alternatives : List (List Comparator)) (sets : List (Ends VersionValue))
+    → AreSetsOf alternatives sets → AllByRecursion AreReadAlternative alternatives → AllByRecursion IsRangeSet sets
+sets-bounded [] [] none all = tt
+sets-bounded [] (s ∷ sets) are all = elim are [ ]
+sets-bounded (a ∷ alternatives) (s ∷ sets) (one_more _ _ _ _ gives is more) all =
+    (set-bounded a s gives is all.0, sets-bounded alternatives sets more all.1)
+sets-bounded (a ∷ alternatives) sets (no_more _ _ _ nothing more) all = sets-bounded alternatives sets more all.1
+
+-- `<0.0.0-0` holds a cut
+pub no_versions-bounded : IsRangeValue (no_versions ∷ [])
+no_versions-bounded = record {
+  some = λ same. cc same;
+  each = (
+    record {
+      holds = (Start, record { lower = inr refl; upper = refl });
+      lower = tt;
+      upper = record {
+        major = omega arith;
+        minor = omega arith;
+        patch = omega arith;
+        pre_release = (zero-read, tt);
+        build = tt;
+      };
+    },
+    tt,
+  );
+}
+
+-- ---- what the sets admit
+
+-- no version lies below the least one
+none-inside : (v : VersionValue) → ¬ IsInside v no_versions
+none-inside v inside = none-below_first v (Less-version v (least_of 0 0 0) inside.upper)
+
+-- what a set admits lies inside it
+inside-of : (pre : Bool) (set : Ends VersionValue) (v : VersionValue) → NpmSetAdmits pre set v → IsInside v set
+inside-of false set v admits = admits.inside
+inside-of true set v inside = inside
+
+gives-from : (pre : Bool) (v : VersionValue) (comparators : List Comparator) → NpmAdmit pre comparators v
+    → GiveSet comparators
+gives-from pre v comparators admit = record { some = admit.some; common = (Before v, admit.inside) }
+
+-- a set admits what its comparators do
+one-admits : (pre : Bool) (v : VersionValue) (comparators : List Comparator) (set : Ends VersionValue)
+    → comparators ≢ [] → IsSetOf comparators set → NpmSetAdmits pre set v ↔ NpmAdmit pre comparators v
+one-admits false v comparators set some is =
+    let same = merged-admits comparators set is v in (
+      λ admits. record {
+        some = some;
+        inside = (same.1 admits).inside;
+        opened = λ closed prerelease. (same.1 admits).opened prerelease;
+      },
+      λ admit. same.0 (record { inside = admit.inside; opened = admit.opened refl }),
+    )
+one-admits true v comparators set some is =
+    let inside = inside-set comparators set is v in (
+      λ in_set. record { some = some; inside = inside.1 in_set; opened = λ closed prerelease. absurd (cc closed) },
+      λ admit. inside.0 admit.inside,
+    )
+
+sets-admit : (pre : Bool) (v : VersionValue) (alternatives : List (List Comparator)) (sets : List (Ends VersionValue))
+    → AreSetsOf alternatives sets
+    → NpmSetsAdmit pre sets v ↔ AnyByRecursion (λ comparators. NpmAdmit pre comparators v) alternatives
+sets-admit pre v [] [] none = (λ nowhere. nowhere, λ nowhere. nowhere)
+sets-admit pre v [] (s ∷ sets) m = elim m [ ]
+sets-admit pre v (c ∷ alternatives) (s ∷ sets) (one_more _ _ _ _ g i more) =
+    let others = sets-admit pre v alternatives sets more in
+    let same = one-admits pre v c s g.some i in (
+      λ some. elim some [ inl here ↦ inl (same.0 here) | inr there ↦ inr (others.0 there) ],
+      λ some. elim some [ inl here ↦ inl (same.1 here) | inr there ↦ inr (others.1 there) ],
+    )
+sets-admit pre v (c ∷ alternatives) sets (no_more _ _ _ n more) =
+    let others = sets-admit pre v alternatives sets more in (
+      λ some. inr (others.0 some),
+      λ some. elim some [ inl here ↦ absurd (n (gives-from pre v c here)) | inr there ↦ others.1 there ],
+    )
+
+-- the sets of a text admit what the text does
+pub npm-sets-admit : (options : NpmOptions) (text : List ℕ) (sets : List (Ends VersionValue))
+    → AreNpmSets options text sets → (v : VersionValue)
+    → NpmSetsAdmit options.include_prerelease sets v ↔ NpmTextAdmits options text v
+npm-sets-admit options text sets (inl are) v =
+    sets-admit options.include_prerelease v (alternatives_of options text) sets are.0
+npm-sets-admit options text sets (inr are) v =
+    let pre = options.include_prerelease in
+    let nowhere = sets-admit pre v (alternatives_of options text) [] are.0 in (
+      λ some. elim (subst (λ (l : List (Ends VersionValue)). NpmSetsAdmit pre l v) are.1 some) [
+        | inl here ↦ absurd (none-inside v (inside-of pre no_versions v here))
+        | inr there ↦ absurd there
+      ],
+      λ admits. absurd (nowhere.1 admits),
+    )
+
+-- ---- the result
+
+-- the sets that were gathered, if there are some
+pub record IsResult (options : NpmOptions) (text : List ℕ) (sets : List (Ends VersionValue)) : Type 0 where
+  pub sets_are : AreNpmSets options text sets
+  pub holds : IsRangeValue sets
+  pub accepted : ¬ IsNpmRefused options text
+
+pub some-gathered : (options : NpmOptions) (text : List ℕ) (left : Option (List ℕ)) (sets : List (Ends VersionValue))
+    (found : Bool) (result : Option Sets) (given : Sets) → PiecesSoFar options text left sets found → left ≡ None
+    → found ≡ true → sets_of_some result ≡ sets → IfSome result (λ s. sets_seen s ≢ []) → result ≡ Some given
+    → IsResult options text (sets_seen given)
+some-gathered options text left sets found result given so end is same some told =
+    let here : sets_seen given ≡ sets = sym (ap sets_of_some told) ∙ same in
+    let given_some : sets_seen given ≢ [] = subst (λ (r : Option Sets). IfSome r (λ s. sets_seen s ≢ [])) told some in
+    record {
+      sets_are = inl (
+        subst (AreSetsOf (alternatives_of options text)) (sym here)
+            (sets-done options text left sets found so end),
+        given_some,
+      );
+      holds = record {
+        some = given_some;
+        each = subst (AllByRecursion IsRangeSet) (sym here) (sets-bounded so.done sets so.merged so.bounded);
+      };
+      accepted = some-accepted options text left sets found so end is;
+    }
+
+pub none-gathered : (options : NpmOptions) (text : List ℕ) (left : Option (List ℕ)) (sets given : List (Ends VersionValue))
+    (found : Bool) (result : Option Sets) → PiecesSoFar options text left sets found → left ≡ None → found ≡ true
+    → sets_of_some result ≡ sets → result ≡ None → given ≡ no_versions ∷ [] → IsResult options text given
+none-gathered options text left sets given found result so end is same told alone =
+    let empty : sets ≡ [] = sym same ∙ ap sets_of_some told in
+    record {
+      sets_are = inr (
+        subst (AreSetsOf (alternatives_of options text)) empty
+            (sets-done options text left sets found so end),
+        alone,
+      );
+      holds = subst IsRangeValue (sym alone) no_versions-bounded;
+      accepted = some-accepted options text left sets found so end is;
+    }

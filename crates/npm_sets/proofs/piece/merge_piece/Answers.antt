@@ -1,0 +1,56 @@
+use Rattle.std.proofs.Common.{◌∙◌, List, Option, ap, subst, sym}
+use Rattle.semver_sets.specs.Comparator.{Comparator}
+use Rattle.semver_sets.specs.Merging.{all_cuts}
+use Rattle.npm_sets.specs.NpmMeaning.{alone_or, piece_comparators}
+use Rattle.npm_sets.specs.Private.ReadViews.{IsRead, ends_seen}
+use Rattle.npm_sets.proofs.Chunks.ChunkLemmas.{left-solid, no-bytes_told, solid-told}
+use Rattle.npm_sets.proofs.Pieces.EndBounds.{small-read}
+use Rattle.npm_sets.proofs.Pieces.PieceReading.{all-bounded, one-read, piece-empty, piece-words}
+use Rattle.npm_sets.proofs.Pieces.WordReading.{text_comparators}
+use Rattle.npm_sets.proofs.piece.merge_piece.Goals as goal
+
+pub returns-then-is_empty : goal.returns-then-is_empty
+returns-then-is_empty c =
+    let options = c.args.options in
+    let piece = c.args.piece.now in
+    let text = c.skip_space-text.result.now in
+    one-read (piece_comparators options piece) c.args.common.now c.narrow_to.new.self all_cuts c.requires
+    c.narrow_to.ensures all-bounded
+    (piece-empty options piece text c.skip_space-text.ensures
+    (no-bytes_told text c.is_empty.result c.is_empty.ensures c.if-is_empty.true))
+
+pub read_hyphen-requires : goal.read_hyphen-requires
+read_hyphen-requires c =
+    let text = c.skip_space-text.result.now in
+    solid-told text c.is_empty.result c.is_empty.ensures c.if-is_empty.false
+    (left-solid c.args.piece.now text c.skip_space-text.ensures)
+
+pub merge_words-requires-clause-solid : goal.merge_words-requires-clause-solid
+merge_words-requires-clause-solid c =
+    let text = c.skip_space-text.result.now in
+    solid-told text c.is_empty.result c.is_empty.ensures c.if-is_empty.false
+    (left-solid c.args.piece.now text c.skip_space-text.ensures)
+
+pub returns-in_ok-merge_ends-in-Some : goal.returns-in_ok-merge_ends-in-Some
+returns-in_ok-merge_ends-in-Some c =
+    let options = c.args.options in
+    let piece = c.args.piece.now in
+    let text = c.skip_space-text.result.now in
+    let solid = solid-told text c.is_empty.result c.is_empty.ensures c.if-is_empty.false
+    (left-solid piece text c.skip_space-text.ensures) in
+    one-read (piece_comparators options piece) c.args.common.now c.merge_ends.new.common (ends_seen c.in-Some.ends)
+    c.requires c.in_ok-merge_ends-in-Some.ensures (small-read c.in-Some.ends c.in-Some.ensures.small)
+    (piece-words options piece text c.skip_space-text.ensures solid
+    ∙ ap (λ (h : Option Comparator). alone_or h (text_comparators options text)) (sym c.in-Some.ensures.read))
+
+pub returns-in-None : goal.returns-in-None
+returns-in-None c =
+    let options = c.args.options in
+    let piece = c.args.piece.now in
+    let text = c.skip_space-text.result.now in
+    let solid = solid-told text c.is_empty.result c.is_empty.ensures c.if-is_empty.false
+    (left-solid piece text c.skip_space-text.ensures) in
+    let same = piece-words options piece text c.skip_space-text.ensures solid
+    ∙ ap (λ (h : Option Comparator). alone_or h (text_comparators options text)) (sym c.in-None.ensures.read) in
+    subst (λ (v : Option (List Comparator)). IsRead v c.merge_words.new.common c.merge_words.result) (sym same)
+    c.merge_words.ensures

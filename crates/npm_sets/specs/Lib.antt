@@ -1,0 +1,12 @@
+-- The definitions for npm's own reading of range texts, in reading order. These files are what a reader has to trust,
+-- beside those of `semver_sets` that they use.
+
+-- ---- how a text is divided: pieces, words, and the partial of a word
+pub mod WordTexts
+pub mod PartialTexts
+-- ---- the rows: which comparator a word or a hyphen range gives
+pub mod Rows
+-- ---- the alternatives of a text, and which versions it admits
+pub mod NpmMeaning
+-- ---- not part of any public contract of `node_semver`: what private functions compute
+pub mod Private

@@ -1,0 +1,186 @@
+-- What a contract sees of the results of the private readers.
+use Rattle.std.specs.Prelude.{◌≡◌, ◌≤◌, ◌+◌, ℕ, Bool, true, false, List, [], ◌∷◌, ◌++◌, Option, Some, None}
+use Rattle.std.specs.Prelude.{◌&&◌, Result, Ok, Err, IfSome}
+use Rattle.std.specs.Borrow.{Bor}
+use Rattle.std.specs.List.{AllByRecursion}
+use Rattle.semver_cuts.specs.declared.cut.Cut.{Cut}
+use Rattle.semver_cuts.specs.declared.cut.Cut.TheVariants as Cuts
+use Rattle.semver_cuts.specs.Ends.{Ends}
+use Rattle.semver_versions.specs.Readers.Reading.{Read, read_extras}
+use Rattle.semver_versions.specs.Version.{VersionValue, least_of, release, without_build}
+use Rattle.semver_versions.specs.declared.TheConstants.{MAX_SAFE_INTEGER}
+use Rattle.semver_versions.specs.declared.parse.fault.Fault.{Fault}
+use Rattle.semver_sets.specs.Comparator.{Comparator}
+use Rattle.semver_sets.specs.Merging.{AreSetsOf, IsCommonSpan}
+use Rattle.semver_sets.specs.PartialText.{Partial, zeroed}
+use Rattle.semver_sets.specs.RangeSets.{IsRangeCut}
+use Rattle.semver_sets.specs.declared.read.Unread.{Unread}
+use Rattle.semver_sets.specs.declared.read.Unread.TheVariants.{OutOfMemory, Refused}
+use Rattle.npm_sets.specs.NpmMeaning.{is_unknown}
+use Rattle.npm_sets.specs.PartialTexts.{with_extras}
+use Rattle.npm_sets.specs.declared.ends.WordEnds.{WordEnds}
+use Rattle.npm_sets.specs.declared.ends.WordCut.{WordCut}
+use Rattle.npm_sets.specs.declared.ends.WordCut.TheVariants as WordCuts
+use Rattle.npm_sets.specs.declared.ends.WordVersion.{WordVersion}
+use Rattle.npm_sets.specs.declared.ends.WordVersion.TheVariants as WordVersions
+use Rattle.npm_sets.specs.declared.partial.Partial.{Partial as CodePartial}
+
+-- ---- partials
+
+-- a partial, with the extras that its text of extras writes
+abbrev pub partial_seen : CodePartial → Partial
+partial_seen p = with_extras p.major p.minor p.patch p.extras.now
+
+-- a partial and the rest
+abbrev pub read_partial_seen : Result (CodePartial × Bor (List ℕ)) Fault → Read Partial
+read_partial_seen (Ok r) = Ok (partial_seen r.0, r.1.now)
+read_partial_seen (Err fault) = Err fault
+
+abbrev pub result_seen : Result CodePartial Fault → Result Partial Fault
+result_seen (Ok p) = Ok (partial_seen p)
+result_seen (Err fault) = Err fault
+
+-- a text that is there or not
+abbrev pub some_seen : Option (Bor (List ℕ)) → Option (List ℕ)
+some_seen None = None
+some_seen (Some r) = Some r.now
+
+-- no number is above the limit
+pub record IsSound (p : CodePartial) : Type 0 where
+  pub major : IfSome p.major (λ n. n ≤ MAX_SAFE_INTEGER)
+  pub minor : IfSome p.minor (λ n. n ≤ MAX_SAFE_INTEGER)
+  pub patch : IfSome p.patch (λ n. n ≤ MAX_SAFE_INTEGER)
+
+-- ---- ends
+
+-- three numbers with the prerelease that a text of extras writes
+abbrev pub full_version : ℕ → ℕ → ℕ → List ℕ → VersionValue
+full_version major minor patch extras = record {
+  major = major;
+  minor = minor;
+  patch = patch;
+  pre_release = (read_extras extras).0.0;
+  build = [];
+}
+
+abbrev pub version_seen : WordVersion → VersionValue
+version_seen (WordVersions.Release major minor patch) = release major minor patch
+version_seen (WordVersions.Least major minor patch) = least_of major minor patch
+version_seen (WordVersions.Full major minor patch extras) = full_version major minor patch extras.now
+
+abbrev pub cut_seen : WordCut → Cut VersionValue
+cut_seen WordCuts.Start = Cuts.Start
+cut_seen (WordCuts.Before v) = Cuts.Before (version_seen v)
+cut_seen (WordCuts.After v) = Cuts.After (version_seen v)
+cut_seen WordCuts.End = Cuts.End
+
+abbrev pub ends_seen : WordEnds → Comparator
+ends_seen e = record { lower = cut_seen e.lower; upper = cut_seen e.upper }
+
+-- both ends are cuts that a range can have
+pub record AreReadEnds (c : Comparator) : Type 0 where
+  pub lower : IsRangeCut c.lower
+  pub upper : IsRangeCut c.upper
+
+-- ---- lists
+
+-- `true` if the list has an element
+abbrev pub has_some : {X : Type 0} → List X → Bool
+has_some [] = false
+has_some (x ∷ xs) = true
+
+-- the elements before those of a list, if there is one
+abbrev pub prepend : {X : Type 0} → List X → Option (List X) → Option (List X)
+prepend before None = None
+prepend before (Some after) = Some (before ++ after)
+
+-- the version of three components and extras, with 0 for each absent one, without its build
+abbrev pub bare_version : Option ℕ → Option ℕ → Option ℕ → List ℕ → VersionValue
+bare_version major minor patch extras = without_build (zeroed (with_extras major minor patch extras))
+
+-- ---- numbers of ends
+
+-- each number is at most one above the limit
+abbrev pub AreSmall : ℕ → ℕ → ℕ → Type 0
+AreSmall major minor patch =
+    (major ≤ MAX_SAFE_INTEGER + 1) × (minor ≤ MAX_SAFE_INTEGER + 1) × (patch ≤ MAX_SAFE_INTEGER + 1)
+
+abbrev pub IsSmallVersion : WordVersion → Type 0
+IsSmallVersion (WordVersions.Release major minor patch) = AreSmall major minor patch
+IsSmallVersion (WordVersions.Least major minor patch) = AreSmall major minor patch
+IsSmallVersion (WordVersions.Full major minor patch extras) = AreSmall major minor patch
+
+abbrev pub IsSmallCut : WordCut → Type 0
+IsSmallCut WordCuts.Start = Unit {0}
+IsSmallCut (WordCuts.Before v) = IsSmallVersion v
+IsSmallCut (WordCuts.After v) = IsSmallVersion v
+IsSmallCut WordCuts.End = Unit {0}
+
+pub record AreSmallEnds (e : WordEnds) : Type 0 where
+  pub lower : IsSmallCut e.lower
+  pub upper : IsSmallCut e.upper
+
+-- ---- results of reading
+
+-- the common span before and after one more comparator
+abbrev pub IsNarrowedTo : Option Comparator → Comparator → Option Comparator → Type 0
+IsNarrowedTo before c after = (comparators : List Comparator) → IsCommonSpan comparators before
+    → IsCommonSpan (comparators ++ c ∷ []) after
+
+-- the result of reading a word: `true` if its comparator was merged, and `false` if the word is ignored
+abbrev pub IsWordRead : Bool → Result Comparator Fault → Option Comparator → Option Comparator → Result Bool Unread
+    → Type 0
+IsWordRead loose word before after (Ok true) =
+    (c : Comparator) × (word ≡ Ok c) × IsNarrowedTo before c after × AreReadEnds c
+IsWordRead loose word before after (Ok false) =
+    (fault : Fault) × (word ≡ Err fault) × ((loose && is_unknown fault) ≡ true) × (after ≡ before)
+IsWordRead loose word before after (Err Refused) =
+    (fault : Fault) × (word ≡ Err fault) × ((loose && is_unknown fault) ≡ false)
+IsWordRead loose word before after (Err OutOfMemory) = Unit {0}
+
+-- these comparators were read and merged, and `found` tells whether there are any
+pub record AreRead (value : Option (List Comparator)) (common : Option Comparator) (found : Bool) : Type 0 where
+  pub comparators : List Comparator
+  pub value_is : value ≡ Some comparators
+  pub common_is : IsCommonSpan comparators common
+  pub found_is : found ≡ has_some comparators
+  pub bounded : AllByRecursion AreReadEnds comparators
+
+-- the result of reading a piece or its words
+abbrev pub IsRead : Option (List Comparator) → Option Comparator → Result Bool Unread → Type 0
+IsRead value common (Ok found) = AreRead value common found
+IsRead value common (Err Refused) = value ≡ None
+IsRead value common (Err OutOfMemory) = Unit {0}
+
+-- an alternative, if there are comparators
+abbrev pub listed : List Comparator → List (List Comparator)
+listed [] = []
+listed (c ∷ comparators) = (c ∷ comparators) ∷ []
+
+-- the sets before and after the piece with these comparators
+pub record IsAdded (value : Option (List Comparator)) (before after : List (Ends VersionValue)) (found : Bool)
+    : Type 0 where
+  pub comparators : List Comparator
+  pub value_is : value ≡ Some comparators
+  pub found_is : found ≡ has_some comparators
+  pub bounded : AllByRecursion AreReadEnds comparators
+  pub more : List (Ends VersionValue)
+  pub merged : AreSetsOf (listed comparators) more
+  pub added : after ≡ before ++ more
+
+-- the result of adding the set of a piece
+abbrev pub IsAddedBy : Option (List Comparator) → List (Ends VersionValue) → List (Ends VersionValue)
+    → Result Bool Unread → Type 0
+IsAddedBy value before after (Ok found) = IsAdded value before after found
+IsAddedBy value before after (Err Refused) = value ≡ None
+IsAddedBy value before after (Err OutOfMemory) = Unit {0}
+
+-- the comparator of a hyphen range, if there is one, and its numbers
+abbrev pub hyphen_seen : Option WordEnds → Option Comparator
+hyphen_seen None = None
+hyphen_seen (Some e) = Some (ends_seen e)
+
+-- the two sides
+abbrev pub sides_seen : Option (Bor (List ℕ) × Bor (List ℕ)) → Option (List ℕ × List ℕ)
+sides_seen None = None
+sides_seen (Some r) = Some (r.0.now, r.1.now)

@@ -1,0 +1,173 @@
+//! Reading one piece of a range text: nothing, a hyphen range, or words. Comparators are merged as they are read.
+ghost use Rattle.std.specs.Prelude.{◌≡◌, IfSome, None, OnOk};
+ghost use Rattle.semver_versions.specs.Characters.{BeginsWith, BeginsWithNo};
+ghost use Rattle.npm_sets.specs.NpmMeaning as Meaning;
+ghost use Rattle.npm_sets.specs.WordTexts as Texts;
+ghost use Rattle.npm_sets.specs.Private.ReadViews.{AreReadEnds, AreSmallEnds, IsNarrowedTo, IsRead, IsWordRead};
+ghost use Rattle.npm_sets.specs.Private.ReadViews.{ends_seen, hyphen_seen, sides_seen};
+
+use crate::NpmOptions;
+use crate::ends::WordEnds;
+use crate::partial::read_partial;
+use crate::rows::{hyphen_ends, lead_ends};
+use crate::words::{Lead, read_word, skip_space, split_chunk};
+use semver_cuts::Cut;
+use semver_sets::read::Unread;
+use semver_sets::read::alternative::CommonSpan;
+use semver_versions::parse::Fault;
+use std::alloc::{AllocError, Global};
+
+// Merges the comparators of a piece. Returns `true` if there are any.
+pub(crate) fn merge_piece(
+    alloc: Global,
+    piece: &[u8],
+    options: NpmOptions,
+    common: &mut CommonSpan,
+) -> Result<bool, Unread>
+    requires { common.old ≡ None }
+    ensures { IsRead (Meaning.piece_comparators options piece.now) common.new result }
+{
+    let text = skip_space(piece);
+    if text.is_empty() {
+        common.narrow_to(Cut::Start, Cut::End);
+        return Ok(true);
+    }
+    match read_hyphen(text, options) {
+        Some(ends) => {
+            merge_ends(alloc, ends, common)?;
+            Ok(true)
+        }
+        None => merge_words(alloc, text, options, common),
+    }
+}
+
+// Merges one comparator.
+fn merge_ends(alloc: Global, ends: WordEnds, common: &mut CommonSpan) -> Result<(), AllocError>
+    ensures { OnOk result (IsNarrowedTo common.old (ends_seen ends.entry) common.new) }
+{
+    let lower = ends.lower.cut(alloc)?;
+    let upper = ends.upper.cut(alloc)?;
+    common.narrow_to(lower, upper);
+    Ok(())
+}
+
+// ---- hyphen ranges
+
+// `-`
+#[inline(always)]
+fn is_dash(chunk: &[u8]) -> bool
+    ensures { result ≡ Texts.is_dash chunk.now }
+{
+    match chunk {
+        [b'-'] => true,
+        _ => false,
+    }
+}
+
+// `1.2` and `3` of `1.2 - 3`
+fn split_sides(text: &[u8]) -> Option<(&[u8], &[u8])>
+    requires { BeginsWith Texts.is_solid text.now }
+    ensures { sides_seen result ≡ Texts.sides_of (Texts.chunks_of text.now) }
+{
+    let (left, first) = split_chunk(text);
+    let (dash, second) = split_chunk(first);
+    if !is_dash(dash) {
+        return None;
+    }
+    let (right, third) = split_chunk(second);
+    if right.is_empty() {
+        return None;
+    }
+    if !third.is_empty() {
+        return None;
+    }
+    Some((left, right))
+}
+
+// The ends of a piece that is a hyphen range of two partials.
+fn read_hyphen(text: &[u8], options: NpmOptions) -> Option<WordEnds>
+    requires { BeginsWith Texts.is_solid text.now }
+    ensures read { hyphen_seen result
+        ≡ Meaning.hyphen_range options (Texts.sides_of (Texts.chunks_of text.now)) }
+    ensures small { IfSome result (λ ends. AreSmallEnds ends) }
+{
+    let (left, right) = split_sides(text)?;
+    let Ok(left) = read_partial(options.loose, left) else {
+        return None;
+    };
+    let Ok(right) = read_partial(options.loose, right) else {
+        return None;
+    };
+    Some(hyphen_ends(options.include_prerelease, left, right))
+}
+
+// ---- words
+
+// Returns `true` for an operand that is no partial, and `false` for one above a limit.
+#[inline(always)]
+fn is_unknown(fault: Fault) -> bool
+    ensures { result ≡ Meaning.is_unknown fault }
+{
+    match fault {
+        Fault::Missing(_) | Fault::LeftOver(_) => true,
+        Fault::TooLong(_) | Fault::TooLarge(_) => false,
+    }
+}
+
+// Merges the comparator of a word. Returns `true` if it gives one, and `false` if it is ignored.
+fn merge_word(
+    alloc: Global,
+    lead: Lead,
+    operand: &[u8],
+    options: NpmOptions,
+    common: &mut CommonSpan,
+) -> Result<bool, Unread>
+    ensures { IsWordRead options.loose (Meaning.word_comparator options (lead, operand.now)) common.old common.new
+        result }
+{
+    match read_partial(options.loose, operand) {
+        Ok(partial) => {
+            merge_ends(
+                alloc,
+                lead_ends(options.include_prerelease, lead, partial),
+                common,
+            )?;
+            Ok(true)
+        }
+        Err(fault) => {
+            if options.loose && is_unknown(fault) {
+                Ok(false)
+            } else {
+                Err(Unread::Refused)
+            }
+        }
+    }
+}
+
+// Merges the comparators of the words of a piece. Returns `true` if there are any.
+fn merge_words(
+    alloc: Global,
+    text: &[u8],
+    options: NpmOptions,
+    common: &mut CommonSpan,
+) -> Result<bool, Unread>
+    requires empty { common.old ≡ None }
+    requires solid { BeginsWith Texts.is_solid text.now }
+    ensures { IsRead (Meaning.comparators_of options (Texts.words_of (Texts.chunks_of text.now))) common.new result }
+{
+    let mut rest = text;
+    let mut found = false;
+    while !rest.is_empty() {
+        let (lead, operand, others) = read_word(rest);
+        match merge_word(alloc, lead, operand, options, common) {
+            Ok(merged) => {
+                if merged {
+                    found = true;
+                }
+            }
+            Err(unread) => return Err(unread),
+        }
+        rest = others;
+    }
+    Ok(found)
+}

@@ -2,4 +2,5 @@ pub mod AlgebraExamples
 pub mod DifferenceExamples
 pub mod LeastExamples
 mod BeyondExamples
+mod CommonExamples
 pub mod TreeExamples

@@ -2,8 +2,9 @@ pub mod OpenTriples
 pub mod LeastLemmas
 pub mod LeastOfSets
 pub mod HighestCut
-pub mod BeyondCandidates
-pub mod BeyondLemmas
-pub mod BeyondSteps
+pub mod Candidates
+pub mod CandidateBelow
+pub mod CandidateSteps
 pub mod BeyondAnswers
+pub mod CommonAnswers
 pub mod ZeroLists

@@ -2,4 +2,11 @@
 pub use Rattle.semver_versions.specs.Error.{Kind, context, incomplete, max_int, max_length, no_valid_ranges, other, out_of_memory, parse_int}
 pub use Rattle.semver_versions.specs.Error.{kind_of, Refusal, refusal_of, IsRefusalAt, IsOutOfMemory, IsReadAs}
 pub use Rattle.semver_versions.specs.Fault.{IsFault, IsFaultOf}
+pub use Rattle.semver_versions.specs.StrictVersionText.{IsStrictFault, IsStrictFaultOf}
+pub use Rattle.semver_versions.specs.VersionFault.{IsStrictVersionFault, IsVersionFault, fault_kind_of, fault_text}
+pub use Rattle.semver_versions.specs.ErrorParts.{error_kind_of, span_len, span_offset}
+pub use Rattle.semver_versions.specs.ErrorText.{kind_text}
+pub use Rattle.semver_versions.specs.ErrorEquality.{error_value}
 pub use Rattle.semver_versions.specs.ErrorLocation.{newline, is_newline, lines_before, column_at}
+pub use Rattle.semver_versions.specs.Json.{IsVersionAnswer, PassesOn, json_error_text}
+pub use Rattle.semver_versions.specs.declared.json.JsonError.TheVariants.{NotAString}

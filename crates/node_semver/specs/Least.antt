@@ -72,3 +72,18 @@ AdmitsNoneBeyond sets others = IsNoneOf (AdmitsBeyond sets others)
 -- each version that satisfies the first range satisfies the second
 abbrev pub IsAdmittedBy : List (Ends VersionValue) → List (Ends VersionValue) → Type 0
 IsAdmittedBy sets others = (v : VersionValue) → RangeAdmits sets v → RangeAdmits others v
+
+-- ---- the versions that two ranges both admit
+
+-- `^2.0.0-rc.1` and `>=1.5` both admit 2.0.0. They do not both admit 2.0.0-rc.4, though both contain it
+pub record BothAdmit (sets others : List (Ends VersionValue)) (v : VersionValue) : Type 0 where
+  pub one : RangeAdmits sets v
+  pub other : RangeAdmits others v
+
+-- both ranges admit the version, and no such version has lower precedence
+abbrev pub IsLeastCommon : List (Ends VersionValue) → List (Ends VersionValue) → VersionValue → Type 0
+IsLeastCommon sets others least = IsLeastOf (BothAdmit sets others) least
+
+-- there is no version that both ranges admit
+abbrev pub AdmitNoneInCommon : List (Ends VersionValue) → List (Ends VersionValue) → Type 0
+AdmitNoneInCommon sets others = IsNoneOf (BothAdmit sets others)

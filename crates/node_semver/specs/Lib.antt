@@ -2,6 +2,7 @@
 -- are what a reader has to trust.
 
 -- ---- handed on from the crates below
+pub mod Cuts
 pub mod Versions
 pub mod Errors
 pub mod Ranges
@@ -13,6 +14,9 @@ pub mod RangeAlgebra
 pub mod SetTree
 -- ---- the result of reading a range text
 pub mod RangeAnswer
+-- ---- npm's own reading of a range text, handed on from `npm_sets`, and its result
+pub mod NpmRanges
+pub mod NpmRangeAnswer
 -- ---- not part of any public contract: what private functions compute, and lemmas
 pub mod Private
 pub mod Lemmas

@@ -2,4 +2,4 @@
 
 -- the least version
 pub mod LeastViews
-pub mod BeyondViews
+pub mod CandidateViews

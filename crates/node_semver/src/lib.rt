@@ -45,10 +45,12 @@ mod range;
 mod tree;
 
 pub use comparisons::Comparisons;
+pub use npm_sets::NpmOptions;
 pub use range::{Range, max_satisfying, min_satisfying};
+pub use semver_versions::end::EndVersion;
 pub use semver_versions::{
-    Admits, AsVersion, Identifier, IdentifierRef, Identifiers, JsonError, MAX_LENGTH,
-    MAX_SAFE_INTEGER, OrderedVersion, SemverError, SemverErrorKind, SourceSpan, Triple, Version,
-    VersionFault, VersionRef,
+    Admits, AsVersion, Bump, BumpError, Identifier, IdentifierBase, IdentifierRef, Identifiers,
+    JsonError, MAX_LENGTH, MAX_SAFE_INTEGER, OrderedVersion, SemverError, SemverErrorKind,
+    SourceSpan, Triple, Version, VersionFault, VersionRef,
 };
 pub use tree::SetTree;

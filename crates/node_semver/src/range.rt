@@ -13,9 +13,11 @@ ghost use Rattle.node_semver.specs.RangeAlgebra.{sets_of_answer};
 ghost use Rattle.node_semver.specs.RangeAnswer.{IsRangeAnswer};
 
 mod algebra;
+mod contained;
 mod equality;
 mod greatest;
 mod least;
+mod npm;
 mod print;
 mod sets;
 
@@ -248,8 +250,8 @@ impl Range {
     }
 }
 
-// The error for a text that was not read. `inline(always)`: with this function of one line between, the toolchain clears
-// the place of the error only if there is one.
+// The error for a text that is not read. It only calls `error_of`: where `parse` calls that itself, it clears the stack
+// slot of an error for each text, and with this function in between only for a text that is refused.
 #[inline(always)]
 fn unread_error(alloc: Global, text: &str, unread: Unread) -> SemverError
     requires { unread ≡ Refused → IsRefused text.now }
@@ -258,7 +260,7 @@ fn unread_error(alloc: Global, text: &str, unread: Unread) -> SemverError
     error_of(alloc, text, unread)
 }
 
-// The same. `inline(never)`: few texts are refused.
+// The same, out of line. `inline(never)`: few texts are refused.
 #[inline(never)]
 fn error_of(alloc: Global, text: &str, unread: Unread) -> SemverError
     requires { unread ≡ Refused → IsRefused text.now }
@@ -296,9 +298,9 @@ impl Clone for Range {
 impl Admits for Range {
     ghost admits = { RangeAdmits };
 
-    // `inline(always)`: this call is the other.
+    // `inline(always)`: `version.satisfies(&range)` then takes no longer than `range.satisfies(&version)`.
     #[inline(always)]
-    fn admits_version(&self, version: &Version) -> bool {
+    fn admits_version<V: AsVersion>(&self, version: &V) -> bool {
         self.satisfies(version)
     }
 }

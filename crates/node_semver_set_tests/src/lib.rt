@@ -8,6 +8,8 @@ mod beyond;
 #[cfg(test)]
 mod checks;
 #[cfg(test)]
+mod common;
+#[cfg(test)]
 mod json;
 #[cfg(test)]
 mod large;

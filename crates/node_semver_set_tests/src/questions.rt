@@ -29,6 +29,8 @@ pub(crate) enum Question {
     Equals,
     // Two range texts, and the least version that the first admits and the second does not.
     LeastBeyond,
+    // Two range texts, and the least version that both admit.
+    LeastCommon,
     // Two range texts, and a version that their intersection admits.
     CommonAdmits,
     // Two range texts, and a version that the difference of the first and the second admits.

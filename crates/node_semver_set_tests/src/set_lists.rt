@@ -65,7 +65,7 @@ fn comes_back(alloc: Global, range: &Range) -> bool {
     let Ok(sets) = range.sets(alloc) else {
         return false;
     };
-    match (&Range::from_sets(alloc, sets), &range.to_string(alloc)) {
+    match (&Range::from_sets(alloc, &sets), &range.to_string(alloc)) {
         (Ok(Some(made)), Ok(print)) => is_print(made.to_string(alloc).ok(), print.as_str()),
         _ => false,
     }
@@ -98,7 +98,7 @@ fn push_cut(print: &mut String, cut: &Cut<Version>) -> Result<(), AllocError> {
 fn has_range(alloc: Global, version: Version) -> Option<bool> {
     let mut sets = Vec::new(alloc);
     sets.push(Span::new(Cut::Before(version), Cut::End)?).ok()?;
-    made(&Range::from_sets(alloc, sets))
+    made(&Range::from_sets(alloc, &sets))
 }
 
 fn made(answer: &Result<Option<Range>, AllocError>) -> Option<bool> {
@@ -131,7 +131,7 @@ fn has_range_with_text(alloc: Global, text: &str) -> Option<bool> {
 
 #[test]
 fn makes_no_range_of_no_sets(rt: HostRuntime) {
-    assert!(rt; made(&Range::from_sets(rt.alloc(), Vec::new(rt.alloc()))) == Some(false));
+    assert!(rt; made(&Range::from_sets(rt.alloc(), &[])) == Some(false));
 }
 
 // One more than the greatest number of a text is the end of `^9007199254740991`. No text is read as an end with a

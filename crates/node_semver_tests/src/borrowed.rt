@@ -1,6 +1,8 @@
 use crate::order::hash_of;
 use crate::prints::is_one_way;
-use node_semver::{Identifier, IdentifierRef, Identifiers, Version, VersionRef};
+use node_semver::{
+    Identifier, IdentifierRef, Identifiers, SemverError, Version, VersionFault, VersionRef,
+};
 use std::alloc::Global;
 
 fn is_same_identifier(identifier: &Identifier, borrowed: Option<IdentifierRef<'_>>) -> bool {
@@ -12,6 +14,9 @@ fn is_same_identifier(identifier: &Identifier, borrowed: Option<IdentifierRef<'_
 }
 
 fn are_same(identifiers: &[Identifier], borrowed: Identifiers<'_>) -> bool {
+    if borrowed.len() != identifiers.len() {
+        return false;
+    }
     let mut borrowed = borrowed;
     for identifier in identifiers {
         if !is_same_identifier(identifier, borrowed.next()) {
@@ -59,6 +64,14 @@ fn agree(alloc: Global, version: &Version, borrowed: &VersionRef<'_>) -> bool {
         && hash_of(version) == hash_of(borrowed)
 }
 
+// The fault equals itself, and prints as the error does.
+fn is_fault_printed_alike(alloc: Global, fault: VersionFault, error: &SemverError) -> bool {
+    match error.to_string(alloc) {
+        Ok(print) => fault == fault && is_one_way(alloc, &fault, print.as_str()),
+        Err(_) => false,
+    }
+}
+
 // Returns `true` if both types read the text as the same version, with the same copy, print and hash, or with the same
 // fault.
 pub(crate) fn both_read(alloc: Global, text: &str) -> bool {
@@ -67,6 +80,8 @@ pub(crate) fn both_read(alloc: Global, text: &str) -> bool {
         (Err(error), Err(fault)) => {
             fault.offset() == error.offset()
                 && fault.kind() == *error.kind()
+                && fault.location(text) == error.location()
+                && is_fault_printed_alike(alloc, fault, &error)
                 && fault.into_error(alloc, text) == error
         }
         _ => false,

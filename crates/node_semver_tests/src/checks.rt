@@ -28,7 +28,7 @@ fn answer_triple(range: &Range, version: &Version, wanted: bool) -> bool {
 // The same for a version that borrows its text.
 fn answer_borrowed(range: &Range, version: &str, wanted: bool) -> bool {
     match &VersionRef::parse(version) {
-        Ok(version) => range.satisfies(version) == wanted,
+        Ok(version) => { range.satisfies(version) == wanted && version.satisfies(range) == wanted }
         Err(_) => false,
     }
 }

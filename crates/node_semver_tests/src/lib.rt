@@ -6,6 +6,10 @@ mod alternatives;
 #[cfg(test)]
 mod borrowed;
 #[cfg(test)]
+mod build_order;
+#[cfg(test)]
+mod bumps;
+#[cfg(test)]
 mod bytes;
 #[cfg(test)]
 mod carets;
@@ -13,6 +17,8 @@ mod carets;
 mod checks;
 #[cfg(test)]
 mod clones;
+#[cfg(test)]
+mod contained;
 #[cfg(test)]
 mod errors;
 #[cfg(test)]
@@ -24,9 +30,13 @@ mod limits;
 #[cfg(test)]
 mod long_texts;
 #[cfg(test)]
+mod npm_ranges;
+#[cfg(test)]
 mod operators;
 #[cfg(test)]
 mod order;
+#[cfg(test)]
+mod own_type;
 #[cfg(test)]
 mod prerelease_tags;
 #[cfg(test)]
@@ -45,6 +55,8 @@ mod refusals;
 mod search;
 #[cfg(test)]
 mod spread;
+#[cfg(test)]
+mod strict;
 #[cfg(test)]
 mod tildes;
 #[cfg(test)]

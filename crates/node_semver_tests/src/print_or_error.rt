@@ -4,7 +4,7 @@ use node_semver::{Range, SemverError, Version};
 use std::alloc::Global;
 
 // The kind, byte offset, line and column of an error of this text, if its span agrees with them.
-fn described(alloc: Global, error: &SemverError, text: &str) -> Option<String> {
+pub(crate) fn described(alloc: Global, error: &SemverError, text: &str) -> Option<String> {
     if !holds(error, text) {
         return None;
     }

@@ -5,13 +5,13 @@ use Rattle.std.specs.Fmt.{digits}
 use Rattle.std.specs.List.{AllByRecursion}
 use Rattle.std.specs.declared.cmp.Ordering.TheVariants.{Equal}
 use Rattle.semver_cuts.specs.declared.cut.Cut.{Cut}
-use Rattle.semver_cuts.specs.declared.cut.Cut.TheVariants.{Start, Before, After}
+use Rattle.semver_cuts.specs.declared.cut.Cut.TheVariants.{Before, After}
 use Rattle.semver_cuts.specs.Cut.{cut_cmp}
 use Rattle.semver_cuts.specs.Ends.{Ends, HoldsCut, IsInSpan}
 use Rattle.semver_cuts.specs.Difference.{AreDifference, IsInDifference, IsPiece, IsPieceLower, IsPieceUpper}
 use Rattle.semver_cuts.specs.Sharing.{CoversAll}
-use Rattle.semver_cuts.specs.Lemmas.Ends.{at_most_trans, at_most-or-below, below_trans, below-not-at_most}
-use Rattle.semver_sets.specs.Comparator.{above, at_least, at_most, below, with_major, with_minor}
+use Rattle.semver_cuts.specs.Lemmas.Ends.{at_most_trans, at_most-or-below, below-not-at_most}
+use Rattle.semver_sets.specs.Comparator.{above, at_least, with_major, with_minor}
 use Rattle.semver_versions.specs.Comparison.{version_cmp}
 use Rattle.semver_versions.specs.IdentifierValue.{alphanumeric}
 use Rattle.semver_versions.specs.Lemmas.Order.{version_total}
@@ -155,88 +155,6 @@ above-second are =
     ]
 
 -- ---- an upper end: `<=3.0.0` less `2.0.0+a - 3.0.0 || 2.0.0+b - 2.5.0`
-
-abbrev beginning : Sets
-beginning = from_to one_build (release 3 0 0) ∷ from_to other_build (release 2 5 0) ∷ []
-
-below-cuts : (cut : Cut VersionValue) → IsInSpan version_cmp (below one_build) cut
-    ↔ IsInDifference version_cmp beginning (at_most (release 3 0 0)) cut
-below-cuts cut = (
-  λ inside. (
-    record {
-      lower = inside.lower;
-      upper = below_trans version_total cut (Before one_build) (After (release 3 0 0)) inside.upper refl;
-    },
-    λ some. elim some [
-      | inl first ↦ below-not-at_most version_total cut (Before one_build) inside.upper first.lower
-      | inr more ↦ elim more [
-        | inl second ↦ below-not-at_most version_total cut (Before one_build) inside.upper
-            (at_most_trans version_total (Before one_build) (Before other_build) cut (inr refl) second.lower)
-        | inr none ↦ none
-      ]
-    ],
-  ),
-  λ left. record {
-    lower = left.0.lower;
-    upper = elim (at_most-or-below version_total (Before one_build) cut) [
-      | inl past ↦ absurd (left.1 (inl (record { lower = past; upper = left.0.upper })))
-      | inr early ↦ early
-    ];
-  },
-)
-
--- it is `<2.0.0+a`
-below-first : AreDifference version_cmp (at_most (release 3 0 0) ∷ []) beginning (below one_build ∷ [])
-below-first =
-    one-piece beginning (at_most (release 3 0 0)) (below one_build)
-    (Start, record { lower = inr refl; upper = refl }) below-cuts
-    (inl refl)
-    (inr (
-      refl,
-      record {
-        before = [];
-        span = from_to one_build (release 3 0 0);
-        after = from_to other_build (release 2 5 0) ∷ [];
-        parts = refl;
-        end_of = refl;
-        earlier = tt;
-        later = (tt, tt);
-      },
-    ))
-
-pub below-print : GivesPrint (without (of_text (codes "<=3.0.0"))
-    (of_text (codes "2.0.0+a - 3.0.0 || 2.0.0+b - 2.5.0")))
-    (codes "<2.0.0+a")
-unfolding sets_in digits
-below-print = (
-  below one_build ∷ [],
-  inr (at_most (release 3 0 0) ∷ [], beginning, merged-by _ _ refl, merged-by _ _ refl, below-first),
-  refl,
-)
-
-not_first-beginning : (before after : Sets) (span : Ends VersionValue) → beginning ≡ before ++ span ∷ after
-    → span.lower ≡ Before other_build
-    → AllByRecursion (λ (s : Ends VersionValue). ¬ (cut_cmp version_cmp s.lower (Before other_build) ≡ Equal)) before
-    → ⊥
-not_first-beginning [] after span parts end_of earlier =
-    let first : from_to one_build (release 3 0 0) ≡ span = cc parts in
-    builds-apart (Before one_build) (Before other_build) refl refl
-    (ap (λ (s : Ends VersionValue). s.lower) first ∙ end_of)
-not_first-beginning (first ∷ before) after span parts end_of earlier =
-    let is : from_to one_build (release 3 0 0) ≡ first = cc parts in
-    earlier.0 (subst (λ (s : Ends VersionValue). cut_cmp version_cmp s.lower (Before other_build) ≡ Equal) is refl)
-
--- and not `<2.0.0+b`
-pub below-second : ¬ AreDifference version_cmp (at_most (release 3 0 0) ∷ []) beginning (below other_build ∷ [])
-below-second are =
-    let piece : IsPiece version_cmp beginning (at_most (release 3 0 0)) (below other_build) =
-    has-piece (IsPiece version_cmp beginning (at_most (release 3 0 0))) are.0 are.1 (below other_build) are.2 are.4
-    are.3.each in
-    elim piece.upper [
-      | inl own ↦ cc own
-      | inr inner ↦
-          not_first-beginning inner.1.before inner.1.after inner.1.span inner.1.parts inner.1.end_of inner.1.earlier
-    ]
 
 -- ---- all cuts of another text
 

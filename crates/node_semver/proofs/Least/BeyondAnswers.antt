@@ -1,4 +1,5 @@
--- The program's result, from the best of the candidates; and that a range admits a version or does not.
+-- The least version that one range admits and another does not, from the best of the candidates; and that a range admits a
+-- version or does not.
 use Rattle.std.proofs.Common.{◌≡◌, ◌↔◌, ◌⊎◌, Bool, true, false, List, [], ◌∷◌, Option, Some, inl, inr}
 use Rattle.std.proofs.lemmas.Bool.{cases_Bool}
 use Rattle.std.specs.List.{list_any}
@@ -6,9 +7,10 @@ use Rattle.semver_cuts.specs.Ends.{Ends}
 use Rattle.semver_sets.specs.Meaning.{RangeAdmits, SetAdmits}
 use Rattle.semver_versions.specs.Version.{VersionValue}
 use Rattle.semver_sets.specs.Lemmas.Deciding.{admit, admit-iff, any-iff}
-use Rattle.node_semver.specs.Least.{AdmitsNoneBeyond, IsAdmittedBy}
-use Rattle.node_semver.specs.Private.BeyondViews.{AreUppersTried, IsLeastBeyondOrNone}
-use Rattle.node_semver.proofs.Least.BeyondLemmas.{best-least}
+use Rattle.node_semver.specs.Least.{AdmitsBeyond, AdmitsNoneBeyond, IsAdmittedBy}
+use Rattle.node_semver.specs.Private.CandidateViews.{AreEndsTried, IsLeastOrNone}
+use Rattle.node_semver.proofs.Least.CandidateBelow.{best-least}
+use Rattle.node_semver.proofs.Least.HighestCut.{beyond-between}
 
 -- ---- a list of sets admits a version or does not
 
@@ -38,14 +40,23 @@ admitted-or_not sets v = elim (cases_Bool (range_admits sets v)) [
   | inr fails ↦ inr (λ admits. cc ((range_admits-iff sets v).1 admits, fails))
 ]
 
--- ---- the program's result
+-- ---- the least version beyond the others
 
-pub tried-least : (sets others : List (Ends VersionValue)) (best : Option VersionValue)
-    → AreUppersTried sets others others best → IsLeastBeyondOrNone sets others best
-tried-least sets others best tried = best-least sets others best tried.lowers.best tried.lowers.each tried.each
+pub beyond-least : (sets others : List (Ends VersionValue)) (best : Option VersionValue)
+    → AreEndsTried (AdmitsBeyond sets others) (λ set. set.upper) sets others best
+    → IsLeastOrNone (AdmitsBeyond sets others) best
+beyond-least sets others best tried =
+    best-least (AdmitsBeyond sets others) sets others (λ set. set.upper)
+    (record {
+      admitted = λ v beyond. beyond.admitted;
+      between = λ c x w alike from to lowers uppers beyond.
+          beyond-between c x w alike from to sets others lowers uppers beyond;
+    })
+    best tried
 
 -- a version, where there is one
-pub some-beyond : (sets others : List (Ends VersionValue)) (v : VersionValue) → IsLeastBeyondOrNone sets others (Some v)
+pub some-beyond : (sets others : List (Ends VersionValue)) (v : VersionValue)
+    → IsLeastOrNone (AdmitsBeyond sets others) (Some v)
     → (true ≡ false) ↔ AdmitsNoneBeyond sets others
 some-beyond sets others v least = (λ e. cc e, λ none. absurd (none v least.0.wanted))
 

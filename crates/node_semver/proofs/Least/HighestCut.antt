@@ -1,5 +1,5 @@
 -- The highest of the cuts at ends of a list that are not above a version, and the cuts between it and the version.
-use Rattle.std.proofs.Common.{◌∙◌, List, [], ◌∷◌, inl, inr}
+use Rattle.std.proofs.Common.{List, [], ◌∷◌, inl, inr}
 use Rattle.std.specs.List.{AllByRecursion}
 use Rattle.semver_cuts.specs.declared.cut.Cut.{Cut}
 use Rattle.semver_cuts.specs.declared.cut.Cut.TheVariants.{Before}
@@ -7,7 +7,7 @@ use Rattle.semver_cuts.specs.Ends.{Ends, IsCutAtMost}
 use Rattle.semver_cuts.specs.Lemmas.Ends.{at_most-below, at_most-or-below, at_most_refl, at_most_trans}
 use Rattle.semver_cuts.specs.Lemmas.Ends.{below-not-at_most}
 use Rattle.semver_versions.specs.Comparison.{version_cmp}
-use Rattle.semver_sets.specs.Meaning.{AnyByRecursion, HasOpenEnd, SetAdmits}
+use Rattle.semver_sets.specs.Meaning.{AnyByRecursion, HasOpenEnd, RangeAdmits, SetAdmits}
 use Rattle.semver_versions.specs.Version.{HasSameTriple, IsPrerelease, VersionValue}
 use Rattle.semver_versions.specs.Lemmas.Order.{version_total}
 use Rattle.semver_versions.specs.Lemmas.Versions.Between.{triple-back}
@@ -133,6 +133,14 @@ module _ (c : Cut VersionValue) (x w : VersionValue) (alike : AskAlike x w)
     opened = opened-forth set w x (alike-back x w alike) admits.opened;
   }
 
+  -- so does a list of sets that all begin no higher than the cut
+  pub admits-between : (sets : List (Ends VersionValue))
+      → AllByRecursion (λ (set : Ends VersionValue). IsCutAtMost version_cmp set.lower (Before w)
+      → IsCutAtMost version_cmp set.lower c) sets
+      → RangeAdmits sets w → RangeAdmits sets x
+  admits-between sets lowers admits = any-along _ (λ (set : Ends VersionValue). SetAdmits set w)
+      (λ (set : Ends VersionValue). SetAdmits set x) sets (λ set lower. set-between set lower) lowers admits
+
   -- what admits it and ends no lower than the version admits the version
   set-beyond : (set : Ends VersionValue)
       → (IsCutAtMost version_cmp set.upper (Before w) → IsCutAtMost version_cmp set.upper c)
@@ -157,9 +165,7 @@ module _ (c : Cut VersionValue) (x w : VersionValue) (alike : AskAlike x w)
       → IsCutAtMost version_cmp set.upper c) others
       → AdmitsBeyond sets others w → AdmitsBeyond sets others x
   beyond-between sets others lowers uppers beyond = record {
-    admitted = any-along _ (λ (set : Ends VersionValue). SetAdmits set w)
-        (λ (set : Ends VersionValue). SetAdmits set x) sets
-        (λ set lower. set-between set lower) lowers beyond.admitted;
+    admitted = admits-between sets lowers beyond.admitted;
     turned_away = λ admits. beyond.turned_away
         (any-along _ (λ (set : Ends VersionValue). SetAdmits set x)
         (λ (set : Ends VersionValue). SetAdmits set w) others

@@ -11,7 +11,7 @@ use Rattle.semver_cuts.specs.Lemmas.CommonSpans.{common_spans-ends, common_spans
 use Rattle.semver_cuts.specs.Lemmas.Difference.{difference-ends, difference-hold}
 use Rattle.semver_versions.specs.Comparison.{version_cmp}
 use Rattle.semver_versions.specs.Lemmas.Order.{version_total}
-use Rattle.semver_sets.specs.RangeSets.{IsRangeSet, IsRangeValue, IsReadCut}
+use Rattle.semver_sets.specs.RangeSets.{IsRangeCut, IsRangeSet, IsRangeValue}
 use Rattle.semver_versions.specs.Version.{VersionValue}
 use Rattle.node_semver.specs.RangeAlgebra.{sets_of_answer}
 
@@ -19,7 +19,7 @@ use Rattle.node_semver.specs.RangeAlgebra.{sets_of_answer}
 
 -- both ends of a set are ends that a range can have
 HasReadEnds : Ends VersionValue → Type 0
-HasReadEnds set = IsReadCut set.lower × IsReadCut set.upper
+HasReadEnds set = IsRangeCut set.lower × IsRangeCut set.upper
 
 ends-read : (sets : List (Ends VersionValue)) → AllByRecursion IsRangeSet sets → AllByRecursion HasReadEnds sets
 unfolding HasReadEnds
@@ -39,7 +39,7 @@ pub common-bounded : (ones others : List (Ends VersionValue)) → AllByRecursion
 unfolding HasReadEnds
 common-bounded ones others all all' =
     sets-held (common_spans version_cmp ones others) (common_spans-hold version_total ones others)
-    (common_spans-ends version_total IsReadCut IsReadCut ones others (ends-read ones all) (ends-read others all'))
+    (common_spans-ends version_total IsRangeCut IsRangeCut ones others (ends-read ones all) (ends-read others all'))
 
 -- and so are those of a difference
 pub difference-bounded : (ones others spans : List (Ends VersionValue)) → AreDifference version_cmp ones others spans
@@ -47,7 +47,7 @@ pub difference-bounded : (ones others spans : List (Ends VersionValue)) → AreD
 unfolding HasReadEnds
 difference-bounded ones others spans are all all' =
     sets-held spans (difference-hold version_cmp ones others spans are)
-    (difference-ends version_cmp IsReadCut IsReadCut ones others spans (ends-read ones all) (ends-read others all') are)
+    (difference-ends version_cmp IsRangeCut IsRangeCut ones others spans (ends-read ones all) (ends-read others all') are)
 
 -- ---- where there is no range
 

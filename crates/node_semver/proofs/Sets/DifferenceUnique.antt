@@ -12,18 +12,14 @@ use Rattle.semver_cuts.specs.Ends.{Ends, IsCutAtMost, IsCutBelow, IsInSpan, span
 use Rattle.semver_cuts.specs.Difference.{AreDifference, IsFirstAt, IsInDifference, IsPiece, IsPieceLower, IsPieceUpper}
 use Rattle.semver_cuts.specs.Difference.{IsWithinDifference}
 use Rattle.semver_cuts.specs.Lemmas.Apart.{apart-above, apart-tail}
-use Rattle.semver_cuts.specs.Lemmas.Ends.{at_most_refl, at_most_trans, at_most-below, at_most-or-below, below-at_most}
+use Rattle.semver_cuts.specs.Lemmas.Ends.{at_most_refl, at_most_trans, at_most-below, at_most-both, at_most-or-below}
 use Rattle.semver_cuts.specs.Lemmas.Ends.{below-not-at_most, below_irrefl, below_trans, cut_cmp-equal_back}
+use Rattle.semver_cuts.specs.Lemmas.InSome.{some-above}
 use Rattle.semver_cuts.specs.Lemmas.Lists.{all_map}
 use Rattle.semver_cuts.specs.Lemmas.TwoSpans.{holds-below}
 
 module _ {T : Type 0} {cmp : T → T → Ordering} (o : IsTotalOrder cmp) where
   -- ---- ends at one cut
-
-  -- each at most the other is the same cut
-  at_most-both : (c d : Cut T) → IsCutAtMost cmp c d → IsCutAtMost cmp d c → cut_cmp cmp c d ≡ Equal
-  at_most-both c d (inl less) back = absurd (below-not-at_most o c d less back)
-  at_most-both c d (inr same) back = same
 
   module _ (end : Ends T → Cut T) (c d : Cut T) (alike : cut_cmp cmp c d ≡ Equal) where
     -- the first span that has its end at a cut is one
@@ -132,26 +128,20 @@ module _ {T : Type 0} {cmp : T → T → Ordering} (o : IsTotalOrder cmp) where
     touching : (p q : Ends T) (c : Cut T) → Piece p → Piece q → IsInSpan cmp p c → IsInSpan cmp q c → p ≡ q
     touching p q c is is' in_p in_q =
         let lower : p.lower ≡ q.lower = lower-same p.lower q.lower
-        (at_most-both p.lower q.lower (lower-reach p q c is is' in_p in_q) (lower-reach q p c is' is in_q in_p))
+        (at_most-both o p.lower q.lower (lower-reach p q c is is' in_p in_q) (lower-reach q p c is' is in_q in_p))
         is.lower is'.lower in
         let upper : p.upper ≡ q.upper = upper-same p.upper q.upper
-        (at_most-both p.upper q.upper (upper-reach q p c is' is in_q in_p) (upper-reach p q c is is' in_p in_q))
+        (at_most-both o p.upper q.upper (upper-reach q p c is' is in_q in_p) (upper-reach p q c is is' in_p in_q))
         is.upper is'.upper in
         λ i. record { lower = lower i; upper = upper i }
 
     -- ---- ascending pieces
 
-    some-above : (u cut : Cut T) (ps : List (Ends T)) → AllByRecursion (λ (s : Ends T). IsCutBelow cmp u s.lower) ps
-        → IsInSome cmp ps cut → IsCutBelow cmp u cut
-    some-above u cut [] above some = absurd some
-    some-above u cut (p ∷ ps) above (inl here) = below-at_most o u p.lower cut above.0 here.lower
-    some-above u cut (p ∷ ps) above (inr there) = some-above u cut ps above.1 there
-
     -- a cut of a later piece lies above the first one
     later-above : (p : Ends T) (ps : List (Ends T)) (cut : Cut T) → AllByRecursion Piece ps → AreApart cmp (p ∷ ps)
         → IsInSome cmp ps cut → IsCutBelow cmp p.upper cut
     later-above p ps cut all apart some =
-        some-above p.upper cut ps
+        some-above o cut p.upper ps
         (apart-above o p ps apart (all_map Piece (λ (s : Ends T). IsCutBelow cmp s.lower s.upper) rising ps all)) some
 
     -- the cuts of the later pieces

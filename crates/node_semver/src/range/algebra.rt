@@ -39,9 +39,7 @@ impl Range {
     ///
     /// # Memory
     ///
-    /// Allocates the identifiers of the ends, and a list if the result has several sets. If there are many sets, and
-    /// those of `other` are not in ascending order or touch, also allocates both lists in sorted order for the time of
-    /// the call.
+    /// Allocates the identifiers of the ends, and a list if the result has several sets.
     ///
     /// # Examples
     ///
@@ -72,7 +70,7 @@ impl Range {
         other
             .sets
             .merged()
-            .common_with(alloc, self.sets.as_slice(), &mut sets)?;
+            .common_with(self.sets.as_slice(), &mut sets)?;
         Ok(Range::of_gathered(sets)?)
     }
 

@@ -58,7 +58,7 @@ fn write_barred<W: fmt::Write>(f: &mut fmt::Formatter<W>, sets: &[Span<EndVersio
     Ok(())
 }
 
-// `*`, `>=1.2.3`, `1.2.3`, `>1.2.3 <=2.0.0`. One write if the text of the set fits the array of `line::set`.
+// `*`, `>=1.2.3`, `1.2.3`, `>1.2.3 <=2.0.0`. One write if the text of the set fits `line`.
 fn write_set<W: fmt::Write>(f: &mut fmt::Formatter<W>, set: &Span<EndVersion>) -> fmt::Result
     ensures { WritesOnOk W.write_str_gives f.old result (set_text set.now) f.new }
 {

@@ -1,9 +1,9 @@
 //! The sets of a range, as spans of versions.
 //!
-//! See docs/DECISIONS.md, "A range is made only of sets that a text could write".
+//! See docs/DECISIONS.md, "A range has only ends with small numbers and readable identifiers".
 ghost use Rattle.std.specs.Prelude.{◌≡◌, ◌↔◌, ◌≤◌, ◌+◌, length, IfOk, IfSome, IsNone, IsSome, IsTrue};
 ghost use Rattle.std.specs.List.{AllByRecursion, slice_get};
-ghost use Rattle.semver_sets.specs.RangeSets.{IsRangeSet, IsRangeValue, IsReadCut, IsReadVersion};
+ghost use Rattle.semver_sets.specs.RangeSets.{IsRangeCut, IsRangeEnd, IsRangeSet, IsRangeValue};
 ghost use Rattle.semver_versions.specs.IdentifierText.{IsReadIdentifier};
 ghost use Rattle.semver_versions.specs.declared.TheConstants.{MAX_SAFE_INTEGER};
 
@@ -82,12 +82,13 @@ impl Range {
         }
     }
 
-    /// Returns the range of these sets in their order, or `None` if the list is empty or a set has an end that no range
-    /// text can write.
+    /// Returns the range of these sets in their order. Returns `None` if the list is empty, if an end has a number
+    /// above 9007199254740992, or if an end has an identifier that no text writes.
     ///
-    /// [`Range::sets`] gives the same list back, builds included. No range text writes a number above 9007199254740992,
-    /// which is `MAX_SAFE_INTEGER` and 1, nor an identifier such as `a b`, the empty text, or the text `1`, which as an
-    /// identifier is the number.
+    /// [`Range::sets`] gives the same list back, builds included. The sets are only borrowed: they are copied, and the
+    /// caller still has them if the result is `None` or an error. 9007199254740992 is `MAX_SAFE_INTEGER + 1`: the upper
+    /// end of `^9007199254740991` has this number. A print with it is not read back, since no range text can write it.
+    /// No text writes the identifier `a b`, the empty one, or the text `1` as an identifier that is no number.
     ///
     /// # Errors
     ///
@@ -102,19 +103,19 @@ impl Range {
     ///
     /// - The range of the span from `Before(1.2.3)` to `Before(2.0.0-0)` equals `^1.2.3`.
     /// - The empty list gives `None`, and so does a span that ends at `Before(18446744073709551615.0.0)`.
-    pub fn from_sets(alloc: Global, sets: Vec<Span<Version>>) -> Result<Option<Range>, AllocError>
-        ensures sets { IfOk result (λ answer. IfSome answer (λ range. range ≡ sets.items)) }
-        ensures some { IfOk result (λ answer. IsSome answer ↔ IsRangeValue sets.items) }
-        ensures none { IfOk result (λ answer. IsNone answer ↔ ¬ IsRangeValue sets.items) }
+    pub fn from_sets(alloc: Global, sets: &[Span<Version>]) -> Result<Option<Range>, AllocError>
+        ensures sets { IfOk result (λ answer. IfSome answer (λ range. range ≡ sets.now)) }
+        ensures some { IfOk result (λ answer. IsSome answer ↔ IsRangeValue sets.now) }
+        ensures none { IfOk result (λ answer. IsNone answer ↔ ¬ IsRangeValue sets.now) }
     {
-        if !are_range_sets(&sets) {
+        if !are_range_sets(sets) {
             return Ok(None);
         }
-        Range::of_gathered(gathered(alloc, &sets)?)
+        Range::of_gathered(gathered(alloc, sets)?)
     }
 }
 
-// Whether a range text can write each of the sets.
+// Whether each of the sets can be a set of a range.
 fn are_range_sets(sets: &[Span<Version>]) -> bool
     ensures { IsTrue result ↔ AllByRecursion IsRangeSet sets.now }
 {
@@ -131,22 +132,22 @@ fn is_range_set(set: &Span<Version>) -> bool
     ensures { IsTrue result ↔ IsRangeSet set.now }
 {
     let (lower, upper) = set.ends();
-    is_read_cut(lower) && is_read_cut(upper)
+    is_range_cut(lower) && is_range_cut(upper)
 }
 
 #[inline]
-fn is_read_cut(cut: &Cut<Version>) -> bool
-    ensures { IsTrue result ↔ IsReadCut cut.now }
+fn is_range_cut(cut: &Cut<Version>) -> bool
+    ensures { IsTrue result ↔ IsRangeCut cut.now }
 {
     match cut {
         Cut::Start | Cut::End => true,
-        Cut::Before(version) | Cut::After(version) => is_read_version(version),
+        Cut::Before(version) | Cut::After(version) => is_range_end(version),
     }
 }
 
 #[inline]
-fn is_read_version(version: &Version) -> bool
-    ensures { IsTrue result ↔ IsReadVersion version.now }
+fn is_range_end(version: &Version) -> bool
+    ensures { IsTrue result ↔ IsRangeEnd version.now }
 {
     are_read_numbers(version.major, version.minor, version.patch) && has_read_identifiers(version)
 }

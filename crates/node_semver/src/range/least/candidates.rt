@@ -1,11 +1,11 @@
-//! The candidates for the least version beyond another range. A candidate is checked against sets before any memory is
+//! The candidates for the least version that is wanted of two ranges. A candidate is checked against sets before any memory is
 //! allocated for it.
 //!
 //! `#[inline(always)]`: each function is a few stores or comparisons in the loop over the candidates.
 ghost use Rattle.std.specs.Prelude.{◌≡◌, ◌↔◌, IsTrue};
 ghost use Rattle.semver_versions.specs.Comparison.{prerelease_cmp};
 ghost use Rattle.semver_versions.specs.Version.{least_of, release, without_build};
-ghost use Rattle.node_semver.specs.Private.BeyondViews.{IsBelowBest};
+ghost use Rattle.node_semver.specs.Private.CandidateViews.{IsBelowBest};
 
 use crate::range::least::unbuilt::Unbuilt;
 use semver_versions::end::{BorrowedIdentifiers, EndVersion};

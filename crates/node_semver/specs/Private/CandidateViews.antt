@@ -1,4 +1,5 @@
--- What the private functions compute that look for the least version beyond a range.
+-- What the private functions compute that look for the least version of two ranges that is wanted: one that the first
+-- admits and the second does not, or one that both admit.
 use Rattle.std.specs.Prelude.{◌≡◌, ◌+◌, List, [], ◌∷◌, Option, Some, None}
 use Rattle.std.specs.List.{AllByRecursion}
 use Rattle.std.specs.declared.cmp.Ordering.TheVariants.{Less}
@@ -9,7 +10,7 @@ use Rattle.semver_versions.specs.Comparison.{version_cmp}
 use Rattle.semver_versions.specs.IdentifierValue.{IdentifierValue}
 use Rattle.semver_sets.specs.Meaning.{Opens, SetAdmits}
 use Rattle.semver_versions.specs.Version.{VersionValue, least_of, release, without_build}
-use Rattle.node_semver.specs.Least.{AdmitsBeyond, AdmitsNoneBeyond, IsLeastBeyond}
+use Rattle.node_semver.specs.Least.{IsLeastOf, IsNoneOf}
 use Rattle.semver_versions.specs.VersionSteps.{with_zero}
 
 -- ---- candidates
@@ -38,32 +39,30 @@ abbrev pub IsNotBelow : Option VersionValue → VersionValue → Type 0
 IsNotBelow None v = ⊥
 IsNotBelow (Some best) v = ¬ (version_cmp v best ≡ Less)
 
--- if the first range admits the version and the second does not, then it is not less than the best so far
-abbrev pub IsTried : List (Ends VersionValue) → List (Ends VersionValue) → Option VersionValue → VersionValue → Type 0
-IsTried sets others best v = AdmitsBeyond sets others v → IsNotBelow best v
+-- if the version is wanted, then it is not less than the best so far
+abbrev pub IsTried : (VersionValue → Type 0) → Option VersionValue → VersionValue → Type 0
+IsTried Wanted best v = Wanted v → IsNotBelow best v
 
 -- the same for all candidates of a cut
-abbrev pub IsCutTried : List (Ends VersionValue) → List (Ends VersionValue) → Option VersionValue → Cut VersionValue
-    → Type 0
-IsCutTried sets others best cut = AllByRecursion (IsTried sets others best) (candidates_at cut)
+abbrev pub IsCutTried : (VersionValue → Type 0) → Option VersionValue → Cut VersionValue → Type 0
+IsCutTried Wanted best cut = AllByRecursion (IsTried Wanted best) (candidates_at cut)
 
 -- the same for the least version of a triple that the upper end of a set opens, if the set admits it
-abbrev pub IsOpenTried : List (Ends VersionValue) → List (Ends VersionValue) → Option VersionValue → Ends VersionValue
-    → Type 0
-IsOpenTried sets others best set =
+abbrev pub IsOpenTried : (VersionValue → Type 0) → Option VersionValue → Ends VersionValue → Type 0
+IsOpenTried Wanted best set =
     (v : VersionValue) → Opens set.upper v → SetAdmits set (least_of v.major v.minor v.patch)
-    → IsTried sets others best (least_of v.major v.minor v.patch)
+    → IsTried Wanted best (least_of v.major v.minor v.patch)
 
 -- the same for a set: for its lower end, and for the triple that its upper end opens
-pub record IsSetTried (sets others : List (Ends VersionValue)) (best : Option VersionValue) (set : Ends VersionValue)
+pub record IsSetTried (Wanted : VersionValue → Type 0) (best : Option VersionValue) (set : Ends VersionValue)
     : Type 0 where
-  pub lower : IsCutTried sets others best set.lower
-  pub opened : IsOpenTried sets others best set
+  pub lower : IsCutTried Wanted best set.lower
+  pub opened : IsOpenTried Wanted best set
 
--- the best version so far, if there is one, has no build, and the first range admits it and the second does not
-abbrev pub IsBest : List (Ends VersionValue) → List (Ends VersionValue) → Option VersionValue → Type 0
-IsBest sets others None = Unit {0}
-IsBest sets others (Some best) = AdmitsBeyond sets others best × (best.build ≡ [])
+-- the best version so far, if there is one, has no build and is wanted
+abbrev pub IsBest : (VersionValue → Type 0) → Option VersionValue → Type 0
+IsBest Wanted None = Unit {0}
+IsBest Wanted (Some best) = Wanted best × (best.build ≡ [])
 
 -- the version is less than the best so far, or there is none so far
 abbrev pub IsBelowBest : Option VersionValue → VersionValue → Type 0
@@ -81,46 +80,48 @@ abbrev pub IsShut : Cut VersionValue → Type 0
 IsShut cut = (v : VersionValue) → Opens cut v → ¬ IsCutBelow version_cmp (Before (least_of v.major v.minor v.patch)) cut
 
 -- one step: the candidates that were tried before stay so, and the best so far still is one
-pub record IsStep (sets others : List (Ends VersionValue)) (earlier later : Option VersionValue) : Type 0 where
-  pub best : IsBest sets others earlier → IsBest sets others later
+pub record IsStep (Wanted : VersionValue → Type 0) (earlier later : Option VersionValue) : Type 0 where
+  pub best : IsBest Wanted earlier → IsBest Wanted later
   pub kept : (v : VersionValue) → IsNotBelow earlier v → IsNotBelow later v
 
 -- a step that tries a version
-pub record IsTrial (sets others : List (Ends VersionValue)) (earlier : Option VersionValue) (v : VersionValue)
+pub record IsTrial (Wanted : VersionValue → Type 0) (earlier : Option VersionValue) (v : VersionValue)
     (later : Option VersionValue) : Type 0 where
-  pub step : IsStep sets others earlier later
-  pub tried : IsTried sets others later v
+  pub step : IsStep Wanted earlier later
+  pub tried : IsTried Wanted later v
 
 -- a step that tries the candidates of a cut
-pub record IsCutTrial (sets others : List (Ends VersionValue)) (earlier : Option VersionValue) (cut : Cut VersionValue)
+pub record IsCutTrial (Wanted : VersionValue → Type 0) (earlier : Option VersionValue) (cut : Cut VersionValue)
     (later : Option VersionValue) : Type 0 where
-  pub step : IsStep sets others earlier later
-  pub tried : IsCutTried sets others later cut
+  pub step : IsStep Wanted earlier later
+  pub tried : IsCutTried Wanted later cut
 
 -- a step that tries the triple that the upper end of a set opens
-pub record IsOpenTrial (sets others : List (Ends VersionValue)) (earlier : Option VersionValue)
-    (set : Ends VersionValue)
+pub record IsOpenTrial (Wanted : VersionValue → Type 0) (earlier : Option VersionValue) (set : Ends VersionValue)
     (later : Option VersionValue) : Type 0 where
-  pub step : IsStep sets others earlier later
-  pub tried : IsOpenTried sets others later set
+  pub step : IsStep Wanted earlier later
+  pub tried : IsOpenTried Wanted later set
 
 -- a step that tries both for a set
-pub record IsSetTrial (sets others : List (Ends VersionValue)) (earlier : Option VersionValue) (set : Ends VersionValue)
+pub record IsSetTrial (Wanted : VersionValue → Type 0) (earlier : Option VersionValue) (set : Ends VersionValue)
     (later : Option VersionValue) : Type 0 where
-  pub step : IsStep sets others earlier later
-  pub tried : IsSetTried sets others later set
+  pub step : IsStep Wanted earlier later
+  pub tried : IsSetTried Wanted later set
 
 -- the sets of the first range were tried
-pub record AreSetsTried (sets others tried : List (Ends VersionValue)) (found : Option VersionValue) : Type 0 where
-  pub best : IsBest sets others found
-  pub each : AllByRecursion (IsSetTried sets others found) tried
+pub record AreSetsTried (Wanted : VersionValue → Type 0) (tried : List (Ends VersionValue))
+    (found : Option VersionValue)
+    : Type 0 where
+  pub best : IsBest Wanted found
+  pub each : AllByRecursion (IsSetTried Wanted found) tried
 
--- the upper ends of the second range were tried too
-pub record AreUppersTried (sets others tried : List (Ends VersionValue)) (found : Option VersionValue) : Type 0 where
-  pub lowers : AreSetsTried sets others sets found
-  pub each : AllByRecursion (λ (set : Ends VersionValue). IsCutTried sets others found set.upper) tried
+-- the sets of the first range were tried, and one end of each set of the second range
+pub record AreEndsTried (Wanted : VersionValue → Type 0) (end : Ends VersionValue → Cut VersionValue)
+    (sets tried : List (Ends VersionValue)) (found : Option VersionValue) : Type 0 where
+  pub first : AreSetsTried Wanted sets found
+  pub each : AllByRecursion (λ (set : Ends VersionValue). IsCutTried Wanted found (end set)) tried
 
--- the least version beyond the second range, without build, or none if there is none
-abbrev pub IsLeastBeyondOrNone : List (Ends VersionValue) → List (Ends VersionValue) → Option VersionValue → Type 0
-IsLeastBeyondOrNone sets others None = AdmitsNoneBeyond sets others
-IsLeastBeyondOrNone sets others (Some least) = IsLeastBeyond sets others least × (least.build ≡ [])
+-- the least version that is wanted, without build, or none if none is wanted
+abbrev pub IsLeastOrNone : (VersionValue → Type 0) → Option VersionValue → Type 0
+IsLeastOrNone Wanted None = IsNoneOf Wanted
+IsLeastOrNone Wanted (Some least) = IsLeastOf Wanted least × (least.build ≡ [])

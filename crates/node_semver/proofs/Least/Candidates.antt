@@ -14,7 +14,7 @@ use Rattle.semver_versions.specs.Lemmas.Order.{Less-version, version-Equal, vers
 use Rattle.semver_sets.specs.Lemmas.Convex.{by-value, from-cmp}
 use Rattle.semver_versions.specs.Lemmas.Versions.Between.{prerelease-below, triple-back, triple-between}
 use Rattle.semver_versions.specs.VersionSteps.{with_zero}
-use Rattle.node_semver.specs.Private.BeyondViews.{after_by, before_by, candidates_at}
+use Rattle.node_semver.specs.Private.CandidateViews.{after_by, before_by, candidates_at}
 use Rattle.node_semver.proofs.Least.LeastLemmas.{IsFloor, after-floor, at-least, before-floor, same-floor, start-floor}
 use Rattle.semver_versions.specs.Lemmas.Versions.VersionSteps.{none-below_least, none-between_patches, none-between_zeros}
 use Rattle.semver_versions.specs.Lemmas.Versions.VersionSteps.{patch-above, prerelease-from_below, with_zero-above}

@@ -4,6 +4,7 @@ use Rattle.std.proofs.Common.{refl, sym, ap, subst, Less}
 use Rattle.std.proofs.lemmas.List.{take_more}
 use Rattle.std.specs.Cmp.{tied_itself}
 use Rattle.std.specs.List.{AllByRecursion}
+use Rattle.semver_cuts.specs.declared.cut.Cut.{Cut}
 use Rattle.semver_cuts.specs.declared.cut.Cut.TheVariants.{Start, Before, After, End}
 use Rattle.semver_cuts.specs.Ends.{Ends}
 use Rattle.semver_cuts.specs.Lemmas.Lists.{all-append, all_map}
@@ -12,37 +13,36 @@ use Rattle.semver_versions.specs.IdentifierValue.{IdentifierValue}
 use Rattle.semver_sets.specs.Meaning.{SetAdmits}
 use Rattle.semver_versions.specs.Version.{IsPrerelease, VersionValue, least_of, release, without_build}
 use Rattle.semver_versions.specs.Lemmas.Order.{version_total}
-use Rattle.node_semver.specs.Least.{AdmitsBeyond}
 use Rattle.semver_versions.specs.VersionSteps.{with_zero}
-use Rattle.node_semver.specs.Private.BeyondViews.{AreSetsTried, AreUppersTried, IsBelowBest, IsCutTrial, IsCutTried}
-use Rattle.node_semver.specs.Private.BeyondViews.{IsLeastOpened, IsOpenTrial, IsSetTrial, IsSetTried, IsShut, IsStep}
-use Rattle.node_semver.specs.Private.BeyondViews.{IsTrial, IsTried, after_by, before_by, candidates_at}
+use Rattle.node_semver.specs.Private.CandidateViews.{AreEndsTried, AreSetsTried, IsBelowBest, IsCutTrial, IsCutTried}
+use Rattle.node_semver.specs.Private.CandidateViews.{IsLeastOpened, IsOpenTrial, IsSetTrial, IsSetTried, IsShut, IsStep}
+use Rattle.node_semver.specs.Private.CandidateViews.{IsTrial, IsTried, after_by, before_by, candidates_at}
 
 never-below_itself : (v : VersionValue) → ¬ (version_cmp v v ≡ Less)
 never-below_itself v less = cc (less, tied_itself version_total v)
 
-module _ (sets others : List (Ends VersionValue)) where
+module _ (Wanted : VersionValue → Type 0) where
   -- ---- one version more
 
-  pub same-step : (best : Option VersionValue) → IsStep sets others best best
+  pub same-step : (best : Option VersionValue) → IsStep Wanted best best
   same-step best = record { best = λ is. is; kept = λ v not. not }
 
-  pub step-step : (a b c : Option VersionValue) → IsStep sets others a b → IsStep sets others b c
-      → IsStep sets others a c
+  pub step-step : (a b c : Option VersionValue) → IsStep Wanted a b → IsStep Wanted b c
+      → IsStep Wanted a c
   step-step a b c first second = record {
     best = λ is. second.best (first.best is);
     kept = λ v not. second.kept v (first.kept v not);
   }
 
   -- a version that was tried stays tried
-  tried-kept : (a b : Option VersionValue) → IsStep sets others a b → (v : VersionValue) → IsTried sets others a v
-      → IsTried sets others b v
+  tried-kept : (a b : Option VersionValue) → IsStep Wanted a b → (v : VersionValue) → IsTried Wanted a v
+      → IsTried Wanted b v
   tried-kept a b step v tried = λ beyond. step.kept v (tried beyond)
 
   -- a version that is below the best so far
   lower-step : (best : Option VersionValue) (v : VersionValue) → v.build ≡ [] → IsBelowBest best v
-      → AdmitsBeyond sets others v
-      → IsStep sets others best (Some v)
+      → Wanted v
+      → IsStep Wanted best (Some v)
   lower-step None v plain below beyond = record { best = λ is. (beyond, plain); kept = λ w not. absurd not }
   lower-step (Some b) v plain below beyond = record {
     best = λ is. (beyond, plain);
@@ -50,27 +50,27 @@ module _ (sets others : List (Ends VersionValue)) where
   }
 
   pub trial-found : (best : Option VersionValue) (v : VersionValue) → v.build ≡ [] → IsBelowBest best v
-      → AdmitsBeyond sets others v → IsTrial sets others best v (Some v)
+      → Wanted v → IsTrial Wanted best v (Some v)
   trial-found best v plain below beyond =
       record { step = lower-step best v plain below beyond; tried = λ _. never-below_itself v }
 
   -- one that is none, or is not below it
-  pub trial-kept : (best : Option VersionValue) (v : VersionValue) → (AdmitsBeyond sets others v → ¬ IsBelowBest best v)
-      → IsTrial sets others best v best
+  pub trial-kept : (best : Option VersionValue) (v : VersionValue) → (Wanted v → ¬ IsBelowBest best v)
+      → IsTrial Wanted best v best
   trial-kept None v not = record { step = same-step None; tried = λ beyond. not beyond tt }
   trial-kept (Some b) v not = record { step = same-step (Some b); tried = not }
 
   -- ---- a cut more
 
-  all-kept : (a b : Option VersionValue) → IsStep sets others a b → (vs : List VersionValue)
-      → AllByRecursion (IsTried sets others a) vs → AllByRecursion (IsTried sets others b) vs
-  all-kept a b step vs all = all_map (IsTried sets others a) (IsTried sets others b) (tried-kept a b step) vs all
+  all-kept : (a b : Option VersionValue) → IsStep Wanted a b → (vs : List VersionValue)
+      → AllByRecursion (IsTried Wanted a) vs → AllByRecursion (IsTried Wanted b) vs
+  all-kept a b step vs all = all_map (IsTried Wanted a) (IsTried Wanted b) (tried-kept a b step) vs all
 
-  pub start-trial : (best later : Option VersionValue) → IsTrial sets others best (release 0 0 0) later
-      → IsCutTrial sets others best Start later
+  pub start-trial : (best later : Option VersionValue) → IsTrial Wanted best (release 0 0 0) later
+      → IsCutTrial Wanted best Start later
   start-trial best later trial = record { step = trial.step; tried = (trial.tried, tt) }
 
-  pub end-trial : (best : Option VersionValue) → IsCutTrial sets others best End best
+  pub end-trial : (best : Option VersionValue) → IsCutTrial Wanted best End best
   end-trial best = record { step = same-step best; tried = tt }
 
   before-two : (P : VersionValue → Type 0) (v : VersionValue) (xs : List IdentifierValue) → xs ≢ []
@@ -95,62 +95,62 @@ module _ (sets others : List (Ends VersionValue)) where
   after-one P v (x ∷ xs) none only = absurd (none (λ e. cc e))
 
   pub before-prerelease-trial : (best first later : Option VersionValue) (v : VersionValue) → IsPrerelease v
-      → IsTrial sets others best (without_build v) first
-      → IsTrial sets others first (release v.major v.minor v.patch) later
-      → IsCutTrial sets others best (Before v) later
+      → IsTrial Wanted best (without_build v) first
+      → IsTrial Wanted first (release v.major v.minor v.patch) later
+      → IsCutTrial Wanted best (Before v) later
   before-prerelease-trial best first later v pre one two = record {
     step = step-step best first later one.step two.step;
-    tried = before-two (IsTried sets others later) v v.pre_release pre
+    tried = before-two (IsTried Wanted later) v v.pre_release pre
         (tried-kept first later two.step (without_build v) one.tried) two.tried;
   }
 
   pub before-release-trial : (best later : Option VersionValue) (v : VersionValue) → ¬ IsPrerelease v
-      → IsTrial sets others best (release v.major v.minor v.patch) later → IsCutTrial sets others best (Before v) later
+      → IsTrial Wanted best (release v.major v.minor v.patch) later → IsCutTrial Wanted best (Before v) later
   before-release-trial best later v final only = record {
     step = only.step;
-    tried = before-one (IsTried sets others later) v v.pre_release final only.tried;
+    tried = before-one (IsTried Wanted later) v v.pre_release final only.tried;
   }
 
   pub after-prerelease-trial : (best first later : Option VersionValue) (v : VersionValue) → IsPrerelease v
-      → IsTrial sets others best (with_zero v) first → IsTrial sets others first (release v.major v.minor v.patch) later
-      → IsCutTrial sets others best (After v) later
+      → IsTrial Wanted best (with_zero v) first → IsTrial Wanted first (release v.major v.minor v.patch) later
+      → IsCutTrial Wanted best (After v) later
   after-prerelease-trial best first later v pre one two = record {
     step = step-step best first later one.step two.step;
-    tried = after-two (IsTried sets others later) v v.pre_release pre
+    tried = after-two (IsTried Wanted later) v v.pre_release pre
         (tried-kept first later two.step (with_zero v) one.tried) two.tried;
   }
 
   pub after-release-trial : (best later : Option VersionValue) (v : VersionValue) → ¬ IsPrerelease v
-      → IsTrial sets others best (release v.major v.minor (v.patch + 1)) later
-      → IsCutTrial sets others best (After v) later
+      → IsTrial Wanted best (release v.major v.minor (v.patch + 1)) later
+      → IsCutTrial Wanted best (After v) later
   after-release-trial best later v final only = record {
     step = only.step;
-    tried = after-one (IsTried sets others later) v v.pre_release final only.tried;
+    tried = after-one (IsTried Wanted later) v v.pre_release final only.tried;
   }
 
   -- ---- the triple that an upper end opens
 
   pub open-trial : (best later : Option VersionValue) (set : Ends VersionValue) (least : VersionValue)
-      → IsLeastOpened set.upper (Some least) → IsTrial sets others best least later
-      → IsOpenTrial sets others best set later
+      → IsLeastOpened set.upper (Some least) → IsTrial Wanted best least later
+      → IsOpenTrial Wanted best set later
   open-trial best later set least opened trial = record {
     step = trial.step;
-    tried = λ v opens admits. subst (IsTried sets others later) (sym (opened.1 v opens)) trial.tried;
+    tried = λ v opens admits. subst (IsTried Wanted later) (sym (opened.1 v opens)) trial.tried;
   }
 
   pub open-outside : (best : Option VersionValue) (set : Ends VersionValue) (least : VersionValue)
-      → IsLeastOpened set.upper (Some least) → ¬ SetAdmits set least → IsOpenTrial sets others best set best
+      → IsLeastOpened set.upper (Some least) → ¬ SetAdmits set least → IsOpenTrial Wanted best set best
   open-outside best set least opened outside = record {
     step = same-step best;
     tried = λ v opens admits. absurd (outside (subst (SetAdmits set) (opened.1 v opens) admits));
   }
 
   pub open-none : (best : Option VersionValue) (set : Ends VersionValue) → IsLeastOpened set.upper None
-      → IsOpenTrial sets others best set best
+      → IsOpenTrial Wanted best set best
   open-none best set none = record { step = same-step best; tried = λ v opens admits. absurd (none v opens) }
 
   pub open-shut : (best : Option VersionValue) (set : Ends VersionValue) → IsShut set.upper
-      → IsOpenTrial sets others best set best
+      → IsOpenTrial Wanted best set best
   open-shut best set shut = record {
     step = same-step best;
     tried = λ v opens admits. absurd (shut v opens admits.inside.upper);
@@ -159,8 +159,8 @@ module _ (sets others : List (Ends VersionValue)) where
   -- ---- a set more
 
   pub set-trial : (best first later : Option VersionValue) (set : Ends VersionValue)
-      → IsCutTrial sets others best set.lower first → IsOpenTrial sets others first set later
-      → IsSetTrial sets others best set later
+      → IsCutTrial Wanted best set.lower first → IsOpenTrial Wanted first set later
+      → IsSetTrial Wanted best set later
   set-trial best first later set one two = record {
     step = step-step best first later one.step two.step;
     tried = record {
@@ -169,9 +169,9 @@ module _ (sets others : List (Ends VersionValue)) where
     };
   }
 
-  set-kept : (a b : Option VersionValue) → IsStep sets others a b → (set : Ends VersionValue)
-      → IsSetTried sets others a set
-      → IsSetTried sets others b set
+  set-kept : (a b : Option VersionValue) → IsStep Wanted a b → (set : Ends VersionValue)
+      → IsSetTried Wanted a set
+      → IsSetTried Wanted b set
   set-kept a b step set tried = record {
     lower = all-kept a b step (candidates_at set.lower) tried.lower;
     opened = λ v opens admits. tried-kept a b step (least_of v.major v.minor v.patch) (tried.opened v opens admits);
@@ -186,30 +186,30 @@ module _ (sets others : List (Ends VersionValue)) where
 
   pub sets-more : (all : List (Ends VersionValue)) (k : ℕ) (set : Ends VersionValue)
       (earlier later : Option VersionValue)
-      → k < length all → set ≡ get_or all k set → AreSetsTried sets others (take k all) earlier
-      → IsSetTrial sets others earlier set later → AreSetsTried sets others (take (k + 1) all) later
+      → k < length all → set ≡ get_or all k set → AreSetsTried Wanted (take k all) earlier
+      → IsSetTrial Wanted earlier set later → AreSetsTried Wanted (take (k + 1) all) later
   sets-more all k set earlier later lt is tried trial = record {
     best = trial.step.best tried.best;
-    each = more-taken (IsSetTried sets others later) all k set lt is
-        (all_map (IsSetTried sets others earlier) (IsSetTried sets others later)
+    each = more-taken (IsSetTried Wanted later) all k set lt is
+        (all_map (IsSetTried Wanted earlier) (IsSetTried Wanted later)
         (set-kept earlier later trial.step) (take k all) tried.each) trial.tried;
   }
 
-  pub uppers-more : (all : List (Ends VersionValue)) (k : ℕ) (set : Ends VersionValue)
-      (earlier later : Option VersionValue)
-      → k < length all → set ≡ get_or all k set → AreUppersTried sets others (take k all) earlier
-      → IsCutTrial sets others earlier set.upper later → AreUppersTried sets others (take (k + 1) all) later
-  uppers-more all k set earlier later lt is tried trial =
-      let Earlier : Ends VersionValue → Type 0 = λ s. IsCutTried sets others earlier s.upper in
-      let Now : Ends VersionValue → Type 0 = λ s. IsCutTried sets others later s.upper in
+  pub ends-more : (end : Ends VersionValue → Cut VersionValue) (sets all : List (Ends VersionValue)) (k : ℕ)
+      (set : Ends VersionValue) (earlier later : Option VersionValue)
+      → k < length all → set ≡ get_or all k set → AreEndsTried Wanted end sets (take k all) earlier
+      → IsCutTrial Wanted earlier (end set) later → AreEndsTried Wanted end sets (take (k + 1) all) later
+  ends-more end sets all k set earlier later lt is tried trial =
+      let Earlier : Ends VersionValue → Type 0 = λ s. IsCutTried Wanted earlier (end s) in
+      let Now : Ends VersionValue → Type 0 = λ s. IsCutTried Wanted later (end s) in
       record {
-        lowers = record {
-          best = trial.step.best tried.lowers.best;
-          each = all_map (IsSetTried sets others earlier) (IsSetTried sets others later)
-              (set-kept earlier later trial.step) sets tried.lowers.each;
+        first = record {
+          best = trial.step.best tried.first.best;
+          each = all_map (IsSetTried Wanted earlier) (IsSetTried Wanted later)
+              (set-kept earlier later trial.step) sets tried.first.each;
         };
         each = more-taken Now all k set lt is
             (all_map Earlier Now
-            (λ s cut. all-kept earlier later trial.step (candidates_at s.upper) cut) (take k all) tried.each)
+            (λ s cut. all-kept earlier later trial.step (candidates_at (end s)) cut) (take k all) tried.each)
             trial.tried;
       }

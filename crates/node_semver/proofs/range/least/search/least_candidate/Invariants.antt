@@ -1,0 +1,6 @@
+use Rattle.std.proofs.Common.{take}
+use Rattle.node_semver.specs.Private.CandidateViews.{AreSetsTried}
+use Rattle.node_semver.proofs.range.least.search.least_candidate.Given as goal
+
+abbrev pub invariant-sets : goal.invariant-sets
+invariant-sets g l = AreSetsTried (g.Q.Question.wanted l.range l.other) (take l.set-index l.sets) l.best

@@ -1,0 +1,7 @@
+use Rattle.std.proofs.Common.{take}
+use Rattle.node_semver.specs.Private.CandidateViews.{AreEndsTried}
+use Rattle.node_semver.proofs.range.least.search.least_with_others.Given as goal
+
+abbrev pub invariant-sets : goal.invariant-sets
+invariant-sets g l =
+    AreEndsTried (g.Q.Question.wanted l.range l.other) g.Q.Question.end l.range (take l.set-index l.sets) l.best

@@ -1,0 +1,21 @@
+-- The result of `Range::parse_npm` for a text, by the facts that its contract states.
+use Rattle.std.specs.Prelude.{◌⊎◌, ◌↔◌, ℕ, List, Result, IfErr, IfOk, OnOk}
+use Rattle.semver_cuts.specs.Ends.{Ends}
+use Rattle.semver_sets.specs.RangeSets.{IsRangeValue}
+use Rattle.semver_versions.specs.Error.{IsOutOfMemory, IsRefusalAt, no_valid_ranges}
+use Rattle.semver_versions.specs.Version.{VersionValue}
+use Rattle.semver_versions.specs.declared.error.SemverError.{SemverError}
+use Rattle.npm_sets.specs.NpmMeaning.{AreNpmSets, IsNpmRefused, NpmSetsAdmit, NpmTextAdmits}
+use Rattle.npm_sets.specs.declared.options.NpmOptions.{NpmOptions}
+
+-- unless it is out of memory, the text is refused exactly where npm's reading refuses it; otherwise a version satisfies
+-- the range, or with prereleases included lies inside one of its sets, exactly where the text admits it
+pub record IsNpmRangeAnswer (options : NpmOptions) (text : List ℕ)
+    (answer : Result (List (Ends VersionValue)) SemverError) : Type 0 where
+  pub refused : IfErr answer (λ e. IsOutOfMemory e ⊎ (IsRefusalAt text no_valid_ranges 0 e × IsNpmRefused options text))
+  pub accepted : OnOk answer (¬ IsNpmRefused options text)
+  pub means : IfOk answer (λ r. (v : VersionValue)
+      → NpmSetsAdmit options.include_prerelease r v ↔ NpmTextAdmits options text v)
+  -- one set for each alternative that gives a set, and the properties of every range
+  pub sets : IfOk answer (AreNpmSets options text)
+  pub holds : IfOk answer IsRangeValue

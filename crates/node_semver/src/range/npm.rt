@@ -1,0 +1,72 @@
+//! Ranges as npm itself reads them.
+//!
+//! See docs/DECISIONS.md, "Every refusal of npm's reading is `NoValidRanges` at 0".
+ghost use Rattle.std.specs.Prelude.{◌≡◌, ◌⊎◌};
+ghost use Rattle.semver_sets.specs.declared.read.Unread.TheVariants.{Refused};
+ghost use Rattle.semver_versions.specs.Error.{IsOutOfMemory, IsRefusalAt, no_valid_ranges};
+ghost use Rattle.npm_sets.specs.NpmMeaning.{IsNpmRefused};
+ghost use Rattle.npm_sets.specs.declared.options.NpmOptions.{NpmOptions};
+ghost use Rattle.node_semver.specs.NpmRangeAnswer.{IsNpmRangeAnswer};
+
+use crate::{NpmOptions, Range, SemverError, SemverErrorKind};
+use npm_sets::read::read_npm;
+use semver_sets::read::Unread;
+use std::alloc::Global;
+
+impl Range {
+    /// Reads a range as npm reads it, in strict or in loose form, and with prereleases included or not.
+    ///
+    /// [`Range::parse`] reads a text as the Rust crate does, and gives other answers for some texts: `<=20` is
+    /// `<21.0.0-0` here and `<=20.0.0-0` there, and the empty text is every release here and is refused there.
+    ///
+    /// If prereleases are not included, ask the range by [`Range::satisfies`]. If they are, ask it by
+    /// [`Range::contains`]: a prerelease then needs no end that is a prerelease of its triple.
+    ///
+    /// # Errors
+    ///
+    /// Returns the kind of the fault and its byte offset, which is always 0:
+    ///
+    /// - `foo`, `1.2.3.4`, `>=1.2.3 foo`: `NoValidRanges` at 0, in strict form a word is no comparator.
+    /// - `01.2.3`, `1.2.3beta`, `1.2.3-01`: `NoValidRanges` at 0, in strict form no partial is written so.
+    /// - `foo`, `foo || bar`: `NoValidRanges` at 0, in loose form no word is a comparator.
+    /// - `9007199254740992.0.0`: `NoValidRanges` at 0, in both forms a number is above `MAX_SAFE_INTEGER`. So is a word
+    ///   whose operand has more than 256 bytes.
+    /// - any text: `OutOfMemory` at 0, with an empty text, if an allocation fails.
+    ///
+    /// Comparators that never hold together are no fault: `>4 <3` is `<0.0.0-0`, which no version satisfies.
+    ///
+    /// # Memory
+    ///
+    /// Allocates the prereleases that the text writes at ends, and a list if there are several sets. An error holds a
+    /// copy of the text.
+    ///
+    /// # Examples
+    ///
+    /// `>= 1.2`, `1.2 - 3`, the empty text and `^1 ||` are read. `foo >=1` is read in loose form only.
+    ///
+    /// # Source
+    ///
+    /// npm's `semver` 7.6.2, "Ranges" and "Range Grammar". `docs/DIFFERENCES.md` lists where it differs.
+    pub fn parse_npm(alloc: Global, text: &str, options: NpmOptions) -> Result<Range, SemverError>
+        ensures { IsNpmRangeAnswer options text.now result }
+    {
+        match read_npm(alloc, text.as_bytes(), options) {
+            Ok(sets) => Ok(Range { sets }),
+            Err(unread) => Err(npm_error(alloc, text, options, unread)),
+        }
+    }
+}
+
+// The error for a text that was not read. `inline(never)`: few texts are refused.
+#[inline(never)]
+fn npm_error(alloc: Global, text: &str, options: NpmOptions, unread: Unread) -> SemverError
+    requires { unread ≡ Refused → IsNpmRefused options text.now }
+    ensures { IsOutOfMemory result
+        ⊎ (IsRefusalAt text.now no_valid_ranges 0 result × IsNpmRefused options text.now) }
+{
+    let _options = options;
+    match unread {
+        Unread::Refused => SemverError::new(alloc, text, 0, SemverErrorKind::NoValidRanges),
+        Unread::OutOfMemory => SemverError::out_of_memory(alloc),
+    }
+}

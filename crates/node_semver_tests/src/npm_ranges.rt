@@ -1,0 +1,251 @@
+use crate::spread::spread;
+use node_semver::{NpmOptions, Range, SemverErrorKind, Version};
+use std::alloc::{AllocGlobal, Global};
+use std::process::Abort;
+
+// Each row has a range text, versions that it admits, and versions that it does not. What npm's semver 7.6.2 answers is
+// the same for each, with the options of the table.
+
+// npm's "Advanced Range Syntax" and "Range Grammar", in strict form, without prereleases.
+const STRICT: [&str; 44] = [
+    "; 0.0.0 1.2.3 99.0.0; 1.0.0-a",
+    " \t\n\r\u{b}\u{c}; 1.2.3; 1.0.0-a",
+    "*; 0.0.0 1.2.3; 1.0.0-a",
+    "x; 1.2.3; 0.0.0-0",
+    "1.2.3; 1.2.3; 1.2.4 1.2.3-a",
+    "=1.2.3; 1.2.3; 1.2.4",
+    "v1.2.3; 1.2.3; 1.2.2",
+    "=v1.2.3; 1.2.3; 1.2.2",
+    "1.2.3-a+b; 1.2.3-a; 1.2.3 1.2.3-b",
+    "1.2; 1.2.0 1.2.9; 1.1.9 1.3.0 1.2.0-a 1.3.0-0",
+    "1.2.x; 1.2.0 1.2.9; 1.3.0",
+    "1; 1.0.0 1.9.9; 0.9.9 2.0.0 2.0.0-0",
+    "1.x.3; 1.0.0 1.9.9; 2.0.0",
+    "x.2.3; 0.0.0 9.9.9; 1.2.3-a",
+    ">=1.2; 1.2.0 2.0.0; 1.1.9 1.2.0-a",
+    ">=1; 1.0.0; 0.9.9",
+    ">=*; 0.0.0 1.0.0; 1.0.0-a",
+    ">1.2; 1.3.0; 1.2.9 1.3.0-a",
+    ">1; 2.0.0; 1.9.9",
+    ">1.2.3-a; 1.2.3-b 1.2.3; 1.2.3-a 1.2.4-a",
+    ">*; ; 0.0.0 1.0.0",
+    "<1.2; 1.1.9; 1.2.0 1.2.0-0",
+    "<1; 0.9.9; 1.0.0 1.0.0-0",
+    "<*; ; 0.0.0 0.0.0-0",
+    "<=1.2; 1.2.0 1.2.9; 1.3.0 1.3.0-0",
+    "<=20; 20.9.9; 21.0.0 21.0.0-0",
+    "<=*; 0.0.0 9.9.9; 1.0.0-a",
+    "~1.2.3; 1.2.3 1.2.9; 1.2.2 1.3.0",
+    "~1.2.3-a; 1.2.3-a 1.2.3 1.2.9; 1.3.0 1.2.4-a",
+    "~>1; 1.0.0 1.9.9; 2.0.0",
+    "~*; 1.0.0; 1.0.0-a",
+    "^1.2.3-a; 1.2.3-b 1.9.9; 2.0.0 1.2.4-a",
+    "^0.2.3; 0.2.3 0.2.9; 0.3.0 0.2.2",
+    "^0.0.3; 0.0.3; 0.0.4",
+    "^0.0.3-a; 0.0.3-a 0.0.3; 0.0.4 0.0.3-0",
+    "^0.0; 0.0.0 0.0.9; 0.1.0",
+    "^0; 0.0.0 0.9.9; 1.0.0",
+    "^x; 1.0.0; 1.0.0-a",
+    "1.2 - 3; 1.2.0 3.9.9; 1.1.9 4.0.0 4.0.0-0",
+    "1.2.3-a\n-\t3.4.5-b; 1.2.3-a 3.4.5-a; 3.4.5",
+    "* - 2.0; 0.0.0 2.0.9; 2.1.0",
+    ">= 1.2\r\n< 2 || ^ 3 ||4; 1.9.0 3.1.0 4.0.0; 2.0.0 5.0.0",
+    ">4 <3; ; 3.5.0 0.0.0",
+    ">4 <3 || >1.2.3-a <1.2.3-a.0 || 5; 5.0.0; 3.5.0 1.2.3-a",
+];
+
+const PRERELEASES: [&str; 16] = [
+    "; 0.0.0-0 1.0.0-a 1.0.0; ",
+    "1.2; 1.2.0-0 1.2.0-a 1.2.9; 1.3.0-0 1.1.9",
+    "1; 1.0.0-0 1.9.9-a; 2.0.0-0",
+    "1.2.3; 1.2.3; 1.2.3-a",
+    ">=1.2; 1.2.0-0 9.0.0-a; 1.1.9",
+    ">1.2; 1.3.0-0; 1.2.9",
+    ">1; 2.0.0-0; 1.9.9",
+    "<1.2; 1.1.9 1.1.0-a; 1.2.0-0",
+    "~1.2; 1.2.0 1.2.1-a; 1.2.0-a 1.3.0-0",
+    "^1.2; 1.2.0-0 1.9.0-a; 2.0.0-0",
+    "^1.2.3; 1.2.3 1.9.0-a; 1.2.3-a 2.0.0-0",
+    "^0.2.3; 0.2.3-0 0.2.4-a; 0.3.0-0",
+    "^0.0.3; 0.0.3-0 0.0.3; 0.0.4-0",
+    "1.2.3 - 2.3.4; 1.2.3-0 2.3.4 2.0.0-a; 2.3.5-0",
+    "1.2.3-a - 2.3.4-b; 1.2.3-a 2.3.4-b 2.0.0-a; 1.2.3-0 2.3.4",
+    ">=16 <19; 16.0.0-a 18.0.0-rc.1; 19.0.0-0 15.9.9",
+];
+
+const LOOSE: [&str; 10] = [
+    "01.02.03; 1.2.3; 1.2.4",
+    "1.2.3beta; 1.2.3-beta; 1.2.3",
+    "1.2.3-01; 1.2.3-1; 1.2.3",
+    ">=01.2beta 1; 1.0.0; 2.0.0",
+    "foo >=1; 1.0.0; 0.9.9",
+    "foo || 1; 1.0.0; 2.0.0",
+    ">=1 latest <2; 1.0.0; 2.0.0",
+    "1 -2; 1.0.0; 2.0.0",
+    ">=foo 1; 1.0.0; 2.0.0",
+    "01 - 02; 1.0.0 2.9.9; 3.0.0",
+];
+
+const REFUSED_STRICT: [&str; 26] = [
+    "foo",
+    "1 foo",
+    "foo || 1",
+    "1 || foo",
+    "|",
+    "1 ||| 2",
+    ">=",
+    ">= <2",
+    "1.2.3.4",
+    "01.2.3",
+    "1.02",
+    "1.2.03",
+    "1.2.3beta",
+    "1.2.3-01",
+    "1.2.3-a.00",
+    "1.2.3-",
+    "1.2.3+",
+    "1.2.3-a..b",
+    "V1.2.3",
+    "1 -",
+    "- 1",
+    "1 -2",
+    "1 - 2 3",
+    ">1.2.3<2",
+    "9007199254740992",
+    "1.9007199254740992.0",
+];
+
+const REFUSED_LOOSE: [&str; 7] = [
+    "foo",
+    "foo || bar",
+    "|",
+    ">=",
+    "1 9007199254740992",
+    "9007199254740992.0.0 || 1",
+    "1 || 2 01.9007199254740992",
+];
+
+// `{3*ab}` is short for `ababab`.
+const LONG: [&str; 9] = [
+    "{100000*>=1.0.0 }; 1.0.0; 0.9.9",
+    "{200000* }1{200000* }; 1.0.0; 2.0.0",
+    ">={200000*\n}1; 1.0.0; 0.9.9",
+    "{10000*1||}1; 1.0.0; 1.0.0-a",
+    "{50000*||}1 || >=1; 1.0.0; 1.0.0-a",
+    "1{200000*\t}-{200000*\t}2; 2.9.9; 3.0.0",
+    ">=1.2.3-a{122*.b}; 1.2.3; 1.2.2",
+    "{10000*>=1.2.3-a.b }; 1.2.3; 1.2.2",
+    "{10000*>4 <3 ||}5; 5.0.0; 3.5.0",
+];
+
+const LONG_REFUSED: [&str; 6] = [
+    "{1000000*a}",
+    "{200000*1}",
+    "{50000*1.2.3.}",
+    ">=1.2.3-a{126*.b}",
+    "{50000*- }",
+    "{10000*1 foo||}",
+];
+
+fn options(loose: bool, include_prerelease: bool) -> NpmOptions {
+    NpmOptions {
+        loose,
+        include_prerelease,
+    }
+}
+
+// Returns `true` if the range gives the wanted answer for a version text.
+fn answers(alloc: Global, range: &Range, all: bool, text: &str, wanted: bool) -> bool {
+    let Ok(version) = &Version::parse(alloc, text) else {
+        return false;
+    };
+    if all {
+        range.contains(version) == wanted
+    } else {
+        range.satisfies(version) == wanted
+    }
+}
+
+fn answers_each(alloc: Global, range: &Range, all: bool, versions: &str, wanted: bool) -> bool {
+    for version in versions.split_whitespace() {
+        if !answers(alloc, range, all, version, wanted) {
+            return false;
+        }
+    }
+    true
+}
+
+fn row_holds(alloc: Global, options: NpmOptions, row: &str) -> bool {
+    let Some(row) = &spread(alloc, row) else {
+        return false;
+    };
+    let Some((text, versions)) = row.split_once("; ") else {
+        return false;
+    };
+    let Some((admitted, others)) = versions.split_once("; ") else {
+        return false;
+    };
+    let Ok(range) = &Range::parse_npm(alloc, text, options) else {
+        return false;
+    };
+    let all = options.include_prerelease;
+    answers_each(alloc, range, all, admitted, true)
+        && answers_each(alloc, range, all, others, false)
+}
+
+fn each_holds(rt: &(impl Abort + AllocGlobal), options: NpmOptions, rows: &[&str]) {
+    for row in rows {
+        assert!(rt; row_holds(rt.alloc(), options, row), "{row}");
+    }
+}
+
+// Returns `true` if the text is refused, with its kind at 0 and a copy of the text.
+fn is_refused(alloc: Global, options: NpmOptions, text: &str) -> bool {
+    let Some(text) = &spread(alloc, text) else {
+        return false;
+    };
+    match &Range::parse_npm(alloc, text, options) {
+        Ok(_) => false,
+        Err(error) => {
+            let kind = error.kind() == &SemverErrorKind::NoValidRanges;
+            kind && error.offset() == 0 && error.input() == text.as_str()
+        }
+    }
+}
+
+fn each_is_refused(rt: &(impl Abort + AllocGlobal), options: NpmOptions, texts: &[&str]) {
+    for text in texts {
+        assert!(rt; is_refused(rt.alloc(), options, text), "{text}");
+    }
+}
+
+#[test]
+fn reads_npms_rows(rt: HostRuntime) {
+    each_holds(&rt, options(false, false), &STRICT);
+    each_holds(&rt, options(true, false), &STRICT);
+}
+
+#[test]
+fn includes_prereleases(rt: HostRuntime) {
+    each_holds(&rt, options(false, true), &PRERELEASES);
+    each_holds(&rt, options(true, true), &PRERELEASES);
+}
+
+#[test]
+fn reads_loose_forms(rt: HostRuntime) {
+    each_holds(&rt, options(true, false), &LOOSE);
+}
+
+#[test]
+fn refuses_as_npm_does(rt: HostRuntime) {
+    each_is_refused(&rt, options(false, false), &REFUSED_STRICT);
+    each_is_refused(&rt, options(false, true), &REFUSED_STRICT);
+    each_is_refused(&rt, options(true, false), &REFUSED_LOOSE);
+    each_is_refused(&rt, options(true, true), &REFUSED_LOOSE);
+}
+
+#[test]
+fn reads_long_texts_as_npm(rt: HostRuntime) {
+    each_holds(&rt, options(false, false), &LONG);
+    each_is_refused(&rt, options(false, false), &LONG_REFUSED);
+}

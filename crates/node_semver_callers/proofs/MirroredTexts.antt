@@ -3,7 +3,7 @@ use Rattle.std.proofs.Common.{◌≡◌, ◌↔◌, ℕ, List, [], ◌∷◌, Bo
 use Rattle.std.proofs.Common.{arith, sym}
 use Rattle.std.specs.List.{items_where_true}
 use Rattle.std.specs.List.Retain.{IsFiltered, ReturnsInTurn}
-use Rattle.semver_cuts.specs.Ends.{Ends}
+use Rattle.node_semver.specs.Cuts.{Ends}
 use Rattle.node_semver.specs.Versions.{VersionValue}
 use Rattle.node_semver_callers.specs.Mirrored.{AreMirrored, IsMirrored, kept, none, removed}
 

@@ -1,9 +1,8 @@
 -- Which texts of a list are versions that a range admits.
 use Rattle.std.specs.Prelude.{ℕ, List, [], ◌∷◌}
-use Rattle.semver_cuts.specs.Ends.{Ends}
+use Rattle.node_semver.specs.Cuts.{Ends}
 use Rattle.node_semver.specs.Ranges.{RangeAdmits}
-use Rattle.node_semver.specs.Versions.{VersionValue}
-use Rattle.node_semver.specs.Versions.{IsVersionText}
+use Rattle.node_semver.specs.Versions.{IsVersionText, VersionValue}
 
 -- the text is a version, and the range admits it
 pub record IsMirrored (sets : List (Ends VersionValue)) (text : List ℕ) : Type 0 where

@@ -9,6 +9,8 @@
 //! | does a lock file's version still fit its manifest | [`lock_file::still_fits`] |
 //! | the least version that a manifest allows | [`least::least_allowed`] |
 //! | one range for two dependents | [`common::shared_range`] |
+//! | a version for two dependents | [`both::version_for_both`] |
+//! | the newest version of a list of texts | [`newest::newest`] |
 //! | which installed versions an advisory's range hits | [`advisory::versions_hit`] |
 //! | the least version that a range admits and an advisory of several ranges spares | [`spared::least_spared`] |
 //! | does an advisory of several ranges cover a range | [`spared::is_covered`] |
@@ -18,6 +20,7 @@
 #![tactic(auto)]
 
 pub mod advisory;
+pub mod both;
 pub mod change;
 #[cfg(test)]
 mod checks;
@@ -26,6 +29,7 @@ mod failure;
 pub mod least;
 pub mod lock_file;
 pub mod mirror;
+pub mod newest;
 pub mod package;
 pub mod spared;
 pub mod tree;

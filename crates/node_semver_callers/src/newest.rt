@@ -1,0 +1,59 @@
+//! The newest version of a list of texts.
+
+ghost use Rattle.std.specs.Prelude.{◌↔◌, IfOk, IfSome, IsNone, map};
+ghost use Rattle.node_semver.specs.Versions.{VersionValue};
+ghost use Rattle.node_semver_callers.specs.Newest.{AreVersionsOf, IsNewest, IsOffered};
+
+use node_semver::{Range, Version, VersionRef, max_satisfying};
+use std::alloc::{AllocError, Global};
+
+/// Returns the newest version that one of the texts writes and the range admits, or `None` if there is none. A text that
+/// is no version is passed over.
+pub fn newest(alloc: Global, range: &Range, texts: &[&str]) -> Result<Option<Version>, AllocError>
+    ensures newest { IfOk result (λ found. IfSome found (IsNewest range.now (map (λ t. t.now) texts.now))) }
+    ensures none { IfOk result (λ found. IsNone found
+        ↔ ((v : VersionValue) → ¬ IsOffered range.now (map (λ t. t.now) texts.now) v)) }
+{
+    let versions = versions_of(alloc, texts)?;
+    match max_satisfying(&versions, range) {
+        Some(newest) => Ok(Some(newest.to_version(alloc)?)),
+        None => Ok(None),
+    }
+}
+
+// The versions that the texts write, in their order. They borrow the texts.
+fn versions_of<'a>(alloc: Global, texts: &[&'a str]) -> Result<Vec<VersionRef<'a>>, AllocError>
+    ensures { IfOk result (λ versions. AreVersionsOf (map (λ t. t.now) texts.now) versions.items) }
+{
+    let mut versions = Vec::new(alloc);
+    for text in texts {
+        match VersionRef::parse(text) {
+            Ok(version) => versions.push(version)?,
+            Err(_) => {}
+        }
+    }
+    Ok(versions)
+}
+
+#[cfg(test)]
+mod tests {
+    use super::newest;
+    use crate::checks::is_found;
+    use node_semver::Range;
+    use std::alloc::Global;
+
+    #[test]
+    fn finds_the_newest_of_texts(rt: HostRuntime) {
+        let texts = ["1.2.3", "latest", "1.10.0", "1.9.0", "2.0.0-rc.1"];
+        assert!(rt; is_newest(rt.alloc(), "^1.2", &texts, Some("1.10.0")));
+        assert!(rt; is_newest(rt.alloc(), "^3", &texts, None));
+        assert!(rt; is_newest(rt.alloc(), "^1.2", &[], None));
+    }
+
+    fn is_newest(alloc: Global, range: &str, texts: &[&str], print: Option<&str>) -> bool {
+        match &Range::parse(alloc, range) {
+            Ok(range) => is_found(alloc, &newest(alloc, range, texts), print),
+            Err(_) => false,
+        }
+    }
+}

@@ -1,6 +1,5 @@
-pub mod FindingRows
+pub mod Examples
 pub mod Groups
-pub mod LockRows
 pub mod MoreFindings
 pub mod NameLists
 pub mod ProblemTexts

@@ -1,9 +1,11 @@
 -- What a package depends on: npm's "package.json", from "dependencies" to "optionalDependencies".
-use Rattle.std.specs.Prelude.{ℕ, List, Bool, true, false, not, if◌then◌else◌, Option, None, option_and_then}
-use Rattle.std.specs.Prelude.{option_map, unwrap_or, codes}
-use Rattle.std.specs.Option.{option_or}
-use Rattle.serde_json.specs.Data.{Data}
-use Rattle.serde_json.specs.Find.{as_bool, as_str, get}
+use Rattle.std.specs.Prelude.{◌==◌, ℕ, List, Bool, true, false, not, if◌then◌else◌, Option, None, option_and_then}
+use Rattle.std.specs.Prelude.{option_map, codes, length}
+use Rattle.std.specs.Float.{float_zero}
+use Rattle.std.specs.Float.Ieee.{eq}
+use Rattle.std.specs.Option.{option_map_or, option_or}
+use Rattle.serde_json.specs.Data.{Data, array, boolean, null, number, object, string}
+use Rattle.serde_json.specs.Find.{as_str, get, to_float}
 
 -- a package's dependency on a name: its spec, whether it must be found, and whether it is a peer
 pub record AskedValue : Type 0 where
@@ -15,15 +17,27 @@ pub record AskedValue : Type 0 where
 abbrev pub spec_in : (member : Data) → (group name : List ℕ) → Option (List ℕ)
 spec_in member group name = option_and_then as_str (option_and_then (get name) (get group member))
 
--- what `{"peerDependenciesMeta": {"a": {"optional": true}}}` says of `a`
-abbrev pub optional_of : (member : Data) → (name : List ℕ) → Option Bool
-optional_of member name = option_and_then as_bool
-    (option_and_then (get (codes "optional"))
-    (option_and_then (get name) (get (codes "peerDependenciesMeta") member)))
+-- what counts as true in JavaScript: all values but `null`, `false`, zero and the empty string
+abbrev pub is_true : Data → Bool
+is_true null = false
+is_true (boolean b) = b
+is_true (number n) = not (eq (to_float n) float_zero)
+is_true (string text) = not (length text == 0)
+is_true (array _) = true
+is_true (object _) = true
 
--- a peer that may be missing
+-- a member that is there and counts as true
+abbrev pub has_true : (key : List ℕ) → Data → Bool
+has_true key value = option_map_or is_true (get key value) false
+
+-- a peer that may be missing: `{"peerDependenciesMeta": {"a": {"optional": true}}}` says so of `a`
 abbrev pub is_optional_peer : (member : Data) → (name : List ℕ) → Bool
-is_optional_peer member name = unwrap_or (optional_of member name) false
+is_optional_peer member name = option_map_or (has_true (codes "optional"))
+    (option_and_then (get name) (get (codes "peerDependenciesMeta") member)) false
+
+-- a spec that a package accepts too: `^1` for `a` in `{"acceptDependencies": {"a": "^1"}}`
+abbrev pub accepted_of : (member : Data) → (name : List ℕ) → Option (List ℕ)
+accepted_of member name = spec_in member (codes "acceptDependencies") name
 
 -- the dependency on a name in a group
 abbrev pub asked_in : (member : Data) → (group name : List ℕ) → (is_needed is_peer : Bool) → Option AskedValue

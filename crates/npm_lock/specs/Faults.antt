@@ -1,21 +1,22 @@
 -- Which values are no lock file that is read: npm's "package-lock.json", "lockfileVersion" and "packages".
-use Rattle.std.specs.Prelude.{◌==◌, ◌||◌, ◌&&◌, ℕ, List, Bool, true, false, if◌then◌else◌, Option, Some, None}
-use Rattle.std.specs.Prelude.{is_some, option_and_then, codes}
+use Rattle.std.specs.Prelude.{◌||◌, ◌&&◌, ℕ, pos, List, Bool, true, false, if◌then◌else◌, Option, Some, None}
+use Rattle.std.specs.Prelude.{is_some, option_and_then, option_map, codes}
+use Rattle.std.specs.Float.Ieee.{Float, binary64, eq, of_int}
 use Rattle.std.specs.Option.{option_map_or, option_or}
 use Rattle.serde_json.specs.Data.{Data, Members, member, no_members}
-use Rattle.serde_json.specs.Find.{as_number, as_object, as_str, as_u64, get}
+use Rattle.serde_json.specs.Find.{as_null, as_number, as_object, as_str, get, to_float}
 use Rattle.npm_lock.specs.Packages.{is_link, target_of}
 use Rattle.npm_lock.specs.declared.fault.Fault.{Fault}
 use Rattle.npm_lock.specs.declared.fault.Fault.TheVariants as Faults
 
--- versions 2 and 3 of the format have `packages`
-abbrev pub is_format : ℕ → Bool
-is_format n = (n == 2) || (n == 3)
+-- versions 2 and 3 of the format have `packages`; a number may be written as `3.0`
+abbrev pub is_format : Float → Bool
+is_format x = eq x (of_int binary64 (pos 2)) || eq x (of_int binary64 (pos 3))
 
 -- `lockfileVersion` is one of them
 abbrev pub has_format : (lock : Data) → Bool
 has_format lock = option_map_or is_format
-    (option_and_then as_u64 (option_and_then as_number (get (codes "lockfileVersion") lock))) false
+    (option_map to_float (option_and_then as_number (get (codes "lockfileVersion") lock))) false
 
 -- each member is a string
 abbrev pub are_texts : Members → Bool
@@ -27,9 +28,10 @@ abbrev pub specs_fault : Option Members → Option Fault
 specs_fault None = Some Faults.Dependencies
 specs_fault (Some specs) = if are_texts specs then None else Some Faults.Spec
 
--- the fault of a group of dependencies, which may be absent
+-- the fault of a group of dependencies, which may be absent or `null`
 abbrev pub group_fault : (entry : Data) → (group : List ℕ) → Option Fault
-group_fault entry group = option_and_then (λ specs. specs_fault (as_object specs)) (get group entry)
+group_fault entry group = option_and_then
+    (λ specs. if is_some (as_null specs) then None else specs_fault (as_object specs)) (get group entry)
 
 -- the first fault of the four groups
 abbrev pub groups_fault : (entry : Data) → Option Fault

@@ -28,7 +28,7 @@ pub data IsDependencyFinding (packages : Data) (folder : List ℕ) (asker : Data
     : Finding → Type 0 where
   dependency : (asked : AskedValue) (problem : Option ProblemValue) (is_unchecked : Bool)
       → asked_of asker is_installed name ≡ Some asked
-      → IsOutcome packages folder is_installed name asked problem is_unchecked
+      → IsOutcome packages folder asker is_installed name asked problem is_unchecked
       → IsDependencyFinding packages folder asker is_installed name (of_dependency problem is_unchecked)
 
 -- the names that a package depends on: each once, in the order of their bytes

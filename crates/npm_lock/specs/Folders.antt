@@ -1,5 +1,6 @@
 -- Folders of packages, as the keys of `packages` in a lock file write them: npm's "package-lock.json", "packages".
-use Rattle.std.specs.Prelude.{◌≡◌, ◌≢◌, ◌⊎◌, ◌||◌, ◌<◌, ℕ, List, [], ◌∷◌, ◌++◌, Bool, IsTrue, bytes_eq, codes, length}
+use Rattle.std.specs.Prelude.{◌≡◌, ◌≢◌, ◌⊎◌, ◌||◌, ◌<◌, ℕ, List, [], ◌∷◌, ◌++◌, Bool, false, true, IsTrue, bytes_eq, codes}
+use Rattle.std.specs.Prelude.{length}
 use Rattle.std.specs.Prelude.{nat_eq, slice_index}
 use Rattle.std.specs.List.{ends_with, starts_with}
 use Rattle.std.specs.Str.Iter.{HasSubslice}
@@ -13,11 +14,20 @@ in_folder (b ∷ folder) path = (b ∷ folder) ++ (codes "/" ++ path)
 abbrev pub place_in : (folder name : List ℕ) → List ℕ
 place_in folder name = in_folder folder (codes "node_modules/" ++ name)
 
--- the folder above: `a/b` is above `a/b/c`, and the root above `a`
+-- a folder that leads up from the root: `..`, `../..` and so on
+abbrev pub is_up : List ℕ → Bool
+is_up folder = bytes_eq folder (codes "..") || ends_with nat_eq folder (codes "/..")
+
+-- the folder above: `a/b` is above `a/b/c`, the root above `a`, and `..` above `../a`
 pub record IsAbove (folder above : List ℕ) : Type 0 where
+  pub inside : is_up folder ≡ false
   pub name : List ℕ
   pub one_part : (i : ℕ) → i < length name → slice_index name i ≢ 47
   pub whole : (folder ≡ above ++ (codes "/" ++ name)) ⊎ ((above ≡ []) × (folder ≢ []) × (folder ≡ name))
+
+-- a folder that no folder is above: the root, and a folder that leads up from it
+abbrev pub IsOutermost : List ℕ → Type 0
+IsOutermost folder = (folder ≡ []) ⊎ (is_up folder ≡ true)
 
 -- a folder that holds packages and is none
 abbrev pub is_modules : List ℕ → Bool

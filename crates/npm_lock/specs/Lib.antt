@@ -3,10 +3,12 @@
 -- ProblemJson is what is written for a problem. All other words are there for these three.
 
 -- ---- the packages of a lock file
+pub mod Texts  -- a text without its start or its end
 pub mod Folders  -- folders of packages
 pub mod Packages  -- packages, links, and where a name is found
 pub mod Asked  -- what a package depends on
 -- ---- one dependency
+pub mod Workspaces  -- which folders are workspaces of the root
 pub mod RangeText  -- which specs are ranges
 pub mod Verdict  -- whether a version is what a spec asks for
 pub mod Outcomes  -- what is wrong with a dependency, and with the version of Node

@@ -1,9 +1,10 @@
 -- Where the name of a dependency is found: npm's "folders", "Cycles, Conflicts, and Folder Parsimony".
-use Rattle.std.specs.Prelude.{◌≡◌, ◌⊎◌, ℕ, List, [], Bool, true, false, if◌then◌else◌, Option, Some, None, option_map}
-use Rattle.std.specs.Prelude.{option_and_then, unwrap_or, codes}
+use Rattle.std.specs.Prelude.{◌≡◌, ◌⊎◌, ℕ, List, Bool, true, false, if◌then◌else◌, Option, Some, None, option_map}
+use Rattle.std.specs.Prelude.{option_and_then, unwrap_or, codes, drop, nat_eq}
+use Rattle.std.specs.List.{starts_with}
 use Rattle.serde_json.specs.Data.{Data}
 use Rattle.serde_json.specs.Find.{as_bool, as_str, get}
-use Rattle.npm_lock.specs.Folders.{IsAbove, is_modules, place_in}
+use Rattle.npm_lock.specs.Folders.{IsAbove, IsOutermost, is_modules, place_in}
 
 -- a package, and the folder that it is in
 pub record Package : Type 0 where
@@ -14,10 +15,15 @@ pub record Package : Type 0 where
 abbrev pub is_link : (member : Data) → Bool
 is_link member = unwrap_or (option_and_then as_bool (get (codes "link") member)) false
 
+-- the folder that `resolved` of a link names: `w` and `./w` name the same
+abbrev pub linked_folder : (resolved : List ℕ) → List ℕ
+linked_folder resolved = if starts_with nat_eq resolved (codes "./") then drop 2 resolved else resolved
+
 -- the package that `resolved` of a link names
 abbrev pub target_of : (packages link : Data) → Option Package
 target_of packages link = option_and_then
-    (λ folder. option_map (λ member. record { folder = folder; member = member }) (get folder packages))
+    (λ resolved. option_map (λ member. record { folder = linked_folder resolved; member = member })
+    (get (linked_folder resolved) packages))
     (option_and_then as_str (get (codes "resolved") link))
 
 -- the package at a place of the file, which is the target if a link is there
@@ -42,4 +48,4 @@ pub data IsFound (packages : Data) (name : List ℕ) : (folder : List ℕ) → O
       → IsFound packages name folder (Some found)
   above : (folder parent : List ℕ) (found : Option Package) → IsPassed packages name folder → IsAbove folder parent
       → IsFound packages name parent found → IsFound packages name folder found
-  nowhere : IsPassed packages name [] → IsFound packages name [] None
+  nowhere : (folder : List ℕ) → IsPassed packages name folder → IsOutermost folder → IsFound packages name folder None

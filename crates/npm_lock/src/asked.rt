@@ -73,6 +73,39 @@ fn is_optional_peer(asker: &Value, name: &str) -> bool
     ensures { result ≡ Asks.is_optional_peer (view asker.now) name.now }
 {
     let peers = asker.get("peerDependenciesMeta");
-    let optional = peers.and_then(|peers| peers.get(name)?.get("optional")?.as_bool());
-    optional.unwrap_or(false)
+    peers
+        .and_then(|peers| peers.get(name))
+        .is_some_and(|peer| has_true(peer, "optional"))
 }
+
+/// The spec that a package accepts beside the one that it asks for.
+pub(crate) fn accepted_of<'v>(asker: &'v Value, name: &str) -> Option<&'v str>
+    ensures { option_map (λ text. text.now) result ≡ Asks.accepted_of (view asker.now) name.now }
+{
+    asker.get("acceptDependencies")?.get(name)?.as_str()
+}
+
+/// Returns `true` if a member is there and counts as true.
+pub(crate) fn has_true(value: &Value, key: &str) -> bool
+    ensures { result ≡ Asks.has_true key.now (view value.now) }
+{
+    value.get(key).is_some_and(is_true)
+}
+
+/// Returns `true` if JavaScript counts the value as true.
+fn is_true(value: &Value) -> bool
+    ensures { result ≡ Asks.is_true (view value.now) }
+{
+    if let Some(mark) = value.as_bool() {
+        return mark;
+    }
+    if let Some(number) = value.as_f64() {
+        return !(number == ZERO);
+    }
+    if let Some(text) = value.as_str() {
+        return !text.is_empty();
+    }
+    !value.is_null()
+}
+
+const ZERO: f64 = 0.0;

@@ -61,9 +61,9 @@ pub(crate) fn lock_of<'v>(
     ensures node { IfOk result (λ found. found.node ≡ node.entry) }
     ensures refused { IfErr result (λ fault. Faults.lock_fault (view lock.now) ≡ Some fault) }
 {
-    let Some(2 | 3) = lock.get("lockfileVersion").and_then(Value::as_u64) else {
+    if !has_format(lock) {
         return Err(Fault::Version);
-    };
+    }
     let packages = lock.get("packages").ok_or(Fault::Packages)?;
     let members = packages.as_object().ok_or(Fault::Packages)?;
     let lock = Lock {
@@ -75,6 +75,21 @@ pub(crate) fn lock_of<'v>(
         check_member(lock, member)?;
     }
     Ok(lock)
+}
+
+/// Returns `true` if `lockfileVersion` is 2 or 3.
+fn has_format(lock: &Value) -> bool
+    ensures { result ≡ Faults.has_format (view lock.now) }
+{
+    lock.get("lockfileVersion")
+        .and_then(Value::as_f64)
+        .is_some_and(is_format)
+}
+
+fn is_format(number: f64) -> bool
+    ensures { result ≡ Faults.is_format number }
+{
+    number == f64::from(2_u8) || number == f64::from(3_u8)
 }
 
 /// Fails if a member of `packages` has a fault. The target of a link is a package and no link.
@@ -97,13 +112,16 @@ fn check_member(lock: Lock<'_>, member: &Value) -> Result<(), Fault>
     check_group(member, "devDependencies")
 }
 
-/// Fails if a group of dependencies is there, and is no object of strings.
+/// Fails if a group of dependencies is there, and is neither `null` nor an object of strings.
 fn check_group(member: &Value, group: &str) -> Result<(), Fault>
     ensures { result_err result ≡ Faults.group_fault (view member.now) group.now }
 {
     let Some(group) = member.get(group) else {
         return Ok(());
     };
+    if group.is_null() {
+        return Ok(());
+    }
     let specs = group.as_object().ok_or(Fault::Dependencies)?;
     for (_, spec) in specs.iter() {
         spec.as_str().ok_or(Fault::Spec)?;

@@ -11,7 +11,9 @@ mod problem;
 mod range_text;
 #[cfg(test)]
 mod tests;
+mod text;
 mod verdict;
+mod workspace;
 
 pub use fault::{CheckError, Fault};
 pub use lock_file::check;

@@ -3,14 +3,15 @@ ghost use Rattle.std.specs.Prelude.{◌≡◌, IfOk, option_map, string_bytes};
 ghost use Rattle.serde_json.specs.View.{view};
 ghost use Rattle.npm_lock.specs.Findings.{IsNodeOutcome};
 ghost use Rattle.npm_lock.specs.Outcomes as Outcomes;
-ghost use Rattle.npm_lock.specs.Outcomes.{IsOutcome, problem_value};
-ghost use Rattle.npm_lock.specs.Private.PackageValue.{asked_value, packages_data};
+ghost use Rattle.npm_lock.specs.Outcomes.{IsOutcome, IsVerdictOn, problem_value};
+ghost use Rattle.npm_lock.specs.Private.PackageValue.{asked_value, package_value, packages_data};
 
 use crate::Result;
-use crate::asked::Asked;
+use crate::asked::{Asked, has_true};
 use crate::place::{Lock, Package};
 use crate::problem::{Kind, Problem};
-use crate::verdict::{Verdict, is_admitted, verdict_of};
+use crate::verdict::{Verdict, is_contained, verdict_of_both};
+use crate::workspace::{Workspace, workspace_of};
 use serde_json::Value;
 use std::alloc::Global;
 
@@ -23,8 +24,8 @@ pub(crate) fn outcome_of(
     name: &str,
     asked: Asked<'_>,
 ) -> Result<(Option<Problem>, bool)>
-    ensures { IfOk result (λ pair. IsOutcome (packages_data lock.entry) asker.entry.folder.now is_installed name.now
-        (asked_value asked.entry) (option_map problem_value pair.0) pair.1) }
+    ensures { IfOk result (λ pair. IsOutcome (packages_data lock.entry) asker.entry.folder.now
+        (view asker.entry.member.now) is_installed name.now (asked_value asked.entry) (option_map problem_value pair.0) pair.1) }
 {
     let alloc = lock.alloc;
     let found = lock.find(asker.folder, name)?;
@@ -32,7 +33,7 @@ pub(crate) fn outcome_of(
         None if asked.is_needed => Kind::Missing,
         None => return Ok((None, false)),
         Some((_, is_own)) if asked.is_peer && is_installed && is_own => Kind::PeerLocal,
-        Some((found, _)) => match verdict_of(alloc, asked.spec, version_of(found.member))? {
+        Some((found, _)) => match verdict_on(lock, asker, name, asked, found)? {
             Verdict::Valid => return Ok((None, false)),
             Verdict::Unchecked => return Ok((None, true)),
             Verdict::Invalid => Kind::Invalid,
@@ -49,6 +50,27 @@ pub(crate) fn outcome_of(
     Ok((Some(problem), false))
 }
 
+/// The verdict on a package that was found. A workspace of the root is valid whatever the spec.
+fn verdict_on(
+    lock: Lock<'_>,
+    asker: Package<'_>,
+    name: &str,
+    asked: Asked<'_>,
+    found: Package<'_>,
+) -> Result<Verdict>
+    ensures { IfOk result (IsVerdictOn asker.entry.folder.now
+        (view asker.entry.member.now) name.now (asked_value asked.entry) (package_value found.entry)) }
+{
+    match workspace_of(asker, found.folder) {
+        Workspace::Is => Ok(Verdict::Valid),
+        Workspace::Unread => Ok(Verdict::Unchecked),
+        Workspace::IsNot => {
+            let version = version_of(found.member);
+            verdict_of_both(lock.alloc, asker.member, name, asked.spec, version)
+        }
+    }
+}
+
 /// The problem of a package whose `engines.node` does not admit the version of Node, if one is given.
 pub(crate) fn engine_problem(lock: Lock<'_>, asker: Package<'_>) -> Result<Option<Problem>>
     ensures { IfOk result (λ problem. IsNodeOutcome (option_map (λ version. version.now) lock.entry.node)
@@ -58,7 +80,7 @@ pub(crate) fn engine_problem(lock: Lock<'_>, asker: Package<'_>) -> Result<Optio
     let (Some(node), Some(spec)) = (lock.node, engine_of(asker.member)) else {
         return Ok(None);
     };
-    if is_admitted(alloc, spec, node)? {
+    if is_contained(alloc, spec, node)? {
         return Ok(None);
     }
     Ok(Some(Problem {
@@ -71,10 +93,13 @@ pub(crate) fn engine_problem(lock: Lock<'_>, asker: Package<'_>) -> Result<Optio
     }))
 }
 
-/// What a package says of Node. Old packages have a list there, which says nothing.
+/// What a package says of Node. Old packages have a list there, which says nothing, and an optional one is not asked.
 fn engine_of(member: &Value) -> Option<&str>
     ensures { option_map (λ text. text.now) result ≡ Outcomes.engine_of (view member.now) }
 {
+    if has_true(member, "optional") {
+        return None;
+    }
     member.get("engines")?.get("node")?.as_str()
 }
 

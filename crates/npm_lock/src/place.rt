@@ -82,7 +82,7 @@ impl<'v> Lock<'v> {
     pub(crate) fn target_of(self, link: &Value) -> Option<Package<'v>>
         ensures { option_map package_value result ≡ Packages.target_of (packages_data self.entry) (view link.now) }
     {
-        self.package_in(link.get("resolved")?.as_str()?)
+        self.package_in(linked_folder(link.get("resolved")?.as_str()?))
     }
 
     /// The member of `packages` for a folder.
@@ -94,6 +94,13 @@ impl<'v> Lock<'v> {
         let folder = folder.as_str();
         Some(Package { folder, member })
     }
+}
+
+/// The folder of a text, which may begin with `./`.
+pub(crate) fn linked_folder(resolved: &str) -> &str
+    ensures { result.now ≡ Packages.linked_folder resolved.now }
+{
+    resolved.strip_prefix("./").unwrap_or(resolved)
 }
 
 /// Writes the folder of a name in the `node_modules` of a folder, in place of what the text has.

@@ -7,7 +7,7 @@ use std::test::Fail;
 
 // What each package is called in the rows: `packages` of a lock file, and each problem as its kind, the folder of the
 // package that asks, and the name.
-const ROWS: [(&str, &[(Kind, &str, &str)]); 24] = [
+const ROWS: [(&str, &[(Kind, &str, &str)]); 39] = [
     (r#""": {}"#, &[]),
     // A dependency, missing and not.
     (
@@ -72,7 +72,7 @@ const ROWS: [(&str, &[(Kind, &str, &str)]); 24] = [
     ),
     (
         r#""": {"peerDependencies": {"a": "1", "b": "1"},
-            "peerDependenciesMeta": {"a": {"optional": true}, "b": {"optional": "true"}}},
+            "peerDependenciesMeta": {"a": {"optional": true}, "b": {"optional": ""}}},
             "node_modules/a": {"version": "2.0.0"}"#,
         &[(Kind::Invalid, "", "a"), (Kind::Missing, "", "b")],
     ),
@@ -118,6 +118,95 @@ const ROWS: [(&str, &[(Kind, &str, &str)]); 24] = [
         r#""": {"dependencies": {"a": "latest", "b": "github:b/b", "c": "= %"}}, "node_modules/a": {},
             "node_modules/b": {}, "node_modules/c": {"version": "1.0.0"}"#,
         &[(Kind::Invalid, "", "c")],
+    ),
+    // What JavaScript counts as true, and what it does not.
+    (
+        r#""": {"peerDependencies": {"a": "1", "b": "1", "c": "1", "d": "1"}, "peerDependenciesMeta":
+            {"a": {"optional": "true"}, "b": {"optional": 1}, "c": {"optional": []}, "d": {"optional": {}}}}"#,
+        &[],
+    ),
+    (
+        r#""": {"peerDependencies": {"a": "1", "b": "1", "c": "1", "d": "1"}, "peerDependenciesMeta":
+            {"a": {"optional": false}, "b": {"optional": 0.0}, "c": {"optional": null}, "d": {}}}"#,
+        &[
+            (Kind::Missing, "", "a"),
+            (Kind::Missing, "", "b"),
+            (Kind::Missing, "", "c"),
+            (Kind::Missing, "", "d"),
+        ],
+    ),
+    // A folder outside the root is not below it, and `..` is above `../x`.
+    (
+        r#""": {}, "../x": {"dependencies": {"a": "^1"}}, "node_modules/a": {"version": "1.0.0"}"#,
+        &[(Kind::Missing, "../x", "a")],
+    ),
+    (
+        r#""": {}, "../x": {"optionalDependencies": {"a": "^2"}}, "node_modules/a": {"version": "1.0.0"}"#,
+        &[],
+    ),
+    (
+        r#""": {"dependencies": {"a": "1", "b": "1"}}, "..": {}, "../x": {"dependencies": {"a": "1", "b": "1"}},
+            "../node_modules/a": {"version": "1.0.0"}, "../x/node_modules/b": {"version": "1.0.0"},
+            "../../node_modules/a": {"version": "2.0.0"}"#,
+        &[(Kind::Missing, "", "a"), (Kind::Missing, "", "b")],
+    ),
+    // A spec that is accepted too.
+    (
+        r#""": {"dependencies": {"a": "^2", "b": "^2", "c": "^2"}, "acceptDependencies": {"a": "^1", "b": "^3", "c": ""}},
+            "node_modules/a": {"version": "1.0.0"}, "node_modules/b": {"version": "1.0.0"}, "node_modules/c": {}"#,
+        &[(Kind::Invalid, "", "b")],
+    ),
+    (
+        r#""": {"dependencies": {"a": "^2", "b": "^2"}, "acceptDependencies": {"a": "latest", "b": 1}},
+            "node_modules/a": {"version": "1.0.0"}, "node_modules/b": {"version": "1.0.0"}"#,
+        &[(Kind::Invalid, "", "b")],
+    ),
+    // A workspace of the root is what the root asks for, and no other package's.
+    (
+        r#""": {"workspaces": ["w"], "devDependencies": {"w": "^2"}}, "node_modules/w": {"link": true, "resolved": "w"},
+            "w": {"version": "1.0.0"}, "node_modules/a": {"dependencies": {"w": "^2"}}"#,
+        &[(Kind::Invalid, "node_modules/a", "w")],
+    ),
+    (
+        r#""": {"workspaces": {"packages": ["./p/*", "q/**"]}, "dependencies": {"v": "^2", "w": "^2", "x": "^2"}},
+            "node_modules/v": {"link": true, "resolved": "p/v"}, "p/v": {"version": "2.1.0-alpha.1"},
+            "node_modules/w": {"link": true, "resolved": "q/r/w"}, "q/r/w": {"version": "1.0.0"},
+            "node_modules/x": {"link": true, "resolved": "p/v/x"}, "p/v/x": {"version": "1.0.0"}"#,
+        &[(Kind::Invalid, "", "x")],
+    ),
+    (
+        r#""": {"workspaces": ["*", "node_modules/*"], "dependencies": {"a": "^2", "v": "^2", "w": "^2"}},
+            "node_modules/a": {"version": "1.0.0"}, "node_modules/v": {"link": true, "resolved": ".v"},
+            ".v": {"version": "1.0.0"}, "node_modules/w": {"link": true, "resolved": "./w"}, "w": {"version": "1.0.0"}"#,
+        &[(Kind::Invalid, "", "a"), (Kind::Invalid, "", "v")],
+    ),
+    // Patterns that are not read: nothing is said of links.
+    (
+        r#""": {"workspaces": ["*", "!w"], "dependencies": {"a": "^2", "w": "^2"}}, "node_modules/a": {"version": "1.0.0"},
+            "node_modules/w": {"link": true, "resolved": "w"}, "w": {"version": "1.0.0"}"#,
+        &[(Kind::Invalid, "", "a")],
+    ),
+    (
+        r#""": {"workspaces": "w", "dependencies": {"w": "^2"}}, "node_modules/w": {"link": true, "resolved": "w"},
+            "w": {"version": "1.0.0"}"#,
+        &[(Kind::Invalid, "", "w")],
+    ),
+    // `null` is no group, and a link may begin with `./`.
+    (
+        r#""": {"dependencies": null, "peerDependencies": null, "optionalDependencies": null, "devDependencies": null}"#,
+        &[],
+    ),
+    (
+        r#""": {"dependencies": {"w": "2"}}, "node_modules/w": {"link": true, "resolved": "./w"},
+            "w": {"version": "1.0.0"}"#,
+        &[(Kind::Invalid, "", "w")],
+    ),
+    // `npm:` in letters of either case, and before a text that is no name.
+    (
+        r#""": {"dependencies": {"a": "NPM:b@^1", "b": "npm:^2", "c": "npm:2", "d": "npm:latest", "e": "npm:>=1 <3"}},
+            "node_modules/a": {"version": "2.0.0"}, "node_modules/b": {"version": "1.0.0"},
+            "node_modules/c": {"version": "1.0.0"}, "node_modules/d": {}, "node_modules/e": {"version": "1.0.0"}"#,
+        &[(Kind::Invalid, "", "a"), (Kind::Invalid, "", "b")],
     ),
     // Packages in the order of their folders' bytes, and the dependencies of each in the order of their names' bytes.
     (
@@ -169,6 +258,10 @@ fn refuses_what_is_no_lock_file(rt: HostRuntime) -> Result<(), Fail> {
             Fault::Version,
         ),
         (r#"{"lockfileVersion": 1, "packages": {}}"#, Fault::Version),
+        (
+            r#"{"lockfileVersion": 3.5, "packages": {}}"#,
+            Fault::Version,
+        ),
         (r#"{"lockfileVersion": 2}"#, Fault::Packages),
         (r#"{"lockfileVersion": 2, "packages": []}"#, Fault::Packages),
         (
@@ -193,6 +286,10 @@ fn refuses_what_is_no_lock_file(rt: HostRuntime) -> Result<(), Fail> {
         ),
         (
             r#"{"lockfileVersion": 2, "packages": {"": {"dependencies": []}}}"#,
+            Fault::Dependencies,
+        ),
+        (
+            r#"{"lockfileVersion": 3.0, "packages": {"": {"dependencies": false}}}"#,
             Fault::Dependencies,
         ),
         (
@@ -246,5 +343,25 @@ fn counts_what_it_checks(rt: HostRuntime) -> Result<(), Fail> {
     let wanted =
         r#"{"from":"","name":"a","problem":"invalid","spec":"^1","to":"node_modules/a","version":"2.0.0"}"#;
     assert_eq!(rt; written.as_str(), wanted);
+    Ok(())
+}
+
+// npm admits each prerelease that lies inside a set, and does not ask a package that is optional.
+#[test]
+fn asks_for_a_prerelease_of_node(rt: HostRuntime) -> Result<(), Fail> {
+    let alloc = rt.alloc();
+    let text = r#"{"lockfileVersion": 3, "packages": {
+        "node_modules/a": {"engines": {"node": ">=16 <17 || >=18.0.0-0"}},
+        "node_modules/b": {"engines": {"node": ">=16"}},
+        "node_modules/c": {"engines": {"node": ">=18"}},
+        "node_modules/d": {"engines": {"node": ">=20"}, "optional": true},
+        "node_modules/e": {"engines": {"node": ">=20"}, "optional": false}}}"#;
+    let lock = Value::from_str(alloc, text)?;
+    let found = check(alloc, &lock, Some(&Version::parse(alloc, "18.0.0-rc.1")?))?;
+    let wanted = [
+        (Kind::Engine, "node_modules/c", "node"),
+        (Kind::Engine, "node_modules/e", "node"),
+    ];
+    assert!(rt; are_problems(found.list.as_slice(), &wanted));
     Ok(())
 }

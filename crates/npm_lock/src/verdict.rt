@@ -1,13 +1,17 @@
 //! Whether a version satisfies a dependency's spec.
 ghost use Rattle.std.specs.Prelude.{◌≡◌, ◌↔◌, List, ℕ, IfOk, IfNone, IfSome, IsTrue, false, if◌then◌else◌, option_map};
-ghost use Rattle.node_semver.specs.Ranges.{IsRefused, RangeAdmits, TextAdmits};
+ghost use Rattle.node_semver.specs.Ranges.{AreSetsOfText, IsRefused, RangeAdmits, TextAdmits};
 ghost use Rattle.node_semver.specs.Versions.{VersionValue};
+ghost use Rattle.serde_json.specs.View.{view};
+ghost use Rattle.npm_lock.specs.Asked.{accepted_of};
 ghost use Rattle.npm_lock.specs.Verdict as Verdicts;
-ghost use Rattle.npm_lock.specs.Verdict.{IsAdmittedBy, IsVerdict, IsVerdictOfText};
+ghost use Rattle.npm_lock.specs.Verdict.{IsContained, IsVerdict, IsVerdictOfBoth, IsVerdictOfText};
 
 use crate::Result;
+use crate::asked::accepted_of;
 use crate::range_text::{is_tag, range_text};
 use node_semver::{Range, Version, VersionRef};
+use serde_json::Value;
 use std::alloc::{AllocError, Global};
 
 /// Whether a version satisfies a spec.
@@ -19,8 +23,43 @@ pub(crate) enum Verdict {
     Unchecked,
 }
 
+impl Verdict {
+    /// The better of two verdicts: `Valid` before `Unchecked` before `Invalid`.
+    fn better(self, other: Verdict) -> Verdict
+        ensures { result ≡ Verdicts.better self other }
+    {
+        match (self, other) {
+            (Verdict::Valid, _) | (_, Verdict::Valid) => Verdict::Valid,
+            (Verdict::Unchecked, _) | (_, Verdict::Unchecked) => Verdict::Unchecked,
+            (Verdict::Invalid, Verdict::Invalid) => Verdict::Invalid,
+        }
+    }
+}
+
+/// Returns whether the version of a package satisfies the spec that another asks for by a name, or the one that it accepts
+/// beside it.
+pub(crate) fn verdict_of_both(
+    alloc: Global,
+    asker: &Value,
+    name: &str,
+    spec: &str,
+    version: Option<&str>,
+) -> Result<Verdict>
+    ensures { IfOk result (IsVerdictOfBoth (option_map (λ t. t.now) version.entry) spec.now
+        (accepted_of (view asker.now) name.now)) }
+{
+    let verdict = match verdict_of(alloc, spec, version)? {
+        Verdict::Valid => return Ok(Verdict::Valid),
+        verdict => verdict,
+    };
+    let Some(accepted) = accepted_of(asker, name) else {
+        return Ok(verdict);
+    };
+    Ok(verdict.better(verdict_of(alloc, accepted, version)?))
+}
+
 /// Returns whether the version of a package satisfies a spec.
-pub(crate) fn verdict_of(alloc: Global, spec: &str, version: Option<&str>) -> Result<Verdict>
+fn verdict_of(alloc: Global, spec: &str, version: Option<&str>) -> Result<Verdict>
     ensures { IfOk result (IsVerdict (option_map (λ t. t.now) version.entry) spec.now) }
 {
     let Some(text) = range_text(spec) else {
@@ -56,17 +95,22 @@ fn is_satisfied(range: &Range, version: Option<&str>) -> bool
     VersionRef::parse(text).is_ok_and(|version| range.satisfies(&version))
 }
 
-/// Returns `true` if a version satisfies a range text. A text that is refused admits none.
-pub(crate) fn is_admitted(alloc: Global, text: &str, version: &Version) -> Result<bool>
-    ensures { IfOk result (λ admitted. IsTrue admitted ↔ IsAdmittedBy text.now version.now) }
+/// Returns `true` if a version lies inside a set of a range text, whatever prerelease it is. It lies in no text that is
+/// refused.
+pub(crate) fn is_contained(alloc: Global, text: &str, version: &Version) -> Result<bool>
+    ensures { IfOk result (IsContained text.now version.now) }
 {
-    Ok(range_of(alloc, text)?.is_some_and(|range| range.satisfies(version)))
+    match range_of(alloc, text)? {
+        Some(range) => Ok(range.contains(version)),
+        None => Ok(false),
+    }
 }
 
 /// The range of a text, or `None` if the text is refused.
 fn range_of(alloc: Global, text: &str) -> Result<Option<Range>>
     ensures refused { IfOk result (λ range. IfNone range (IsRefused text.now)) }
     ensures accepted { IfOk result (λ range. IfSome range (λ range. ¬ IsRefused text.now)) }
+    ensures sets { IfOk result (λ range. IfSome range (λ range. AreSetsOfText text.now range)) }
     ensures means { IfOk result (λ range. IfSome range (λ range.
         (v : VersionValue) → RangeAdmits range v ↔ TextAdmits text.now v)) }
 {

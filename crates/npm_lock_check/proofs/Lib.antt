@@ -1,3 +1,4 @@
+pub mod Examples
 pub mod OutputLines
 pub mod Stopping
 pub mod WordLists

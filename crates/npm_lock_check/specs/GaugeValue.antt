@@ -1,11 +1,11 @@
--- What a contract sees of a reader or writer that keeps its failure.
+-- What a contract sees of a reader or writer that remembers that a call failed.
 use Rattle.std.specs.Prelude.{Option, Result, option_map}
 use Rattle.std.specs.Result.{result_err}
 use Rattle.std.specs.IoError.{error_kind}
 use Rattle.std.specs.declared.io.Error.{Error}
 use Rattle.std.specs.declared.io.ErrorKind.{ErrorKind}
 
--- the reader or writer, and the kind of error of the last call through the gauge, if it failed
+-- the reader or writer, and the kind of error of the first call through the gauge that failed, if one did
 pub record GaugeValue (T : Type 0) : Type 0 where
   pub inner : T
   pub failure : Option ErrorKind

@@ -1,5 +1,5 @@
 -- What the contracts of this program say, in reading order.
 
 pub mod Arguments  -- what the arguments ask for
-pub mod GaugeValue  -- readers and writers that keep their failure
+pub mod GaugeValue  -- readers and writers that remember that a call failed
 pub mod Output  -- what is read, and what is written for it

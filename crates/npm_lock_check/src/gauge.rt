@@ -1,5 +1,6 @@
-//! Readers and writers that keep the kind of error of a call that failed.
+//! Readers and writers that remember that a call failed.
 ghost use Rattle.std.specs.Prelude.{◌≡◌, ◌+◌, IfOk, None, OnOk, vec_len};
+ghost use Rattle.std.specs.Option.{option_or};
 ghost use Rattle.std.specs.Io.{StartsWith, appended_bytes};
 ghost use Rattle.std.specs.Io.KnownBytes.{Appends, Consumes, IsAtEnd};
 ghost use Rattle.npm_lock_check.specs.GaugeValue.{GaugeValue, failure_of};
@@ -8,7 +9,7 @@ use std::io;
 use std::io::{ErrorKind, Read, Write};
 use std::marker::Model;
 
-/// A reader or writer, and the kind of error of the last call through the gauge, if it failed.
+/// A reader or writer, and the kind of error of the first call through the gauge that failed, if one did.
 #[derive(Drop)]
 pub struct Gauge<T> {
     inner: T,
@@ -31,6 +32,21 @@ impl<T> Gauge<T> {
             failure: None,
         }
     }
+
+    /// Returns the kind of error of the first call that failed, if one did.
+    pub fn failure(&self) -> Option<ErrorKind>
+        ensures { result ≡ self.now.failure }
+    {
+        self.failure
+    }
+
+    /// Keeps the failure of a call, if none is kept yet.
+    fn keep<O>(&mut self, outcome: &io::Result<O>)
+        ensures inner { self.new.inner ≡ self.old.inner }
+        ensures failure { self.new.failure ≡ option_or self.old.failure (failure_of outcome.now) }
+    {
+        self.failure = self.failure.or(failure_of(outcome));
+    }
 }
 
 impl<R: Read> Gauge<R> {
@@ -41,10 +57,10 @@ impl<R: Read> Gauge<R> {
         ensures taken { Consumes (R.remaining self.old.inner) (R.remaining self.new.inner)
             (appended_bytes bytes.old.items bytes.new.items) }
         ensures ended { OnOk result (IsAtEnd (R.remaining self.new.inner)) }
-        ensures failure { self.new.failure ≡ failure_of result }
+        ensures failure { self.new.failure ≡ option_or self.old.failure (failure_of result) }
     {
         let read = self.inner.read_to_end(bytes);
-        self.failure = failure_of(&read);
+        self.keep(&read);
         read
     }
 }
@@ -53,10 +69,10 @@ impl<W: Write> Gauge<W> {
     /// Writes all of these bytes.
     pub fn write_all(&mut self, bytes: &[u8]) -> io::Result<()>
         ensures written { OnOk result (Appends (W.contents self.old.inner) (W.contents self.new.inner) bytes.now) }
-        ensures failure { self.new.failure ≡ failure_of result }
+        ensures failure { self.new.failure ≡ option_or self.old.failure (failure_of result) }
     {
         let written = self.inner.write_all(bytes);
-        self.failure = failure_of(&written);
+        self.keep(&written);
         written
     }
 }

@@ -7,7 +7,7 @@ ghost use Rattle.npm_lock.specs.declared.problem.Problems.{Problems};
 ghost use Rattle.npm_lock_check.specs.Output.{IsChecked, IsInput, IsStopped, lines};
 
 use crate::gauge::Gauge;
-use crate::run_error::{RunError, json_error, read_error};
+use crate::run_error::{RunError, failure_error, json_error, read_error};
 use node_semver::Version;
 use npm_lock::{CheckError, Problem, Problems, check};
 use serde_json::Value;
@@ -55,11 +55,21 @@ fn read_lock<R: Read>(alloc: Global, reader: &mut Gauge<R>) -> Result<Value, Run
     ensures value { IfOk result (λ lock. IsInput R.remaining reader.old reader.new (view lock)) }
     ensures refused { IfErr result (IsStopped R.remaining reader.old reader.new) }
 {
+    // A reader that had failed before is not read.
+    if let Some(kind) = reader.failure() {
+        return Err(failure_error(kind));
+    }
     let mut bytes = Vec::new(alloc);
     reader.read_to_end(&mut bytes).map_err(read_error)?;
+    if bytes.starts_with(MARK) {
+        return Err(RunError::ByteOrderMark);
+    }
     let text = str::from_utf8(bytes.as_slice()).map_err(|_| RunError::NoJson)?;
     Value::from_str(alloc, text).map_err(json_error)
 }
+
+/// The byte order mark in UTF-8.
+const MARK: &[u8] = &[239, 187, 191];
 
 /// The lines of problems.
 fn lines_of(alloc: Global, problems: &[Problem]) -> Result<String, AllocError>

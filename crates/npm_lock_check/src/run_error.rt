@@ -30,6 +30,9 @@ pub enum RunError {
     /// What was read is no JSON text in UTF-8, or nests too deep.
     #[error("the input is no JSON")]
     NoJson,
+    /// What was read begins with a byte order mark.
+    #[error("the input begins with a byte order mark")]
+    ByteOrderMark,
     /// What was read is no lock file.
     #[error("the input is no lock file that is read here: {0}")]
     NoLockFile(Fault),
@@ -40,7 +43,15 @@ pub(crate) fn read_error(error: io::Error) -> RunError
     ensures memory { result ≡ RunError.Memory ↔ error_kind error ≡ ErrorKind.OutOfMemory }
     ensures read { result ≡ RunError.Read ↔ ¬ (error_kind error ≡ ErrorKind.OutOfMemory) }
 {
-    match error.kind() {
+    failure_error(error.kind())
+}
+
+/// Why a read of this kind failed.
+pub(crate) fn failure_error(kind: ErrorKind) -> RunError
+    ensures memory { result ≡ RunError.Memory ↔ kind ≡ ErrorKind.OutOfMemory }
+    ensures read { result ≡ RunError.Read ↔ ¬ (kind ≡ ErrorKind.OutOfMemory) }
+{
+    match kind {
         ErrorKind::OutOfMemory => RunError::Memory,
         _ => RunError::Read,
     }

@@ -1,5 +1,6 @@
 //! The results of calls.
-use node_semver::{Identifier, JsonError, Range, SemverError, Version};
+use node_semver::{BumpError, Identifier, JsonError, Range, SemverError, Version};
+use npm_lock::{CheckError, Problems};
 use semver_cuts::{Cut, Span};
 use serde_json::Value;
 use std::alloc::{AllocError, Global};
@@ -18,6 +19,8 @@ pub(crate) enum Answer {
     Refusal(SemverError),
     Json(Value),
     NotAString,
+    Problems(Problems),
+    NoLock(npm_lock::Fault),
 }
 
 impl Answer {
@@ -35,6 +38,8 @@ impl Answer {
             Answer::Refusal(error) => print_of_error(alloc, error),
             Answer::Json(value) => value.to_string(alloc),
             Answer::NotAString => String::from_str(alloc, "no string"),
+            Answer::Problems(problems) => print_of_problems(alloc, problems),
+            Answer::NoLock(fault) => fault.to_string(alloc),
         }
     }
 }
@@ -54,8 +59,21 @@ pub(crate) fn print_of_error(alloc: Global, error: &SemverError) -> Result<Strin
     format!(in alloc; "{error} {offset} {input}")
 }
 
+/// The kind and the name of each problem, and the counts.
+fn print_of_problems(alloc: Global, problems: &Problems) -> Result<String, AllocError> {
+    let mut text = String::new(alloc);
+    for problem in problems.list.iter() {
+        text.push_str(problem.kind.as_str())?;
+        text.push(' ')?;
+        text.push_str(problem.name.as_str())?;
+        text.push_str(", ")?;
+    }
+    let (packages, dependencies) = (problems.packages, problems.dependencies);
+    format!(in alloc; "{text}{packages} packages, {dependencies} dependencies")
+}
+
 /// An error that an allocation failed has an empty text and offset 0.
-fn refusal(error: SemverError) -> Answer {
+pub(crate) fn refusal(error: SemverError) -> Answer {
     if error.is_out_of_memory() && error.input().is_empty() && error.offset() == 0 {
         return Answer::OutOfMemory;
     }
@@ -92,6 +110,15 @@ pub(crate) fn range_of_json(found: Result<Range, JsonError>) -> Answer {
     }
 }
 
+/// A bumped version.
+pub(crate) fn bumped(outcome: Result<Version, BumpError>) -> Answer {
+    match outcome {
+        Ok(version) => Answer::Version(version),
+        Err(BumpError::OutOfMemory) => Answer::OutOfMemory,
+        Err(_) => Answer::Nothing,
+    }
+}
+
 pub(crate) fn version(found: Result<Version, AllocError>) -> Answer {
     match found {
         Ok(version) => Answer::Version(version),
@@ -125,6 +152,22 @@ pub(crate) fn set_if_any(found: Result<Option<Span<Version>>, AllocError>) -> An
 pub(crate) fn json(found: Result<Value, AllocError>) -> Answer {
     match found {
         Ok(value) => Answer::Json(value),
+        Err(_) => Answer::OutOfMemory,
+    }
+}
+
+pub(crate) fn problems(found: Result<Problems, CheckError>) -> Answer {
+    match found {
+        Ok(problems) => Answer::Problems(problems),
+        Err(CheckError::Refused(fault)) => Answer::NoLock(fault),
+        Err(CheckError::Memory) => Answer::OutOfMemory,
+    }
+}
+
+/// How many identifiers were given.
+pub(crate) fn identifiers(found: Result<Vec<Identifier>, AllocError>) -> Answer {
+    match found {
+        Ok(identifiers) => Answer::Count(identifiers.len()),
         Err(_) => Answer::OutOfMemory,
     }
 }

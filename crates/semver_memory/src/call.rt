@@ -2,18 +2,27 @@
 use crate::answer;
 use crate::answer::{Answer, print_of_error};
 use crate::fault::Fault;
+use crate::owned::{Making, making_of};
 use crate::question::{Question, error_of, question_of};
 use crate::trees::{push_words, tree_of};
-use node_semver::{Identifier, Range, SemverError, SetTree, Version};
+use node_semver::{Identifier, NpmOptions, Range, SemverError, SetTree, Version};
 use semver_cuts::{Cut, Span, join};
 use serde_json::Value;
 use std::alloc::{AllocError, Global};
+
+/// How a text is read as npm reads it.
+const LOOSE: NpmOptions = NpmOptions {
+    loose: true,
+    include_prerelease: false,
+};
 
 /// A call and its arguments.
 #[derive(Drop)]
 pub(crate) enum Call {
     ReadVersion(String),
+    ReadStrict(String),
     ReadRange(String),
+    ReadNpmRange(String),
     ReadAndAsk(String, Version),
     Any,
     WithPreRelease,
@@ -29,12 +38,14 @@ pub(crate) enum Call {
     FromSets(Range),
     MinVersion(Range),
     LeastBeyond(Range, Range),
+    LeastCommon(Range, Range),
     Join,
     VersionToJson(Version),
     RangeToJson(Range),
     VersionFromJson(Value),
     RangeFromJson(Value),
     Evaluate(SetTree),
+    Make(Making),
     Ask(Question),
 }
 
@@ -43,7 +54,9 @@ impl Call {
     pub(crate) fn answer(&self, alloc: Global) -> Answer {
         match self {
             Call::ReadVersion(text) => answer::version_read(Version::parse(alloc, text)),
+            Call::ReadStrict(text) => answer::version_read(Version::parse_strict(alloc, text)),
             Call::ReadRange(text) => answer::range_read(Range::parse(alloc, text)),
+            Call::ReadNpmRange(text) => answer::range_read(Range::parse_npm(alloc, text, LOOSE)),
             Call::ReadAndAsk(text, version) => asked(alloc, text, version),
             Call::Any => answer::range(Range::any(alloc)),
             Call::WithPreRelease => answer::version(Version::with_pre_release(alloc, 1, 2, 3, 4)),
@@ -59,6 +72,7 @@ impl Call {
             Call::FromSets(range) => from_sets(alloc, range),
             Call::MinVersion(range) => answer::version_if_any(range.min_version(alloc)),
             Call::LeastBeyond(one, other) => answer::version_if_any(one.least_beyond(alloc, other)),
+            Call::LeastCommon(one, other) => answer::version_if_any(one.least_common(alloc, other)),
             Call::Join => joined(alloc),
             Call::VersionToJson(version) => answer::json(version.to_json(alloc)),
             Call::RangeToJson(range) => answer::json(range.to_json(alloc)),
@@ -67,6 +81,7 @@ impl Call {
             }
             Call::RangeFromJson(value) => answer::range_of_json(Range::from_json(alloc, value)),
             Call::Evaluate(tree) => answer::range_if_any(tree.evaluate(alloc)),
+            Call::Make(making) => making.answer(alloc),
             Call::Ask(question) => question.answer(alloc),
         }
     }
@@ -74,7 +89,10 @@ impl Call {
     /// The arguments as they are now.
     pub(crate) fn print(&self, alloc: Global) -> Result<String, AllocError> {
         match self {
-            Call::ReadVersion(text) | Call::ReadRange(text) => text.clone(),
+            Call::ReadVersion(text)
+            | Call::ReadStrict(text)
+            | Call::ReadRange(text)
+            | Call::ReadNpmRange(text) => text.clone(),
             Call::ReadAndAsk(text, version) => format!(in alloc; "{text}, {version}"),
             Call::Any | Call::WithPreRelease | Call::Join => Ok(String::new(alloc)),
             Call::CopyIdentifier(identifier) => identifier.to_string(alloc),
@@ -89,9 +107,11 @@ impl Call {
             Call::Intersect(one, other)
             | Call::Difference(one, other)
             | Call::Union(one, other)
-            | Call::LeastBeyond(one, other) => format!(in alloc; "{one}, {other}"),
+            | Call::LeastBeyond(one, other)
+            | Call::LeastCommon(one, other) => format!(in alloc; "{one}, {other}"),
             Call::VersionFromJson(value) | Call::RangeFromJson(value) => value.to_string(alloc),
             Call::Evaluate(tree) => print_of_tree(alloc, tree),
+            Call::Make(making) => making.print(alloc),
             Call::Ask(question) => question.print(alloc),
         }
     }
@@ -108,7 +128,7 @@ fn asked(alloc: Global, text: &str, version: &Version) -> Answer {
 /// The range of the sets that a range gives.
 fn from_sets(alloc: Global, range: &Range) -> Answer {
     match range.sets(alloc) {
-        Ok(sets) => answer::range_if_any(Range::from_sets(alloc, sets)),
+        Ok(sets) => answer::range_if_any(Range::from_sets(alloc, &sets)),
         Err(_) => Answer::OutOfMemory,
     }
 }
@@ -160,6 +180,8 @@ fn call_of_text(alloc: Global, name: &str, text: &str) -> Result<Call, Fault> {
     let text = String::from_str(alloc, text)?;
     Ok(match name {
         "Version::parse" => Call::ReadVersion(text),
+        "Version::parse_strict" => Call::ReadStrict(text),
+        "Range::parse_npm" => Call::ReadNpmRange(text),
         _ => Call::ReadRange(text),
     })
 }
@@ -172,7 +194,9 @@ fn read_and_ask(alloc: Global, text: &str, version: &str) -> Result<Call, Fault>
 /// The same for calls whose arguments are read from texts. Each kind of argument is read in one place.
 fn call_of_value(alloc: Global, name: &str, one: &str, other: &str) -> Result<Call, Fault> {
     match name {
-        "Version::parse" | "Range::parse" => call_of_text(alloc, name, one),
+        "Version::parse" | "Version::parse_strict" | "Range::parse" | "Range::parse_npm" => {
+            call_of_text(alloc, name, one)
+        }
         "Range::satisfies, read anew" => read_and_ask(alloc, one, other),
         "Identifier::clone" => copy_of_identifier(alloc, one),
         "SemverError::clone" => copy_of_error(alloc, one),
@@ -183,10 +207,19 @@ fn call_of_value(alloc: Global, name: &str, one: &str, other: &str) -> Result<Ca
         | "Range::sets"
         | "Range::set"
         | "Range::from_sets" => call_of_range(alloc, name, one),
-        "Range::intersect" | "Range::difference" | "Range::union" | "Range::least_beyond" => {
-            call_of_ranges(alloc, name, one, other)
-        }
+        "Range::intersect"
+        | "Range::difference"
+        | "Range::union"
+        | "Range::least_beyond"
+        | "Range::least_common" => call_of_ranges(alloc, name, one, other),
         "Version::from_json" | "Range::from_json" => call_of_json(alloc, name, one),
+        "VersionRef::to_version"
+        | "VersionFault::into_error"
+        | "Identifiers::to_vec"
+        | "SemverError::new"
+        | "Version::bump"
+        | "npm_lock::check"
+        | "Problem::to_json" => call_of_making(alloc, name, one),
         _ => call_of_question(alloc, name, one, other),
     }
 }
@@ -227,7 +260,8 @@ fn call_of_ranges(alloc: Global, name: &str, one: &str, other: &str) -> Result<C
         "Range::intersect" => Call::Intersect(one, other),
         "Range::difference" => Call::Difference(one, other),
         "Range::union" => Call::Union(one, other),
-        _ => Call::LeastBeyond(one, other),
+        "Range::least_beyond" => Call::LeastBeyond(one, other),
+        _ => Call::LeastCommon(one, other),
     })
 }
 
@@ -237,6 +271,10 @@ fn call_of_json(alloc: Global, name: &str, text: &str) -> Result<Call, Fault> {
         "Version::from_json" => Call::VersionFromJson(value),
         _ => Call::RangeFromJson(value),
     })
+}
+
+fn call_of_making(alloc: Global, name: &str, text: &str) -> Result<Call, Fault> {
+    Ok(Call::Make(making_of(alloc, name, text)?))
 }
 
 fn call_of_question(alloc: Global, name: &str, one: &str, other: &str) -> Result<Call, Fault> {

@@ -1,4 +1,4 @@
-//! Makes a call of `node_semver` after a number of allocations, and then the same call again.
+//! Makes a call of `node_semver` or `npm_lock` after a number of allocations, and then the same call again.
 //!
 //! The words are that number, the name of the call, and its arguments. If the runtime makes one allocation fail, the
 //! number decides which allocation of the call that is. The program writes the number of allocations that succeeded
@@ -9,6 +9,7 @@
 mod answer;
 mod call;
 mod fault;
+mod owned;
 mod question;
 mod requests;
 mod trees;

@@ -66,10 +66,10 @@ fn is_admitted(range: &Range, version: &Version) -> bool {
     counted && listed && range.satisfies(version) && version.satisfies(range)
 }
 
-/// Whether two versions are equal prereleases.
+/// Whether two versions are equal prereleases, and the build of the first is less.
 fn are_same(one: &Version, other: &Version) -> bool {
     let same = one == other && one.cmp(other).is_eq() && hash_of(one) == hash_of(other);
-    same && one.is_prerelease() && other.is_prerelease()
+    same && one.compare_build(other).is_lt() && one.is_prerelease() && other.is_prerelease()
 }
 
 /// Whether two ranges are equal, with as many sets, and contain a cut.

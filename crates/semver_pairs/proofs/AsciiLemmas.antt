@@ -13,6 +13,3 @@ ascii-past (b ∷ one) other all = ascii-past one other (λ k. all (suc k))
 
 pub ascii-take : (bytes : List ℕ) (n : ℕ) → IsAscii bytes → IsAscii (take n bytes)
 ascii-take bytes n all = ascii-before (take n bytes) (drop n bytes) (subst IsAscii (sym (take-append-drop n bytes)) all)
-
-pub ascii-drop : (bytes : List ℕ) (n : ℕ) → IsAscii bytes → IsAscii (drop n bytes)
-ascii-drop bytes n all = ascii-past (take n bytes) (drop n bytes) (subst IsAscii (sym (take-append-drop n bytes)) all)

@@ -1,9 +1,9 @@
 -- Known bytes, call by call.
-use Rattle.std.proofs.Common.{◌≡◌, ◌≢◌, ℕ, ◌+◌, ◌-◌, ◌<◌, ◌≤◌, List, [], length, take, drop, Option, Some, None, IfSome}
-use Rattle.std.proofs.Common.{ap, arith, take-add, length-append}
+use Rattle.std.proofs.Common.{◌≡◌, ◌≢◌, ℕ, ◌+◌, ◌-◌, ◌<◌, ◌≤◌, List, [], length, take, drop, Option}
+use Rattle.std.proofs.Common.{ap, arith, take-add}
 use Rattle.std.proofs.lemmas.Grind.{common_steps}
 use Rattle.std.proofs.lemmas.List.{take_rest}
-use Rattle.std.specs.Io.KnownBytes.{Appends, Consumes}
+use Rattle.std.specs.Io.KnownBytes.{Appends}
 use Rattle.std.proofs.KnownBytes.{Appends-trans}
 
 -- a write took a prefix of the rest from a place on
@@ -22,10 +22,3 @@ rest_some text at within is =
 pub rest_within : (text : List ℕ) (at n : ℕ) → at < length text
     → n ≤ length (take (length text - at) (drop at text)) → at + n ≤ length text
 rest_within text at n within most = grind (arith, common_steps, most)
-
--- a reader had at least the bytes that it gave
-pub consumes_least : (old new : Option (List ℕ)) (bytes : List ℕ) (n : ℕ) → Consumes old new bytes → n ≤ length bytes
-    → IfSome old (λ all. n ≤ length all)
-consumes_least None new bytes n gave least = tt
-consumes_least (Some all) None bytes n gave least = absurd gave
-consumes_least (Some all) (Some rest) bytes n gave least = rw (gave, length-append) (omega arith)

@@ -13,6 +13,7 @@ pub(crate) fn text_of(line: &[u8], is_ascii: bool) -> Option<&str>
     ensures none { IfNone result (¬ IsUtf8 line.now) }
 {
     if is_ascii_line(line, is_ascii) {
+        // Safe, and proved so: `is_ascii_line` returns `true` only if each byte is ASCII, and ASCII is UTF-8.
         return Some(unsafe { str::from_utf8_unchecked(line) });
     }
     str::from_utf8(line).ok()

@@ -4,7 +4,6 @@ use Rattle.serde_json.specs.Data.{Data}
 use Rattle.serde_json.specs.View.{view}
 use Rattle.npm_lock.specs.Findings.{IsNodeOutcome}
 use Rattle.npm_lock.specs.Outcomes.{admitted, engine, engine_of, unsaid}
-use Rattle.npm_lock.specs.Verdict.{IsAdmittedBy}
 use Rattle.npm_lock.specs.declared.problem.Kind.TheVariants.{Engine}
 use Rattle.npm_lock.proofs.ProblemTexts.{with_texts}
 use Rattle.npm_lock.proofs.outcome.engine_problem.Goals as goal
@@ -25,15 +24,13 @@ returns-in_default c = elim c.in_default.branch [
 pub returns-then-branch : goal.returns-then-branch
 returns-then-branch c = rw c.in-Some-Some.is-0 (admitted c.in-Some-Some.spec.now
     (sym c.engine_of.ensures ∙ ap (option_map (λ t. t.now)) c.in-Some-Some.is-1)
-    (c.in_ok-is_admitted.ensures.0 c.if-branch.true))
+    (rw c.if-branch.true at c.in_ok-is_contained.ensures))
 
 pub returns : goal.returns
 returns c =
-    let turned_away : ¬ IsAdmittedBy c.in-Some-Some.spec.now c.in-Some-Some.node.now = λ h.
-    let yes : c.in_ok-is_admitted.field-0 ≡ true = c.in_ok-is_admitted.ensures.1 h in
-    cc (yes, c.if-branch.false) in
     let outcome = engine c.in-Some-Some.spec.now
-    (sym c.engine_of.ensures ∙ ap (option_map (λ t. t.now)) c.in-Some-Some.is-1) turned_away in
+    (sym c.engine_of.ensures ∙ ap (option_map (λ t. t.now)) c.in-Some-Some.is-1)
+    (rw c.if-branch.false at c.in_ok-is_contained.ensures) in
     with_texts (λ problem. IsNodeOutcome (option_map (λ version. version.now) c.args.lock.node) c.args.asker.folder.now
     (view c.args.asker.member.now) (Some problem)) _ Engine c.in_ok-from_str.field-0 c.in_ok-from_str-2.field-0
     c.in_ok-from_str-3.field-0 None (Some c.in_ok-to_string.field-0) _ _ _ None _ refl c.in_ok-from_str.ensures.ok

@@ -10,7 +10,7 @@ use Rattle.npm_lock.specs.Packages.{IsFoundIn, Package}
 use Rattle.npm_lock.specs.declared.place.Package.{Package as Place}
 use Rattle.npm_lock.proofs.ProblemTexts.{with_texts}
 use Rattle.npm_lock.proofs.outcome.outcome_of.Goals as goal
-use Rattle.npm_lock.proofs.outcome.outcome_of.Goals.{in-None, in-Some, in-Some-2+in_ok-verdict_of-in-Some-2+in-Invalid}
+use Rattle.npm_lock.proofs.outcome.outcome_of.Goals.{in-None, in-Some, in-Some-2+in_ok-verdict_on-in-Some-2+in-Invalid}
 use Rattle.npm_lock.proofs.outcome.outcome_of.Goals.{then-asked-2+then-is_installed+else-is_own}
 use Rattle.npm_lock.proofs.outcome.outcome_of.Goals.{then-asked-2+else-is_installed, else-asked-2}
 
@@ -48,7 +48,7 @@ returns-in-Valid c =
       | else-asked-2 w ↦ no_peer _ _ _ _ _ _ w.if-asked-2.false
     ] in
     let found = rw c.in-Some-2.is at c.in_ok-found.ensures.found in
-    let verdict = rw (c.version_of.ensures, c.in-Valid.is) at c.in_ok-verdict_of-in-Some-2.ensures in
+    let verdict = rw c.in-Valid.is at c.in_ok-verdict_on-in-Some-2.ensures in
     valid (package_value c.in-Some-2.found) found own verdict
 
 pub returns-in-Unchecked : goal.returns-in-Unchecked
@@ -62,7 +62,7 @@ returns-in-Unchecked c =
       | else-asked-2 w ↦ no_peer _ _ _ _ _ _ w.if-asked-2.false
     ] in
     let found = rw c.in-Some-2.is at c.in_ok-found.ensures.found in
-    let verdict = rw (c.version_of.ensures, c.in-Unchecked.is) at c.in_ok-verdict_of-in-Some-2.ensures in
+    let verdict = rw c.in-Unchecked.is at c.in_ok-verdict_on-in-Some-2.ensures in
     unchecked (package_value c.in-Some-2.found) found own verdict
 
 pub returns : goal.returns
@@ -70,8 +70,8 @@ returns c =
     let to : option_map (λ t. t.now) c.map.result ≡ option_map (λ f. f.0.folder.now) c.in_ok-found.found = search rules in
     let version : option_map (λ t. t.now) c.and_then.result
     ≡ option_and_then (λ f. version_of (view f.0.member.now)) c.in_ok-found.found = search rules in
-    with_texts (λ problem. IsOutcome (packages_data c.args.lock) c.args.asker.folder.now c.args.is_installed
-    c.args.name.now (asked_value c.args.asked) (Some problem) false) c.match-found.kind c.match-found.kind
+    with_texts (λ problem. IsOutcome (packages_data c.args.lock) c.args.asker.folder.now
+    (view c.args.asker.member.now) c.args.is_installed c.args.name.now (asked_value c.args.asked) (Some problem) false) c.match-found.kind c.match-found.kind
     c.in_ok-from_str.field-0 c.in_ok-from_str-2.field-0 c.in_ok-from_str-3.field-0 c.in_ok-copied.field-0
     c.in_ok-copied-2.field-0 _ _ _ _ _ refl c.in_ok-from_str.ensures.ok c.in_ok-from_str-2.ensures.ok
     c.in_ok-from_str-3.ensures.ok (c.in_ok-copied.ensures ∙ to) (c.in_ok-copied-2.ensures ∙ version)
@@ -84,7 +84,7 @@ returns c =
           let here = (rw w.in-Some.is at c.in_ok-found.ensures.own).0 w.if-is_own.true in
           rw (w.kind-is, w.in-Some.is) (local_peer (package_value w.in-Some.field-0-0) found
           (record { peer = w.if-asked-2.true; installed = w.if-is_installed.true; own = here }))
-      | in-Some-2+in_ok-verdict_of-in-Some-2+in-Invalid w ↦
+      | in-Some-2+in_ok-verdict_on-in-Some-2+in-Invalid w ↦
           let own : ¬ IsLocalPeer (packages_data c.args.lock) c.args.asker.folder.now c.args.is_installed
           c.args.name.now (asked_value c.args.asked) (package_value w.in-Some-2.found) = elim w.if-asked-2.branch [
             | then-asked-2+then-is_installed+else-is_own v ↦ elsewhere _ _ _ _ _ _ _
@@ -94,6 +94,6 @@ returns c =
             | else-asked-2 v ↦ no_peer _ _ _ _ _ _ v.if-asked-2.false
           ] in
           let found = rw w.in-Some-2.is at c.in_ok-found.ensures.found in
-          let verdict = rw (w.version_of.ensures, w.in-Invalid.is) at w.in_ok-verdict_of-in-Some-2.ensures in
+          let verdict = rw w.in-Invalid.is at w.in_ok-verdict_on-in-Some-2.ensures in
           rw (w.kind-is, w.in-Some-2.is) (invalid (package_value w.in-Some-2.found) found own verdict)
     ])

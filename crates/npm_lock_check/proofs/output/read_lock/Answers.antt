@@ -1,9 +1,9 @@
--- What was read is not in UTF-8.
-use Rattle.std.proofs.Common.{◌≡◌, IsUtf8, None, rules}
+-- What was read has no mark, and is not in UTF-8.
+use Rattle.std.proofs.Common.{◌≡◌, IsUtf8, None, false, rules}
 use Rattle.std.specs.Io.{appended_bytes}
 use Rattle.std.specs.Io.KnownBytes.{IsAtEnd}
 use Rattle.serde_json.specs.Data.{Data}
-use Rattle.npm_lock_check.specs.Output.{IsStopped, IsTextOf}
+use Rattle.npm_lock_check.specs.Output.{IsStopped, IsTextOf, has_mark}
 use Rattle.npm_lock_check.specs.declared.run_error.RunError.TheVariants.{NoJson}
 use Rattle.npm_lock_check.proofs.Stopping.{was_err}
 use Rattle.npm_lock_check.proofs.output.read_lock.Goals as goal
@@ -15,6 +15,8 @@ returns-in_err-text-clause-refused g c =
     let unread : (lock : Data)
     → ¬ IsTextOf (appended_bytes c.new-bytes.result.items c.read_to_end.new.bytes.items) lock = λ lock text.
     bad (rw c.as_slice.ensures.value (rw c.new-bytes.ensures.items at text.0)) in
+    let unmarked : has_mark (appended_bytes c.new-bytes.result.items c.read_to_end.new.bytes.items) ≡ false =
+    search (rules, c.starts_with.ensures, c.if-starts_with.false) in
     let unfailed : c.read_to_end.new.self.failure ≡ None = search rules in
     let ended : IsAtEnd (g.R.Read.remaining c.read_to_end.new.self.inner) = search rules in
     let stopped : IsStopped g.R.Read.remaining c.args.reader.now c.read_to_end.new.self NoJson = record {
@@ -22,6 +24,6 @@ returns-in_err-text-clause-refused g c =
       taken = c.read_to_end.ensures.taken;
       ended = ended;
       unfailed = unfailed;
-      such = unread;
+      such = (unmarked, unread);
     } in
     search (rules, stopped)

@@ -1,11 +1,16 @@
 -- The input was read, and the check refuses its value, or memory ran out, or the lines were not written.
-use Rattle.std.proofs.Common.{◌∙◌, ap, Err, IsSome, option_map, refl, rules}
+use Rattle.std.proofs.Common.{◌∙◌, ap, Err, IsSome, None, Option, Some, option_map, refl, rules}
+use Rattle.std.specs.Option.{option_or}
 use Rattle.serde_json.specs.View.{view}
 use Rattle.npm_lock.specs.declared.problem.Problems.{Problems}
 use Rattle.npm_lock_check.specs.Output.{IsChecked, IsStopped}
 use Rattle.npm_lock_check.specs.declared.run_error.RunError.TheVariants.{Memory}
 use Rattle.npm_lock_check.proofs.Stopping.{later, was_err}
 use Rattle.npm_lock_check.proofs.output.run.Goals as goal
+
+some_of : {X : Type 0} (first : Option X) (second : X) → IsSome (option_or first (Some second))
+some_of None second = refl
+some_of (Some first) second = refl
 
 pub returns-in-Err-Refused-clause-refused : goal.returns-in-Err-Refused-clause-refused
 returns-in-Err-Refused-clause-refused g c = λ other.
@@ -25,7 +30,7 @@ returns-in_err-lines-clause-refused g c =
 pub returns-in_err-map_err-clause-write : goal.returns-in_err-map_err-clause-write
 returns-in_err-map_err-clause-write g c = λ told.
     let error = was_err _ c.write_all.result c.map_err-2.result _ c.map_err-2.ensures.cases c.in_err-map_err.was in
-    let failed : IsSome c.write_all.new.self.failure = rw (c.write_all.ensures.failure, error.1) refl in
+    let failed : IsSome c.write_all.new.self.failure = rw (c.write_all.ensures.failure, error.1) (some_of c.args.writer.now.failure _) in
     let checked : IsChecked g.R.Read.remaining c.args.reader.now c.read_lock.new.reader
     (option_map (λ version. version.now) c.args.node) c.in-Ok.problems = record {
       lock = view c.in_ok-lock.lock;

@@ -38,9 +38,9 @@ returns-in-Some-clause-own c = marked _ _ _ c.folders.at.now (package_value c.in
 
 pub returns-in_default-above-clause-found : goal.returns-in_default-above-clause-found
 returns-in_default-above-clause-found c =
-    let root = rw c.in_default-above.is at c.above.ensures.root in
+    let outermost = rw c.in_default-above.is at c.above.ensures.outermost in
     let passed = rw c.in_default.is at c.in_ok-found.ensures.passed in
-    c.folders.invariant.found _ (rw root (nowhere (rw root at passed)))
+    c.folders.invariant.found _ (nowhere _ passed outermost)
 
 pub folders-preserved : goal.folders-preserved
 folders-preserved c =

@@ -9,7 +9,7 @@ use Rattle.std.specs.List.Sorted.{IsStrictlySortedBy}
 use Rattle.std.specs.Option.{IsSome}
 use Rattle.serde_json.specs.Data.{Data, Members, boolean, member, no_members, object, string}
 use Rattle.npm_lock.specs.Asked.{asked_of}
-use Rattle.npm_lock.specs.Findings.{AreFindings, AreNames, dependency, of_dependency, of_package}
+use Rattle.npm_lock.specs.Findings.{AreFindings, AreMemberFindings, AreNames, dependency, of_dependency, of_package}
 use Rattle.npm_lock.specs.Findings.{ArePackageFindings}
 use Rattle.npm_lock.specs.Outcomes.{ProblemValue, missing, missing_problem}
 use Rattle.npm_lock.specs.Packages.{IsFound, above, nowhere}
@@ -56,7 +56,7 @@ both_true : (x y : Bool) → (x && y) ≡ true → y ≡ true
 both_true true y is = is
 both_true false y is = cc is
 
-no_slash : (text : List ℕ) → list_all (λ b. not (b == 47)) text ≡ true → (i : ℕ) → i < length text
+pub no_slash : (text : List ℕ) → list_all (λ b. not (b == 47)) text ≡ true → (i : ℕ) → i < length text
     → get_or text i 0 ≢ 47
 no_slash [] none i small is = absurd (omega (arith, small))
 no_slash (b ∷ text) none zero small is = let never = rw is at none in cc never
@@ -64,14 +64,15 @@ no_slash (b ∷ text) none (suc i) small is = no_slash text (both_true (not (b =
 
 nowhere_found : IsFound packages (codes "a") (codes "node_modules/p") None
 nowhere_found = above _ (codes "node_modules") None (inr refl)
-    (record { name = codes "p"; one_part = no_slash (codes "p") refl; whole = inl refl })
+    (record { inside = refl; name = codes "p"; one_part = no_slash (codes "p") refl; whole = inl refl })
     (above _ [] None (inl refl)
     (record {
+      inside = refl;
       name = codes "node_modules";
       one_part = no_slash (codes "node_modules") refl;
       whole = inr (refl, (λ no. cc no), refl);
     })
-    (nowhere (inr refl)))
+    (nowhere _ (inr refl) (inl refl)))
 
 -- ---- the findings
 
@@ -101,3 +102,7 @@ of_p = record {
 -- nothing is found out about the link, and the package has no problem with Node and one missing dependency
 pub a_link_and_a_package : AreFindings packages None members (of_package None ∷ of_dependency (Some problem) false ∷ [])
 a_link_and_a_package = ([], _, refl, (_, [], of_p, refl, refl), refl)
+
+-- and nothing else can be found out about a link
+pub no_more_about_a_link : ¬ AreMemberFindings packages None (codes "node_modules/l") link (of_package None ∷ [])
+no_more_about_a_link found = cc found

@@ -1,0 +1,4 @@
+pub mod LockExamples
+pub mod FindingExamples
+pub mod OutcomeExamples
+pub mod WorkspaceExamples

@@ -1,0 +1,89 @@
+-- Which folders are workspaces of the root: npm's "package.json", "workspaces".
+use Rattle.std.specs.Prelude.{◌≡◌, ◌≢◌, ◌==◌, ◌||◌, ◌&&◌, ◌-◌, ℕ, List, [], Bool, true, false, not, if◌then◌else◌}
+use Rattle.std.specs.Prelude.{Option, Some, None, option_and_then, bytes_eq, codes, drop, length, nat_eq, take}
+use Rattle.std.specs.List.{ends_with, list_any, starts_with}
+use Rattle.std.specs.Option.{option_map_or, option_or}
+use Rattle.serde_json.specs.Data.{Data, Items, item, no_items}
+use Rattle.serde_json.specs.Find.{as_array, as_str, get}
+use Rattle.npm_lock.specs.Folders.{IsInstalled}
+use Rattle.npm_lock.specs.Packages.{linked_folder}
+use Rattle.npm_lock.specs.Texts.{rest_after, without_end}
+use Rattle.npm_lock.specs.declared.workspace.Workspace.{Workspace}
+use Rattle.npm_lock.specs.declared.workspace.Workspace.TheVariants.{Is, IsNot, Unread}
+
+-- the patterns of the root: `{"workspaces": ["w"]}`, or `{"workspaces": {"packages": ["w"]}}`
+abbrev pub patterns_of : (root : Data) → Option Items
+patterns_of root = option_and_then
+    (λ said. option_or (option_and_then as_array (get (codes "packages") said)) (as_array said))
+    (get (codes "workspaces") root)
+
+-- ---- one pattern
+
+-- the pattern without `*` or `**` at its end: `packages/` of `packages/*`
+abbrev pub stem_of : (pattern : List ℕ) → List ℕ
+stem_of pattern = without_end (codes "*") (without_end (codes "*") pattern)
+
+-- a byte that means something else in a pattern than in a folder
+abbrev pub is_glob_byte : ℕ → Bool
+is_glob_byte b = list_any (λ c. b == c) (codes "!#*?[]{}()\\")
+
+abbrev pub has_glob_byte : (stem : List ℕ) → Bool
+has_glob_byte stem = list_any is_glob_byte stem
+
+-- the folders that the star stands for are those in this one: the root, or a folder with `/` at its end
+abbrev pub is_whole : (stem : List ℕ) → Bool
+is_whole stem = (length stem == 0) || ends_with nat_eq stem (codes "/")
+
+-- A pattern that is read: `w`, `packages/*` and `packages/**`. `!w`, `w-*`, `{v,w}` and `w/` are not read.
+abbrev pub is_read : (pattern : List ℕ) → Bool
+is_read pattern = not (has_glob_byte (stem_of pattern))
+    && (if ends_with nat_eq pattern (codes "*") then is_whole (stem_of pattern) else not (is_whole (stem_of pattern)))
+
+-- what `**` stands for: some parts of a folder, of which the first does not begin with a dot
+abbrev pub are_parts : (rest : List ℕ) → Bool
+are_parts rest = not (length rest == 0) && not (starts_with nat_eq rest (codes "."))
+
+abbrev pub has_slash : (rest : List ℕ) → Bool
+has_slash rest = list_any (λ b. b == 47) rest
+
+-- what `*` stands for: one such part
+abbrev pub is_part : (rest : List ℕ) → Bool
+is_part rest = are_parts rest && not (has_slash rest)
+
+-- the pattern is that of this folder: `packages/*` of `packages/a`
+abbrev pub is_matched : (folder pattern : List ℕ) → Bool
+is_matched folder pattern = if ends_with nat_eq pattern (codes "*")
+    then option_map_or (if ends_with nat_eq pattern (codes "**") then are_parts else is_part)
+    (rest_after (stem_of pattern) folder) false
+    else bytes_eq folder pattern
+
+-- ---- all patterns
+
+-- a pattern that is a text, and such a one without `./` at its start
+abbrev pub is_such : (such : List ℕ → Bool) → Data → Bool
+is_such such pattern = option_map_or (λ text. such (linked_folder text)) (as_str pattern) false
+
+-- one of them is such
+abbrev pub any_item : (such : Data → Bool) → Items → Bool
+any_item such no_items = false
+any_item such (item pattern others) = such pattern || any_item such others
+
+abbrev pub has_unread : Items → Bool
+has_unread patterns = any_item (λ pattern. not (is_such is_read pattern)) patterns
+
+abbrev pub has_matched : (folder : List ℕ) → Items → Bool
+has_matched folder patterns = any_item (is_such (is_matched folder)) patterns
+
+-- whether the folder is a workspace, by these patterns. If one is not read, that is not known.
+abbrev pub by_patterns : (folder : List ℕ) → Items → Workspace
+by_patterns folder patterns = if has_unread patterns then Unread
+    else (if has_matched folder patterns then Is else IsNot)
+
+-- Whether the folder of a package that was found for a package in the folder `from` is a workspace. Only the root has
+-- workspaces, and no folder inside a `node_modules` is one.
+pub data IsWorkspace (from : List ℕ) (asker : Data) (folder : List ℕ) : Workspace → Type 0 where
+  elsewhere : from ≢ [] → IsWorkspace from asker folder IsNot
+  installed : IsInstalled folder → IsWorkspace from asker folder IsNot
+  no_patterns : patterns_of asker ≡ None → IsWorkspace from asker folder IsNot
+  of_root : (patterns : Items) → from ≡ [] → ¬ IsInstalled folder → patterns_of asker ≡ Some patterns
+      → IsWorkspace from asker folder (by_patterns folder patterns)

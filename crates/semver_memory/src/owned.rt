@@ -1,0 +1,112 @@
+//! What is made of a text, of its borrowed parts, and of a lock file.
+use crate::answer;
+use crate::answer::Answer;
+use crate::fault::Fault;
+use node_semver::{
+    Bump, Identifier, IdentifierBase, SemverError, SemverErrorKind, Version, VersionRef,
+};
+use npm_lock::Problem;
+use serde_json::Value;
+use std::alloc::{AllocError, Global};
+
+/// A call, and the text or the value that it is made of.
+#[derive(Drop)]
+pub(crate) enum Making {
+    /// The version of a text, or its error.
+    Version(String),
+    /// The identifiers of the prerelease of a version text.
+    Identifiers(String),
+    /// An error for a text.
+    Error(String),
+    /// The problems of a lock file.
+    Problems(Value),
+    /// The JSON of the last of these problems.
+    Json(Problem),
+    /// The next prerelease after a version, with an identifier or without.
+    Bumped(Version, Option<Identifier>),
+}
+
+impl Making {
+    /// Makes the call.
+    pub(crate) fn answer(&self, alloc: Global) -> Answer {
+        match self {
+            Making::Version(text) => version_of(alloc, text),
+            Making::Identifiers(text) => identifiers_of(alloc, text),
+            Making::Error(text) => {
+                answer::refusal(SemverError::new(alloc, text, 1, SemverErrorKind::Other))
+            }
+            Making::Problems(lock) => answer::problems(npm_lock::check(alloc, lock, None)),
+            Making::Json(problem) => answer::json(problem.to_json(alloc)),
+            Making::Bumped(version, identifier) => {
+                let base = IdentifierBase::Zero;
+                answer::bumped(version.bump(alloc, Bump::PreRelease, identifier.as_ref(), base))
+            }
+        }
+    }
+
+    /// The argument as it is now.
+    pub(crate) fn print(&self, alloc: Global) -> Result<String, AllocError> {
+        match self {
+            Making::Version(text) | Making::Identifiers(text) | Making::Error(text) => text.clone(),
+            Making::Problems(lock) => lock.to_string(alloc),
+            Making::Json(problem) => problem.name.clone(),
+            Making::Bumped(version, _) => version.to_string(alloc),
+        }
+    }
+}
+
+fn version_of(alloc: Global, text: &str) -> Answer {
+    match VersionRef::parse(text) {
+        Ok(version) => answer::version(version.to_version(alloc)),
+        Err(fault) => answer::refusal(fault.into_error(alloc, text)),
+    }
+}
+
+fn identifiers_of(alloc: Global, text: &str) -> Answer {
+    match VersionRef::parse(text) {
+        Ok(version) => answer::identifiers(version.pre_release().to_vec(alloc)),
+        Err(_) => Answer::Nothing,
+    }
+}
+
+/// The call with this name.
+pub(crate) fn making_of(alloc: Global, name: &str, text: &str) -> Result<Making, Fault> {
+    match name {
+        "npm_lock::check" => Ok(Making::Problems(lock_of(alloc, text)?)),
+        "Problem::to_json" => problem_of(alloc, text),
+        "Version::bump" => bump_of(alloc, text),
+        "SemverError::new" => Ok(Making::Error(String::from_str(alloc, text)?)),
+        "Identifiers::to_vec" => Ok(Making::Identifiers(String::from_str(alloc, text)?)),
+        _ => Ok(Making::Version(String::from_str(alloc, text)?)),
+    }
+}
+
+/// A version, or a version, a blank and an identifier.
+fn bump_of(alloc: Global, text: &str) -> Result<Making, Fault> {
+    match text.split_once(' ') {
+        Some((version, identifier)) => {
+            let version = Version::parse(alloc, version)?;
+            let identifier = Identifier::AlphaNumeric(String::from_str(alloc, identifier)?);
+            Ok(Making::Bumped(version, Some(identifier)))
+        }
+        None => Ok(Making::Bumped(Version::parse(alloc, text)?, None)),
+    }
+}
+
+fn lock_of(alloc: Global, text: &str) -> Result<Value, Fault> {
+    match Value::from_str(alloc, text) {
+        Ok(lock) => Ok(lock),
+        Err(_) => Err(Fault::Text),
+    }
+}
+
+fn problem_of(alloc: Global, text: &str) -> Result<Making, Fault> {
+    let lock = lock_of(alloc, text)?;
+    match npm_lock::check(alloc, &lock, None) {
+        Ok(mut problems) => match problems.list.pop() {
+            Some(problem) => Ok(Making::Json(problem)),
+            None => Err(Fault::Text),
+        },
+        Err(_) => Err(Fault::Text),
+    }
+}

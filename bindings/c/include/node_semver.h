@@ -3,8 +3,9 @@
  * npm's versions and version ranges, in loose mode.
  *
  * Each function makes one call of the proved crate `node_semver`, and the contract of its export in
- * crates/node_semver_c/src states what that call promises. The contracts hold for every caller that follows the rules
- * below. Nothing checks that a caller does.
+ * crates/node_semver_c/src states what that call promises. Only the two calls that free have no contract: that they
+ * give the memory back is tested. The contracts hold for every caller that follows the rules below. Nothing checks that
+ * a caller does.
  *
  * - Handles. A `node_semver_version` or a `node_semver_range` is a struct of one pointer, which only this library
  *   reads. It starts as NODE_SEMVER_EMPTY. A call that makes a version or a range fills an empty handle. `.._free`
@@ -71,11 +72,12 @@ typedef uint32_t node_semver_status;
 #define NODE_SEMVER_MAX_INT 4u          /* a number that is too large and fits a uint64_t, at its first digit */
 #define NODE_SEMVER_CONTEXT 5u          /* a number or a dot that is missing from a version text, at that place */
 #define NODE_SEMVER_NO_VALID_RANGES 6u  /* a range text of which no alternative gives a set, at 0 */
-#define NODE_SEMVER_OTHER 7u            /* a version text that goes on after the version, at the first byte left */
+#define NODE_SEMVER_OTHER 7u            /* a version text that goes on after the version, at the first byte left; see also
+                                           node_semver_version_parse_strict */
 #define NODE_SEMVER_NO_MEMORY 8u        /* with NODE_SEMVER_OUT_OF_MEMORY alone */
 
-/* Why parsing failed, and where. It is written if a call returns NODE_SEMVER_REFUSED, and may be written if memory ran
- * out. */
+/* Why parsing failed, and where. It is written if a call returns NODE_SEMVER_REFUSED, and may be written if the call
+ * returns NODE_SEMVER_OUT_OF_MEMORY. With any other status it stays as it was. */
 typedef struct node_semver_fault {
     uint32_t kind;   /* one of the kinds */
     size_t offset;   /* the byte offset of the fault in the text, from 0 */
@@ -87,6 +89,13 @@ typedef struct node_semver_fault {
 /* Parses a version in npm's loose form: `1.2.3-alpha.1+5`, and `v 01.2.3alpha.1+5` too. */
 node_semver_status node_semver_version_parse(const char *text, size_t length, node_semver_version *version,
                                              node_semver_fault *fault);
+
+/* Parses a version by the grammar of SemVer 2.0.0: `1.2.3-alpha.1+5`, and not `v1.2.3`, `01.2.3`, `1.2.3alpha` or
+ * `1.2.3-01`. If node_semver_version_parse reads the text and this call does not, the fault is NODE_SEMVER_OTHER at the
+ * first number or identifier that this grammar does not have: at 4 in `1.2.3alpha`. */
+#define NODE_SEMVER_HAS_PARSE_STRICT 1
+node_semver_status node_semver_version_parse_strict(const char *text, size_t length, node_semver_version *version,
+                                                    node_semver_fault *fault);
 
 /* Frees a version. Does nothing for an empty handle. */
 void node_semver_version_free(node_semver_version version);
@@ -101,7 +110,27 @@ size_t node_semver_version_print(const node_semver_version *version, char *room,
  * same but for their builds, 1 if the first is above. */
 int32_t node_semver_version_compare(const node_semver_version *one, const node_semver_version *other);
 
-/* Returns a hash. Versions that compare as the same have the same hash. */
+/* Compares two versions as node_semver_version_compare does, and two that it finds the same by their builds: identifier
+ * by identifier, and no build is below every build. Returns 0 only if all five fields are the same. */
+#define NODE_SEMVER_HAS_COMPARE_BUILD 1
+int32_t node_semver_version_compare_build(const node_semver_version *one, const node_semver_version *other);
+
+/* Returns the bump that leads from the lower of the two versions to the higher one, as npm's `diff` does, or
+ * NODE_SEMVER_NO_BUMP if node_semver_version_compare returns 0: of `1.2.3` and `1.3.0` NODE_SEMVER_MINOR. */
+#define NODE_SEMVER_HAS_DIFF 1
+uint32_t node_semver_version_diff(const node_semver_version *one, const node_semver_version *other);
+
+#define NODE_SEMVER_NO_BUMP 0u
+#define NODE_SEMVER_MAJOR 1u
+#define NODE_SEMVER_PREMAJOR 2u
+#define NODE_SEMVER_MINOR 3u
+#define NODE_SEMVER_PREMINOR 4u
+#define NODE_SEMVER_PATCH 5u
+#define NODE_SEMVER_PREPATCH 6u
+#define NODE_SEMVER_PRERELEASE 7u
+#define NODE_SEMVER_PRE 8u /* never returned: npm's `pre`, a new prerelease of the same three numbers */
+
+/* Returns a hash. Versions for which node_semver_version_compare returns 0 have the same hash. */
 uint64_t node_semver_version_hash(const node_semver_version *version);
 
 /* Returns whether the version has a prerelease. */
@@ -127,6 +156,16 @@ size_t node_semver_version_build_print(const node_semver_version *version, size_
 node_semver_status node_semver_range_parse(const char *text, size_t length, node_semver_range *range,
                                            node_semver_fault *fault);
 
+/* Parses a range as npm itself reads it. node_semver_range_parse reads a text as the Rust crate `node-semver` does: `<=20`
+ * is `<21.0.0-0` here and `<=20.0.0-0` there, and the empty text is refused there alone. `loose` and `include_prerelease`
+ * are npm's options. Ask a range that was parsed with prereleases included by node_semver_range_contains, and any other
+ * by node_semver_satisfies. A text is refused with NODE_SEMVER_NO_VALID_RANGES at 0: without `loose` if one of its words
+ * is no comparator, with `loose` if none is, and always if a number is above 9007199254740991 or a version has more than
+ * 256 bytes. `>4 <3` is not refused: it is `<0.0.0-0`, which no version satisfies. */
+#define NODE_SEMVER_HAS_PARSE_NPM 1
+node_semver_status node_semver_range_parse_npm(const char *text, size_t length, bool loose, bool include_prerelease,
+                                               node_semver_range *range, node_semver_fault *fault);
+
 /* Frees a range. Does nothing for an empty handle. */
 void node_semver_range_free(node_semver_range range);
 
@@ -144,13 +183,20 @@ uint64_t node_semver_range_hash(const node_semver_range *range);
  * not. */
 bool node_semver_satisfies(const node_semver_range *range, const node_semver_version *version);
 
+/* Returns whether the version lies inside one of the sets of the range, prerelease or not: `1.2.4-rc.6` lies inside
+ * `^1.2.3-rc.4`. */
+#define NODE_SEMVER_HAS_CONTAINS 1
+bool node_semver_range_contains(const node_semver_range *range, const node_semver_version *version);
+
 /* Returns whether the ranges have a cut in common, that is, whether node_semver_range_intersect returns a range. */
 bool node_semver_range_allows_any(const node_semver_range *one, const node_semver_range *other);
 
 /* Returns whether each cut of the second range is a cut of the first, as `Range::allows_all` of the library does. */
 bool node_semver_range_allows_all(const node_semver_range *one, const node_semver_range *other);
 
-/* Makes the intersection, the range of the cuts that both ranges have. Returns NODE_SEMVER_NONE if there are none. */
+/* Makes the intersection, the range of the cuts that both ranges have. Returns NODE_SEMVER_NONE if there are none. A
+ * prerelease may satisfy the intersection and not one of the ranges: the intersection of `^2.0.0-rc.1` and `>=1.5`
+ * admits `2.0.0-rc.4`, which `>=1.5` refuses. */
 node_semver_status node_semver_range_intersect(const node_semver_range *one, const node_semver_range *other,
                                                node_semver_range *answer);
 
@@ -195,7 +241,8 @@ node_semver_status node_semver_range_set(const node_semver_range *range, size_t 
 
 /* Makes the range of these sets in their order, with copies of their versions. Returns NODE_SEMVER_NONE if there are no
  * sets, or if one of them has a kind that is not listed above, lacks its version, has a lower cut that is not below the
- * upper one, or ends at a version that no range text can write. Each handle is empty or full. */
+ * upper one, or has an end with a number above 9007199254740992 or an identifier that no text writes. Each handle is
+ * empty or full. */
 node_semver_status node_semver_range_from_sets(const node_semver_set *sets, size_t count, node_semver_range *range);
 
 /* Makes the least version that satisfies the range. Returns NODE_SEMVER_NONE if none does. */
@@ -204,6 +251,11 @@ node_semver_status node_semver_min_version(const node_semver_range *range, node_
 /* Makes the least version that satisfies the first range and not the second. Returns NODE_SEMVER_NONE if none does. */
 node_semver_status node_semver_least_beyond(const node_semver_range *one, const node_semver_range *other,
                                             node_semver_version *answer);
+
+/* Makes the least version that satisfies both ranges, with no build. Returns NODE_SEMVER_NONE if none does. */
+#define NODE_SEMVER_HAS_LEAST_COMMON 1
+node_semver_status node_semver_range_least_common(const node_semver_range *one, const node_semver_range *other,
+                                                  node_semver_version *answer);
 
 /* Returns whether a version of the array satisfies the range, and writes the place of the greatest that does. Of equal
  * ones, which differ in the build alone, this is the first. If none does, the place means nothing. */
@@ -214,8 +266,9 @@ bool node_semver_max_satisfying(const node_semver_version *versions, size_t coun
 bool node_semver_min_satisfying(const node_semver_version *versions, size_t count, const node_semver_range *range,
                                 size_t *place);
 
-/* Writes whether the version of one text satisfies the range of the other. The range is parsed first, and the fault is
- * that of the first text that is refused. The result is set only if the status is NODE_SEMVER_OK. */
+/* Writes whether the version of one text satisfies the range of the other. If one of the texts is not UTF-8, returns
+ * NODE_SEMVER_NOT_UTF8. Otherwise the range is parsed first, so if both texts are refused, the fault is that of the
+ * range. If the status is not NODE_SEMVER_OK, the answer stays as it was. */
 node_semver_status node_semver_satisfies_text(const char *range, size_t range_length, const char *version,
                                               size_t version_length, bool *answer, node_semver_fault *fault);
 

@@ -11,8 +11,12 @@
 
 node_semver_status proved_version_parse(const char *text, size_t length, node_semver_version *version,
                                         node_semver_fault *fault);
+node_semver_status proved_version_parse_strict(const char *text, size_t length, node_semver_version *version,
+                                               node_semver_fault *fault);
 node_semver_status proved_range_parse(const char *text, size_t length, node_semver_range *range,
                                       node_semver_fault *fault);
+node_semver_status proved_range_parse_npm(const char *text, size_t length, bool loose, bool include_prerelease,
+                                          node_semver_range *range, node_semver_fault *fault);
 node_semver_status proved_satisfies_text(const char *range, size_t range_length, const char *version,
                                          size_t version_length, bool *answer, node_semver_fault *fault);
 
@@ -22,10 +26,22 @@ node_semver_status node_semver_version_parse(const char *text, size_t length, no
     return proved_version_parse(text, length, version, fault == NULL ? &unread : fault);
 }
 
+node_semver_status node_semver_version_parse_strict(const char *text, size_t length, node_semver_version *version,
+                                                    node_semver_fault *fault) {
+    node_semver_fault unread = {0, 0, 0};
+    return proved_version_parse_strict(text, length, version, fault == NULL ? &unread : fault);
+}
+
 node_semver_status node_semver_range_parse(const char *text, size_t length, node_semver_range *range,
                                            node_semver_fault *fault) {
     node_semver_fault unread = {0, 0, 0};
     return proved_range_parse(text, length, range, fault == NULL ? &unread : fault);
+}
+
+node_semver_status node_semver_range_parse_npm(const char *text, size_t length, bool loose, bool include_prerelease,
+                                               node_semver_range *range, node_semver_fault *fault) {
+    node_semver_fault unread = {0, 0, 0};
+    return proved_range_parse_npm(text, length, loose, include_prerelease, range, fault == NULL ? &unread : fault);
 }
 
 node_semver_status node_semver_satisfies_text(const char *range, size_t range_length, const char *version,

@@ -1,2 +1,4 @@
+pub mod PairExamples
 pub mod PrintedExamples
 pub mod ReportExamples
+pub mod SetExamples

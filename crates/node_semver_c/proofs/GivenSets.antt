@@ -126,7 +126,3 @@ pub found-of-given : (given : List SetRef) (sets : List (Ends VersionValue)) (st
     → IsFound (IsRangeOf given) status held
 found-of-given given sets status held a (inl found) = inl (range-of given sets held a found.0, found.1)
 found-of-given given sets status held a (inr failed) = inr failed
-
--- nothing is found where no range has what is given
-pub none-of-given : (given : List SetRef) → AreNoRange given → IsRangeOf given None
-none-of-given given never = record { sets = tt; holds = tt; none = (λ none. never, λ none. refl) }

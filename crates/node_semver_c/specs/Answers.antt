@@ -1,9 +1,10 @@
 -- What the exports return, by the clauses of the calls of `node_semver` that they make.
-use Rattle.std.specs.Prelude.{◌≡◌, ◌⊎◌, ◌↔◌, ◌++◌, ℕ, List, []}
-use Rattle.std.specs.Prelude.{Option, Some, None, IfSome, IsNone, IsSome, Result, MatchResult}
+use Rattle.std.specs.Prelude.{◌≡◌, ◌⊎◌, ◌↔◌, ◌++◌, ℕ, Bool, List, []}
+use Rattle.std.specs.Prelude.{Option, Some, None, IfErr, IfOk, IfSome, IsNone, IsOk, IsSome, Result, MatchResult}
 use Rattle.node_semver_c.specs.declared.status.Fault.{Fault}
 use Rattle.node_semver_c.specs.declared.status.TheConstants.{OK, NONE, OUT_OF_MEMORY}
 use Rattle.node_semver_c.specs.Status.{IsKept, IsRefusalReported}
+use Rattle.npm_sets.specs.declared.options.NpmOptions.{NpmOptions}
 use Rattle.semver_cuts.specs.declared.cut.Cut.{Cut}
 use Rattle.semver_cuts.specs.SpanLists.{IsInSome}
 use Rattle.semver_cuts.specs.CommonSpans.{common_spans}
@@ -17,9 +18,10 @@ use Rattle.semver_sets.specs.RangeSets.{IsRangeValue}
 use Rattle.semver_sets.specs.Union.{AreJoinable, joined_text}
 use Rattle.semver_versions.specs.Version.{IsPrerelease, VersionValue}
 use Rattle.semver_versions.specs.declared.error.SemverError.{SemverError}
-use Rattle.semver_versions.specs.Error.{refusal_of}
-use Rattle.node_semver.specs.Least.{AdmitsNone, AdmitsNoneBeyond, HasBuildOfFirst, IsAdmittedBy}
-use Rattle.node_semver.specs.Least.{IsLeastAdmitted, IsLeastBeyond}
+use Rattle.semver_versions.specs.Error.{IsOutOfMemory, IsReadAs, refusal_of}
+use Rattle.semver_versions.specs.StrictVersionText.{IsStrictFaultOf, IsStrictVersionText}
+use Rattle.node_semver.specs.Least.{AdmitNoneInCommon, AdmitsNone, AdmitsNoneBeyond, HasBuildOfFirst, IsAdmittedBy}
+use Rattle.node_semver.specs.Least.{IsLeastAdmitted, IsLeastBeyond, IsLeastCommon}
 use Rattle.node_semver.specs.RangeAlgebra.{PairAdmits, sets_of_answer}
 
 -- ---- texts
@@ -36,6 +38,17 @@ pub record IsSomeReported {X : Type 0} (Answers : Result X SemverError → Type 
   pub answer : Result X SemverError
   pub promised : Answers answer
   pub reported : IsReported answer status held fault
+
+-- the result of `Version::parse_strict` for a text
+pub record IsStrictAnswer (text : List ℕ) (answer : Result VersionValue SemverError) : Type 0 where
+  pub found : IfOk answer (λ v. IsStrictVersionText text v)
+  pub only : (v : VersionValue) → IsStrictVersionText text v → IsReadAs v answer
+  pub fault : IfErr answer (λ e. IsOutOfMemory e ⊎ IsStrictFaultOf text e)
+  pub plain : (v : VersionValue) → IsStrictVersionText text v → v.pre_release ≡ [] → v.build ≡ [] → IsOk answer
+
+-- npm's options, by their names
+abbrev pub options_of : (loose include_prerelease : Bool) → NpmOptions
+options_of loose include_prerelease = record { loose = loose; include_prerelease = include_prerelease }
 
 -- ---- results that always exist
 
@@ -112,4 +125,10 @@ pub record IsBeyond (one other : List (Ends VersionValue)) (answer : Option Vers
   pub least : IfSome answer (IsLeastBeyond one other)
   pub none : IsNone answer ↔ AdmitsNoneBeyond one other
   pub admitted : IsNone answer ↔ IsAdmittedBy one other
+  pub build : IfSome answer (λ v. v.build ≡ [])
+
+-- the result of `Range::least_common`
+pub record IsCommonLeast (one other : List (Ends VersionValue)) (answer : Option VersionValue) : Type 0 where
+  pub least : IfSome answer (IsLeastCommon one other)
+  pub none : IsNone answer ↔ AdmitNoneInCommon one other
   pub build : IfSome answer (λ v. v.build ≡ [])

@@ -1,5 +1,5 @@
--- The number of an ordering, and the hash of a version and of a range.
-use Rattle.std.specs.Prelude.{ℕ, ℤ, pos, negsuc, List, fold}
+-- The number of an ordering and of a bump, and the hash of a version and of a range.
+use Rattle.std.specs.Prelude.{ℕ, ℤ, pos, negsuc, List, fold, Option, Some, None}
 use Rattle.std.specs.Hash.FoldHasher as folding
 use Rattle.std.specs.declared.cmp.Ordering.{Ordering}
 use Rattle.std.specs.declared.cmp.Ordering.TheVariants.{Less, Equal, Greater}
@@ -7,12 +7,31 @@ use Rattle.semver_cuts.specs.Ends.{Ends}
 use Rattle.semver_sets.specs.RangeHash.{range_writes}
 use Rattle.semver_versions.specs.Hash.{version_writes}
 use Rattle.semver_versions.specs.Version.{VersionValue}
+use Rattle.semver_versions.specs.declared.version.bump.Bump.{Bump}
+use Rattle.semver_versions.specs.declared.version.bump.Bump.TheVariants.{Major, PreMajor, Minor, PreMinor, Patch, PrePatch}
+use Rattle.semver_versions.specs.declared.version.bump.Bump.TheVariants.{PreRelease, Pre}
 
 -- -1, 0 or 1
 abbrev pub sign_of : Ordering → ℤ
 sign_of Less = negsuc 0
 sign_of Equal = pos 0
 sign_of Greater = pos 1
+
+-- the code of a bump, from 1 in the order of `Bump`
+abbrev pub code_of_bump : Bump → ℕ
+code_of_bump Major = 1
+code_of_bump PreMajor = 2
+code_of_bump Minor = 3
+code_of_bump PreMinor = 4
+code_of_bump Patch = 5
+code_of_bump PrePatch = 6
+code_of_bump PreRelease = 7
+code_of_bump Pre = 8
+
+-- the code of the bump between two versions, and 0 where there is none
+abbrev pub code_of_difference : Option Bump → ℕ
+code_of_difference None = 0
+code_of_difference (Some bump) = code_of_bump bump
 
 -- the hash by std's `FoldHasher`, with its fixed seed, of the triple and prerelease that a version feeds a hasher
 abbrev pub version_hash : VersionValue → ℕ

@@ -63,7 +63,7 @@ AreSetsGiven (first ∷ given) [] = ⊥
 AreSetsGiven (first ∷ given) (set ∷ sets) = IsSetGiven first set × AreSetsGiven given sets
 
 -- no range has sets that are given so: there are none, or one has an unknown kind, lacks a version, contains no cut, or
--- ends at a version that no range text can write
+-- has an end with a number above 9007199254740992 or an identifier that no text writes
 abbrev pub AreNoRange : List SetRef → Type 0
 AreNoRange given = (sets : List (Ends VersionValue)) → AreSetsGiven given sets → ¬ IsRangeValue sets
 

@@ -1,7 +1,7 @@
 //! Exports that return a range or a version, or none.
 ghost use Rattle.std.specs.Prelude.{◌≡◌, None};
-ghost use Rattle.node_semver_c.specs.Answers.{IsBeyond, IsDifference, IsFound, IsIntersection, IsMade};
-ghost use Rattle.node_semver_c.specs.Answers.{IsMinimum, IsUnion};
+ghost use Rattle.node_semver_c.specs.Answers.{IsBeyond, IsCommonLeast, IsDifference, IsFound, IsIntersection};
+ghost use Rattle.node_semver_c.specs.Answers.{IsMade, IsMinimum, IsUnion};
 
 use crate::handle::range::{RangeHandle, RangeRef};
 use crate::handle::version::VersionHandle;
@@ -123,6 +123,30 @@ fn least_beyond(alloc: Global, one: &Range, other: &Range, answer: &mut VersionH
     ensures { IsFound (IsBeyond one.now other.now) result answer.new.value }
 {
     match one.least_beyond(alloc, other) {
+        Ok(found) => keep_version_found(alloc, found, answer),
+        Err(_) => OUT_OF_MEMORY,
+    }
+}
+
+/// `Range::least_common`.
+#[unsafe(no_mangle)]
+pub extern "C" fn node_semver_range_least_common(
+    alloc: Global,
+    one: &RangeRef,
+    other: &RangeRef,
+    answer: &mut VersionHandle,
+) -> u32
+    requires empty { answer.old.value ≡ None }
+    ensures { IsFound (IsCommonLeast one.now.value other.now.value) result answer.new.value }
+{
+    least_common(alloc, one.get(), other.get(), answer)
+}
+
+fn least_common(alloc: Global, one: &Range, other: &Range, answer: &mut VersionHandle) -> u32
+    requires { answer.old.value ≡ None }
+    ensures { IsFound (IsCommonLeast one.now other.now) result answer.new.value }
+{
+    match one.least_common(alloc, other) {
         Ok(found) => keep_version_found(alloc, found, answer),
         Err(_) => OUT_OF_MEMORY,
     }

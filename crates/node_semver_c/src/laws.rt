@@ -1,9 +1,11 @@
-//! The laws of statuses and faults, which a call returns beside its value. Each function here does nothing: its
+//! The laws of the numbers that stand for statuses, faults, bumps and cuts. Each function here does nothing: its
 //! contract is the law.
 ghost use Rattle.std.specs.Prelude.{◌≡◌, ℕ, List};
 ghost use Rattle.semver_versions.specs.Error.{context, incomplete, max_int, max_length, no_valid_ranges, other};
 ghost use Rattle.semver_versions.specs.Error.{out_of_memory, parse_int};
+ghost use Rattle.node_semver_c.specs.Compared.{code_of_bump};
 ghost use Rattle.node_semver_c.specs.Status.{code_of};
+ghost use Rattle.semver_versions.specs.declared.version.bump.Bump.TheVariants as Bump;
 ghost use Rattle.node_semver_c.specs.declared.handle.set.TheConstants.{AFTER, BEFORE, END, START};
 ghost use Rattle.node_semver_c.specs.declared.status.TheConstants.{NONE, NOT_UTF8, OK, OUT_OF_MEMORY, REFUSED};
 
@@ -26,6 +28,18 @@ pub fn kinds()
     ensures no_valid_ranges { code_of no_valid_ranges ≡ 6 }
     ensures other { code_of other ≡ 7 }
     ensures no_memory { code_of out_of_memory ≡ 8 }
+{}
+
+/// The bumps, as the numbers that the header gives them.
+pub fn bumps()
+    ensures major { code_of_bump Bump.Major ≡ 1 }
+    ensures premajor { code_of_bump Bump.PreMajor ≡ 2 }
+    ensures minor { code_of_bump Bump.Minor ≡ 3 }
+    ensures preminor { code_of_bump Bump.PreMinor ≡ 4 }
+    ensures patch { code_of_bump Bump.Patch ≡ 5 }
+    ensures prepatch { code_of_bump Bump.PrePatch ≡ 6 }
+    ensures prerelease { code_of_bump Bump.PreRelease ≡ 7 }
+    ensures pre { code_of_bump Bump.Pre ≡ 8 }
 {}
 
 /// The kinds of cuts, as the numbers that the header gives them.

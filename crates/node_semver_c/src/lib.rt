@@ -4,11 +4,13 @@
 #![tactic(auto)]
 
 mod algebra;
+mod diff;
 mod greatest;
 mod handle;
 mod identifiers;
 pub mod laws;
 mod loose;
+mod npm;
 mod pair;
 mod range;
 mod sets;

@@ -1,7 +1,7 @@
 //! Two texts in one call.
-ghost use Rattle.std.specs.Prelude.{IsUtf8, ◌≡◌};
+ghost use Rattle.std.specs.Prelude.{IsUtf8, ◌≡◌, ◌≢◌};
 ghost use Rattle.node_semver_c.specs.Pair.{IsPairReported, IsVersionReported};
-ghost use Rattle.node_semver_c.specs.declared.status.TheConstants.{NOT_UTF8};
+ghost use Rattle.node_semver_c.specs.declared.status.TheConstants.{NOT_UTF8, OK, OUT_OF_MEMORY, REFUSED};
 
 use crate::status::{Fault, NOT_UTF8, OK, report, report_at};
 use node_semver::{Range, VersionRef};
@@ -9,8 +9,8 @@ use std::alloc::Global;
 
 /// `Range::parse`, `Version::parse` and `satisfies`: whether the version of one text satisfies the range of another.
 ///
-/// The range is parsed first. If both texts are refused, the fault is that of the range. Parsing the version does not
-/// allocate.
+/// The range is parsed first. If both texts are UTF-8 and refused, the fault is that of the range. Parsing the version
+/// does not allocate.
 #[unsafe(no_mangle)]
 pub extern "C" fn node_semver_satisfies_text(
     alloc: Global,
@@ -23,6 +23,8 @@ pub extern "C" fn node_semver_satisfies_text(
         → IsPairReported range.now version.now result answer.new fault.new }
     ensures range_not_utf8 { ¬ IsUtf8 range.now → result ≡ NOT_UTF8 }
     ensures version_not_utf8 { ¬ IsUtf8 version.now → result ≡ NOT_UTF8 }
+    ensures answer_kept { result ≢ OK → answer.new ≡ answer.old }
+    ensures fault_kept { result ≢ REFUSED → result ≢ OUT_OF_MEMORY → fault.new ≡ fault.old }
 {
     match std::str::from_utf8(range) {
         Ok(range) => match std::str::from_utf8(version) {
@@ -34,7 +36,9 @@ pub extern "C" fn node_semver_satisfies_text(
 }
 
 fn satisfies(alloc: Global, range: &str, version: &str, answer: &mut bool, fault: &mut Fault) -> u32
-    ensures { IsPairReported range.now version.now result answer.new fault.new }
+    ensures reported { IsPairReported range.now version.now result answer.new fault.new }
+    ensures answer_kept { result ≢ OK → answer.new ≡ answer.old }
+    ensures fault_kept { result ≢ REFUSED → result ≢ OUT_OF_MEMORY → fault.new ≡ fault.old }
 {
     match Range::parse(alloc, range) {
         Ok(range) => satisfies_range(&range, version, answer, fault),
@@ -44,7 +48,9 @@ fn satisfies(alloc: Global, range: &str, version: &str, answer: &mut bool, fault
 
 // Does not allocate.
 fn satisfies_range(range: &Range, version: &str, answer: &mut bool, fault: &mut Fault) -> u32
-    ensures { IsVersionReported range.now version.now result answer.new fault.new }
+    ensures reported { IsVersionReported range.now version.now result answer.new fault.new }
+    ensures answer_kept { result ≢ OK → answer.new ≡ answer.old }
+    ensures fault_kept { result ≢ REFUSED → result ≢ OUT_OF_MEMORY → fault.new ≡ fault.old }
 {
     match VersionRef::parse(version) {
         Ok(version) => {

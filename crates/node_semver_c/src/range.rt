@@ -3,12 +3,12 @@ ghost use Rattle.std.specs.Prelude.{◌≡◌, ◌≢◌, ◌↔◌, List, [], I
 ghost use Rattle.node_semver_c.specs.Answers.{IsSomeReported};
 ghost use Rattle.node_semver_c.specs.Compared.{range_hash};
 ghost use Rattle.node_semver_c.specs.Printed.{IsPrinted};
-ghost use Rattle.node_semver_c.specs.declared.status.TheConstants.{NOT_UTF8};
+ghost use Rattle.node_semver_c.specs.declared.status.TheConstants.{NOT_UTF8, OUT_OF_MEMORY, REFUSED};
 ghost use Rattle.semver_cuts.specs.CommonSpans.{common_spans};
 ghost use Rattle.semver_cuts.specs.Ends.{Ends};
 ghost use Rattle.semver_cuts.specs.Sharing.{CoversAll, ShareCut};
 ghost use Rattle.semver_versions.specs.Comparison.{version_cmp};
-ghost use Rattle.semver_sets.specs.Meaning.{RangeAdmits};
+ghost use Rattle.semver_sets.specs.Meaning.{RangeAdmits, RangeContains};
 ghost use Rattle.semver_sets.specs.RangeEquality.{AreSameCuts, are_same_cuts};
 ghost use Rattle.semver_sets.specs.RangePrint.{range_text};
 ghost use Rattle.semver_versions.specs.Version.{VersionValue};
@@ -33,6 +33,7 @@ pub extern "C" fn node_semver_range_parse(
     requires empty { range.old.value ≡ None }
     ensures parsed { IsUtf8 text.now → IsSomeReported (IsRangeAnswer text.now) result range.new.value fault.new }
     ensures not_utf8 { ¬ IsUtf8 text.now → (result ≡ NOT_UTF8) × (range.new.value ≡ None) }
+    ensures fault_kept { result ≢ REFUSED → result ≢ OUT_OF_MEMORY → fault.new ≡ fault.old }
 {
     match std::str::from_utf8(text) {
         Ok(text) => read(alloc, text, range, fault),
@@ -42,7 +43,8 @@ pub extern "C" fn node_semver_range_parse(
 
 fn read(alloc: Global, text: &str, range: &mut RangeHandle, fault: &mut Fault) -> u32
     requires { range.old.value ≡ None }
-    ensures { IsSomeReported (IsRangeAnswer text.now) result range.new.value fault.new }
+    ensures parsed { IsSomeReported (IsRangeAnswer text.now) result range.new.value fault.new }
+    ensures fault_kept { result ≢ REFUSED → result ≢ OUT_OF_MEMORY → fault.new ≡ fault.old }
 {
     match Range::parse(alloc, text) {
         Ok(read) => keep_range(alloc, read, range),
@@ -78,6 +80,14 @@ pub extern "C" fn node_semver_satisfies(range: &RangeRef, version: &VersionRef) 
     ensures { IsTrue result ↔ RangeAdmits range.now.value version.now.value }
 {
     range.get().satisfies(version.get())
+}
+
+/// `Range::contains`.
+#[unsafe(no_mangle)]
+pub extern "C" fn node_semver_range_contains(range: &RangeRef, version: &VersionRef) -> bool
+    ensures { IsTrue result ↔ RangeContains range.now.value version.now.value }
+{
+    range.get().contains(version.get())
 }
 
 /// `Range::allows_any`.

@@ -122,7 +122,7 @@ fn made(alloc: Global, spans: Vec<Span<Version>>, answer: &mut RangeHandle) -> u
     requires { answer.old.value ≡ None }
     ensures { IsFound (IsRangeWith spans.items) result answer.new.value }
 {
-    match Range::from_sets(alloc, spans) {
+    match Range::from_sets(alloc, &spans) {
         Ok(found) => keep_range_found(alloc, found, answer),
         Err(_) => OUT_OF_MEMORY,
     }

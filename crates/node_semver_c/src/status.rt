@@ -1,5 +1,5 @@
 //! What a call returns beside its value: its status, and the fault of a text that it refuses.
-ghost use Rattle.std.specs.Prelude.{◌≡◌, Some, None};
+ghost use Rattle.std.specs.Prelude.{◌≡◌, ◌⊎◌, Some, None};
 ghost use Rattle.semver_versions.specs.Error.{kind_of, refusal_of};
 ghost use Rattle.node_semver_c.specs.Status.{IsFaultReported, IsKept, IsKeptAnswer, IsRefusalReported};
 ghost use Rattle.node_semver_c.specs.Status.{code_of, number_in, status_of};
@@ -38,14 +38,16 @@ pub struct Fault {
 
 // Writes the fault of an error, and returns its status.
 pub(crate) fn report(error: &SemverError, fault: &mut Fault) -> u32
-    ensures { IsRefusalReported (refusal_of error.now) result fault.new }
+    ensures reported { IsRefusalReported (refusal_of error.now) result fault.new }
+    ensures failed { (result ≡ REFUSED) ⊎ (result ≡ OUT_OF_MEMORY) }
 {
     report_at(error.kind(), error.offset(), fault)
 }
 
 // Writes a fault of this kind at this byte offset, and returns its status.
 pub(crate) fn report_at(kind: &SemverErrorKind, offset: usize, fault: &mut Fault) -> u32
-    ensures { IsFaultReported (kind_of kind.now) offset result fault.new }
+    ensures reported { IsFaultReported (kind_of kind.now) offset result fault.new }
+    ensures failed { (result ≡ REFUSED) ⊎ (result ≡ OUT_OF_MEMORY) }
 {
     let (status, kind, number) = kind_parts(kind);
     *fault = Fault {
@@ -61,6 +63,7 @@ fn kind_parts(kind: &SemverErrorKind) -> (u32, u32, u64)
     ensures status { result.0 ≡ status_of (kind_of kind.now) }
     ensures code { result.1 ≡ code_of (kind_of kind.now) }
     ensures number { result.2 ≡ number_in (kind_of kind.now) }
+    ensures failed { (result.0 ≡ REFUSED) ⊎ (result.0 ≡ OUT_OF_MEMORY) }
 {
     match kind {
         SemverErrorKind::MaxLengthError => (REFUSED, 1, 0),

@@ -1,10 +1,11 @@
 //! Exports on versions.
-ghost use Rattle.std.specs.Prelude.{◌≡◌, ◌↔◌, IsTrue, IsUtf8, None, true};
+ghost use Rattle.std.specs.Prelude.{◌≡◌, ◌≢◌, ◌↔◌, IsTrue, IsUtf8, None, true};
 ghost use Rattle.std.specs.Ordering.{eq_by_cmp};
-ghost use Rattle.node_semver_c.specs.Answers.{IsSomeReported};
+ghost use Rattle.node_semver_c.specs.Answers.{IsSomeReported, IsStrictAnswer};
 ghost use Rattle.node_semver_c.specs.Compared.{sign_of, version_hash};
 ghost use Rattle.node_semver_c.specs.Printed.{IsPrinted};
-ghost use Rattle.node_semver_c.specs.declared.status.TheConstants.{NOT_UTF8};
+ghost use Rattle.node_semver_c.specs.declared.status.TheConstants.{NOT_UTF8, OUT_OF_MEMORY, REFUSED};
+ghost use Rattle.semver_versions.specs.BuildOrder.{BuildOrderMeans, version_build_cmp};
 ghost use Rattle.semver_versions.specs.Comparison.{version_cmp};
 ghost use Rattle.semver_versions.specs.Order.{OrderMeans};
 ghost use Rattle.semver_versions.specs.Print.{version_text};
@@ -31,6 +32,7 @@ pub extern "C" fn node_semver_version_parse(
     ensures parsed { IsUtf8 text.now
         → IsSomeReported (IsVersionAnswer text.now) result version.new.value fault.new }
     ensures not_utf8 { ¬ IsUtf8 text.now → (result ≡ NOT_UTF8) × (version.new.value ≡ None) }
+    ensures fault_kept { result ≢ REFUSED → result ≢ OUT_OF_MEMORY → fault.new ≡ fault.old }
 {
     match std::str::from_utf8(text) {
         Ok(text) => read(alloc, text, version, fault),
@@ -40,9 +42,41 @@ pub extern "C" fn node_semver_version_parse(
 
 fn read(alloc: Global, text: &str, version: &mut VersionHandle, fault: &mut Fault) -> u32
     requires { version.old.value ≡ None }
-    ensures { IsSomeReported (IsVersionAnswer text.now) result version.new.value fault.new }
+    ensures parsed { IsSomeReported (IsVersionAnswer text.now) result version.new.value fault.new }
+    ensures fault_kept { result ≢ REFUSED → result ≢ OUT_OF_MEMORY → fault.new ≡ fault.old }
 {
     match Version::parse(alloc, text) {
+        Ok(read) => keep_version(alloc, read, version),
+        Err(error) => report(&error, fault),
+    }
+}
+
+/// `Version::parse_strict`: puts the version into the handle, or reports the fault of the text.
+#[unsafe(no_mangle)]
+pub extern "C" fn node_semver_version_parse_strict(
+    alloc: Global,
+    text: &[u8],
+    version: &mut VersionHandle,
+    fault: &mut Fault,
+) -> u32
+    requires empty { version.old.value ≡ None }
+    ensures parsed { IsUtf8 text.now
+        → IsSomeReported (IsStrictAnswer text.now) result version.new.value fault.new }
+    ensures not_utf8 { ¬ IsUtf8 text.now → (result ≡ NOT_UTF8) × (version.new.value ≡ None) }
+    ensures fault_kept { result ≢ REFUSED → result ≢ OUT_OF_MEMORY → fault.new ≡ fault.old }
+{
+    match std::str::from_utf8(text) {
+        Ok(text) => read_strict(alloc, text, version, fault),
+        Err(_) => NOT_UTF8,
+    }
+}
+
+fn read_strict(alloc: Global, text: &str, version: &mut VersionHandle, fault: &mut Fault) -> u32
+    requires { version.old.value ≡ None }
+    ensures parsed { IsSomeReported (IsStrictAnswer text.now) result version.new.value fault.new }
+    ensures fault_kept { result ≢ REFUSED → result ≢ OUT_OF_MEMORY → fault.new ≡ fault.old }
+{
+    match Version::parse_strict(alloc, text) {
         Ok(read) => keep_version(alloc, read, version),
         Err(error) => report(&error, fault),
     }
@@ -72,7 +106,22 @@ pub extern "C" fn node_semver_version_compare(one: &VersionRef, other: &VersionR
     ensures answer { result ≡ sign_of (version_cmp one.now.value other.now.value) }
     ensures order { OrderMeans one.now.value other.now.value (version_cmp one.now.value other.now.value) }
 {
-    match one.get().cmp(other.get()) {
+    sign(one.get().cmp(other.get()))
+}
+
+/// `Version::compare_build`: returns -1, 0 or 1.
+#[unsafe(no_mangle)]
+pub extern "C" fn node_semver_version_compare_build(one: &VersionRef, other: &VersionRef) -> i32
+    ensures answer { result ≡ sign_of (version_build_cmp one.now.value other.now.value) }
+    ensures order { BuildOrderMeans one.now.value other.now.value (version_build_cmp one.now.value other.now.value) }
+{
+    sign(one.get().compare_build(other.get()))
+}
+
+fn sign(order: Ordering) -> i32
+    ensures { result ≡ sign_of order }
+{
+    match order {
         Ordering::Less => -1,
         Ordering::Equal => 0,
         Ordering::Greater => 1,

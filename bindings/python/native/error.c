@@ -9,9 +9,21 @@ static const char *const KIND_NAMES[] = {
     NULL, "MaxLengthError", "IncompleteInput", "ParseIntError", "MaxIntError", "Context", "NoValidRanges", "Other",
 };
 
+/* The name of a value's type: what `type` itself has as `__name__`. A metaclass may have a `__name__` of its own, which
+ * may be no str, and it is not asked. NULL with an exception. */
+static PyObject *type_name(PyObject *value)
+{
+    PyObject *members = PyObject_GetAttrString((PyObject *)&PyType_Type, "__dict__");
+    PyObject *field = members == NULL ? NULL : PyMapping_GetItemString(members, "__name__");
+    PyObject *name = field == NULL ? NULL : PyObject_CallMethod(field, "__get__", "O", (PyObject *)Py_TYPE(value));
+    Py_XDECREF(field);
+    Py_XDECREF(members);
+    return name;
+}
+
 void raise_wrong_type(const char *wanted, PyObject *value)
 {
-    PyObject *name = PyObject_GetAttrString((PyObject *)Py_TYPE(value), "__name__");
+    PyObject *name = type_name(value);
     if (name == NULL)
         return;
     PyErr_Format(PyExc_TypeError, "%s, not %U", wanted, name);
@@ -38,12 +50,22 @@ static void raise_refusal(native_state *state, PyObject *text, const node_semver
     Py_DECREF(error);
 }
 
-void raise_status(native_state *state, node_semver_status status, PyObject *text, const node_semver_fault *fault)
+void raise_failure(node_semver_status status)
 {
     if (status == NODE_SEMVER_OUT_OF_MEMORY)
         PyErr_NoMemory();
-    else if (status == NODE_SEMVER_REFUSED)
-        raise_refusal(state, text, fault);
     else
-        PyErr_Format(PyExc_SystemError, "an unexpected status %u", (unsigned)status);
+        PyErr_Format(PyExc_SystemError, "the library returned an unexpected status, %u", (unsigned)status);
+}
+
+void raise_status(PyTypeObject *type, node_semver_status status, PyObject *text, const node_semver_fault *fault)
+{
+    native_state *state;
+    if (status != NODE_SEMVER_REFUSED) {
+        raise_failure(status);
+        return;
+    }
+    state = state_of_type(type);
+    if (state != NULL)
+        raise_refusal(state, text, fault);
 }

@@ -6,6 +6,31 @@
  */
 #include "native.h"
 
+/* The state, if fill_module has filled it: the type of ranges is the last that it makes. */
+static native_state *full_state(native_state *state)
+{
+    if (state != NULL && state->range_type != NULL)
+        return state;
+    if (!PyErr_Occurred())
+        PyErr_SetString(PyExc_RuntimeError, "node_semver._native is not imported");
+    return NULL;
+}
+
+native_state *state_of_module(PyObject *module)
+{
+    return full_state(PyModule_GetState(module));
+}
+
+native_state *state_of_type(PyTypeObject *type)
+{
+    return full_state(PyType_GetModuleState(type));
+}
+
+native_state *state_of(PyObject *value)
+{
+    return state_of_type(Py_TYPE(value));
+}
+
 PyDoc_STRVAR(satisfies_doc,
 "satisfies($module, version, range, /)\n"
 "--\n"
@@ -15,32 +40,35 @@ PyDoc_STRVAR(satisfies_doc,
 ">>> satisfies('1.3.0', '^1.2.3'), satisfies('2.0.0', '^1.2.3')\n"
 "(True, False)");
 
-/* `arguments` are the two texts, the version's first. The range is read first, and its fault alone is NoValidRanges. */
-static PyObject *satisfies(PyObject *module, PyObject *arguments)
+/* The arguments are the two texts, the version's first. The range is read first, and its fault alone is
+ * NoValidRanges. */
+static PyObject *satisfies(PyObject *module, PyObject *const *arguments, Py_ssize_t count)
 {
-    PyObject *version, *range;
     const char *version_start, *range_start;
     Py_ssize_t version_length, range_length;
     node_semver_fault fault = {0, 0, 0};
     node_semver_status status;
+    native_state *state = state_of_module(module);
     bool inside;
-    if (!PyArg_UnpackTuple(arguments, "satisfies", 2, 2, &version, &range))
+    if (state == NULL)
         return NULL;
-    version_start = text_of(version, "a version must be a str", &version_length);
-    range_start = version_start == NULL ? NULL : text_of(range, "a range must be a str", &range_length);
+    if (count != 2)
+        return PyErr_Format(PyExc_TypeError, "satisfies() takes exactly two arguments (%zd given)", count);
+    version_start = text_of(arguments[0], "a version must be a str", &version_length);
+    range_start = version_start == NULL ? NULL : text_of(arguments[1], "a range must be a str", &range_length);
     if (range_start == NULL)
         return NULL;
-    status = node_semver_satisfies_text(range_start, (size_t)range_length, version_start, (size_t)version_length,
-                                        &inside, &fault);
+    WHILE_OTHERS_RUN(range_length >= LONG,
+                     status = node_semver_satisfies_text(range_start, (size_t)range_length, version_start,
+                                                         (size_t)version_length, &inside, &fault));
     if (status == NODE_SEMVER_OK)
         return PyBool_FromLong(inside);
-    raise_status(PyModule_GetState(module), status, fault.kind == NODE_SEMVER_NO_VALID_RANGES ? range : version,
-                 &fault);
+    raise_status(state->range_type, status, arguments[fault.kind == NODE_SEMVER_NO_VALID_RANGES], &fault);
     return NULL;
 }
 
 static PyMethodDef module_functions[] = {
-    {"satisfies", satisfies, METH_VARARGS, satisfies_doc},
+    {"satisfies", (PyCFunction)(void (*)(void))satisfies, METH_FASTCALL, satisfies_doc},
     {NULL, NULL, 0, NULL},
 };
 
@@ -86,8 +114,8 @@ static int clear_module(PyObject *module)
     native_state *state = PyModule_GetState(module);
     if (state == NULL)
         return 0;
+    Py_CLEAR(state->range_type); /* first: full_state asks for it */
     Py_CLEAR(state->version_type);
-    Py_CLEAR(state->range_type);
     Py_CLEAR(state->error_type);
     return 0;
 }

@@ -20,8 +20,29 @@ typedef struct {
     PyObject *error_type;
 } native_state;
 
-/* A `Version` and a `Range`: the handle is full from the moment the object exists until it is freed. A range keeps its
- * print from the first `str` on, or NULL. */
+/* ---- module.c ---- */
+
+/* The state of the module, and of the module of a Version or a Range or of their types. NULL with an exception if the
+ * module was made and never executed, or if the garbage collector has cleared it. */
+native_state *state_of_module(PyObject *module);
+native_state *state_of_type(PyTypeObject *type);
+native_state *state_of(PyObject *value);
+
+/* Runs a statement that reads no Python object. Other threads of Python run meanwhile if it is long. */
+#define WHILE_OTHERS_RUN(is_long, statement)                              \
+    do {                                                                  \
+        PyThreadState *saved_ = (is_long) ? PyEval_SaveThread() : NULL;   \
+        statement;                                                        \
+        if (saved_ != NULL)                                               \
+            PyEval_RestoreThread(saved_);                                 \
+    } while (0)
+
+/* From how many steps a call is long: bytes of a text, versions of a list, sets of two ranges, or pairs of their sets.
+ * Fewer take at most some milliseconds, and Python lets each thread run that long. */
+#define LONG 10000
+
+/* A `Version` and a `Range`: the handle is full from the moment the object exists until it is freed. A range keeps how
+ * many sets it has and, from the first `str` on, its print, which is NULL before. */
 typedef struct {
     PyObject_HEAD
     node_semver_version handle;
@@ -30,22 +51,31 @@ typedef struct {
 typedef struct {
     PyObject_HEAD
     node_semver_range handle;
+    size_t set_count;
     PyObject *text;
 } range_object;
 
 #define VERSION_OF(object) (&((version_object *)(object))->handle)
 #define RANGE_OF(object) (&((range_object *)(object))->handle)
+#define SET_COUNT(object) (((range_object *)(object))->set_count)
 
 extern PyType_Spec version_spec;
 extern PyType_Spec range_spec;
+
+/* The flags of both types. A value holds its type, and the garbage collector must see that: a value that its own module
+ * can reach would keep the module otherwise. */
+#define VALUE_FLAGS (Py_TPFLAGS_DEFAULT | Py_TPFLAGS_IMMUTABLETYPE | Py_TPFLAGS_HAVE_GC)
 
 /* ---- error.c: each sets an exception ---- */
 
 /* TypeError: "`wanted`, not `the type of value`". */
 void raise_wrong_type(const char *wanted, PyObject *value);
 
-/* MemoryError, or SemverError for a text that is refused. */
-void raise_status(native_state *state, node_semver_status status, PyObject *text, const node_semver_fault *fault);
+/* MemoryError, or SystemError for a status that the call never returns. */
+void raise_failure(node_semver_status status);
+
+/* The same, or SemverError for a text that is refused. `type` is one of our two, since its module has the exception. */
+void raise_status(PyTypeObject *type, node_semver_status status, PyObject *text, const node_semver_fault *fault);
 
 /* ---- text.c ---- */
 
@@ -55,15 +85,25 @@ typedef size_t printer(const void *value, size_t place, char *room, size_t size)
 /* The str that `print` writes; NULL with an exception if out of memory. */
 PyObject *printed(printer *print, const void *value, size_t place);
 
+/* The items of an iterable in a tuple, which no other code changes; NULL with an exception. A str is refused, although
+ * its characters could be iterated: `name` says what was wanted. */
+PyObject *items_of(PyObject *iterable, const char *name);
+
 /* The UTF-8 of a str, valid as long as the str; NULL with a TypeError that starts with `wanted`, or with a
  * UnicodeEncodeError where a surrogate stands alone. */
 const char *text_of(PyObject *value, const char *wanted, Py_ssize_t *length);
 
 /* The only argument of a constructor; NULL with a TypeError. The reference is borrowed. */
-PyObject *only_argument(const char *name, PyObject *arguments, PyObject *keywords);
+PyObject *only_argument(const char *name, PyObject *arguments);
+
+/* What a value holds, for the garbage collector: its type. It is never cleared. */
+int visit_value(PyObject *self, visitproc visit, void *arg);
 
 /* `copy.copy` and `copy.deepcopy` of a value that never changes: the value. */
 PyObject *same_object(PyObject *self, PyObject *ignored);
+
+/* Whether the text is read as a value equal to `self`: 1, 0, or -1 with an exception. A refusal counts as 0. */
+int reads_back(PyObject *self, PyObject *text);
 
 /* What pickle stores: the type and the text. NULL with a ValueError if the text is not read as an equal value. Takes
  * the reference to `text`, which may be NULL with an exception. */
@@ -72,10 +112,24 @@ PyObject *reduced(PyObject *self, PyObject *text);
 /* ---- version.c ---- */
 
 PyObject *new_version(PyTypeObject *type, node_semver_version handle);
-PyObject *read_version(native_state *state, PyObject *text);
 
-/* A new reference to the item, or to the Version of an item that is a str; NULL with an exception. */
-PyObject *as_version(native_state *state, PyObject *item);
+/* Reads the version of a str into an empty handle, in loose form or by the grammar of SemVer 2.0.0 alone: 0, or -1 with
+ * an exception, a TypeError that starts with `wanted` if it is no str. `type` is as for raise_status. */
+int read_version(PyTypeObject *type, PyObject *text, bool is_strict, const char *wanted, node_semver_version *handle);
+
+/* ---- range.c ---- */
+
+PyObject *new_range(PyTypeObject *type, node_semver_range handle);
+
+/* ---- range_text.c ---- */
+
+PyObject *range_new(PyTypeObject *type, PyObject *arguments, PyObject *keywords);
+PyObject *range_parse_npm(PyObject *type, PyObject *arguments, PyObject *keywords);
+
+/* ---- sets.c: the sets of a Range ---- */
+
+PyObject *range_sets(PyObject *self, void *ignored);
+PyObject *range_from_sets(PyObject *type, PyObject *sets);
 
 /* ---- versions.c: methods of Range over an iterable of versions ---- */
 

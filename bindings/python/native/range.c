@@ -4,41 +4,27 @@
  */
 #include "native.h"
 
-static PyObject *new_range(PyTypeObject *type, node_semver_range handle)
+PyObject *new_range(PyTypeObject *type, node_semver_range handle)
 {
-    range_object *self = PyObject_New(range_object, type);
+    range_object *self = PyObject_GC_New(range_object, type);
     if (self == NULL) {
         node_semver_range_free(handle);
         return NULL;
     }
     self->handle = handle;
+    self->set_count = node_semver_range_set_count(&self->handle);
     self->text = NULL;
+    PyObject_GC_Track(self);
     return (PyObject *)self;
-}
-
-static PyObject *range_new(PyTypeObject *type, PyObject *arguments, PyObject *keywords)
-{
-    node_semver_range handle = NODE_SEMVER_EMPTY;
-    node_semver_fault fault = {0, 0, 0};
-    node_semver_status status;
-    Py_ssize_t length;
-    PyObject *text = only_argument("Range", arguments, keywords);
-    const char *start = text == NULL ? NULL : text_of(text, "a range must be a str", &length);
-    if (start == NULL)
-        return NULL;
-    status = node_semver_range_parse(start, (size_t)length, &handle, &fault);
-    if (status == NODE_SEMVER_OK)
-        return new_range(type, handle);
-    raise_status(PyType_GetModuleState(type), status, text, &fault);
-    return NULL;
 }
 
 static void range_dealloc(PyObject *self)
 {
     PyTypeObject *type = Py_TYPE(self);
+    PyObject_GC_UnTrack(self);
     node_semver_range_free(*RANGE_OF(self));
     Py_XDECREF(((range_object *)self)->text);
-    PyObject_Free(self);
+    PyObject_GC_Del(self);
     Py_DECREF(type);
 }
 
@@ -48,12 +34,18 @@ static size_t print_range(const void *range, size_t place, char *room, size_t si
     return node_semver_range_print(range, room, size);
 }
 
-/* The print is kept: without that, `str` takes twice as long as that of a class in Python, which keeps its text too. */
+/* The print is kept: without that, `str` takes twice as long as that of a class in Python, which keeps its text too.
+ * Of the prints of two threads, the first is kept. */
 static PyObject *range_str(PyObject *self)
 {
     range_object *range = (range_object *)self;
-    if (range->text == NULL)
-        range->text = printed(print_range, &range->handle, 0);
+    if (range->text == NULL) {
+        PyObject *text = printed(print_range, &range->handle, 0);
+        if (range->text == NULL)
+            range->text = text;
+        else
+            Py_XDECREF(text);
+    }
     return Py_XNewRef(range->text);
 }
 
@@ -83,15 +75,34 @@ static PyObject *range_compare(PyObject *one, PyObject *other, int operation)
     return PyBool_FromLong(equal == (operation == Py_EQ));
 }
 
-static int range_contains(PyObject *self, PyObject *version)
+typedef bool membership(const node_semver_range *, const node_semver_version *);
+
+/* Whether a Version, or the version of a str, is in the range: 1, 0, or -1 with an exception. */
+static int is_member(membership *ask, PyObject *self, PyObject *version)
 {
-    bool inside;
-    PyObject *asked = as_version(PyType_GetModuleState(Py_TYPE(self)), version);
-    if (asked == NULL)
+    node_semver_version read = NODE_SEMVER_EMPTY;
+    int inside;
+    native_state *state = state_of(self);
+    if (state == NULL)
         return -1;
-    inside = node_semver_satisfies(RANGE_OF(self), VERSION_OF(asked));
-    Py_DECREF(asked);
+    if (Py_TYPE(version) == state->version_type)
+        return ask(RANGE_OF(self), VERSION_OF(version));
+    if (read_version(Py_TYPE(self), version, false, "a version must be a Version or a str", &read) != 0)
+        return -1;
+    inside = ask(RANGE_OF(self), &read);
+    node_semver_version_free(read);
     return inside;
+}
+
+static int range_has(PyObject *self, PyObject *version)
+{
+    return is_member(node_semver_satisfies, self, version);
+}
+
+static PyObject *range_contains(PyObject *self, PyObject *version)
+{
+    int inside = is_member(node_semver_range_contains, self, version);
+    return inside < 0 ? NULL : PyBool_FromLong(inside);
 }
 
 typedef node_semver_status combination(const node_semver_range *, const node_semver_range *, node_semver_range *);
@@ -103,12 +114,13 @@ static PyObject *combined(combination *combine, PyObject *one, PyObject *other)
     node_semver_status status;
     if (Py_TYPE(one) != Py_TYPE(other))
         Py_RETURN_NOTIMPLEMENTED;
-    status = combine(RANGE_OF(one), RANGE_OF(other), &handle);
+    WHILE_OTHERS_RUN(SET_COUNT(one) * SET_COUNT(other) >= LONG,
+                     status = combine(RANGE_OF(one), RANGE_OF(other), &handle));
     if (status == NODE_SEMVER_OK)
         return new_range(Py_TYPE(one), handle);
     if (status == NODE_SEMVER_NONE)
         Py_RETURN_NONE;
-    raise_status(NULL, status, NULL, NULL);
+    raise_failure(status);
     return NULL;
 }
 
@@ -136,59 +148,105 @@ static int is_range(PyObject *self, PyObject *other)
     return 0;
 }
 
-static PyObject *range_allows_any(PyObject *self, PyObject *other)
+typedef bool question(const node_semver_range *, const node_semver_range *);
+
+/* A method of two ranges that returns a bool. */
+static PyObject *asked(question *ask, PyObject *self, PyObject *other)
 {
+    bool answer;
     if (!is_range(self, other))
         return NULL;
-    return PyBool_FromLong(node_semver_range_allows_any(RANGE_OF(self), RANGE_OF(other)));
+    WHILE_OTHERS_RUN(SET_COUNT(self) + SET_COUNT(other) >= LONG, answer = ask(RANGE_OF(self), RANGE_OF(other)));
+    return PyBool_FromLong(answer);
+}
+
+static PyObject *range_allows_any(PyObject *self, PyObject *other)
+{
+    return asked(node_semver_range_allows_any, self, other);
 }
 
 static PyObject *range_allows_all(PyObject *self, PyObject *other)
 {
-    if (!is_range(self, other))
-        return NULL;
-    return PyBool_FromLong(node_semver_range_allows_all(RANGE_OF(self), RANGE_OF(other)));
+    return asked(node_semver_range_allows_all, self, other);
 }
 
 /* The Version of a call that may find none. */
-static PyObject *found_version(PyObject *self, node_semver_status status, node_semver_version handle)
+static PyObject *found_version(native_state *state, node_semver_status status, node_semver_version handle)
 {
-    native_state *state = PyType_GetModuleState(Py_TYPE(self));
     if (status == NODE_SEMVER_OK)
         return new_version(state->version_type, handle);
     if (status == NODE_SEMVER_NONE)
         Py_RETURN_NONE;
-    raise_status(state, status, NULL, NULL);
+    raise_failure(status);
     return NULL;
 }
 
 static PyObject *range_min_version(PyObject *self, PyObject *ignored)
 {
     node_semver_version handle = NODE_SEMVER_EMPTY;
-    node_semver_status status = node_semver_min_version(RANGE_OF(self), &handle);
+    node_semver_status status;
+    native_state *state = state_of(self);
     (void)ignored;
-    return found_version(self, status, handle);
+    if (state == NULL)
+        return NULL;
+    WHILE_OTHERS_RUN(SET_COUNT(self) >= LONG, status = node_semver_min_version(RANGE_OF(self), &handle));
+    return found_version(state, status, handle);
+}
+
+typedef node_semver_status search(const node_semver_range *, const node_semver_range *, node_semver_version *);
+
+/* A method of two ranges that returns a Version or None. */
+static PyObject *found(search *find, PyObject *self, PyObject *other)
+{
+    node_semver_version handle = NODE_SEMVER_EMPTY;
+    node_semver_status status;
+    native_state *state = state_of(self);
+    if (state == NULL || !is_range(self, other))
+        return NULL;
+    WHILE_OTHERS_RUN(SET_COUNT(self) + SET_COUNT(other) >= LONG,
+                     status = find(RANGE_OF(self), RANGE_OF(other), &handle));
+    return found_version(state, status, handle);
 }
 
 static PyObject *range_least_beyond(PyObject *self, PyObject *other)
 {
-    node_semver_version handle = NODE_SEMVER_EMPTY;
-    node_semver_status status;
-    if (!is_range(self, other))
-        return NULL;
-    status = node_semver_least_beyond(RANGE_OF(self), RANGE_OF(other), &handle);
-    return found_version(self, status, handle);
+    return found(node_semver_least_beyond, self, other);
+}
+
+static PyObject *range_least_common(PyObject *self, PyObject *other)
+{
+    return found(node_semver_range_least_common, self, other);
+}
+
+/* What pickle stores of a range whose text is not read back: `Range.from_sets` and the sets. */
+static PyObject *reduced_to_sets(PyObject *self)
+{
+    PyObject *result = NULL, *make = PyObject_GetAttrString((PyObject *)Py_TYPE(self), "from_sets");
+    PyObject *sets = make == NULL ? NULL : range_sets(self, NULL);
+    if (sets != NULL)
+        result = Py_BuildValue("(O(O))", make, sets);
+    Py_XDECREF(sets);
+    Py_XDECREF(make);
+    return result;
 }
 
 static PyObject *range_reduce(PyObject *self, PyObject *ignored)
 {
+    PyObject *result = NULL, *text = range_str(self);
+    int same = text == NULL ? -1 : reads_back(self, text);
     (void)ignored;
-    return reduced(self, range_str(self));
+    if (same == 1)
+        result = Py_BuildValue("(O(O))", (PyObject *)Py_TYPE(self), text);
+    else if (same == 0)
+        result = reduced_to_sets(self);
+    Py_XDECREF(text);
+    return result;
 }
 
 #include "range_docs.h"
 
 static PyMethodDef range_methods[] = {
+    {"contains", range_contains, METH_O, contains_doc},
     {"filter", range_filter, METH_O, filter_doc},
     {"max_satisfying", range_max_satisfying, METH_O, max_satisfying_doc},
     {"min_satisfying", range_min_satisfying, METH_O, min_satisfying_doc},
@@ -196,29 +254,40 @@ static PyMethodDef range_methods[] = {
     {"allows_any", range_allows_any, METH_O, allows_any_doc},
     {"allows_all", range_allows_all, METH_O, allows_all_doc},
     {"least_beyond", range_least_beyond, METH_O, least_beyond_doc},
+    {"least_common", range_least_common, METH_O, least_common_doc},
+    {"parse_npm", (PyCFunction)(void (*)(void))range_parse_npm, METH_VARARGS | METH_KEYWORDS | METH_CLASS,
+     parse_npm_doc},
+    {"from_sets", range_from_sets, METH_O | METH_CLASS, from_sets_doc},
     {"__copy__", same_object, METH_NOARGS, "__copy__($self, /)\n--\n\nThe range itself: it never changes."},
     {"__deepcopy__", same_object, METH_O, "__deepcopy__($self, memo, /)\n--\n\nThe range itself: it never changes."},
     {"__reduce__", range_reduce, METH_NOARGS,
-     "__reduce__($self, /)\n--\n\nWhat pickle stores: the text. Raises ValueError if the text is not read back."},
+     "__reduce__($self, /)\n--\n\nWhat pickle stores: the text, or the sets if the text is not read back."},
     {NULL, NULL, 0, NULL},
+};
+
+static PyGetSetDef range_fields[] = {
+    {"sets", range_sets, NULL, sets_doc, NULL},
+    {NULL, NULL, NULL, NULL, NULL},
 };
 
 static PyType_Slot range_slots[] = {
     {Py_tp_doc, (void *)range_doc},
     {Py_tp_new, range_new},
     {Py_tp_dealloc, range_dealloc},
+    {Py_tp_traverse, visit_value},
     {Py_tp_str, range_str},
     {Py_tp_repr, range_repr},
     {Py_tp_hash, range_hash},
     {Py_tp_richcompare, range_compare},
-    {Py_sq_contains, range_contains},
+    {Py_sq_contains, range_has},
     {Py_nb_and, range_and},
     {Py_nb_subtract, range_subtract},
     {Py_nb_or, range_or},
     {Py_tp_methods, range_methods},
+    {Py_tp_getset, range_fields},
     {0, NULL},
 };
 
 PyType_Spec range_spec = {
-    "node_semver.Range", sizeof(range_object), 0, Py_TPFLAGS_DEFAULT | Py_TPFLAGS_IMMUTABLETYPE, range_slots,
+    "node_semver.Range", sizeof(range_object), 0, VALUE_FLAGS, range_slots,
 };

@@ -25,6 +25,11 @@ PyDoc_STRVAR(range_doc,
 "\n"
 ">>> Range('^1') & Range('>=1.5')\n"
 "Range('>=1.5.0 <2.0.0-0')\n"
+"\n"
+"A prerelease may be in `a & b` that is not in both, since the ends of `a` let it in and those of `b` do not.\n"
+"\n"
+">>> '2.0.0-rc.4' in Range('^2.0.0-rc.1') & Range('>=1.5'), '2.0.0-rc.4' in Range('>=1.5')\n"
+"(True, False)\n"
 ">>> Range('^1') - Range('1.5.0')\n"
 "Range('>=1.0.0 <1.5.0||>1.5.0 <2.0.0-0')\n"
 ">>> print(Range('^1') & Range('^2'))\n"
@@ -46,22 +51,94 @@ PyDoc_STRVAR(range_doc,
 "    latest\n"
 "    ^");
 
+PyDoc_STRVAR(sets_doc,
+"The sets of the range: pairs of the lower cut and the upper one. A cut is a place between versions, and is a pair of\n"
+"a kind and a version: 'before' lies just below the version and 'after' just above it. 'start' lies below every\n"
+"version and 'end' above, and both have None.\n"
+"\n"
+">>> Range('^1.2.3 || >2.0.0').sets == (\n"
+"...     (('before', Version('1.2.3')), ('before', Version('2.0.0-0'))),\n"
+"...     (('after', Version('2.0.0')), ('end', None)),\n"
+"... )\n"
+"True");
+
+PyDoc_STRVAR(from_sets_doc,
+"from_sets($type, sets, /)\n"
+"--\n"
+"\n"
+"The range of these sets, in their order: each as `sets` has it, where a version may be a str too.\n"
+"\n"
+">>> Range.from_sets([(('before', '1.2.3'), ('before', '2.0.0-0')), (('after', '3.0.0'), ('end', None))])\n"
+"Range('>=1.2.3 <2.0.0-0||>3.0.0')\n"
+">>> Range.from_sets(Range('^1').sets) == Range('^1')\n"
+"True\n"
+"\n"
+"Raises ValueError if there are no sets, if a lower cut is not below the upper one, or if a number is above\n"
+"9007199254740992.\n"
+"\n"
+">>> Range.from_sets([(('after', '1.2.3'), ('before', '1.2.3'))])\n"
+"Traceback (most recent call last):\n"
+"    ...\n"
+"ValueError: the set at 0 has no cut between its ends, or has a number above 9007199254740992");
+
+PyDoc_STRVAR(parse_npm_doc,
+"parse_npm($type, text, /, *, loose=False, include_prerelease=False)\n"
+"--\n"
+"\n"
+"The range of a text as npm itself reads it, with npm's two options. `Range(text)` reads it as the Rust crate does.\n"
+"\n"
+">>> '20.5.0' in Range.parse_npm('<=20'), '20.5.0' in Range('<=20')\n"
+"(True, False)\n"
+">>> '1.2.3' in Range.parse_npm('')\n"
+"True\n"
+"\n"
+"Ask `contains` of a range that was read with prereleases included, since `in` asks more of a prerelease.\n"
+"\n"
+">>> wanted = Range.parse_npm('>=18', include_prerelease=True)\n"
+">>> wanted.contains('18.0.0-rc.1'), '18.0.0-rc.1' in wanted, wanted.contains('17.9.0')\n"
+"(True, True, False)\n"
+"\n"
+"A text with a word that is no comparator raises SemverError; in loose form, one without any comparator.\n"
+"\n"
+">>> Range.parse_npm('^1 next', loose=True)\n"
+"Range('>=1.0.0 <2.0.0-0')\n"
+">>> Range.parse_npm('^1 next')\n"
+"Traceback (most recent call last):\n"
+"    ...\n"
+"node_semver.SemverError: NoValidRanges at byte 0: no alternative is a range that a version can be in\n"
+"    ^1 next\n"
+"    ^");
+
+PyDoc_STRVAR(contains_doc,
+"contains($self, version, /)\n"
+"--\n"
+"\n"
+"Whether a version lies inside a set of the range, prerelease or not. `version in range` is stricter: an end of the\n"
+"set must be a prerelease of the same three numbers.\n"
+"\n"
+">>> Range('>=18').contains('20.0.0-rc.1'), '20.0.0-rc.1' in Range('>=18')\n"
+"(True, False)\n"
+">>> Range('>=18').contains('18.0.0-rc.1')\n"
+"False");
+
 PyDoc_STRVAR(filter_doc,
 "filter($self, versions, /)\n"
 "--\n"
 "\n"
-"A list of the versions that are in the range, as they were given and in their order.\n"
+"A list of the versions that are in the range, as they were given and in their order. A str that is not a version is\n"
+"left out.\n"
 "\n"
-">>> Range('^1').filter(['2.0.0', '1.5.0', '1.0.0'])\n"
+">>> Range('^1').filter(['2.0.0', '1.5.0', 'latest', '1.0.0'])\n"
 "['1.5.0', '1.0.0']");
 
 PyDoc_STRVAR(max_satisfying_doc,
 "max_satisfying($self, versions, /)\n"
 "--\n"
 "\n"
-"The greatest of the versions that is in the range, as it was given, or None. Of equal versions, the first.\n"
+"The greatest of the versions that is in the range, as it was given, or None. Of equal versions, the first. A str\n"
+"that is not a version is left out.\n"
 "\n"
-">>> Range('^1').max_satisfying(['1.0.0', '1.5.0', '2.0.0'])\n"
+">>> Range('^1').max_satisfying(['1.0.0', '1.5.0', 'latest', '2.0.0'])\n"
 "'1.5.0'\n"
 ">>> print(Range('^3').max_satisfying(['1.0.0', '1.5.0', '2.0.0']))\n"
 "None");
@@ -70,7 +147,8 @@ PyDoc_STRVAR(min_satisfying_doc,
 "min_satisfying($self, versions, /)\n"
 "--\n"
 "\n"
-"The least of the versions that is in the range, as it was given, or None. Of equal versions, the first.\n"
+"The least of the versions that is in the range, as it was given, or None. Of equal versions, the first. A str that\n"
+"is not a version is left out.\n"
 "\n"
 ">>> Range('>=1.1').min_satisfying([Version('1.0.0'), Version('2.0.0'), Version('1.5.0')])\n"
 "Version('1.5.0')");
@@ -113,6 +191,19 @@ PyDoc_STRVAR(least_beyond_doc,
 ">>> Range('^1.2.3 || ^2').least_beyond(Range('^1.2.3'))\n"
 "Version('2.0.0')\n"
 ">>> print(Range('1 - 2').least_beyond(Range('1 || 2')))\n"
+"None");
+
+PyDoc_STRVAR(least_common_doc,
+"least_common($self, other, /)\n"
+"--\n"
+"\n"
+"The least version that is in both ranges, or None if there is none. The least version of `self & other` may be a\n"
+"prerelease that one of the two refuses.\n"
+"\n"
+">>> one, other = Range('^2.0.0-rc.1'), Range('>=1.5')\n"
+">>> one.least_common(other), (one & other).min_version()\n"
+"(Version('2.0.0'), Version('2.0.0-rc.1'))\n"
+">>> print(Range('^1').least_common(Range('^2')))\n"
 "None");
 
 #endif

@@ -1,6 +1,6 @@
 /* SPDX-License-Identifier: Apache-2.0
  *
- * Texts of arguments and of prints, for both Version and Range.
+ * Arguments, texts and what else Version and Range share.
  */
 #include "native.h"
 
@@ -9,7 +9,7 @@ PyObject *printed(printer *print, const void *value, size_t place)
     char room[256];
     char *longer;
     PyObject *text;
-    size_t length = print(value, place, room, sizeof room);
+    size_t again, length = print(value, place, room, sizeof room);
     if (length == 0)
         return PyErr_NoMemory();
     if (length <= sizeof room)
@@ -17,12 +17,30 @@ PyObject *printed(printer *print, const void *value, size_t place)
     longer = PyMem_Malloc(length);
     if (longer == NULL)
         return PyErr_NoMemory();
-    if (print(value, place, longer, length) == length)
+    WHILE_OTHERS_RUN(length >= LONG, again = print(value, place, longer, length));
+    if (again == length)
         text = PyUnicode_FromStringAndSize(longer, (Py_ssize_t)length);
     else
         text = PyErr_NoMemory();
     PyMem_Free(longer);
     return text;
+}
+
+/* An iterator is read into a list first. While `tuple(iterable)` reads one, the tuple has empty places, and code that
+ * the iterator runs may find it through the garbage collector. */
+PyObject *items_of(PyObject *iterable, const char *name)
+{
+    PyObject *list, *items;
+    if (PyUnicode_Check(iterable))
+        return PyErr_Format(PyExc_TypeError, "%s, not a str", name);
+    if (PyTuple_CheckExact(iterable))
+        return Py_NewRef(iterable);
+    if (PyList_CheckExact(iterable))
+        return PyList_AsTuple(iterable);
+    list = PySequence_List(iterable);
+    items = list == NULL ? NULL : PyList_AsTuple(list);
+    Py_XDECREF(list);
+    return items;
 }
 
 const char *text_of(PyObject *value, const char *wanted, Py_ssize_t *length)
@@ -34,17 +52,19 @@ const char *text_of(PyObject *value, const char *wanted, Py_ssize_t *length)
     return PyUnicode_AsUTF8AndSize(value, length);
 }
 
-PyObject *only_argument(const char *name, PyObject *arguments, PyObject *keywords)
+PyObject *only_argument(const char *name, PyObject *arguments)
 {
-    if (keywords != NULL && PyDict_Size(keywords) != 0) {
-        PyErr_Format(PyExc_TypeError, "%s() takes no keyword arguments", name);
-        return NULL;
-    }
     if (PyTuple_Size(arguments) != 1) {
         PyErr_Format(PyExc_TypeError, "%s() takes exactly one argument (%zd given)", name, PyTuple_Size(arguments));
         return NULL;
     }
     return PyTuple_GetItem(arguments, 0);
+}
+
+int visit_value(PyObject *self, visitproc visit, void *arg)
+{
+    Py_VISIT(Py_TYPE(self));
+    return 0;
 }
 
 PyObject *same_object(PyObject *self, PyObject *ignored)
@@ -53,8 +73,7 @@ PyObject *same_object(PyObject *self, PyObject *ignored)
     return Py_NewRef(self);
 }
 
-/* Whether the text is read as a value equal to `self`: 1, 0, or -1 with an exception. A refusal counts as 0. */
-static int reads_back(PyObject *self, PyObject *text)
+int reads_back(PyObject *self, PyObject *text)
 {
     int same;
     PyObject *again = PyObject_CallFunction((PyObject *)Py_TYPE(self), "(O)", text);

@@ -8,52 +8,62 @@
 
 PyObject *new_version(PyTypeObject *type, node_semver_version handle)
 {
-    version_object *self = PyObject_New(version_object, type);
+    version_object *self = PyObject_GC_New(version_object, type);
     if (self == NULL) {
         node_semver_version_free(handle);
         return NULL;
     }
     self->handle = handle;
+    PyObject_GC_Track(self);
     return (PyObject *)self;
 }
 
-PyObject *read_version(native_state *state, PyObject *text)
+typedef node_semver_status version_parser(const char *, size_t, node_semver_version *, node_semver_fault *);
+
+int read_version(PyTypeObject *type, PyObject *text, bool is_strict, const char *wanted, node_semver_version *handle)
 {
-    node_semver_version handle = NODE_SEMVER_EMPTY;
     node_semver_fault fault = {0, 0, 0};
     node_semver_status status;
+    version_parser *parse = is_strict ? node_semver_version_parse_strict : node_semver_version_parse;
     Py_ssize_t length;
-    const char *start = text_of(text, "a version must be a str", &length);
+    const char *start = text_of(text, wanted, &length);
     if (start == NULL)
-        return NULL;
-    status = node_semver_version_parse(start, (size_t)length, &handle, &fault);
+        return -1;
+    WHILE_OTHERS_RUN(length >= LONG, status = parse(start, (size_t)length, handle, &fault));
     if (status == NODE_SEMVER_OK)
-        return new_version(state->version_type, handle);
-    raise_status(state, status, text, &fault);
-    return NULL;
+        return 0;
+    raise_status(type, status, text, &fault);
+    return -1;
 }
 
-PyObject *as_version(native_state *state, PyObject *item)
+/* The text and the choice of `Version(text, /, *, strict=False)`: 0, or -1 with an exception. */
+static int read_arguments(PyObject *arguments, PyObject *keywords, PyObject **text, int *is_strict)
 {
-    if (Py_TYPE(item) == state->version_type)
-        return Py_NewRef(item);
-    if (PyUnicode_Check(item))
-        return read_version(state, item);
-    raise_wrong_type("a version must be a Version or a str", item);
-    return NULL;
+    static char *names[] = {"", "strict", NULL};
+    if (keywords != NULL)
+        return PyArg_ParseTupleAndKeywords(arguments, keywords, "O|$p:Version", names, text, is_strict) ? 0 : -1;
+    *text = only_argument("Version", arguments);
+    return *text == NULL ? -1 : 0;
 }
 
 static PyObject *version_new(PyTypeObject *type, PyObject *arguments, PyObject *keywords)
 {
-    PyObject *text = only_argument("Version", arguments, keywords);
-    return text == NULL ? NULL : read_version(PyType_GetModuleState(type), text);
+    node_semver_version handle = NODE_SEMVER_EMPTY;
+    PyObject *text;
+    int is_strict = 0;
+    if (read_arguments(arguments, keywords, &text, &is_strict) != 0)
+        return NULL;
+    if (read_version(type, text, is_strict, "a version must be a str", &handle) != 0)
+        return NULL;
+    return new_version(type, handle);
 }
 
 static void version_dealloc(PyObject *self)
 {
     PyTypeObject *type = Py_TYPE(self);
+    PyObject_GC_UnTrack(self);
     node_semver_version_free(*VERSION_OF(self));
-    PyObject_Free(self);
+    PyObject_GC_Del(self);
     Py_DECREF(type);
 }
 
@@ -92,6 +102,40 @@ static PyObject *version_compare(PyObject *one, PyObject *other, int operation)
         Py_RETURN_NOTIMPLEMENTED;
     order = node_semver_version_compare(VERSION_OF(one), VERSION_OF(other));
     Py_RETURN_RICHCOMPARE(order, 0, operation);
+}
+
+/* Whether the argument of a method is a Version; sets a TypeError if not. */
+static int is_version(PyObject *self, PyObject *other)
+{
+    if (Py_TYPE(self) == Py_TYPE(other))
+        return 1;
+    raise_wrong_type("the other version must be a Version", other);
+    return 0;
+}
+
+static PyObject *version_compare_build(PyObject *self, PyObject *other)
+{
+    if (!is_version(self, other))
+        return NULL;
+    return PyLong_FromLong(node_semver_version_compare_build(VERSION_OF(self), VERSION_OF(other)));
+}
+
+/* The names of the bumps, which node_semver.h numbers from 1. */
+static const char *const BUMPS[] = {
+    NULL, "major", "premajor", "minor", "preminor", "patch", "prepatch", "prerelease",
+};
+
+static PyObject *version_diff(PyObject *self, PyObject *other)
+{
+    uint32_t bump;
+    if (!is_version(self, other))
+        return NULL;
+    bump = node_semver_version_diff(VERSION_OF(self), VERSION_OF(other));
+    if (bump == NODE_SEMVER_NO_BUMP)
+        Py_RETURN_NONE;
+    if (bump < sizeof BUMPS / sizeof *BUMPS)
+        return PyUnicode_FromString(BUMPS[bump]);
+    return PyErr_Format(PyExc_SystemError, "a bump of unknown kind %u", (unsigned)bump);
 }
 
 static PyObject *version_major(PyObject *self, void *ignored)
@@ -185,30 +229,7 @@ static PyObject *version_reduce(PyObject *self, PyObject *ignored)
     return reduced(self, version_str(self));
 }
 
-PyDoc_STRVAR(version_doc,
-"Version(text, /)\n"
-"--\n"
-"\n"
-"A version, read from a text in npm's loose form. It never changes.\n"
-"\n"
-">>> Version('v1.2.3-rc.4+build.5')\n"
-"Version('1.2.3-rc.4+build.5')\n"
-"\n"
-"Versions are ordered by SemVer 2.0.0, section 11. The build is neither compared nor hashed.\n"
-"\n"
-">>> Version('1.2.3-rc.4') < Version('1.2.3') == Version('1.2.3+build')\n"
-"True\n"
-">>> Version('1.10.0') > Version('1.9.0')\n"
-"True\n"
-"\n"
-"A text that is not a version raises SemverError.\n"
-"\n"
-">>> Version('1.2')\n"
-"Traceback (most recent call last):\n"
-"    ...\n"
-"node_semver.SemverError: Context at byte 3: a number or a dot is missing\n"
-"    1.2\n"
-"       ^");
+#include "version_docs.h"
 
 static PyGetSetDef version_fields[] = {
     {"major", version_major, NULL, "The first number.\n\n>>> Version('1.2.3').major\n1", NULL},
@@ -227,6 +248,8 @@ static PyGetSetDef version_fields[] = {
 };
 
 static PyMethodDef version_methods[] = {
+    {"diff", version_diff, METH_O, diff_doc},
+    {"compare_build", version_compare_build, METH_O, compare_build_doc},
     {"__copy__", same_object, METH_NOARGS, "__copy__($self, /)\n--\n\nThe version itself: it never changes."},
     {"__deepcopy__", same_object, METH_O, "__deepcopy__($self, memo, /)\n--\n\nThe version itself: it never changes."},
     {"__reduce__", version_reduce, METH_NOARGS,
@@ -238,6 +261,7 @@ static PyType_Slot version_slots[] = {
     {Py_tp_doc, (void *)version_doc},
     {Py_tp_new, version_new},
     {Py_tp_dealloc, version_dealloc},
+    {Py_tp_traverse, visit_value},
     {Py_tp_str, version_str},
     {Py_tp_repr, version_repr},
     {Py_tp_hash, version_hash},
@@ -248,5 +272,5 @@ static PyType_Slot version_slots[] = {
 };
 
 PyType_Spec version_spec = {
-    "node_semver.Version", sizeof(version_object), 0, Py_TPFLAGS_DEFAULT | Py_TPFLAGS_IMMUTABLETYPE, version_slots,
+    "node_semver.Version", sizeof(version_object), 0, VALUE_FLAGS, version_slots,
 };

@@ -18,7 +18,8 @@ def main(arguments: List[str]) -> int:
     result = unittest.TextTestRunner(sys.stdout).run(suite)
     for test, why in result.skipped:
         print(f"left out: {test}, since {why}")
-    failed = len({test.id() for test, _ in result.failures + result.errors})
+    # A part of a test, a subTest, counts as its test.
+    failed = len({getattr(test, "test_case", test).id() for test, _ in result.failures + result.errors})
     print(f"{result.testsRun - failed - len(result.skipped)} passed, {failed} failed")
     return 0 if result.wasSuccessful() and result.testsRun > 0 else 1
 

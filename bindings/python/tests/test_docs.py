@@ -52,7 +52,7 @@ class Docs(unittest.TestCase):
 
     def test_signatures(self) -> None:
         calls: List[Tuple[Callable[..., object], str]] = [
-            (Version, "(text, /)"),
+            (Version, "(text, /, *, strict=False)"),
             (Range, "(text, /)"),
             (satisfies, "(version, range, /)"),
             (Range.filter, "(self, versions, /)"),
@@ -60,6 +60,12 @@ class Docs(unittest.TestCase):
             (Range.min_satisfying, "(self, versions, /)"),
             (Range.min_version, "(self, /)"),
             (Range.least_beyond, "(self, other, /)"),
+            (Range.least_common, "(self, other, /)"),
+            (Range.contains, "(self, version, /)"),
+            (Range.from_sets, "(sets, /)"),
+            (Range.parse_npm, "(text, /, *, loose=False, include_prerelease=False)"),
+            (Version.compare_build, "(self, other, /)"),
+            (Version.diff, "(self, other, /)"),
         ]
         for call, wanted in calls:
             self.assertEqual(str(inspect.signature(call)), wanted)

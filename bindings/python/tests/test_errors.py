@@ -44,7 +44,7 @@ class Errors(unittest.TestCase):
         for read, text, line in [
             (Version, "1" * 257, "MaxLengthError at byte 256: a version has at most 256 bytes"),
             (Version, "1.2", "Context at byte 3: a number or a dot is missing"),
-            (Version, "1.2.3 ", "Other at byte 5: the version ends here, and the text does not"),
+            (Version, "1.2.3 ", "Other at byte 5: what begins here is no part of a version"),
             (Version, "1.9007199254740992.", "MaxIntError at byte 2: a number is above 9007199254740991"),
             (Version, "18446744073709551616", "ParseIntError at byte 0: a number is above 18446744073709551615"),
             (Range, "latest next", "NoValidRanges at byte 0: no alternative is a range that a version can be in"),

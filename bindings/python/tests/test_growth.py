@@ -30,24 +30,32 @@ def refused(read: Callable[[], object]) -> None:
 
 VERSION, WANTED, OTHER = Version("1.2.3-rc.4+b"), Range("^1.2.3-rc.4 || >=3"), Range("<3.1.0")
 ASKED: List[Union[Version, str]] = [VERSION, "3.2.1-rc.4"]
-LONGEST = Version("1.2.3" + "a" * 251)
+EVERY = Range.parse_npm("*")
+LONGEST, SETS = Version("1.2.3" + "a" * 251), WANTED.sets
 
 WORKS: List[Callable[[], object]] = [
     lambda: Version("1.2.3-rc.4.some-long-identifier+build"),
     lambda: str(Version("1.2.3-rc.4")),
     lambda: repr(VERSION),
+    lambda: Version("1.2.3-rc.4", strict=True),
+    lambda: refused(lambda: Version("v1.2.3", strict=True)),
     lambda: (VERSION.prerelease, VERSION.build, VERSION.major),
     lambda: (hash(VERSION), hash(WANTED)),
     lambda: str(LONGEST),
     lambda: Range("^1.2.3-rc.4 || >=3 || 1 - 2 || foo"),
     lambda: str(Range("^1.2.3-rc.4 || >=3 || 1 - 2")),
+    lambda: Range.parse_npm("^1.2.3-rc.4 || >=3 next", loose=True, include_prerelease=True),
+    lambda: refused(lambda: Range.parse_npm("^1 next")),
+    lambda: pickle.loads(pickle.dumps(EVERY)),
     lambda: "1.2.3-rc.5" in WANTED,
     lambda: VERSION in WANTED,
     lambda: satisfies("1.2.3-rc.5", "^1.2.3-rc.4"),
     lambda: (WANTED & OTHER, WANTED - OTHER, WANTED | OTHER),
     lambda: (WANTED == OTHER, VERSION < LONGEST),
     lambda: (WANTED.allows_any(OTHER), WANTED.allows_all(OTHER)),
-    lambda: (WANTED.min_version(), WANTED.least_beyond(OTHER)),
+    lambda: (WANTED.min_version(), WANTED.least_beyond(OTHER), WANTED.least_common(OTHER)),
+    lambda: (WANTED.contains(VERSION), WANTED.contains("1.2.4-rc.4")),
+    lambda: (VERSION.compare_build(LONGEST), VERSION.diff(LONGEST)),
     lambda: WANTED.filter(ASKED),
     lambda: WANTED.max_satisfying(ASKED),
     lambda: WANTED.min_satisfying(ASKED),
@@ -56,7 +64,16 @@ WORKS: List[Callable[[], object]] = [
     lambda: refused(lambda: pickle.dumps(LONGEST)),
     lambda: refused(lambda: Version("1.2")),
     lambda: refused(lambda: Range("latest")),
-    lambda: refused(lambda: WANTED.filter(ASKED + ["no version"])),
+    lambda: WANTED.filter(ASKED + ["no version", "\ud800"]),
+    lambda: WANTED.max_satisfying([*ASKED, "no version", "\ud800"]),
+    lambda: WANTED.sets,
+    lambda: Range.from_sets(SETS),
+    lambda: Range.from_sets([(("before", "1.2.3-rc.4"), ("end", None))]),
+    lambda: refused(lambda: Range.from_sets([SETS[0], (("before", VERSION), ("before", "1.0.0"))])),
+    lambda: refused(lambda: Range.from_sets([SETS[0], (("none", None), SETS[0][1])])),  # type: ignore[list-item]
+    lambda: refused(lambda: "no version" in WANTED),
+    lambda: refused(lambda: WANTED.contains("no version")),
+    lambda: refused(lambda: WANTED.filter([*ASKED, 1])),  # type: ignore[type-var]
     lambda: refused(lambda: WANTED.max_satisfying([*ASKED, 1])),  # type: ignore[type-var]
     lambda: refused(lambda: WANTED & VERSION),  # type: ignore[operator]
     lambda: refused(lambda: WANTED.allows_any(VERSION)),  # type: ignore[arg-type]
@@ -90,7 +107,8 @@ class Growth(unittest.TestCase):
             with self.subTest(line=work.__code__.co_firstlineno):
                 calls = CALLS // len(WORKS) + 1
                 memory, blocks = self.growth(work, calls)
-                if memory >= ROOM:  # what Python itself keeps comes once, and what a call keeps comes each time
+                # What Python itself keeps comes once, and what a call keeps comes each time.
+                if memory >= ROOM or blocks >= calls // 100:
                     memory, blocks = self.growth(work, calls)
                 self.assertLess(memory, ROOM)
                 self.assertLess(blocks, calls // 100)

@@ -4,6 +4,7 @@
 import contextlib
 import importlib.util
 import io
+import itertools
 import json
 import os
 import shutil
@@ -11,6 +12,8 @@ import subprocess
 import tempfile
 import unittest
 from typing import Any, Dict, List, Optional, Tuple
+
+from node_semver import Range
 
 EXAMPLES = os.path.join(os.path.dirname(os.path.dirname(os.path.abspath(__file__))), "examples")
 SPEC = importlib.util.spec_from_file_location("installed", os.path.join(EXAMPLES, "installed.py"))
@@ -73,6 +76,19 @@ def npm_folder() -> Optional[str]:
     return folder if os.path.exists(os.path.join(folder, "node_modules", "semver")) else None
 
 
+# The same with two of npm's options, which the third part of a triple has.
+NODE_PROGRAM_WITH_OPTIONS = """
+const semver = require(process.argv[1] + '/node_modules/semver');
+const rows = JSON.parse(require('fs').readFileSync(0, 'utf8'));
+const answers = rows.map(([range, version, options]) => semver.satisfies(version, range, options));
+process.stdout.write(JSON.stringify(answers));
+"""
+
+# What packages ask of Node, and versions of Node that end a range or are a prerelease.
+ENGINES = ["", "*", ">=18", "<=20", "^18.17.0 || >=20.5.0", "14 || >=16.10", ">= 0.8", "^1 ||", "18.x.3", ">20 <18"]
+NODES = ["16.0.0-rc.1", "16.10.0", "18.0.0-rc.1", "18.17.0", "20.0.0", "20.5.0", "20.5.1-a", "21.0.0-0", "22.1.0"]
+
+
 class Installed(unittest.TestCase):
     def test_a_made_up_folder(self) -> None:
         with tempfile.TemporaryDirectory() as room:
@@ -117,6 +133,29 @@ class Installed(unittest.TestCase):
         )
         ours = [installed.is_satisfied(installed.range_of(asked), version) for asked, version in pairs]
         differing = [pair for pair, one, other in zip(pairs, ours, json.loads(done.stdout)) if one != other]
+        self.assertEqual(differing, [])
+        self.assertTrue(0 < sum(ours) < len(ours))
+
+    def test_npms_own_reading(self) -> None:
+        folder = npm_folder()
+        if folder is None:
+            self.skipTest("there is no npm beside Node")
+        pairs = self.pairs_of(folder) + [(asked, version) for asked in ENGINES for version in NODES]
+        rows = [
+            (asked, version, {"loose": loose, "includePrerelease": included})
+            for loose, included in itertools.product([False, True], repeat=2)
+            for asked, version in pairs
+        ]
+        done = subprocess.run(
+            ["node", "-e", NODE_PROGRAM_WITH_OPTIONS, folder],
+            input=json.dumps(rows), capture_output=True, text=True, check=True,
+        )  # fmt: skip
+        ours = []
+        for asked, version, options in rows:
+            included = options["includePrerelease"]
+            wanted = Range.parse_npm(asked, loose=options["loose"], include_prerelease=included)
+            ours.append(wanted.contains(version) if included else version in wanted)
+        differing = [row for row, one, other in zip(rows, ours, json.loads(done.stdout)) if one != other]
         self.assertEqual(differing, [])
         self.assertTrue(0 < sum(ours) < len(ours))
 

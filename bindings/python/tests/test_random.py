@@ -16,6 +16,12 @@ SEED = int(os.environ.get("NODE_SEMVER_SEED", "20261124"))
 TEXTS = 50_000  # of versions, and as many of ranges
 MAX_NUMBER = 9007199254740991
 
+# A version text as SemVer 2.0.0 has it.
+NUMBER, PRERELEASE = r"(?:0|[1-9][0-9]*)", r"(?:0|[1-9][0-9]*|[0-9]*[A-Za-z-][0-9A-Za-z-]*)"
+STRICT = re.compile(
+    rf"{NUMBER}\.{NUMBER}\.{NUMBER}(?:-{PRERELEASE}(?:\.{PRERELEASE})*)?(?:\+[0-9A-Za-z-]+(?:\.[0-9A-Za-z-]+)*)?"
+)
+
 # A version text as docs/GRAMMAR.md has it. A prerelease without `-` begins with a letter.
 IDENTIFIERS = r"[0-9A-Za-z-]+(?:\.[0-9A-Za-z-]+)*"
 VERSION = re.compile(
@@ -55,6 +61,7 @@ class RandomTexts(unittest.TestCase):
         match = VERSION.fullmatch(text)
         triple = None if match is None else tuple(int(number) for number in match.groups()[:3])
         is_version = triple is not None and len(text) <= 256 and max(triple) <= MAX_NUMBER
+        self.check_strict(text, is_version)
         try:
             version = Version(text)
         except (SemverError, UnicodeEncodeError) as error:
@@ -67,8 +74,18 @@ class RandomTexts(unittest.TestCase):
         self.assertEqual(version.prerelease, identifiers_of(match[4] or match[5]))
         self.assertEqual(version.build, identifiers_of(match[6]))
         again = Version(str(version))
+        self.assertEqual(version.compare_build(again), 0)
         self.assertEqual((again, hash(again), str(again)), (version, hash(version), str(version)))
         return version
+
+    def check_strict(self, text: str, is_version: bool) -> None:
+        is_strict = is_version and STRICT.fullmatch(text) is not None
+        try:
+            self.assertEqual(Version(text, strict=True), Version(text))
+        except (SemverError, UnicodeEncodeError) as error:
+            self.assertFalse(is_strict, error)
+            return
+        self.assertTrue(is_strict)
 
     def check_range(self, text: str) -> Optional[Range]:
         try:
@@ -83,13 +100,15 @@ class RandomTexts(unittest.TestCase):
 
     def check_pair(self, one: Range, other: Range, versions: List[Version]) -> None:
         both, either, rest = one & other, one | other, one - other
-        least, beyond = one.min_version(), one.least_beyond(other)
+        least, beyond, common = one.min_version(), one.least_beyond(other), one.least_common(other)
         self.assertEqual(one.allows_any(other), both is not None)
         self.assertEqual(other.allows_all(one), rest is None)
         if least is not None:
             self.assertTrue(least in one)
         if beyond is not None:
             self.assertTrue(beyond in one and beyond not in other)
+        if common is not None:
+            self.assertTrue(common in one and common in other)
         inside = one.filter(versions)
         for version in inside:
             self.assertFalse(least is None or version < least)
@@ -98,9 +117,16 @@ class RandomTexts(unittest.TestCase):
             self.assertEqual(version in either, version in one or version in other)
             if version in one and version not in other:
                 self.assertFalse(beyond is None or version < beyond)
+            if version in one and version in other:
+                self.assertFalse(common is None or version < common)
+            self.assertTrue(one.contains(version) or version not in one)
+            if both is not None:
+                self.assertEqual(both.contains(version), one.contains(version) and other.contains(version))
             if not version.is_prerelease:
+                self.assertEqual(one.contains(version), version in one)
                 self.assertEqual(both is not None and version in both, version in one and version in other)
                 self.assertEqual(rest is not None and version in rest, version in one and version not in other)
+        self.assertEqual((Range.from_sets(one.sets), str(Range.from_sets(one.sets))), (one, str(one)))
         self.assertEqual(one.max_satisfying(versions), max(inside, default=None))
         self.assertEqual(one.min_satisfying(versions), min(inside, default=None))
 

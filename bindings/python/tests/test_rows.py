@@ -1,9 +1,10 @@
 # SPDX-License-Identifier: Apache-2.0
 """Worked rows: the values are those of docs/GRAMMAR.md, of SemVer 2.0.0 and of npm's documentation."""
 
+import functools
 import itertools
 import unittest
-from typing import Callable, List, Optional, Tuple
+from typing import Callable, Dict, List, Optional, Tuple
 
 from node_semver import Range, SemverError, Version, satisfies
 
@@ -42,6 +43,13 @@ REFUSED_VERSIONS = [
     ("1.2.3-\u0161", "Other", 5, None),
     ("1.2.3\0", "Other", 5, None),
 ]
+
+# A text that is a version, but not by the grammar of SemVer 2.0.0; where it is not.
+NOT_STRICT = [
+    ("v1.2.3", 0), ("V1.2.3", 0), ("v 1.2.3", 0), ("01.2.3", 0), ("00.2.3", 0), ("1.02.3", 2), ("1.2.03", 4),
+    ("1.2.3a", 4), ("1.2.3-01", 6), ("1.2.3-a.01+b", 8), ("1.2.3-a.00", 8),
+]  # fmt: skip
+STRICT = ["1.2.3", "0.0.0", "1.2.3-a.1+01", "1.2.3-0a", "1.2.3--", "1.2.3-0", "1.2.3+a-b.007", "1.2.9007199254740991"]
 
 RANGE_PRINTS = [
     ("^1.2.3-rc.4 || >=3", ">=1.2.3-rc.4 <2.0.0-0||>=3.0.0"),
@@ -97,6 +105,24 @@ class Rows(unittest.TestCase):
                     Version(text)
                 self.assertEqual(fault(caught.exception), tuple(wanted))
                 self.assertEqual(caught.exception.text, text)
+
+    def test_reads_strict_versions(self) -> None:
+        for text in STRICT:
+            version = Version(text, strict=True)
+            self.assertEqual((version, str(version)), (Version(text), text.replace("+01", "+1").replace(".007", ".7")))
+        for text, offset in NOT_STRICT:
+            with self.subTest(text):
+                self.assertEqual(Version(text, strict=False), Version(text))
+                with self.assertRaises(SemverError) as caught:
+                    Version(text, strict=True)
+                self.assertEqual((caught.exception.text, fault(caught.exception)), (text, ("Other", offset, None)))
+
+    def test_refuses_in_strict_form_what_is_no_version(self) -> None:
+        for text, *wanted in REFUSED_VERSIONS:
+            with self.subTest(text):
+                with self.assertRaises(SemverError) as caught:
+                    Version(text, strict=True)
+                self.assertEqual(fault(caught.exception), tuple(wanted))
 
     def test_refuses_what_is_no_utf_8(self) -> None:
         reads: List[Callable[[str], object]] = [Version, Range]
@@ -170,6 +196,84 @@ class Rows(unittest.TestCase):
         self.assertEqual(str(Range("^1.2.3-rc.4").least_beyond(Range(">=1.0.0-0"))), "1.2.3-rc.4")
         self.assertIsNone(Range("1 - 2").least_beyond(Range("1 || 2")))
 
+    def test_least_common_versions(self) -> None:
+        rows = [
+            ("^2.0.0-rc.1", ">=1.5", "2.0.0"),
+            ("^1.2.3-rc.4", ">=1.2.3-rc.2 <1.2.3", "1.2.3-rc.4"),
+            (">1.0.0-a <1.0.0-b", ">=1.0.0-a.0 <2", "1.0.0-a.0"),
+            ("1 - 2", "3", "None"),
+            (">=1.0.0-a <1.0.0", ">=0.9", "None"),
+            ("^1.2 || ^3", "^2 || 3.1.0+b", "3.1.0"),
+        ]
+        for one, other, wanted in rows:
+            with self.subTest(one=one, other=other):
+                self.assertEqual(str(Range(one).least_common(Range(other))), wanted)
+                self.assertEqual(str(Range(other).least_common(Range(one))), wanted)
+
+    def test_versions_inside_a_set(self) -> None:
+        for text, version, is_inside, is_member in [
+            ("^1.2.3-rc.4", "1.2.4-rc.6", True, False),
+            ("^1.2.3-rc.4", "1.2.3-rc.3", False, False),
+            ("^1.2.3-rc.4", "1.2.3-rc.5", True, True),
+            ("^1.2.3", "2.0.0-0", False, False),
+            ("^1.2.3", "1.9.0", True, True),
+            (">=18", "18.0.0-rc.1", False, False),
+            ("<2 || >=3", "2.0.0-a", True, False),
+            ("<2 || >=3", "2.0.1-a", False, False),
+            ("<2 || >=3", "3.1.0-a", True, False),
+        ]:
+            with self.subTest(range=text, version=version):
+                self.assertIs(Range(text).contains(version), is_inside)
+                self.assertIs(Range(text).contains(Version(version)), is_inside)
+                self.assertIs(version in Range(text), is_member)
+        with self.assertRaises(SemverError):
+            Range("*").contains("1.2")
+
+    def test_order_with_builds(self) -> None:
+        texts = ["1.2.3-a+z", "1.2.3", "1.2.3+0", "1.2.3+2", "1.2.3+10", "1.2.3+10.0", "1.2.3+a", "1.2.3+b", "1.2.4"]
+        versions = [Version(text) for text in texts]
+        for (i, one), (j, other) in itertools.product(enumerate(versions), repeat=2):
+            self.assertEqual(one.compare_build(other), (i > j) - (i < j), (one, other))
+        key = functools.cmp_to_key(Version.compare_build)
+        self.assertEqual([str(version) for version in sorted(versions[::-1], key=key)], texts)
+
+    def test_npms_own_reading(self) -> None:
+        # A text, its options, versions that the range contains, and versions that it does not.
+        rows: List[Tuple[str, Dict[str, bool], List[str], List[str]]] = [
+            ("<=20", {}, ["20.5.0", "0.0.0"], ["21.0.0", "21.0.0-0"]),
+            ("", {}, ["0.0.0", "9.9.9"], []),
+            ("^1 ||", {}, ["1.2.3", "3.0.0"], []),
+            ("1.x.3", {}, ["1.9.0"], ["2.0.0"]),
+            (">4 <3", {}, [], ["3.5.0", "5.0.0", "2.0.0"]),
+            (">=18", {}, ["18.0.0", "19.0.0-rc.1"], ["18.0.0-rc.1", "17.9.9"]),
+            (">=18", {"include_prerelease": True}, ["18.0.0-rc.1", "18.0.0"], ["17.9.9"]),
+            ("^1 next", {"loose": True}, ["1.2.3"], ["2.0.0"]),
+            ("\t>=1.2.3\n<2 ", {"loose": False}, ["1.2.3"], ["2.0.0"]),
+        ]
+        for text, options, inside, outside in rows:
+            with self.subTest(text, **options):
+                wanted = Range.parse_npm(text, **options)
+                self.assertEqual([v for v in inside + outside if wanted.contains(v)], inside)
+        for text, loose in [("^1 next", False), ("latest", True), ("9007199254740992", True), ("1.2.3.4", False)]:
+            with self.assertRaises(SemverError) as caught:
+                Range.parse_npm(text, loose=loose)
+            self.assertEqual((caught.exception.text, fault(caught.exception)), (text, ("NoValidRanges", 0, None)))
+        with self.assertRaises(UnicodeEncodeError):
+            Range.parse_npm("\ud800")
+
+    def test_bumps(self) -> None:
+        # What npm's README says of `diff`, and its names.
+        for one, other, wanted in [
+            ("1.2.3", "2.0.0", "major"), ("1.2.3", "2.0.0-rc.1", "premajor"), ("1.2.3", "1.3.0", "minor"),
+            ("1.2.3", "1.3.0-rc.1", "preminor"), ("1.2.3", "1.2.4", "patch"), ("1.2.3", "1.2.4-rc.1", "prepatch"),
+            ("1.2.3-rc.1", "1.2.3-rc.2", "prerelease"), ("1.0.0-rc.1", "1.0.0", "major"),
+            ("1.2.0-rc.1", "1.2.0", "minor"), ("1.2.3-rc.1", "1.2.3", "patch"),
+            ("1.2.3", "1.2.3", None), ("1.2.3+a", "1.2.3+b", None), ("1.2.3-rc.1+a", "1.2.3-rc.1", None),
+        ]:  # fmt: skip
+            with self.subTest(one=one, other=other):
+                self.assertEqual(Version(one).diff(Version(other)), wanted)
+                self.assertEqual(Version(other).diff(Version(one)), wanted)
+
     def test_chooses_versions(self) -> None:
         texts = ["2.0.0", "1.2.3+a", "1.0.0", "1.0.0+b", "1.2.3+b", "1.3.0-rc.1"]
         versions = [Version(text) for text in texts]
@@ -182,9 +286,27 @@ class Rows(unittest.TestCase):
         for choose in (wanted.max_satisfying, wanted.min_satisfying):
             self.assertIsNone(choose([]))
             self.assertIsNone(choose(["2.0.0", "0.1.0", "1.3.0-rc.1"]))
-            with self.assertRaises(SemverError):
-                choose(["1.0.0", "latest"])
         self.assertEqual(wanted.filter([]), [])
+
+    def test_leaves_out_texts_that_are_no_versions(self) -> None:
+        texts = ["latest", "1.2", "", "\ud800", "1.5.0", "v1.2.3 ", "1" * 300, "1.0.0", "1.2.9007199254740992"]
+        wanted = Range("^1")
+        self.assertEqual(wanted.filter(texts), ["1.5.0", "1.0.0"])
+        self.assertEqual((wanted.max_satisfying(texts), wanted.min_satisfying(texts)), ("1.5.0", "1.0.0"))
+        for choose in (wanted.max_satisfying, wanted.min_satisfying):
+            self.assertIsNone(choose(["latest"]))
+            self.assertIsNone(choose(["latest", "\ud800", "2.0.0"]))
+        self.assertEqual(wanted.filter(["latest", "\ud800"]), [])
+        with self.assertRaises(SemverError):
+            wanted.__contains__("latest")
+        with self.assertRaises(SemverError):
+            satisfies("latest", "^1")
+
+    def test_an_intersection_may_admit_what_one_range_refuses(self) -> None:
+        one, other = Range("^2.0.0-rc.1"), Range(">=1.5")
+        both = one & other
+        assert both is not None
+        self.assertEqual(("2.0.0-rc.4" in one, "2.0.0-rc.4" in other, "2.0.0-rc.4" in both), (True, False, True))
 
     def test_a_pair_of_texts(self) -> None:
         for version, range_, text, kind in [("1.2", "^1", "1.2", "Context"), ("1.2", "foo", "foo", "NoValidRanges")]:

@@ -1,12 +1,14 @@
 # SPDX-License-Identifier: Apache-2.0
 """Values that many threads read, make and free at once."""
 
+import importlib
 import sys
 import threading
+import time
 import unittest
-from typing import Callable, List
+from typing import Any, Callable, List, Tuple
 
-from node_semver import Range, SemverError, Version
+from node_semver import Range, SemverError, Version, satisfies
 
 THREADS = 8
 ROUNDS = 2000
@@ -32,7 +34,132 @@ def run_in_threads(work: Callable[[], None]) -> List[BaseException]:
     return errors
 
 
+def longest_wait(work: Callable[[], object]) -> float:
+    """The longest time for which another thread waits during a call, as a part of the time of the call."""
+    begun, ends = threading.Event(), []
+
+    def run() -> None:
+        ends.append(time.perf_counter())
+        begun.set()
+        work()
+        ends.append(time.perf_counter())
+
+    thread = threading.Thread(target=run)
+    thread.start()
+    begun.wait()
+    turns = []
+    while thread.is_alive():
+        time.sleep(0.001)
+        turns.append(time.perf_counter())
+    start, end = ends
+    times = [start, *(turn for turn in turns if start < turn < end), end]
+    return max(later - earlier for earlier, later in zip(times, times[1:])) / (end - start)
+
+
+def long_call(work: Callable[[int], Callable[[], object]], size: int) -> Callable[[], object]:
+    """The call of a size at which it takes a tenth of a second or more."""
+    while True:
+        call = work(size)
+        start = time.perf_counter()
+        call()
+        if time.perf_counter() - start > 0.1:
+            return call
+        size *= 2
+
+
+def of_overlapping_ranges(size: int) -> Callable[[], object]:
+    """Each of the sets of one range has a set in common with each of the other."""
+    one = Range("||".join(f">={n}.0.0" for n in range(size)))
+    return lambda: one & one
+
+
+def of_pieces(size: int) -> Callable[[], object]:
+    """Each set of one range is cut into pieces by all sets of the other."""
+    one = Range("||".join(f">={n}.0.0" for n in range(size)))
+    other = Range("||".join(f"{size + n}.1.0" for n in range(size)))
+    return lambda: one - other
+
+
+def of_a_search(size: int) -> Callable[[], object]:
+    one = Range("||".join(f">=1.0.0-a.{n} <1.0.0" for n in range(size)))
+    return lambda: one.least_beyond(one)
+
+
+def of_a_common_search(size: int) -> Callable[[], object]:
+    one = Range("||".join(f">=1.0.0-a.{n} <1.0.0" for n in range(size)))
+    other = Range("||".join(f">=1.0.{n + 1}-a.{n} <1.0.{n + 2}" for n in range(size)))
+    return lambda: one.least_common(other)
+
+
+def of_a_question(size: int) -> Callable[[], object]:
+    one = Range("||".join(f">=1.0.{7919 * n % size}-a <1.0.{7919 * n % size}-b" for n in range(size)))
+    other = Range("||".join(f">=1.0.{104729 * n % size}-b <1.0.{104729 * n % size}-c" for n in range(size)))
+    return lambda: one.allows_any(other)
+
+
+def of_a_list(size: int) -> Callable[[], object]:
+    versions, wanted = [f"1.{n}.0-rc.{n}" for n in range(size)], Range(">=1.0.0-0")
+    return lambda: wanted.max_satisfying(versions)
+
+
+def of_a_filter(size: int) -> Callable[[], object]:
+    versions, wanted = [f"1.{n}.0-rc.{n}" for n in range(size)], Range(">3")
+    return lambda: wanted.filter(versions)
+
+
+def of_a_text(size: int) -> Callable[[], object]:
+    text = "||".join(["^1.2.3-rc.4"] * size)
+    return lambda: Range(text)
+
+
+def of_a_long_version(size: int) -> Callable[[], object]:
+    text = "1" * size
+
+    def read() -> None:
+        try:
+            Version(text)
+        except SemverError:
+            return
+        raise AssertionError("it was read")
+
+    return read
+
+
+def of_npms_reading(size: int) -> Callable[[], object]:
+    text = "||".join(["^1.2.3-rc.4"] * size)
+    return lambda: Range.parse_npm(text)
+
+
+def of_a_pair(size: int) -> Callable[[], object]:
+    text = "||".join(["^1.2.3-rc.4"] * size)
+    return lambda: satisfies("2.0.0", text)
+
+
+def interpreter_calls() -> Tuple[Any, Any, Any]:
+    """What creates an interpreter that shares our lock, runs a text in it and ends it, or None three times."""
+    for name in ("_interpreters", "_xxsubinterpreters"):
+        try:
+            module = importlib.import_module(name)
+        except ImportError:
+            continue
+        words: Any = {"config": "legacy"} if name == "_interpreters" else {"isolated": False}
+        return lambda: module.create(**words), module.run_string, module.destroy
+    return None, None, None
+
+
 class Threads(unittest.TestCase):
+    def test_run_during_long_calls(self) -> None:
+        for work, size in [
+            (of_overlapping_ranges, 200), (of_pieces, 200), (of_a_search, 20_000),
+            (of_a_common_search, 20_000), (of_a_question, 100_000),
+            (of_a_list, 200_000), (of_a_filter, 200_000), (of_a_text, 100_000), (of_a_pair, 100_000),
+            (of_npms_reading, 100_000), (of_a_long_version, 100_000_000),
+        ]:  # fmt: skip
+            with self.subTest(work.__name__):
+                call = long_call(work, size)
+                # A machine with other work may keep a thread waiting too, but not each time.
+                self.assertLess(min(longest_wait(call) for _ in range(5)), 0.5)
+
     def test_read_one_value(self) -> None:
         wanted, version, other = Range("^1.2.3-rc.4 || >=3"), Version("1.2.3-rc.5"), Range(">=1.5")
 
@@ -44,6 +171,12 @@ class Threads(unittest.TestCase):
                 assert wanted.max_satisfying([version, version]) is version
 
         self.assertEqual(run_in_threads(work), [])
+
+    def test_print_one_range(self) -> None:
+        for _ in range(10):
+            wanted, prints = Range("||".join(f">={n}.0.0" for n in range(5000))), []
+            self.assertEqual(run_in_threads(lambda: prints.append(str(wanted))), [])
+            self.assertEqual({id(text) for text in prints}, {id(str(wanted))})
 
     def test_make_and_free_values(self) -> None:
         shared: List[object] = [None] * 16
@@ -60,15 +193,14 @@ class Threads(unittest.TestCase):
         self.assertEqual(run_in_threads(work), [])
 
     def test_interpreters_have_types_of_their_own(self) -> None:
-        try:
-            import _xxsubinterpreters as interpreters  # type: ignore[import]
-        except ImportError:
+        create, run, destroy = interpreter_calls()
+        if create is None:
             self.skipTest("this Python has no module of interpreters")
         program = "import sys; sys.path[:] = {!r}; import node_semver as n; assert '1.5.0' in n.Range('^1')"
         for _ in range(3):
-            other = interpreters.create()
-            interpreters.run_string(other, program.format(sys.path))
-            interpreters.destroy(other)
+            other = create()
+            self.assertIsNone(run(other, program.format(sys.path)))
+            destroy(other)
         self.assertTrue("1.5.0" in Range("^1"))
 
 

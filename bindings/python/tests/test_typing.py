@@ -58,13 +58,15 @@ class Typing(unittest.TestCase):
         # mypy 1.0 takes an alias of several literals for a Union, which it is not when it runs.
         with tempfile.NamedTemporaryFile("w", suffix=".txt") as file:
             file.write("node_semver.FaultKind\nnode_semver._error.FaultKind\n")
+            file.write("node_semver.CutKind\nnode_semver._types.CutKind\n")
+            file.write("node_semver.Bump\nnode_semver._types.Bump\n")
             file.flush()
             self.accepts("mypy.stubtest", "node_semver", "--allowlist", file.name, "--ignore-unused-allowlist")
 
     def test_the_tests_and_the_example(self) -> None:
         example = os.path.join(os.path.dirname(HERE), "examples", "installed.py")
         files = [os.path.join(HERE, name) for name in sorted(os.listdir(HERE)) if name.endswith(".py")]
-        files += [os.path.join(HERE, "refused", "test_refused.py")]
+        files += [os.path.join(HERE, "refused", "test_refused.py"), os.path.join(HERE, "setup", "test_setup.py")]
         self.accepts("mypy", "--strict", example, *files)
 
 

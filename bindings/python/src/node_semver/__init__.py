@@ -12,5 +12,7 @@ True
 
 from ._error import FaultKind, SemverError
 from ._native import Range, Version, satisfies
+from ._types import Bump, Cut, CutKind
 
-__all__ = ["FaultKind", "Range", "SemverError", "Version", "satisfies"]
+__all__ = ["Bump", "Cut", "CutKind", "FaultKind", "Range", "SemverError", "Version", "satisfies"]
+__version__ = "1.0.0"

@@ -13,7 +13,7 @@ _REASONS = {
     "MaxIntError": "a number is above 9007199254740991",
     "Context": "a number or a dot is missing",
     "NoValidRanges": "no alternative is a range that a version can be in",
-    "Other": "the version ends here, and the text does not",
+    "Other": "what begins here is no part of a version",
 }
 
 # How many characters of a long text the message shows on each side of the fault.
@@ -30,7 +30,7 @@ class SemverError(ValueError):
     ... except SemverError as error:
     ...     print(error)
     ...     print(error.kind, error.offset, error.number)
-    Other at byte 5: the version ends here, and the text does not
+    Other at byte 5: what begins here is no part of a version
         1.2.3 beta
              ^
     Other 5 None

@@ -70,11 +70,17 @@ void __wrap_free(void *block)
     __real_free(block);
 }
 
-/* PyMem_Malloc sets no exception. */
+/* PyMem_Malloc and PyMem_Calloc set no exception. */
 void *__real_PyMem_Malloc(size_t size);
 void *__wrap_PyMem_Malloc(size_t size)
 {
     return refuses() ? NULL : __real_PyMem_Malloc(size);
+}
+
+void *__real_PyMem_Calloc(size_t count, size_t size);
+void *__wrap_PyMem_Calloc(size_t count, size_t size)
+{
+    return refuses() ? NULL : __real_PyMem_Calloc(count, size);
 }
 
 /* A function of Python that sets an exception where it fails. */
@@ -85,11 +91,13 @@ void *__wrap_PyMem_Malloc(size_t size)
         return refuses() ? PyErr_NoMemory() : __real_##name arguments; \
     }
 
-WRAPPED(PyObject *, _PyObject_New, (PyTypeObject * type), (type))
+WRAPPED(PyObject *, _PyObject_GC_New, (PyTypeObject * type), (type))
 WRAPPED(PyObject *, PyUnicode_FromStringAndSize, (const char *text, Py_ssize_t size), (text, size))
+WRAPPED(PyObject *, PyUnicode_FromString, (const char *text), (text))
 WRAPPED(PyObject *, PyTuple_New, (Py_ssize_t size), (size))
 WRAPPED(PyObject *, PyList_New, (Py_ssize_t size), (size))
-WRAPPED(PyObject *, PySequence_Tuple, (PyObject * items), (items))
+WRAPPED(PyObject *, PyList_AsTuple, (PyObject * list), (list))
+WRAPPED(PyObject *, PySequence_List, (PyObject * items), (items))
 WRAPPED(PyObject *, PyLong_FromUnsignedLongLong, (unsigned long long number), (number))
 WRAPPED(PyObject *, PyLong_FromString, (const char *text, char **end, int base), (text, end, base))
 

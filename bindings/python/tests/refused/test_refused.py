@@ -23,6 +23,7 @@ NATIVE.blocks_kept.restype = ctypes.c_long
 LONG = "1.2.3-" + ".".join("a" * 20 for _ in range(11))  # its print needs more than the room of a short one
 VERSION, WANTED, OTHER = Version("1.2.3-rc.4+b.18446744073709551616"), Range("^1.2.3-rc.4 || >=3"), Range("<3.1.0-a.b")
 ASKED: List[Union[Version, str]] = [VERSION, "3.2.1-rc.4", "3.2.1"]
+SETS, EVERY = WANTED.sets, Range.parse_npm("*")
 LONGEST, MANY = Version("1.2.3" + "a" * 251), "||".join(f"^{n}.2.3-rc.{n}" for n in range(40))
 
 
@@ -38,6 +39,9 @@ def refused(read: Callable[[], object]) -> object:
 CALLS: List[Tuple[Callable[[], object], int]] = [
     (lambda: Version("1.2.3"), 2),
     (lambda: Version("1.2.3-rc.4.some-identifier+build.5"), 5),
+    (lambda: Version("1.2.3-rc.4", strict=True), 3),
+    (lambda: refused(lambda: Version("v1.2.3", strict=True)), 1),
+    (lambda: VERSION.diff(LONGEST), 1),
     (lambda: str(VERSION), 1),
     (lambda: repr(VERSION), 2),
     (lambda: str(LONGEST), 2),
@@ -48,9 +52,12 @@ CALLS: List[Tuple[Callable[[], object], int]] = [
     (lambda: VERSION.build, 3),
     (lambda: Range("^1.2.3"), 2),
     (lambda: Range(MANY), 40),
+    (lambda: Range.parse_npm("^1.2.3 || 3 next", loose=True), 3),
+    (lambda: refused(lambda: Range.parse_npm("^1 next")), 1),
+    (lambda: pickle.loads(pickle.dumps(EVERY)), 8),
     (lambda: str(Range(MANY)), 42),
     (lambda: repr(Range("^1.2.3")), 4),
-    (lambda: "1.2.3-rc.5" in WANTED, 3),
+    (lambda: "1.2.3-rc.5" in WANTED, 2),
     (lambda: satisfies("1.2.3-rc.5", "^1.2.3-rc.4"), 2),
     (lambda: WANTED & OTHER, 2),
     (lambda: WANTED - OTHER, 2),
@@ -58,23 +65,33 @@ CALLS: List[Tuple[Callable[[], object], int]] = [
     (lambda: Range("1") & Range("2"), 4),
     (lambda: WANTED.min_version(), 2),
     (lambda: WANTED.least_beyond(OTHER), 2),
+    (lambda: WANTED.least_common(OTHER), 2),
+    (lambda: WANTED.contains("1.2.3-rc.5"), 2),
     (lambda: WANTED.filter(ASKED), 5),
-    (lambda: WANTED.max_satisfying(ASKED), 4),
-    (lambda: WANTED.min_satisfying(ASKED), 4),
+    (lambda: WANTED.max_satisfying(ASKED), 5),
+    (lambda: WANTED.min_satisfying(ASKED), 5),
+    (lambda: WANTED.sets, 12),
+    (lambda: Range.from_sets(SETS), 7),
+    (lambda: Range.from_sets([(("before", "1.2.3-rc.4"), ("end", None))]), 8),
+    (lambda: WANTED.filter(["1.2.3", "no", "\ud800"]), 4),
+    (lambda: WANTED.max_satisfying(["1.2.3", "no", "\ud800"]), 4),
     (lambda: pickle.loads(pickle.dumps(VERSION)), 6),
     (lambda: pickle.loads(pickle.dumps(WANTED)), 4),
     (lambda: refused(lambda: pickle.dumps(LONGEST)), 3),
     (lambda: refused(lambda: Version("1.2")), 1),
     (lambda: refused(lambda: Version("1.2.9007199254740992")), 2),
     (lambda: refused(lambda: Range("latest")), 1),
-    (lambda: refused(lambda: WANTED.filter(["1.2.3", "no"])), 4),
-    (lambda: refused(lambda: WANTED.max_satisfying(["1.2.3", "no"])), 4),
+    (lambda: refused(lambda: "no" in WANTED), 1),
+    (lambda: refused(lambda: Range.from_sets([SETS[0], SETS[0][::-1]])), 6),
+    (lambda: refused(lambda: Range.from_sets([(("before", "no"), ("end", None))])), 4),
     (lambda: refused(lambda: satisfies("1.2", "^1")), 1),
 ]
 
 # Calls that must not allocate.
 PLAIN_CALLS: List[Callable[[], object]] = [
     lambda: VERSION in WANTED,
+    lambda: WANTED.contains(VERSION),
+    lambda: VERSION.compare_build(LONGEST),
     lambda: (hash(VERSION), hash(WANTED)),
     lambda: (VERSION == LONGEST, VERSION < LONGEST, WANTED == OTHER),
     lambda: VERSION.is_prerelease,

@@ -2,11 +2,13 @@
 """A caller that uses every public name; mypy --strict accepts it."""
 
 import copy
+import functools
 from typing import List, Optional, Tuple, Union
 
-from node_semver import FaultKind, Range, SemverError, Version, satisfies
+from node_semver import Bump, Cut, CutKind, FaultKind, Range, SemverError, Version, satisfies
 
 version: Version = Version("1.2.3-rc.4")
+strict: Version = Version("1.2.3-rc.4", strict=True)
 wanted: Range = Range("^1.2.3-rc.4 || >=3")
 numbers: Tuple[int, int, int] = (version.major, version.minor, version.patch)
 prerelease: Tuple[Union[int, str], ...] = version.prerelease
@@ -22,7 +24,19 @@ union: Range = wanted | Range("^1")
 rest: Optional[Range] = wanted - Range("^1")
 least: Optional[Version] = wanted.min_version()
 beyond: Optional[Version] = wanted.least_beyond(Range("^1"))
+common: Optional[Version] = wanted.least_common(Range("^1"))
+inside: List[bool] = [wanted.contains(version), wanted.contains("1.2.3-a")]
+order: int = version.compare_build(version)
+bump: Optional[Bump] = version.diff(version)
+by_build: List[Version] = sorted([version], key=functools.cmp_to_key(Version.compare_build))
 covers: bool = wanted.allows_all(Range("3.0.0")) and wanted.allows_any(Range("3.0.0"))
+
+lower: Cut = ("before", version)
+upper: Cut = ("end", None)
+npms: Range = Range.parse_npm("", loose=True, include_prerelease=False)
+made: Range = Range.from_sets([(lower, upper), (("start", None), ("after", "1.2.3"))])
+kinds: List[CutKind] = [kind for row in made.sets for kind, _ in row]
+ends: List[Version] = [end for _, (_, end) in made.sets if end is not None]
 
 # Items come back as they were given.
 kept_versions: List[Version] = wanted.filter([version])

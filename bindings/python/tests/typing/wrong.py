@@ -11,6 +11,8 @@ wanted = Range("^1")
 Version(1)  # wrong
 Version()  # wrong
 Version(text="1.2.3")  # wrong
+Version("1.2.3", True)  # wrong
+Range("1.2.3", strict=True)  # wrong
 Range(version)  # wrong
 Range(b"^1")  # wrong
 wanted & version  # wrong
@@ -23,6 +25,11 @@ wanted in wanted  # wrong
 wanted.allows_any(version)  # wrong
 wanted.allows_all("1")  # wrong
 wanted.least_beyond("1")  # wrong
+wanted.least_common("1")  # wrong
+wanted.contains(1)  # wrong
+version.compare_build("1.2.3")  # wrong
+version.diff("1.2.3")  # wrong
+bump: str = version.diff(version)  # wrong
 wanted.filter([1])  # wrong
 wanted.max_satisfying([wanted])  # wrong
 wanted.min_satisfying(version)  # wrong
@@ -33,6 +40,13 @@ version.pre_release  # wrong
 (wanted & wanted).min_version()  # wrong
 kept: List[Version] = wanted.filter(["1.2.3"])  # wrong
 SemverError("1.2", "NoSuchKind", 3)  # wrong
+Range.from_sets([wanted])  # wrong
+Range.parse_npm("1", True)  # wrong
+Range.parse_npm(version)  # wrong
+Range.from_sets([(("before", version), ("none", None))])  # wrong
+Range.from_sets([(("before", 1), ("end", None))])  # wrong
+wanted.sets[0][0][1].major  # wrong
+wanted.sets = ()  # wrong
 
 
 class Child(Version):  # wrong

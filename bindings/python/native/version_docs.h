@@ -1,0 +1,63 @@
+/* SPDX-License-Identifier: Apache-2.0
+ *
+ * The docstrings of Version and of its methods, for version.c. Each example is run by the tests.
+ */
+#ifndef VERSION_DOCS_H
+#define VERSION_DOCS_H
+
+PyDoc_STRVAR(version_doc,
+"Version(text, /, *, strict=False)\n"
+"--\n"
+"\n"
+"A version, read from a text in npm's loose form, or by the grammar of SemVer 2.0.0 alone. It never changes.\n"
+"\n"
+">>> Version('v1.2.3-rc.4+build.5')\n"
+"Version('1.2.3-rc.4+build.5')\n"
+">>> Version('v1.2.3', strict=True)\n"
+"Traceback (most recent call last):\n"
+"    ...\n"
+"node_semver.SemverError: Other at byte 0: what begins here is no part of a version\n"
+"    v1.2.3\n"
+"    ^\n"
+"\n"
+"Versions are ordered by SemVer 2.0.0, section 11. The build is neither compared nor hashed.\n"
+"\n"
+">>> Version('1.2.3-rc.4') < Version('1.2.3') == Version('1.2.3+build')\n"
+"True\n"
+">>> Version('1.10.0') > Version('1.9.0')\n"
+"True\n"
+"\n"
+"A text that is not a version raises SemverError.\n"
+"\n"
+">>> Version('1.2')\n"
+"Traceback (most recent call last):\n"
+"    ...\n"
+"node_semver.SemverError: Context at byte 3: a number or a dot is missing\n"
+"    1.2\n"
+"       ^");
+
+PyDoc_STRVAR(compare_build_doc,
+"compare_build($self, other, /)\n"
+"--\n"
+"\n"
+"-1 if the version is below the other one, 0 if both are the same, and 1 if it is above. Two versions that are equal\n"
+"are compared by their builds: no build is below every build. 0 means that they print alike.\n"
+"\n"
+">>> Version('1.2.3+a').compare_build(Version('1.2.3+b')), Version('1.2.4').compare_build(Version('1.2.3+b'))\n"
+"(-1, 1)\n"
+">>> from functools import cmp_to_key\n"
+">>> sorted(map(Version, ['1.0.0+2', '1.0.0+10', '1.0.0']), key=cmp_to_key(Version.compare_build))\n"
+"[Version('1.0.0'), Version('1.0.0+2'), Version('1.0.0+10')]");
+
+PyDoc_STRVAR(diff_doc,
+"diff($self, other, /)\n"
+"--\n"
+"\n"
+"What leads from the lower of two versions to the higher one, as a name of npm's, or None if they are equal.\n"
+"\n"
+">>> Version('1.2.3').diff(Version('1.3.0')), Version('1.3.0-rc.1').diff(Version('1.2.3'))\n"
+"('minor', 'preminor')\n"
+">>> print(Version('1.2.3+a').diff(Version('1.2.3+b')))\n"
+"None");
+
+#endif

@@ -1,0 +1,15 @@
+# SPDX-License-Identifier: Apache-2.0
+"""Names of types, for annotations."""
+
+from typing import Literal
+
+from ._native import Version
+
+#: What leads from one version to another.
+Bump = Literal["major", "premajor", "minor", "preminor", "patch", "prepatch", "prerelease"]
+
+CutKind = Literal["start", "before", "after", "end"]
+
+#: A place between versions: just before a version, just after it, or at the start or the end of all versions.
+#: (`typing` keeps the arguments of its `Tuple` and `Optional` for ever, and the type of versions with them.)
+Cut = tuple[CutKind, Version | None]

@@ -7,13 +7,13 @@
         "src/kept.c",
         "src/lists.c",
         "src/module.c",
-        "src/order.c",
+        "src/sets.c",
         "src/state.c",
         "src/text.c"
       ],
       "include_dirs": ["lib"],
-      "libraries": ["<(module_root_dir)/lib/libnode_semver.a"],
-      "defines": ["NAPI_VERSION=6"],
+      "libraries": ["../lib/libnode_semver.a"],
+      "defines": ["NAPI_VERSION=8"],
       "cflags": ["-std=c11", "-Wall", "-Wextra", "-fvisibility=hidden"],
       "ldflags": ["-Wl,--exclude-libs,ALL"]
     }

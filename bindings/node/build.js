@@ -1,18 +1,20 @@
 // SPDX-License-Identifier: Apache-2.0
 // Builds the native part with the node-gyp that npm ships. In a clone it first builds the C library of `../c`, and
-// copies it into `lib`; a package from `npm pack` has it there.
+// copies it into `lib`, and the licence to here; a package from `npm pack` has both.
 //
 //     node build.js              builds build/Release/node_semver.node
-//     node build.js --library    builds and copies the library alone
+//     node build.js --library    builds and copies the library and the licence alone
 'use strict';
 
 const { spawnSync } = require('node:child_process');
 const fs = require('node:fs');
 const path = require('node:path');
 
+// What the clone has, and where it is here.
 const parts = [
-    ['build/libnode_semver.a', 'libnode_semver.a'],
-    ['include/node_semver.h', 'node_semver.h'],
+    ['../c/build/libnode_semver.a', 'lib/libnode_semver.a'],
+    ['../c/include/node_semver.h', 'lib/node_semver.h'],
+    ['../../LICENSE', 'LICENSE'],
 ];
 
 function run(command, words) {
@@ -29,11 +31,11 @@ function copyLibrary() {
     if (fs.existsSync(path.join(from, 'Makefile'))) {
         run('make', ['-C', from]);
         fs.mkdirSync(path.join(__dirname, 'lib'), { recursive: true });
-        parts.forEach(([file, name]) => fs.copyFileSync(path.join(from, file), path.join(__dirname, 'lib', name)));
+        parts.forEach(([file, name]) => fs.copyFileSync(path.join(__dirname, file), path.join(__dirname, name)));
     }
-    const missing = parts.find(([, name]) => !fs.existsSync(path.join(__dirname, 'lib', name)));
+    const missing = parts.find(([, name]) => !fs.existsSync(path.join(__dirname, name)));
     if (missing) {
-        console.error(`build.js: lib/${missing[1]} is missing, and there is no ../c to build it from`);
+        console.error(`build.js: ${missing[1]} is missing, and there is no ../c to build it from`);
         process.exit(1);
     }
 }

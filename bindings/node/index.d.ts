@@ -29,14 +29,38 @@ export class SemVer {
     compareBuild(other: string | SemVer): -1 | 0 | 1;
 }
 
+/** An end of a set, which is a place between versions: below all, just before or just after one, or above all. */
+export type Cut =
+    | { readonly kind: 'start' | 'end'; readonly version: null }
+    | { readonly kind: 'before' | 'after'; readonly version: SemVer };
+
+/** A set of a range: what lies from the lower cut up to the upper one. */
+export interface VersionSet {
+    readonly lower: Cut;
+    readonly upper: Cut;
+}
+
+/** What may be passed for a cut: the version also as a text, and left out at the start and the end. */
+export interface CutLike {
+    readonly kind: 'start' | 'before' | 'after' | 'end';
+    readonly version?: string | SemVer | null;
+}
+
 /** A range, which nothing changes. */
 export class Range {
     /** Throws a `TypeError` if the text is no range. */
     constructor(range: string | Range, options?: Loose);
+    /**
+     * The range of these sets in their order. Returns null if there are no sets, or if one of them has no place between
+     * its cuts, lacks a version, or has a version that no range has.
+     */
+    static fromSets(sets: Iterable<{ readonly lower: CutLike; readonly upper: CutLike }>): Range | null;
     /** The text as it was passed, with each run of white space as one blank. */
     readonly raw: string;
     /** The sets of the range, as `>=1.2.0 <2.0.0-0||>=3.0.0`. */
     readonly range: string;
+    /** The same sets, in their order, as values. They are made anew at each call. */
+    readonly sets: VersionSet[];
     format(): string;
     toString(): string;
     test(version: string | SemVer | null | undefined): boolean;
@@ -91,7 +115,7 @@ export function minSatisfying<T extends string | SemVer>(
     range: string | Range,
     options?: Loose,
 ): T | null;
-/** The least version that satisfies the range, or null if none does. */
+/** The least version that satisfies the range, without a build, or null if none does. */
 export function minVersion(range: string | Range, options?: Loose): SemVer | null;
 /** The range as it prints, or null if the text is no range. */
 export function validRange(range: string | Range | null | undefined, options?: Loose): string | null;
@@ -100,9 +124,24 @@ export function intersects(one: string | Range, other: string | Range, options?:
 /** Whether each version that satisfies `sub` satisfies `dom`. */
 export function subset(sub: string | Range, dom: string | Range, options?: Loose): boolean;
 
-/** The range of what both have, or null if they have nothing in common. */
+/**
+ * The range of what both have, or null if they have nothing in common. It may admit a prerelease that one of them
+ * refuses: the intersection of `^2.0.0-rc.1` and `>=1.5` admits `2.0.0-rc.4`, and `>=1.5` does not. `leastCommon`
+ * returns a version that both admit.
+ */
 export function intersect(one: string | Range, other: string | Range, options?: Loose): Range | null;
 /** The range of what the first has and the second has not, or null if there is nothing. */
 export function difference(one: string | Range, other: string | Range, options?: Loose): Range | null;
 /** The least version that satisfies the first range and not the second, or null if there is none. */
 export function leastBeyond(one: string | Range, other: string | Range, options?: Loose): SemVer | null;
+/** The least version that satisfies both ranges, or null if there is none. */
+export function leastCommon(one: string | Range, other: string | Range, options?: Loose): SemVer | null;
+
+/** The order of two identifiers: digits by their numbers, and before the others, which are ordered by characters. */
+export function compareIdentifiers(one: string | number, other: string | number): -1 | 0 | 1;
+export function rcompareIdentifiers(one: string | number, other: string | number): -1 | 0 | 1;
+
+/** The version of SemVer. */
+export const SEMVER_SPEC_VERSION: '2.0.0';
+export const RELEASE_TYPES: readonly ReleaseType[];
+export type ReleaseType = 'major' | 'premajor' | 'minor' | 'preminor' | 'patch' | 'prepatch' | 'prerelease';

@@ -1,12 +1,12 @@
 // SPDX-License-Identifier: Apache-2.0
-// Speed beside npm's own `semver`, in one run: the least of several rounds, in nanoseconds a call.
+// Speed beside npm's own `semver`, in one run: the least of several rounds by turns, in nanoseconds a call.
 'use strict';
 
 const { createNpm } = require('./test/npm.js');
 const here = require('./index.js');
 
 const npm = createNpm();
-const ROUNDS = 7;
+const ROUNDS = 70;
 
 // Versions and ranges as packages write them: most ranges are one caret, and 1 version in 40 is a prerelease.
 function versions(count) {
@@ -23,19 +23,25 @@ function ranges(count) {
     });
 }
 
-// The least time of a call, of rounds that each take at least 50 ms.
-function least(call) {
-    let best = Infinity;
+// The time of a call, in a round that takes at least 5 ms: a short one, which other work seldom disturbs.
+function timeOf(call) {
+    const start = process.hrtime.bigint();
+    let times = 0;
+    let spent = 0;
+    do {
+        call();
+        times++;
+        spent = Number(process.hrtime.bigint() - start);
+    } while (spent < 5e6);
+    return spent / times;
+}
+
+// The least times of two calls, by turns, so that other work on the machine disturbs both.
+function least(one, other) {
+    const best = [Infinity, Infinity];
     for (let round = 0; round < ROUNDS; round++) {
-        const start = process.hrtime.bigint();
-        let times = 0;
-        let spent = 0;
-        do {
-            call();
-            times++;
-            spent = Number(process.hrtime.bigint() - start);
-        } while (spent < 5e7);
-        best = Math.min(best, spent / times);
+        best[0] = Math.min(best[0], timeOf(one));
+        best[1] = Math.min(best[1], timeOf(other));
     }
     return best;
 }
@@ -69,7 +75,6 @@ const rows = [
 
 console.log('| call | npm, ns | here, ns | npm / here |\n|---|---|---|---|');
 for (const [name, calls, prepare] of rows) {
-    const theirs = least(prepare(npm)) / calls;
-    const ours = least(prepare(here)) / calls;
+    const [theirs, ours] = least(prepare(npm), prepare(here)).map((time) => time / calls);
     console.log(`| ${name} | ${Math.round(theirs)} | ${Math.round(ours)} | ${(theirs / ours).toFixed(1)} |`);
 }

@@ -2,7 +2,7 @@
 // SPDX-License-Identifier: Apache-2.0
 // Lists each dependency of the packages in a folder whose installed version does not satisfy its range.
 //
-//     node examples/installed.js node_modules
+//     node node_modules/denimscree-semver/examples/installed.js node_modules
 //
 // A line for each: the package that asks, the dependency, the range, and the version that is installed, or `missing`. A
 // dependency is sought as Node does: in the package's own node_modules, then in those of the folders above. Ranges that

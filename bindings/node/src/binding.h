@@ -1,8 +1,9 @@
 /* SPDX-License-Identifier: Apache-2.0 */
 /*
- * Declarations that the files of this folder share. `index.js` alone calls them, and passes keys of versions and of
- * ranges. A key is a JavaScript string, or an external that holds a version or a range that no text writes, or the
- * number of a place where a range is kept.
+ * Declarations that the files of this folder share. The JavaScript of this package alone calls them, and passes keys of
+ * versions and of ranges. A key is a JavaScript string; or an object of this package that holds a version or a range
+ * which no text writes; or the number of a place where a range is kept. A value that is none of these is refused: no
+ * argument can make a call read memory that is not its own.
  */
 #ifndef BINDING_H
 #define BINDING_H
@@ -37,6 +38,9 @@ struct range {
 napi_value out_of_memory(napi_env env);
 napi_value failed(napi_env env, node_semver_status status);
 
+/* Throws a TypeError, and returns THROWN. */
+node_semver_status wrong_type(napi_env env, const char *message);
+
 /* Returns false with an exception pending where the call has fewer arguments. */
 bool get_arguments(napi_env env, napi_callback_info info, size_t wanted, napi_value *arguments);
 
@@ -66,7 +70,7 @@ node_semver_status get_range_text(napi_env env, napi_value text, struct range *r
 void let_range_go(struct range *range);
 napi_value range_key(napi_env env, node_semver_range range);
 
-/* An external for a range, which is freed when JavaScript has no use of the external. */
+/* An object that holds a range, which is freed when JavaScript has no use of the object. */
 napi_value held_range(napi_env env, node_semver_range range);
 
 /* ---- state.c ---- */
@@ -94,30 +98,23 @@ node_semver_status kept_range(napi_env env, uint32_t number, struct range *range
  * refused, returns false and leaves the place empty. */
 napi_value keep(napi_env env, napi_callback_info info);
 
-/* ---- order.c ---- */
-
-/* -1, 0 or 1 by the versions, and where they compare as the same by the builds; `made` is false if memory runs out. */
-int32_t compare_with_builds(const node_semver_version *one, const node_semver_version *other, bool *made);
-
-/* order(keys, isDescending): the places of the keys in order, or the place of the first that is no version. */
-napi_value order(napi_env env, napi_callback_info info);
-
 /* ---- lists.c ---- */
 
-/* Versions that are read from an array of keys, the place of each, and whether the list frees it. What is no version is
- * left out. A version of an external is freed with the external, which the array of keys keeps alive. */
-struct versions {
-    node_semver_version *handles;
-    uint32_t *places;
-    bool *are_own;
-    size_t count;
-};
+/* order(lines, isDescending): the numbers of the lines in the order of the versions and their builds, or the number of
+ * the first line that is no version. Of equal versions the first stays first. */
+napi_value order(napi_env env, napi_callback_info info);
 
-/* Where `is_each` is true, stops at the first key that is no version: its place is in `places[count]`. */
-node_semver_status get_versions(napi_env env, napi_value keys, bool is_each, struct versions *versions);
-void free_versions(struct versions *versions);
-
-/* best(keys, range, isGreatest): the place of the greatest or least version that satisfies the range, or -1. */
+/* best(lines, range, isGreatest): the number of the line with the greatest or least version that satisfies the range,
+ * or -1. Of equal versions it is the first. What is no version is left out. */
 napi_value best(napi_env env, napi_callback_info info);
+
+/* ---- sets.c ---- */
+
+/* sets(range): an array of two cuts for each set, and each cut is two elements: its kind and the key of its version,
+ * or null. */
+napi_value sets(napi_env env, napi_callback_info info);
+
+/* fromSets(cuts): the key of the range of such an array, or null where it is none. */
+napi_value from_sets(napi_env env, napi_callback_info info);
 
 #endif

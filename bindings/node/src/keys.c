@@ -1,70 +1,76 @@
 /* SPDX-License-Identifier: Apache-2.0 */
-/* Keys: strings that are read as versions or ranges, and externals for what no text writes. */
+/* Keys: strings that are read as versions or ranges, and objects for what no text writes. */
 #include "binding.h"
 
 #include <stdlib.h>
 
-/* What an external of this package holds. Other packages make externals too; `index.js` passes none of theirs. */
-enum kind { VERSION = 0x5e3e0001, RANGE = 0x5e3e0002 };
-
+/* What an object of this package holds: a version or a range, and the other handle is empty. */
 struct held {
-    enum kind kind;
     node_semver_version version;
     node_semver_range range;
 };
+
+/* Node keeps a tag with each of these objects, which no other package and no JavaScript can put on an object. */
+static const napi_type_tag version_tag = {0x6d1f0c5e8a2b4973, 0xb5e09d3c7142f68a};
+static const napi_type_tag range_tag = {0x2c84e7b1930d5f6a, 0x97a3d05b4e6c18f2};
+
+static void let_held_go(struct held holds) {
+    node_semver_version_free(holds.version);
+    node_semver_range_free(holds.range);
+}
 
 static void free_held(napi_env env, void *data, void *hint) {
     struct held *held = data;
     (void)env;
     (void)hint;
-    if (held->kind == VERSION) {
-        node_semver_version_free(held->version);
-    } else {
-        node_semver_range_free(held->range);
-    }
+    let_held_go(*held);
     free(held);
 }
 
-/* An external that frees what it holds. What it could not take is freed at once. */
-static napi_value external_of(napi_env env, struct held holds) {
+/* An object that frees what it holds. What it could not take is freed at once. */
+static napi_value object_of(napi_env env, const napi_type_tag *tag, struct held holds) {
     napi_value result = NULL;
     struct held *held = malloc(sizeof *held);
-    if (held != NULL) {
-        *held = holds;
-        if (napi_create_external(env, held, free_held, NULL, &result) == napi_ok) {
-            return result;
-        }
-        free_held(env, held, NULL);
-    } else if (holds.kind == VERSION) {
-        node_semver_version_free(holds.version);
-    } else {
-        node_semver_range_free(holds.range);
+    if (held == NULL) {
+        let_held_go(holds);
+        return out_of_memory(env);
     }
+    *held = holds;
+    if (napi_create_object(env, &result) == napi_ok && napi_type_tag_object(env, result, tag) == napi_ok
+        && napi_wrap(env, result, held, free_held, NULL, NULL) == napi_ok) {
+        return result;
+    }
+    free_held(env, held, NULL);
     return out_of_memory(env);
 }
 
 /* What the key holds, or NULL with an exception pending. */
-static const struct held *get_held(napi_env env, napi_value key, enum kind kind) {
-    void *data = NULL;
-    const struct held *held;
-    if (napi_get_value_external(env, key, &data) == napi_ok) {
-        held = data;
-        if (held->kind == kind) {
-            return held;
-        }
+static const struct held *get_held(napi_env env, napi_value key, const napi_type_tag *tag) {
+    napi_valuetype type = napi_undefined;
+    bool is_tagged = false;
+    void *held = NULL;
+    if (napi_typeof(env, key, &type) == napi_ok && type == napi_object
+        && napi_check_object_type_tag(env, key, tag, &is_tagged) == napi_ok && is_tagged
+        && napi_unwrap(env, key, &held) == napi_ok) {
+        return held;
     }
-    napi_throw_type_error(env, "ERR_INVALID_ARG_TYPE", kind == VERSION ? "no key of a version" : "no key of a range");
+    wrong_type(env, tag == &version_tag ? "no key of a version" : "no key of a range");
     return NULL;
+}
+
+/* What JavaScript makes of a string is UTF-8. A text of other bytes would be refused. */
+static node_semver_status refused(node_semver_status status) {
+    return status == NODE_SEMVER_NOT_UTF8 ? NODE_SEMVER_REFUSED : status;
 }
 
 static node_semver_status read_version(const struct text *text, node_semver_version *version) {
     node_semver_fault fault;
     *version = (node_semver_version)NODE_SEMVER_EMPTY;
-    return node_semver_version_parse(text->bytes, text->length, version, &fault);
+    return refused(node_semver_version_parse(text->bytes, text->length, version, &fault));
 }
 
 static node_semver_status get_held_version(napi_env env, napi_value key, struct version *version) {
-    const struct held *held = get_held(env, key, VERSION);
+    const struct held *held = get_held(env, key, &version_tag);
     if (held == NULL) {
         return THROWN;
     }
@@ -95,7 +101,7 @@ void let_version_go(struct version *version) {
 static node_semver_status read_range(const struct text *text, node_semver_range *range) {
     node_semver_fault fault;
     *range = (node_semver_range)NODE_SEMVER_EMPTY;
-    return node_semver_range_parse(text->bytes, text->length, range, &fault);
+    return refused(node_semver_range_parse(text->bytes, text->length, range, &fault));
 }
 
 node_semver_status get_range_text(napi_env env, napi_value value, struct range *range) {
@@ -110,7 +116,7 @@ node_semver_status get_range_text(napi_env env, napi_value value, struct range *
 }
 
 static node_semver_status get_held_range(napi_env env, napi_value key, struct range *range) {
-    const struct held *held = get_held(env, key, RANGE);
+    const struct held *held = get_held(env, key, &range_tag);
     if (held == NULL) {
         return THROWN;
     }
@@ -141,7 +147,7 @@ napi_value version_key(napi_env env, node_semver_version version) {
     napi_value print = version_print(env, &version);
     node_semver_status status = print == NULL ? THROWN : get_version(env, print, &again);
     if (status == NODE_SEMVER_REFUSED) {
-        return external_of(env, (struct held){.kind = VERSION, .version = version});
+        return object_of(env, &version_tag, (struct held){.version = version});
     }
     if (status == NODE_SEMVER_OK) {
         let_version_go(&again);
@@ -167,5 +173,5 @@ napi_value range_key(napi_env env, node_semver_range range) {
 }
 
 napi_value held_range(napi_env env, node_semver_range range) {
-    return external_of(env, (struct held){.kind = RANGE, .range = range});
+    return object_of(env, &range_tag, (struct held){.range = range});
 }

@@ -1,100 +1,162 @@
 /* SPDX-License-Identifier: Apache-2.0 */
-/* Lists of versions, and the best of one. */
+/* Lists of versions. A list comes as one string, a line for each version, so no JavaScript runs while it is read. */
 #include "binding.h"
 
 #include <stdlib.h>
+#include <string.h>
 
-/* Reads the key at a place. */
-static node_semver_status add_version(napi_env env, napi_value keys, uint32_t place, bool is_each,
-                                      struct versions *versions) {
-    napi_value key;
-    struct version version;
-    if (napi_get_element(env, keys, place, &key) != napi_ok) {
-        return THROWN;
+/* A version of a list, and the number of its line. */
+struct item {
+    node_semver_version version;
+    uint32_t line;
+};
+
+struct items {
+    struct item *at;
+    size_t count;
+};
+
+static size_t count_lines(const struct text *text) {
+    size_t count = 0;
+    for (size_t i = 0; i < text->length; i++) {
+        count += text->bytes[i] == '\n';
     }
-    versions->places[versions->count] = place;
-    node_semver_status status = get_version(env, key, &version);
-    if (status == NODE_SEMVER_OK) {
-        versions->are_own[versions->count] = version.is_own;
-        versions->handles[versions->count++] = version.handle;
-    }
-    return status == NODE_SEMVER_REFUSED && !is_each ? NODE_SEMVER_OK : status;
+    return count;
 }
 
-/* Reads them in scopes of some keys, so that the handles of JavaScript do not pile up. */
-static node_semver_status add_versions(napi_env env, napi_value keys, uint32_t length, bool is_each,
-                                       struct versions *versions) {
-    node_semver_status status = NODE_SEMVER_OK;
-    for (uint32_t begin = 0; begin < length && status == NODE_SEMVER_OK; begin += 256) {
-        napi_handle_scope scope;
-        if (napi_open_handle_scope(env, &scope) != napi_ok) {
-            return THROWN;
-        }
-        for (uint32_t i = begin; i < length && i < begin + 256 && status == NODE_SEMVER_OK; i++) {
-            status = add_version(env, keys, i, is_each, versions);
-        }
-        napi_close_handle_scope(env, scope);
+static void free_items(struct items *items) {
+    for (size_t i = 0; i < items->count; i++) {
+        node_semver_version_free(items->at[i].version);
     }
+    free(items->at);
+}
+
+/* Reads each line. Where `is_each` is true, stops at the first that is no version: its number is in `line`. Otherwise
+ * leaves out what is no version. */
+static node_semver_status read_lines(const struct text *text, bool is_each, struct items *items, uint32_t *line) {
+    const char *begin = text->bytes, *end = text->bytes + text->length, *stop;
+    node_semver_fault fault;
+    for (*line = 0; (stop = memchr(begin, '\n', (size_t)(end - begin))) != NULL; ++*line) {
+        struct item item = {.version = NODE_SEMVER_EMPTY, .line = *line};
+        node_semver_status status =
+            node_semver_version_parse(begin, (size_t)(stop - begin), &item.version, &fault);
+        if (status == NODE_SEMVER_OK) {
+            items->at[items->count++] = item;
+        } else if (is_each || status == NODE_SEMVER_OUT_OF_MEMORY) {
+            return status;
+        }
+        begin = stop + 1;
+    }
+    return NODE_SEMVER_OK;
+}
+
+static node_semver_status get_items(napi_env env, napi_value lines, bool is_each, struct items *items,
+                                    uint32_t *line) {
+    struct text text;
+    *items = (struct items){0};
+    node_semver_status status = get_text(env, lines, &text);
+    if (status != NODE_SEMVER_OK) {
+        return status == NODE_SEMVER_REFUSED ? wrong_type(env, "no lines of versions") : status;
+    }
+    items->at = malloc((count_lines(&text) + 1) * sizeof *items->at);
+    status = items->at == NULL ? NODE_SEMVER_OUT_OF_MEMORY : read_lines(&text, is_each, items, line);
+    free_text(&text);
     return status;
 }
 
-node_semver_status get_versions(napi_env env, napi_value keys, bool is_each, struct versions *versions) {
-    uint32_t length = 0;
-    *versions = (struct versions){0};
-    if (napi_get_array_length(env, keys, &length) != napi_ok) {
-        napi_throw_type_error(env, "ERR_INVALID_ARG_TYPE", "no array of keys");
-        return THROWN;
-    }
-    versions->handles = malloc(((size_t)length + 1) * sizeof *versions->handles);
-    versions->places = malloc(((size_t)length + 1) * sizeof *versions->places);
-    versions->are_own = malloc(((size_t)length + 1) * sizeof *versions->are_own);
-    if (versions->handles == NULL || versions->places == NULL || versions->are_own == NULL) {
-        return NODE_SEMVER_OUT_OF_MEMORY;
-    }
-    return add_versions(env, keys, length, is_each, versions);
+/* ---- the order ---- */
+
+static int by_line(const struct item *one, const struct item *other) {
+    return one->line < other->line ? -1 : 1;
 }
 
-void free_versions(struct versions *versions) {
-    for (size_t i = 0; i < versions->count; i++) {
-        if (versions->are_own[i]) {
-            node_semver_version_free(versions->handles[i]);
-        }
-    }
-    free(versions->handles);
-    free(versions->places);
-    free(versions->are_own);
+static int ascending(const void *left, const void *right) {
+    const struct item *one = left, *other = right;
+    int32_t result = node_semver_version_compare_build(&one->version, &other->version);
+    return result != 0 ? result : by_line(one, other);
 }
 
-static napi_value best_of(napi_env env, napi_value keys, const node_semver_range *range, bool is_greatest) {
-    struct versions versions;
-    napi_value result = NULL;
-    size_t place = 0;
-    node_semver_status status = get_versions(env, keys, false, &versions);
+static int descending(const void *left, const void *right) {
+    const struct item *one = left, *other = right;
+    int32_t result = node_semver_version_compare_build(&other->version, &one->version);
+    return result != 0 ? result : by_line(one, other);
+}
+
+/* An Uint32Array of the numbers of the lines. */
+static napi_value lines_of(napi_env env, const struct items *items) {
+    void *data = NULL;
+    napi_value buffer, result = NULL;
+    if (napi_create_arraybuffer(env, items->count * sizeof(uint32_t), &data, &buffer) != napi_ok) {
+        return out_of_memory(env);
+    }
+    for (size_t i = 0; i < items->count; i++) {
+        ((uint32_t *)data)[i] = items->at[i].line;
+    }
+    napi_create_typedarray(env, napi_uint32_array, items->count, buffer, 0, &result);
+    return result;
+}
+
+napi_value order(napi_env env, napi_callback_info info) {
+    napi_value arguments[2], result = NULL;
+    struct items items;
+    uint32_t line = 0;
+    bool is_descending = false;
+    if (!get_arguments(env, info, 2, arguments)) {
+        return NULL;
+    }
+    napi_get_value_bool(env, arguments[1], &is_descending);
+    node_semver_status status = get_items(env, arguments[0], true, &items, &line);
     if (status == NODE_SEMVER_OK) {
-        bool is_found = is_greatest
-            ? node_semver_max_satisfying(versions.handles, versions.count, range, &place)
-            : node_semver_min_satisfying(versions.handles, versions.count, range, &place);
-        result = of_int(env, is_found ? (int32_t)versions.places[place] : -1);
+        qsort(items.at, items.count, sizeof *items.at, is_descending ? descending : ascending);
+        result = lines_of(env, &items);
     } else {
-        result = failed(env, status);
+        bool is_refused = status == NODE_SEMVER_REFUSED || status == NODE_SEMVER_NOT_UTF8;
+        result = is_refused ? of_int(env, (int32_t)line) : failed(env, status);
     }
-    free_versions(&versions);
+    free_items(&items);
+    return result;
+}
+
+/* ---- the best ---- */
+
+/* The line of the greatest or least of the items that satisfies the range, or -1. */
+static int32_t best_line(const struct items *items, const node_semver_version *versions,
+                         const node_semver_range *range, bool is_greatest) {
+    size_t place = 0;
+    bool is_found = is_greatest ? node_semver_max_satisfying(versions, items->count, range, &place)
+                                : node_semver_min_satisfying(versions, items->count, range, &place);
+    return is_found ? (int32_t)items->at[place].line : -1;
+}
+
+static napi_value best_of(napi_env env, const struct items *items, napi_value key, bool is_greatest) {
+    struct range range;
+    napi_value result = NULL;
+    node_semver_version *versions = malloc((items->count + 1) * sizeof *versions);
+    node_semver_status status = versions == NULL ? NODE_SEMVER_OUT_OF_MEMORY : get_range(env, key, &range);
+    if (status == NODE_SEMVER_OK) {
+        for (size_t i = 0; i < items->count; i++) {
+            versions[i] = items->at[i].version;
+        }
+        result = of_int(env, best_line(items, versions, &range.handle, is_greatest));
+        let_range_go(&range);
+    } else {
+        result = status == NODE_SEMVER_REFUSED ? of_int(env, -1) : failed(env, status);
+    }
+    free(versions);
     return result;
 }
 
 napi_value best(napi_env env, napi_callback_info info) {
-    napi_value arguments[3];
-    struct range range;
+    napi_value arguments[3], result = NULL;
+    struct items items;
+    uint32_t line = 0;
     bool is_greatest = false;
     if (!get_arguments(env, info, 3, arguments)) {
         return NULL;
     }
     napi_get_value_bool(env, arguments[2], &is_greatest);
-    node_semver_status status = get_range(env, arguments[1], &range);
-    if (status != NODE_SEMVER_OK) {
-        return status == NODE_SEMVER_REFUSED ? of_int(env, -1) : failed(env, status);
-    }
-    napi_value result = best_of(env, arguments[0], &range.handle, is_greatest);
-    let_range_go(&range);
+    node_semver_status status = get_items(env, arguments[0], false, &items, &line);
+    result = status == NODE_SEMVER_OK ? best_of(env, &items, arguments[1], is_greatest) : failed(env, status);
+    free_items(&items);
     return result;
 }

@@ -1,5 +1,5 @@
 /* SPDX-License-Identifier: Apache-2.0 */
-/* The functions that `index.js` calls. Each takes keys and makes one call of node_semver, or a few.
+/* The functions that the JavaScript of this package calls. Each takes keys and makes one call of node_semver, or a few.
  * See docs/DECISIONS.md, "A version crosses as a text". */
 #include "binding.h"
 
@@ -61,7 +61,7 @@ static napi_value range_text(napi_env env, napi_callback_info info) {
     return result;
 }
 
-/* heldRange(text): an external for a long text, so that it is not read again at each call; null where it is refused. */
+/* heldRange(text): an object for a long text, so that it is not read again at each call; null where it is refused. */
 static napi_value held_text(napi_env env, napi_callback_info info) {
     napi_value value;
     struct range range;
@@ -104,9 +104,7 @@ static napi_value compared(napi_env env, const node_semver_version *one, const n
 
 static napi_value compared_with_builds(napi_env env, const node_semver_version *one,
                                        const node_semver_version *other) {
-    bool made = false;
-    int32_t result = compare_with_builds(one, other, &made);
-    return made ? of_int(env, result) : out_of_memory(env);
+    return of_int(env, node_semver_version_compare_build(one, other));
 }
 
 /* compare(one, other), compareBuild(one, other): -1, 0 or 1, or which key is refused. */
@@ -200,8 +198,14 @@ static napi_value beyond(napi_env env, const node_semver_range *one, const node_
     return made_version(env, status, made);
 }
 
-/* allowsAny(one, other), intersect(one, other), difference(one, other), leastBeyond(one, other): a boolean, or the key
- * of the new range or version, or null if there is none. */
+static napi_value least_of_both(napi_env env, const node_semver_range *one, const node_semver_range *other) {
+    node_semver_version made = NODE_SEMVER_EMPTY;
+    node_semver_status status = node_semver_range_least_common(one, other, &made);
+    return made_version(env, status, made);
+}
+
+/* allowsAny(one, other), intersect(one, other), difference(one, other), leastBeyond(one, other),
+ * leastCommon(one, other): a boolean, or the key of the new range or version, or null if there is none. */
 static napi_value allows_any(napi_env env, napi_callback_info info) {
     return with_ranges(env, info, any);
 }
@@ -216,6 +220,10 @@ static napi_value difference(napi_env env, napi_callback_info info) {
 
 static napi_value least_beyond(napi_env env, napi_callback_info info) {
     return with_ranges(env, info, beyond);
+}
+
+static napi_value least_common(napi_env env, napi_callback_info info) {
+    return with_ranges(env, info, least_of_both);
 }
 
 /* minVersion(range): the key of the least version that satisfies the range, or null. */
@@ -246,7 +254,8 @@ NAPI_MODULE_INIT() {
         FUNCTION("allowsAny", allows_any),     FUNCTION("intersect", intersect),
         FUNCTION("difference", difference),    FUNCTION("leastBeyond", least_beyond),
         FUNCTION("minVersion", min_version),   FUNCTION("keep", keep),
-        FUNCTION("readVersion", read_parts),
+        FUNCTION("readVersion", read_parts),   FUNCTION("sets", sets),
+        FUNCTION("fromSets", from_sets),       FUNCTION("leastCommon", least_common),
     };
     if (!make_state(env, exports)) {
         return out_of_memory(env);

@@ -13,6 +13,11 @@ napi_value failed(napi_env env, node_semver_status status) {
     return status == NODE_SEMVER_OUT_OF_MEMORY ? out_of_memory(env) : NULL;
 }
 
+node_semver_status wrong_type(napi_env env, const char *message) {
+    napi_throw_type_error(env, "ERR_INVALID_ARG_TYPE", message);
+    return THROWN;
+}
+
 bool get_arguments(napi_env env, napi_callback_info info, size_t wanted, napi_value *arguments) {
     size_t count = wanted;
     if (napi_get_cb_info(env, info, &count, arguments, NULL, NULL) == napi_ok && count >= wanted) {

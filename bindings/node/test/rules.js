@@ -1,56 +1,20 @@
 // SPDX-License-Identifier: Apache-2.0
-// Where this package differs from npm's `semver`: the rows of the README's table, each with a predicate that says which
-// texts the row is about: `version` of a version text, `range` of a range text as npm trims it. `calls` are the
-// functions that a row is about, where it is not about all. `example` is a call and its arguments.
+// Where this package differs from npm's `semver`: the rows of the README's table. Each has a predicate of the texts
+// that it is about: `version` of a version text, `range` of a range text as npm trims it, `covers` of all texts and of
+// both results. It is asked about the smallest texts that differ, so it says what stands in them and no more. `calls`
+// are the functions that a row is about, where it is not about all. `example` is a call, or `code` is.
 'use strict';
 
-const { createNpm } = require('./npm.js');
-
 const here = require('..');
+const { npm, LOOSE } = require('./calls.js');
+const {
+    PART, PARTIAL, OPERATOR, alternatives, comparatorsOf, has, hasHyphen, hasLarge, isHyphen, isMadeAny, isStar,
+    isUnderAll, neverHolds, npmRange, some, someWord,
+} = require('./predicates.js');
 
-const npm = createNpm();
-const LOOSE = { loose: true };
-
-const alternatives = (text) => text.split('||').map((alternative) => alternative.trim());
-const some = (test) => (text) => alternatives(text).some((alternative) => test(alternative));
-
-function npmRange(text) {
-    try {
-        return new npm.Range(text, LOOSE);
-    } catch {
-        return null;
-    }
-}
-
-const comparatorsOf = (alternative) => npmRange(alternative)?.set[0].filter(({ value }) => value !== '') ?? [];
-
-// Whether an upper end is below 0.0.0, where `*` begins here.
-const isUnderAll = (operator, semver) => npm.compare(semver, '0.0.0') < (operator === '<' ? 1 : 0);
-
-// Whether npm reads an alternative, and no version can satisfy all its comparators.
-function neverHolds(alternative) {
-    const comparators = comparatorsOf(alternative);
-    const lower = comparators.filter(({ operator }) => !operator.startsWith('<'));
-    const upper = comparators.filter(({ operator }) => !operator.startsWith('>'));
-    const areCrossed = (one, other) => {
-        const order = npm.compare(one.semver, other.semver);
-        return order > 0 || (order === 0 && (one.operator === '>' || other.operator === '<'));
-    };
-    return upper.some(({ operator, semver }) => isUnderAll(operator, semver))
-        || lower.some((one) => upper.some((other) => areCrossed(one, other)));
-}
-
-// Whether npm reads a range of several alternatives as any version, since one of them is, and drops a prerelease.
-function isMadeAny(text) {
-    return text.includes('||') && npmRange(text)?.range === '' && alternatives(text).some((alternative) =>
-        comparatorsOf(alternative).some(({ semver }) => semver.prerelease.length > 0));
-}
-
-const PARTIAL = String.raw`v?\s*[\dxX*]+(?:\.[\dxX*]+(?:\.[\dxX*]+[-+.0-9A-Za-z]*)?)?`;
-const HYPHEN = new RegExp(`^${PARTIAL} - ${PARTIAL}$`);
-
-// The functions that show whether a range text is refused.
-const RANGES = ['validRange', 'raw', 'test', 'minVersion', 'subset', 'intersects'];
+// The functions that show whether a range text is refused, and those that show a build.
+const RANGES = ['validRange', 'raw', 'test', 'minVersion', 'subset', 'intersects', 'Range.intersects'];
+const BUILDS = ['parse', 'SemVer', 'compareBuild', 'SemVer.compareBuild', 'sort', 'rsort'];
 
 const rules = [
     {
@@ -59,16 +23,59 @@ const rules = [
         npm: null,
         here: '1.2.3',
         why: '`V` and `v` are read alike before a version',
-        version: (text) => /^\s*V/.test(text),
+        version: has('^\\s*V\\s*\\d'),
+    },
+    {
+        name: 'an `=` before a version',
+        example: ['valid', '=1.2.3'],
+        npm: '1.2.3',
+        here: null,
+        why: 'one `v`, spaces and tabs may stand before the number; `v=1.2.3` and `vv1.2.3` are refused too',
+        version: has(String.raw`^\s*=[v=\s]*\d`, String.raw`^\s*v\s*[v=][v=\s]*\d`, String.raw`^\s*v[^\S \t]\s*\d`,
+            String.raw`^\s*v[ \t]*[^\S \t]\s*\d`),
     },
     {
         name: 'more than one prefix',
         example: ['satisfies', '1.2.3', '==1.2.3'],
         npm: true,
         here: false,
-        why: 'a number has one operator and one `v` before it',
-        version: (text) => /^\s*(?:[v=]\s*){2}|^\s*=|^v[^\S \t]/.test(text),
-        range: (text) => /v |[v=] ?=|v ?v|[<>] =|[~^]>? ?=/.test(text),
+        why: 'a number has one operator and one `v` before it; npm takes `^v 1` for `1`',
+        range: has(`[v=] ?=[ v=]*${PART}`, `v ?v[ v=]*${PART}`, `[<>] =[ v=]*${PART}`, `[~^]>? ?=[ v=]*${PART}`,
+            `${OPERATOR} ?v ${PART}`),
+    },
+    {
+        name: 'an operator that ends a word',
+        example: ['satisfies', '1.2.3', 'foo= 1.2.3'],
+        npm: false,
+        here: true,
+        why: 'npm glues it to the word after it, and drops both; here `foo=` is ignored',
+        range: someWord((word, i, words) => i < words.length - 1 && /[<>=~^]$/.test(word)
+            && !new RegExp(`^${OPERATOR}$`).test(word)),
+    },
+    {
+        name: 'a star glued to a version',
+        example: ['satisfies', '1.2.3', '1.2.3*'],
+        npm: true,
+        here: false,
+        why: 'npm takes the star out, with an operator before it; here the word is ignored',
+        range: someWord((word) => word.includes('*') && !new RegExp(`^${OPERATOR}?v?${PARTIAL}$`).test(word)),
+    },
+    {
+        name: 'a star between ignored words',
+        example: ['satisfies', '1.2.3', 'foo x foo'],
+        npm: false,
+        here: true,
+        why: 'npm loses it there',
+        range: someWord((word, i, words) => i > 0 && i < words.length - 1 && isStar(word)),
+    },
+    {
+        name: 'a word above 256 characters',
+        code: "validRange('1.2.3-' + 'a'.repeat(251))",
+        npm: null,
+        here: `1.2.3-${'a'.repeat(251)}`,
+        shown: "'1.2.3-aaa..'",
+        why: 'a range text may have any length',
+        range: someWord((word) => word.length > 256),
     },
     {
         name: 'a tilde or a caret alone',
@@ -76,7 +83,7 @@ const rules = [
         npm: true,
         here: false,
         why: 'npm glues it to the word after it, and drops both',
-        range: (text) => /[~^]>? (?![\dxX*v])/.test(text),
+        range: has(String.raw`(?:^|[ |])[~^]>? (?![\dxX*v])`),
     },
     {
         name: 'a patch is divided',
@@ -84,8 +91,8 @@ const rules = [
         npm: '1.2.3-4.5',
         here: null,
         why: 'a number takes all digits that stand together',
-        version: (text) => /^[^.]*\.[^.]*\.\d\d+\./.test(text),
-        range: (text) => /(^|[ |<>=~^v])[\dxX*]+\.[\dxX*]+\.\d\d+\./.test(text),
+        version: has(String.raw`^[\sv=]*\d+\.\d+\.\d\d+\.`),
+        range: has(String.raw`(?:^|[ |<>=~^v])${PART}\.${PART}\.\d\d+\.`),
     },
     {
         name: 'a hyphen with nothing after it',
@@ -93,8 +100,8 @@ const rules = [
         npm: '1.2.3--',
         here: null,
         why: 'npm takes the `-` as a prerelease',
-        version: (text) => /^[^-+]*[\d]-(?![0-9A-Za-z-])/.test(text),
-        range: (text) => /[\dxX*]-(?![0-9A-Za-z-])/.test(text),
+        version: has(String.raw`^[\sv=]*\d+\.\d+\.\d+-(?![0-9A-Za-z-])`),
+        range: has(String.raw`${PART}\.${PART}\.${PART}-(?![0-9A-Za-z-])`),
     },
     {
         name: 'zeros that lead in a build',
@@ -102,7 +109,8 @@ const rules = [
         npm: 0,
         here: 1,
         why: 'an identifier of digits is a number: `01` is 1',
-        version: (text) => /\+.*(?<![0-9A-Za-z-])0\d/.test(text),
+        calls: BUILDS,
+        version: has(String.raw`\+.*(?<![0-9A-Za-z-])0\d+(?![0-9A-Za-z-])`),
     },
     {
         name: 'large numbers',
@@ -110,8 +118,8 @@ const rules = [
         npm: false,
         here: true,
         why: 'npm refuses the whole range, here the word is ignored; npm compares digits of prereleases as doubles',
-        version: (text) => /[-+.A-Za-z]\d{16}/.test(text),
-        range: (text) => /\d{16}/.test(text),
+        version: hasLarge,
+        range: hasLarge,
     },
     {
         name: 'nothing between bars',
@@ -127,7 +135,7 @@ const rules = [
         npm: true,
         here: false,
         why: '`<=2.0` is `<=2.0.0-0`, as in the Rust crate',
-        range: (text) => /<= ?v? ?\d+(\.(\d+|[xX*]))?(\.[xX*]\S*)?(?=$| |\|)/.test(text),
+        range: has(String.raw`<= ?v? ?\d+(?:\.${PART})?(?:\.[xX*]\S*)?(?=$| |\|)`),
     },
     {
         name: 'less than a major',
@@ -135,7 +143,7 @@ const rules = [
         npm: false,
         here: true,
         why: '`<2` is `<2.0.0`; npm reads `<2.0.0-0`',
-        range: (text) => /< ?v? ?\d+(\.[xX*]\S*)?(?=$| |\|)/.test(text),
+        range: has(String.raw`< ?v? ?\d+(?:\.[xX*]\S*)?(?=$| |\|)`),
     },
     {
         name: 'an operator before a star',
@@ -143,7 +151,7 @@ const rules = [
         npm: true,
         here: false,
         why: '`=*`, `~*` and `^*` are ignored; `<=*` is `<=0.0.0-0`; numbers after a star count',
-        range: (text) => /(?<!>)[=] ?v?[xX*]|[<>~^] ?v?[xX*]|>= ?v?[xX*]\S*\d/.test(text),
+        range: has(String.raw`(?:^|[ |])(?:<=?|>|=|~ ?>?|\^) ?v? ?[xX*]`, String.raw`(?:^|[ |])>= ?v? ?[xX*]\S*\d`),
     },
     {
         name: 'a hyphen range beside a star',
@@ -151,7 +159,7 @@ const rules = [
         npm: true,
         here: false,
         why: '` - *` ends at `<0.0.0-0`, as in the Rust crate',
-        range: (text) => / - v? ?[xX*]|(^| |\|)v? ?[xX*][^ ]* - /.test(text),
+        range: has(' - v? ?[xX*]', '(?:^| |[|])v? ?[xX*][^ ]* - '),
     },
     {
         name: 'a hyphen range beside other words',
@@ -159,7 +167,15 @@ const rules = [
         npm: false,
         here: true,
         why: 'npm reads a hyphen range only where it is the whole alternative',
-        range: some((text) => / - /.test(text) && !HYPHEN.test(text)),
+        range: some((text) => hasHyphen(text) && !isHyphen(text)),
+    },
+    {
+        name: 'a prefix in a hyphen range',
+        example: ['satisfies', '1.5.0', '=1 - 2'],
+        npm: true,
+        here: false,
+        why: 'a side is a partial alone: here `=1 - 2` is `=1` and `2`; `v 1 - 2` is a hyphen range here, not in npm',
+        range: has(`= ?v? ?${PARTIAL} - `, ` - v? ?=[v= ]*${PARTIAL}`, `v ${PARTIAL} - `, ` - v ${PARTIAL}`),
     },
     {
         name: 'a patch without a minor',
@@ -167,7 +183,7 @@ const rules = [
         npm: true,
         here: false,
         why: 'the patch counts after an operator; `~1.x.3` and `^1.x.3` are ignored',
-        range: (text) => /\d\.[xX*]\.\d/.test(text),
+        range: has(String.raw`\d\.[xX*]\.\d`),
     },
     {
         name: 'a prerelease of an x',
@@ -175,7 +191,7 @@ const rules = [
         npm: false,
         here: true,
         why: '`>=`, `>`, `~>` and hyphen ranges keep it',
-        range: (text) => /\.[xX*][-+0-9A-Za-z]/.test(text),
+        range: has(String.raw`${PART}\.${PART}\.[xX*][-+0-9A-Za-z]`),
     },
     {
         name: 'comparators that never hold together',
@@ -184,8 +200,7 @@ const rules = [
         here: null,
         why: 'such an alternative gives no set',
         calls: RANGES,
-        range: (text) => alternatives(text).every((alternative) =>
-            npmRange(alternative) === null || neverHolds(alternative)),
+        range: (text) => here.validRange(text) === null && alternatives(text).some(neverHolds),
     },
     {
         name: 'below 0.0.0',
@@ -216,9 +231,9 @@ const results = [
         npm: null,
         here: '1.0.1-0',
         why: 'npm tries one version; here it is the least',
-        call: 'minVersion',
-        covers: ({ r }, theirs, ours) => ours !== null && ours !== 'TypeError' && satisfies(ours, r)
-            && (theirs === null || npm.lt(ours, theirs)),
+        calls: ['minVersion'],
+        covers: ({ r }, theirs, ours) => Array.isArray(ours) && satisfies(ours[0], r)
+            && (theirs === null || npm.lt(ours[0], theirs[0])),
     },
     {
         name: 'a subset, which npm decides by its comparators',
@@ -226,7 +241,7 @@ const results = [
         npm: false,
         here: true,
         why: 'here: whether each version that satisfies the one satisfies the other',
-        call: 'subset',
+        calls: ['subset'],
         covers: ({ r, s }, theirs, ours) => (ours === true && theirs === false
             ? !candidates(r, s).some((version) => satisfies(version, r) && !satisfies(version, s))
             : ours === false && theirs === true && isWitness(here.leastBeyond(r, s).version, r, s)),
@@ -237,7 +252,7 @@ const results = [
         npm: false,
         here: true,
         why: 'here: whether they have a place in the line of versions in common',
-        call: 'intersects',
+        calls: ['intersects', 'Range.intersects'],
         covers: ({ r, s }, theirs, ours) => ours === true && theirs === false
             && exactPrereleases(r, s).some((version) => isInside(version, r) && isInside(version, s)),
     },
@@ -264,4 +279,4 @@ const candidates = (...ranges) => ['0.0.0', ...allComparators(...ranges).flatMap
         `${major}.${minor}.${patch + 1}`, `${major}.${minor}.${patch + 1}-0`];
 })];
 
-module.exports = { rules, results, npm, LOOSE };
+module.exports = { rules, results };

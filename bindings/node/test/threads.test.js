@@ -11,6 +11,15 @@ const semver = require('..');
 const THREADS = 8;
 const ROUNDS = 20000;
 
+// Lists, sets, and versions and ranges that no text writes.
+function lists(i) {
+    const versions = [`1.${i}.0+b`, '1.2.3', semver.minVersion('>9007199254740991'), `0.${i}.0-rc`];
+    const range = new semver.Range('1 || 2 || '.repeat(20) + `^${i}`);
+    const made = semver.Range.fromSets(range.sets);
+    const greatest = semver.maxSatisfying(versions, made);
+    return semver.sort(versions)[0].length + Number(greatest.slice(0, 1)) + made.sets.length;
+}
+
 // A number that depends on each result. The ranges are more than are kept.
 function work() {
     let sum = 0;
@@ -18,6 +27,7 @@ function work() {
         const range = `^${i % 7}.${i % 1000}.0 || >=5 <6`;
         sum += semver.satisfies(`${i % 7}.${(i * 3) % 1000}.1`, range) ? i : 1;
         sum += new semver.Range(`>=${i % 5}`).test('3.0.0') ? 2 : 0;
+        sum += i % 100 === 0 ? lists(i) : 0;
     }
     return sum + semver.minVersion('>9007199254740991').major;
 }

@@ -1,0 +1,142 @@
+// SPDX-License-Identifier: Apache-2.0
+// Each allocation of each call refused in turn, alone and with all that follow: the call throws `ERR_MEMORY_ALLOCATION_FAILED` or returns what it
+// returns otherwise, loses no block, and may be made again. The native part is built with refused/refused.c for this.
+'use strict';
+
+const assert = require('node:assert');
+const { spawnSync } = require('node:child_process');
+const fs = require('node:fs');
+const os = require('node:os');
+const path = require('node:path');
+const { test } = require('node:test');
+const { setImmediate: turn } = require('node:timers/promises');
+
+const root = path.join(__dirname, '..');
+const room = fs.mkdtempSync(path.join(os.tmpdir(), 'refused-'));
+process.once('exit', () => fs.rmSync(room, { recursive: true }));
+
+// The package in a folder of its own, with that native part.
+function build() {
+    for (const name of ['index.js', 'internal']) {
+        fs.cpSync(path.join(root, name), path.join(room, name), { recursive: true });
+    }
+    fs.mkdirSync(path.join(room, 'build/Release'), { recursive: true });
+    const include = path.join(path.dirname(fs.realpathSync(process.execPath)), '../include/node');
+    const sources = fs.readdirSync(path.join(root, 'src')).filter((file) => file.endsWith('.c') && file !== 'module.c');
+    const { status, stderr } = spawnSync('cc', ['-shared', '-fPIC', '-std=c11', '-DNAPI_VERSION=8', `-I${include}`,
+        `-I${path.join(root, 'lib')}`, ...sources.map((file) => path.join(root, 'src', file)),
+        path.join(__dirname, 'refused/refused.c'), path.join(root, 'lib/libnode_semver.a'), '-Wl,--exclude-libs,ALL',
+        ...['malloc', 'calloc', 'realloc', 'free'].map((name) => `-Wl,--wrap=${name}`),
+        '-o', path.join(room, 'build/Release/node_semver.node')], { encoding: 'utf8' });
+    assert.strictEqual(status, 0, stderr);
+}
+
+build();
+const semver = require(room);
+const { refuse, refusals } = require(path.join(room, 'build/Release/node_semver.node'));
+
+const long = '^1.2.3-alpha.1 || '.repeat(20) + '>=2.0.0-rc.1';
+const ranges = ['>=1.2.3-rc.4.a.b <2.0.0-beta.9+c || 5.x || 7.1.2-x', long].map((text) => new semver.Range(text));
+const versions = Array.from({ length: 20 }, (_, i) => `1.${i * 7 % 20}.0-rc.${i}.a+b.${i}`);
+const beyond = semver.minVersion('>9007199254740991');
+const build250 = `1.0.0+${'a.'.repeat(120)}b`;
+
+const calls = {
+    valid: () => semver.valid('1.2.3-rc.1.a+b.c'),
+    'new SemVer': () => new semver.SemVer('1.2.3-rc.1.a+b.c').build,
+    parse: () => semver.parse('1.2.3-rc.1.a+b.c').version,
+    'parse, refused': () => semver.parse('1.2'),
+    compare: () => semver.compare('1.2.3-rc.1.a', '1.2.3-rc.1.b'),
+    compareBuild: () => semver.compareBuild(build250, `${build250}c`),
+    'compareBuild, of two parts': () => new semver.SemVer('1.2.3+a').compareBuild('1.2.3+b'),
+    comparePre: () => new semver.SemVer('1.2.3-a.b').comparePre('1.2.3-a.c'),
+    sort: () => semver.sort([...versions]),
+    'sort, refused': () => { try { semver.sort([...versions, 'x']); } catch (error) { return rethrown(error); } },
+    'sort, what no text writes': () => semver.sort([beyond, ...versions]).map(String),
+    maxSatisfying: () => semver.maxSatisfying(versions, '^1.2.0-rc.1'),
+    minSatisfying: () => semver.minSatisfying(versions, ranges[1]),
+    'satisfies, kept': () => semver.satisfies('1.2.3-rc.5', '^1.2.3-rc.4'),
+    'satisfies, long': () => semver.satisfies('1.2.3-beta', long),
+    validRange: () => semver.validRange(long),
+    'new Range, long': () => new semver.Range(long).range,
+    intersect: () => String(semver.intersect(ranges[0], ranges[1])),
+    difference: () => String(semver.difference(ranges[1], ranges[0])),
+    'intersect, what no text writes': () => String(semver.intersect('>9007199254740991', '>1')),
+    leastBeyond: () => String(semver.leastBeyond(ranges[0], ranges[1])),
+    leastCommon: () => String(semver.leastCommon(ranges[0], ranges[1])),
+    minVersion: () => String(semver.minVersion(ranges[0])),
+    'minVersion, what no text writes': () => String(semver.minVersion('>9007199254740991')),
+    sets: () => JSON.stringify(ranges[0].sets),
+    'sets, what no text writes': () => String(new semver.Range('^9007199254740991').sets[0].upper.version),
+    fromSets: () => String(semver.Range.fromSets(ranges[0].sets)),
+    subset: () => semver.subset(ranges[0], ranges[1]),
+    intersects: () => semver.intersects(ranges[0], ranges[1]),
+};
+
+function rethrown(error) {
+    if (error instanceof TypeError) {
+        return error.message;
+    }
+    throw error;
+}
+
+// What the call returns, or `undefined` if it says that memory ran out.
+function outcome(call) {
+    try {
+        return call();
+    } catch (error) {
+        assert.strictEqual(error.code, 'ERR_MEMORY_ALLOCATION_FAILED', error.stack);
+        return undefined;
+    }
+}
+
+// The blocks that are left when all objects are freed that nothing uses.
+async function blocks() {
+    for (let i = 0; i < 3; i++) {
+        globalThis.gc();
+        await turn();
+    }
+    return refuse(-1, false);
+}
+
+// Makes the call until no allocation is refused, and returns how many were.
+function refuseEach(call, expected, isOne) {
+    for (let count = 0; ; count++) {
+        refuse(count, isOne);
+        const result = outcome(call);
+        const isRefused = refusals() > 0;
+        refuse(-1, false);
+        assert.ok(result !== undefined || isRefused, `${count} allocations`);
+        if (result !== undefined) {
+            assert.deepStrictEqual(result, expected, `${count} allocations`);
+        }
+        assert.deepStrictEqual(call(), expected, `after ${count} allocations`);
+        if (!isRefused) {
+            return count;
+        }
+    }
+}
+
+let total = 0;
+
+for (const [name, call] of Object.entries(calls)) {
+    test(`${name}: each allocation is refused`, async () => {
+        const expected = call();
+        const before = await blocks();
+        total += refuseEach(call, expected, true) + refuseEach(call, expected, false);
+        assert.strictEqual(await blocks(), before, 'blocks');
+    });
+}
+
+test('a range is not kept if memory runs out as it is read', async () => {
+    for (let count = 0; count < 3; count++) {
+        const text = `>=1.2.3-rc.${count}.a.b <2`;
+        refuse(count, true);
+        outcome(() => semver.satisfies('1.2.3', text));
+        refuse(-1, false);
+        assert.strictEqual(semver.satisfies('1.2.3', text), true);
+        assert.strictEqual(semver.satisfies('2.2.3', text), false);
+    }
+});
+
+test('allocations were refused', () => assert.ok(total > 600, `${total} allocations`));

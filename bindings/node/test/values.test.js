@@ -1,0 +1,157 @@
+// SPDX-License-Identifier: Apache-2.0
+// Lists that change as they are read, values of other types, and long builds and prereleases: as with npm.
+'use strict';
+
+const assert = require('node:assert');
+const { describe, test } = require('node:test');
+const { inspect } = require('node:util');
+const semver = require('..');
+const { createNpm } = require('./npm.js');
+
+const npm = createNpm();
+
+// What a call returns, as it is shown, or that it throws.
+function outcome(call) {
+    try {
+        const result = call();
+        return inspect(result?.version ?? result?.raw ?? result);
+    } catch {
+        return 'throws';
+    }
+}
+
+// Each call here and in npm's `semver`, on arguments that are made anew.
+function isAsNpm(name, make, call) {
+    test(name, () => assert.deepStrictEqual(outcome(() => call(semver, make())), outcome(() => call(npm, make()))));
+}
+
+describe('lists are as with npm', () => {
+    const lists = {
+        'holes': () => ['2.0.0', , '1.0.0', , '0.1.0'],
+        'holes and undefined': () => ['2.0.0', , undefined, '1.0.0', , undefined],
+        'holes alone': () => [, , ,],
+        'one hole and a value that is no version': () => [, 5],
+        'undefined alone': () => [undefined, undefined],
+        'the list grows as it is read': () => {
+            const list = ['1.0.0', '1.1.0'];
+            return Object.defineProperty(list, 0, { get() { list[2] = '1.9.0'; return '1.0.0'; }, set() {} });
+        },
+        'the list changes as it is read': () => {
+            const list = ['1.0.0', '1.1.0', '1.2.0'];
+            return Object.defineProperty(list, 1, { get() { list[0] = '9.9.9'; return '0.5.0'; }, set() {} });
+        },
+        'the list shrinks as it is read': () => {
+            const list = ['1.0.0', '1.1.0', '1.2.0'];
+            return Object.defineProperty(list, 0, { get() { list.length = 1; return '1.0.0'; }, set() {} });
+        },
+        'a getter returns another version at each call': () => {
+            let count = 0;
+            return Object.defineProperty(['1.0.0', '1.1.0'], 0, { get() { return `1.${++count}.0`; }, set() {} });
+        },
+        'a getter throws': () => Object.defineProperty(['1.0.0', '1.1.0'], 0, { get() { throw new RangeError('x'); } }),
+        'a proxy of a list': () => new Proxy(['2.0.0', , '1.0.0'], {}),
+        'a frozen list': () => Object.freeze(['2.0.0', '1.0.0']),
+        'a list whose length is fixed, with a hole': () => Object.preventExtensions(['2.0.0', , '1.0.0']),
+        'a class of lists': () => (class extends Array {}).from(['2.0.0', '1.0.0', '1.5.0']),
+        'a list with a sort of its own': () => Object.assign(['2.0.0', '1.0.0'], { sort: () => 'own' }),
+        'a list with a filter of its own': () => Object.assign(['2.0.0', '1.0.0'], { filter: () => ['x'] }),
+        'an array of numbers': () => new Float64Array(3),
+        'texts of several lines': () => ['1.0.0', '1.0.0\n1.5.0', '\n', '1.2.0\n'],
+        'refused texts, null and undefined': () => ['1.0.0', 'x', '', null, undefined, '1.5.0'],
+        'a Set': () => new Set(['1.0.0', '1.5.0', '2.0.0']),
+        'a Map': () => new Map([['1.0.0', '1.1.0'], ['x', '1.5.0']]),
+    };
+    for (const [name, make] of Object.entries(lists)) {
+        isAsNpm(`maxSatisfying: ${name}`, make, (s, list) => s.maxSatisfying(list, '^1'));
+        isAsNpm(`minSatisfying: ${name}`, make, (s, list) => s.minSatisfying(list, '^1 || 2'));
+        isAsNpm(`sort: ${name}`, make, (s, list) => s.sort(list));
+        isAsNpm(`rsort: ${name}`, make, (s, list) => s.rsort(list));
+    }
+});
+
+function revoked(value) {
+    const { proxy, revoke } = Proxy.revocable(value, {});
+    revoke();
+    return proxy;
+}
+
+describe('other values are as with npm', () => {
+    const values = {
+        'a String': () => new String('^1'),
+        'a String with white space': () => new String(' >=1  \n<3 '),
+        'a String of junk': () => new String('foo bar'),
+        'a String that is a version': () => new String('1.2.3'),
+        'what trims itself': () => ({ trim: () => '^1' }),
+        'what trims itself to nothing of use': () => ({ trim: () => 5 }),
+        'what throws as it is trimmed': () => ({ trim() { throw new RangeError('x'); } }),
+        'a revoked proxy': () => revoked({}),
+        'a revoked proxy of a list': () => revoked([]),
+        'a proxy that throws': () => new Proxy({}, new Proxy({}, { get() { throw new RangeError('x'); } })),
+    };
+    const calls = {
+        valid: (s, x) => s.valid(x),
+        clean: (s, x) => s.clean(x),
+        parse: (s, x) => s.parse(x),
+        major: (s, x) => s.major(x),
+        compare: (s, x) => s.compare('1.0.0', x),
+        compareBuild: (s, x) => s.compareBuild(x, '1.0.0'),
+        cmp: (s, x) => s.cmp(x, '===', '1.0.0'),
+        'satisfies, version': (s, x) => s.satisfies(x, '^1'),
+        'satisfies, version, junk': (s, x) => s.satisfies(x, 'foo bar'),
+        'satisfies, range': (s, x) => s.satisfies('1.2.3', x),
+        'maxSatisfying, list': (s, x) => s.maxSatisfying(x, '^1'),
+        'maxSatisfying, version': (s, x) => s.maxSatisfying(['1.0.0', x], '^1'),
+        'maxSatisfying, range': (s, x) => s.maxSatisfying(['1.0.0', '1.2.0'], x),
+        sort: (s, x) => s.sort(['1.0.0', x]),
+        'sort, list': (s, x) => s.sort(x),
+        'validRange, whether': (s, x) => s.validRange(x) !== null,
+        minVersion: (s, x) => s.minVersion(x),
+        intersects: (s, x) => s.intersects('1.2.3', x),
+        'subset, of itself': (s, x) => s.subset(x, x),
+        'subset, junk of itself': (s) => s.subset('foo bar', 'foo bar'),
+        SemVer: (s, x) => new s.SemVer(x),
+        'Range, raw': (s, x) => new s.Range(x).raw,
+        test: (s, x) => new s.Range('^1').test(x),
+    };
+    for (const [value, make] of Object.entries(values)) {
+        for (const [name, call] of Object.entries(calls)) {
+            isAsNpm(`${name}: ${value}`, make, call);
+        }
+    }
+});
+
+describe('long builds and prereleases', () => {
+    const build = (letter) => `1.0.0+${letter.repeat(250)}`;
+    isAsNpm('compareBuild of 250 bytes', () => [build('a'), build('b')], (s, list) => s.compareBuild(...list));
+    isAsNpm('sort by builds of 250 bytes', () => [build('b'), build('a'), '1.0.0'], (s, list) => s.sort(list));
+    const long = (before, letter) => new semver.Range(`>=1.0.0${before}${letter.repeat(1000)}`).sets[0].lower.version;
+    const rows = [['+', 'compareBuild'], ['-', 'comparePre'], ['-', 'compare'], ['-a.1.', 'comparePre']];
+    for (const [before, compare] of rows) {
+        test(`${compare} of versions that no text writes, after ${before}`, () => {
+            const one = long(before, 'a');
+            assert.ok(one.build.join().length === 1000 || one.version.length > 1000);
+            assert.strictEqual(one[compare](long(before, 'b')), -1);
+            assert.strictEqual(long(before, 'b')[compare](one), 1);
+            assert.strictEqual(one[compare](long(before, 'a')), 0);
+        });
+    }
+    test('sort and compareBuild of such versions', () => {
+        const [one, other] = [long('+', 'a'), long('+', 'b')];
+        assert.deepStrictEqual(semver.sort([other, '1.0.0', one, '2.0.0']), ['1.0.0', one, other, '2.0.0']);
+        assert.deepStrictEqual(semver.rsort([one, other, '1.0.0+z']), ['1.0.0+z', other, one]);
+        assert.strictEqual(semver.compareBuild(one, other), -1);
+        assert.strictEqual(semver.maxSatisfying([one, other, '0.1.0'], '1.0.0'), one);
+        assert.strictEqual(semver.minSatisfying([other, one, '1.1.0'], '^1.0.0'), other);
+    });
+    test('the least version has no build', () => {
+        for (const range of ['>=1.0.0+b', '>1.0.0-a+b', `>=1.0.0-${'a'.repeat(300)}+b`, '>1.2.9007199254740991+b']) {
+            assert.deepStrictEqual(semver.minVersion(range).build, [], range);
+            assert.ok(!semver.minVersion(range).raw.includes('+'), range);
+        }
+    });
+    test('compareMain of numbers above the greatest that a text writes', () => {
+        const beyond = semver.minVersion('>9007199254740991');
+        assert.strictEqual(beyond.compareMain('9007199254740991.0.0'), 1);
+        assert.strictEqual(new semver.SemVer('1.2.3-rc').compareMain(beyond), -1);
+    });
+});

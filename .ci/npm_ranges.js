@@ -14,7 +14,6 @@ const pieces = text => text.split('||')
 const anyPiece = (text, test) => pieces(text).some(piece => test.test(piece))
 const STAR_WORD = /(^|[\s<>=~^v])([xX*]|>=\s*0|$)/
 const RULES = [
-  ['white space outside ASCII', text => /[^\x00-\x7f]/.test(text)],
   ['a number near the limit', text => /[0-9]{16}/.test(text)],
   ['marks before a partial', text => /v[v=\s]|=\s*=|(^|[\s|])=\s*\S+\s+-\s|\s-\s+=/.test(text)],
   ['white space inside an operator', text => /[<>=~^]\s+[<>=~^]/.test(text)],
@@ -49,7 +48,7 @@ const partial = () => {
   return random(25) ? text : pick(['v', '=', 'V', 'vv', 'v ', '==']) + text
 }
 const OPERATORS = ['', '', '', '>=', '>', '<', '<=', '=', '~', '~>', '^', '^', '>= ', '< ', '~ ', '^ ', '> ', '<= ', '~> ', '= ', '> =', '=<']
-const blank = () => random(20) ? ' ' : pick(['  ', '\t', '\n', ' \r\n', '\f', '\v', '\u00a0', '\u2003'])
+const blank = () => random(20) ? ' ' : pick(['  ', '\t', '\n', ' \r\n', '\f', '\v', '\u00a0', '\u2003', '\ufeff', ' \u3000'])
 const WORDS = ['foo', '-', '|', '&&', ',', '>', '~', 'latest', '1.2.3.4', '>=<1', '~>=1.2', '1.2.3<2', '- 1', '1 -', '1.2.3-', '*1', '1*']
 const word = () => random(30) ? pick(OPERATORS) + partial() : pick(WORDS)
 const piece = () => {

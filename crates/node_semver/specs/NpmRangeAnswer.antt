@@ -6,16 +6,19 @@ use Rattle.semver_versions.specs.Error.{IsOutOfMemory, IsRefusalAt, no_valid_ran
 use Rattle.semver_versions.specs.Version.{VersionValue}
 use Rattle.semver_versions.specs.declared.error.SemverError.{SemverError}
 use Rattle.npm_sets.specs.NpmMeaning.{AreNpmSets, IsNpmRefused, NpmSetsAdmit, NpmTextAdmits}
+use Rattle.npm_sets.specs.Spaces.{with_plain_spaces}
 use Rattle.npm_sets.specs.declared.options.NpmOptions.{NpmOptions}
 
--- unless it is out of memory, the text is refused exactly where npm's reading refuses it; otherwise a version satisfies
+-- White space outside ASCII counts as a space. Unless it is out of memory, the text is refused exactly where npm's
+-- reading refuses it; otherwise a version satisfies
 -- the range, or with prereleases included lies inside one of its sets, exactly where the text admits it
 pub record IsNpmRangeAnswer (options : NpmOptions) (text : List ℕ)
     (answer : Result (List (Ends VersionValue)) SemverError) : Type 0 where
-  pub refused : IfErr answer (λ e. IsOutOfMemory e ⊎ (IsRefusalAt text no_valid_ranges 0 e × IsNpmRefused options text))
-  pub accepted : OnOk answer (¬ IsNpmRefused options text)
+  pub refused : IfErr answer (λ e. IsOutOfMemory e
+      ⊎ (IsRefusalAt text no_valid_ranges 0 e × IsNpmRefused options (with_plain_spaces text)))
+  pub accepted : OnOk answer (¬ IsNpmRefused options (with_plain_spaces text))
   pub means : IfOk answer (λ r. (v : VersionValue)
-      → NpmSetsAdmit options.include_prerelease r v ↔ NpmTextAdmits options text v)
+      → NpmSetsAdmit options.include_prerelease r v ↔ NpmTextAdmits options (with_plain_spaces text) v)
   -- one set for each alternative that gives a set, and the properties of every range
-  pub sets : IfOk answer (AreNpmSets options text)
+  pub sets : IfOk answer (AreNpmSets options (with_plain_spaces text))
   pub holds : IfOk answer IsRangeValue

@@ -1,4 +1,5 @@
 -- What contracts say about npm's own reading of range texts: defined in `npm_sets`, and handed on.
+pub use Rattle.npm_sets.specs.Spaces.{is_wide_space, plain, with_plain_spaces}
 pub use Rattle.npm_sets.specs.WordTexts.{Word, chunks_of, is_space, lead_of, pieces_of, sides_of, words_of}
 pub use Rattle.npm_sets.specs.PartialTexts.{partial_of}
 pub use Rattle.npm_sets.specs.Rows.{hyphen_comparator, lead_comparator, no_versions}

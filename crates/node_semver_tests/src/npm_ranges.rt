@@ -7,10 +7,12 @@ use std::process::Abort;
 // the same for each, with the options of the table.
 
 // npm's "Advanced Range Syntax" and "Range Grammar", in strict form, without prereleases.
-const STRICT: [&str; 44] = [
+const STRICT: [&str; 46] = [
     "; 0.0.0 1.2.3 99.0.0; 1.0.0-a",
     " \t\n\r\u{b}\u{c}; 1.2.3; 1.0.0-a",
     "*; 0.0.0 1.2.3; 1.0.0-a",
+    "\u{feff}>=\u{a0}1.2\u{3000}<2\u{2003}||\u{2028}3; 1.9.0 3.1.0; 2.0.0",
+    "\u{202f}1.2\u{1680}-\u{205f}3\u{200a}; 1.2.0 3.9.9; 4.0.0",
     "x; 1.2.3; 0.0.0-0",
     "1.2.3; 1.2.3; 1.2.4 1.2.3-a",
     "=1.2.3; 1.2.3; 1.2.4",
@@ -86,8 +88,10 @@ const LOOSE: [&str; 10] = [
     "01 - 02; 1.0.0 2.9.9; 3.0.0",
 ];
 
-const REFUSED_STRICT: [&str; 26] = [
+const REFUSED_STRICT: [&str; 28] = [
     "foo",
+    "1\u{85}2",
+    "1\u{200b}",
     "1 foo",
     "foo || 1",
     "1 || foo",

@@ -1,1 +1,2 @@
 pub mod NpmExamples
+pub mod SpaceExamples

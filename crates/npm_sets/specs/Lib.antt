@@ -1,6 +1,8 @@
 -- The definitions for npm's own reading of range texts, in reading order. These files are what a reader has to trust,
 -- beside those of `semver_sets` that they use.
 
+-- ---- white space outside ASCII
+pub mod Spaces
 -- ---- how a text is divided: pieces, words, and the partial of a word
 pub mod WordTexts
 pub mod PartialTexts
@@ -8,5 +10,6 @@ pub mod PartialTexts
 pub mod Rows
 -- ---- the alternatives of a text, and which versions it admits
 pub mod NpmMeaning
+pub mod NpmAnswer
 -- ---- not part of any public contract of `node_semver`: what private functions compute
 pub mod Private

@@ -16,6 +16,7 @@ mod partial;
 mod piece;
 pub mod read;
 mod rows;
+pub mod spaces;
 mod words;
 
 pub use options::NpmOptions;

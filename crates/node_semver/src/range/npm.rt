@@ -5,11 +5,12 @@ ghost use Rattle.std.specs.Prelude.{◌≡◌, ◌⊎◌};
 ghost use Rattle.semver_sets.specs.declared.read.Unread.TheVariants.{Refused};
 ghost use Rattle.semver_versions.specs.Error.{IsOutOfMemory, IsRefusalAt, no_valid_ranges};
 ghost use Rattle.npm_sets.specs.NpmMeaning.{IsNpmRefused};
+ghost use Rattle.npm_sets.specs.Spaces.{with_plain_spaces};
 ghost use Rattle.npm_sets.specs.declared.options.NpmOptions.{NpmOptions};
 ghost use Rattle.node_semver.specs.NpmRangeAnswer.{IsNpmRangeAnswer};
 
 use crate::{NpmOptions, Range, SemverError, SemverErrorKind};
-use npm_sets::read::read_npm;
+use npm_sets::spaces::read_npm_text;
 use semver_sets::read::Unread;
 use std::alloc::Global;
 
@@ -18,6 +19,8 @@ impl Range {
     ///
     /// [`Range::parse`] reads a text as the Rust crate does, and gives other answers for some texts: `<=20` is
     /// `<21.0.0-0` here and `<=20.0.0-0` there, and the empty text is every release here and is refused there.
+    ///
+    /// White space outside ASCII counts as a space, as in npm: U+00A0, U+3000, U+FEFF and others.
     ///
     /// If prereleases are not included, ask the range by [`Range::satisfies`]. If they are, ask it by
     /// [`Range::contains`]: a prerelease then needs no end that is a prerelease of its triple.
@@ -38,7 +41,7 @@ impl Range {
     /// # Memory
     ///
     /// Allocates the prereleases that the text writes at ends, and a list if there are several sets. An error holds a
-    /// copy of the text.
+    /// copy of the text. A text that is not in ASCII is copied for the time of the call.
     ///
     /// # Examples
     ///
@@ -50,7 +53,7 @@ impl Range {
     pub fn parse_npm(alloc: Global, text: &str, options: NpmOptions) -> Result<Range, SemverError>
         ensures { IsNpmRangeAnswer options text.now result }
     {
-        match read_npm(alloc, text.as_bytes(), options) {
+        match read_npm_text(alloc, text, options) {
             Ok(sets) => Ok(Range { sets }),
             Err(unread) => Err(npm_error(alloc, text, options, unread)),
         }
@@ -60,9 +63,9 @@ impl Range {
 // The error for a text that was not read. `inline(never)`: few texts are refused.
 #[inline(never)]
 fn npm_error(alloc: Global, text: &str, options: NpmOptions, unread: Unread) -> SemverError
-    requires { unread ≡ Refused → IsNpmRefused options text.now }
+    requires { unread ≡ Refused → IsNpmRefused options (with_plain_spaces text.now) }
     ensures { IsOutOfMemory result
-        ⊎ (IsRefusalAt text.now no_valid_ranges 0 result × IsNpmRefused options text.now) }
+        ⊎ (IsRefusalAt text.now no_valid_ranges 0 result × IsNpmRefused options (with_plain_spaces text.now)) }
 {
     let _options = options;
     match unread {

@@ -1,5 +1,6 @@
 -- Lemmas, by subject. The other folders hold the proofs of functions, by module.
 pub mod Chunks
 pub mod Pieces
+pub mod Full
 -- ---- worked examples, which compute
 pub mod Examples

@@ -8,5 +8,6 @@ pub mod PartialTexts
 pub mod Rows
 -- ---- the alternatives of a text, and which versions it admits
 pub mod NpmMeaning
+pub mod FullTexts
 -- ---- not part of any public contract of `node_semver`: what private functions compute
 pub mod Private

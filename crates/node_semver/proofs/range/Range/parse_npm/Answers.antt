@@ -8,7 +8,7 @@ pub returns-in-Ok : goal.returns-in-Ok
 returns-in-Ok c =
     let options = c.args.options in
     let sets = sets_seen c.in-Ok.sets in
-    let same = c.as_bytes.ensures.value in
+    let same = c.as_bytes-bytes.ensures.value in
     record {
       refused = tt;
       accepted = subst (λ (t : List ℕ). ¬ IsNpmRefused options t) same c.in-Ok.ensures.accepted;

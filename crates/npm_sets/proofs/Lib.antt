@@ -2,5 +2,6 @@
 pub mod Chunks
 pub mod Pieces
 pub mod PlainSpaces
+pub mod Full
 -- ---- worked examples, which compute
 pub mod Examples

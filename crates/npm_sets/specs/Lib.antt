@@ -11,5 +11,6 @@ pub mod Rows
 -- ---- the alternatives of a text, and which versions it admits
 pub mod NpmMeaning
 pub mod NpmAnswer
+pub mod FullTexts
 -- ---- not part of any public contract of `node_semver`: what private functions compute
 pub mod Private

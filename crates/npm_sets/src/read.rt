@@ -8,6 +8,8 @@ ghost use Rattle.npm_sets.specs.NpmMeaning.{AreNpmSets, IsNpmRefused, NpmSetsAdm
 ghost use Rattle.npm_sets.specs.Rows as Rows;
 ghost use Rattle.npm_sets.specs.Private.ReadViews.{IsAddedBy};
 
+pub mod full;
+
 use crate::NpmOptions;
 use crate::piece::merge_piece;
 use semver_cuts::{Cut, Span};

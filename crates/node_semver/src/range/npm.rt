@@ -10,8 +10,10 @@ ghost use Rattle.npm_sets.specs.declared.options.NpmOptions.{NpmOptions};
 ghost use Rattle.node_semver.specs.NpmRangeAnswer.{IsNpmRangeAnswer};
 
 use crate::{NpmOptions, Range, SemverError, SemverErrorKind};
+use npm_sets::read::full::read_full;
 use npm_sets::spaces::read_npm_text;
 use semver_sets::read::Unread;
+use semver_sets::read::full::{FullLead, caret_set, exact_set, tilde_set};
 use std::alloc::Global;
 
 impl Range {
@@ -50,17 +52,42 @@ impl Range {
     /// # Source
     ///
     /// npm's `semver` 7.6.2, "Ranges" and "Range Grammar". `docs/DIFFERENCES.md` lists where it differs.
+    // Most ranges are a full version after `^`, `~` or nothing, and are read here, as in `Range::parse`.
+    // `inline(always)`: the range is built in the place of the caller's result.
+    #[inline(always)]
     pub fn parse_npm(alloc: Global, text: &str, options: NpmOptions) -> Result<Range, SemverError>
         ensures { IsNpmRangeAnswer options text.now result }
     {
-        match read_npm_text(alloc, text, options) {
-            Ok(sets) => Ok(Range { sets }),
-            Err(unread) => Err(npm_error(alloc, text, options, unread)),
+        match read_full(text.as_bytes(), options) {
+            Some((FullLead::Caret, major, minor, patch)) => {
+                Ok(Range::of_set(caret_set(major, minor, patch)))
+            }
+            Some((FullLead::Tilde, major, minor, patch)) => {
+                Ok(Range::of_set(tilde_set(major, minor, patch)))
+            }
+            Some((FullLead::Nothing, major, minor, patch)) => {
+                Ok(Range::of_set(exact_set(major, minor, patch)))
+            }
+            None => match read_npm_text(alloc, text, options) {
+                Ok(sets) => Ok(Range { sets }),
+                Err(unread) => Err(unread_error(alloc, text, options, unread)),
+            },
         }
     }
 }
 
-// The error for a text that was not read. `inline(never)`: few texts are refused.
+// The error for a text that was not read. It only calls `npm_error`: where `parse_npm` calls that itself, it clears the
+// stack slot of an error for each text, and with this function in between only for a text that is refused.
+#[inline(always)]
+fn unread_error(alloc: Global, text: &str, options: NpmOptions, unread: Unread) -> SemverError
+    requires { unread ≡ Refused → IsNpmRefused options (with_plain_spaces text.now) }
+    ensures { IsOutOfMemory result
+        ⊎ (IsRefusalAt text.now no_valid_ranges 0 result × IsNpmRefused options (with_plain_spaces text.now)) }
+{
+    npm_error(alloc, text, options, unread)
+}
+
+// The same, out of line. `inline(never)`: few texts are refused.
 #[inline(never)]
 fn npm_error(alloc: Global, text: &str, options: NpmOptions, unread: Unread) -> SemverError
     requires { unread ≡ Refused → IsNpmRefused options (with_plain_spaces text.now) }

@@ -164,7 +164,7 @@ unfolding words_of
 word-next chunk next chunks h = rw h refl
 
 -- a lead alone, and no more
-word-last : (chunk : List ℕ) → words_of (chunk ∷ []) ≡ lead_of chunk ∷ words_of []
+pub word-last : (chunk : List ℕ) → words_of (chunk ∷ []) ≡ lead_of chunk ∷ words_of []
 unfolding words_of
 word-last chunk = refl
 

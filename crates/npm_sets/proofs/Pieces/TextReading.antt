@@ -36,16 +36,16 @@ bars-step : (others : List ℕ) → pieces_of (bar ∷ bar ∷ others) ≡ [] �
 unfolding pieces_of
 bars-step others = refl
 
-piece-step : (b c : ℕ) (rest : List ℕ) → ((b == bar) && (c == bar)) ≡ false
+pub piece-step : (b c : ℕ) (rest : List ℕ) → ((b == bar) && (c == bar)) ≡ false
     → pieces_of (b ∷ c ∷ rest) ≡ before_first b (pieces_of (c ∷ rest))
 unfolding pieces_of
 piece-step b c rest h = rw h refl
 
-pieces-short : (b : ℕ) → pieces_of (b ∷ []) ≡ (b ∷ []) ∷ []
+pub pieces-short : (b : ℕ) → pieces_of (b ∷ []) ≡ (b ∷ []) ∷ []
 unfolding pieces_of
 pieces-short b = refl
 
-pieces-nothing : pieces_of [] ≡ [] ∷ []
+pub pieces-nothing : pieces_of [] ≡ [] ∷ []
 unfolding pieces_of
 pieces-nothing = refl
 
@@ -87,13 +87,13 @@ only-piece (b ∷ c ∷ text) free =
 
 -- ---- the alternatives so far
 
-pieces-more : (options : NpmOptions) (piece : List ℕ) (pieces : List (List ℕ))
+pub pieces-more : (options : NpmOptions) (piece : List ℕ) (pieces : List (List ℕ))
     → pieces_alternatives options (piece ∷ pieces)
     ≡ with_piece (piece_comparators options piece) (pieces_alternatives options pieces)
 unfolding pieces_alternatives
 pieces-more options piece pieces = refl
 
-pieces-end : (options : NpmOptions) → pieces_alternatives options [] ≡ Some []
+pub pieces-end : (options : NpmOptions) → pieces_alternatives options [] ≡ Some []
 unfolding pieces_alternatives
 pieces-end options = refl
 

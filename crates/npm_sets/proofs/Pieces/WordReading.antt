@@ -83,17 +83,17 @@ with-refused : (loose : Bool) (fault : Fault) (more : Option (List Comparator)) 
 with-refused loose fault None h = refl
 with-refused loose fault (Some more) h = rw h refl
 
-comparators-step : (options : NpmOptions) (word : Word) (words : List Word)
+pub comparators-step : (options : NpmOptions) (word : Word) (words : List Word)
     → comparators_of options (word ∷ words)
     ≡ with_word options.loose (word_comparator options word) (comparators_of options words)
 unfolding comparators_of
 comparators-step options word words = refl
 
-comparators-end : (options : NpmOptions) → comparators_of options [] ≡ Some []
+pub comparators-end : (options : NpmOptions) → comparators_of options [] ≡ Some []
 unfolding comparators_of
 comparators-end options = refl
 
-words-end : words_of [] ≡ []
+pub words-end : words_of [] ≡ []
 unfolding words_of
 words-end = refl
 

@@ -6,6 +6,7 @@ use Rattle.std.specs.List.{AllByRecursion}
 use Rattle.semver_cuts.specs.declared.cut.Cut.{Cut}
 use Rattle.semver_cuts.specs.declared.cut.Cut.TheVariants as Cuts
 use Rattle.semver_cuts.specs.Ends.{Ends}
+use Rattle.semver_versions.specs.Characters.{caret, tilde}
 use Rattle.semver_versions.specs.Readers.Reading.{Read, read_extras}
 use Rattle.semver_versions.specs.Version.{VersionValue, least_of, release, without_build}
 use Rattle.semver_versions.specs.declared.TheConstants.{MAX_SAFE_INTEGER}
@@ -14,10 +15,12 @@ use Rattle.semver_sets.specs.Comparator.{Comparator}
 use Rattle.semver_sets.specs.Merging.{AreSetsOf, IsCommonSpan}
 use Rattle.semver_sets.specs.PartialText.{Partial, zeroed}
 use Rattle.semver_sets.specs.RangeSets.{IsRangeCut}
+use Rattle.semver_sets.specs.declared.read.full.FullLead.{FullLead}
+use Rattle.semver_sets.specs.declared.read.full.FullLead.TheVariants as FullLeads
 use Rattle.semver_sets.specs.declared.read.Unread.{Unread}
 use Rattle.semver_sets.specs.declared.read.Unread.TheVariants.{OutOfMemory, Refused}
 use Rattle.npm_sets.specs.NpmMeaning.{is_unknown}
-use Rattle.npm_sets.specs.PartialTexts.{with_extras}
+use Rattle.npm_sets.specs.PartialTexts.{number_component, with_extras}
 use Rattle.npm_sets.specs.declared.ends.WordEnds.{WordEnds}
 use Rattle.npm_sets.specs.declared.ends.WordCut.{WordCut}
 use Rattle.npm_sets.specs.declared.ends.WordCut.TheVariants as WordCuts
@@ -184,3 +187,15 @@ hyphen_seen (Some e) = Some (ends_seen e)
 abbrev pub sides_seen : Option (Bor (List ℕ) × Bor (List ℕ)) → Option (List ℕ × List ℕ)
 sides_seen None = None
 sides_seen (Some r) = Some (r.0.now, r.1.now)
+
+-- ---- full texts
+
+-- what is written before the version of a full text
+abbrev pub full_mark : FullLead → List ℕ
+full_mark FullLeads.Caret = caret ∷ []
+full_mark FullLeads.Tilde = tilde ∷ []
+full_mark FullLeads.Nothing = []
+
+-- a number, and the text after it
+abbrev pub IsNumberBefore : Bool → List ℕ → ℕ → List ℕ → Type 0
+IsNumberBefore loose text number rest = Ok (Some number, rest) ≡ number_component loose text

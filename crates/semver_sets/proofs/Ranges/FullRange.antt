@@ -129,8 +129,7 @@ pub caret-patch : (major minor patch : ℕ) → major ≡ 0 → minor ≡ 0 → 
 caret-patch major minor patch no_major no_minor = rw (no_major, no_minor) refl
 
 -- the ends of the set are in order
-pub full-below : (text : List ℕ) (lead : FullLead) (major minor patch : ℕ) (set : Ends VersionValue)
+pub full-below : (lead : FullLead) (major minor patch : ℕ) (set : Ends VersionValue)
     → full_set lead major minor patch ≡ set
-    → IsFullText text lead major minor patch → IsCutBelow version_cmp set.lower set.upper
-full-below text lead major minor patch set same full =
-    set-below set (subst IsRangeSet same full.set)
+    → IsRangeSet (full_set lead major minor patch) → IsCutBelow version_cmp set.lower set.upper
+full-below lead major minor patch set same held = set-below set (subst IsRangeSet same held)

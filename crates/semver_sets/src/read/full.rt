@@ -2,13 +2,14 @@
 //! and its set is built at once. Each kind has a function of its own.
 //!
 //! `#[inline(always)]`: the numbers stay in registers, and the set is built in the place of the caller's result.
-ghost use Rattle.std.specs.Prelude.{◌≡◌, ℕ, IfSome, List};
+ghost use Rattle.std.specs.Prelude.{◌≡◌, IfSome};
 ghost use Rattle.semver_cuts.specs.Ends.{IsCutBelow};
 ghost use Rattle.semver_cuts.specs.declared.cut.Cut.TheVariants.{Before};
 ghost use Rattle.semver_versions.specs.Comparison.{version_cmp};
 ghost use Rattle.semver_versions.specs.Version as Versions;
 ghost use Rattle.semver_sets.specs.Comparator as Comparators;
 ghost use Rattle.semver_sets.specs.FullTexts.{IsFullText, full_set};
+ghost use Rattle.semver_sets.specs.RangeSets.{IsRangeSet};
 ghost use Rattle.semver_sets.specs.declared.read.full.FullLead.TheVariants as Leads;
 
 use semver_cuts::{Cut, Span};
@@ -52,7 +53,7 @@ pub fn read_full(text: &[u8]) -> Option<(FullLead, u64, u64, u64)>
 /// `>=0.0.3 <0.0.4-0`.
 #[inline(always)]
 pub fn caret_set(major: u64, minor: u64, patch: u64) -> Span<EndVersion>
-    requires { (text : List ℕ) × IsFullText text Leads.Caret major minor patch }
+    requires { IsRangeSet (full_set Leads.Caret major minor patch) }
     ensures { result ≡ full_set Leads.Caret major minor patch }
 {
     if major != 0 {
@@ -67,7 +68,7 @@ pub fn caret_set(major: u64, minor: u64, patch: u64) -> Span<EndVersion>
 /// Returns the set of `~1.2.3`, `>=1.2.3 <1.3.0-0`.
 #[inline(always)]
 pub fn tilde_set(major: u64, minor: u64, patch: u64) -> Span<EndVersion>
-    requires { (text : List ℕ) × IsFullText text Leads.Tilde major minor patch }
+    requires { IsRangeSet (full_set Leads.Tilde major minor patch) }
     ensures { result ≡ full_set Leads.Tilde major minor patch }
 {
     set_up_to((major, minor, patch), (major, minor + 1, 0))
@@ -76,7 +77,7 @@ pub fn tilde_set(major: u64, minor: u64, patch: u64) -> Span<EndVersion>
 /// Returns the set of `1.2.3`, `>=1.2.3 <=1.2.3`.
 #[inline(always)]
 pub fn exact_set(major: u64, minor: u64, patch: u64) -> Span<EndVersion>
-    requires { (text : List ℕ) × IsFullText text Leads.Nothing major minor patch }
+    requires { IsRangeSet (full_set Leads.Nothing major minor patch) }
     ensures { result ≡ full_set Leads.Nothing major minor patch }
 {
     let lower = EndVersion::release(major, minor, patch);

@@ -7,15 +7,15 @@ use Rattle.semver_sets.proofs.read.full.caret_set.Goals as goal
 
 pub set_up_to-requires : goal.set_up_to-requires
 set_up_to-requires c =
-    full-below _ Caret _ _ _ _ (ap (from_up_to (release c.args.major c.args.minor c.args.patch))
-    (caret-major c.args.major c.args.minor c.args.patch (omega arith))) c.requires.1
+    full-below Caret _ _ _ _ (ap (from_up_to (release c.args.major c.args.minor c.args.patch))
+    (caret-major c.args.major c.args.minor c.args.patch (omega arith))) c.requires
 
 pub set_up_to-requires-then-minor-ne0 : goal.set_up_to-requires-then-minor-ne0
 set_up_to-requires-then-minor-ne0 c =
-    full-below _ Caret _ _ _ _ (ap (from_up_to (release c.args.major c.args.minor c.args.patch))
-    (caret-minor c.args.major c.args.minor c.args.patch (omega arith) (omega arith))) c.requires.1
+    full-below Caret _ _ _ _ (ap (from_up_to (release c.args.major c.args.minor c.args.patch))
+    (caret-minor c.args.major c.args.minor c.args.patch (omega arith) (omega arith))) c.requires
 
 pub set_up_to-requires-else-minor-ne0 : goal.set_up_to-requires-else-minor-ne0
 set_up_to-requires-else-minor-ne0 c =
-    full-below _ Caret _ _ _ _ (ap (from_up_to (release c.args.major c.args.minor c.args.patch))
-    (caret-patch c.args.major c.args.minor c.args.patch (omega arith) (omega arith))) c.requires.1
+    full-below Caret _ _ _ _ (ap (from_up_to (release c.args.major c.args.minor c.args.patch))
+    (caret-patch c.args.major c.args.minor c.args.patch (omega arith) (omega arith))) c.requires

@@ -5,4 +5,4 @@ use Rattle.semver_sets.proofs.read.full.exact_set.Goals as goal
 
 pub between-requires : goal.between-requires
 between-requires c =
-    rw (c.release-lower.ensures, c.release-upper.ensures) (full-below _ Nothing _ _ _ _ refl c.requires.1)
+    rw (c.release-lower.ensures, c.release-upper.ensures) (full-below Nothing _ _ _ _ refl c.requires)

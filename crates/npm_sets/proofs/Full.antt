@@ -1,0 +1,3 @@
+pub mod FullPartial
+pub mod FullDivision
+pub mod FullMeaning

@@ -1,0 +1,162 @@
+-- A full text is one piece of one chunk, and one word: its mark and its operand.
+use Rattle.std.proofs.Common.{◌≡◌, ◌∙◌, ◌<◌, ℕ, zero, suc, Bool, true, false, List, [], ◌∷◌, ◌++◌, ap, arith, refl, sym, subst}
+use Rattle.std.proofs.lemmas.Bool.{and_from, and_parts}
+use Rattle.std.proofs.lemmas.Bool.Decides.{nat_tests}
+use Rattle.std.proofs.lemmas.List.{append-nil}
+use Rattle.std.specs.List.{list_all}
+use Rattle.std.specs.Prelude.{◌==◌, ◌||◌, IsAscii}
+use Rattle.semver_versions.specs.Characters.{AreAll, BeginsWith, bar, caret, dot, greater_sign, is_digit, tilde}
+use Rattle.semver_versions.specs.Lemmas.Texts.NumberReading.{number-takes}
+use Rattle.semver_versions.specs.Lemmas.Texts.Prefixes.{prefix_of-again, rest_of-again}
+use Rattle.semver_versions.specs.Readers.Reading.{prefix_of, rest_of}
+use Rattle.semver_sets.specs.declared.read.full.FullLead.{FullLead}
+use Rattle.semver_sets.specs.declared.read.full.FullLead.TheVariants as FullLeads
+use Rattle.npm_sets.specs.Private.ReadViews.{IsNumberBefore, full_mark}
+use Rattle.npm_sets.specs.WordTexts.{before_first, chunks_of, is_solid, is_space, lead_of, pieces_of, words_of}
+use Rattle.npm_sets.specs.declared.words.Lead.{Lead}
+use Rattle.npm_sets.specs.declared.words.Lead.TheVariants as Leads
+use Rattle.npm_sets.proofs.Chunks.ChunkLemmas.{chunk-first, chunks-empty, word-last}
+use Rattle.npm_sets.proofs.Full.FullPartial.{number-read}
+use Rattle.npm_sets.proofs.Pieces.TextReading.{piece-step, pieces-nothing, pieces-short}
+use Rattle.npm_sets.proofs.Pieces.WordReading.{words-end}
+
+-- ---- the characters of a full text
+
+-- a digit, a dot, `^` or `~`
+abbrev pub is_full_character : ℕ → Bool
+is_full_character b = is_digit b || (b == dot) || (b == caret) || (b == tilde)
+
+solid-character : (b : ℕ) → is_full_character b ≡ true → is_solid b ≡ true
+solid-character b h = grind (arith, nat_tests)
+
+no-bar : (b : ℕ) → is_full_character b ≡ true → (b == bar) ≡ false
+no-bar b h = grind (arith, nat_tests)
+
+digit-full : (b : ℕ) → is_digit b ≡ true → is_full_character b ≡ true
+digit-full b h = rw h refl
+
+digits-before : (digits rest : List ℕ) → AreAll is_digit digits → AreAll is_full_character rest
+    → AreAll is_full_character (digits ++ rest)
+digits-before [] rest digit all = all
+digits-before (b ∷ digits) rest digit all =
+    let parts = and_parts (is_digit b) (list_all is_digit digits) digit in
+    and_from (is_full_character b) _ (digit-full b parts.0) (digits-before digits rest parts.1 all)
+
+-- a number before such characters
+number-full : (loose : Bool) (text rest : List ℕ) (number : ℕ) → IsNumberBefore loose text number rest
+    → AreAll is_full_character rest → AreAll is_full_character text
+number-full loose text rest number h all =
+    let takes = number-takes text number rest (sym (number-read loose text rest number h)) in
+    subst (AreAll is_full_character) (sym takes.whole) (digits-before takes.digits rest takes.read.digits all)
+
+-- three numbers
+pub operand-full : (loose : Bool) (text second third : List ℕ) (major minor patch : ℕ)
+    → IsNumberBefore loose text major (dot ∷ second) → IsNumberBefore loose second minor (dot ∷ third)
+    → IsNumberBefore loose third patch [] → AreAll is_full_character text
+operand-full loose text second third major minor patch one two three =
+    number-full loose text (dot ∷ second) major one
+    (number-full loose second (dot ∷ third) minor two (number-full loose third [] patch three refl))
+
+-- after a mark
+pub mark-full : (lead : FullLead) (operand : List ℕ) → AreAll is_full_character operand
+    → AreAll is_full_character (full_mark lead ++ operand)
+mark-full FullLeads.Caret operand all = all
+mark-full FullLeads.Tilde operand all = all
+mark-full FullLeads.Nothing operand all = all
+
+-- they are in ASCII
+ascii-character : (b : ℕ) → is_full_character b ≡ true → b < 128
+ascii-character b h = grind (arith, nat_tests)
+
+pub full-ascii : (text : List ℕ) → AreAll is_full_character text → IsAscii text
+full-ascii [] all i = omega arith
+full-ascii (b ∷ text) all zero = ascii-character b (and_parts (is_full_character b) (list_all is_full_character text) all).0
+full-ascii (b ∷ text) all (suc i) =
+    full-ascii text (and_parts (is_full_character b) (list_all is_full_character text) all).1 i
+
+-- ---- one piece
+
+pub full-piece : (text : List ℕ) → AreAll is_full_character text → pieces_of text ≡ text ∷ []
+full-piece [] all = pieces-nothing
+full-piece (b ∷ []) all = pieces-short b
+full-piece (b ∷ c ∷ text) all =
+    let parts = and_parts (is_full_character b) (list_all is_full_character (c ∷ text)) all in
+    piece-step b c text (rw (no-bar b parts.0) refl) ∙ ap (before_first b) (full-piece (c ∷ text) parts.1)
+
+-- ---- one chunk
+
+full-solid : (text : List ℕ) → AreAll is_full_character text → AreAll is_solid text
+full-solid [] all = refl
+full-solid (b ∷ text) all =
+    let parts = and_parts (is_full_character b) (list_all is_full_character text) all in
+    and_from (is_solid b) _ (solid-character b parts.0) (full-solid text parts.1)
+
+begins-solid : (text : List ℕ) → ¬ (text ≡ []) → AreAll is_solid text → BeginsWith is_solid text
+begins-solid [] some all = absurd (some refl)
+begins-solid (b ∷ text) some all = (and_parts (is_solid b) (list_all is_solid text) all).0
+
+rest-none : rest_of is_space [] ≡ []
+unfolding rest_of
+rest-none = refl
+
+pub full-chunk : (text : List ℕ) → ¬ (text ≡ []) → AreAll is_full_character text → chunks_of text ≡ text ∷ []
+full-chunk text some all =
+    let solid = full-solid text all in
+    let first : prefix_of is_solid text ≡ text =
+    ap (prefix_of is_solid) (sym (append-nil text)) ∙ prefix_of-again is_solid text [] solid tt in
+    let after : rest_of is_solid text ≡ [] =
+    ap (rest_of is_solid) (sym (append-nil text)) ∙ rest_of-again is_solid text [] solid tt in
+    chunk-first text (begins-solid text some solid)
+    ∙ ap (λ (l : List ℕ). l ∷ chunks_of (rest_of is_space (rest_of is_solid text))) first
+    ∙ ap (λ (l : List ℕ). text ∷ chunks_of (rest_of is_space l)) after
+    ∙ ap (λ (l : List ℕ). text ∷ chunks_of l) rest-none ∙ ap (λ (l : List (List ℕ)). text ∷ l) chunks-empty
+
+-- ---- one word
+
+-- the lead of a mark
+abbrev pub lead_named : FullLead → Lead
+lead_named FullLeads.Caret = Leads.Caret
+lead_named FullLeads.Tilde = Leads.Tilde
+lead_named FullLeads.Nothing = Leads.Nothing
+
+-- a digit is no operator
+digit-other : (b : ℕ) → is_digit b ≡ true
+    → ((b == greater_sign) ≡ false) × ((b == 60) ≡ false) × ((b == 61) ≡ false) × ((b == tilde) ≡ false)
+    × ((b == caret) ≡ false)
+digit-other b h = (
+  grind (arith, nat_tests),
+  grind (arith, nat_tests),
+  grind (arith, nat_tests),
+  grind (arith, nat_tests),
+  grind (arith, nat_tests),
+)
+
+full-lead : (lead : FullLead) (operand : List ℕ) → BeginsWith is_digit operand
+    → lead_of (full_mark lead ++ operand) ≡ (lead_named lead, operand)
+full-lead FullLeads.Caret operand digit = refl
+full-lead FullLeads.Tilde [] digit = absurd digit
+full-lead FullLeads.Tilde (b ∷ operand) digit = rw ((digit-other b digit).0) refl
+full-lead FullLeads.Nothing [] digit = absurd digit
+full-lead FullLeads.Nothing (b ∷ operand) digit =
+    let other = digit-other b digit in
+    rw (other.0, other.1, other.2, other.3, other.4) refl
+
+mark-some : (lead : FullLead) (operand : List ℕ) → BeginsWith is_digit operand → ¬ (full_mark lead ++ operand ≡ [])
+mark-some FullLeads.Caret operand digit = λ none. cc none
+mark-some FullLeads.Tilde operand digit = λ none. cc none
+mark-some FullLeads.Nothing [] digit = absurd digit
+mark-some FullLeads.Nothing (b ∷ operand) digit = λ none. cc none
+
+-- the chunks of a mark and an operand
+pub mark-chunk : (lead : FullLead) (operand : List ℕ) → BeginsWith is_digit operand
+    → AreAll is_full_character operand
+    → chunks_of (full_mark lead ++ operand) ≡ (full_mark lead ++ operand) ∷ []
+mark-chunk lead operand digit all =
+    full-chunk (full_mark lead ++ operand) (mark-some lead operand digit) (mark-full lead operand all)
+
+pub full-word : (lead : FullLead) (operand : List ℕ) → BeginsWith is_digit operand
+    → words_of ((full_mark lead ++ operand) ∷ []) ≡ (lead_named lead, operand) ∷ []
+full-word lead operand digit =
+    word-last (full_mark lead ++ operand)
+    ∙ ap (λ (w : Lead × List ℕ). w ∷ words_of []) (full-lead lead operand digit)
+    ∙ ap (λ (l : List (Lead × List ℕ)). (lead_named lead, operand) ∷ l) words-end

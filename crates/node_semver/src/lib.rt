@@ -49,7 +49,7 @@ pub use npm_sets::NpmOptions;
 pub use range::{Range, max_satisfying, min_satisfying};
 pub use semver_versions::end::EndVersion;
 pub use semver_versions::{
-    Admits, AsVersion, Bump, BumpError, Identifier, IdentifierBase, IdentifierRef, Identifiers,
+    Admits, AsVersion, Bump, BumpError, CoerceOptions, Identifier, IdentifierBase, IdentifierRef, Identifiers,
     JsonError, MAX_LENGTH, MAX_SAFE_INTEGER, OrderedVersion, SemverError, SemverErrorKind,
     SourceSpan, Triple, Version, VersionFault, VersionRef,
 };

@@ -76,7 +76,11 @@ fn is_fault_printed_alike(alloc: Global, fault: VersionFault, error: &SemverErro
 // fault.
 pub(crate) fn both_read(alloc: Global, text: &str) -> bool {
     match (Version::parse(alloc, text), VersionRef::parse(text)) {
-        (Ok(version), Ok(borrowed)) => agree(alloc, &version, &borrowed),
+        (Ok(version), Ok(borrowed)) => {
+            borrowed.as_str() == text
+                && borrowed.copy().as_str() == text
+                && agree(alloc, &version, &borrowed)
+        }
         (Err(error), Err(fault)) => {
             fault.offset() == error.offset()
                 && fault.kind() == *error.kind()

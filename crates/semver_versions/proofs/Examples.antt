@@ -2,3 +2,4 @@ mod OrderExamples
 mod PrintExamples
 pub mod ErrorExamples
 mod StrictExamples
+mod CoerceExamples

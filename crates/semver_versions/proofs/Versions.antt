@@ -5,3 +5,8 @@ pub mod Bumps
 pub mod Upward
 pub mod StrictParts
 pub mod StrictTexts
+pub mod Pieces
+pub mod LastPieces
+pub mod NumberPlaces
+pub mod ChosenPieces
+pub mod StrictNumbers

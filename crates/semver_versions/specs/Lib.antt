@@ -23,6 +23,7 @@ pub mod StrictVersionText
 pub mod VersionSteps
 pub mod Bump
 pub mod BumpBetween
+pub mod Coerce
 -- ---- prints that are read again
 pub mod ReadingBack
 -- ---- JSON strings

@@ -8,3 +8,4 @@ pub mod CommonStarts
 pub mod FaultViews
 pub mod ParsedViews
 pub mod StrictViews
+pub mod PieceViews

@@ -27,6 +27,7 @@ pub use version::Version;
 pub use version::admits::Admits;
 pub use version::as_version::{AsVersion, OrderedVersion};
 pub use version::bump::{Bump, BumpError, IdentifierBase};
+pub use version::coerce::CoerceOptions;
 pub use version_ref::{VersionFault, VersionRef};
 
 /// The greatest major, minor or patch that is read from a text: 2 to the power 53, minus 1.

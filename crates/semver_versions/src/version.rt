@@ -6,6 +6,7 @@ pub mod admits;
 pub mod as_version;
 mod build_order;
 pub mod bump;
+pub mod coerce;
 mod copy;
 mod diff;
 pub mod display;

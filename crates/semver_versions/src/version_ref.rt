@@ -2,6 +2,7 @@ ghost use Rattle.std.specs.Prelude.{◌≡◌, ◌↔◌, IsTrue};
 ghost use Rattle.semver_versions.specs.Comparison.{prerelease_cmp};
 ghost use Rattle.semver_versions.specs.Triple.{triple_of};
 ghost use Rattle.semver_versions.specs.Version.{IsPrerelease};
+ghost use Rattle.semver_versions.specs.VersionText.{IsVersionText};
 
 mod copy;
 mod display;
@@ -27,6 +28,7 @@ use std::marker::Model;
 // Not `Copy`: the toolchain refuses it beside a `Model` with a lifetime.
 #[derive(Drop)]
 pub struct VersionRef<'a> {
+    text: &'a str,
     major: u64,
     minor: u64,
     patch: u64,
@@ -36,6 +38,7 @@ pub struct VersionRef<'a> {
 
 impl<'a> Model for VersionRef<'a> {
     ghost use Rattle.semver_versions.specs.Version.{VersionValue};
+    ghost use Rattle.semver_versions.specs.VersionText.{IsVersionText};
 
     ghost Value = { VersionValue };
 
@@ -46,9 +49,36 @@ impl<'a> Model for VersionRef<'a> {
       pre_release = v.pre_release;
       build = v.build;
     } };
+
+    ghost invariant = { λ v. IsVersionText v.text.now (record {
+      major = v.major;
+      minor = v.minor;
+      patch = v.patch;
+      pre_release = v.pre_release;
+      build = v.build;
+    }) };
 }
 
 impl<'a> VersionRef<'a> {
+    /// Returns the text that the version was read from, whole.
+    ///
+    /// `VersionRef::parse` reads it as this version again. It is not the print of the version: it can begin with `v` and
+    /// blanks, numbers can have zeros in front, and the `-` before the prerelease can be left out.
+    ///
+    /// # Memory
+    ///
+    /// Does not allocate. The text is the one that was read, and no copy.
+    ///
+    /// # Examples
+    ///
+    /// `v 1.02.3beta` for a version that was read from that text. The version prints as `1.2.3-beta`.
+    #[inline(always)]
+    pub fn as_str(&self) -> &'a str
+        ensures { IsVersionText result.now self.now }
+    {
+        self.text
+    }
+
     /// Returns the major.
     // `inline(always)` here and below: a load.
     #[inline(always)]
@@ -119,6 +149,7 @@ impl<'a> VersionRef<'a> {
         ensures { result ≡ self.now }
     {
         VersionRef {
+            text: self.text,
             major: self.major,
             minor: self.minor,
             patch: self.patch,

@@ -38,7 +38,7 @@ fn are_digits(text: &[u8]) -> bool
 }
 
 #[inline(always)]
-fn has_zero_in_front(text: &[u8]) -> bool
+pub(crate) fn has_zero_in_front(text: &[u8]) -> bool
     ensures { result ≡ StrictVersionText.has_zero_in_front text.now }
 {
     matches!(text, [b'0', _, ..])

@@ -136,7 +136,7 @@ fn version_after_triple(
     requires { IsBegun text.now (major, minor, patch) rest.now }
     ensures { IsParsed text.now result }
 {
-    match read_rest(text.as_bytes(), (major, minor, patch), rest) {
+    match read_rest(text, (major, minor, patch), rest) {
         Ok(version) => match version.to_version_inline(alloc) {
             Ok(version) => Ok(version),
             Err(_) => Err(out_of_memory(alloc)),

@@ -40,21 +40,20 @@ impl<'a> VersionRef<'a> {
         ensures only { (v : VersionValue) → IsVersionText text.now v → IsBorrowedAs v result }
         ensures fault { IfErr result (λ f. IsVersionFault text.now f) }
     {
-        let bytes = text.as_bytes();
-        match whole(bytes) {
+        match whole(text) {
             Ok(version) => Ok(version),
-            Err(fault) => Err(fault_of(bytes, fault)),
+            Err(fault) => Err(fault_of(text.as_bytes(), fault)),
         }
     }
 }
 
 // The version that is the whole text.
 #[inline(always)]
-fn whole(text: &[u8]) -> Result<VersionRef<'_>, Fault>
+fn whole(text: &str) -> Result<VersionRef<'_>, Fault>
     ensures found { IfOk result (λ v. IsVersionText text.now v) }
     ensures fault { IfErr result (IsReadFault text.now) }
 {
-    let (triple, rest) = read_numbers(text)?;
+    let (triple, rest) = read_numbers(text.as_bytes())?;
     read_rest(text, triple, rest)
 }
 
@@ -74,7 +73,7 @@ pub(crate) fn read_numbers(text: &[u8]) -> Result<((u64, u64, u64), &[u8]), Faul
 // The version of a text, whose three numbers were read and are followed by `rest`.
 #[inline(always)]
 pub(crate) fn read_rest<'a>(
-    text: &[u8],
+    text: &'a str,
     triple: (u64, u64, u64),
     rest: &'a [u8],
 ) -> Result<VersionRef<'a>, Fault>
@@ -86,6 +85,7 @@ pub(crate) fn read_rest<'a>(
     // Most versions end here.
     if let [] = rest {
         return Ok(VersionRef {
+            text,
             major,
             minor,
             patch,
@@ -96,6 +96,7 @@ pub(crate) fn read_rest<'a>(
     let (pre_release, build, left) = borrow_extras(rest);
     match left {
         [] => Ok(VersionRef {
+            text,
             major,
             minor,
             patch,

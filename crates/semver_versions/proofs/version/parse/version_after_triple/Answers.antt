@@ -9,7 +9,7 @@ returns-in-Err-to_version_inline c = record {
   found = search rules;
   fault = search rules;
   plain = λ v h pre build.
-      let same = one_reading c.as_bytes.result.now v c.in-Ok.version (rw c.as_bytes.ensures.value h) c.in-Ok.ensures.found in
+      let same = one_reading c.args.text.now v c.in-Ok.version h c.in-Ok.ensures.found in
       rw c.in-Err-to_version_inline.is at (c.to_version_inline.ensures.plain (subst (λ (w : VersionValue). IsPlain w) same (record {
         pre_release = pre;
         build = build;
@@ -21,5 +21,5 @@ returns-in-Err c = record {
   found = search rules;
   fault = search rules;
   plain = λ v h pre build. absurd
-      (version-no_fault c.as_bytes.result.now v _ _ (rw c.as_bytes.ensures.value h) c.in-Err.ensures.fault.fault);
+      (version-no_fault c.args.text.now v _ _ h c.in-Err.ensures.fault.fault);
 }

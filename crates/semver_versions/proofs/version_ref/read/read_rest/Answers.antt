@@ -13,6 +13,12 @@ returns-in-empty-left-clause-found c =
     begun-found c.args.text.now c.args.rest.now c.borrow_extras-pre_release.result.2.now c.args.triple _ c.requires
     (rw (extras.prerelease, extras.build) refl) extras.rest c.in-empty-left.len_below
 
+pub invariant_of-result : goal.invariant_of-result
+invariant_of-result c = returns-in-empty-clause-found c
+
+pub invariant_of-result-in-empty-left : goal.invariant_of-result-in-empty-left
+invariant_of-result-in-empty-left c = returns-in-empty-left-clause-found c
+
 pub returns-in_default-left-clause-fault : goal.returns-in_default-left-clause-fault
 returns-in_default-left-clause-fault c =
     begun-left c.args.text.now c.args.rest.now c.borrow_extras-pre_release.result.2.now c.args.triple c.requires

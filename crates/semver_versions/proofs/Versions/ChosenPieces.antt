@@ -1,0 +1,113 @@
+-- The chosen piece: it is found from a number at its end, and there is only one.
+use Rattle.std.proofs.Common.{◌≡◌, ◌+◌, ℕ, Bool, true, false, List, [], ◌∷◌, Option, Some, None, refl, sym, ap}
+use Rattle.std.proofs.Common.{◌∙◌, subst, arith}
+use Rattle.std.specs.Prelude.{IfNone, slice_range}
+use Rattle.semver_versions.specs.Coerce.{IsChosen, IsCoerced, IsFirstPiece, IsLastPiece, IsPiece, IsReleaseOf}
+use Rattle.semver_versions.specs.Coerce.{one, two, three}
+use Rattle.semver_versions.specs.Readers.PieceViews.{IsFirstNumber, IsLastNumber, IsLongestFrom, IsLongestTo}
+use Rattle.semver_versions.specs.Version.{VersionValue}
+use Rattle.semver_versions.proofs.Versions.Pieces.{first_of, last_of, next_end, same_end}
+
+-- ---- from a number at its end
+
+pub first_found : (text : List ℕ) (start end : ℕ) (numbers : List (List ℕ)) → IsFirstNumber text start end
+    → IsLongestFrom text start numbers → (from to : ℕ) × IsFirstPiece text from to numbers
+first_found text start end numbers number piece = (
+  start,
+  piece.end,
+  record {
+    piece = piece.piece;
+    first = λ from to others h.
+        let other = first_of text from to others h in
+        number.first from other.0 other.1;
+    longest = piece.longest;
+  },
+)
+
+pub last_found : (text : List ℕ) (start end : ℕ) (numbers : List (List ℕ)) → IsLastNumber text start end
+    → IsLongestTo text end numbers → (from to : ℕ) × IsLastPiece text from to numbers
+last_found text start end numbers number piece = (
+  piece.start,
+  end,
+  record {
+    piece = piece.piece;
+    last = λ from to others h.
+        let other = last_of text from to others h in
+        number.last other.0 to other.1;
+    longest = piece.longest;
+  },
+)
+
+-- ---- there is only one
+
+-- the ends decide the numbers
+same_numbers : (text : List ℕ) (start end : ℕ) (numbers others : List (List ℕ)) → IsPiece text start end numbers
+    → IsPiece text start end others → others ≡ numbers
+same_numbers text start end _ _ (one _ _ h) (one _ _ k) = refl
+same_numbers text start end _ _ (one _ _ h) (two _ other _ k point m) =
+    absurd (omega (arith, same_end text start end other h k, m.some))
+same_numbers text start end _ _ (one _ _ h) (three _ other next _ k point m dash l) =
+    absurd (omega (arith, same_end text start end other h k, m.some, l.some))
+same_numbers text start end _ _ (two _ first _ h point g) (one _ _ k) =
+    absurd (omega (arith, same_end text start end first k h, g.some))
+same_numbers text start end _ _ (two _ first _ h point g) (two _ other _ k dash m) =
+    ap (λ (n : ℕ). slice_range text start n ∷ slice_range text (n + 1) end ∷ []) (same_end text start first other h k)
+same_numbers text start end _ _ (two _ first _ h point g) (three _ other next _ k dash m last l) =
+    absurd (omega (arith, next_end text start first other end next h k g m, l.some))
+same_numbers text start end _ _ (three _ first second _ h point g dash f) (one _ _ k) =
+    absurd (omega (arith, same_end text start end first k h, g.some, f.some))
+same_numbers text start end _ _ (three _ first second _ h point g dash f) (two _ other _ k last m) =
+    absurd (omega (arith, next_end text start other first end second k h m g, f.some))
+same_numbers text start end _ _ (three _ first second _ h point g dash f) (three _ other next _ k last m mark l) =
+    ap (λ (n : ℕ). slice_range text start n
+    ∷ slice_range text (n + 1) next
+    ∷ slice_range text (next + 1) end
+    ∷ []) (same_end text start first other h k)
+    ∙ ap (λ (n : ℕ). slice_range text start first
+    ∷ slice_range text (first + 1) n
+    ∷ slice_range text (n + 1) end
+    ∷ []) (next_end text start first other second next h k g m)
+
+first_same : (text : List ℕ) (start end from to : ℕ) (numbers others : List (List ℕ))
+    → IsFirstPiece text start end numbers → IsFirstPiece text from to others → others ≡ numbers
+first_same text start end from to numbers others h g =
+    let here : from ≡ start = omega (arith, h.first from to others g.piece, g.first start end numbers h.piece) in
+    let moved : IsPiece text start to others = subst (λ (n : ℕ). IsPiece text n to others) here g.piece in
+    let back : IsPiece text from end numbers = subst (λ (n : ℕ). IsPiece text n end numbers) (sym here) h.piece in
+    let there : to ≡ end = omega (arith, h.longest to others moved, g.longest end numbers back) in
+    same_numbers text start end numbers others h.piece (subst (λ (n : ℕ). IsPiece text start n others) there moved)
+
+last_same : (text : List ℕ) (start end from to : ℕ) (numbers others : List (List ℕ))
+    → IsLastPiece text start end numbers → IsLastPiece text from to others → others ≡ numbers
+last_same text start end from to numbers others h g =
+    let there : to ≡ end = omega (arith, h.last from to others g.piece, g.last start end numbers h.piece) in
+    let moved : IsPiece text from end others = subst (λ (n : ℕ). IsPiece text from n others) there g.piece in
+    let back : IsPiece text start to numbers = subst (λ (n : ℕ). IsPiece text start n numbers) (sym there) h.piece in
+    let here : from ≡ start = omega (arith, h.longest from others moved, g.longest start numbers back) in
+    same_numbers text start end numbers others h.piece (subst (λ (n : ℕ). IsPiece text n end others) here moved)
+
+chosen_same : (rtl : Bool) (text : List ℕ) (start end from to : ℕ) (numbers others : List (List ℕ))
+    → IsChosen rtl text start end numbers → IsChosen rtl text from to others → others ≡ numbers
+chosen_same false = first_same
+chosen_same true = last_same
+
+-- a text whose chosen piece has no release has no version
+pub not_coerced : (rtl : Bool) (text : List ℕ) (start end : ℕ) (numbers : List (List ℕ)) (r : Option VersionValue)
+    → IsChosen rtl text start end numbers → IfNone r ((v : VersionValue) → ¬ IsReleaseOf numbers v)
+    → IfNone r ((v : VersionValue) → ¬ IsCoerced rtl text v)
+not_coerced rtl text start end numbers (Some w) chosen none = tt
+not_coerced rtl text start end numbers None chosen none = λ v h.
+    none v (subst (λ (l : List (List ℕ)). IsReleaseOf l v)
+    (chosen_same rtl text start end h.start h.end numbers h.numbers chosen h.chosen) h.version)
+
+-- and a text without pieces has none
+chosen_piece : (rtl : Bool) (text : List ℕ) (start end : ℕ) (numbers : List (List ℕ))
+    → IsChosen rtl text start end numbers → IsPiece text start end numbers
+chosen_piece false text start end numbers h = h.piece
+chosen_piece true text start end numbers h = h.piece
+
+pub none_coerced : (rtl : Bool) (text : List ℕ)
+    → ((start end : ℕ) (numbers : List (List ℕ)) → ¬ IsPiece text start end numbers) → (v : VersionValue)
+    → ¬ IsCoerced rtl text v
+none_coerced rtl text none v h =
+    none h.start h.end h.numbers (chosen_piece rtl text h.start h.end h.numbers h.chosen)

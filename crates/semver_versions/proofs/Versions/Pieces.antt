@@ -1,0 +1,144 @@
+-- The pieces of a text that look like a version: by their ends a piece and its numbers are found from either side.
+use Rattle.std.proofs.Common.{◌≡◌, ◌+◌, ◌-◌, ◌<◌, ◌≤◌, ◌⊎◌, ℕ, true, false, List, [], ◌∷◌, sym, ◌∙◌, inl, inr, subst, arith}
+use Rattle.std.proofs.lemmas.Bool.{cases_Bool, ltb-false, ltb-true}
+use Rattle.std.specs.Prelude.{nat_lt, slice_index, slice_range}
+use Rattle.semver_versions.specs.Characters.{dot}
+use Rattle.semver_versions.specs.Coerce.{IsNumberAt, IsPiece, is_digit_at, one, two, three}
+use Rattle.semver_versions.specs.Readers.PieceViews.{HasNoNext, IsLongestFrom}
+
+pub below_or_not : (a b : ℕ) → (a < b) ⊎ (b ≤ a)
+below_or_not a b = elim (cases_Bool (nat_lt a b)) [
+  | inl below ↦ inl (ltb-true _ _ below)
+  | inr above ↦ inr (ltb-false _ _ above)
+]
+
+-- a place has a digit or none
+pub clash : (text : List ℕ) (place : ℕ) → is_digit_at text place ≡ true → is_digit_at text place ≡ false → ⊥
+clash text place some none = cc (sym some ∙ none)
+
+-- ---- a number is alone, so either end decides the other
+
+end_below : (text : List ℕ) (start end other : ℕ) → IsNumberAt text start end → IsNumberAt text start other
+    → other ≤ end
+end_below text start end other h g = elim (below_or_not end other) [
+  | inl below ↦ absurd (clash text end (g.digits end (omega (arith, h.some)) below) h.after)
+  | inr above ↦ above
+]
+
+pub same_end : (text : List ℕ) (start end other : ℕ) → IsNumberAt text start end → IsNumberAt text start other
+    → other ≡ end
+same_end text start end other h g =
+    omega (arith, end_below text start end other h g, end_below text start other end g h)
+
+start_below : (text : List ℕ) (start other end : ℕ) → IsNumberAt text start end → IsNumberAt text other end
+    → other ≤ start
+start_below text start other end h g = elim (below_or_not start other) [
+  | inl below ↦ absurd
+      (clash text (other - 1) (h.digits (other - 1) (omega (arith, below)) (omega (arith, below, g.some)))
+      (g.before (other - 1) (omega (arith, below))))
+  | inr above ↦ above
+]
+
+pub same_start : (text : List ℕ) (start other end : ℕ) → IsNumberAt text start end → IsNumberAt text other end
+    → other ≡ start
+same_start text start other end h g =
+    omega (arith, start_below text start other end h g, start_below text other start end g h)
+
+-- the same of the number after the dot
+pub next_end : (text : List ℕ) (start first other end last : ℕ) → IsNumberAt text start first
+    → IsNumberAt text start other → IsNumberAt text (first + 1) end → IsNumberAt text (other + 1) last → last ≡ end
+next_end text start first other end last h g next after =
+    same_end text (first + 1) end last next
+    (subst (λ (n : ℕ). IsNumberAt text (n + 1) last) (same_end text start first other h g) after)
+
+-- and of the one before it
+pub previous_start : (text : List ℕ) (start other first last third fourth end : ℕ) → first + 1 ≡ third
+    → last + 1 ≡ fourth → IsNumberAt text third end → IsNumberAt text fourth end → IsNumberAt text start first
+    → IsNumberAt text other last → other ≡ start
+previous_start text start other first last third fourth end e f h g before there =
+    let same : last ≡ first = omega (arith, e, f, same_start text third fourth end h g) in
+    same_start text start other first before (subst (λ (n : ℕ). IsNumberAt text other n) same there)
+
+-- ---- the numbers at both ends of a piece
+
+pub first_of : (text : List ℕ) (start end : ℕ) (numbers : List (List ℕ)) → IsPiece text start end numbers
+    → (first : ℕ) × IsNumberAt text start first
+first_of text start end _ (one _ _ h) = (end, h)
+first_of text start end _ (two _ first _ h point g) = (first, h)
+first_of text start end _ (three _ first second _ h point g dash k) = (first, h)
+
+pub last_of : (text : List ℕ) (start end : ℕ) (numbers : List (List ℕ)) → IsPiece text start end numbers
+    → (last : ℕ) × IsNumberAt text last end
+last_of text start end _ (one _ _ h) = (start, h)
+last_of text start end _ (two _ first _ h point g) = (first + 1, g)
+last_of text start end _ (three _ first second _ h point g dash k) = (second + 1, k)
+
+-- ---- from the left: the longest piece that starts with a number
+
+none_after : (text : List ℕ) (start first other end : ℕ) → IsNumberAt text start first → IsNumberAt text start other
+    → HasNoNext text first → slice_index text other ≡ dot → IsNumberAt text (other + 1) end → ⊥
+none_after text start first other end h g none point next =
+    let same : other ≡ first = same_end text start first other h g in
+    none end (subst (λ (n : ℕ). slice_index text n ≡ dot) same point)
+    (subst (λ (n : ℕ). IsNumberAt text (n + 1) end) same next)
+
+-- the second number is where it was
+second_there : (text : List ℕ) (start first other end : ℕ) → IsNumberAt text start first
+    → IsNumberAt text start other → IsNumberAt text (other + 1) end → IsNumberAt text (first + 1) end
+second_there text start first other end h g next =
+    subst (λ (n : ℕ). IsNumberAt text (n + 1) end) (same_end text start first other h g) next
+
+one_longest : (text : List ℕ) (start first : ℕ) → IsNumberAt text start first → HasNoNext text first
+    → (end : ℕ) (numbers : List (List ℕ)) → IsPiece text start end numbers → end ≤ first
+one_longest text start first h none end _ (one _ _ k) = omega (arith, same_end text start first end h k)
+one_longest text start first h none end _ (two _ other _ k point m) =
+    absurd (none_after text start first other end h k none point m)
+one_longest text start first h none end _ (three _ other second _ k point m dash l) =
+    absurd (none_after text start first other second h k none point m)
+
+pub one_from : (text : List ℕ) (start first : ℕ) → IsNumberAt text start first → HasNoNext text first
+    → IsLongestFrom text start (slice_range text start first ∷ [])
+one_from text start first h none =
+    record { end = first; piece = one start first h; longest = one_longest text start first h none }
+
+two_longest : (text : List ℕ) (start first second : ℕ) → IsNumberAt text start first
+    → IsNumberAt text (first + 1) second → HasNoNext text second → (end : ℕ) (numbers : List (List ℕ))
+    → IsPiece text start end numbers → end ≤ second
+two_longest text start first second h g none end _ (one _ _ k) =
+    omega (arith, same_end text start first end h k, g.some)
+two_longest text start first second h g none end _ (two _ other _ k point m) =
+    omega (arith, next_end text start first other second end h k g m)
+two_longest text start first second h g none end _ (three _ other next _ k point m dash l) =
+    absurd (none_after text (first + 1) second next end g (second_there text start first other next h k m) none dash l)
+
+pub two_from : (text : List ℕ) (start first second : ℕ) → IsNumberAt text start first
+    → slice_index text first ≡ dot → IsNumberAt text (first + 1) second → HasNoNext text second
+    → IsLongestFrom text start (slice_range text start first ∷ slice_range text (first + 1) second ∷ [])
+two_from text start first second h point g none = record {
+  end = second;
+  piece = two start first second h point g;
+  longest = two_longest text start first second h g none;
+}
+
+three_longest : (text : List ℕ) (start first second third : ℕ) → IsNumberAt text start first
+    → IsNumberAt text (first + 1) second → IsNumberAt text (second + 1) third → (end : ℕ) (numbers : List (List ℕ))
+    → IsPiece text start end numbers → end ≤ third
+three_longest text start first second third h g f end _ (one _ _ k) =
+    omega (arith, same_end text start first end h k, g.some, f.some)
+three_longest text start first second third h g f end _ (two _ other _ k point m) =
+    omega (arith, next_end text start first other second end h k g m, f.some)
+three_longest text start first second third h g f end _ (three _ other next _ k point m dash l) =
+    omega (arith, next_end text (first + 1) second next third end g (second_there text start first other next h k m) f l)
+
+pub three_from : (text : List ℕ) (start first second third : ℕ) → IsNumberAt text start first
+    → slice_index text first ≡ dot → IsNumberAt text (first + 1) second → slice_index text second ≡ dot
+    → IsNumberAt text (second + 1) third
+    → IsLongestFrom text start (slice_range text start first
+    ∷ slice_range text (first + 1) second
+    ∷ slice_range text (second + 1) third
+    ∷ [])
+three_from text start first second third h point g dash f = record {
+  end = third;
+  piece = three start first second third h point g dash f;
+  longest = three_longest text start first second third h g f;
+}

@@ -1,0 +1,42 @@
+-- A number without a zero in front is what the reader of numbers reads of the whole text.
+use Rattle.std.proofs.Common.{◌≡◌, ◌<◌, ◌≤◌, ℕ, true, false, List, [], ◌∷◌, length, Ok, Err, sym, ap, ◌∙◌}
+use Rattle.std.proofs.Common.{append-nil, arith, refl, subst}
+use Rattle.std.proofs.lemmas.Bool.{and_from}
+use Rattle.semver_versions.specs.Coerce.{IsStrictNumber}
+use Rattle.semver_versions.specs.NumberText.{IsNumberText}
+use Rattle.semver_versions.specs.Readers.Reading.{read_number}
+use Rattle.semver_versions.specs.StrictVersionText.{has_zero_in_front, is_strict_number}
+use Rattle.semver_versions.specs.declared.parse.fault.Fault.{Fault}
+use Rattle.semver_versions.specs.Lemmas.Texts.NumberReading.{answer, number-again, number-takes, ok-value, refusal}
+
+is_strict : (text : List ℕ) (number : ℕ) → IsNumberText text number → has_zero_in_front text ≡ false
+    → is_strict_number text ≡ true
+is_strict [] number read zero = absurd read.some
+is_strict (b ∷ text) number read zero = and_from _ _ read.digits (rw zero refl)
+
+pub strict_read : (text rest : List ℕ) (number : ℕ) → read_number text ≡ Ok (number, rest) → length rest < 1
+    → has_zero_in_front text ≡ false → IsStrictNumber text number
+strict_read text [] number h none zero =
+    let taken = number-takes text number [] h in
+    let same : taken.digits ≡ text = sym (taken.whole ∙ append-nil taken.digits) in
+    let read : IsNumberText text number = subst (λ (l : List ℕ). IsNumberText l number) same taken.read in
+    record { read = read; strict = is_strict text number read zero }
+strict_read text (b ∷ rest) number h none zero = absurd (omega arith)
+
+-- it would be read
+whole_read : (text : List ℕ) (number : ℕ) → IsStrictNumber text number → read_number text ≡ Ok (number, [])
+whole_read text number h =
+    sym (ap read_number (append-nil text)) ∙ number-again text [] number h.read tt
+
+pub strict_left : (text rest : List ℕ) (number other : ℕ) → read_number text ≡ Ok (other, rest) → 1 ≤ length rest
+    → IsStrictNumber text number → ⊥
+strict_left text rest number other h some strict =
+    let both : answer (other, rest) ≡ answer (number, []) = sym h ∙ whole_read text number strict in
+    let same : rest ≡ [] = ap (λ (p : ℕ × List ℕ). p.1) (ok-value _ _ both) in
+    absurd (omega (arith, some, ap length same))
+
+pub strict_refused : (text : List ℕ) (number : ℕ) (fault : Fault) → read_number text ≡ Err fault
+    → IsStrictNumber text number → ⊥
+strict_refused text number fault h strict =
+    let both : refusal {A = ℕ × List ℕ} fault ≡ answer (number, []) = sym h ∙ whole_read text number strict in
+    cc both

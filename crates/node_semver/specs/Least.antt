@@ -9,7 +9,7 @@ use Rattle.semver_cuts.specs.declared.cut.Cut.{Cut}
 use Rattle.semver_cuts.specs.declared.cut.Cut.TheVariants.{Start, Before, After, End}
 use Rattle.semver_cuts.specs.Ends.{Ends}
 use Rattle.semver_versions.specs.IdentifierValue.{IdentifierValue}
-use Rattle.semver_sets.specs.Meaning.{RangeAdmits, SetAdmits}
+use Rattle.semver_sets.specs.Meaning.{IsInside, RangeAdmits, RangeContains, SetAdmits}
 use Rattle.semver_versions.specs.Order.{IsBelow}
 use Rattle.semver_versions.specs.Version.{VersionValue}
 
@@ -32,13 +32,14 @@ IsLeastAdmitted sets least = IsLeastOf (RangeAdmits sets) least
 abbrev pub AdmitsNone : List (Ends VersionValue) → Type 0
 AdmitsNone sets = IsNoneOf (RangeAdmits sets)
 
--- the set is the first of the list that admits the version
-pub record IsFirstToAdmit (sets : List (Ends VersionValue)) (v : VersionValue) (set : Ends VersionValue) : Type 0 where
+-- the set is the first of the list that has the version
+pub record IsFirstWith (Has : Ends VersionValue → VersionValue → Type 0) (sets : List (Ends VersionValue))
+    (v : VersionValue) (set : Ends VersionValue) : Type 0 where
   pub before : List (Ends VersionValue)
   pub after : List (Ends VersionValue)
   pub parts : sets ≡ before ++ set ∷ after
-  pub earlier : AllByRecursion (λ (other : Ends VersionValue). ¬ SetAdmits other v) before
-  pub admits : SetAdmits set v
+  pub earlier : AllByRecursion (λ (other : Ends VersionValue). ¬ Has other v) before
+  pub admits : Has set v
 
 -- the build of the version that a cut is at, or no build for the start and the end
 abbrev pub build_at : Cut VersionValue → List IdentifierValue
@@ -47,11 +48,30 @@ build_at (Before v) = v.build
 build_at (After v) = v.build
 build_at End = []
 
--- the version has the build of the lower end of the first set that admits it: 1.0.0+a for `>=1.0.0+a || >=1.0.0+b`
-pub record HasBuildOfFirst (sets : List (Ends VersionValue)) (v : VersionValue) : Type 0 where
+-- the version has the build of the lower end of the first set that has it: 1.0.0+a for `>=1.0.0+a || >=1.0.0+b`
+pub record HasBuildOf (Has : Ends VersionValue → VersionValue → Type 0) (sets : List (Ends VersionValue))
+    (v : VersionValue) : Type 0 where
   pub set : Ends VersionValue
-  pub first : IsFirstToAdmit sets v set
+  pub first : IsFirstWith Has sets v set
   pub build : v.build ≡ build_at set.lower
+
+-- the same of the first set that admits it
+abbrev pub HasBuildOfFirst : List (Ends VersionValue) → VersionValue → Type 0
+HasBuildOfFirst = HasBuildOf SetAdmits
+
+-- ---- the versions that a range contains, prereleases as releases
+
+-- the least that `>1.0.0` contains is 1.0.1-0, and the least that `<1.0.0` contains is 0.0.0-0
+abbrev pub IsLeastContained : List (Ends VersionValue) → VersionValue → Type 0
+IsLeastContained sets least = IsLeastOf (RangeContains sets) least
+
+-- the range contains no version
+abbrev pub ContainsNone : List (Ends VersionValue) → Type 0
+ContainsNone sets = IsNoneOf (RangeContains sets)
+
+-- the version has the build of the lower end of the first set that it lies inside
+abbrev pub HasBuildOfFirstAround : List (Ends VersionValue) → VersionValue → Type 0
+HasBuildOfFirstAround = HasBuildOf (λ set v. IsInside v set)
 
 -- ---- the versions that a range admits and another does not
 

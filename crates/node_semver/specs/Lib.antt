@@ -9,6 +9,7 @@ pub mod Ranges
 -- ---- ranges: the least and the greatest version, and set algebra
 pub mod Least
 pub mod Greatest
+pub mod AllOf
 pub mod RangeAlgebra
 -- ---- trees of ranges
 pub mod SetTree

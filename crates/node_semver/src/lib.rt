@@ -46,7 +46,7 @@ mod tree;
 
 pub use comparisons::Comparisons;
 pub use npm_sets::NpmOptions;
-pub use range::{Range, max_satisfying, min_satisfying};
+pub use range::{AllOf, Range, WithPrereleases, max_satisfying, min_satisfying};
 pub use semver_versions::end::EndVersion;
 pub use semver_versions::{
     Admits, AsVersion, Bump, BumpError, CoerceOptions, Identifier, IdentifierBase, IdentifierRef, Identifiers,

@@ -13,17 +13,21 @@ ghost use Rattle.node_semver.specs.RangeAlgebra.{sets_of_answer};
 ghost use Rattle.node_semver.specs.RangeAnswer.{IsRangeAnswer};
 
 mod algebra;
+mod all_of;
 mod contained;
 mod equality;
 mod greatest;
 mod least;
 mod npm;
+mod prereleases;
 mod print;
 mod sets;
 
 use crate::{AsVersion, Comparisons, SemverError, SemverErrorKind, Version};
+pub use all_of::AllOf;
 pub use equality::ranges_are_equal_where_their_cuts_are;
 pub use greatest::{max_satisfying, min_satisfying};
+pub use prereleases::WithPrereleases;
 use semver_cuts::{Cut, Span};
 use semver_sets::laws::{a_text_means_its_sets, prints_are_read_back};
 use semver_sets::read::Unread;

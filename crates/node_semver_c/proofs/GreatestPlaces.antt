@@ -19,17 +19,17 @@ module _ (order : Order) (is : IsOrder order) (sets : List (Ends VersionValue)) 
       → length done ≡ place → IsBestAtOrNone order sets done best → IsBetterAt order sets best place v found
       → IsBestAtOrNone order sets (done ++ v ∷ []) found
   more-place done place v None found at none (inl (after, admits, taken)) =
-      subst (IsBestAtOrNone order sets (done ++ v ∷ [])) (sym taken) (take-first order is sets done v none admits, at)
+      subst (IsBestAtOrNone order sets (done ++ v ∷ [])) (sym taken) (take-first order is (RangeAdmits sets) done v none admits, at)
   more-place done place v None found at none (inr (not, kept)) =
       subst (IsBestAtOrNone order sets (done ++ v ∷ [])) (sym kept)
       (all-append (λ (w : VersionValue). ¬ RangeAdmits sets w) done (v ∷ []) none
       ((λ admitted. not (tt, admitted)), tt))
   more-place done place v (Some best) found at first (inl (after, admits, taken)) =
       subst (IsBestAtOrNone order sets (done ++ v ∷ [])) (sym taken)
-      (take-better order is sets done best.1 v first.0 after admits, at)
+      (take-better order is (RangeAdmits sets) done best.1 v first.0 after admits, at)
   more-place done place v (Some best) found at first (inr (not, kept)) =
       subst (IsBestAtOrNone order sets (done ++ v ∷ [])) (sym kept)
-      (keep-best order is sets done best.1 v first.0 not, first.1)
+      (keep-best order is (RangeAdmits sets) done best.1 v first.0 not, first.1)
 
 values-append : (one other : List VersionRef) → values (one ++ other) ≡ values one ++ values other
 values-append [] other = refl
@@ -57,14 +57,14 @@ taken-place upward sets handles k handle best found lt at first better =
 pub greatest-at : (sets : List (Ends VersionValue)) (versions : List VersionValue) (place : ℕ)
     → IsBestAt (λ v best. version_cmp best v ≡ Less) sets versions place → IsGreatestAt sets versions place
 greatest-at sets versions place at =
-    record { best = at.best; first = as-greatest sets versions at.best at.first; place_is = at.place_is }
+    record { best = at.best; first = as-greatest (RangeAdmits sets) versions at.best at.first; place_is = at.place_is }
 
 pub least-at : (sets : List (Ends VersionValue)) (versions : List VersionValue) (place : ℕ)
     → IsBestAt (λ v best. downward best v ≡ Less) sets versions place → IsLeastAt sets versions place
 least-at sets versions place at =
-    record { best = at.best; first = as-least sets versions at.best at.first; place_is = at.place_is }
+    record { best = at.best; first = as-least (RangeAdmits sets) versions at.best at.first; place_is = at.place_is }
 
 pub some-admitted : (order : Order) (sets : List (Ends VersionValue)) (versions : List VersionValue) (place : ℕ)
     (v : VersionValue) → IsBestAtOrNone order sets versions (Some (place, v)) → ¬ AdmitsNoneIn sets versions
 some-admitted order sets versions place v first =
-    none-at sets first.0.before first.0.after versions v first.0.parts first.0.admitted
+    none-at (RangeAdmits sets) first.0.before first.0.after versions v first.0.parts first.0.admitted

@@ -20,7 +20,7 @@ pub record IsBestAt (IsBetter : VersionValue → VersionValue → Type 0) (sets 
     (versions : List VersionValue) (place : ℕ)
     : Type 0 where
   pub best : VersionValue
-  pub first : IsFirstBest IsBetter sets versions best
+  pub first : IsFirstBest IsBetter (RangeAdmits sets) versions best
   pub place_is : length first.before ≡ place
 
 -- the greatest is at this place
@@ -44,5 +44,5 @@ IsBetterAt order sets best place v better =
 abbrev pub IsBestAtOrNone : Order → List (Ends VersionValue) → List VersionValue → Option (ℕ × VersionValue) → Type 0
 IsBestAtOrNone order sets versions None = AdmitsNoneIn sets versions
 IsBestAtOrNone order sets versions (Some best) =
-    (first : IsFirstBest (λ (v : VersionValue) (w : VersionValue). order w v ≡ Less) sets versions best.1)
+    (first : IsFirstBest (λ (v : VersionValue) (w : VersionValue). order w v ≡ Less) (RangeAdmits sets) versions best.1)
     × (length first.before ≡ best.0)

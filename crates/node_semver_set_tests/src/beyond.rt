@@ -85,7 +85,7 @@ fn add_version(alloc: Global, versions: &mut Vec<Version>, text: &str) -> Option
     versions.push(Version::parse(alloc, text).ok()?).ok()
 }
 
-fn read_versions(alloc: Global, texts: &str) -> Option<Vec<Version>> {
+pub(crate) fn read_versions(alloc: Global, texts: &str) -> Option<Vec<Version>> {
     let mut versions = Vec::new(alloc);
     for text in texts.split_whitespace() {
         add_version(alloc, &mut versions, text)?;
@@ -94,7 +94,7 @@ fn read_versions(alloc: Global, texts: &str) -> Option<Vec<Version>> {
 }
 
 // Whether a version that was found prints so: the empty text where none was.
-fn is_found(alloc: Global, found: Option<&Version>, wanted: &str) -> bool {
+pub(crate) fn is_found(alloc: Global, found: Option<&Version>, wanted: &str) -> bool {
     match found {
         Some(version) => is_print(version.to_string(alloc).ok(), wanted),
         None => wanted.is_empty(),

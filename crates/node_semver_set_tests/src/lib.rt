@@ -10,6 +10,8 @@ mod checks;
 #[cfg(test)]
 mod common;
 #[cfg(test)]
+mod included;
+#[cfg(test)]
 mod json;
 #[cfg(test)]
 mod large;

@@ -1,6 +1,7 @@
 use crate::algebra::admits;
 use crate::beyond::{is_greatest, is_least_listed};
 use crate::checks::{is_print, is_yes};
+use crate::included;
 use crate::json::{of_member, of_string, text_of};
 use crate::least::{least_print, of_least, of_version};
 use crate::pairs::{of_texts, range};
@@ -41,6 +42,12 @@ pub(crate) enum Question {
     Greatest,
     // The same, and the least of them.
     LeastListed,
+    // A range text, and the least version that lies inside one of its sets.
+    LeastIncluded,
+    // Versions with blanks between, a range text, and the greatest of the versions that lies inside one of its sets.
+    GreatestIncluded,
+    // The same, and the least of them.
+    LeastListedIncluded,
     // Two range texts, and the union of the two.
     Union,
     // Two range texts, a version, and whether their union admits it.
@@ -85,6 +92,7 @@ fn of_range(alloc: Global, question: Question, range: &Range) -> Option<String> 
         Question::Spans => spans_print(alloc, range),
         Question::WrittenRange => text_of(alloc, range.to_json(alloc)),
         Question::Least => least_print(alloc, range),
+        Question::LeastIncluded => included::least_print(alloc, range),
         _ => of_least(alloc, question, range),
     }
 }
@@ -120,6 +128,8 @@ fn of_two(alloc: Global, question: Question, one: &str, other: &str, wanted: &st
         Question::Greatest => is_greatest(alloc, one, other, wanted),
         Question::UnionOfTexts => is_read_of_texts(alloc, one, other) == Some(is_yes(wanted)),
         Question::LeastListed => is_least_listed(alloc, one, other, wanted),
+        Question::GreatestIncluded => included::is_greatest(alloc, one, other, wanted),
+        Question::LeastListedIncluded => included::is_least_listed(alloc, one, other, wanted),
         _ => of_texts(alloc, question, one, other, wanted),
     }
 }

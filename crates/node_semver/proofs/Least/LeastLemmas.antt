@@ -9,7 +9,7 @@ use Rattle.semver_cuts.specs.Ends.{Ends, HoldsCut, IsCutAtMost, IsCutBelow}
 use Rattle.semver_cuts.specs.Lemmas.Ends.{at_most-below, at_most_trans}
 use Rattle.semver_versions.specs.Comparison.{version_cmp}
 use Rattle.semver_versions.specs.IdentifierValue.{IdentifierValue, numeric}
-use Rattle.semver_sets.specs.Meaning.{HasOpenEnd, Opens, SetAdmits}
+use Rattle.semver_sets.specs.Meaning.{IsInside, Opens}
 use Rattle.semver_versions.specs.Order.{IsBelow}
 use Rattle.semver_versions.specs.Version.{HasSameTriple, IsPrerelease, VersionValue, least_of, release}
 use Rattle.semver_versions.specs.Lemmas.Order.{Greater-turned, Less-version, version-Equal, version-Less, version_total}
@@ -18,7 +18,7 @@ use Rattle.semver_versions.specs.Lemmas.Versions.Between.{triple-back, triple-be
 use Rattle.node_semver.specs.Least.{build_at}
 use Rattle.semver_versions.specs.VersionSteps.{with_zero}
 use Rattle.node_semver.proofs.Least.OpenTriples.{open_end-in_triple}
-use Rattle.node_semver.specs.Private.LeastViews.{IsInsideOrNone, IsLeastInSet, IsLeastOfSet, IsLeastOfTriple}
+use Rattle.node_semver.specs.Private.LeastViews.{IsIn, IsInsideOrNone, IsLeastInSet, IsLeastOfSet, IsLeastOfTriple, IsOpenIn}
 use Rattle.semver_versions.specs.Lemmas.Versions.VersionSteps.{none-below_first, none-between_patches, none-between_zeros}
 use Rattle.semver_versions.specs.Lemmas.Versions.VersionSteps.{patch-above, prerelease-from_below, with_zero-above}
 
@@ -105,81 +105,103 @@ after-floor v next above between = record {
     later Greater (inl h) = cc h
     later Greater (inr h) = cc h
 
+-- ---- a version in a set, prereleases included or not
+
+pub lies-inside : (included : Bool) (set : Ends VersionValue) (v : VersionValue) → IsIn included set v → IsInside v set
+lies-inside true set v inside = inside
+lies-inside false set v admits = admits.inside
+
+pub is-opened : (included : Bool) (set : Ends VersionValue) (v : VersionValue) → IsIn included set v → IsPrerelease v
+    → IsOpenIn included set v
+is-opened true set v inside pre = inl refl
+is-opened false set v admits pre = inr (admits.opened pre)
+
+pub lies-in : (included : Bool) (set : Ends VersionValue) (v : VersionValue) → IsInside v set
+    → (IsPrerelease v → IsOpenIn included set v) → IsIn included set v
+lies-in true set v inside opened = inside
+lies-in false set v inside opened = record {
+  inside = inside;
+  opened = λ pre. elim (opened pre) [ inl never ↦ cc never | inr opens ↦ opens ];
+}
+
+-- for each version of a triple
+pub open_in-triple : (included : Bool) (set : Ends VersionValue) (v w : VersionValue) → HasSameTriple v w
+    → IsOpenIn included set v → IsOpenIn included set w
+open_in-triple included set v w t (inl is) = inl is
+open_in-triple included set v w t (inr opens) = inr (open_end-in_triple set v w t opens)
+
 -- ---- where a set begins
 
 -- The version is not below the set's lower end, and none below it is admitted.
-pub record IsBeginning (set : Ends VersionValue) (first : VersionValue) : Type 0 where
+pub record IsBeginning (included : Bool) (set : Ends VersionValue) (first : VersionValue) : Type 0 where
   pub at : IsCutAtMost version_cmp set.lower (Before first)
-  pub none_below : (v : VersionValue) → SetAdmits set v → ¬ (version_cmp v first ≡ Less)
+  pub none_below : (v : VersionValue) → IsIn included set v → ¬ (version_cmp v first ≡ Less)
 
-from-floor : (set : Ends VersionValue) (v : VersionValue) → IsFloor set.lower v → IsBeginning set v
-from-floor set v floor = record {
+from-floor : (included : Bool) (set : Ends VersionValue) (v : VersionValue) → IsFloor set.lower v → IsBeginning included set v
+from-floor included set v floor = record {
   at = floor.at;
-  none_below = λ w admits. floor.none_below w admits.inside.lower;
+  none_below = λ w is. floor.none_below w (lies-inside included set w is).lower;
 }
 
 -- the least version of a triple that no end opens is not admitted, nor are the prereleases above it
-from-closed : (set : Ends VersionValue) (m n p : ℕ) (v : VersionValue) → IsFloor set.lower (least_of m n p)
-    → HasSameTriple v (least_of m n p) → ¬ IsPrerelease v → ¬ HasOpenEnd v set → IsBeginning set v
-from-closed set m n p v floor triple final closed =
+from-closed : (included : Bool) (set : Ends VersionValue) (m n p : ℕ) (v : VersionValue) → IsFloor set.lower (least_of m n p)
+    → HasSameTriple v (least_of m n p) → ¬ IsPrerelease v → ¬ IsOpenIn included set v → IsBeginning included set v
+from-closed included set m n p v floor triple final closed =
     let least = least_of m n p in
     let back = triple-back v least triple in
     record {
       at = at_most_trans version_total set.lower (Before least) (Before v) floor.at
           (at-least least v (λ less. final (prerelease-from_below v least triple (Less-version v least less))));
-      none_below = λ w admits less.
+      none_below = λ w is less.
           let t = triple-between least w v (from-cmp least w
-          (at-least least w (floor.none_below w admits.inside.lower)))
+          (at-least least w (floor.none_below w (lies-inside included set w is).lower)))
           (inl (Less-version w v less)) back in
           let pre = prerelease-from_below w v t (Less-version w v less) in
-          closed (open_end-in_triple set w v t (admits.opened pre));
+          closed (open_in-triple included set w v t (is-opened included set w is pre));
     }
 
 -- ---- the least version of a set
 
 -- a version at which the set begins, and which it admits if it is inside
-pub record IsCandidate (set : Ends VersionValue) (v : VersionValue) : Type 0 where
-  pub begins : IsBeginning set v
-  pub opened : IsPrerelease v → HasOpenEnd v set
+pub record IsCandidate (included : Bool) (set : Ends VersionValue) (v : VersionValue) : Type 0 where
+  pub begins : IsBeginning included set v
+  pub opened : IsPrerelease v → IsOpenIn included set v
   pub build : v.build ≡ build_at set.lower
 
-pub least-inside : (set : Ends VersionValue) (v : VersionValue) → IsCandidate set v
-    → IsCutBelow version_cmp (Before v) set.upper → IsLeastInSet set v
-least-inside set v candidate upper = record {
-  admits = record {
-    inside = record { lower = candidate.begins.at; upper = upper };
-    opened = candidate.opened;
-  };
+pub least-inside : (included : Bool) (set : Ends VersionValue) (v : VersionValue) → IsCandidate included set v
+    → IsCutBelow version_cmp (Before v) set.upper → IsLeastInSet included set v
+least-inside included set v candidate upper = record {
+  admits = lies-in included set v (record { lower = candidate.begins.at; upper = upper }) candidate.opened;
   none_below = candidate.begins.none_below;
   build = candidate.build;
 }
 
 -- it is the least one if it is inside, and otherwise there is none
-pub candidate-least : (set : Ends VersionValue) (v : VersionValue) (found : Option VersionValue) → IsCandidate set v
-    → IsInsideOrNone set.upper v found → IsLeastOfSet set found
-candidate-least set v found candidate (inl (inside, is)) =
-    subst (IsLeastOfSet set) (sym is) (least-inside set v candidate inside)
-candidate-least set v found candidate (inr (outside, is)) = subst (IsLeastOfSet set) (sym is) (λ w admits.
+pub candidate-least : (included : Bool) (set : Ends VersionValue) (v : VersionValue) (found : Option VersionValue) → IsCandidate included set v
+    → IsInsideOrNone set.upper v found → IsLeastOfSet included set found
+candidate-least included set v found candidate (inl (inside, is)) =
+    subst (IsLeastOfSet included set) (sym is) (least-inside included set v candidate inside)
+candidate-least included set v found candidate (inr (outside, none)) = subst (IsLeastOfSet included set) (sym none) (λ w is.
     outside (at_most-below version_total (Before v) (Before w) set.upper
-    (at-least v w (candidate.begins.none_below w admits)) admits.inside.upper))
+    (at-least v w (candidate.begins.none_below w is)) (lies-inside included set w is).upper))
 
 -- before a version
-pub before-least : (set : Ends VersionValue) (v : VersionValue) → HoldsCut version_cmp set → set.lower ≡ Before v
-    → IsLeastInSet set v
-before-least set v holds is =
+pub before-least : (included : Bool) (set : Ends VersionValue) (v : VersionValue) → HoldsCut version_cmp set → set.lower ≡ Before v
+    → IsLeastInSet included set v
+before-least included set v holds is =
     let floor : IsFloor set.lower v = subst (λ (c : Cut VersionValue). IsFloor c v) (sym is) (before-floor v) in
-    least-inside set v (record {
-      begins = from-floor set v floor;
-      opened = λ pre. inl (subst (λ (c : Cut VersionValue). Opens c v) (sym is)
-          (pre, record { major = refl; minor = refl; patch = refl }));
+    least-inside included set v (record {
+      begins = from-floor included set v floor;
+      opened = λ pre. inr (inl (subst (λ (c : Cut VersionValue). Opens c v) (sym is)
+          (pre, record { major = refl; minor = refl; patch = refl })));
       build = ap build_at (sym is);
     }) (subst (λ (c : Cut VersionValue). IsCutBelow version_cmp c set.upper) is
     (at_most-below version_total set.lower holds.0 set.upper holds.1.lower holds.1.upper))
 
 -- after a prerelease: itself with a 0 more, which the end opens
-pub zero-candidate : (set : Ends VersionValue) (v w : VersionValue) → set.lower ≡ After v → IsPrerelease v
-    → w ≡ record v { pre_release = v.pre_release ++ numeric 0 ∷ [] } → IsCandidate set w
-zero-candidate set v w is pre same =
+pub zero-candidate : (included : Bool) (set : Ends VersionValue) (v w : VersionValue) → set.lower ≡ After v → IsPrerelease v
+    → w ≡ record v { pre_release = v.pre_release ++ numeric 0 ∷ [] } → IsCandidate included set w
+zero-candidate included set v w is pre same =
     let zero : VersionValue = record v { pre_release = v.pre_release ++ numeric 0 ∷ [] } in
     let floor : IsFloor (After v) zero = same-floor (After v) (with_zero v) zero
     (version-Equal (with_zero v) zero (record {
@@ -188,24 +210,24 @@ zero-candidate set v w is pre same =
       pre_release = refl;
     }))
     (after-floor v (with_zero v) (with_zero-above v pre) (λ w. none-between_zeros v w pre)) in
-    subst (IsCandidate set) (sym same) (record {
-      begins = from-floor set zero (subst (λ (c : Cut VersionValue). IsFloor c zero) (sym is) floor);
-      opened = λ _. inl (subst (λ (c : Cut VersionValue). Opens c zero) (sym is)
-          (pre, record { major = refl; minor = refl; patch = refl }));
+    subst (IsCandidate included set) (sym same) (record {
+      begins = from-floor included set zero (subst (λ (c : Cut VersionValue). IsFloor c zero) (sym is) floor);
+      opened = λ _. inr (inl (subst (λ (c : Cut VersionValue). Opens c zero) (sym is)
+          (pre, record { major = refl; minor = refl; patch = refl })));
       build = ap build_at (sym is);
     })
 
 -- a triple whose least version is the floor of a lower end that does not open it
-triple-candidate : (set : Ends VersionValue) (m n p : ℕ) (build : List IdentifierValue) (w : VersionValue)
+triple-candidate : (included : Bool) (set : Ends VersionValue) (m n p : ℕ) (build : List IdentifierValue) (w : VersionValue)
     → IsFloor set.lower (least_of m n p) → ¬ Opens set.lower (release m n p) → build ≡ build_at set.lower
-    → IsLeastOfTriple set.upper m n p build w → IsCandidate set w
-triple-candidate set m n p build w floor closed same (inl (opens, is)) =
+    → IsLeastOfTriple included set.upper m n p build w → IsCandidate included set w
+triple-candidate included set m n p build w floor closed same (inl (opens, is)) =
     let least : VersionValue = record (least_of m n p) { build = build } in
-    subst (IsCandidate set) (sym is) (record {
-      begins = from-floor set least (same-floor set.lower (least_of m n p) least
+    subst (IsCandidate included set) (sym is) (record {
+      begins = from-floor included set least (same-floor set.lower (least_of m n p) least
           (version-Equal (least_of m n p) least
           (record { triple = record { major = refl; minor = refl; patch = refl }; pre_release = refl })) floor);
-      opened = λ _. inr (as_release set.upper opens);
+      opened = λ _. elim opens [ inl is ↦ inl is | inr opened ↦ inr (inr (as_release set.upper opened)) ];
       build = same;
     })
   where
@@ -216,13 +238,14 @@ triple-candidate set m n p build w floor closed same (inl (opens, is)) =
     as_release (After q) opens =
         (opens.0, record { major = opens.1.major; minor = opens.1.minor; patch = opens.1.patch })
     as_release End opens = opens
-triple-candidate set m n p build w floor closed same (inr (shut, is)) =
+triple-candidate included set m n p build w floor closed same (inr (shut, is)) =
     let final : VersionValue = record (release m n p) { build = build } in
-    subst (IsCandidate set) (sym is) (record {
-      begins = from-closed set m n p final floor (record { major = refl; minor = refl; patch = refl })
+    subst (IsCandidate included set) (sym is) (record {
+      begins = from-closed included set m n p final floor (record { major = refl; minor = refl; patch = refl })
           (λ pre. pre refl) (λ opened. elim opened [
-            | inl opens ↦ closed (as_plain set.lower opens)
-            | inr opens ↦ shut (as_plain set.upper opens)
+            | inl is ↦ shut (inl is)
+            | inr (inl opens) ↦ closed (as_plain set.lower opens)
+            | inr (inr opens) ↦ shut (inr (as_plain set.upper opens))
           ]);
       opened = λ pre. absurd (pre refl);
       build = same;
@@ -237,18 +260,18 @@ triple-candidate set m n p build w floor closed same (inr (shut, is)) =
     as_plain End opens = opens
 
 -- from the start
-pub start-candidate : (set : Ends VersionValue) (w : VersionValue) → set.lower ≡ Start
-    → IsLeastOfTriple set.upper 0 0 0 [] w → IsCandidate set w
-start-candidate set w is least = triple-candidate set 0 0 0 [] w
+pub start-candidate : (included : Bool) (set : Ends VersionValue) (w : VersionValue) → set.lower ≡ Start
+    → IsLeastOfTriple included set.upper 0 0 0 [] w → IsCandidate included set w
+start-candidate included set w is least = triple-candidate included set 0 0 0 [] w
     (subst (λ (c : Cut VersionValue). IsFloor c (least_of 0 0 0)) (sym is) start-floor)
     (λ opens. subst (λ (c : Cut VersionValue). Opens c (release 0 0 0)) is opens) (ap build_at (sym is)) least
 
 -- after a release: the triple with the next patch
-pub patch-candidate : (set : Ends VersionValue) (v w : VersionValue) → set.lower ≡ After v → ¬ IsPrerelease v
-    → IsLeastOfTriple set.upper v.major v.minor (v.patch + 1) v.build w → IsCandidate set w
-patch-candidate set v w is final least =
+pub patch-candidate : (included : Bool) (set : Ends VersionValue) (v w : VersionValue) → set.lower ≡ After v → ¬ IsPrerelease v
+    → IsLeastOfTriple included set.upper v.major v.minor (v.patch + 1) v.build w → IsCandidate included set w
+patch-candidate included set v w is final least =
     let next = least_of v.major v.minor (v.patch + 1) in
-    triple-candidate set v.major v.minor (v.patch + 1) v.build w
+    triple-candidate included set v.major v.minor (v.patch + 1) v.build w
     (subst (λ (c : Cut VersionValue). IsFloor c next) (sym is)
     (after-floor v next (patch-above v) (λ u above. none-between_patches v u final above)))
     (λ opens. final (subst (λ (c : Cut VersionValue). Opens c (release v.major v.minor (v.patch + 1))) is opens).0)

@@ -1,5 +1,5 @@
 -- The least version that a list of sets admits, from that of each set.
-use Rattle.std.proofs.Common.{◌≡◌, ◌↔◌, ◌⊎◌, ◌+◌, ◌<◌, ◌≤◌, ◌∙◌, ℕ, true, false, arith, Ok, Err, IfOk, IsNone, List, []}
+use Rattle.std.proofs.Common.{◌≡◌, ◌↔◌, ◌⊎◌, ◌+◌, ◌<◌, ◌≤◌, ◌∙◌, ℕ, Bool, true, false, arith, Ok, Err, IfOk, IfSome, IsNone, List, []}
 use Rattle.std.proofs.Common.{◌∷◌, ◌++◌, Option, Some, None, length, get_or, take, refl, sym, ap, subst, inl, inr, Less}
 use Rattle.std.proofs.Common.{append_assoc}
 use Rattle.std.proofs.lemmas.List.{take_more}
@@ -9,64 +9,63 @@ use Rattle.std.specs.Prelude.{Result}
 use Rattle.semver_cuts.specs.declared.cut.Cut.TheVariants.{Before}
 use Rattle.semver_cuts.specs.Ends.{Ends}
 use Rattle.semver_versions.specs.Comparison.{version_cmp}
-use Rattle.semver_sets.specs.Meaning.{RangeAdmits, SetAdmits}
 use Rattle.semver_sets.specs.RangeSets.{IsRangeSet}
 use Rattle.semver_versions.specs.Version.{VersionValue}
 use Rattle.semver_versions.specs.Lemmas.Order.{Less-version, version-Less, version_total}
-use Rattle.node_semver.specs.Least.{AdmitsNone, HasBuildOfFirst, IsLeastAdmitted}
-use Rattle.node_semver.specs.Private.LeastViews.{IsLeastInSet, IsLeastOfSet, IsLeastOfSets, IsLesser}
+use Rattle.node_semver.specs.Least.{HasBuildOf, IsLeastOf, IsNoneOf}
+use Rattle.node_semver.specs.Private.LeastViews.{IsIn, IsInRange, IsLeastInSet, IsLeastOfSet, IsLeastOfSets, IsLesser}
 use Rattle.node_semver.proofs.Least.LeastLemmas.{at-least, before-least}
 
 -- ---- one set more
 
 -- earlier sets admit what they did
-admits-earlier : (done : List (Ends VersionValue)) (set : Ends VersionValue) (v : VersionValue) → RangeAdmits done v
-    → RangeAdmits (done ++ set ∷ []) v
-admits-earlier [] set v admits = absurd admits
-admits-earlier (s ∷ done) set v (inl here) = inl here
-admits-earlier (s ∷ done) set v (inr there) = inr (admits-earlier done set v there)
+admits-earlier : (included : Bool) (done : List (Ends VersionValue)) (set : Ends VersionValue) (v : VersionValue) → IsInRange included done v
+    → IsInRange included (done ++ set ∷ []) v
+admits-earlier included [] set v admits = absurd admits
+admits-earlier included (s ∷ done) set v (inl here) = inl here
+admits-earlier included (s ∷ done) set v (inr there) = inr (admits-earlier included done set v there)
 
 -- and the set what it does
-admits-last : (done : List (Ends VersionValue)) (set : Ends VersionValue) (v : VersionValue) → SetAdmits set v
-    → RangeAdmits (done ++ set ∷ []) v
-admits-last [] set v admits = inl admits
-admits-last (s ∷ done) set v admits = inr (admits-last done set v admits)
+admits-last : (included : Bool) (done : List (Ends VersionValue)) (set : Ends VersionValue) (v : VersionValue) → IsIn included set v
+    → IsInRange included (done ++ set ∷ []) v
+admits-last included [] set v admits = inl admits
+admits-last included (s ∷ done) set v admits = inr (admits-last included done set v admits)
 
 -- and nothing else is admitted
-admits-either : (done : List (Ends VersionValue)) (set : Ends VersionValue) (v : VersionValue)
-    → RangeAdmits (done ++ set ∷ []) v → RangeAdmits done v ⊎ SetAdmits set v
-admits-either [] set v (inl here) = inr here
-admits-either [] set v (inr there) = absurd there
-admits-either (s ∷ done) set v (inl here) = inl (inl here)
-admits-either (s ∷ done) set v (inr there) = elim (admits-either done set v there) [
+admits-either : (included : Bool) (done : List (Ends VersionValue)) (set : Ends VersionValue) (v : VersionValue)
+    → IsInRange included (done ++ set ∷ []) v → IsInRange included done v ⊎ IsIn included set v
+admits-either included [] set v (inl here) = inr here
+admits-either included [] set v (inr there) = absurd there
+admits-either included (s ∷ done) set v (inl here) = inl (inl here)
+admits-either included (s ∷ done) set v (inr there) = elim (admits-either included done set v there) [
   | inl earlier ↦ inl (inr earlier)
   | inr last ↦ inr last
 ]
 
-none-each : (done : List (Ends VersionValue)) (v : VersionValue) → ¬ RangeAdmits done v
-    → AllByRecursion (λ (other : Ends VersionValue). ¬ SetAdmits other v) done
-none-each [] v none = tt
-none-each (s ∷ done) v none = (λ here. none (inl here), none-each done v (λ there. none (inr there)))
+none-each : (included : Bool) (done : List (Ends VersionValue)) (v : VersionValue) → ¬ IsInRange included done v
+    → AllByRecursion (λ (other : Ends VersionValue). ¬ IsIn included other v) done
+none-each included [] v none = tt
+none-each included (s ∷ done) v none = (λ here. none (inl here), none-each included done v (λ there. none (inr there)))
 
 -- the least version of the set, where the earlier ones don't admit it
-last-first : (done : List (Ends VersionValue)) (set : Ends VersionValue) (v : VersionValue) → IsLeastInSet set v
-    → ¬ RangeAdmits done v → HasBuildOfFirst (done ++ set ∷ []) v
-last-first done set v least none = record {
+last-first : (included : Bool) (done : List (Ends VersionValue)) (set : Ends VersionValue) (v : VersionValue) → IsLeastInSet included set v
+    → ¬ IsInRange included done v → HasBuildOf (IsIn included) (done ++ set ∷ []) v
+last-first included done set v least none = record {
   set = set;
   first = record {
     before = done;
     after = [];
     parts = refl;
-    earlier = none-each done v none;
+    earlier = none-each included done v none;
     admits = least.admits;
   };
   build = least.build;
 }
 
 -- the first to admit stays the first
-earlier-first : (done : List (Ends VersionValue)) (set : Ends VersionValue) (v : VersionValue) → HasBuildOfFirst done v
-    → HasBuildOfFirst (done ++ set ∷ []) v
-earlier-first done set v built = let first = built.first in record {
+earlier-first : (included : Bool) (done : List (Ends VersionValue)) (set : Ends VersionValue) (v : VersionValue) → HasBuildOf (IsIn included) done v
+    → HasBuildOf (IsIn included) (done ++ set ∷ []) v
+earlier-first included done set v built = let first = built.first in record {
   set = built.set;
   first = record {
     before = first.before;
@@ -82,33 +81,33 @@ earlier-first done set v built = let first = built.first in record {
 -- ---- the lesser of two
 
 -- the least of the set alone, below all that the earlier sets admit
-take-later : (done : List (Ends VersionValue)) (set : Ends VersionValue) (v : VersionValue) → IsLeastInSet set v
-    → ((w : VersionValue) → RangeAdmits done w → ¬ (version_cmp w v ≡ Less)) → ¬ RangeAdmits done v
-    → IsLeastAdmitted (done ++ set ∷ []) v × HasBuildOfFirst (done ++ set ∷ []) v
-take-later done set v least above none = (
+take-later : (included : Bool) (done : List (Ends VersionValue)) (set : Ends VersionValue) (v : VersionValue) → IsLeastInSet included set v
+    → ((w : VersionValue) → IsInRange included done w → ¬ (version_cmp w v ≡ Less)) → ¬ IsInRange included done v
+    → IsLeastOf (IsInRange included (done ++ set ∷ [])) v × HasBuildOf (IsIn included) (done ++ set ∷ []) v
+take-later included done set v least above none = (
   record {
-    wanted = admits-last done set v least.admits;
-    none_below = λ w admits below. elim (admits-either done set w admits) [
+    wanted = admits-last included done set v least.admits;
+    none_below = λ w admits below. elim (admits-either included done set w admits) [
       | inl earlier ↦ above w earlier (version-Less w v below)
       | inr last ↦ least.none_below w last (version-Less w v below)
     ];
   },
-  last-first done set v least none,
+  last-first included done set v least none,
 )
 
 -- the least of the earlier ones, where the set admits none below it
-take-earlier : (done : List (Ends VersionValue)) (set : Ends VersionValue) (v : VersionValue) → IsLeastAdmitted done v
-    → HasBuildOfFirst done v → ((w : VersionValue) → SetAdmits set w → ¬ (version_cmp w v ≡ Less))
-    → IsLeastAdmitted (done ++ set ∷ []) v × HasBuildOfFirst (done ++ set ∷ []) v
-take-earlier done set v least built above = (
+take-earlier : (included : Bool) (done : List (Ends VersionValue)) (set : Ends VersionValue) (v : VersionValue) → IsLeastOf (IsInRange included done) v
+    → HasBuildOf (IsIn included) done v → ((w : VersionValue) → IsIn included set w → ¬ (version_cmp w v ≡ Less))
+    → IsLeastOf (IsInRange included (done ++ set ∷ [])) v × HasBuildOf (IsIn included) (done ++ set ∷ []) v
+take-earlier included done set v least built above = (
   record {
-    wanted = admits-earlier done set v least.wanted;
-    none_below = λ w admits below. elim (admits-either done set w admits) [
+    wanted = admits-earlier included done set v least.wanted;
+    none_below = λ w admits below. elim (admits-either included done set w admits) [
       | inl earlier ↦ least.none_below w earlier below
       | inr last ↦ above w last (version-Less w v below)
     ];
   },
-  earlier-first done set v built,
+  earlier-first included done set v built,
 )
 
 -- if u is not below v and v is not below w, then u is not below w
@@ -120,35 +119,35 @@ not-below u v w n m less = elim (at-least w v n) [
 ]
 
 -- one set more: the lesser of the two least versions
-pub more-least : (done : List (Ends VersionValue)) (set : Ends VersionValue) (earlier later found : Option VersionValue)
-    → IsLeastOfSets done earlier → IsLeastOfSet set later → IsLesser earlier later found
-    → IsLeastOfSets (done ++ set ∷ []) found
-more-least done set None None found none nothing is =
-    subst (IsLeastOfSets (done ++ set ∷ [])) (sym is) (λ v admits. elim (admits-either done set v admits) [
+pub more-least : (included : Bool) (done : List (Ends VersionValue)) (set : Ends VersionValue) (earlier later found : Option VersionValue)
+    → IsLeastOfSets included done earlier → IsLeastOfSet included set later → IsLesser earlier later found
+    → IsLeastOfSets included (done ++ set ∷ []) found
+more-least included done set None None found none nothing is =
+    subst (IsLeastOfSets included (done ++ set ∷ [])) (sym is) (λ v admits. elim (admits-either included done set v admits) [
       | inl earlier ↦ none v earlier
       | inr last ↦ nothing v last
     ])
-more-least done set None (Some l) found none least is = subst (IsLeastOfSets (done ++ set ∷ [])) (sym is)
-    (take-later done set l least (λ w admits. absurd (none w admits)) (none l))
-more-least done set (Some e) None found least nothing is = subst (IsLeastOfSets (done ++ set ∷ [])) (sym is)
-    (take-earlier done set e least.0 least.1 (λ w admits. absurd (nothing w admits)))
-more-least done set (Some e) (Some l) found least later (inl (below, is)) =
-    subst (IsLeastOfSets (done ++ set ∷ [])) (sym is) (take-later done set l later
+more-least included done set None (Some l) found none least is = subst (IsLeastOfSets included (done ++ set ∷ [])) (sym is)
+    (take-later included done set l least (λ w admits. absurd (none w admits)) (none l))
+more-least included done set (Some e) None found least nothing is = subst (IsLeastOfSets included (done ++ set ∷ [])) (sym is)
+    (take-earlier included done set e least.0 least.1 (λ w admits. absurd (nothing w admits)))
+more-least included done set (Some e) (Some l) found least later (inl (below, is)) =
+    subst (IsLeastOfSets included (done ++ set ∷ [])) (sym is) (take-later included done set l later
     (λ w admits less. least.0.none_below w admits (Less-version w e (version_total.trans w l e less below)))
     (λ admits. least.0.none_below l admits (Less-version l e below)))
-more-least done set (Some e) (Some l) found least later (inr (above, is)) =
-    subst (IsLeastOfSets (done ++ set ∷ [])) (sym is) (take-earlier done set e least.0 least.1
+more-least included done set (Some e) (Some l) found least later (inr (above, is)) =
+    subst (IsLeastOfSets included (done ++ set ∷ [])) (sym is) (take-earlier included done set e least.0 least.1
     (λ w admits. not-below w l e above (later.none_below w admits)))
 
 -- as a loop goes over the sets
-pub taken-least : (sets : List (Ends VersionValue)) (k : ℕ) (set : Ends VersionValue)
+pub taken-least : (included : Bool) (sets : List (Ends VersionValue)) (k : ℕ) (set : Ends VersionValue)
     (earlier later found : Option VersionValue)
-    → k < length sets → set ≡ get_or sets k set → IsLeastOfSets (take k sets) earlier → IsLeastOfSet set later
-    → IsLesser earlier later found → IsLeastOfSets (take (k + 1) sets) found
-taken-least sets k set earlier later found lt is least later_least lesser =
-    subst (λ (l : List (Ends VersionValue)). IsLeastOfSets l found)
+    → k < length sets → set ≡ get_or sets k set → IsLeastOfSets included (take k sets) earlier → IsLeastOfSet included set later
+    → IsLesser earlier later found → IsLeastOfSets included (take (k + 1) sets) found
+taken-least included sets k set earlier later found lt is least later_least lesser =
+    subst (λ (l : List (Ends VersionValue)). IsLeastOfSets included l found)
     (sym (take_more sets k set lt ∙ ap (λ (s : Ends VersionValue). take k sets ++ s ∷ []) (sym is)))
-    (more-least (take k sets) set earlier later found least later_least lesser)
+    (more-least included (take k sets) set earlier later found least later_least lesser)
 
 -- ---- the only set
 
@@ -159,25 +158,38 @@ one-set (s ∷ []) set some few is = ap (λ (t : Ends VersionValue). t ∷ []) (
 one-set (s ∷ t ∷ sets) set some few is = absurd (omega arith)
 
 -- where it begins before a version, that is the least
-pub only-least : (sets : List (Ends VersionValue)) (set : Ends VersionValue) (v : VersionValue) → 1 ≤ length sets
+pub only-least : (included : Bool) (sets : List (Ends VersionValue)) (set : Ends VersionValue) (v : VersionValue) → 1 ≤ length sets
     → length sets < 2 → set ≡ get_or sets 0 set → set.lower ≡ Before v → AllByRecursion IsRangeSet sets
-    → IsLeastOfSets sets (Some v)
-only-least sets set v some few is lower each =
+    → IsLeastOfSets included sets (Some v)
+only-least included sets set v some few is lower each =
     let only = one-set sets set some few is in
     let held : AllByRecursion IsRangeSet (set ∷ []) = subst (AllByRecursion IsRangeSet) only each in
-    subst (λ (l : List (Ends VersionValue)). IsLeastOfSets l (Some v)) (sym only)
-    (more-least [] set None (Some v) (Some v) (λ w admits. admits) (before-least set v held.0.holds lower) refl)
+    subst (λ (l : List (Ends VersionValue)). IsLeastOfSets included l (Some v)) (sym only)
+    (more-least included [] set None (Some v) (Some v) (λ w admits. admits) (before-least included set v held.0.holds lower) refl)
 
 -- ---- the program's result
 
 -- a version, where one is admitted
-pub some-found : (sets : List (Ends VersionValue)) (v : VersionValue) → IsLeastOfSets sets (Some v)
-    → (true ≡ false) ↔ AdmitsNone sets
-some-found sets v least = (λ e. cc e, λ none. absurd (none v least.0.wanted))
+pub some-found : (included : Bool) (sets : List (Ends VersionValue)) (v : VersionValue) → IsLeastOfSets included sets (Some v)
+    → (true ≡ false) ↔ IsNoneOf (IsInRange included sets)
+some-found included sets v least = (λ e. cc e, λ none. absurd (none v least.0.wanted))
 
 -- and none, where none is
-pub none-found : {E : Type 0} (sets : List (Ends VersionValue)) (r : Result (Option VersionValue) E)
-    → IfOk r (IsLeastOfSets sets) → IfOk r (λ found. IsNone found ↔ AdmitsNone sets)
-none-found sets (Ok (Some v)) least = some-found sets v least
-none-found sets (Ok None) none = (λ e. none, λ e. refl)
-none-found sets (Err e) least = tt
+pub none-found : {E : Type 0} (included : Bool) (sets : List (Ends VersionValue)) (r : Result (Option VersionValue) E)
+    → IfOk r (IsLeastOfSets included sets) → IfOk r (λ found. IsNone found ↔ IsNoneOf (IsInRange included sets))
+none-found included sets (Ok (Some v)) least = some-found included sets v least
+none-found included sets (Ok None) none = (λ e. none, λ e. refl)
+none-found included sets (Err e) least = tt
+
+-- a version that is found is the least, with the build of the first set that has it
+pub found-least : {E : Type 0} (included : Bool) (sets : List (Ends VersionValue)) (r : Result (Option VersionValue) E)
+    → IfOk r (IsLeastOfSets included sets) → IfOk r (λ found. IfSome found (IsLeastOf (IsInRange included sets)))
+found-least included sets (Ok (Some v)) least = least.0
+found-least included sets (Ok None) none = tt
+found-least included sets (Err e) least = tt
+
+pub found-build : {E : Type 0} (included : Bool) (sets : List (Ends VersionValue)) (r : Result (Option VersionValue) E)
+    → IfOk r (IsLeastOfSets included sets) → IfOk r (λ found. IfSome found (HasBuildOf (IsIn included) sets))
+found-build included sets (Ok (Some v)) least = least.1
+found-build included sets (Ok None) none = tt
+found-build included sets (Err e) least = tt

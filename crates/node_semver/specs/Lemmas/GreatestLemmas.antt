@@ -1,18 +1,16 @@
--- The best version of a list that a range admits, as one version more is looked at: the greatest, or the least.
+-- The best version of a list that is wanted, as one version more is looked at: the greatest, or the least.
 use Rattle.std.proofs.Common.{◌≡◌, ◌↔◌, ◌+◌, ◌<◌, ◌∙◌, ℕ, List, [], ◌∷◌, ◌++◌, Option, Some, None, IfSome, IsNone}
 use Rattle.std.proofs.Common.{Bool, true, false, length, get_or, map, take, refl, sym, ap, subst, inl, inr, Less}
 use Rattle.std.proofs.Common.{append_assoc}
 use Rattle.std.proofs.lemmas.List.{map-append, take_more}
 use Rattle.std.specs.Cmp.{alike_right}
 use Rattle.std.specs.Option.{option_map}
-use Rattle.semver_cuts.specs.Ends.{Ends}
 use Rattle.semver_cuts.specs.Lemmas.Lists.{all-append, all_map}
 use Rattle.semver_versions.specs.Comparison.{version_cmp}
-use Rattle.semver_sets.specs.Meaning.{RangeAdmits}
 use Rattle.semver_versions.specs.Order.{IsBelow, IsSame}
 use Rattle.semver_versions.specs.Version.{VersionValue}
 use Rattle.semver_versions.specs.Lemmas.Order.{version-Equal, version-Less, version_total}
-use Rattle.node_semver.specs.Greatest.{AdmitsNoneIn, IsFirstBest, IsGreatestAdmitted, IsLeastAdmittedIn}
+use Rattle.node_semver.specs.Greatest.{IsFirstBest, IsGreatestIn, IsLeastIn, IsNoneIn}
 use Rattle.node_semver.specs.Lemmas.GreatestViews.{IsBestOrNone, IsBetterOf, Order, downward, order_of}
 
 -- the premises of an order of versions: true of precedence, and of precedence reversed
@@ -45,20 +43,20 @@ pub each-order : (upward : Bool) → IsOrder (order_of upward)
 each-order true = upward-order
 each-order false = downward-order
 
-module _ (order : Order) (is : IsOrder order) (sets : List (Ends VersionValue)) where
+module _ (order : Order) (is : IsOrder order) (Wanted : VersionValue → Type 0) where
   abbrev Best : List VersionValue → VersionValue → Type 0
   Best versions best =
-      IsFirstBest (λ (v : VersionValue) (w : VersionValue). order w v ≡ Less) sets versions best
+      IsFirstBest (λ (v : VersionValue) (w : VersionValue). order w v ≡ Less) Wanted versions best
 
   -- no admitted version is better than this one
   abbrev NoneBetter : VersionValue → VersionValue → Type 0
-  NoneBetter v w = RangeAdmits sets w → ¬ (order v w ≡ Less)
+  NoneBetter v w = Wanted w → ¬ (order v w ≡ Less)
 
   abbrev NoneSame : VersionValue → VersionValue → Type 0
-  NoneSame v w = RangeAdmits sets w → ¬ IsSame w v
+  NoneSame v w = Wanted w → ¬ IsSame w v
 
   -- the first that is admitted
-  abbrev pub take-first : (done : List VersionValue) (v : VersionValue) → AdmitsNoneIn sets done → RangeAdmits sets v
+  abbrev pub take-first : (done : List VersionValue) (v : VersionValue) → IsNoneIn Wanted done → Wanted v
       → Best (done ++ v ∷ []) v
   take-first done v none admits = record {
     before = done;
@@ -66,16 +64,16 @@ module _ (order : Order) (is : IsOrder order) (sets : List (Ends VersionValue)) 
     parts = refl;
     admitted = admits;
     none_better = all-append (NoneBetter v) done (v ∷ [])
-        (all_map (λ (w : VersionValue). ¬ RangeAdmits sets w) (NoneBetter v)
+        (all_map (λ (w : VersionValue). ¬ Wanted w) (NoneBetter v)
         (λ w not admitted. absurd (not admitted)) done none)
         ((λ _. is.not_itself v), tt);
-    none_same = all_map (λ (w : VersionValue). ¬ RangeAdmits sets w) (NoneSame v)
+    none_same = all_map (λ (w : VersionValue). ¬ Wanted w) (NoneSame v)
         (λ w not admitted. absurd (not admitted)) done none;
   }
 
   -- one that is better than the best so far
   abbrev pub take-better : (done : List VersionValue) (best v : VersionValue) → Best done best → order best v ≡ Less
-      → RangeAdmits sets v → Best (done ++ v ∷ []) v
+      → Wanted v → Best (done ++ v ∷ []) v
   take-better done best v first better admits = record {
     before = done;
     after = [];
@@ -91,7 +89,7 @@ module _ (order : Order) (is : IsOrder order) (sets : List (Ends VersionValue)) 
 
   -- one that is not admitted, or not better than the best so far
   abbrev pub keep-best : (done : List VersionValue) (best v : VersionValue) → Best done best
-      → ¬ ((order best v ≡ Less) × RangeAdmits sets v) → Best (done ++ v ∷ []) best
+      → ¬ ((order best v ≡ Less) × Wanted v) → Best (done ++ v ∷ []) best
   keep-best done best v first not = record {
     before = first.before;
     after = first.after ++ v ∷ [];
@@ -104,88 +102,88 @@ module _ (order : Order) (is : IsOrder order) (sets : List (Ends VersionValue)) 
   }
 
   more-best : (done : List VersionValue) (v : VersionValue) (best found : Option VersionValue)
-      → IsBestOrNone order sets done best → IsBetterOf order sets best v found
-      → IsBestOrNone order sets (done ++ v ∷ []) found
+      → IsBestOrNone order Wanted done best → IsBetterOf order Wanted best v found
+      → IsBestOrNone order Wanted (done ++ v ∷ []) found
   more-best done v None found none (inl (better, admits, taken)) =
-      subst (IsBestOrNone order sets (done ++ v ∷ [])) (sym taken) (take-first done v none admits)
-  more-best done v None found none (inr (not, kept)) = subst (IsBestOrNone order sets (done ++ v ∷ [])) (sym kept)
-      (all-append (λ (w : VersionValue). ¬ RangeAdmits sets w) done (v ∷ []) none
+      subst (IsBestOrNone order Wanted (done ++ v ∷ [])) (sym taken) (take-first done v none admits)
+  more-best done v None found none (inr (not, kept)) = subst (IsBestOrNone order Wanted (done ++ v ∷ [])) (sym kept)
+      (all-append (λ (w : VersionValue). ¬ Wanted w) done (v ∷ []) none
       ((λ admitted. not (tt, admitted)), tt))
   more-best done v (Some best) found first (inl (better, admits, taken)) =
-      subst (IsBestOrNone order sets (done ++ v ∷ [])) (sym taken) (take-better done best v first better admits)
+      subst (IsBestOrNone order Wanted (done ++ v ∷ [])) (sym taken) (take-better done best v first better admits)
   more-best done v (Some best) found first (inr (not, kept)) =
-      subst (IsBestOrNone order sets (done ++ v ∷ [])) (sym kept) (keep-best done best v first not)
+      subst (IsBestOrNone order Wanted (done ++ v ∷ [])) (sym kept) (keep-best done best v first not)
 
   -- as a loop goes over the versions
   pub taken-best : {T : Type 0} (seen : T → VersionValue) (versions : List T) (k : ℕ) (v : T)
       (best found : Option VersionValue) → k < length versions → v ≡ get_or versions k v
-      → IsBestOrNone order sets (map seen (take k versions)) best → IsBetterOf order sets best (seen v) found
-      → IsBestOrNone order sets (map seen (take (k + 1) versions)) found
+      → IsBestOrNone order Wanted (map seen (take k versions)) best → IsBetterOf order Wanted best (seen v) found
+      → IsBestOrNone order Wanted (map seen (take (k + 1) versions)) found
   taken-best {T} seen versions k v best found lt at first better =
-      subst (λ (l : List T). IsBestOrNone order sets (map seen l) found)
+      subst (λ (l : List T). IsBestOrNone order Wanted (map seen l) found)
       (sym (take_more versions k v lt ∙ ap (λ (w : T). take k versions ++ w ∷ []) (sym at)))
-      (subst (λ (l : List VersionValue). IsBestOrNone order sets l found)
+      (subst (λ (l : List VersionValue). IsBestOrNone order Wanted l found)
       (sym (map-append seen (take k versions) (v ∷ [])))
       (more-best (map seen (take k versions)) (seen v) best found first better))
 
 -- ---- the program's result
 
 -- the best by precedence is the greatest
-abbrev pub as-greatest : (sets : List (Ends VersionValue)) (versions : List VersionValue) (v : VersionValue)
-    → IsFirstBest (λ (w : VersionValue) (u : VersionValue). version_cmp u w ≡ Less) sets versions v
-    → IsGreatestAdmitted sets versions v
-as-greatest sets versions v first = record {
+abbrev pub as-greatest : (Wanted : VersionValue → Type 0) (versions : List VersionValue) (v : VersionValue)
+    → IsFirstBest (λ (w : VersionValue) (u : VersionValue). version_cmp u w ≡ Less) Wanted versions v
+    → IsGreatestIn Wanted versions v
+as-greatest Wanted versions v first = record {
   before = first.before;
   after = first.after;
   parts = first.parts;
   admitted = first.admitted;
-  none_better = all_map (NoneBetter version_cmp upward-order sets v)
-      (λ (w : VersionValue). RangeAdmits sets w → ¬ IsBelow v w)
+  none_better = all_map (NoneBetter version_cmp upward-order Wanted v)
+      (λ (w : VersionValue). Wanted w → ¬ IsBelow v w)
       (λ w none admitted below. none admitted (version-Less v w below)) versions first.none_better;
   none_same = first.none_same;
 }
 
 -- and by precedence turned round the least
-abbrev pub as-least : (sets : List (Ends VersionValue)) (versions : List VersionValue) (v : VersionValue)
-    → IsFirstBest (λ (w : VersionValue) (u : VersionValue). downward u w ≡ Less) sets versions v
-    → IsLeastAdmittedIn sets versions v
-as-least sets versions v first = record {
+abbrev pub as-least : (Wanted : VersionValue → Type 0) (versions : List VersionValue) (v : VersionValue)
+    → IsFirstBest (λ (w : VersionValue) (u : VersionValue). downward u w ≡ Less) Wanted versions v
+    → IsLeastIn Wanted versions v
+as-least Wanted versions v first = record {
   before = first.before;
   after = first.after;
   parts = first.parts;
   admitted = first.admitted;
-  none_better = all_map (NoneBetter downward downward-order sets v)
-      (λ (w : VersionValue). RangeAdmits sets w → ¬ IsBelow w v)
+  none_better = all_map (NoneBetter downward downward-order Wanted v)
+      (λ (w : VersionValue). Wanted w → ¬ IsBelow w v)
       (λ w none admitted below. none admitted (version-Less w v below)) versions first.none_better;
   none_same = first.none_same;
 }
 
-pub greatest-found : {R : Type 0} (r : Option R) (now : R → VersionValue) (sets : List (Ends VersionValue))
-    (versions : List VersionValue) → IsBestOrNone version_cmp sets versions (option_map now r)
-    → IfSome r (λ v. IsGreatestAdmitted sets versions (now v))
-greatest-found (Some v) now sets versions first = as-greatest sets versions (now v) first
-greatest-found None now sets versions none = tt
+pub greatest-found : {R : Type 0} (r : Option R) (now : R → VersionValue) (Wanted : VersionValue → Type 0)
+    (versions : List VersionValue) → IsBestOrNone version_cmp Wanted versions (option_map now r)
+    → IfSome r (λ v. IsGreatestIn Wanted versions (now v))
+greatest-found (Some v) now Wanted versions first = as-greatest Wanted versions (now v) first
+greatest-found None now Wanted versions none = tt
 
-pub least-found : {R : Type 0} (r : Option R) (now : R → VersionValue) (sets : List (Ends VersionValue))
-    (versions : List VersionValue) → IsBestOrNone downward sets versions (option_map now r)
-    → IfSome r (λ v. IsLeastAdmittedIn sets versions (now v))
-least-found (Some v) now sets versions first = as-least sets versions (now v) first
-least-found None now sets versions none = tt
+pub least-found : {R : Type 0} (r : Option R) (now : R → VersionValue) (Wanted : VersionValue → Type 0)
+    (versions : List VersionValue) → IsBestOrNone downward Wanted versions (option_map now r)
+    → IfSome r (λ v. IsLeastIn Wanted versions (now v))
+least-found (Some v) now Wanted versions first = as-least Wanted versions (now v) first
+least-found None now Wanted versions none = tt
 
-pub none-at : (sets : List (Ends VersionValue)) (before after versions : List VersionValue) (v : VersionValue)
-    → versions ≡ before ++ v ∷ after → RangeAdmits sets v → ¬ AdmitsNoneIn sets versions
-none-at sets before after versions v parts admits none =
-    turned-away before (subst (AdmitsNoneIn sets) parts none)
+pub none-at : (Wanted : VersionValue → Type 0) (before after versions : List VersionValue) (v : VersionValue)
+    → versions ≡ before ++ v ∷ after → Wanted v → ¬ IsNoneIn Wanted versions
+none-at Wanted before after versions v parts admits none =
+    turned-away before (subst (IsNoneIn Wanted) parts none)
   where
-    turned-away : (l : List VersionValue) → ¬ AdmitsNoneIn sets (l ++ v ∷ after)
+    turned-away : (l : List VersionValue) → ¬ IsNoneIn Wanted (l ++ v ∷ after)
     turned-away [] none = none.0 admits
     turned-away (w ∷ l) none = turned-away l none.1
 
-pub none-found : {R : Type 0} (order : Order) (r : Option R) (now : R → VersionValue) (sets : List (Ends VersionValue))
-    (versions : List VersionValue) → IsBestOrNone order sets versions (option_map now r)
-    → IsNone r ↔ AdmitsNoneIn sets versions
-none-found order (Some v) now sets versions first = (
+pub none-found : {R : Type 0} (order : Order) (r : Option R) (now : R → VersionValue) (Wanted : VersionValue → Type 0)
+    (versions : List VersionValue) → IsBestOrNone order Wanted versions (option_map now r)
+    → IsNone r ↔ IsNoneIn Wanted versions
+none-found order (Some v) now Wanted versions first = (
   λ e. cc e,
-  λ none. absurd (none-at sets first.before first.after versions (now v) first.parts first.admitted none),
+  λ none. absurd (none-at Wanted first.before first.after versions (now v) first.parts first.admitted none),
 )
-none-found order None now sets versions none = ((λ e. none), (λ e. refl))
+none-found order None now Wanted versions none = ((λ e. none), (λ e. refl))

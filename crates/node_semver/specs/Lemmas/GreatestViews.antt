@@ -3,11 +3,9 @@
 use Rattle.std.specs.Prelude.{◌≡◌, ◌⊎◌, Bool, true, false, List, Option, Some, None}
 use Rattle.std.specs.declared.cmp.Ordering.{Ordering}
 use Rattle.std.specs.declared.cmp.Ordering.TheVariants.{Less}
-use Rattle.semver_cuts.specs.Ends.{Ends}
 use Rattle.semver_versions.specs.Comparison.{version_cmp}
-use Rattle.semver_sets.specs.Meaning.{RangeAdmits}
 use Rattle.semver_versions.specs.Version.{VersionValue}
-use Rattle.node_semver.specs.Greatest.{AdmitsNoneIn, IsFirstBest}
+use Rattle.node_semver.specs.Greatest.{IsFirstBest, IsNoneIn}
 
 -- an order of versions
 abbrev pub Order : Type 0
@@ -27,15 +25,14 @@ abbrev pub IsBetter : Order → Option VersionValue → VersionValue → Type 0
 IsBetter order None v = Unit {0}
 IsBetter order (Some best) v = order best v ≡ Less
 
--- the version if it is better than the best so far and the range admits it, else the best so far
-abbrev pub IsBetterOf : Order → List (Ends VersionValue) → Option VersionValue → VersionValue → Option VersionValue
+-- the version if it is better than the best so far and wanted, else the best so far
+abbrev pub IsBetterOf : Order → (VersionValue → Type 0) → Option VersionValue → VersionValue → Option VersionValue
     → Type 0
-IsBetterOf order sets best v better =
-    (IsBetter order best v × RangeAdmits sets v × (better ≡ Some v))
-    ⊎ ((¬ (IsBetter order best v × RangeAdmits sets v)) × (better ≡ best))
+IsBetterOf order Wanted best v better =
+    (IsBetter order best v × Wanted v × (better ≡ Some v)) ⊎ ((¬ (IsBetter order best v × Wanted v)) × (better ≡ best))
 
--- the best version of the list that the range admits (of equal ones the first), or none if it admits none
-abbrev pub IsBestOrNone : Order → List (Ends VersionValue) → List VersionValue → Option VersionValue → Type 0
-IsBestOrNone order sets versions None = AdmitsNoneIn sets versions
-IsBestOrNone order sets versions (Some best) =
-    IsFirstBest (λ (v : VersionValue) (w : VersionValue). order w v ≡ Less) sets versions best
+-- the best version of the list that is wanted (of equal ones the first), or none if none is wanted
+abbrev pub IsBestOrNone : Order → (VersionValue → Type 0) → List VersionValue → Option VersionValue → Type 0
+IsBestOrNone order Wanted versions None = IsNoneIn Wanted versions
+IsBestOrNone order Wanted versions (Some best) =
+    IsFirstBest (λ (v : VersionValue) (w : VersionValue). order w v ≡ Less) Wanted versions best

@@ -2,10 +2,11 @@
 ghost use Rattle.std.specs.Option.{option_map};
 ghost use Rattle.std.specs.Prelude.{◌≡◌, ◌↔◌, IfSome, IsNone, IsTrue, map};
 ghost use Rattle.std.specs.declared.cmp.Ordering.TheVariants.{Less};
-ghost use Rattle.node_semver.specs.Greatest.{AdmitsNoneIn, IsGreatestAdmitted, IsLeastAdmittedIn};
+ghost use Rattle.node_semver.specs.Greatest.{AdmitsNoneIn, IsGreatestAdmitted, IsGreatestIn, IsLeastAdmittedIn};
+ghost use Rattle.node_semver.specs.Greatest.{IsLeastIn, IsNoneIn};
 ghost use Rattle.node_semver.specs.Lemmas.GreatestViews.{IsBestOrNone, IsBetterOf, order_of};
 
-use crate::{OrderedVersion, Range};
+use crate::{Admits, OrderedVersion, Range};
 
 /// Returns the greatest version of the list that satisfies the range, or `None` if none does. Of equal versions it
 /// returns the first.
@@ -29,7 +30,7 @@ pub fn max_satisfying<'a, V: OrderedVersion>(versions: &'a [V], range: &Range) -
     ensures greatest { IfSome result (λ v. IsGreatestAdmitted range.now (map V.seen versions.now) (V.seen v.now)) }
     ensures none { IsNone result ↔ AdmitsNoneIn range.now (map V.seen versions.now) }
 {
-    best_of(versions, range, true)
+    greatest_admitted(versions, range)
 }
 
 /// Returns the least version of the list that satisfies the range, or `None` if none does. Of equal versions it returns
@@ -54,40 +55,68 @@ pub fn min_satisfying<'a, V: OrderedVersion>(versions: &'a [V], range: &Range) -
     ensures least { IfSome result (λ v. IsLeastAdmittedIn range.now (map V.seen versions.now) (V.seen v.now)) }
     ensures none { IsNone result ↔ AdmitsNoneIn range.now (map V.seen versions.now) }
 {
-    best_of(versions, range, false)
+    least_admitted(versions, range)
 }
 
-// Returns the greatest version of those that satisfy the range, or the least if `upward` is false. `inline(always)`:
-// the order is then chosen once, and not at each version.
+// The greatest version of the list that is admitted: by a range, or by what asks as a range does.
 #[inline(always)]
-fn best_of<'a, V: OrderedVersion>(versions: &'a [V], range: &Range, upward: bool) -> Option<&'a V>
-    ensures { IsBestOrNone (order_of upward) range.now (map V.seen versions.now)
+pub(crate) fn greatest_admitted<'a, V: OrderedVersion, A: Admits>(
+    versions: &'a [V],
+    asked: &A,
+) -> Option<&'a V>
+    ensures greatest { IfSome result (λ v. IsGreatestIn (A.admits asked.now) (map V.seen versions.now) (V.seen v.now)) }
+    ensures none { IsNone result ↔ IsNoneIn (A.admits asked.now) (map V.seen versions.now) }
+{
+    best_of(versions, asked, true)
+}
+
+// The least version of the list that is admitted.
+#[inline(always)]
+pub(crate) fn least_admitted<'a, V: OrderedVersion, A: Admits>(
+    versions: &'a [V],
+    asked: &A,
+) -> Option<&'a V>
+    ensures least { IfSome result (λ v. IsLeastIn (A.admits asked.now) (map V.seen versions.now) (V.seen v.now)) }
+    ensures none { IsNone result ↔ IsNoneIn (A.admits asked.now) (map V.seen versions.now) }
+{
+    best_of(versions, asked, false)
+}
+
+// Returns the greatest version of those that are admitted, or the least if `upward` is false. `inline(always)`: the order
+// is then chosen once, and not at each version.
+#[inline(always)]
+fn best_of<'a, V: OrderedVersion, A: Admits>(
+    versions: &'a [V],
+    asked: &A,
+    upward: bool,
+) -> Option<&'a V>
+    ensures { IsBestOrNone (order_of upward) (A.admits asked.now) (map V.seen versions.now)
         (option_map (λ v. V.seen v.now) result) }
 {
     let mut best = None;
     'versions: for version in versions {
-        best = better(best, version, range, upward);
+        best = better(best, version, asked, upward);
     }
     best
 }
 
-// The version if it is better than the best so far and satisfies the range, else the best so far. The order is compared
-// first, which is less work. `inline(always)`: the body of the loop over the list.
+// The version if it is better than the best so far and admitted, else the best so far. The order is compared first,
+// which is less work. `inline(always)`: the body of the loop over the list.
 #[inline(always)]
-fn better<'a, V: OrderedVersion>(
+fn better<'a, V: OrderedVersion, A: Admits>(
     best: Option<&'a V>,
     version: &'a V,
-    range: &Range,
+    asked: &A,
     upward: bool,
 ) -> Option<&'a V>
-    ensures { IsBetterOf (order_of upward) range.now (option_map (λ v. V.seen v.now) best.entry)
+    ensures { IsBetterOf (order_of upward) (A.admits asked.now) (option_map (λ v. V.seen v.now) best.entry)
         (V.seen version.now) (option_map (λ v. V.seen v.now) result) }
 {
     let is_best = match best {
         Some(best) => is_better(version, best, upward),
         None => true,
     };
-    if is_best && range.satisfies(version) {
+    if is_best && asked.admits_version(version) {
         Some(version)
     } else {
         best

@@ -2,7 +2,7 @@
 //!
 //! `#[inline(always)]`: the usual range has one set that begins just before a release, and its result is then a few
 //! tests and a copy of three numbers. `#[inline(never)]` keeps all else, with its stack, out of that way.
-ghost use Rattle.std.specs.Prelude.{◌≡◌, ◌↔◌, Some, IsFalse, IsTrue, IfOk, IfSome, IsNone};
+ghost use Rattle.std.specs.Prelude.{◌≡◌, ◌↔◌, Bool, Some, IsFalse, IsTrue, IfOk, IfSome, IsNone};
 ghost use Rattle.std.specs.List.{AllByRecursion};
 ghost use Rattle.semver_versions.specs.Identifier.{values_of};
 ghost use Rattle.semver_sets.specs.RangeSets.{IsRangeSet};
@@ -52,14 +52,27 @@ impl Range {
         ensures none { IfOk result (λ found. IsNone found ↔ AdmitsNone self.now) }
         ensures build { IfOk result (λ found. IfSome found (HasBuildOfFirst self.now)) }
     {
-        let sets = self.sets.as_slice();
-        match plain_beginning(sets) {
-            Some(end) => {
-                let (major, minor, patch) = (end.major, end.minor, end.patch);
-                Ok(Some(Version::new(alloc, major, minor, patch)))
-            }
-            None => least_built(alloc, sets),
+        least_version(alloc, self.sets.as_slice(), false)
+    }
+}
+
+// The least version in one of the sets. With prereleases included, a set has each version inside it, else those that it
+// admits.
+#[inline(always)]
+pub(crate) fn least_version(
+    alloc: Global,
+    sets: &[Span<EndVersion>],
+    included: bool,
+) -> Result<Option<Version>, AllocError>
+    requires { AllByRecursion IsRangeSet sets.now }
+    ensures { IfOk result (IsLeastOfSets included sets.now) }
+{
+    match plain_beginning(sets) {
+        Some(end) => {
+            let (major, minor, patch) = (end.major, end.minor, end.patch);
+            Ok(Some(Version::new(alloc, major, minor, patch)))
         }
+        None => least_built(alloc, sets, included),
     }
 }
 
@@ -68,7 +81,7 @@ impl Range {
 #[inline(always)]
 fn plain_beginning(sets: &[Span<EndVersion>]) -> Option<&EndVersion>
     requires { AllByRecursion IsRangeSet sets.now }
-    ensures least { IfSome result (λ v. IsLeastOfSets sets.now (Some v.now)) }
+    ensures least { IfSome result (λ v. (included : Bool) → IsLeastOfSets included sets.now (Some v.now)) }
     ensures plain { IfSome result (λ v. v.now ≡ release v.now.major v.now.minor v.now.patch) }
 {
     match sets {
@@ -80,13 +93,17 @@ fn plain_beginning(sets: &[Span<EndVersion>]) -> Option<&EndVersion>
     }
 }
 
-// The least version that one of the sets admits, built.
+// The same for other sets.
 #[inline(never)]
-fn least_built(alloc: Global, sets: &[Span<EndVersion>]) -> Result<Option<Version>, AllocError>
+fn least_built(
+    alloc: Global,
+    sets: &[Span<EndVersion>],
+    included: bool,
+) -> Result<Option<Version>, AllocError>
     requires { AllByRecursion IsRangeSet sets.now }
-    ensures { IfOk result (IsLeastOfSets sets.now) }
+    ensures { IfOk result (IsLeastOfSets included sets.now) }
 {
-    match least_of_sets(sets) {
+    match least_of_sets(sets, included) {
         Some(least) => Ok(Some(least.built(alloc)?)),
         None => Ok(None),
     }
@@ -94,13 +111,13 @@ fn least_built(alloc: Global, sets: &[Span<EndVersion>]) -> Result<Option<Versio
 
 // The same, as a candidate that is not built.
 #[inline]
-fn least_of_sets(sets: &[Span<EndVersion>]) -> Option<Unbuilt<'_>>
+fn least_of_sets(sets: &[Span<EndVersion>], included: bool) -> Option<Unbuilt<'_>>
     requires { AllByRecursion IsRangeSet sets.now }
-    ensures { IsLeastOfSets sets.now result }
+    ensures { IsLeastOfSets included sets.now result }
 {
     let mut least = None;
     'sets: for set in sets {
-        keep_least(&mut least, set);
+        keep_least(&mut least, set, included);
     }
     least
 }
@@ -108,13 +125,13 @@ fn least_of_sets(sets: &[Span<EndVersion>]) -> Option<Unbuilt<'_>>
 // Keeps the least version of the set if it is less than the least so far. Most sets begin just before a version. If
 // that version is not less than the least so far, one comparison is enough.
 #[inline(always)]
-fn keep_least<'a>(least: &mut Option<Unbuilt<'a>>, set: &'a Span<EndVersion>)
+fn keep_least<'a>(least: &mut Option<Unbuilt<'a>>, set: &'a Span<EndVersion>, included: bool)
     requires { IsRangeSet set.now }
-    ensures { IsKept set.now least.old least.new }
+    ensures { IsKept included set.now least.old least.new }
 {
     match set.lower() {
         Cut::Before(end) => keep_lesser_end(least, end),
-        Cut::Start | Cut::After(_) | Cut::End => keep_least_inside(least, set),
+        Cut::Start | Cut::After(_) | Cut::End => keep_least_inside(least, set, included),
     }
 }
 
@@ -140,11 +157,11 @@ fn is_end_lesser(end: &EndVersion, least: &Option<Unbuilt<'_>>) -> bool
 
 // The same for a set that does not begin just before a version.
 #[inline(never)]
-fn keep_least_inside<'a>(least: &mut Option<Unbuilt<'a>>, set: &'a Span<EndVersion>)
+fn keep_least_inside<'a>(least: &mut Option<Unbuilt<'a>>, set: &'a Span<EndVersion>, included: bool)
     requires { IsRangeSet set.now }
-    ensures { IsKept set.now least.old least.new }
+    ensures { IsKept included set.now least.old least.new }
 {
-    keep_lesser(least, least_of_set(set));
+    keep_lesser(least, least_of_set(set, included));
 }
 
 // Keeps the lesser of the two, and the earlier of equal ones.
@@ -169,41 +186,44 @@ fn is_lesser(later: &Option<Unbuilt<'_>>, least: &Option<Unbuilt<'_>>) -> bool
     }
 }
 
-// The least version that the set admits. If the set begins just before a version, it is that version.
+// The least version in the set. If the set begins just before a version, it is that version.
 #[inline]
-fn least_of_set(set: &Span<EndVersion>) -> Option<Unbuilt<'_>>
+fn least_of_set(set: &Span<EndVersion>, included: bool) -> Option<Unbuilt<'_>>
     requires { IsRangeSet set.now }
-    ensures { IsLeastOfSet set.now result }
+    ensures { IsLeastOfSet included set.now result }
 {
     let upper = set.upper();
     match set.lower() {
-        Cut::Start => least_of_triple(upper, Triple::new(0, 0, 0), &[]).if_inside(upper),
+        Cut::Start => {
+            least_of_triple(upper, Triple::new(0, 0, 0), &[], included).if_inside(upper)
+        }
         Cut::Before(end) => Some(Unbuilt::at_end(end)),
         Cut::After(end) if end.is_prerelease() => { Unbuilt::after_end(end).if_inside(upper) }
         Cut::After(end) => {
             let next = Triple::new(end.major, end.minor, end.patch + 1);
-            least_of_triple(upper, next, end.build()).if_inside(upper)
+            least_of_triple(upper, next, end.build(), included).if_inside(upper)
         }
         Cut::End => None,
     }
 }
 
-// The least version that the set admits of a triple that its lower end does not open: a prerelease if the upper end
-// opens it.
+// The least version in the set of a triple that its lower end does not open: a prerelease if prereleases are included or
+// the upper end opens it.
 #[inline]
 fn least_of_triple<'a>(
     upper: &Cut<EndVersion>,
     triple: Triple,
     build: &'a [Identifier],
+    included: bool,
 ) -> Unbuilt<'a>
-    ensures { IsLeastOfTriple upper.now triple.major triple.minor triple.patch (values_of build.now) result }
+    ensures { IsLeastOfTriple included upper.now triple.major triple.minor triple.patch (values_of build.now) result }
 {
     Unbuilt {
         major: triple.major,
         minor: triple.minor,
         patch: triple.patch,
         identifiers: BorrowedIdentifiers::List(&[]),
-        zero: opens(upper, triple),
+        zero: included || opens(upper, triple),
         build,
     }
 }

@@ -9,10 +9,10 @@ use Rattle.node_semver.proofs.range.least.least_of_sets.Goals as goal
 pub sets-preserved : goal.sets-preserved
 sets-preserved c =
     let kept = c.keep_least.ensures in
-    taken-least c.args.sets.now c.sets.set-index c.set-item.result c.sets.least kept.0 c.keep_least.new.least
+    taken-least c.args.included c.args.sets.now c.sets.set-index c.set-item.result c.sets.least kept.0 c.keep_least.new.least
     c.sets-test.true c.set-item.is c.sets.invariant kept.1.0 kept.1.1
 
 pub returns : goal.returns
 returns c =
-    subst (λ (l : List (Ends VersionValue)). IsLeastOfSets l c.sets.least)
+    subst (λ (l : List (Ends VersionValue)). IsLeastOfSets c.args.included l c.sets.least)
     (take_all c.sets.set-index c.args.sets.now c.sets-test.false) c.sets.invariant

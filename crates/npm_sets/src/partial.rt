@@ -109,6 +109,7 @@ fn after_dot(text: &[u8]) -> Option<&[u8]>
 }
 
 // Three components, and the extras that follow.
+#[inline(always)]
 fn read_from_extras<'a>(
     loose: bool,
     major: Option<u64>,
@@ -132,6 +133,7 @@ fn read_from_extras<'a>(
 }
 
 // `.3-beta` of `1.2.3-beta`
+#[inline(always)]
 fn read_from_patch<'a>(
     loose: bool,
     major: Option<u64>,
@@ -168,6 +170,7 @@ fn plain(major: Option<u64>, minor: Option<u64>) -> Partial<'static>
 }
 
 // `.2.3-beta` of `1.2.3-beta`
+#[inline(always)]
 fn read_from_minor(loose: bool, major: Option<u64>, text: &[u8]) -> Result<(Partial, &[u8]), Fault>
     requires { IfSome major (λ n. n ≤ MAX_SAFE_INTEGER) }
     ensures read { read_partial_seen result
@@ -184,6 +187,7 @@ fn read_from_minor(loose: bool, major: Option<u64>, text: &[u8]) -> Result<(Part
 }
 
 // `1.2.3-beta` of `v1.2.3-beta`: one to three components, and extras after the third
+#[inline(always)]
 fn read_components(loose: bool, text: &[u8]) -> Result<(Partial, &[u8]), Fault>
     ensures read { read_partial_seen result ≡ Texts.read_components loose text.now }
     ensures sound { IfOk result (λ r. IsSound r.0) }

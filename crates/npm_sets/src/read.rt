@@ -1,5 +1,6 @@
 //! Reading a range text as npm does: one piece after another, each word by word.
 ghost use Rattle.std.specs.Prelude.{◌≡◌, ◌↔◌, IfErr, IfOk, OnOk};
+ghost use Rattle.semver_sets.specs.Division.{HasBars};
 ghost use Rattle.semver_sets.specs.RangeSets.{IsRangeValue, sets_seen};
 ghost use Rattle.semver_sets.specs.declared.read.Unread.TheVariants.{Refused};
 ghost use Rattle.semver_versions.specs.Version.{VersionValue};
@@ -30,7 +31,64 @@ use std::alloc::Global;
 /// # Memory
 ///
 /// Allocates the identifiers of the ends, and a list with its index if there are several sets.
+// `inline(always)`: it has one caller, and its sets are built in the place of that caller's result.
+#[inline(always)]
 pub fn read_npm(alloc: Global, text: &[u8], options: NpmOptions) -> Result<Sets, Unread>
+    ensures sets { IfOk result (λ sets. AreNpmSets options text.now (sets_seen sets)) }
+    ensures means { IfOk result (λ sets. (v : VersionValue)
+        → NpmSetsAdmit options.include_prerelease (sets_seen sets) v ↔ NpmTextAdmits options text.now v) }
+    ensures holds { IfOk result (λ sets. IsRangeValue (sets_seen sets)) }
+    ensures refused { IfErr result (λ unread. unread ≡ Refused → IsNpmRefused options text.now) }
+    ensures accepted { OnOk result (¬ IsNpmRefused options text.now) }
+{
+    match first_piece(text).1 {
+        Some(_) => read_pieces(alloc, text, options),
+        None => read_one(alloc, text, options),
+    }
+}
+
+// Reads a text without `||`: its set needs no list.
+#[inline(always)]
+fn read_one(alloc: Global, text: &[u8], options: NpmOptions) -> Result<Sets, Unread>
+    requires { ¬ HasBars text.now }
+    ensures sets { IfOk result (λ sets. AreNpmSets options text.now (sets_seen sets)) }
+    ensures means { IfOk result (λ sets. (v : VersionValue)
+        → NpmSetsAdmit options.include_prerelease (sets_seen sets) v ↔ NpmTextAdmits options text.now v) }
+    ensures holds { IfOk result (λ sets. IsRangeValue (sets_seen sets)) }
+    ensures refused { IfErr result (λ unread. unread ≡ Refused → IsNpmRefused options text.now) }
+    ensures accepted { OnOk result (¬ IsNpmRefused options text.now) }
+{
+    let mut common = CommonSpan::new();
+    match merge_piece(alloc, text, options, &mut common) {
+        Ok(found) => {
+            if !found {
+                return Err(Unread::Refused);
+            }
+        }
+        Err(unread) => return Err(unread),
+    }
+    match common.into_set() {
+        Some(set) => Ok(Sets::One(set)),
+        None => Ok(Sets::One(no_versions())),
+    }
+}
+
+// Calls `read_several`. With this function between, the toolchain clears the place of its result only if it is called.
+#[inline(always)]
+fn read_pieces(alloc: Global, text: &[u8], options: NpmOptions) -> Result<Sets, Unread>
+    ensures sets { IfOk result (λ sets. AreNpmSets options text.now (sets_seen sets)) }
+    ensures means { IfOk result (λ sets. (v : VersionValue)
+        → NpmSetsAdmit options.include_prerelease (sets_seen sets) v ↔ NpmTextAdmits options text.now v) }
+    ensures holds { IfOk result (λ sets. IsRangeValue (sets_seen sets)) }
+    ensures refused { IfErr result (λ unread. unread ≡ Refused → IsNpmRefused options text.now) }
+    ensures accepted { OnOk result (¬ IsNpmRefused options text.now) }
+{
+    read_several(alloc, text, options)
+}
+
+// Reads one piece after another. `inline(never)`: few texts have `||`.
+#[inline(never)]
+fn read_several(alloc: Global, text: &[u8], options: NpmOptions) -> Result<Sets, Unread>
     ensures sets { IfOk result (λ sets. AreNpmSets options text.now (sets_seen sets)) }
     ensures means { IfOk result (λ sets. (v : VersionValue)
         → NpmSetsAdmit options.include_prerelease (sets_seen sets) v ↔ NpmTextAdmits options text.now v) }

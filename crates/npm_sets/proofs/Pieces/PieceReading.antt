@@ -14,7 +14,7 @@ use Rattle.semver_sets.specs.Merging.{AreSetsOf, IsCommonSpan, IsSetOf, IsSpanOf
 use Rattle.semver_sets.specs.declared.read.Unread.{Unread}
 use Rattle.semver_sets.specs.declared.read.Unread.TheVariants.{OutOfMemory, Refused}
 use Rattle.npm_sets.specs.NpmMeaning.{alone_or, chunks_comparators, comparators_of, hyphen_range, piece_comparators}
-use Rattle.npm_sets.specs.Private.ReadViews.{AreRead, AreReadEnds, IsAdded, IsAddedBy, IsNarrowedTo, listed}
+use Rattle.npm_sets.specs.Private.ReadViews.{AreRead, AreReadEnds, IsAdded, IsAddedBy, IsNarrowedTo, IsRead, listed}
 use Rattle.npm_sets.specs.WordTexts.{chunks_of, is_solid, is_space, sides_of, words_of}
 use Rattle.npm_sets.specs.declared.options.NpmOptions.{NpmOptions}
 use Rattle.npm_sets.proofs.Chunks.ChunkLemmas.{chunks-empty, chunks-skip, chunks-some}
@@ -118,3 +118,8 @@ pub refused-told : (value : Option (List Comparator)) (before after : List (Ends
     → IsAddedBy value before after (Err unread) → unread ≡ Refused → value ≡ None
 refused-told value before after Refused read is = read
 refused-told value before after OutOfMemory read is = cc is
+
+pub piece-refused : (value : Option (List Comparator)) (common : Option Comparator) (unread : Unread)
+    → IsRead value common (Err unread) → unread ≡ Refused → value ≡ None
+piece-refused value common Refused read is = read
+piece-refused value common OutOfMemory read is = cc is

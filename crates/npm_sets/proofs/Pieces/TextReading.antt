@@ -257,7 +257,7 @@ all-done options text left sets found so end =
     ap or_no_alternatives (sym so.read ∙ ap (λ (l : Option (List ℕ)). prepend so.done (left_alternatives options l)) end)
     ∙ append-nil so.done
 
-none-some : {X : Type 0} (xs : List X) → false ≡ has_some xs → xs ≡ []
+pub none-some : {X : Type 0} (xs : List X) → false ≡ has_some xs → xs ≡ []
 none-some [] h = refl
 none-some (x ∷ xs) h = cc h
 

@@ -8,8 +8,8 @@ use Rattle.npm_sets.proofs.Pieces.PieceReading.{refused-told}
 use Rattle.npm_sets.proofs.Pieces.TextReading.{PiecesSoFar, first-of, left-shorter, left_length, none-gathered, none-refused}
 use Rattle.npm_sets.proofs.Pieces.TextReading.{npm-sets-admit, pieces-found, pieces-passed, pieces-refused, pieces-start}
 use Rattle.npm_sets.proofs.Pieces.TextReading.{some-gathered}
-use Rattle.npm_sets.proofs.read.read_npm.Goals as goal
-use Rattle.npm_sets.proofs.read.read_npm.Goals.{else-here, then-here}
+use Rattle.npm_sets.proofs.read.read_several.Goals as goal
+use Rattle.npm_sets.proofs.read.read_several.Goals.{else-here, then-here}
 
 pub loop-left-init : goal.loop-left-init
 loop-left-init c =

@@ -73,13 +73,17 @@ ContainsNone sets = IsNoneOf (RangeContains sets)
 abbrev pub HasBuildOfFirstAround : List (Ends VersionValue) → VersionValue → Type 0
 HasBuildOfFirstAround = HasBuildOf (λ set v. IsInside v set)
 
--- ---- the versions that a range admits and another does not
+-- ---- the versions that one range has and another does not
+
+-- one has the version, and the other does not
+pub record IsBeyond (One Other : VersionValue → Type 0) (v : VersionValue) : Type 0 where
+  pub admitted : One v
+  pub turned_away : ¬ Other v
 
 -- `^1.2.3-rc.4` admits 1.2.3-rc.4 beyond `>=1.0.0-0`, though that range contains all its cuts. `1 - 2` admits no
 -- version beyond `1 || 2`, though the cut before 2.0.0-0 lies in `1 - 2` alone.
-pub record AdmitsBeyond (sets others : List (Ends VersionValue)) (v : VersionValue) : Type 0 where
-  pub admitted : RangeAdmits sets v
-  pub turned_away : ¬ RangeAdmits others v
+abbrev pub AdmitsBeyond : List (Ends VersionValue) → List (Ends VersionValue) → VersionValue → Type 0
+AdmitsBeyond sets others = IsBeyond (RangeAdmits sets) (RangeAdmits others)
 
 -- the first range admits the version and the second does not, and no such version has lower precedence
 abbrev pub IsLeastBeyond : List (Ends VersionValue) → List (Ends VersionValue) → VersionValue → Type 0
@@ -93,12 +97,24 @@ AdmitsNoneBeyond sets others = IsNoneOf (AdmitsBeyond sets others)
 abbrev pub IsAdmittedBy : List (Ends VersionValue) → List (Ends VersionValue) → Type 0
 IsAdmittedBy sets others = (v : VersionValue) → RangeAdmits sets v → RangeAdmits others v
 
--- ---- the versions that two ranges both admit
+-- `1 - 2` contains 2.0.0-0 beyond `1 || 2`
+abbrev pub ContainsBeyond : List (Ends VersionValue) → List (Ends VersionValue) → VersionValue → Type 0
+ContainsBeyond sets others = IsBeyond (RangeContains sets) (RangeContains others)
+
+-- each version that the first range contains the second contains
+abbrev pub IsContainedIn : List (Ends VersionValue) → List (Ends VersionValue) → Type 0
+IsContainedIn sets others = (v : VersionValue) → RangeContains sets v → RangeContains others v
+
+-- ---- the versions that two ranges both have
+
+-- both have the version
+pub record IsInBoth (One Other : VersionValue → Type 0) (v : VersionValue) : Type 0 where
+  pub one : One v
+  pub other : Other v
 
 -- `^2.0.0-rc.1` and `>=1.5` both admit 2.0.0. They do not both admit 2.0.0-rc.4, though both contain it
-pub record BothAdmit (sets others : List (Ends VersionValue)) (v : VersionValue) : Type 0 where
-  pub one : RangeAdmits sets v
-  pub other : RangeAdmits others v
+abbrev pub BothAdmit : List (Ends VersionValue) → List (Ends VersionValue) → VersionValue → Type 0
+BothAdmit sets others = IsInBoth (RangeAdmits sets) (RangeAdmits others)
 
 -- both ranges admit the version, and no such version has lower precedence
 abbrev pub IsLeastCommon : List (Ends VersionValue) → List (Ends VersionValue) → VersionValue → Type 0
@@ -107,3 +123,7 @@ IsLeastCommon sets others least = IsLeastOf (BothAdmit sets others) least
 -- there is no version that both ranges admit
 abbrev pub AdmitNoneInCommon : List (Ends VersionValue) → List (Ends VersionValue) → Type 0
 AdmitNoneInCommon sets others = IsNoneOf (BothAdmit sets others)
+
+-- both ranges contain the version
+abbrev pub BothContain : List (Ends VersionValue) → List (Ends VersionValue) → VersionValue → Type 0
+BothContain sets others = IsInBoth (RangeContains sets) (RangeContains others)

@@ -7,8 +7,8 @@ use Rattle.semver_versions.specs.IdentifierValue.{IdentifierValue, alphanumeric,
 use Rattle.semver_versions.specs.Version.{VersionValue, least_of, release}
 use Rattle.semver_versions.specs.Lemmas.Order.{version-Less}
 use Rattle.node_semver.specs.Greatest.{IsGreatestAdmitted}
-use Rattle.node_semver.specs.Least.{AdmitsBeyond, IsLeastBeyond}
-use Rattle.node_semver.proofs.Least.BeyondAnswers.{range_admits, range_admits-iff}
+use Rattle.node_semver.specs.Least.{AdmitsBeyond, ContainsBeyond, IsLeastBeyond}
+use Rattle.node_semver.proofs.Least.BeyondAnswers.{range_admits, range_admits-iff, range_contains, range_contains-iff}
 use Rattle.node_semver.proofs.Least.LeastLemmas.{before-floor}
 
 -- ---- by computing
@@ -41,6 +41,17 @@ one_or_two = span_between (Before (release 1 0 0)) (Before (least_of 2 0 0))
 gap-not_beyond : ¬ AdmitsBeyond one_to_two one_or_two (least_of 2 0 0)
 gap-not_beyond = not-admitted one_to_two one_or_two (least_of 2 0 0) refl
 
+-- with prereleases included it is there
+contained-by : (sets others : List (Ends VersionValue)) (v : VersionValue) → range_contains sets v ≡ true
+    → range_contains others v ≡ false → ContainsBeyond sets others v
+contained-by sets others v there not_there = record {
+  admitted = (range_contains-iff sets v).0 there;
+  turned_away = λ is. cc ((range_contains-iff others v).1 is, not_there);
+}
+
+gap-contained_beyond : ContainsBeyond one_to_two one_or_two (least_of 2 0 0)
+gap-contained_beyond = contained-by one_to_two one_or_two (least_of 2 0 0) refl refl
+
 -- ---- `^1.2.3-rc.4` and `>=1.0.0-0`
 
 abbrev candidate : VersionValue
@@ -67,19 +78,28 @@ abbrev tagged : List IdentifierValue → VersionValue
 tagged identifiers = record (release 1 0 0) { pre_release = alphanumeric (codes "a") ∷ identifiers }
 
 -- `1.0.1-0` of `<1.0.1-beta` beyond `<=1.0.0`
-opened-beyond : AdmitsBeyond
-    (span_between Start (Before (record (release 1 0 1) { pre_release = alphanumeric (codes "beta") ∷ [] })) ∷ [])
-    (span_between Start (After (release 1 0 0)) ∷ []) (least_of 1 0 1)
-opened-beyond = beyond-by _ _ (least_of 1 0 1) refl refl
+abbrev below_beta : List (Ends VersionValue)
+below_beta =
+    span_between Start (Before (record (release 1 0 1) { pre_release = alphanumeric (codes "beta") ∷ [] })) ∷ []
+
+abbrev up_to_one : List (Ends VersionValue)
+up_to_one = span_between Start (After (release 1 0 0)) ∷ []
+
+opened-beyond : AdmitsBeyond below_beta up_to_one (least_of 1 0 1)
+opened-beyond = beyond-by below_beta up_to_one (least_of 1 0 1) refl refl
 
 -- `1.0.0-a.0`, and not `1.0.0-a`, of `>=1.0.0-a <1.0.0` beyond `1.0.0-a`
-next-beyond : AdmitsBeyond (span_between (Before (tagged [])) (Before (release 1 0 0)) ∷ [])
-    (span_between (Before (tagged [])) (After (tagged [])) ∷ []) (tagged (numeric 0 ∷ []))
-next-beyond = beyond-by _ _ (tagged (numeric 0 ∷ [])) refl refl
+abbrev from_tagged : List (Ends VersionValue)
+from_tagged = span_between (Before (tagged [])) (Before (release 1 0 0)) ∷ []
 
-same-not_beyond : ¬ AdmitsBeyond (span_between (Before (tagged [])) (Before (release 1 0 0)) ∷ [])
-    (span_between (Before (tagged [])) (After (tagged [])) ∷ []) (tagged [])
-same-not_beyond = admitted-too _ _ (tagged []) refl
+abbrev only_tagged : List (Ends VersionValue)
+only_tagged = span_between (Before (tagged [])) (After (tagged [])) ∷ []
+
+next-beyond : AdmitsBeyond from_tagged only_tagged (tagged (numeric 0 ∷ []))
+next-beyond = beyond-by from_tagged only_tagged (tagged (numeric 0 ∷ [])) refl refl
+
+same-not_beyond : ¬ AdmitsBeyond from_tagged only_tagged (tagged [])
+same-not_beyond = admitted-too from_tagged only_tagged (tagged []) refl
 
 -- `2.0.1`, and neither `2.0.0` nor `2.0.1-0`, of `>=1` beyond `1 || 2.0.0`
 abbrev from_one : List (Ends VersionValue)

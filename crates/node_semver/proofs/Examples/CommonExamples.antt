@@ -1,14 +1,15 @@
 -- Worked examples: the versions that two ranges both admit, and the versions that a range contains.
 use Rattle.std.proofs.Common.{◌≡◌, List, [], ◌∷◌, codes, true, false, refl, inl, inr}
-use Rattle.semver_cuts.specs.declared.cut.Cut.TheVariants.{Before}
+use Rattle.semver_cuts.specs.declared.cut.Cut.TheVariants.{Start, Before}
 use Rattle.semver_cuts.specs.Ends.{Ends, span_between}
 use Rattle.semver_sets.specs.Comparator.{at_least}
 use Rattle.semver_sets.specs.Meaning.{RangeContains}
 use Rattle.semver_versions.specs.IdentifierValue.{alphanumeric, numeric}
 use Rattle.semver_versions.specs.Lemmas.Order.{version-Less}
 use Rattle.semver_versions.specs.Version.{VersionValue, least_of, release}
-use Rattle.node_semver.specs.Least.{BothAdmit, IsLeastCommon}
-use Rattle.node_semver.proofs.Least.BeyondAnswers.{range_admits, range_admits-iff}
+use Rattle.semver_versions.specs.Lemmas.Versions.VersionSteps.{none-below_first}
+use Rattle.node_semver.specs.Least.{BothAdmit, IsLeastCommon, IsLeastContained}
+use Rattle.node_semver.proofs.Least.BeyondAnswers.{range_admits, range_admits-iff, range_contains-iff}
 use Rattle.node_semver.proofs.Least.LeastLemmas.{before-floor}
 
 -- ---- by computing
@@ -75,3 +76,13 @@ prerelease-contained = inl (record { lower = inl refl; upper = refl })
 end-not_contained : ¬ RangeContains opened (release 2 0 0)
 end-not_contained (inl here) = cc here.upper
 end-not_contained (inr nowhere) = nowhere
+
+-- the least version that `<1.0.0` contains is 0.0.0-0
+abbrev below_one : List (Ends VersionValue)
+below_one = span_between Start (Before (release 1 0 0)) ∷ []
+
+first-contained : IsLeastContained below_one (least_of 0 0 0)
+first-contained = record {
+  wanted = (range_contains-iff below_one (least_of 0 0 0)).0 refl;
+  none_below = λ v contained below. none-below_first v below;
+}

@@ -1,14 +1,16 @@
--- The least version that one range admits and another does not, from the best of the candidates; and that a range admits a
--- version or does not.
-use Rattle.std.proofs.Common.{◌≡◌, ◌↔◌, ◌⊎◌, Bool, true, false, List, [], ◌∷◌, Option, Some, inl, inr}
+-- The least version that one range has and another has not, from the best of the candidates; and that a range has a version
+-- or has it not.
+use Rattle.std.proofs.Common.{◌≡◌, ◌↔◌, ◌⊎◌, Bool, true, false, List, [], ◌∷◌, Option, Some, inl, inr, subst}
 use Rattle.std.proofs.lemmas.Bool.{cases_Bool}
 use Rattle.std.specs.List.{list_any}
+use Rattle.semver_cuts.specs.declared.cut.Cut.TheVariants.{Before}
 use Rattle.semver_cuts.specs.Ends.{Ends}
-use Rattle.semver_sets.specs.Meaning.{RangeAdmits, SetAdmits}
+use Rattle.semver_sets.specs.Meaning.{IsInside, RangeAdmits, RangeContains, SetAdmits}
 use Rattle.semver_versions.specs.Version.{VersionValue}
-use Rattle.semver_sets.specs.Lemmas.Deciding.{admit, admit-iff, any-iff}
-use Rattle.node_semver.specs.Least.{AdmitsBeyond, AdmitsNoneBeyond, IsAdmittedBy}
-use Rattle.node_semver.specs.Private.CandidateViews.{AreEndsTried, IsLeastOrNone}
+use Rattle.semver_sets.specs.Lemmas.Deciding.{admit, admit-iff, any-iff, holds, holds-iff}
+use Rattle.node_semver.specs.Least.{IsNoneOf}
+use Rattle.node_semver.specs.Private.CandidateViews.{AreEndsTried, AreWantedBeyond, IsLeastOrNone}
+use Rattle.node_semver.specs.Private.LeastViews.{IsInRange}
 use Rattle.node_semver.proofs.Least.CandidateBelow.{best-least}
 use Rattle.node_semver.proofs.Least.HighestCut.{beyond-between}
 
@@ -40,32 +42,63 @@ admitted-or_not sets v = elim (cases_Bool (range_admits sets v)) [
   | inr fails ↦ inr (λ admits. cc ((range_admits-iff sets v).1 admits, fails))
 ]
 
+abbrev pub range_contains : List (Ends VersionValue) → VersionValue → Bool
+range_contains sets v = list_any (holds (Before v)) sets
+
+pub range_contains-iff : (sets : List (Ends VersionValue)) (v : VersionValue)
+    → (range_contains sets v ≡ true) ↔ RangeContains sets v
+range_contains-iff sets v = any-iff (λ (set : Ends VersionValue). IsInside v set) (holds (Before v)) (holds-iff (Before v)) sets
+
+contained-or_not : (sets : List (Ends VersionValue)) (v : VersionValue) → RangeContains sets v ⊎ (¬ RangeContains sets v)
+contained-or_not sets v = elim (cases_Bool (range_contains sets v)) [
+  | inl passes ↦ inl ((range_contains-iff sets v).0 passes)
+  | inr fails ↦ inr (λ is. cc ((range_contains-iff sets v).1 is, fails))
+]
+
+-- prereleases included or not
+in-or_not : (included : Bool) (sets : List (Ends VersionValue)) (v : VersionValue)
+    → IsInRange included sets v ⊎ (¬ IsInRange included sets v)
+in-or_not true sets v = contained-or_not sets v
+in-or_not false sets v = admitted-or_not sets v
+
 -- ---- the least version beyond the others
 
-pub beyond-least : (sets others : List (Ends VersionValue)) (best : Option VersionValue)
-    → AreEndsTried (AdmitsBeyond sets others) (λ set. set.upper) sets others best
-    → IsLeastOrNone (AdmitsBeyond sets others) best
-beyond-least sets others best tried =
-    best-least (AdmitsBeyond sets others) sets others (λ set. set.upper)
-    (record {
-      admitted = λ v beyond. beyond.admitted;
-      between = λ c x w alike from to lowers uppers beyond.
-          beyond-between c x w alike from to sets others lowers uppers beyond;
-    })
-    best tried
+module _ (included : Bool) (sets others : List (Ends VersionValue)) where
+  pub beyond-least : (best : Option VersionValue)
+      → AreEndsTried included (AreWantedBeyond included sets others) (λ set. set.upper) sets others best
+      → IsLeastOrNone (AreWantedBeyond included sets others) best
+  beyond-least best tried =
+      best-least included (AreWantedBeyond included sets others) sets others (λ set. set.upper)
+      (record {
+        admitted = λ v beyond. beyond.admitted;
+        between = λ c x w alike from to lowers uppers beyond.
+            beyond-between included c x w alike from to sets others lowers uppers beyond;
+      })
+      best tried
+
+  -- none, where there is none: the other has each version of the one
+  pub none-beyond : IsNoneOf (AreWantedBeyond included sets others)
+      ↔ ((v : VersionValue) → IsInRange included sets v → IsInRange included others v)
+  none-beyond = (
+    λ none v is. elim (in-or_not included others v) [
+      | inl there ↦ there
+      | inr not_there ↦ absurd (none v (record { admitted = is; turned_away = not_there }))
+    ],
+    λ each v beyond. beyond.turned_away (each v beyond.admitted),
+  )
+
+-- the same of a list that is seen as another
+pub beyond-seen : (included : Bool) (inside sets others : List (Ends VersionValue)) → inside ≡ sets
+    → (best : Option VersionValue)
+    → AreEndsTried included (AreWantedBeyond included inside others) (λ set. set.upper) inside others best
+    → IsLeastOrNone (AreWantedBeyond included sets others) best
+beyond-seen included inside sets others same best tried =
+    subst (λ (l : List (Ends VersionValue)). IsLeastOrNone (AreWantedBeyond included l others) best) same
+    (beyond-least included inside others best tried)
+
+-- ---- the program's result
 
 -- a version, where there is one
-pub some-beyond : (sets others : List (Ends VersionValue)) (v : VersionValue)
-    → IsLeastOrNone (AdmitsBeyond sets others) (Some v)
-    → (true ≡ false) ↔ AdmitsNoneBeyond sets others
-some-beyond sets others v least = (λ e. cc e, λ none. absurd (none v least.0.wanted))
-
--- none, where there is none: each version of the one satisfies the other
-pub admitted-none : (sets others : List (Ends VersionValue)) → AdmitsNoneBeyond sets others ↔ IsAdmittedBy sets others
-admitted-none sets others = (
-  λ none v admits. elim (admitted-or_not others v) [
-    | inl admitted ↦ admitted
-    | inr turned_away ↦ absurd (none v (record { admitted = admits; turned_away = turned_away }))
-  ],
-  λ each v beyond. beyond.turned_away (each v beyond.admitted),
-)
+pub some-wanted : (Wanted : VersionValue → Type 0) (v : VersionValue) → IsLeastOrNone Wanted (Some v)
+    → (true ≡ false) ↔ IsNoneOf Wanted
+some-wanted Wanted v least = (λ e. cc e, λ none. absurd (none v least.0.wanted))

@@ -1,5 +1,5 @@
 -- Candidates that are tried one after another, so that the best stays the least of them.
-use Rattle.std.proofs.Common.{◌≡◌, ◌≢◌, ◌+◌, ◌<◌, ◌∙◌, ℕ, List, [], ◌∷◌, ◌++◌, Option, Some, None, length, get_or, take}
+use Rattle.std.proofs.Common.{◌≡◌, ◌≢◌, ◌+◌, ◌<◌, ◌∙◌, ℕ, Bool, List, [], ◌∷◌, ◌++◌, Option, Some, None, length, get_or, take}
 use Rattle.std.proofs.Common.{refl, sym, ap, subst, Less}
 use Rattle.std.proofs.lemmas.List.{take_more}
 use Rattle.std.specs.Cmp.{tied_itself}
@@ -16,12 +16,12 @@ use Rattle.semver_versions.specs.Lemmas.Order.{version_total}
 use Rattle.semver_versions.specs.VersionSteps.{with_zero}
 use Rattle.node_semver.specs.Private.CandidateViews.{AreEndsTried, AreSetsTried, IsBelowBest, IsCutTrial, IsCutTried}
 use Rattle.node_semver.specs.Private.CandidateViews.{IsLeastOpened, IsOpenTrial, IsSetTrial, IsSetTried, IsShut, IsStep}
-use Rattle.node_semver.specs.Private.CandidateViews.{IsTrial, IsTried, after_by, before_by, candidates_at}
+use Rattle.node_semver.specs.Private.CandidateViews.{IsTrial, IsTried, after_by, before_by, candidates_at, first_of}
 
 never-below_itself : (v : VersionValue) → ¬ (version_cmp v v ≡ Less)
 never-below_itself v less = cc (less, tied_itself version_total v)
 
-module _ (Wanted : VersionValue → Type 0) where
+module _ (included : Bool) (Wanted : VersionValue → Type 0) where
   -- ---- one version more
 
   pub same-step : (best : Option VersionValue) → IsStep Wanted best best
@@ -66,11 +66,11 @@ module _ (Wanted : VersionValue → Type 0) where
       → AllByRecursion (IsTried Wanted a) vs → AllByRecursion (IsTried Wanted b) vs
   all-kept a b step vs all = all_map (IsTried Wanted a) (IsTried Wanted b) (tried-kept a b step) vs all
 
-  pub start-trial : (best later : Option VersionValue) → IsTrial Wanted best (release 0 0 0) later
-      → IsCutTrial Wanted best Start later
+  pub start-trial : (best later : Option VersionValue) → IsTrial Wanted best (first_of included 0 0 0) later
+      → IsCutTrial included Wanted best Start later
   start-trial best later trial = record { step = trial.step; tried = (trial.tried, tt) }
 
-  pub end-trial : (best : Option VersionValue) → IsCutTrial Wanted best End best
+  pub end-trial : (best : Option VersionValue) → IsCutTrial included Wanted best End best
   end-trial best = record { step = same-step best; tried = tt }
 
   before-two : (P : VersionValue → Type 0) (v : VersionValue) (xs : List IdentifierValue) → xs ≢ []
@@ -85,19 +85,19 @@ module _ (Wanted : VersionValue → Type 0) where
   before-one P v (x ∷ xs) none only = absurd (none (λ e. cc e))
 
   after-two : (P : VersionValue → Type 0) (v : VersionValue) (xs : List IdentifierValue) → xs ≢ [] → P (with_zero v)
-      → P (release v.major v.minor v.patch) → AllByRecursion P (after_by v xs)
+      → P (release v.major v.minor v.patch) → AllByRecursion P (after_by included v xs)
   after-two P v [] some first second = absurd (some refl)
   after-two P v (x ∷ xs) some first second = (first, (second, tt))
 
   after-one : (P : VersionValue → Type 0) (v : VersionValue) (xs : List IdentifierValue) → ¬ (xs ≢ [])
-      → P (release v.major v.minor (v.patch + 1)) → AllByRecursion P (after_by v xs)
+      → P (first_of included v.major v.minor (v.patch + 1)) → AllByRecursion P (after_by included v xs)
   after-one P v [] none only = (only, tt)
   after-one P v (x ∷ xs) none only = absurd (none (λ e. cc e))
 
   pub before-prerelease-trial : (best first later : Option VersionValue) (v : VersionValue) → IsPrerelease v
       → IsTrial Wanted best (without_build v) first
       → IsTrial Wanted first (release v.major v.minor v.patch) later
-      → IsCutTrial Wanted best (Before v) later
+      → IsCutTrial included Wanted best (Before v) later
   before-prerelease-trial best first later v pre one two = record {
     step = step-step best first later one.step two.step;
     tried = before-two (IsTried Wanted later) v v.pre_release pre
@@ -105,7 +105,7 @@ module _ (Wanted : VersionValue → Type 0) where
   }
 
   pub before-release-trial : (best later : Option VersionValue) (v : VersionValue) → ¬ IsPrerelease v
-      → IsTrial Wanted best (release v.major v.minor v.patch) later → IsCutTrial Wanted best (Before v) later
+      → IsTrial Wanted best (release v.major v.minor v.patch) later → IsCutTrial included Wanted best (Before v) later
   before-release-trial best later v final only = record {
     step = only.step;
     tried = before-one (IsTried Wanted later) v v.pre_release final only.tried;
@@ -113,7 +113,7 @@ module _ (Wanted : VersionValue → Type 0) where
 
   pub after-prerelease-trial : (best first later : Option VersionValue) (v : VersionValue) → IsPrerelease v
       → IsTrial Wanted best (with_zero v) first → IsTrial Wanted first (release v.major v.minor v.patch) later
-      → IsCutTrial Wanted best (After v) later
+      → IsCutTrial included Wanted best (After v) later
   after-prerelease-trial best first later v pre one two = record {
     step = step-step best first later one.step two.step;
     tried = after-two (IsTried Wanted later) v v.pre_release pre
@@ -121,8 +121,8 @@ module _ (Wanted : VersionValue → Type 0) where
   }
 
   pub after-release-trial : (best later : Option VersionValue) (v : VersionValue) → ¬ IsPrerelease v
-      → IsTrial Wanted best (release v.major v.minor (v.patch + 1)) later
-      → IsCutTrial Wanted best (After v) later
+      → IsTrial Wanted best (first_of included v.major v.minor (v.patch + 1)) later
+      → IsCutTrial included Wanted best (After v) later
   after-release-trial best later v final only = record {
     step = only.step;
     tried = after-one (IsTried Wanted later) v v.pre_release final only.tried;
@@ -159,21 +159,21 @@ module _ (Wanted : VersionValue → Type 0) where
   -- ---- a set more
 
   pub set-trial : (best first later : Option VersionValue) (set : Ends VersionValue)
-      → IsCutTrial Wanted best set.lower first → IsOpenTrial Wanted first set later
-      → IsSetTrial Wanted best set later
+      → IsCutTrial included Wanted best set.lower first → IsOpenTrial Wanted first set later
+      → IsSetTrial included Wanted best set later
   set-trial best first later set one two = record {
     step = step-step best first later one.step two.step;
     tried = record {
-      lower = all-kept first later two.step (candidates_at set.lower) one.tried;
+      lower = all-kept first later two.step (candidates_at included set.lower) one.tried;
       opened = two.tried;
     };
   }
 
   set-kept : (a b : Option VersionValue) → IsStep Wanted a b → (set : Ends VersionValue)
-      → IsSetTried Wanted a set
-      → IsSetTried Wanted b set
+      → IsSetTried included Wanted a set
+      → IsSetTried included Wanted b set
   set-kept a b step set tried = record {
-    lower = all-kept a b step (candidates_at set.lower) tried.lower;
+    lower = all-kept a b step (candidates_at included set.lower) tried.lower;
     opened = λ v opens admits. tried-kept a b step (least_of v.major v.minor v.patch) (tried.opened v opens admits);
   }
 
@@ -186,30 +186,30 @@ module _ (Wanted : VersionValue → Type 0) where
 
   pub sets-more : (all : List (Ends VersionValue)) (k : ℕ) (set : Ends VersionValue)
       (earlier later : Option VersionValue)
-      → k < length all → set ≡ get_or all k set → AreSetsTried Wanted (take k all) earlier
-      → IsSetTrial Wanted earlier set later → AreSetsTried Wanted (take (k + 1) all) later
+      → k < length all → set ≡ get_or all k set → AreSetsTried included Wanted (take k all) earlier
+      → IsSetTrial included Wanted earlier set later → AreSetsTried included Wanted (take (k + 1) all) later
   sets-more all k set earlier later lt is tried trial = record {
     best = trial.step.best tried.best;
-    each = more-taken (IsSetTried Wanted later) all k set lt is
-        (all_map (IsSetTried Wanted earlier) (IsSetTried Wanted later)
+    each = more-taken (IsSetTried included Wanted later) all k set lt is
+        (all_map (IsSetTried included Wanted earlier) (IsSetTried included Wanted later)
         (set-kept earlier later trial.step) (take k all) tried.each) trial.tried;
   }
 
   pub ends-more : (end : Ends VersionValue → Cut VersionValue) (sets all : List (Ends VersionValue)) (k : ℕ)
       (set : Ends VersionValue) (earlier later : Option VersionValue)
-      → k < length all → set ≡ get_or all k set → AreEndsTried Wanted end sets (take k all) earlier
-      → IsCutTrial Wanted earlier (end set) later → AreEndsTried Wanted end sets (take (k + 1) all) later
+      → k < length all → set ≡ get_or all k set → AreEndsTried included Wanted end sets (take k all) earlier
+      → IsCutTrial included Wanted earlier (end set) later → AreEndsTried included Wanted end sets (take (k + 1) all) later
   ends-more end sets all k set earlier later lt is tried trial =
-      let Earlier : Ends VersionValue → Type 0 = λ s. IsCutTried Wanted earlier (end s) in
-      let Now : Ends VersionValue → Type 0 = λ s. IsCutTried Wanted later (end s) in
+      let Earlier : Ends VersionValue → Type 0 = λ s. IsCutTried included Wanted earlier (end s) in
+      let Now : Ends VersionValue → Type 0 = λ s. IsCutTried included Wanted later (end s) in
       record {
         first = record {
           best = trial.step.best tried.first.best;
-          each = all_map (IsSetTried Wanted earlier) (IsSetTried Wanted later)
+          each = all_map (IsSetTried included Wanted earlier) (IsSetTried included Wanted later)
               (set-kept earlier later trial.step) sets tried.first.each;
         };
         each = more-taken Now all k set lt is
             (all_map Earlier Now
-            (λ s cut. all-kept earlier later trial.step (candidates_at (end s)) cut) (take k all) tried.each)
+            (λ s cut. all-kept earlier later trial.step (candidates_at included (end s)) cut) (take k all) tried.each)
             trial.tried;
       }

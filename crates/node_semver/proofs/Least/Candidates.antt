@@ -1,5 +1,5 @@
 -- The candidates at a cut: the least release that can be after it, and the least version if that is a prerelease.
-use Rattle.std.proofs.Common.{◌≡◌, ◌≢◌, ◌⊎◌, ◌+◌, List, [], ◌∷◌, ◌++◌, refl, inl, inr, Ordering, Less, Equal, Greater}
+use Rattle.std.proofs.Common.{◌≡◌, ◌≢◌, ◌⊎◌, ◌+◌, true, false, List, [], ◌∷◌, ◌++◌, refl, inl, inr, Ordering, Less, Equal, Greater}
 use Rattle.std.specs.List.{AllByRecursion}
 use Rattle.std.specs.Ordering.{ordering_then}
 use Rattle.semver_cuts.specs.declared.cut.Cut.{Cut}
@@ -67,7 +67,7 @@ module _ (P : VersionValue → Type 0) where
   before-release v [] all = all.0
   before-release v (x ∷ xs) all = all.1.0
 
-  after-release : (v : VersionValue) (xs : List IdentifierValue) → v.pre_release ≡ xs → AllByRecursion P (after_by v xs)
+  after-release : (v : VersionValue) (xs : List IdentifierValue) → v.pre_release ≡ xs → AllByRecursion P (after_by false v xs)
       → ReleaseOf P (After v)
   after-release v [] e all = record {
     version = release v.major v.minor (v.patch + 1);
@@ -87,7 +87,7 @@ module _ (P : VersionValue → Type 0) where
   past-end w (inr e) = cc e
 
   pub release-candidate : (c : Cut VersionValue) (w : VersionValue) → IsCutAtMost version_cmp c (Before w)
-      → AllByRecursion P (candidates_at c) → ReleaseOf P c
+      → AllByRecursion P (candidates_at false c) → ReleaseOf P c
   release-candidate Start w below all = record {
     version = release 0 0 0;
     is = all.0;
@@ -102,6 +102,41 @@ module _ (P : VersionValue → Type 0) where
   }
   release-candidate (After v) w below all = after-release v v.pre_release refl all
   release-candidate End w below all = absurd (past-end w below)
+
+-- ---- with prereleases included, one candidate is the least version after the cut
+
+pub record FloorOf (P : VersionValue → Type 0) (c : Cut VersionValue) : Type 0 where
+  pub version : VersionValue
+  pub is : P version
+  pub first : IsFloor c version
+
+module _ (P : VersionValue → Type 0) where
+  before-any : (v : VersionValue) (xs : List IdentifierValue) → v.pre_release ≡ xs → AllByRecursion P (before_by v xs)
+      → FloorOf P (Before v)
+  before-any v [] e all = record {
+    version = release v.major v.minor v.patch;
+    is = all.0;
+    first = same-floor (Before v) v (release v.major v.minor v.patch) (version-Equal v (release v.major v.minor v.patch)
+        (record { triple = record { major = refl; minor = refl; patch = refl }; pre_release = e })) (before-floor v);
+  }
+  before-any v (x ∷ xs) e all = record { version = without_build v; is = all.0; first = plain-floor v }
+
+  after-any : (v : VersionValue) (xs : List IdentifierValue) → v.pre_release ≡ xs
+      → AllByRecursion P (after_by true v xs) → FloorOf P (After v)
+  after-any v [] e all = record {
+    version = least_of v.major v.minor (v.patch + 1);
+    is = all.0;
+    first = patch-floor v (λ pre. pre e);
+  }
+  after-any v (x ∷ xs) e all =
+      record { version = with_zero v; is = all.0; first = zero-floor v (λ none. cc (e, none)) }
+
+  pub floor-candidate : (c : Cut VersionValue) (w : VersionValue) → IsCutAtMost version_cmp c (Before w)
+      → AllByRecursion P (candidates_at true c) → FloorOf P c
+  floor-candidate Start w below all = record { version = least_of 0 0 0; is = all.0; first = start-floor }
+  floor-candidate (Before v) w below all = before-any v v.pre_release refl all
+  floor-candidate (After v) w below all = after-any v v.pre_release refl all
+  floor-candidate End w below all = absurd (past-end P w below)
 
 -- ---- among the prereleases of a triple one candidate is the least version after the cut
 
@@ -130,7 +165,7 @@ module _ (P : VersionValue → Type 0) where
   before-prerelease v [] some all = absurd (some refl)
   before-prerelease v (x ∷ xs) some all = all.0
 
-  after-prerelease : (v : VersionValue) (xs : List IdentifierValue) → xs ≢ [] → AllByRecursion P (after_by v xs)
+  after-prerelease : (v : VersionValue) (xs : List IdentifierValue) → xs ≢ [] → AllByRecursion P (after_by false v xs)
       → P (with_zero v)
   after-prerelease v [] some all = absurd (some refl)
   after-prerelease v (x ∷ xs) some all = all.0
@@ -141,7 +176,7 @@ module _ (P : VersionValue → Type 0) where
 
   pub prerelease-candidate : (c : Cut VersionValue) (w : VersionValue) → IsPrerelease w
       → IsCutAtMost version_cmp (Before (least_of_triple w)) c → IsCutAtMost version_cmp c (Before w)
-      → AllByRecursion P (candidates_at c) → PrereleaseOf P c w
+      → AllByRecursion P (candidates_at false c) → PrereleaseOf P c w
   prerelease-candidate Start w pre from to all = elim from [ inl e ↦ cc e | inr e ↦ cc e ]
   prerelease-candidate (Before v) w pre from to all =
       let at = stands-at w v pre from to in

@@ -1,28 +1,30 @@
--- The least version that two ranges both admit, from the best of the candidates.
-use Rattle.std.proofs.Common.{◌≡◌, ◌↔◌, true, false, List, Option, Some}
+-- The least version that two ranges both have, from the best of the candidates.
+use Rattle.std.proofs.Common.{◌≡◌, Bool, List, Option, subst}
 use Rattle.semver_cuts.specs.Ends.{Ends}
 use Rattle.semver_versions.specs.Version.{VersionValue}
-use Rattle.node_semver.specs.Least.{AdmitNoneInCommon, BothAdmit}
-use Rattle.node_semver.specs.Private.CandidateViews.{AreEndsTried, IsLeastOrNone}
+use Rattle.node_semver.specs.Private.CandidateViews.{AreEndsTried, AreWantedOfBoth, IsLeastOrNone}
 use Rattle.node_semver.proofs.Least.CandidateBelow.{best-least}
-use Rattle.node_semver.proofs.Least.HighestCut.{admits-between}
+use Rattle.node_semver.proofs.Least.HighestCut.{has-between}
 
-pub common-least : (sets others : List (Ends VersionValue)) (best : Option VersionValue)
-    → AreEndsTried (BothAdmit sets others) (λ set. set.lower) sets others best
-    → IsLeastOrNone (BothAdmit sets others) best
-common-least sets others best tried =
-    best-least (BothAdmit sets others) sets others (λ set. set.lower)
+pub common-least : (included : Bool) (sets others : List (Ends VersionValue)) (best : Option VersionValue)
+    → AreEndsTried included (AreWantedOfBoth included sets others) (λ set. set.lower) sets others best
+    → IsLeastOrNone (AreWantedOfBoth included sets others) best
+common-least included sets others best tried =
+    best-least included (AreWantedOfBoth included sets others) sets others (λ set. set.lower)
     (record {
       admitted = λ v both. both.one;
       between = λ c x w alike from to lowers others_lowers both. record {
-        one = admits-between c x w alike from to sets lowers both.one;
-        other = admits-between c x w alike from to others others_lowers both.other;
+        one = has-between included c x w alike from to sets lowers both.one;
+        other = has-between included c x w alike from to others others_lowers both.other;
       };
     })
     best tried
 
--- a version, where there is one
-pub some-common : (sets others : List (Ends VersionValue)) (v : VersionValue)
-    → IsLeastOrNone (BothAdmit sets others) (Some v)
-    → (true ≡ false) ↔ AdmitNoneInCommon sets others
-some-common sets others v least = (λ e. cc e, λ none. absurd (none v least.0.wanted))
+-- the same of a list that is seen as another
+pub common-seen : (included : Bool) (inside sets others : List (Ends VersionValue)) → inside ≡ sets
+    → (best : Option VersionValue)
+    → AreEndsTried included (AreWantedOfBoth included inside others) (λ set. set.lower) inside others best
+    → IsLeastOrNone (AreWantedOfBoth included sets others) best
+common-seen included inside sets others same best tried =
+    subst (λ (l : List (Ends VersionValue)). IsLeastOrNone (AreWantedOfBoth included l others) best) same
+    (common-least included inside others best tried)

@@ -1,5 +1,5 @@
 -- The highest of the cuts at ends of a list that are not above a version, and the cuts between it and the version.
-use Rattle.std.proofs.Common.{List, [], ◌∷◌, inl, inr}
+use Rattle.std.proofs.Common.{◌⊎◌, Bool, IsTrue, List, [], ◌∷◌, inl, inr}
 use Rattle.std.specs.List.{AllByRecursion}
 use Rattle.semver_cuts.specs.declared.cut.Cut.{Cut}
 use Rattle.semver_cuts.specs.declared.cut.Cut.TheVariants.{Before}
@@ -7,12 +7,13 @@ use Rattle.semver_cuts.specs.Ends.{Ends, IsCutAtMost}
 use Rattle.semver_cuts.specs.Lemmas.Ends.{at_most-below, at_most-or-below, at_most_refl, at_most_trans}
 use Rattle.semver_cuts.specs.Lemmas.Ends.{below-not-at_most}
 use Rattle.semver_versions.specs.Comparison.{version_cmp}
-use Rattle.semver_sets.specs.Meaning.{AnyByRecursion, HasOpenEnd, RangeAdmits, SetAdmits}
+use Rattle.semver_sets.specs.Meaning.{AnyByRecursion}
 use Rattle.semver_versions.specs.Version.{HasSameTriple, IsPrerelease, VersionValue}
 use Rattle.semver_versions.specs.Lemmas.Order.{version_total}
 use Rattle.semver_versions.specs.Lemmas.Versions.Between.{triple-back}
-use Rattle.node_semver.specs.Least.{AdmitsBeyond}
-use Rattle.node_semver.proofs.Least.OpenTriples.{open_end-in_triple}
+use Rattle.node_semver.specs.Least.{IsBeyond}
+use Rattle.node_semver.specs.Private.LeastViews.{IsIn, IsInRange, IsOpenIn}
+use Rattle.node_semver.proofs.Least.LeastLemmas.{is-opened, lies-in, lies-inside, open_in-triple}
 
 -- ---- lists
 
@@ -106,68 +107,75 @@ pub data AskAlike (v w : VersionValue) : Type 0 where
   both_releases : ¬ IsPrerelease v → ¬ IsPrerelease w → AskAlike v w
   both_prereleases : IsPrerelease v → IsPrerelease w → HasSameTriple v w → AskAlike v w
 
-abbrev IsOpened : Ends VersionValue → VersionValue → Type 0
-IsOpened set v = IsPrerelease v → HasOpenEnd v set
+-- with prereleases included, nothing is asked of ends
+abbrev pub IsAlike : Bool → VersionValue → VersionValue → Type 0
+IsAlike included v w = IsTrue included ⊎ AskAlike v w
 
-opened-forth : (set : Ends VersionValue) (v w : VersionValue) → AskAlike v w → IsOpened set v → IsOpened set w
-opened-forth set v w (both_releases n m) opened = λ pre. absurd (m pre)
-opened-forth set v w (both_prereleases p q t) opened = λ _. open_end-in_triple set v w t (opened p)
+opened-forth : (included : Bool) (set : Ends VersionValue) (v w : VersionValue) → IsAlike included v w
+    → (IsPrerelease v → IsOpenIn included set v) → IsPrerelease w → IsOpenIn included set w
+opened-forth included set v w (inl is) opened = λ _. inl is
+opened-forth included set v w (inr (both_releases n m)) opened = λ pre. absurd (m pre)
+opened-forth included set v w (inr (both_prereleases p q t)) opened = λ _. open_in-triple included set v w t (opened p)
 
-alike-back : (v w : VersionValue) → AskAlike v w → AskAlike w v
-alike-back v w (both_releases n m) = both_releases m n
-alike-back v w (both_prereleases p q t) = both_prereleases q p (triple-back v w t)
+alike-back : (included : Bool) (v w : VersionValue) → IsAlike included v w → IsAlike included w v
+alike-back included v w (inl is) = inl is
+alike-back included v w (inr (both_releases n m)) = inr (both_releases m n)
+alike-back included v w (inr (both_prereleases p q t)) = inr (both_prereleases q p (triple-back v w t))
 
 -- ---- between the highest cut and the version
 
-module _ (c : Cut VersionValue) (x w : VersionValue) (alike : AskAlike x w)
+module _ (included : Bool) (c : Cut VersionValue) (x w : VersionValue) (alike : IsAlike included x w)
     (from : IsCutAtMost version_cmp c (Before x)) (to : IsCutAtMost version_cmp (Before x) (Before w)) where
-  -- what begins no higher than the cut and admits the version admits what lies between
+  -- what begins no higher than the cut and has the version has what lies between
   pub set-between : (set : Ends VersionValue)
       → (IsCutAtMost version_cmp set.lower (Before w) → IsCutAtMost version_cmp set.lower c)
-      → SetAdmits set w → SetAdmits set x
-  set-between set lower admits = record {
-    inside = record {
-      lower = at_most_trans version_total set.lower c (Before x) (lower admits.inside.lower) from;
-      upper = at_most-below version_total (Before x) (Before w) set.upper to admits.inside.upper;
-    };
-    opened = opened-forth set w x (alike-back x w alike) admits.opened;
-  }
+      → IsIn included set w → IsIn included set x
+  set-between set lower is =
+      let inside = lies-inside included set w is in
+      lies-in included set x
+      (record {
+        lower = at_most_trans version_total set.lower c (Before x) (lower inside.lower) from;
+        upper = at_most-below version_total (Before x) (Before w) set.upper to inside.upper;
+      })
+      (opened-forth included set w x (alike-back included x w alike) (is-opened included set w is))
 
   -- so does a list of sets that all begin no higher than the cut
-  pub admits-between : (sets : List (Ends VersionValue))
+  pub has-between : (sets : List (Ends VersionValue))
       → AllByRecursion (λ (set : Ends VersionValue). IsCutAtMost version_cmp set.lower (Before w)
       → IsCutAtMost version_cmp set.lower c) sets
-      → RangeAdmits sets w → RangeAdmits sets x
-  admits-between sets lowers admits = any-along _ (λ (set : Ends VersionValue). SetAdmits set w)
-      (λ (set : Ends VersionValue). SetAdmits set x) sets (λ set lower. set-between set lower) lowers admits
+      → IsInRange included sets w → IsInRange included sets x
+  has-between sets lowers is = any-along _ (λ (set : Ends VersionValue). IsIn included set w)
+      (λ (set : Ends VersionValue). IsIn included set x) sets (λ set lower. set-between set lower) lowers is
 
-  -- what admits it and ends no lower than the version admits the version
+  -- what has it and ends no lower than the version has the version
   set-beyond : (set : Ends VersionValue)
       → (IsCutAtMost version_cmp set.upper (Before w) → IsCutAtMost version_cmp set.upper c)
-      → SetAdmits set x → SetAdmits set w
-  set-beyond set upper admits = elim (at_most-or-below version_total set.upper (Before w)) [
-    | inl ends ↦ absurd (below-not-at_most version_total (Before x) set.upper admits.inside.upper
-        (at_most_trans version_total set.upper c (Before x) (upper ends) from))
-    | inr goes_on ↦ record {
-      inside = record {
-        lower = at_most_trans version_total set.lower (Before x) (Before w) admits.inside.lower to;
-        upper = goes_on;
-      };
-      opened = opened-forth set x w alike admits.opened;
-    }
-  ]
+      → IsIn included set x → IsIn included set w
+  set-beyond set upper is =
+      let inside = lies-inside included set x is in
+      elim (at_most-or-below version_total set.upper (Before w)) [
+        | inl ends ↦ absurd (below-not-at_most version_total (Before x) set.upper inside.upper
+            (at_most_trans version_total set.upper c (Before x) (upper ends) from))
+        | inr goes_on ↦ lies-in included set w
+            (record {
+              lower = at_most_trans version_total set.lower (Before x) (Before w) inside.lower to;
+              upper = goes_on;
+            })
+            (opened-forth included set x w alike (is-opened included set x is))
+      ]
 
-  -- so what lies between is admitted by the one list and not by the other, as the version is
+  -- so the one list has what lies between and the other has not, as it is of the version
   pub beyond-between : (sets others : List (Ends VersionValue))
       → AllByRecursion (λ (set : Ends VersionValue). IsCutAtMost version_cmp set.lower (Before w)
       → IsCutAtMost version_cmp set.lower c) sets
       → AllByRecursion (λ (set : Ends VersionValue). IsCutAtMost version_cmp set.upper (Before w)
       → IsCutAtMost version_cmp set.upper c) others
-      → AdmitsBeyond sets others w → AdmitsBeyond sets others x
+      → IsBeyond (IsInRange included sets) (IsInRange included others) w
+      → IsBeyond (IsInRange included sets) (IsInRange included others) x
   beyond-between sets others lowers uppers beyond = record {
-    admitted = admits-between sets lowers beyond.admitted;
-    turned_away = λ admits. beyond.turned_away
-        (any-along _ (λ (set : Ends VersionValue). SetAdmits set x)
-        (λ (set : Ends VersionValue). SetAdmits set w) others
-        (λ set upper. set-beyond set upper) uppers admits);
+    admitted = has-between sets lowers beyond.admitted;
+    turned_away = λ is. beyond.turned_away
+        (any-along _ (λ (set : Ends VersionValue). IsIn included set x)
+        (λ (set : Ends VersionValue). IsIn included set w) others
+        (λ set upper. set-beyond set upper) uppers is);
   }

@@ -1,6 +1,7 @@
 -- What the private functions compute that look for the least version of two ranges that is wanted: one that the first
--- admits and the second does not, or one that both admit.
-use Rattle.std.specs.Prelude.{◌≡◌, ◌+◌, List, [], ◌∷◌, Option, Some, None}
+-- has and the second does not, or one that both have. A range has the versions that it admits or, with prereleases
+-- included, those that it contains.
+use Rattle.std.specs.Prelude.{◌≡◌, ◌+◌, ℕ, Bool, true, false, List, [], ◌∷◌, Option, Some, None}
 use Rattle.std.specs.List.{AllByRecursion}
 use Rattle.std.specs.declared.cmp.Ordering.TheVariants.{Less}
 use Rattle.semver_cuts.specs.declared.cut.Cut.{Cut}
@@ -10,8 +11,19 @@ use Rattle.semver_versions.specs.Comparison.{version_cmp}
 use Rattle.semver_versions.specs.IdentifierValue.{IdentifierValue}
 use Rattle.semver_sets.specs.Meaning.{Opens, SetAdmits}
 use Rattle.semver_versions.specs.Version.{VersionValue, least_of, release, without_build}
-use Rattle.node_semver.specs.Least.{IsLeastOf, IsNoneOf}
+use Rattle.node_semver.specs.Least.{IsBeyond, IsInBoth, IsLeastOf, IsNoneOf}
+use Rattle.node_semver.specs.Private.LeastViews.{IsInRange}
 use Rattle.semver_versions.specs.VersionSteps.{with_zero}
+
+-- ---- questions
+
+-- the versions that the one list of sets has and the other has not
+abbrev pub AreWantedBeyond : Bool → List (Ends VersionValue) → List (Ends VersionValue) → VersionValue → Type 0
+AreWantedBeyond included sets others = IsBeyond (IsInRange included sets) (IsInRange included others)
+
+-- the versions that both lists of sets have
+abbrev pub AreWantedOfBoth : Bool → List (Ends VersionValue) → List (Ends VersionValue) → VersionValue → Type 0
+AreWantedOfBoth included sets others = IsInBoth (IsInRange included sets) (IsInRange included others)
 
 -- ---- candidates
 
@@ -20,17 +32,23 @@ abbrev pub before_by : VersionValue → List IdentifierValue → List VersionVal
 before_by v [] = release v.major v.minor v.patch ∷ []
 before_by v (identifier ∷ identifiers) = without_build v ∷ release v.major v.minor v.patch ∷ []
 
--- at the cut after a prerelease: the next prerelease and the release of its triple; after a release: the next release
-abbrev pub after_by : VersionValue → List IdentifierValue → List VersionValue
-after_by v [] = release v.major v.minor (v.patch + 1) ∷ []
-after_by v (identifier ∷ identifiers) = with_zero v ∷ release v.major v.minor v.patch ∷ []
+-- the release of a triple or, with prereleases included, its least version
+abbrev pub first_of : Bool → ℕ → ℕ → ℕ → VersionValue
+first_of true = least_of
+first_of false = release
+
+-- at the cut after a prerelease: the next prerelease and the release of its triple; after a release: the first of the next
+-- triple
+abbrev pub after_by : Bool → VersionValue → List IdentifierValue → List VersionValue
+after_by included v [] = first_of included v.major v.minor (v.patch + 1) ∷ []
+after_by included v (identifier ∷ identifiers) = with_zero v ∷ release v.major v.minor v.patch ∷ []
 
 -- the versions above a cut that can be the least: the next version, and the next release
-abbrev pub candidates_at : Cut VersionValue → List VersionValue
-candidates_at Start = release 0 0 0 ∷ []
-candidates_at (Before v) = before_by v v.pre_release
-candidates_at (After v) = after_by v v.pre_release
-candidates_at End = []
+abbrev pub candidates_at : Bool → Cut VersionValue → List VersionValue
+candidates_at included Start = first_of included 0 0 0 ∷ []
+candidates_at included (Before v) = before_by v v.pre_release
+candidates_at included (After v) = after_by included v v.pre_release
+candidates_at included End = []
 
 -- ---- the candidates that were tried
 
@@ -44,8 +62,8 @@ abbrev pub IsTried : (VersionValue → Type 0) → Option VersionValue → Versi
 IsTried Wanted best v = Wanted v → IsNotBelow best v
 
 -- the same for all candidates of a cut
-abbrev pub IsCutTried : (VersionValue → Type 0) → Option VersionValue → Cut VersionValue → Type 0
-IsCutTried Wanted best cut = AllByRecursion (IsTried Wanted best) (candidates_at cut)
+abbrev pub IsCutTried : Bool → (VersionValue → Type 0) → Option VersionValue → Cut VersionValue → Type 0
+IsCutTried included Wanted best cut = AllByRecursion (IsTried Wanted best) (candidates_at included cut)
 
 -- the same for the least version of a triple that the upper end of a set opens, if the set admits it
 abbrev pub IsOpenTried : (VersionValue → Type 0) → Option VersionValue → Ends VersionValue → Type 0
@@ -54,9 +72,9 @@ IsOpenTried Wanted best set =
     → IsTried Wanted best (least_of v.major v.minor v.patch)
 
 -- the same for a set: for its lower end, and for the triple that its upper end opens
-pub record IsSetTried (Wanted : VersionValue → Type 0) (best : Option VersionValue) (set : Ends VersionValue)
+pub record IsSetTried (included : Bool) (Wanted : VersionValue → Type 0) (best : Option VersionValue) (set : Ends VersionValue)
     : Type 0 where
-  pub lower : IsCutTried Wanted best set.lower
+  pub lower : IsCutTried included Wanted best set.lower
   pub opened : IsOpenTried Wanted best set
 
 -- the best version so far, if there is one, has no build and is wanted
@@ -91,10 +109,10 @@ pub record IsTrial (Wanted : VersionValue → Type 0) (earlier : Option VersionV
   pub tried : IsTried Wanted later v
 
 -- a step that tries the candidates of a cut
-pub record IsCutTrial (Wanted : VersionValue → Type 0) (earlier : Option VersionValue) (cut : Cut VersionValue)
+pub record IsCutTrial (included : Bool) (Wanted : VersionValue → Type 0) (earlier : Option VersionValue) (cut : Cut VersionValue)
     (later : Option VersionValue) : Type 0 where
   pub step : IsStep Wanted earlier later
-  pub tried : IsCutTried Wanted later cut
+  pub tried : IsCutTried included Wanted later cut
 
 -- a step that tries the triple that the upper end of a set opens
 pub record IsOpenTrial (Wanted : VersionValue → Type 0) (earlier : Option VersionValue) (set : Ends VersionValue)
@@ -103,23 +121,23 @@ pub record IsOpenTrial (Wanted : VersionValue → Type 0) (earlier : Option Vers
   pub tried : IsOpenTried Wanted later set
 
 -- a step that tries both for a set
-pub record IsSetTrial (Wanted : VersionValue → Type 0) (earlier : Option VersionValue) (set : Ends VersionValue)
+pub record IsSetTrial (included : Bool) (Wanted : VersionValue → Type 0) (earlier : Option VersionValue) (set : Ends VersionValue)
     (later : Option VersionValue) : Type 0 where
   pub step : IsStep Wanted earlier later
-  pub tried : IsSetTried Wanted later set
+  pub tried : IsSetTried included Wanted later set
 
 -- the sets of the first range were tried
-pub record AreSetsTried (Wanted : VersionValue → Type 0) (tried : List (Ends VersionValue))
+pub record AreSetsTried (included : Bool) (Wanted : VersionValue → Type 0) (tried : List (Ends VersionValue))
     (found : Option VersionValue)
     : Type 0 where
   pub best : IsBest Wanted found
-  pub each : AllByRecursion (IsSetTried Wanted found) tried
+  pub each : AllByRecursion (IsSetTried included Wanted found) tried
 
 -- the sets of the first range were tried, and one end of each set of the second range
-pub record AreEndsTried (Wanted : VersionValue → Type 0) (end : Ends VersionValue → Cut VersionValue)
+pub record AreEndsTried (included : Bool) (Wanted : VersionValue → Type 0) (end : Ends VersionValue → Cut VersionValue)
     (sets tried : List (Ends VersionValue)) (found : Option VersionValue) : Type 0 where
-  pub first : AreSetsTried Wanted sets found
-  pub each : AllByRecursion (λ (set : Ends VersionValue). IsCutTried Wanted found (end set)) tried
+  pub first : AreSetsTried included Wanted sets found
+  pub each : AllByRecursion (λ (set : Ends VersionValue). IsCutTried included Wanted found (end set)) tried
 
 -- the least version that is wanted, without build, or none if none is wanted
 abbrev pub IsLeastOrNone : (VersionValue → Type 0) → Option VersionValue → Type 0

@@ -13,8 +13,8 @@ ghost use Rattle.node_semver.specs.Private.LeastViews.{IsKept, IsLeastOfSet, IsL
 mod beyond;
 mod candidates;
 mod common;
-mod question;
-mod search;
+pub(crate) mod question;
+pub(crate) mod search;
 pub(crate) mod unbuilt;
 
 use crate::{Identifier, Range, Version};

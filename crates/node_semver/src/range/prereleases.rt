@@ -1,11 +1,14 @@
 //! Ranges that are asked with prereleases included.
-ghost use Rattle.std.specs.Prelude.{◌≡◌, ◌↔◌, IfOk, IfSome, IsNone, IsTrue, map};
+ghost use Rattle.std.specs.Prelude.{◌≡◌, ◌↔◌, [], IfOk, IfSome, IsNone, IsTrue, map};
 ghost use Rattle.semver_sets.specs.Meaning.{RangeContains};
 ghost use Rattle.node_semver.specs.Greatest.{IsGreatestIn, IsLeastIn, IsNoneIn};
-ghost use Rattle.node_semver.specs.Least.{ContainsNone, HasBuildOfFirstAround, IsLeastContained};
+ghost use Rattle.node_semver.specs.Least.{BothContain, ContainsBeyond, ContainsNone, HasBuildOfFirstAround};
+ghost use Rattle.node_semver.specs.Least.{IsContainedIn, IsLeastContained, IsLeastOf, IsNoneOf};
 
 use crate::range::greatest::{greatest_admitted, least_admitted};
 use crate::range::least::least_version;
+use crate::range::least::question::{Beyond, Common, Contained};
+use crate::range::least::search::least_wanted;
 use crate::{Admits, AsVersion, OrderedVersion, Range, Version};
 use std::alloc::{AllocError, Global};
 use std::marker::Model;
@@ -134,6 +137,60 @@ impl<'a> WithPrereleases<'a> {
     {
         let range = self.range;
         least_version(alloc, range.sets.as_slice(), true)
+    }
+
+    /// Returns the least version that lies inside this range and not inside the other, or `None` if there is none.
+    ///
+    /// The other range is asked with prereleases included, too. The result has no build.
+    ///
+    /// # Errors
+    ///
+    /// Returns `AllocError` if an allocation fails.
+    ///
+    /// # Memory
+    ///
+    /// Allocates the identifiers of the result, and nothing else.
+    ///
+    /// # Examples
+    ///
+    /// `2.0.0-0` for `1 - 2` and `1 || 2`, `1.0.1-0` for `>=1.0.0` and `1.0.0`, and `None` for `^1.2.3-rc.4` and
+    /// `>=1.0.0-0`.
+    pub fn least_beyond(&self, alloc: Global, other: &Range) -> Result<Option<Version>, AllocError>
+        ensures least { IfOk result (λ found. IfSome found (IsLeastOf (ContainsBeyond self.now other.now))) }
+        ensures none { IfOk result (λ found. IsNone found ↔ IsNoneOf (ContainsBeyond self.now other.now)) }
+        ensures contained { IfOk result (λ found. IsNone found ↔ IsContainedIn self.now other.now) }
+        ensures build { IfOk result (λ found. IfSome found (λ v. v.build ≡ [])) }
+    {
+        match least_wanted::<Beyond, Contained>(self.range, other) {
+            Some(least) => Ok(Some(least.built(alloc)?)),
+            None => Ok(None),
+        }
+    }
+
+    /// Returns the least version that lies inside both ranges, or `None` if there is none.
+    ///
+    /// The other range is asked with prereleases included, too. The result has no build.
+    ///
+    /// # Errors
+    ///
+    /// Returns `AllocError` if an allocation fails.
+    ///
+    /// # Memory
+    ///
+    /// Allocates the identifiers of the result, and nothing else.
+    ///
+    /// # Examples
+    ///
+    /// `2.0.0-rc.1` for `^2.0.0-rc.1` and `>=1.5`, `1.0.1-0` for `>1.0.0` and `<2`, and `None` for `1 - 2` and `3`.
+    pub fn least_common(&self, alloc: Global, other: &Range) -> Result<Option<Version>, AllocError>
+        ensures least { IfOk result (λ found. IfSome found (IsLeastOf (BothContain self.now other.now))) }
+        ensures none { IfOk result (λ found. IsNone found ↔ IsNoneOf (BothContain self.now other.now)) }
+        ensures build { IfOk result (λ found. IfSome found (λ v. v.build ≡ [])) }
+    {
+        match least_wanted::<Common, Contained>(self.range, other) {
+            Some(least) => Ok(Some(least.built(alloc)?)),
+            None => Ok(None),
+        }
     }
 }
 

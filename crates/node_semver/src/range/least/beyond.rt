@@ -2,7 +2,7 @@
 ghost use Rattle.std.specs.Prelude.{◌≡◌, ◌↔◌, [], IfOk, IfSome, IsNone};
 ghost use Rattle.node_semver.specs.Least.{AdmitsNoneBeyond, IsAdmittedBy, IsLeastBeyond};
 
-use crate::range::least::question::Beyond;
+use crate::range::least::question::{Admitted, Beyond};
 use crate::range::least::search::least_wanted;
 use crate::{Range, Version};
 use std::alloc::{AllocError, Global};
@@ -33,7 +33,7 @@ impl Range {
         ensures admitted { IfOk result (λ found. IsNone found ↔ IsAdmittedBy self.now other.now) }
         ensures build { IfOk result (λ found. IfSome found (λ v. v.build ≡ [])) }
     {
-        match least_wanted::<Beyond>(self, other) {
+        match least_wanted::<Beyond, Admitted>(self, other) {
             Some(least) => Ok(Some(least.built(alloc)?)),
             None => Ok(None),
         }

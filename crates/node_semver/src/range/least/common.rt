@@ -2,7 +2,7 @@
 ghost use Rattle.std.specs.Prelude.{◌≡◌, ◌↔◌, [], IfOk, IfSome, IsNone};
 ghost use Rattle.node_semver.specs.Least.{AdmitNoneInCommon, IsLeastCommon};
 
-use crate::range::least::question::Common;
+use crate::range::least::question::{Admitted, Common};
 use crate::range::least::search::least_wanted;
 use crate::{Range, Version};
 use std::alloc::{AllocError, Global};
@@ -31,7 +31,7 @@ impl Range {
         ensures none { IfOk result (λ found. IsNone found ↔ AdmitNoneInCommon self.now other.now) }
         ensures build { IfOk result (λ found. IfSome found (λ v. v.build ≡ [])) }
     {
-        match least_wanted::<Common>(self, other) {
+        match least_wanted::<Common, Admitted>(self, other) {
             Some(least) => Ok(Some(least.built(alloc)?)),
             None => Ok(None),
         }

@@ -1,23 +1,72 @@
-//! Which versions are wanted of two ranges.
+//! Which versions are wanted of two ranges, with prereleases included or not.
 //!
 //! See docs/DECISIONS.md, "One search for two questions".
-ghost use Rattle.std.specs.Prelude.{◌≡◌, ◌↔◌, IsTrue, List};
+ghost use Rattle.std.specs.Prelude.{◌≡◌, ◌↔◌, Bool, true, false, IsTrue, List};
 ghost use Rattle.semver_cuts.specs.declared.cut.Cut.{Cut};
 ghost use Rattle.semver_cuts.specs.Ends.{Ends};
 ghost use Rattle.semver_sets.specs.RangeSets.{IsRangeSet, IsRangeCut};
 ghost use Rattle.semver_versions.specs.Version.{VersionValue};
-ghost use Rattle.node_semver.specs.Least.{AdmitsBeyond, BothAdmit};
+ghost use Rattle.node_semver.specs.Private.CandidateViews.{AreWantedBeyond, AreWantedOfBoth};
+ghost use Rattle.node_semver.specs.Private.LeastViews.{IsInRange};
 
 use crate::{Comparisons, Range};
 use semver_cuts::{Cut, Span};
 use semver_versions::AsVersion;
 use semver_versions::end::EndVersion;
 
+// Which versions a range has: those that it admits, or those that it contains. It is a type without values, as a question
+// is.
+pub(crate) trait Inclusion {
+    // Whether prereleases are included.
+    ghost included: { Bool };
+
+    fn includes() -> bool
+        ensures { result ≡ included };
+
+    // Returns `true` if the range has the version.
+    fn has<V: AsVersion>(range: &Range, version: &V) -> bool
+        ensures { IsTrue result ↔ IsInRange included range.now (V.seen version.now) };
+}
+
+// A range has the versions that it admits.
+pub(crate) struct Admitted;
+
+impl Inclusion for Admitted {
+    ghost included = { false };
+
+    #[inline(always)]
+    fn includes() -> bool {
+        false
+    }
+
+    #[inline(always)]
+    fn has<V: AsVersion>(range: &Range, version: &V) -> bool {
+        range.sets.admits(version, &mut Comparisons::new())
+    }
+}
+
+// A range has the versions that it contains: prereleases are included.
+pub(crate) struct Contained;
+
+impl Inclusion for Contained {
+    ghost included = { true };
+
+    #[inline(always)]
+    fn includes() -> bool {
+        true
+    }
+
+    #[inline(always)]
+    fn has<V: AsVersion>(range: &Range, version: &V) -> bool {
+        range.sets.contains(version, &mut Comparisons::new())
+    }
+}
+
 // A question about two ranges. It is a type without values, so each question has a search of its own, which tests
 // nothing more.
 pub(crate) trait Question {
-    // The versions that are wanted, for the sets of the range and of the other.
-    ghost wanted: { List (Ends VersionValue) → List (Ends VersionValue) → VersionValue → Type 0 };
+    // The versions that are wanted, with prereleases included or not, for the sets of the range and of the other.
+    ghost wanted: { Bool → List (Ends VersionValue) → List (Ends VersionValue) → VersionValue → Type 0 };
 
     // The end at which a set of the other range can make versions wanted: above it, but not below.
     ghost end: { Ends VersionValue → Cut VersionValue };
@@ -28,15 +77,15 @@ pub(crate) trait Question {
         ensures read { IsRangeCut result.now };
 
     // Returns `true` if the candidate is wanted.
-    fn is_wanted<V: AsVersion>(candidate: &V, range: &Range, other: &Range) -> bool
-        ensures { IsTrue result ↔ wanted range.now other.now (V.seen candidate.now) };
+    fn is_wanted<I: Inclusion, V: AsVersion>(candidate: &V, range: &Range, other: &Range) -> bool
+        ensures { IsTrue result ↔ wanted I.included range.now other.now (V.seen candidate.now) };
 }
 
-// Which versions does the range admit and the other turn away? Where a set of the other ends, it turns versions away.
+// Which versions has the range and the other has not? Where a set of the other ends, it turns versions away.
 pub(crate) struct Beyond;
 
 impl Question for Beyond {
-    ghost wanted = { AdmitsBeyond };
+    ghost wanted = { AreWantedBeyond };
 
     ghost end = { λ set. set.upper };
 
@@ -46,17 +95,16 @@ impl Question for Beyond {
     }
 
     #[inline(always)]
-    fn is_wanted<V: AsVersion>(candidate: &V, range: &Range, other: &Range) -> bool {
-        range.sets.admits(candidate, &mut Comparisons::new())
-            && !other.sets.admits(candidate, &mut Comparisons::new())
+    fn is_wanted<I: Inclusion, V: AsVersion>(candidate: &V, range: &Range, other: &Range) -> bool {
+        I::has(range, candidate) && !I::has(other, candidate)
     }
 }
 
-// Which versions do both ranges admit? Where a set of the other begins, it admits versions.
+// Which versions have both ranges? Where a set of the other begins, it has versions.
 pub(crate) struct Common;
 
 impl Question for Common {
-    ghost wanted = { BothAdmit };
+    ghost wanted = { AreWantedOfBoth };
 
     ghost end = { λ set. set.lower };
 
@@ -66,8 +114,7 @@ impl Question for Common {
     }
 
     #[inline(always)]
-    fn is_wanted<V: AsVersion>(candidate: &V, range: &Range, other: &Range) -> bool {
-        range.sets.admits(candidate, &mut Comparisons::new())
-            && other.sets.admits(candidate, &mut Comparisons::new())
+    fn is_wanted<I: Inclusion, V: AsVersion>(candidate: &V, range: &Range, other: &Range) -> bool {
+        I::has(range, candidate) && I::has(other, candidate)
     }
 }

@@ -12,16 +12,16 @@ sets-init g c = record { best = tt; each = tt }
 
 pub sets-preserved : goal.sets-preserved
 sets-preserved g c =
-    let Wanted = g.Q.Question.wanted c.args.range.now c.args.other.now in
+    let Wanted = g.Q.Question.wanted g.I.Inclusion.included c.args.range.now c.args.other.now in
     let first = c.try_cut.new.best in
     let later = c.try_opened.new.best in
-    let begun = subst (λ (cut : Cut VersionValue). IsCutTrial Wanted c.sets.best cut first) c.lower.ensures
+    let begun = subst (λ (cut : Cut VersionValue). IsCutTrial g.I.Inclusion.included Wanted c.sets.best cut first) c.lower.ensures
     c.try_cut.ensures in
-    sets-more Wanted c.args.sets.now c.sets.set-index c.set-item.result c.sets.best later c.sets-test.true
+    sets-more g.I.Inclusion.included Wanted c.args.sets.now c.sets.set-index c.set-item.result c.sets.best later c.sets-test.true
     c.set-item.is c.sets.invariant
-    (set-trial Wanted c.sets.best first later c.set-item.result begun c.try_opened.ensures)
+    (set-trial g.I.Inclusion.included Wanted c.sets.best first later c.set-item.result begun c.try_opened.ensures)
 
 pub returns : goal.returns
 returns g c =
-    subst (λ (l : List (Ends VersionValue)). AreSetsTried (g.Q.Question.wanted c.args.range.now c.args.other.now) l c.sets.best)
+    subst (λ (l : List (Ends VersionValue)). AreSetsTried g.I.Inclusion.included (g.Q.Question.wanted g.I.Inclusion.included c.args.range.now c.args.other.now) l c.sets.best)
     (take_all c.sets.set-index c.args.sets.now c.sets-test.false) c.sets.invariant

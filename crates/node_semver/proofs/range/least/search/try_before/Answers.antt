@@ -8,7 +8,7 @@ use Rattle.node_semver.proofs.range.least.search.try_before.Goals.{then-is_prere
 
 pub returns : goal.returns
 returns g c =
-    let Wanted = g.Q.Question.wanted c.args.range.now c.args.other.now in
+    let Wanted = g.Q.Question.wanted g.I.Inclusion.included c.args.range.now c.args.other.now in
     let best = c.args.best.now in
     let later = c.try_release.new.best in
     let end = c.args.end.now in
@@ -18,11 +18,11 @@ returns g c =
     c.triple.ensures
     c.try_release.ensures in
     elim c.if-is_prerelease.branch [
-      | then-is_prerelease w ↦ before-prerelease-trial Wanted best w.try_candidate.new.best later end
+      | then-is_prerelease w ↦ before-prerelease-trial g.I.Inclusion.included Wanted best w.try_candidate.new.best later end
           (c.is_prerelease.ensures.0 w.if-is_prerelease.true)
           (subst (λ (v : VersionValue). IsTrial Wanted best v w.try_candidate.new.best)
           (w.without_build.ensures ∙ ap without_build w.at_end.ensures) w.try_candidate.ensures)
           (subst From w.best-is released)
-      | else-is_prerelease w ↦ before-release-trial Wanted best later end
+      | else-is_prerelease w ↦ before-release-trial g.I.Inclusion.included Wanted best later end
           (λ pre. cc (w.if-is_prerelease.false, c.is_prerelease.ensures.1 pre)) (subst From w.best-is released)
     ]

@@ -1,0 +1,26 @@
+use Rattle.std.proofs.Common.{rules, Some, None, true, refl}
+use Rattle.node_semver.specs.Least.{BothContain}
+use Rattle.node_semver.proofs.Least.BeyondAnswers.{some-wanted}
+use Rattle.node_semver.proofs.Least.CommonAnswers.{common-seen}
+use Rattle.node_semver.proofs.range.prereleases.WithPrereleases.least_common.Goals as goal
+
+pub returns-in_ok-built-in-Some-clause-least : goal.returns-in_ok-built-in-Some-clause-least
+returns-in_ok-built-in-Some-clause-least c =
+    let least = common-seen true c.self.inside.range.now c.args.self.now c.args.other.now c.self.view_is
+    (Some c.in-Some.least) c.in-Some.ensures in search rules
+
+pub returns-in_ok-built-in-Some-clause-none : goal.returns-in_ok-built-in-Some-clause-none
+returns-in_ok-built-in-Some-clause-none c =
+    some-wanted (BothContain c.args.self.now c.args.other.now) c.in-Some.least
+    (common-seen true c.self.inside.range.now c.args.self.now c.args.other.now c.self.view_is
+    (Some c.in-Some.least) c.in-Some.ensures)
+
+pub returns-in_ok-built-in-Some-clause-build : goal.returns-in_ok-built-in-Some-clause-build
+returns-in_ok-built-in-Some-clause-build c =
+    let least = common-seen true c.self.inside.range.now c.args.self.now c.args.other.now c.self.view_is
+    (Some c.in-Some.least) c.in-Some.ensures in search rules
+
+pub returns-in-None-clause-none : goal.returns-in-None-clause-none
+returns-in-None-clause-none c =
+    let none = common-seen true c.self.inside.range.now c.args.self.now c.args.other.now c.self.view_is
+    None c.in-None.ensures in ((λ e. none), (λ e. refl))

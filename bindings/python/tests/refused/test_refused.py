@@ -20,6 +20,10 @@ NATIVE = ctypes.PyDLL(sys.modules["node_semver._native"].__file__)
 NATIVE.refuse_at.argtypes = [ctypes.c_long]
 NATIVE.blocks_kept.restype = ctypes.c_long
 
+# Forgets the names in Python's cache of attributes. It keeps each new name that was looked up until another one takes its
+# place, so now and then it has a hundred more of them after a hundred calls that look up `from_sets`.
+FORGET: Callable[[], None] = getattr(sys, "_clear_internal_caches", None) or getattr(sys, "_clear_type_cache")
+
 LONG = "1.2.3-" + ".".join("a" * 20 for _ in range(11))  # its print needs more than the room of a short one
 VERSION, WANTED, OTHER = Version("1.2.3-rc.4+b.18446744073709551616"), Range("^1.2.3-rc.4 || >=3"), Range("<3.1.0-a.b")
 ASKED: List[Union[Version, str]] = [VERSION, "3.2.1-rc.4", "3.2.1"]
@@ -128,14 +132,19 @@ class Refused(unittest.TestCase):
                 self.assertGreaterEqual(place, least)
                 self.assertEqual(call(), wanted)
 
+    def blocks(self) -> Tuple[int, int]:
+        """How many blocks the library and Python have."""
+        gc.collect()
+        FORGET()
+        return NATIVE.blocks_kept(), sys.getallocatedblocks()
+
     def blocks_of(self, call: Callable[[], object], place: int, times: int) -> Tuple[int, int]:
         """How many blocks more the library and Python have after failed calls."""
-        gc.collect()
-        kept, blocks = NATIVE.blocks_kept(), sys.getallocatedblocks()
+        kept, before = self.blocks()
         for _ in range(times):
             self.call_refused(call, place)
-        gc.collect()
-        return NATIVE.blocks_kept() - kept, sys.getallocatedblocks() - blocks
+        library, python = self.blocks()
+        return library - kept, python - before
 
     def test_a_failed_call_keeps_nothing(self) -> None:
         for call, _ in CALLS:

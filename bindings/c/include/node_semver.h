@@ -13,9 +13,9 @@
  *   an empty handle does nothing. A copy of a handle points to the same version. Every other call reads: its handles
  *   are full, and no other thread frees them during the call. Versions and ranges never change, so any number of
  *   threads may read one.
- * - Pointers. A `fault` may be NULL, and then the fault is not reported. No other pointer is null, not even one to 0
- *   bytes. A length is the length of what its pointer points to, at most SIZE_MAX / 2. What a call writes to does not
- *   overlap what it reads.
+ * - Pointers. A `fault` may be NULL, and then the fault is not reported. The `identifier` of a bump may be NULL, and then
+ *   there is none. No other pointer is null, not even one to 0 bytes. A length is the length of what its pointer points
+ *   to, at most SIZE_MAX / 2. What a call writes to does not overlap what it reads.
  * - Texts are UTF-8 and need no zero at the end. Other bytes return NODE_SEMVER_NOT_UTF8.
  * - Memory comes from the program's malloc, realloc and free, which align a block to each power of two up to 16 that
  *   divides its size. If an allocation fails, the call returns NODE_SEMVER_OUT_OF_MEMORY and frees what it allocated.
@@ -64,6 +64,13 @@ typedef uint32_t node_semver_status;
 #define NODE_SEMVER_REFUSED 2u       /* parsing failed, and the fault says why; the handle stays empty */
 #define NODE_SEMVER_NOT_UTF8 3u      /* the bytes are not UTF-8; the handle stays empty */
 #define NODE_SEMVER_OUT_OF_MEMORY 4u /* an allocation failed; the handle stays empty */
+
+/* What node_semver_version_bump alone returns. The handle stays empty. */
+#define NODE_SEMVER_INVALID_BUMP 5u       /* no bump or no base has this number */
+#define NODE_SEMVER_INVALID_IDENTIFIER 6u /* the text is no identifier: `beta.1`, `a b` */
+#define NODE_SEMVER_NO_IDENTIFIER 7u      /* there is neither an identifier nor a number to begin a prerelease with */
+#define NODE_SEMVER_SAME_IDENTIFIER 8u    /* the prerelease is the identifier alone, and no number is to follow it */
+#define NODE_SEMVER_NUMBER_TOO_LARGE 9u   /* a number of the bumped version would be above 9007199254740991 */
 
 /* The kinds of faults. */
 #define NODE_SEMVER_MAX_LENGTH 1u       /* a version text of more than 256 bytes, at its last byte */
@@ -128,7 +135,29 @@ uint32_t node_semver_version_diff(const node_semver_version *one, const node_sem
 #define NODE_SEMVER_PATCH 5u
 #define NODE_SEMVER_PREPATCH 6u
 #define NODE_SEMVER_PRERELEASE 7u
-#define NODE_SEMVER_PRE 8u /* never returned: npm's `pre`, a new prerelease of the same three numbers */
+#define NODE_SEMVER_PRE 8u /* never returned by node_semver_version_diff: npm's `pre`, the next prerelease of the same
+                              three numbers */
+
+/* Makes the version after a bump, as npm's `inc` does. It has no build.
+ *
+ *     NODE_SEMVER_MAJOR, _MINOR, _PATCH             `2.0.0`, `1.3.0`, `1.2.4` of `1.2.3`; `2.0.0` of `2.0.0-rc.1`
+ *     NODE_SEMVER_PREMAJOR, _PREMINOR, _PREPATCH    `2.0.0-0`, `1.3.0-0`, `1.2.4-0` of `1.2.3`
+ *     NODE_SEMVER_PRERELEASE                        `1.2.4-0` of `1.2.3`, and `1.2.4-rc.2` of `1.2.4-rc.1`
+ *     NODE_SEMVER_PRE                               `1.2.3-0` of `1.2.3`, which is lower
+ *
+ * With the identifier `beta` a new prerelease begins with it: `1.2.4-beta.0`. If the prerelease begins with it and a
+ * number already, its last number is raised: `1.2.4-beta.1`. An identifier has ASCII letters, digits and `-` alone, and
+ * digits alone are a number. If `length` is 0 or `identifier` is NULL, there is no identifier. The base is the number
+ * after the identifier: 0, 1, or NODE_SEMVER_NO_BASE for none, as in `1.2.4-beta`.
+ *
+ * Returns one of the five statuses from NODE_SEMVER_INVALID_BUMP on if there is no bumped version. */
+#define NODE_SEMVER_HAS_BUMP 1
+node_semver_status node_semver_version_bump(const node_semver_version *version, uint32_t bump, const char *identifier,
+                                            size_t length, uint32_t base, node_semver_version *answer);
+
+#define NODE_SEMVER_BASE_ZERO 0u
+#define NODE_SEMVER_BASE_ONE 1u
+#define NODE_SEMVER_NO_BASE 2u
 
 /* Returns a hash. Versions for which node_semver_version_compare returns 0 have the same hash. */
 uint64_t node_semver_version_hash(const node_semver_version *version);

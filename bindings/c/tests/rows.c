@@ -9,6 +9,7 @@
  * requests are counted too: each row gives back each block that it got. Ends with status 0 where each row is as it
  * should be.
  */
+#include "bumps.h"
 #include "calls.h"
 #include "memory.h"
 #include "sets.h"
@@ -54,6 +55,8 @@ static void run(const struct row *row, struct answer *answer) {
         snprintf(answer->text, sizeof answer->text, "%" PRId32, node_semver_version_compare_build(&v[0], &v[1]));
     } else if (strcmp(row->call, "diff") == 0) {
         tell_bump(answer, node_semver_version_diff(&v[0], &v[1]), node_semver_version_diff(&v[1], &v[0]));
+    } else if (strcmp(row->call, "bump") == 0) {
+        run_bump(row->texts[1], &v[0], answer);
     } else if (strcmp(row->call, "hash") == 0) {
         tell_truth(answer, row->kinds[0] == 'v' ? node_semver_version_hash(&v[0]) == node_semver_version_hash(&v[1])
                                                 : node_semver_range_hash(&r[0]) == node_semver_range_hash(&r[1]));

@@ -1,5 +1,6 @@
 mod Alike
 mod Answered
+mod Bumps
 mod Examples
 mod Found
 mod GivenSets

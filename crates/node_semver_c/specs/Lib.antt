@@ -8,5 +8,6 @@ pub mod Answers
 pub mod Greatest
 pub mod Sets
 pub mod Compared
+pub mod Bumped
 pub mod Pair
 pub mod Printed

@@ -3,11 +3,15 @@
 ghost use Rattle.std.specs.Prelude.{◌≡◌, ℕ, List};
 ghost use Rattle.semver_versions.specs.Error.{context, incomplete, max_int, max_length, no_valid_ranges, other};
 ghost use Rattle.semver_versions.specs.Error.{out_of_memory, parse_int};
+ghost use Rattle.node_semver_c.specs.Bumped.{code_of_base};
 ghost use Rattle.node_semver_c.specs.Compared.{code_of_bump};
 ghost use Rattle.node_semver_c.specs.Status.{code_of};
 ghost use Rattle.semver_versions.specs.declared.version.bump.Bump.TheVariants as Bump;
+ghost use Rattle.semver_versions.specs.declared.version.bump.IdentifierBase.TheVariants as Base;
 ghost use Rattle.node_semver_c.specs.declared.handle.set.TheConstants.{AFTER, BEFORE, END, START};
-ghost use Rattle.node_semver_c.specs.declared.status.TheConstants.{NONE, NOT_UTF8, OK, OUT_OF_MEMORY, REFUSED};
+ghost use Rattle.node_semver_c.specs.declared.status.TheConstants.{INVALID_BUMP, INVALID_IDENTIFIER, NO_IDENTIFIER};
+ghost use Rattle.node_semver_c.specs.declared.status.TheConstants.{NONE, NOT_UTF8, NUMBER_TOO_LARGE, OK};
+ghost use Rattle.node_semver_c.specs.declared.status.TheConstants.{OUT_OF_MEMORY, REFUSED, SAME_IDENTIFIER};
 
 /// The statuses, as the numbers that the header gives them.
 pub fn statuses()
@@ -16,6 +20,11 @@ pub fn statuses()
     ensures refused { REFUSED ≡ 2 }
     ensures not_utf8 { NOT_UTF8 ≡ 3 }
     ensures out_of_memory { OUT_OF_MEMORY ≡ 4 }
+    ensures invalid_bump { INVALID_BUMP ≡ 5 }
+    ensures invalid_identifier { INVALID_IDENTIFIER ≡ 6 }
+    ensures no_identifier { NO_IDENTIFIER ≡ 7 }
+    ensures same_identifier { SAME_IDENTIFIER ≡ 8 }
+    ensures number_too_large { NUMBER_TOO_LARGE ≡ 9 }
 {}
 
 /// The kinds of faults, as the numbers that the header gives them.
@@ -40,6 +49,13 @@ pub fn bumps()
     ensures prepatch { code_of_bump Bump.PrePatch ≡ 6 }
     ensures prerelease { code_of_bump Bump.PreRelease ≡ 7 }
     ensures pre { code_of_bump Bump.Pre ≡ 8 }
+{}
+
+/// The numbers that a prerelease begins with, as the numbers that the header gives them.
+pub fn bases()
+    ensures zero { code_of_base Base.Zero ≡ 0 }
+    ensures one { code_of_base Base.One ≡ 1 }
+    ensures absent { code_of_base Base.Absent ≡ 2 }
 {}
 
 /// The kinds of cuts, as the numbers that the header gives them.

@@ -4,6 +4,7 @@
 #![tactic(auto)]
 
 mod algebra;
+mod bump;
 mod diff;
 mod greatest;
 mod handle;
@@ -23,4 +24,7 @@ pub use handle::optional::OptionalVersionRef;
 pub use handle::range::{RangeHandle, RangeRef};
 pub use handle::set::{AFTER, BEFORE, CutHandle, CutRef, END, START, SetHandle, SetRef};
 pub use handle::version::{VersionHandle, VersionRef};
-pub use status::{Fault, NONE, NOT_UTF8, OK, OUT_OF_MEMORY, REFUSED};
+pub use status::{
+    Fault, INVALID_BUMP, INVALID_IDENTIFIER, NO_IDENTIFIER, NONE, NOT_UTF8, NUMBER_TOO_LARGE, OK,
+    OUT_OF_MEMORY, REFUSED, SAME_IDENTIFIER,
+};

@@ -24,6 +24,21 @@ pub const NOT_UTF8: u32 = 3;
 /// An allocation failed.
 pub const OUT_OF_MEMORY: u32 = 4;
 
+/// No bump or no base has this code.
+pub const INVALID_BUMP: u32 = 5;
+
+/// The text is no identifier.
+pub const INVALID_IDENTIFIER: u32 = 6;
+
+/// There is neither an identifier nor a number to begin a prerelease with.
+pub const NO_IDENTIFIER: u32 = 7;
+
+/// The prerelease is the identifier alone, and no number is to follow it.
+pub const SAME_IDENTIFIER: u32 = 8;
+
+/// A number of the bumped version would be too large.
+pub const NUMBER_TOO_LARGE: u32 = 9;
+
 /// Why parsing failed, and where.
 #[repr(C)]
 #[derive(Drop)]

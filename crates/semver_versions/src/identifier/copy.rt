@@ -154,7 +154,10 @@ fn list_inline(alloc: Global, text: &[u8]) -> Result<Vec<Identifier>, AllocError
 
 // The same identifier, with a text of its own.
 #[inline(always)]
-fn copy_of(alloc: Global, identifier: IdentifierRef<'_>) -> Result<Identifier, AllocError>
+pub(crate) fn copy_of(
+    alloc: Global,
+    identifier: IdentifierRef<'_>,
+) -> Result<Identifier, AllocError>
     ensures { IfOk result (λ i. value_of i ≡ borrowed_value identifier.entry) }
 {
     match identifier {

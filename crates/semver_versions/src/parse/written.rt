@@ -44,7 +44,7 @@ fn writes_itself(text: &[u8]) -> bool
 }
 
 // Whether all the bytes are identifier characters.
-fn are_all_characters(text: &[u8]) -> bool
+pub(crate) fn are_all_characters(text: &[u8]) -> bool
     ensures { IsTrue result ↔ AreAll Characters.is_identifier_character text.now }
 {
     let (_, rest) = split_identifier(text);

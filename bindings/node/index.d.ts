@@ -1,32 +1,56 @@
 // SPDX-License-Identifier: Apache-2.0
 
-/** Accepted and without effect: texts are always read in loose mode. Another option throws a `TypeError`. */
+/** Options as npm has them. Any other value than an object, if it is truthy, means `loose`. Other options are ignored. */
 export interface Options {
-    loose?: boolean;
-    includePrerelease?: false;
+    loose?: boolean | undefined;
+    includePrerelease?: boolean | undefined;
+}
+
+export interface CoerceOptions extends Options {
+    rtl?: boolean | undefined;
 }
 
 type Loose = boolean | Options | null;
 
-/** A version, which nothing changes. */
+/** A version. Its fields may be changed, and then `format` sets `version` anew. */
 export class SemVer {
     /** Throws a `TypeError` if the text is no version. */
     constructor(version: string | SemVer, options?: Loose);
+    options: Options;
+    loose: boolean;
+    includePrerelease: boolean;
     /** The text as it was passed. */
-    readonly raw: string;
-    readonly major: number;
-    readonly minor: number;
-    readonly patch: number;
-    readonly prerelease: ReadonlyArray<string | number>;
-    readonly build: ReadonlyArray<string>;
+    raw: string;
+    major: number;
+    minor: number;
+    patch: number;
+    prerelease: Array<string | number>;
+    build: string[];
     /** The version without its build. */
-    readonly version: string;
+    version: string;
     format(): string;
     toString(): string;
     compare(other: string | SemVer): -1 | 0 | 1;
     compareMain(other: string | SemVer): -1 | 0 | 1;
     comparePre(other: string | SemVer): -1 | 0 | 1;
     compareBuild(other: string | SemVer): -1 | 0 | 1;
+    /** Changes this version to the next one. Throws if there is no such release type or identifier. */
+    inc(release: ReleaseType, identifier?: string, identifierBase?: IdentifierBase): SemVer;
+}
+
+/** An operator and a version, as `>=1.2.3`. */
+export class Comparator {
+    static readonly ANY: unique symbol;
+    /** Throws a `TypeError` if the text is no comparator. */
+    constructor(comparator: string | Comparator, options?: Loose);
+    options: Options;
+    loose: boolean;
+    operator: '' | '>' | '>=' | '<' | '<=';
+    semver: SemVer | typeof Comparator.ANY;
+    value: string;
+    toString(): string;
+    test(version: string | SemVer | typeof Comparator.ANY): boolean;
+    intersects(comparator: Comparator, options?: Loose): boolean;
 }
 
 /** An end of a set, which is a place between versions: below all, just before or just after one, or above all. */
@@ -46,20 +70,25 @@ export interface CutLike {
     readonly version?: string | SemVer | null;
 }
 
-/** A range, which nothing changes. */
+/** A range. What it admits is what its text admits, whatever becomes of its fields. */
 export class Range {
     /** Throws a `TypeError` if the text is no range. */
-    constructor(range: string | Range, options?: Loose);
+    constructor(range: string | Range | Comparator, options?: Loose);
+    options: Options;
+    loose: boolean;
+    includePrerelease: boolean;
     /**
      * The range of these sets in their order. Returns null if there are no sets, or if one of them has no place between
      * its cuts, lacks a version, or has a version that no range has.
      */
     static fromSets(sets: Iterable<{ readonly lower: CutLike; readonly upper: CutLike }>): Range | null;
     /** The text as it was passed, with each run of white space as one blank. */
-    readonly raw: string;
-    /** The sets of the range, as `>=1.2.0 <2.0.0-0||>=3.0.0`. */
-    readonly range: string;
-    /** The same sets, in their order, as values. They are made anew at each call. */
+    raw: string;
+    /** The comparators of the range, as `>=1.2.0 <2.0.0-0||>=3.0.0`. */
+    range: string;
+    /** The same comparators, as values, for each alternative. */
+    set: Comparator[][];
+    /** The sets of versions of the range, in their order. They are made anew at each call. */
     readonly sets: VersionSet[];
     format(): string;
     toString(): string;
@@ -84,6 +113,25 @@ export function minor(version: string | SemVer, options?: Loose): number;
 export function patch(version: string | SemVer, options?: Loose): number;
 /** The identifiers of the prerelease, or null if there are none. */
 export function prerelease(version: string | SemVer | null | undefined, options?: Loose): Array<string | number> | null;
+
+/** The version that a text holds somewhere, or null: `1.2.0` of `release 1.2`. */
+export function coerce(version: string | number | SemVer | null | undefined, options?: CoerceOptions): SemVer | null;
+/** The next version of a release type, or null. */
+export function inc(
+    version: string | SemVer,
+    release: ReleaseType,
+    options?: Loose,
+    identifier?: string,
+    identifierBase?: IdentifierBase,
+): string | null;
+export function inc(
+    version: string | SemVer,
+    release: ReleaseType,
+    identifier?: string,
+    identifierBase?: IdentifierBase,
+): string | null;
+/** The release type that leads from the lower of two versions to the higher, or null if they are equal. */
+export function diff(one: string | SemVer, other: string | SemVer): ReleaseType | null;
 
 /** The order of SemVer 2.0.0, section 11. The build is not looked at. */
 export function compare(one: string | SemVer, other: string | SemVer, options?: Loose): -1 | 0 | 1;
@@ -115,14 +163,23 @@ export function minSatisfying<T extends string | SemVer>(
     range: string | Range,
     options?: Loose,
 ): T | null;
-/** The least version that satisfies the range, without a build, or null if none does. */
+/** The first of 0.0.0, 0.0.0-0 and the least version with which the range begins that satisfies it, or null. */
 export function minVersion(range: string | Range, options?: Loose): SemVer | null;
 /** The range as it prints, or null if the text is no range. */
 export function validRange(range: string | Range | null | undefined, options?: Loose): string | null;
-/** Whether the two ranges have a place in the line of versions in common. */
+/** Whether the comparators of an alternative of the one meet those of an alternative of the other. */
 export function intersects(one: string | Range, other: string | Range, options?: Loose): boolean;
-/** Whether each version that satisfies `sub` satisfies `dom`. */
-export function subset(sub: string | Range, dom: string | Range, options?: Loose): boolean;
+/** Whether each alternative of `sub` lies inside one of `dom`. */
+export function subset(sub: string | Range, dom: string | Range, options?: Options): boolean;
+/** The comparators of each alternative, as texts. */
+export function toComparators(range: string | Range, options?: Loose): string[][];
+/** Whether the version is above all that the range admits, or below it. */
+export function gtr(version: string | SemVer, range: string | Range, options?: Loose): boolean;
+export function ltr(version: string | SemVer, range: string | Range, options?: Loose): boolean;
+export function outside(version: string | SemVer, range: string | Range, side: '>' | '<', options?: Loose): boolean;
+/** A range that admits the same versions of a list, if its text is shorter, else the range. Sorts the list. */
+export function simplifyRange(versions: Array<string | SemVer>, range: string, options?: Loose): string;
+export function simplifyRange(versions: Array<string | SemVer>, range: Range, options?: Loose): string | Range;
 
 /**
  * The range of what both have, or null if they have nothing in common. It may admit a prerelease that one of them
@@ -145,3 +202,5 @@ export function rcompareIdentifiers(one: string | number, other: string | number
 export const SEMVER_SPEC_VERSION: '2.0.0';
 export const RELEASE_TYPES: readonly ReleaseType[];
 export type ReleaseType = 'major' | 'premajor' | 'minor' | 'preminor' | 'patch' | 'prepatch' | 'prerelease';
+/** The number after an identifier: `0` unless it is `1`; with `false` there is none. */
+export type IdentifierBase = '0' | '1' | false;

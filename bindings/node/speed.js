@@ -70,6 +70,10 @@ const rows = [
         }
     }],
     ['`maxSatisfying` of 1,000 texts', 1, (semver) => () => semver.maxSatisfying(some, '^4.2.0')],
+    ['`satisfies`, prereleases included', 200, (semver) => () => asked.forEach((text, i) =>
+        semver.satisfies(some[i], text, { includePrerelease: true }))],
+    ['`validRange`, 200 ranges again and again', 200, (semver) => () => asked.forEach((text) => semver.validRange(text))],
+    ['`inc`', 1000, (semver) => () => some.forEach((text) => semver.inc(text, 'prerelease'))],
     ['`sort` of 10,000 texts', 1, (semver) => () => semver.sort(many.slice())],
 ];
 

@@ -1,2 +1,2 @@
 // SPDX-License-Identifier: Apache-2.0
-export { SemVer, Range } from '../index.js';
+export { SemVer, Range, Comparator } from '../index.js';

@@ -1,6 +1,6 @@
 // SPDX-License-Identifier: Apache-2.0
 'use strict';
 
-const { SemVer, Range } = require('../index.js');
+const { SemVer, Range, Comparator } = require('../index.js');
 
-module.exports = { SemVer, Range };
+module.exports = { SemVer, Range, Comparator };

@@ -7,7 +7,7 @@ const isDigits = (value) => /^[0-9]+$/.test(value);
 // Digits before all other identifiers, and by their numbers; the others by their characters.
 function compareIdentifiers(one, other) {
     const areDigits = [isDigits(one), isDigits(other)];
-    const [left, right] = areDigits[0] && areDigits[1] ? [Number(one), Number(other)] : [one, other];
+    const [left, right] = areDigits[0] && areDigits[1] ? [+one, +other] : [one, other];
     if (left === right) {
         return 0;
     }

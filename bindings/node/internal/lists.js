@@ -4,9 +4,10 @@
 'use strict';
 
 const native = require('./native.js');
-const { check } = require('./options.js');
-const { rangeKey, rangeOf } = require('./range.js');
-const { compareVersions, refuse, testedKey, versionKey } = require('./semver.js');
+const { parseOptions } = require('./options.js');
+const { callKey, rangeOf } = require('./range.js');
+const { SemVer, compareVersions, keyOfSemVer, versionKey } = require('./semver.js');
+const { strictText } = require('./texts.js');
 
 // A string may have at most 2^29 characters. Versions with more are compared one by one.
 const MOST_LINES = 2 ** 28;
@@ -21,8 +22,8 @@ function line(key) {
 
 // ---- sort ----
 
-const byBuild = (one, other) => compareVersions(one, other, native.compareBuild);
-const byBuildDown = (one, other) => byBuild(other, one);
+const byBuild = (options) => (one, other) => compareVersions(one, other, options, native.compareBuild);
+const byBuildDown = (options) => (one, other) => compareVersions(other, one, options, native.compareBuild);
 const sortArray = Array.prototype.sort;
 
 // The elements of an array but `undefined`, and how many places have an element.
@@ -42,11 +43,17 @@ function elements(list) {
     return { values, count, length };
 }
 
-// The lines of versions, or `undefined` if they cannot be written so. Throws at the first that is no version.
-function linesOf(versions) {
+// The key of a version of a list. Throws if it is neither a text nor a SemVer.
+function keyOf(version, options) {
+    const key = versionKey(version) ?? keyOfSemVer(new SemVer(version, options));
+    return options && typeof version === 'string' && parseOptions(options).loose ? strictText(key) || key : key;
+}
+
+// The lines of versions, or `undefined` if they cannot be written so.
+function linesOf(versions, options) {
     let lines = '';
     for (let i = 0; i < versions.length; i++) {
-        const more = line(versionKey(versions[i]) ?? refuse(versions[i]));
+        const more = line(keyOf(versions[i], options));
         if (more === undefined || lines.length > MOST_LINES) {
             return undefined;
         }
@@ -56,14 +63,11 @@ function linesOf(versions) {
 }
 
 // The versions in order.
-function ordered(versions, isDescending) {
-    const lines = versions.length > 1 ? linesOf(versions) : undefined;
-    if (lines === undefined) {
-        return versions.sort(isDescending ? byBuildDown : byBuild);
-    }
-    const order = native.order(lines, isDescending);
-    if (typeof order === 'number') {
-        return refuse(versions[order]);
+function ordered(versions, options, isDescending) {
+    const lines = versions.length > 1 ? linesOf(versions, options) : undefined;
+    const order = lines === undefined ? undefined : native.order(lines, isDescending);
+    if (typeof order !== 'object') {
+        return versions.sort((isDescending ? byBuildDown : byBuild)(options));
     }
     const list = [];
     for (let i = 0; i < order.length; i++) {
@@ -75,12 +79,11 @@ function ordered(versions, isDescending) {
 // Sorts in place, as npm does: builds too, equal versions in the order in which they stood, then `undefined`, and last
 // the places without an element.
 function sorted(list, options, isDescending) {
-    check(options);
     if (!Array.isArray(list) || list.sort !== sortArray) {
-        return list.sort(isDescending ? byBuildDown : byBuild);
+        return list.sort((isDescending ? byBuildDown : byBuild)(options));
     }
     const { values, count, length } = elements(list);
-    const versions = ordered(values, isDescending);
+    const versions = ordered(values, options, isDescending);
     for (let i = 0; i < length; i++) {
         if (i < count) {
             list[i] = versions[i];
@@ -97,10 +100,10 @@ const rsort = (list, options) => sorted(list, options, true);
 // ---- the best ----
 
 // The lines of the elements as `test` reads them, or `undefined` if they cannot be written so.
-function testedLines(list) {
+function testedLines(list, options) {
     let lines = '';
     for (let i = 0; i < list.length; i++) {
-        const more = line(testedKey(list[i]) ?? '');
+        const more = line(list[i] ? keyOf(list[i], options) : '');
         if (more === undefined || lines.length > MOST_LINES) {
             return undefined;
         }
@@ -110,12 +113,11 @@ function testedLines(list) {
 }
 
 // One after the other.
-function bestOf(list, range, isGreatest) {
+function bestOf(list, range, options, isGreatest) {
     let found = null;
     for (const version of list) {
-        const key = testedKey(version);
-        if (key !== null && native.satisfies(key, rangeKey(range))) {
-            const order = found === null ? 1 : compareVersions(version, found) * (isGreatest ? 1 : -1);
+        if (range.test(version)) {
+            const order = found === null ? 1 : compareVersions(version, found, options) * (isGreatest ? 1 : -1);
             found = order > 0 ? version : found;
         }
     }
@@ -123,18 +125,17 @@ function bestOf(list, range, isGreatest) {
 }
 
 function best(versions, range, options, isGreatest) {
-    check(options);
-    const wanted = rangeOf(range);
-    if (wanted === undefined || native.rangeText(rangeKey(wanted)) === null) {
+    const wanted = rangeOf(range, options);
+    if (wanted === undefined) {
         return null;
     }
     const list = [];
     versions.forEach((version) => { list.push(version); });
-    const lines = testedLines(list);
+    const lines = testedLines(list, options);
     if (lines === undefined) {
-        return bestOf(list, wanted, isGreatest);
+        return bestOf(list, wanted, options, isGreatest);
     }
-    const place = native.best(lines, rangeKey(wanted), isGreatest);
+    const place = native.best(lines, callKey(wanted), isGreatest);
     return place < 0 ? null : list[place];
 }
 

@@ -1,21 +1,22 @@
 // SPDX-License-Identifier: Apache-2.0
+// Options as npm reads them: nothing, an object, or any other value, which means `loose`.
 'use strict';
 
-const OPTIONS = new Set(['loose', 'includePrerelease']);
+const NONE = Object.freeze({});
+const LOOSE = Object.freeze({ loose: true });
 
-// Texts are always read in loose mode. Throws if the library does not have an option's behaviour.
-function check(options) {
-    if (typeof options !== 'object' || options === null) {
-        return;
+// The options of a range text, as the native part knows them.
+const INCLUDES_PRERELEASES = 1;
+const IS_LOOSE = 2;
+
+function parseOptions(options) {
+    if (!options) {
+        return NONE;
     }
-    for (const name of Object.keys(options)) {
-        if (!OPTIONS.has(name)) {
-            throw new TypeError(`Unknown option: ${name}`);
-        }
-    }
-    if (options.includePrerelease) {
-        throw new TypeError('Option not supported: includePrerelease');
-    }
+    return typeof options === 'object' ? options : LOOSE;
 }
 
-module.exports = { check };
+const flagsOf = ({ loose, includePrerelease }) =>
+    (includePrerelease ? INCLUDES_PRERELEASES : 0) + (loose ? IS_LOOSE : 0);
+
+module.exports = { INCLUDES_PRERELEASES, IS_LOOSE, parseOptions, flagsOf };

@@ -3,48 +3,68 @@
 'use strict';
 
 const native = require('./native.js');
-const { LONGEST_KEPT, keptKey } = require('./kept.js');
-const { check } = require('./options.js');
-const { SemVer, semVerOfKey, testedKey, versionKey } = require('./semver.js');
-const { trimmedRange } = require('./texts.js');
+const { caught } = require('./errors.js');
+const { Comparator } = require('./comparator.js');
+const { LONGEST_KEPT, REFUSED, keptKey, textKey } = require('./kept.js');
+const { flagsOf, parseOptions } = require('./options.js');
+const { SemVer, keyOfSemVer, semVerOfKey } = require('./semver.js');
+const { strictText, trimmedRange, trimmedVersion } = require('./texts.js');
+const { readSet, refusal, setOf } = require('./words.js');
 
 // The kinds of cuts, by their numbers in node_semver.h.
 const KINDS = ['start', 'before', 'after', 'end'];
 
 let keyOfRange;
-let isRange;
+let callKey;
 let rangeOfKey;
 
 // Marks a constructor's call that passes a key, and not what a user passed.
 const MADE = Symbol('made');
 
 class Range {
-    #key;
+    // The text and its options; `#held` is what the native part holds of a long text, or of a range that no text writes.
+    #text;
+    #flags;
+    #held;
+    #isMade;
+    #set;
+    #range;
 
     constructor(range, options, made) {
-        check(options);
-        if (made === MADE) {
-            this.#key = range;
-        } else if (isRange(range)) {
+        const parsed = parseOptions(options);
+        const { loose, includePrerelease } = parsed;
+        if (range instanceof Range && range.loose === !!loose && range.includePrerelease === !!includePrerelease) {
             return range;
+        }
+        this.options = parsed;
+        this.loose = !!loose;
+        this.includePrerelease = !!includePrerelease;
+        this.#flags = flagsOf(this);
+        this.#isMade = made === MADE;
+        if (made === MADE) {
+            this.raw = native.rangeText(range);
+            this.#held = range;
         } else {
-            const text = trimmedRange(rangeText(range));
-            this.#key = text.length > LONGEST_KEPT ? native.heldRange(text) : text;
-            this.raw = text;
+            this.raw = typeof range === 'string' ? trimmedRange(range) : textOfRange(range);
+            this.#read();
         }
-        const print = this.#key === null ? null : native.rangeText(this.#key);
-        if (print === null) {
-            throw new TypeError(`Invalid SemVer Range: ${this.raw}`);
+        this.#text = this.raw;
+    }
+
+    // Reads the text, which the native part keeps, or this object holds.
+    #read() {
+        if (this.raw.length > LONGEST_KEPT) {
+            this.#held = native.heldRange(textKey(this.raw, this.#flags));
         }
-        this.raw ??= print;
-        this.range = print;
-        Object.freeze(this);
+        if (this.#held === null || (this.#held === undefined && keptKey(this.raw, this.#flags) === REFUSED)) {
+            throw new TypeError(refusal(this.raw, this.#flags));
+        }
     }
 
     static {
-        keyOfRange = (range) => range.#key;
-        isRange = (range) => typeof range === 'object' && range !== null && #key in range;
-        rangeOfKey = (key) => (key === null ? null : new Range(key, undefined, MADE));
+        callKey = (range) => range.#held ?? keptKey(range.#text, range.#flags);
+        keyOfRange = (range) => range.#held ?? textKey(range.#text, range.#flags);
+        rangeOfKey = (key, options) => (key === null ? null : new Range(key, options, MADE));
     }
 
     // The range of these sets in their order, or null if there is none.
@@ -55,15 +75,36 @@ class Range {
 
     // The sets of the range in the order of its text. A set lies from the lower cut up to the upper one.
     get sets() {
-        const cuts = native.sets(placeOf(this.#key));
+        const cuts = native.sets(callKey(this));
         return Array.from({ length: cuts.length / 4 }, (_, i) => ({
             lower: cutOf(cuts[4 * i], cuts[4 * i + 1]),
             upper: cutOf(cuts[4 * i + 2], cuts[4 * i + 3]),
         }));
     }
 
+    // npm's comparators, which are made when they are first asked for.
+    get set() {
+        this.#set ??= this.#isMade ? setOf(keyOfRange(this), this.options)
+            : readSet(this.#text, this.#flags, this.options);
+        return this.#set;
+    }
+
+    set set(value) {
+        this.#set = value;
+    }
+
+    get range() {
+        this.#range ??= this.format();
+        return this.#range;
+    }
+
+    set range(value) {
+        this.#range = value;
+    }
+
     format() {
-        return this.range;
+        this.#range = this.set.map((comparators) => comparators.join(' ').trim()).join('||').trim();
+        return this.#range;
     }
 
     toString() {
@@ -71,17 +112,34 @@ class Range {
     }
 
     test(version) {
-        const key = testedKey(version);
-        return key !== null && native.satisfies(key, placeOf(this.#key));
+        if (!version) {
+            return false;
+        }
+        if (typeof version === 'string') {
+            return admitsText(trimmedVersion(version), this, this.loose);
+        }
+        const key = keyOfSemVer(version instanceof SemVer ? version : new SemVer(version, this.options));
+        return native.satisfies(key, callKey(this));
     }
 
     intersects(range, options) {
-        check(options);
-        if (!isRange(range)) {
+        if (!(range instanceof Range)) {
             throw new TypeError('a Range is required');
         }
-        return native.allowsAny(this.#key, range.#key);
+        return this.set.some((ours) => isSatisfiable(ours, options)
+            && range.set.some((theirs) => isSatisfiable(theirs, options)
+                && ours.every((one) => theirs.every((other) => one.intersects(other, options)))));
     }
+}
+
+// Whether the comparators of an alternative meet in pairs.
+const isSatisfiable = (comparators, options) => comparators.every((one, place) =>
+    comparators.slice(0, place).every((other) => one.intersects(other, options)));
+
+// The version of a text that is not in the form of SemVer 2.0.0 is read again in the loose form.
+function admitsText(text, range, isLoose) {
+    return native.satisfies(text, callKey(range))
+        || (isLoose && native.satisfies(strictText(text), callKey(range)));
 }
 
 const cutOf = (kind, key) => ({ kind: KINDS[kind], version: semVerOfKey(key) });
@@ -92,37 +150,38 @@ function cutKeys({ kind, version }) {
     if (number < 0) {
         throw new TypeError(`Invalid kind of a cut: ${String(kind)}`);
     }
-    return [number, version === null || version === undefined ? null : versionKey(new SemVer(version))];
+    return [number, version === null || version === undefined ? null : keyOfSemVer(new SemVer(version))];
 }
 
-// The text of an argument for a range. As with npm, a String is one, or whatever is trimmed and divided as a string is.
-function rangeText(range) {
-    const text = typeof range === 'string' ? range : range?.trim?.().split(/\s+/).join(' ');
+// The text of an object that is passed for a range. As with npm, a String is one, or whatever is trimmed and divided as
+// a string is.
+function textOfRange(range) {
+    if (range instanceof Range) {
+        return range.raw;
+    }
+    if (range instanceof Comparator) {
+        return range.value;
+    }
+    const text = otherText(range) ?? range.trim().split(/\s+/).join(' ');
     if (typeof text !== 'string') {
         throw new TypeError(`Invalid range. Must be a string. Got type "${typeof range}".`);
     }
     return text;
 }
 
-// An argument for a range as its text or a Range; `undefined` if it is neither.
-function rangeOf(range) {
-    if (typeof range === 'string') {
-        return range;
-    }
+// The text of a Range of npm's own package.
+function otherText(range) {
+    return typeof range === 'object' && range?.constructor?.name === 'Range' && typeof range.trim !== 'function'
+        ? range.raw : undefined;
+}
+
+// The Range of an argument; `undefined` if it is none.
+function rangeOf(range, options) {
     try {
-        return isRange(range) ? range : rangeText(range);
-    } catch {
-        return undefined;
+        return new Range(range, options);
+    } catch (error) {
+        return caught(error, undefined);
     }
 }
 
-// The key of what `rangeOf` returns. Call this just before the key is used: the next text that is kept may take it.
-function rangeKey(range) {
-    return typeof range === 'string' ? keptKey(range) : placeOf(keyOfRange(range));
-}
-
-function placeOf(key) {
-    return typeof key === 'string' ? keptKey(key) : key;
-}
-
-module.exports = { Range, keyOfRange, rangeOfKey, rangeOf, rangeKey };
+module.exports = { Range, callKey, keyOfRange, rangeOfKey, rangeOf };

@@ -3,77 +3,95 @@
 'use strict';
 
 const native = require('./native.js');
-const { keptKey } = require('./kept.js');
-const { check } = require('./options.js');
-const { Range, keyOfRange, rangeKey, rangeOf, rangeOfKey } = require('./range.js');
-const { semVerOfKey, testedKey, versionKey } = require('./semver.js');
-const { trimmedVersion, withoutBuild } = require('./texts.js');
+const { ANY } = require('./comparator.js');
+const { caught } = require('./errors.js');
+const { REFUSED, keptKey } = require('./kept.js');
+const { IS_LOOSE, flagsOf, parseOptions } = require('./options.js');
+const { Range, keyOfRange, rangeOf, rangeOfKey } = require('./range.js');
+const { SemVer, semVerOfKey } = require('./semver.js');
+const { strictText, trimmedVersion } = require('./texts.js');
+const { gt } = require('./versions.js');
 
 function satisfies(version, range, options) {
-    check(options);
     if (typeof version === 'string' && typeof range === 'string') {
-        return native.satisfies(trimmedVersion(version), keptKey(range));
+        const flags = options ? flagsOf(parseOptions(options)) : 0;
+        const text = trimmedVersion(version);
+        const key = keptKey(range, flags);
+        return key !== REFUSED && (native.satisfies(text, key)
+            || (flags >= IS_LOOSE && native.satisfies(strictText(text), keptKey(range, flags))));
     }
-    const wanted = rangeOf(range);
-    if (wanted === undefined) {
-        return false;
-    }
-    const key = versionKey(version);
-    if (key === undefined) {
-        return native.rangeText(rangeKey(wanted)) !== null && testedKey(version) !== null;
-    }
-    return native.satisfies(key, rangeKey(wanted));
+    return rangeOf(range, options)?.test(version) ?? false;
 }
 
 function validRange(range, options) {
-    check(options);
-    const wanted = rangeOf(range);
-    return wanted === undefined ? null : native.rangeText(rangeKey(wanted));
-}
-
-// A range that no version satisfies.
-const NOTHING = '<0.0.0-0';
-
-// The least version that satisfies the range, without a build, as with npm.
-function minVersion(range, options) {
-    const wanted = keyOfRange(new Range(range, options));
-    const key = native.minVersion(wanted);
-    if (typeof key === 'string') {
-        return semVerOfKey(withoutBuild(key));
+    try {
+        return new Range(range, options).range || '*';
+    } catch (error) {
+        return caught(error, null);
     }
-    return semVerOfKey(key === null ? null : native.leastBeyond(wanted, NOTHING));
 }
+
+const toComparators = (range, options) => new Range(range, options).set
+    .map((comparators) => comparators.map(({ value }) => value).join(' ').trim().split(' '));
+
+// ---- the least version ----
+
+// The least version that a comparator and all above it could admit, or `undefined` where it is no lower end.
+function leastOf({ operator, semver }) {
+    if (operator.startsWith('<') || semver === ANY) {
+        return undefined;
+    }
+    const least = new SemVer(semver.version);
+    if (operator === '>') {
+        if (least.prerelease.length === 0) {
+            least.patch++;
+        } else {
+            least.prerelease.push(0);
+        }
+        least.raw = least.format();
+    }
+    return least;
+}
+
+const greatest = (versions) => versions.reduce((most, one) => (most === undefined || gt(one, most) ? one : most),
+    undefined);
+const least = (versions) => versions.reduce((most, one) => (most === undefined || gt(most, one) ? one : most),
+    undefined);
+
+// npm's least version: 0.0.0 or 0.0.0-0 where the range admits it, else the least of what the alternatives begin with,
+// where the range admits that.
+function minVersion(range, options) {
+    const wanted = new Range(range, options);
+    const first = ['0.0.0', '0.0.0-0'].find((text) => wanted.test(text));
+    if (first !== undefined) {
+        return new SemVer(first);
+    }
+    const found = least(wanted.set.map((comparators) => greatest(comparators.map(leastOf).filter(Boolean)))
+        .filter(Boolean));
+    return found !== undefined && wanted.test(found) ? found : null;
+}
+
+// ---- two ranges ----
+
+const intersects = (one, other, options) => new Range(one, options).intersects(new Range(other, options), options);
 
 // The keys of two ranges. Throws where one is none.
-function both(one, other, options) {
-    return [keyOfRange(new Range(one, options)), keyOfRange(new Range(other, options))];
+const both = (one, other, options) => [keyOfRange(new Range(one, options)), keyOfRange(new Range(other, options))];
+
+const intersect = (one, other, options) => rangeOfKey(native.intersect(...both(one, other, options)), options);
+const difference = (one, other, options) => rangeOfKey(native.difference(...both(one, other, options)), options);
+
+// The library knows no least version of ranges that include prereleases.
+function leastKeys(one, other, options) {
+    if (options?.includePrerelease || one?.includePrerelease || other?.includePrerelease) {
+        throw new TypeError('Option not supported: includePrerelease');
+    }
+    return both(one, other, options);
 }
 
-function intersects(one, other, options) {
-    return native.allowsAny(...both(one, other, options));
-}
-
-function subset(sub, dom, options) {
-    check(options);
-    return sub === dom || native.leastBeyond(...both(sub, dom)) === null;
-}
-
-function intersect(one, other, options) {
-    return rangeOfKey(native.intersect(...both(one, other, options)));
-}
-
-function difference(one, other, options) {
-    return rangeOfKey(native.difference(...both(one, other, options)));
-}
-
-function leastBeyond(one, other, options) {
-    return semVerOfKey(native.leastBeyond(...both(one, other, options)));
-}
-
-function leastCommon(one, other, options) {
-    return semVerOfKey(native.leastCommon(...both(one, other, options)));
-}
+const leastBeyond = (one, other, options) => semVerOfKey(native.leastBeyond(...leastKeys(one, other, options)));
+const leastCommon = (one, other, options) => semVerOfKey(native.leastCommon(...leastKeys(one, other, options)));
 
 module.exports = {
-    satisfies, validRange, minVersion, intersects, subset, intersect, difference, leastBeyond, leastCommon,
+    satisfies, validRange, toComparators, minVersion, intersects, intersect, difference, leastBeyond, leastCommon,
 };

@@ -3,15 +3,15 @@
 'use strict';
 
 const native = require('./native.js');
-const { check } = require('./options.js');
-const { LONGEST_VERSION, trimmedVersion, withoutBuild } = require('./texts.js');
+const { parseOptions } = require('./options.js');
+const { LONGEST_VERSION, strictText, trimmedVersion, withoutBuild, withoutV } = require('./texts.js');
 
 // Where `native.readVersion` puts the three numbers of a version.
 const numbers = native.triple;
 
-// What `native.readVersion` returns, beside 1 for a triple alone.
+// What `native.readVersion` returns, beside 2 for a version with a prerelease or a build.
 const REFUSED = 0;
-const HAS_MORE = 2;
+const IS_TRIPLE = 1;
 
 // An identifier of digits is a number where JavaScript has that number, as with npm.
 function identifier(text) {
@@ -19,60 +19,66 @@ function identifier(text) {
     return /^[0-9]+$/.test(text) && number < Number.MAX_SAFE_INTEGER ? number : text;
 }
 
-const NONE = Object.freeze([]);
-const identifiers = (text, read) => Object.freeze(text.split('.').map(read));
-
-// Puts the parts of a version, of which the native part has just put the triple into `numbers`.
-function putParts(semVer, key, hasMore) {
+// Puts the parts of a version, of which the native part has just read the text and put the triple into `numbers`.
+function putParts(semVer, text, form) {
     semVer.major = numbers[0];
     semVer.minor = numbers[1];
     semVer.patch = numbers[2];
-    const triple = `${semVer.major}.${semVer.minor}.${semVer.patch}`;
-    const more = hasMore ? native.versionText(key).slice(triple.length) : '';
-    const prerelease = withoutBuild(more);
-    semVer.prerelease = prerelease === '' ? NONE : identifiers(prerelease.slice(1), identifier);
-    semVer.build = more === prerelease ? NONE : identifiers(more.slice(prerelease.length + 1), String);
-    semVer.version = triple + prerelease;
+    if (form === IS_TRIPLE) {
+        semVer.prerelease = [];
+        semVer.build = [];
+        semVer.version = text;
+        return;
+    }
+    const version = withoutBuild(text);
+    const dash = version.indexOf('-');
+    semVer.prerelease = dash < 0 ? [] : version.slice(dash + 1).split('.').map(identifier);
+    semVer.build = version === text ? [] : text.slice(version.length + 1).split('.');
+    semVer.version = version;
 }
 
-let keyOfSemVer;
-let semVerOfKey;
+// What no text writes: the objects that hold such versions.
+const held = new WeakMap();
 
 // Marks a constructor's call that passes a key, and not what a user passed.
 const MADE = Symbol('made');
 
 class SemVer {
-    #key;
-
     constructor(version, options, made) {
-        check(options);
-        if (made === MADE) {
-            this.#key = version;
-        } else if (typeof version === 'string') {
-            this.#key = trimmedVersion(version);
-        } else if (keyOfSemVer(version) !== undefined) {
-            return version;
-        } else {
-            throw new TypeError(`Invalid version. Must be a string. Got type "${typeof version}".`);
+        const parsed = parseOptions(options);
+        const { loose, includePrerelease } = parsed;
+        let text = version;
+        if (typeof version !== 'string' && made !== MADE) {
+            if (version instanceof SemVer && version.loose === !!loose
+                && version.includePrerelease === !!includePrerelease) {
+                return version;
+            }
+            text = textOfSemVer(version);
         }
-        const form = native.readVersion(this.#key);
+        if (text.length > LONGEST_VERSION) {
+            throw new TypeError(`version is longer than ${LONGEST_VERSION} characters`);
+        }
+        this.options = parsed;
+        this.loose = !!loose;
+        this.includePrerelease = !!includePrerelease;
+        let key = made === MADE ? version : text.trim();
+        let form = native.readVersion(key);
+        if (form === REFUSED && loose) {
+            key = strictText(key);
+            form = native.readVersion(key);
+        }
         if (form === REFUSED) {
-            throw new TypeError(version.length > LONGEST_VERSION
-                ? `version is longer than ${LONGEST_VERSION} characters`
-                : `Invalid Version: ${version}`);
+            throw new TypeError(refusal(text, !!loose));
         }
-        this.raw = made === MADE ? native.versionText(version) : version;
-        putParts(this, this.#key, form === HAS_MORE);
-        Object.freeze(this);
-    }
-
-    static {
-        keyOfSemVer = (version) => (typeof version === 'object' && version !== null && #key in version
-            ? version.#key : undefined);
-        semVerOfKey = (key) => (key === null ? null : new SemVer(key, undefined, MADE));
+        this.raw = made === MADE ? native.versionText(key) : text;
+        putParts(this, made === MADE ? this.raw : withoutV(key), form);
+        if (made === MADE && typeof key !== 'string') {
+            held.set(this, key);
+        }
     }
 
     format() {
+        this.version = textWithoutBuild(this);
         return this.version;
     }
 
@@ -81,50 +87,104 @@ class SemVer {
     }
 
     compare(other) {
-        return compareVersions(this, other);
+        if (!(other instanceof SemVer)) {
+            if (typeof other === 'string' && other === this.version) {
+                return 0;
+            }
+            other = new SemVer(other, this.options);
+        }
+        return other.version === this.version ? 0 : compareKeys(this, other, native.compare);
     }
 
     compareMain(other) {
-        const { major, minor, patch } = new SemVer(other);
+        const { major, minor, patch } = this.#read(other);
         return Math.sign(this.major - major) || Math.sign(this.minor - minor) || Math.sign(this.patch - patch);
     }
 
     comparePre(other) {
-        return native.compare(prereleaseKey(this), prereleaseKey(new SemVer(other)));
+        const { prerelease } = this.#read(other);
+        return compareKeys(zeroWith('-', this.prerelease), zeroWith('-', prerelease), native.compare);
     }
 
     compareBuild(other) {
-        return native.compareBuild(buildKey(this), buildKey(new SemVer(other)));
+        const { build } = this.#read(other);
+        return compareKeys(zeroWith('+', this.build), zeroWith('+', build), native.compareBuild);
+    }
+
+    #read(other) {
+        return other instanceof SemVer ? other : new SemVer(other, this.options);
     }
 }
 
-// The key of `0.0.0` with some of a version's identifiers. A range text may be longer than a version text, and the
-// lower end of `>=V` is V.
-const keyOfText = (text) => (text.length > LONGEST_VERSION ? native.sets(`>=${text}`)[1] : text);
-const prereleaseKey = ({ prerelease }) => keyOfText(`0.0.0${prerelease.length ? `-${prerelease.join('.')}` : ''}`);
-const buildKey = ({ build }) => keyOfText(`0.0.0${build.length ? `+${build.join('.')}` : ''}`);
+// The text of an object that is passed for a version: a SemVer of this package with other options, or of npm's package.
+function textOfSemVer(version) {
+    if (version instanceof SemVer) {
+        return version.version;
+    }
+    if (typeof version === 'object' && version?.constructor?.name === 'SemVer') {
+        const { version: text } = version;
+        if (typeof text === 'string') {
+            return text;
+        }
+    }
+    throw new TypeError(`Invalid version. Must be a string. Got type "${typeof version}".`);
+}
 
-// The key of an argument for a version; `undefined` if it is neither a text nor a SemVer. Nothing of the argument's own
-// runs.
+// What npm says of a text that is refused: which number is too large, where the form of the text is right.
+function refusal(text, isLoose) {
+    const trimmed = text.trim();
+    const strict = strictText(trimmed);
+    const triple = isLoose || strict === withoutV(trimmed) ? withoutBuild(strict).split('-')[0].split('.') : [];
+    const place = triple.findIndex((number) => Number(number) > Number.MAX_SAFE_INTEGER);
+    return place < 0 ? `Invalid Version: ${text}` : `Invalid ${['major', 'minor', 'patch'][place]} version`;
+}
+
+// `0.0.0` with some identifiers.
+const zeroWith = (before, identifiers) => `0.0.0${identifiers.length ? before + identifiers.join('.') : ''}`;
+
+// The text of a SemVer as its fields stand, which a user may have changed.
+const textWithoutBuild = ({ major, minor, patch, prerelease }) =>
+    `${major}.${minor}.${patch}${prerelease.length ? `-${prerelease.join('.')}` : ''}`;
+const textOf = (semVer) => `${textWithoutBuild(semVer)}${semVer.build.length ? `+${semVer.build.join('.')}` : ''}`;
+
+const isWritten = ({ major, minor, patch }, text) => text.length <= LONGEST_VERSION
+    && Math.max(major, minor, patch) <= Number.MAX_SAFE_INTEGER;
+
+// The key of a SemVer, and its version; and the SemVer of a key, or null.
+function keyOfSemVer(semVer) {
+    const text = textOf(semVer);
+    return isWritten(semVer, text) ? text : held.get(semVer) ?? text;
+}
+const semVerOfKey = (key, options) => (key === null ? null : new SemVer(key, options, MADE));
+
+// The key of an argument for a version; `undefined` if it is neither a text nor a SemVer.
 function versionKey(version) {
-    return typeof version === 'string' ? trimmedVersion(version) : keyOfSemVer(version);
+    if (typeof version === 'string') {
+        return trimmedVersion(version);
+    }
+    return version instanceof SemVer ? keyOfSemVer(version) : undefined;
 }
 
-// The key of a version for `test`. As in npm, a falsy value satisfies no range, and any other value that is no version
-// throws.
-function testedKey(version) {
-    return version ? versionKey(version) ?? refuse(version) : null;
+// Compares two SemVers, or the texts of two versions.
+function compareKeys(one, other, call) {
+    const result = call(keyOf(one), keyOf(other));
+    if (result > 1) {
+        throw new TypeError(`Invalid Version: ${result === 2 ? one : other}`);
+    }
+    return result;
 }
 
-// Throws, and says which version is refused.
-function refuse(version) {
-    return new SemVer(version);
-}
+const keyOf = (version) => (typeof version === 'string' ? version : keyOfSemVer(version));
 
 // -1, 0 or 1. Throws where one of the two is no version.
-function compareVersions(one, other, call = native.compare) {
-    const result = call(versionKey(one) ?? refuse(one), versionKey(other) ?? refuse(other));
-    return result > 1 ? refuse(result === 2 ? one : other) : result;
+function compareVersions(one, other, options, call = native.compare) {
+    if (typeof one === 'string' && typeof other === 'string') {
+        const result = call(trimmedVersion(one), trimmedVersion(other));
+        if (result <= 1) {
+            return result;
+        }
+    }
+    return compareKeys(new SemVer(one, options), new SemVer(other, options), call);
 }
 
-module.exports = { SemVer, semVerOfKey, versionKey, testedKey, refuse, compareVersions };
+module.exports = { SemVer, semVerOfKey, keyOfSemVer, versionKey, compareVersions };

@@ -1,5 +1,5 @@
 // SPDX-License-Identifier: Apache-2.0
-// Texts as npm trims them, and parts of prints.
+// Texts as npm trims them, and the loose form of a version.
 'use strict';
 
 // The greatest length of a version text, as npm counts it.
@@ -31,9 +31,36 @@ function hasSingleBlanks(text) {
     return true;
 }
 
-function withoutBuild(print) {
-    const plus = print.indexOf('+');
-    return plus < 0 ? print : print.slice(0, plus);
+// ---- the loose form of a version ----
+
+const DIGITS = /^\d+$/;
+const IDENTIFIER = '(?:\\d+|\\d*[a-zA-Z-][a-zA-Z0-9-]*)';
+const PRERELEASE = `-?(${IDENTIFIER}(?:\\.${IDENTIFIER})*)`;
+const BUILD = '\\+([a-zA-Z0-9-]+(?:\\.[a-zA-Z0-9-]+)*)';
+const LOOSE_VERSION = new RegExp(`^[v=\\s]*(\\d+)\\.(\\d+)\\.(\\d+)(?:${PRERELEASE})?(?:${BUILD})?$`);
+
+const withoutZeros = (text) => (DIGITS.test(text) ? text.replace(/^0+(?=\d)/, '') : text);
+
+// The text in the form of SemVer 2.0.0 of a trimmed version text in npm's loose form: `1.2.3-beta` of `=v 01.2.3beta`.
+// The library reads what this returns; `''` if the text has another form.
+function strictText(text) {
+    const parts = LOOSE_VERSION.exec(text);
+    if (parts === null) {
+        return '';
+    }
+    const [, major, minor, patch, prerelease, build] = parts;
+    const triple = [major, minor, patch].map(withoutZeros).join('.');
+    const before = prerelease === undefined ? '' : `-${prerelease.split('.').map(withoutZeros).join('.')}`;
+    return triple + before + (build === undefined ? '' : `+${build}`);
 }
 
-module.exports = { LONGEST_VERSION, trimmedVersion, trimmedRange, withoutBuild };
+// ---- parts of a version text that the library has read ----
+
+const withoutV = (text) => (text.charCodeAt(0) === 118 ? text.slice(1) : text);
+
+function withoutBuild(text) {
+    const plus = text.indexOf('+');
+    return plus < 0 ? text : text.slice(0, plus);
+}
+
+module.exports = { LONGEST_VERSION, trimmedVersion, trimmedRange, strictText, withoutV, withoutBuild };

@@ -3,33 +3,35 @@
 'use strict';
 
 const native = require('./native.js');
-const { check } = require('./options.js');
-const { SemVer, compareVersions, versionKey } = require('./semver.js');
-const { withoutBuild } = require('./texts.js');
+const { caught } = require('./errors.js');
+const { SemVer, compareVersions, keyOfSemVer } = require('./semver.js');
+const { trimmedVersion, withoutBuild, withoutV } = require('./texts.js');
 
 function parse(version, options, throwErrors = false) {
-    check(options);
     if (version instanceof SemVer) {
         return version;
     }
     try {
-        return new SemVer(version);
+        return new SemVer(version, options);
     } catch (error) {
-        if (throwErrors || !(error instanceof TypeError)) {
+        if (throwErrors) {
             throw error;
         }
-        return null;
+        return caught(error, null);
     }
 }
 
 function valid(version, options) {
-    check(options);
-    const key = versionKey(version);
-    if (key === undefined) {
-        return parse(version)?.version ?? null;
+    if (typeof version === 'string') {
+        const key = trimmedVersion(version);
+        if (native.readVersion(key) !== 0) {
+            return withoutBuild(withoutV(key));
+        }
+        if (!options) {
+            return null;
+        }
     }
-    const print = native.versionText(key);
-    return print === null ? null : withoutBuild(print);
+    return parse(version, options)?.version ?? null;
 }
 
 function clean(version, options) {
@@ -42,21 +44,16 @@ const patch = (version, options) => new SemVer(version, options).patch;
 
 function prerelease(version, options) {
     const parsed = parse(version, options);
-    return parsed && parsed.prerelease.length ? [...parsed.prerelease] : null;
+    return parsed && parsed.prerelease.length ? parsed.prerelease : null;
 }
 
-function compare(one, other, options) {
-    check(options);
-    return compareVersions(one, other);
-}
+const compare = (one, other, options) => compareVersions(one, other, options);
 
-function compareBuild(one, other, options) {
-    check(options);
-    return compareVersions(one, other, native.compareBuild);
-}
+// The build counts where two versions are equal.
+const compareBuild = (one, other, options) => compareVersions(one, other, options, native.compareBuild);
 
 const rcompare = (one, other, options) => compare(other, one, options);
-const compareLoose = (one, other) => compare(one, other);
+const compareLoose = (one, other) => compare(one, other, true);
 const eq = (one, other, options) => compare(one, other, options) === 0;
 const neq = (one, other, options) => compare(one, other, options) !== 0;
 const gt = (one, other, options) => compare(one, other, options) > 0;
@@ -70,7 +67,6 @@ const operators = new Map(Object.entries({
 const textOf = (version) => (typeof version === 'object' ? version.version : version);
 
 function cmp(one, operator, other, options) {
-    check(options);
     if (operator === '===' || operator === '!==') {
         return (textOf(one) === textOf(other)) === (operator === '===');
     }
@@ -78,10 +74,18 @@ function cmp(one, operator, other, options) {
     if (call === undefined) {
         throw new TypeError(`Invalid operator: ${operator}`);
     }
-    return call(one, other);
+    return call(one, other, options);
+}
+
+// The bumps, by their numbers in node_semver.h.
+const BUMPS = [null, 'major', 'premajor', 'minor', 'preminor', 'patch', 'prepatch', 'prerelease'];
+
+function diff(one, other) {
+    const keys = [parse(one, null, true), parse(other, null, true)].map(keyOfSemVer);
+    return BUMPS[native.diff(...keys)];
 }
 
 module.exports = {
     parse, valid, clean, major, minor, patch, prerelease,
-    compare, rcompare, compareLoose, compareBuild, eq, neq, gt, gte, lt, lte, cmp,
+    compare, rcompare, compareLoose, compareBuild, eq, neq, gt, gte, lt, lte, cmp, diff,
 };

@@ -2,8 +2,10 @@
 /*
  * Declarations that the files of this folder share. The JavaScript of this package alone calls them, and passes keys of
  * versions and of ranges. A key is a JavaScript string; or an object of this package that holds a version or a range
- * which no text writes; or the number of a place where a range is kept. A value that is none of these is refused: no
- * argument can make a call read memory that is not its own.
+ * which no text writes; or the number of a place where a range is kept. The text of a version is read by the grammar of
+ * SemVer 2.0.0, with or without a `v` before it. The text of a range has a digit before it, the sum of the options with
+ * which it is read. A value that is none of these is refused: no argument can make a call read memory that is not its
+ * own.
  */
 #ifndef BINDING_H
 #define BINDING_H
@@ -29,8 +31,13 @@ struct version {
 
 struct range {
     node_semver_range handle;
+    bool includes_prereleases;
     bool is_own;
 };
+
+/* The options of a range text. */
+#define INCLUDES_PRERELEASES 1u
+#define IS_LOOSE 2u
 
 /* ---- text.c ---- */
 
@@ -61,6 +68,7 @@ napi_value range_print(napi_env env, const node_semver_range *range);
 
 /* Reads a key: NODE_SEMVER_OK, _REFUSED, _OUT_OF_MEMORY, or THROWN where it is no key. */
 node_semver_status get_version(napi_env env, napi_value key, struct version *version);
+node_semver_status read_version(const char *text, size_t length, node_semver_version *version);
 void let_version_go(struct version *version);
 napi_value version_key(napi_env env, node_semver_version version);
 
@@ -68,10 +76,13 @@ napi_value version_key(napi_env env, node_semver_version version);
 node_semver_status get_range(napi_env env, napi_value key, struct range *range);
 node_semver_status get_range_text(napi_env env, napi_value text, struct range *range);
 void let_range_go(struct range *range);
-napi_value range_key(napi_env env, node_semver_range range);
+napi_value range_key(napi_env env, const struct range *range);
+
+/* Returns whether the version satisfies the range: any version inside, if the range includes prereleases. */
+bool range_admits(const struct range *range, const node_semver_version *version);
 
 /* An object that holds a range, which is freed when JavaScript has no use of the object. */
-napi_value held_range(napi_env env, node_semver_range range);
+napi_value held_range(napi_env env, const struct range *range);
 
 /* ---- state.c ---- */
 
@@ -80,7 +91,7 @@ napi_value held_range(napi_env env, node_semver_range range);
 /* What an environment has for itself, since each worker thread has its own: the ranges that are kept, and the triple of
  * the version that was read last, in an array of JavaScript that is as old as the environment. */
 struct state {
-    node_semver_range places[PLACES];
+    struct range places[PLACES];
     double *triple;
     napi_ref array;
 };

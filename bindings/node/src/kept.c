@@ -6,17 +6,17 @@
  */
 #include "binding.h"
 
-static node_semver_range *place_of(napi_env env, uint32_t number) {
+static struct range *place_of(napi_env env, uint32_t number) {
     struct state *state = state_of(env);
     return number < PLACES && state != NULL ? &state->places[number] : NULL;
 }
 
 node_semver_status kept_range(napi_env env, uint32_t number, struct range *range) {
-    const node_semver_range *place = place_of(env, number);
-    if (place == NULL || place->at == NULL) {
+    const struct range *place = place_of(env, number);
+    if (place == NULL || place->handle.at == NULL) {
         return NODE_SEMVER_REFUSED;
     }
-    *range = (struct range){.handle = *place, .is_own = false};
+    *range = *place;
     return NODE_SEMVER_OK;
 }
 
@@ -28,17 +28,18 @@ napi_value keep(napi_env env, napi_callback_info info) {
         return NULL;
     }
     napi_get_value_uint32(env, arguments[0], &number);
-    node_semver_range *place = place_of(env, number);
+    struct range *place = place_of(env, number);
     node_semver_status status = place == NULL ? NODE_SEMVER_REFUSED : get_range_text(env, arguments[1], &range);
     if (status != NODE_SEMVER_OK && status != NODE_SEMVER_REFUSED) {
         return failed(env, status);
     }
-    if (place != NULL && place->at != NULL) {
-        node_semver_range_free(*place);
-        *place = (node_semver_range)NODE_SEMVER_EMPTY;
+    if (place != NULL) {
+        node_semver_range_free(place->handle);
+        *place = (struct range){.handle = NODE_SEMVER_EMPTY};
     }
     if (status == NODE_SEMVER_OK) {
-        *place = range.handle;
+        *place = range;
+        place->is_own = false;
     }
     return of_bool(env, status == NODE_SEMVER_OK);
 }

@@ -3,11 +3,13 @@
 #include "binding.h"
 
 #include <stdlib.h>
+#include <string.h>
 
 /* What an object of this package holds: a version or a range, and the other handle is empty. */
 struct held {
     node_semver_version version;
     node_semver_range range;
+    bool includes_prereleases;
 };
 
 /* Node keeps a tag with each of these objects, which no other package and no JavaScript can put on an object. */
@@ -63,10 +65,11 @@ static node_semver_status refused(node_semver_status status) {
     return status == NODE_SEMVER_NOT_UTF8 ? NODE_SEMVER_REFUSED : status;
 }
 
-static node_semver_status read_version(const struct text *text, node_semver_version *version) {
-    node_semver_fault fault;
+/* The `v` before a version is npm's, and not in the grammar of SemVer 2.0.0. */
+node_semver_status read_version(const char *text, size_t length, node_semver_version *version) {
+    size_t before = length > 0 && text[0] == 'v';
     *version = (node_semver_version)NODE_SEMVER_EMPTY;
-    return refused(node_semver_version_parse(text->bytes, text->length, version, &fault));
+    return refused(node_semver_version_parse_strict(text + before, length - before, version, NULL));
 }
 
 static node_semver_status get_held_version(napi_env env, napi_value key, struct version *version) {
@@ -86,7 +89,7 @@ node_semver_status get_version(napi_env env, napi_value key, struct version *ver
     }
     if (status == NODE_SEMVER_OK) {
         version->is_own = true;
-        status = read_version(&text, &version->handle);
+        status = read_version(text.bytes, text.length, &version->handle);
         free_text(&text);
     }
     return status;
@@ -98,18 +101,22 @@ void let_version_go(struct version *version) {
     }
 }
 
-static node_semver_status read_range(const struct text *text, node_semver_range *range) {
-    node_semver_fault fault;
-    *range = (node_semver_range)NODE_SEMVER_EMPTY;
-    return refused(node_semver_range_parse(text->bytes, text->length, range, &fault));
+static node_semver_status read_range(const struct text *text, struct range *range) {
+    unsigned options = text->length > 0 ? (unsigned)text->bytes[0] - '0' : ~0u;
+    *range = (struct range){.handle = NODE_SEMVER_EMPTY, .is_own = true};
+    if (options > (INCLUDES_PRERELEASES | IS_LOOSE)) {
+        return NODE_SEMVER_REFUSED;
+    }
+    range->includes_prereleases = (options & INCLUDES_PRERELEASES) != 0;
+    return refused(node_semver_range_parse_npm(text->bytes + 1, text->length - 1, (options & IS_LOOSE) != 0,
+                                               range->includes_prereleases, &range->handle, NULL));
 }
 
 node_semver_status get_range_text(napi_env env, napi_value value, struct range *range) {
     struct text text;
     node_semver_status status = get_text(env, value, &text);
     if (status == NODE_SEMVER_OK) {
-        range->is_own = true;
-        status = read_range(&text, &range->handle);
+        status = read_range(&text, range);
         free_text(&text);
     }
     return status;
@@ -120,7 +127,7 @@ static node_semver_status get_held_range(napi_env env, napi_value key, struct ra
     if (held == NULL) {
         return THROWN;
     }
-    *range = (struct range){.handle = held->range, .is_own = false};
+    *range = (struct range){.handle = held->range, .includes_prereleases = held->includes_prereleases};
     return NODE_SEMVER_OK;
 }
 
@@ -140,6 +147,11 @@ void let_range_go(struct range *range) {
     }
 }
 
+bool range_admits(const struct range *range, const node_semver_version *version) {
+    return range->includes_prereleases ? node_semver_range_contains(&range->handle, version)
+                                       : node_semver_satisfies(&range->handle, version);
+}
+
 /* Takes the version. Its print is its key where the print can be read again: it may be longer than a version text may
  * be, or hold a number that is too large for one. */
 napi_value version_key(napi_env env, node_semver_version version) {
@@ -156,22 +168,44 @@ napi_value version_key(napi_env env, node_semver_version version) {
     return status == NODE_SEMVER_OK ? print : failed(env, status);
 }
 
+/* The text of a key, whose first character is the sum of the options. */
+static napi_value text_key(napi_env env, const struct range *range) {
+    napi_value result = NULL, print = range_print(env, &range->handle);
+    struct text text;
+    if (print == NULL) {
+        return NULL;
+    }
+    if (get_text(env, print, &text) != NODE_SEMVER_OK) {
+        return out_of_memory(env);
+    }
+    char *whole = malloc(text.length + 1);
+    if (whole != NULL) {
+        whole[0] = range->includes_prereleases ? '1' : '0';
+        memcpy(whole + 1, text.bytes, text.length);
+        napi_create_string_latin1(env, whole, text.length + 1, &result);
+    }
+    free(whole);
+    free_text(&text);
+    return result != NULL ? result : out_of_memory(env);
+}
+
 /* Takes the range, in the same way. */
-napi_value range_key(napi_env env, node_semver_range range) {
+napi_value range_key(napi_env env, const struct range *range) {
     struct range again;
-    napi_value print = range_print(env, &range);
-    node_semver_status status = print == NULL ? THROWN : get_range(env, print, &again);
-    bool is_same = status == NODE_SEMVER_OK && node_semver_range_equals(&range, &again.handle);
+    napi_value key = text_key(env, range);
+    node_semver_status status = key == NULL ? THROWN : get_range(env, key, &again);
+    bool is_same = status == NODE_SEMVER_OK && node_semver_range_equals(&range->handle, &again.handle);
     if (status == NODE_SEMVER_OK) {
         let_range_go(&again);
     }
     if (status == NODE_SEMVER_REFUSED || (status == NODE_SEMVER_OK && !is_same)) {
         return held_range(env, range);
     }
-    node_semver_range_free(range);
-    return is_same ? print : failed(env, status);
+    node_semver_range_free(range->handle);
+    return is_same ? key : failed(env, status);
 }
 
-napi_value held_range(napi_env env, node_semver_range range) {
-    return object_of(env, &range_tag, (struct held){.range = range});
+napi_value held_range(napi_env env, const struct range *range) {
+    return object_of(env, &range_tag, (struct held){
+        .range = range->handle, .includes_prereleases = range->includes_prereleases});
 }

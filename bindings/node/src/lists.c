@@ -35,11 +35,9 @@ static void free_items(struct items *items) {
  * leaves out what is no version. */
 static node_semver_status read_lines(const struct text *text, bool is_each, struct items *items, uint32_t *line) {
     const char *begin = text->bytes, *end = text->bytes + text->length, *stop;
-    node_semver_fault fault;
     for (*line = 0; (stop = memchr(begin, '\n', (size_t)(end - begin))) != NULL; ++*line) {
         struct item item = {.version = NODE_SEMVER_EMPTY, .line = *line};
-        node_semver_status status =
-            node_semver_version_parse(begin, (size_t)(stop - begin), &item.version, &fault);
+        node_semver_status status = read_version(begin, (size_t)(stop - begin), &item.version);
         if (status == NODE_SEMVER_OK) {
             items->at[items->count++] = item;
         } else if (is_each || status == NODE_SEMVER_OUT_OF_MEMORY) {
@@ -119,12 +117,27 @@ napi_value order(napi_env env, napi_callback_info info) {
 
 /* ---- the best ---- */
 
+/* The same as node_semver_max_satisfying, and its opposite, for a range that includes prereleases. */
+static bool best_inside(const node_semver_version *versions, size_t count, const struct range *range,
+                        bool is_greatest, size_t *place) {
+    bool is_found = false;
+    for (size_t i = 0; i < count; i++) {
+        if (range_admits(range, &versions[i])
+            && (!is_found || node_semver_version_compare(&versions[i], &versions[*place]) == (is_greatest ? 1 : -1))) {
+            is_found = true;
+            *place = i;
+        }
+    }
+    return is_found;
+}
+
 /* The line of the greatest or least of the items that satisfies the range, or -1. */
-static int32_t best_line(const struct items *items, const node_semver_version *versions,
-                         const node_semver_range *range, bool is_greatest) {
+static int32_t best_line(const struct items *items, const node_semver_version *versions, const struct range *range,
+                         bool is_greatest) {
     size_t place = 0;
-    bool is_found = is_greatest ? node_semver_max_satisfying(versions, items->count, range, &place)
-                                : node_semver_min_satisfying(versions, items->count, range, &place);
+    bool is_found = range->includes_prereleases ? best_inside(versions, items->count, range, is_greatest, &place)
+        : is_greatest ? node_semver_max_satisfying(versions, items->count, &range->handle, &place)
+                      : node_semver_min_satisfying(versions, items->count, &range->handle, &place);
     return is_found ? (int32_t)items->at[place].line : -1;
 }
 
@@ -137,7 +150,7 @@ static napi_value best_of(napi_env env, const struct items *items, napi_value ke
         for (size_t i = 0; i < items->count; i++) {
             versions[i] = items->at[i].version;
         }
-        result = of_int(env, best_line(items, versions, &range.handle, is_greatest));
+        result = of_int(env, best_line(items, versions, &range, is_greatest));
         let_range_go(&range);
     } else {
         result = status == NODE_SEMVER_REFUSED ? of_int(env, -1) : failed(env, status);

@@ -72,7 +72,7 @@ static napi_value held_text(napi_env env, napi_callback_info info) {
     if (status == NODE_SEMVER_REFUSED) {
         return of_null(env);
     }
-    return status == NODE_SEMVER_OK ? held_range(env, range.handle) : failed(env, status);
+    return status == NODE_SEMVER_OK ? held_range(env, &range) : failed(env, status);
 }
 
 typedef napi_value of_versions(napi_env env, const node_semver_version *one, const node_semver_version *other);
@@ -107,6 +107,10 @@ static napi_value compared_with_builds(napi_env env, const node_semver_version *
     return of_int(env, node_semver_version_compare_build(one, other));
 }
 
+static napi_value bump_between(napi_env env, const node_semver_version *one, const node_semver_version *other) {
+    return of_int(env, (int32_t)node_semver_version_diff(one, other));
+}
+
 /* compare(one, other), compareBuild(one, other): -1, 0 or 1, or which key is refused. */
 static napi_value compare(napi_env env, napi_callback_info info) {
     return with_versions(env, info, compared);
@@ -114,6 +118,11 @@ static napi_value compare(napi_env env, napi_callback_info info) {
 
 static napi_value compare_build(napi_env env, napi_callback_info info) {
     return with_versions(env, info, compared_with_builds);
+}
+
+/* diff(one, other): the number of the bump in node_semver.h, of two keys that are not refused. */
+static napi_value diff(napi_env env, napi_callback_info info) {
+    return with_versions(env, info, bump_between);
 }
 
 /* satisfies(version, range): false too where one is refused. */
@@ -131,7 +140,7 @@ static napi_value satisfies(napi_env env, napi_callback_info info) {
     }
     status = get_version(env, keys[0], &version);
     if (status == NODE_SEMVER_OK) {
-        result = node_semver_satisfies(&range.handle, &version.handle);
+        result = range_admits(&range, &version.handle);
         let_version_go(&version);
     }
     let_range_go(&range);
@@ -139,7 +148,7 @@ static napi_value satisfies(napi_env env, napi_callback_info info) {
 }
 
 /* A call on two ranges, which `index.js` has checked: a key that is refused gives null. */
-typedef napi_value of_ranges(napi_env env, const node_semver_range *one, const node_semver_range *other);
+typedef napi_value of_ranges(napi_env env, const struct range *one, const struct range *other);
 
 static napi_value with_ranges(napi_env env, napi_callback_info info, of_ranges *call) {
     napi_value keys[2], result = NULL;
@@ -153,7 +162,7 @@ static napi_value with_ranges(napi_env env, napi_callback_info info, of_ranges *
     }
     status = get_range(env, keys[1], &other);
     if (status == NODE_SEMVER_OK) {
-        result = call(env, &one.handle, &other.handle);
+        result = call(env, &one, &other);
         let_range_go(&other);
     } else {
         result = status == NODE_SEMVER_REFUSED ? of_null(env) : failed(env, status);
@@ -162,13 +171,12 @@ static napi_value with_ranges(napi_env env, napi_callback_info info, of_ranges *
     return result;
 }
 
-static napi_value any(napi_env env, const node_semver_range *one, const node_semver_range *other) {
-    return of_bool(env, node_semver_range_allows_any(one, other));
-}
-
-static napi_value made_range(napi_env env, node_semver_status status, node_semver_range made) {
+/* A range that is made of two includes prereleases where both do. */
+static napi_value made_range(napi_env env, node_semver_status status, node_semver_range made,
+                             const struct range *one, const struct range *other) {
     if (status == NODE_SEMVER_OK) {
-        return range_key(env, made);
+        bool includes_prereleases = one->includes_prereleases && other->includes_prereleases;
+        return range_key(env, &(struct range){.handle = made, .includes_prereleases = includes_prereleases});
     }
     return status == NODE_SEMVER_NONE ? of_null(env) : failed(env, status);
 }
@@ -180,36 +188,32 @@ static napi_value made_version(napi_env env, node_semver_status status, node_sem
     return status == NODE_SEMVER_NONE ? of_null(env) : failed(env, status);
 }
 
-static napi_value common(napi_env env, const node_semver_range *one, const node_semver_range *other) {
+static napi_value common(napi_env env, const struct range *one, const struct range *other) {
     node_semver_range made = NODE_SEMVER_EMPTY;
-    node_semver_status status = node_semver_range_intersect(one, other, &made);
-    return made_range(env, status, made);
+    node_semver_status status = node_semver_range_intersect(&one->handle, &other->handle, &made);
+    return made_range(env, status, made, one, other);
 }
 
-static napi_value rest(napi_env env, const node_semver_range *one, const node_semver_range *other) {
+static napi_value rest(napi_env env, const struct range *one, const struct range *other) {
     node_semver_range made = NODE_SEMVER_EMPTY;
-    node_semver_status status = node_semver_range_difference(one, other, &made);
-    return made_range(env, status, made);
+    node_semver_status status = node_semver_range_difference(&one->handle, &other->handle, &made);
+    return made_range(env, status, made, one, other);
 }
 
-static napi_value beyond(napi_env env, const node_semver_range *one, const node_semver_range *other) {
+static napi_value beyond(napi_env env, const struct range *one, const struct range *other) {
     node_semver_version made = NODE_SEMVER_EMPTY;
-    node_semver_status status = node_semver_least_beyond(one, other, &made);
+    node_semver_status status = node_semver_least_beyond(&one->handle, &other->handle, &made);
     return made_version(env, status, made);
 }
 
-static napi_value least_of_both(napi_env env, const node_semver_range *one, const node_semver_range *other) {
+static napi_value least_of_both(napi_env env, const struct range *one, const struct range *other) {
     node_semver_version made = NODE_SEMVER_EMPTY;
-    node_semver_status status = node_semver_range_least_common(one, other, &made);
+    node_semver_status status = node_semver_range_least_common(&one->handle, &other->handle, &made);
     return made_version(env, status, made);
 }
 
-/* allowsAny(one, other), intersect(one, other), difference(one, other), leastBeyond(one, other),
- * leastCommon(one, other): a boolean, or the key of the new range or version, or null if there is none. */
-static napi_value allows_any(napi_env env, napi_callback_info info) {
-    return with_ranges(env, info, any);
-}
-
+/* intersect(one, other), difference(one, other), leastBeyond(one, other), leastCommon(one, other): the key of the new
+ * range or version, or null if there is none. */
 static napi_value intersect(napi_env env, napi_callback_info info) {
     return with_ranges(env, info, common);
 }
@@ -226,23 +230,6 @@ static napi_value least_common(napi_env env, napi_callback_info info) {
     return with_ranges(env, info, least_of_both);
 }
 
-/* minVersion(range): the key of the least version that satisfies the range, or null. */
-static napi_value min_version(napi_env env, napi_callback_info info) {
-    napi_value key;
-    struct range range;
-    node_semver_version made = NODE_SEMVER_EMPTY;
-    if (!get_arguments(env, info, 1, &key)) {
-        return NULL;
-    }
-    node_semver_status status = get_range(env, key, &range);
-    if (status != NODE_SEMVER_OK) {
-        return status == NODE_SEMVER_REFUSED ? of_null(env) : failed(env, status);
-    }
-    status = node_semver_min_version(&range.handle, &made);
-    let_range_go(&range);
-    return made_version(env, status, made);
-}
-
 #define FUNCTION(name, call) {name, NULL, call, NULL, NULL, NULL, napi_enumerable, NULL}
 
 NAPI_MODULE_INIT() {
@@ -251,9 +238,9 @@ NAPI_MODULE_INIT() {
         FUNCTION("heldRange", held_text),      FUNCTION("compare", compare),
         FUNCTION("compareBuild", compare_build), FUNCTION("satisfies", satisfies),
         FUNCTION("best", best),                FUNCTION("order", order),
-        FUNCTION("allowsAny", allows_any),     FUNCTION("intersect", intersect),
+        FUNCTION("diff", diff),                FUNCTION("intersect", intersect),
         FUNCTION("difference", difference),    FUNCTION("leastBeyond", least_beyond),
-        FUNCTION("minVersion", min_version),   FUNCTION("keep", keep),
+        FUNCTION("keep", keep),
         FUNCTION("readVersion", read_parts),   FUNCTION("sets", sets),
         FUNCTION("fromSets", from_sets),       FUNCTION("leastCommon", least_common),
     };

@@ -99,7 +99,7 @@ static napi_value range_of(napi_env env, const node_semver_set *all, size_t coun
     node_semver_range made = NODE_SEMVER_EMPTY;
     node_semver_status status = node_semver_range_from_sets(all, count, &made);
     if (status == NODE_SEMVER_OK) {
-        return range_key(env, made);
+        return range_key(env, &(struct range){.handle = made});
     }
     return status == NODE_SEMVER_NONE ? of_null(env) : failed(env, status);
 }

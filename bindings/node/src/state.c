@@ -9,9 +9,7 @@ static void free_state(napi_env env, void *data, void *hint) {
     (void)env;
     (void)hint;
     for (size_t i = 0; i < PLACES; i++) {
-        if (state->places[i].at != NULL) {
-            node_semver_range_free(state->places[i]);
-        }
+        node_semver_range_free(state->places[i].handle);
     }
     free(state);
 }

@@ -134,13 +134,13 @@ describe('the process goes on', () => {
     });
     test('the native part is called with anything', () => {
         const [count] = said(`
-            const version = native.minVersion('>9007199254740991');
-            const range = native.heldRange('>=1 <3 || 5');
+            const version = native.leastBeyond('0>1.2.9007199254740991', '0<1');
+            const range = native.heldRange('0>=1 <3 || 5');
             const { proxy, revoke } = Proxy.revocable({}, {});
             revoke();
             const trap = new Proxy([], { get() { evict(); gc(); return '1.0.0'; } });
             const getter = Object.defineProperty([, '1.2.3'], 0, { get() { evict(); gc(); return version; } });
-            const values = [undefined, null, true, 0, 5, 511, 512, 4294967295, -1, 1.5, NaN, 1n, '', '1.2.3', '^1', 'x',
+            const values = [undefined, null, true, 0, 5, 511, 512, 4294967295, -1, 1.5, NaN, 1n, '', '1.2.3', '^1', '0^1', '3*', '4', '\u0100', 'x',
                 '1.2.3\\n2.0.0\\n', '\\n\\n', 'a\\u0000b', '\\ud800', 'x'.repeat(100000), Symbol('a'), () => 1, {}, [],
                 [1, 2], [0, null, 3, null], [1, '1.0.0', 1, '2.0.0'], [1, version, 3, null], [1, range, 1, range],
                 [9, '1.0.0', 9, null], [1, external, 1, external], [1, '1.0.0'], external, proxy, trap, getter,
@@ -166,7 +166,7 @@ describe('the process goes on', () => {
     });
     test('a version is passed for a range, and a range for a version', () => {
         assert.deepStrictEqual(said(`
-            const version = semver.minVersion('>9007199254740991');
+            const version = semver.leastBeyond('>1.2.9007199254740991', '<1');
             const range = new semver.Range('1 || 2 || '.repeat(30) + '3');
             say([() => semver.compare(range, '1.0.0'), () => semver.satisfies('1.0.0', version),
                 () => semver.satisfies(range, '1'), () => new semver.Range(version), () => new semver.SemVer(range),

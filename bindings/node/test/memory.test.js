@@ -45,6 +45,12 @@ const calls = {
     'new SemVer, refused': () => semver.parse('1.2'),
     compareBuild: (i) => semver.compareBuild(`1.2.3+a.${i}`, '1.2.3+a.b'),
     minVersion: (i) => semver.minVersion(text(i)),
+    'Range.set': (i) => new semver.Range(text(i)).set,
+    'subset and intersects': (i) => [semver.subset(text(i), '>=1'), semver.intersects(text(i), '>1')],
+    'inc, diff and coerce': (i) => [semver.inc(`1.${i}.0-rc.1`, 'prerelease'), semver.diff(`1.${i}.0`, '2.0.0'),
+        semver.coerce(`a 1.${i} b`)],
+    'satisfies, loose, with prereleases': (i) => semver.satisfies('v1.2.3rc.1', text(i),
+        { loose: true, includePrerelease: true }),
     'intersect and difference': (i) => [semver.intersect(text(i), '>1'), semver.difference(text(i), '>=2.5')],
     leastBeyond: (i) => semver.leastBeyond(text(i), '^1'),
     'sets, and a range from them': (i) => semver.Range.fromSets(new semver.Range(text(i)).sets),
@@ -58,7 +64,7 @@ for (const [name, call] of Object.entries(calls)) {
     });
 }
 
-const beyond = semver.minVersion('>9007199254740991');
+const beyond = semver.leastBeyond('>1.2.9007199254740991', '<1');
 const few = {
     maxSatisfying: () => semver.maxSatisfying(versions, '^1.2.0-rc.0'),
     sort: () => semver.sort([...versions]),
@@ -89,7 +95,7 @@ for (const [name, call] of Object.entries(bodies)) {
     test(`${name}: 600 texts that were cut from texts of 4 MB`, () => {
         const before = process.memoryUsage().rss;
         for (let i = 0; i < 600; i++) {
-            const page = `>=1.${i}.0-${name.length} <2.0.${i} ${'x'.repeat(4 << 20)}${i}`;
+            const page = `${`>=1.${i}.0-${name.length} <2.0.${i}`.padEnd(24)} ${'x'.repeat(4 << 20)}${i}`;
             call(page.slice(0, 24));
         }
         globalThis.gc();
@@ -101,7 +107,7 @@ for (const [name, call] of Object.entries(bodies)) {
 // What JavaScript holds by an object is freed when the event loop turns after a garbage collection.
 const held = {
     'a range of a long text': (i) => new semver.Range(long(i)).test('1.2.3'),
-    'a version that no text writes': () => semver.minVersion('>9007199254740991'),
+    'a version that no text writes': () => semver.leastBeyond('>1.2.9007199254740991', '<1'),
 };
 
 for (const [name, call] of Object.entries(held)) {

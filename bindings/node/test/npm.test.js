@@ -9,17 +9,21 @@ const assert = require('node:assert');
 const fs = require('node:fs');
 const path = require('node:path');
 const { test } = require('node:test');
+const { inspect } = require('node:util');
 const { isMainThread, parentPort, Worker, workerData } = require('node:worker_threads');
 const here = require('..');
-const { calls, takes, result, npm, LOOSE } = require('./calls.js');
+const { OPTIONS, calls, takes, result, npm } = require('./calls.js');
 const { Edited } = require('./edited.js');
-const { rules, results } = require('./rules.js');
+const { rules } = require('./rules.js');
 const { shrunk } = require('./shrunk.js');
 const { Texts } = require('./texts.js');
 
 const PAIRS = Number(process.env.NPM_PAIRS ?? 50000);
 const SEED = Number(process.env.NPM_SEED ?? 1);
 const OPERATORS = ['', '=', '==', '===', '!=', '!==', '<', '<=', '>', '>='];
+const RELEASES = [...npm.RELEASE_TYPES, 'pre', 'other', undefined];
+const IDENTIFIERS = [undefined, undefined, '', 'a', 'rc', 'beta', 'a.b', '0', '1', '1a'];
+const BASES = [undefined, undefined, false, '0', '1', 0, 1, true];
 const LIST = 6;
 const THREADS = 4;
 const SHOWN = Number(process.env.NPM_SHOWN ?? 20);
@@ -27,25 +31,23 @@ const GENERATORS = { grammar: Texts, edits: Edited };
 
 // The table of the README, a row for each rule.
 const escaped = (text) => text.replaceAll('|', '\\|');
-const value = ({ shown }, result) => `\`${shown ?? (typeof result === 'string' ? `'${escaped(result)}'` : result)}\``;
-const quoted = (texts) => texts.map((text) => `'${text}'`).join(', ');
-const codeOf = ({ example: [call, ...texts] = [], code }) => code ?? `${call}(${quoted(texts)})`;
-const row = (rule) => `| ${rule.name} | \`${escaped(codeOf(rule))}\` | ${value({}, rule.npm)} `
-    + `| ${value(rule, rule.here)} | ${rule.why} |`;
+const value = (result) => `\`${typeof result === 'string' ? `'${escaped(result)}'` : result}\``;
+const quoted = (texts) => texts.map((text) => inspect(text)).join(', ');
+const codeOf = ({ example: [call, ...texts] }) => `${call}(${quoted(texts)})`;
+const row = (rule) => `| ${rule.name} | \`${escaped(codeOf(rule))}\` | ${value(rule.npm)} `
+    + `| ${value(rule.here)} | ${escaped(rule.why)} |`;
 
 const trimmed = (range) => range.trim().split(/\s+/).join(' ');
-const read = (json) => (json === 'TypeError' || json === 'undefined' ? json : JSON.parse(json));
+
+const isLoose = (options) => options === true || options?.loose === true;
 
 // The rules that cover a call with the smallest texts: for one of its versions or of its ranges, or for its results.
 function covering(name, texts) {
     const versions = takes[name].flatMap((word) => (['v', 'w', 'list'].includes(word) ? texts[word] : []));
     const ranges = takes[name].flatMap((word) => (['r', 's'].includes(word) ? [trimmed(texts[word])] : []));
-    const [theirs, ours] = [npm, here].map((semver) => read(result(name, semver, texts)));
-    return [
-        ...rules.filter((rule) => (!rule.calls || rule.calls.includes(name))
-            && ((rule.version && versions.some(rule.version)) || (rule.range && ranges.some(rule.range)))),
-        ...results.filter((rule) => rule.calls.includes(name) && rule.covers(texts, theirs, ours)),
-    ];
+    return rules.filter((rule) => (!rule.calls || rule.calls.includes(name)) && (rule.texts?.(texts)
+        || (rule.version && versions.some(rule.version))
+        || (rule.range && ranges.some((text) => rule.range(text, isLoose(texts.o), texts.o ?? {})))));
 }
 
 function pair(texts) {
@@ -55,6 +57,10 @@ function pair(texts) {
         r: texts.range(),
         s: texts.range(),
         operator: texts.of(OPERATORS),
+        o: texts.of(OPTIONS),
+        release: texts.of(RELEASES),
+        identifier: texts.of(IDENTIFIERS),
+        base: texts.of(BASES),
         list: Array.from({ length: LIST }, () => texts.plainVersion()),
     };
 }
@@ -108,7 +114,7 @@ async function comparePairs(generator) {
 }
 
 function checkRules() {
-    for (const { name } of [...rules, ...results]) {
+    for (const { name } of rules) {
         const count = counts.get(name) ?? 0;
         console.log(`${String(count).padStart(9)}  ${name}`);
         assert.ok(count > 0 || PAIRS < 10000, `no text is under the rule: ${name}`);
@@ -121,11 +127,9 @@ function checkReadme() {
     const readme = fs.readFileSync(path.join(__dirname, '../README.md'), 'utf8');
     const begin = readme.indexOf('| text | call | npm | here | why |');
     const table = readme.slice(begin).split('\n\n')[0].split('\n').slice(2);
-    assert.deepStrictEqual(table, [...rules, ...results].map(row));
-    const call = (semver, rule) => plain(rule.code
-        ? new Function('semver', 'LOOSE', `return semver.${rule.code.slice(0, -1)}, LOOSE)`)(semver, LOOSE)
-        : semver[rule.example[0]](...rule.example.slice(1), LOOSE));
-    for (const rule of [...rules, ...results]) {
+    assert.deepStrictEqual(table, rules.map(row));
+    const call = (semver, { example }) => plain(semver[example[0]](...example.slice(1)));
+    for (const rule of rules) {
         assert.strictEqual(call(npm, rule), rule.npm, `npm: ${codeOf(rule)}`);
         assert.strictEqual(call(here, rule), rule.here, `here: ${codeOf(rule)}`);
     }

@@ -38,7 +38,7 @@ const { refuse, refusals } = require(path.join(room, 'build/Release/node_semver.
 const long = '^1.2.3-alpha.1 || '.repeat(20) + '>=2.0.0-rc.1';
 const ranges = ['>=1.2.3-rc.4.a.b <2.0.0-beta.9+c || 5.x || 7.1.2-x', long].map((text) => new semver.Range(text));
 const versions = Array.from({ length: 20 }, (_, i) => `1.${i * 7 % 20}.0-rc.${i}.a+b.${i}`);
-const beyond = semver.minVersion('>9007199254740991');
+const beyond = semver.leastBeyond('>1.2.9007199254740991', '<1');
 const build250 = `1.0.0+${'a.'.repeat(120)}b`;
 
 const calls = {
@@ -61,13 +61,24 @@ const calls = {
     'new Range, long': () => new semver.Range(long).range,
     intersect: () => String(semver.intersect(ranges[0], ranges[1])),
     difference: () => String(semver.difference(ranges[1], ranges[0])),
-    'intersect, what no text writes': () => String(semver.intersect('>9007199254740991', '>1')),
+    'intersect, what no text writes': () => String(semver.intersect('>1.2.9007199254740991 <2', '>1')),
     leastBeyond: () => String(semver.leastBeyond(ranges[0], ranges[1])),
     leastCommon: () => String(semver.leastCommon(ranges[0], ranges[1])),
     minVersion: () => String(semver.minVersion(ranges[0])),
-    'minVersion, what no text writes': () => String(semver.minVersion('>9007199254740991')),
+    'leastBeyond, what no text writes': () => String(semver.leastBeyond('>1.2.9007199254740991', '<1')),
+    'satisfies, with prereleases': () => semver.satisfies('1.2.3-beta', long, { includePrerelease: true }),
+    'maxSatisfying, with prereleases': () => semver.maxSatisfying(versions, '^1.2', { includePrerelease: true }),
+    'satisfies, loose': () => semver.satisfies('=v1.2.3beta', '>1.2.3alpha', true),
+    toComparators: () => JSON.stringify(semver.toComparators('^1.2.3-rc.1.a || 1.x - 2.3.4 || >= 1 <3')),
+    'Comparator.test': () => new semver.Comparator('>=1.2.3-rc.1.a').test('1.2.3-rc.1.b'),
+    diff: () => semver.diff('1.2.3-rc.1.a', '1.2.3'),
+    inc: () => semver.inc('1.2.3-rc.1.a', 'prerelease'),
+    coerce: () => String(semver.coerce('a 1.2.3.4 b')),
+    gtr: () => semver.gtr('9.0.0', ranges[0]),
+    simplifyRange: () => semver.simplifyRange(['1.2.3', '1.3.0', '2.0.0'], '^1.2.3-rc.1.a || ^1.3.0 || ^1.4'),
     sets: () => JSON.stringify(ranges[0].sets),
-    'sets, what no text writes': () => String(new semver.Range('^9007199254740991').sets[0].upper.version),
+    'sets, what no text writes': () => String(semver.Range.fromSets([{ lower: { kind: 'before', version: beyond },
+        upper: { kind: 'end' } }])?.sets[0].lower.version ?? null),
     fromSets: () => String(semver.Range.fromSets(ranges[0].sets)),
     subset: () => semver.subset(ranges[0], ranges[1]),
     intersects: () => semver.intersects(ranges[0], ranges[1]),

@@ -16,8 +16,8 @@ describe('the sets of a range', () => {
     const [start, end] = ['start', 'end'].map((kind) => ({ kind, version: null }));
     const rows = [
         ['^1.2.3', [{ lower: before('1.2.3'), upper: before('2.0.0-0') }]],
-        ['>1.0.0-a <=2.0.0+b', [{ lower: after('1.0.0-a'), upper: after('2.0.0+b') }]],
-        ['<1 || >=3.0.0-rc.1', [{ lower: start, upper: before('1.0.0') }, { lower: before('3.0.0-rc.1'), upper: end }]],
+        ['>1.0.0-a <=2.0.0+b', [{ lower: after('1.0.0-a'), upper: after('2.0.0') }]],
+        ['<1 || >=3.0.0-rc.1', [{ lower: start, upper: before('1.0.0-0') }, { lower: before('3.0.0-rc.1'), upper: end }]],
         ['1.2.3 || 1.2.3', Array(2).fill({ lower: before('1.2.3'), upper: after('1.2.3') })],
     ];
     const shown = (sets) => sets.map(({ lower, upper }) =>
@@ -36,20 +36,26 @@ describe('the sets of a range', () => {
         assert.strictEqual(String(semver.Range.fromSets(new Set(sets))), '>=1.2.3');
     });
     test('a version that no text writes', () => {
-        const range = new semver.Range('^9007199254740991');
-        assert.strictEqual(range.sets[0].upper.version.raw, '9007199254740992.0.0-0');
+        const beyond = semver.leastBeyond('>1.2.9007199254740991', '<1');
+        const range = semver.Range.fromSets([{ lower: before(beyond), upper: end }]);
+        assert.strictEqual(range.sets[0].lower.version.raw, '1.2.9007199254740992');
+        assert.strictEqual(String(range), '>=1.2.9007199254740992');
         assert.strictEqual(String(semver.Range.fromSets([{ lower: start, upper: before('1.0.0') }])), '<1.0.0');
     });
-    test('of generated ranges: the range from them is the same', () => {
+    test('of generated ranges: the range from them has the same', () => {
         const texts = new Texts(5);
+        let count = 0;
         for (let i = 0; i < 5000; i++) {
             const text = texts.range();
-            const print = semver.validRange(text);
-            if (print !== null) {
-                const range = semver.Range.fromSets(new semver.Range(text).sets);
-                assert.strictEqual(String(range), print, text);
+            for (const options of [{}, { loose: true }, { includePrerelease: true }]) {
+                if (semver.validRange(text, options) !== null) {
+                    const { sets } = new semver.Range(text, options);
+                    assert.deepStrictEqual(shown(semver.Range.fromSets(sets).sets), shown(sets), text);
+                    count++;
+                }
             }
         }
+        assert.ok(count > 5000, `${count} ranges`);
     });
     test('there is no such range', () => {
         const none = [[], [{ lower: before('2.0.0'), upper: before('1.0.0') }],

@@ -47,6 +47,9 @@ const smallerLists = (list) => [
 
 const smaller = {
     v: smallerVersions, w: smallerVersions, r: smallerRanges, s: smallerRanges, list: smallerLists, operator: () => [],
+    o: (options) => (options === undefined ? [] : [undefined, ...Object.keys(options).map((name) => ({ [name]: true }))]
+        .filter((fewer) => JSON.stringify(fewer) !== JSON.stringify(options))),
+    release: () => [], identifier: () => [], base: () => [],
 };
 
 const differs = (name, texts) => result(name, npm, texts) !== result(name, here, texts);

@@ -13,11 +13,11 @@ const ROUNDS = 20000;
 
 // Lists, sets, and versions and ranges that no text writes.
 function lists(i) {
-    const versions = [`1.${i}.0+b`, '1.2.3', semver.minVersion('>9007199254740991'), `0.${i}.0-rc`];
+    const versions = [`1.${i}.0+b`, '1.2.3', semver.leastBeyond('>1.2.9007199254740991', '<1'), `0.${i}.0-rc`];
     const range = new semver.Range('1 || 2 || '.repeat(20) + `^${i}`);
     const made = semver.Range.fromSets(range.sets);
     const greatest = semver.maxSatisfying(versions, made);
-    return semver.sort(versions)[0].length + Number(greatest.slice(0, 1)) + made.sets.length;
+    return semver.sort(versions)[0].length + Number(String(greatest).slice(0, 1)) + made.sets.length;
 }
 
 // A number that depends on each result. The ranges are more than are kept.
@@ -29,7 +29,7 @@ function work() {
         sum += new semver.Range(`>=${i % 5}`).test('3.0.0') ? 2 : 0;
         sum += i % 100 === 0 ? lists(i) : 0;
     }
-    return sum + semver.minVersion('>9007199254740991').major;
+    return sum + semver.leastBeyond('>1.2.9007199254740991', '<1').patch;
 }
 
 async function result(worker) {

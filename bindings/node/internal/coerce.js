@@ -1,0 +1,50 @@
+// SPDX-License-Identifier: Apache-2.0
+// The version that a text holds somewhere: `1.2.0` of `release 1.2, of May`. The text is searched here; the library reads
+// the version that is found.
+'use strict';
+
+const { parse } = require('./versions.js');
+const { SemVer } = require('./semver.js');
+
+const NUMBERS = '(^|[^\\d])(\\d{1,16})(?:\\.(\\d{1,16}))?(?:\\.(\\d{1,16}))?';
+const IDENTIFIER = '(?:0|[1-9]\\d{0,256}|\\d{0,256}[a-zA-Z-][a-zA-Z0-9-]{0,250})';
+const BUILD = '[a-zA-Z0-9-]{1,250}';
+const MORE = `(?:-(${IDENTIFIER}(?:\\.${IDENTIFIER})*))?(?:\\+(${BUILD}(?:\\.${BUILD})*))?`;
+const END = '(?:$|[^\\d])';
+
+// The match that ends last; of those that end at one place, the longest.
+function lastMatch(text, source) {
+    const pattern = new RegExp(source, 'g');
+    let found = null;
+    for (let next = pattern.exec(text); next !== null; next = pattern.exec(text)) {
+        const end = (match) => match.index + match[0].length;
+        if (found !== null && end(found) === text.length) {
+            break;
+        }
+        if (found === null || end(next) !== end(found)) {
+            found = next;
+        }
+        pattern.lastIndex = next.index + next[1].length + next[2].length;
+    }
+    return found;
+}
+
+function coerce(version, options) {
+    if (version instanceof SemVer) {
+        return version;
+    }
+    const text = typeof version === 'number' ? String(version) : version;
+    if (typeof text !== 'string') {
+        return null;
+    }
+    const { rtl, includePrerelease } = options || {};
+    const source = NUMBERS + (includePrerelease ? MORE : '') + END;
+    const match = rtl ? lastMatch(text, source) : new RegExp(source).exec(text);
+    if (match === null) {
+        return null;
+    }
+    const [, , major, minor = '0', patch = '0', prerelease, build] = match;
+    return parse(`${major}.${minor}.${patch}${prerelease ? `-${prerelease}` : ''}${build ? `+${build}` : ''}`, options);
+}
+
+module.exports = { coerce };

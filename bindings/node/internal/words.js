@@ -1,0 +1,125 @@
+// SPDX-License-Identifier: Apache-2.0
+// The comparators of a range text, in the order of the text, as npm prints them. The text is divided into words here,
+// and the library reads each word: its set has the ends that the comparators of the word have.
+'use strict';
+
+const native = require('./native.js');
+const { ANY, comparatorOf } = require('./comparator.js');
+const { textKey } = require('./kept.js');
+const { INCLUDES_PRERELEASES, IS_LOOSE } = require('./options.js');
+const { semVerOfKey } = require('./semver.js');
+const { withoutBuild } = require('./texts.js');
+
+// The kinds of cuts, by their numbers in node_semver.h.
+const [BEFORE, AFTER] = [1, 2];
+
+const NUMBER = '(?:\\d+|[xX*])';
+const IDENTIFIER = '(?:\\d+|\\d*[a-zA-Z-][a-zA-Z0-9-]*)';
+const MORE = `(?:-?${IDENTIFIER}(?:\\.${IDENTIFIER})*)?(?:\\+[a-zA-Z0-9-]+(?:\\.[a-zA-Z0-9-]+)*)?`;
+const PARTIAL = `[v=\\s]*${NUMBER}(?:\\.${NUMBER}(?:\\.${NUMBER}${MORE})?)?`;
+const HYPHEN = new RegExp(`^(${PARTIAL})\\s+-\\s+(${PARTIAL})$`);
+
+// Blanks between an operator and what it stands before, which npm takes out.
+const OPERATOR = new RegExp(`(\\s*)([<>]?=?)\\s*([v=\\s]*\\d+\\.\\d+\\.\\d+${MORE}|${PARTIAL})`, 'g');
+const TILDE = /~>?\s+/g;
+const CARET = /\^\s+/g;
+const glued = (text) => text.replace(OPERATOR, '$1$2$3').replace(TILDE, '~').replace(CARET, '^');
+
+// The comparators of a set, of which the native part gives the kinds of its two cuts and the keys of their versions.
+function comparatorsOf([lower, from, upper, to], options) {
+    if (lower === BEFORE && upper === AFTER && typeof from === 'string' && withoutBuild(from) === withoutBuild(to)) {
+        return [comparatorOf('', semVerOfKey(from, options.loose), options)];
+    }
+    const found = [];
+    if (lower === BEFORE || lower === AFTER) {
+        found.push(comparatorOf(lower === BEFORE ? '>=' : '>', semVerOfKey(from, options.loose), options));
+    }
+    if (upper === BEFORE || upper === AFTER) {
+        found.push(comparatorOf(upper === BEFORE ? '<' : '<=', semVerOfKey(to, options.loose), options));
+    }
+    return found.length > 0 ? found : [comparatorOf('', ANY, options)];
+}
+
+// What npm does not take for the least version, as `>=0.0.0+b`.
+const ODD_ZERO = /^[^~^]*0+\.0+\.0+\+|(?:^|\D)00/;
+
+// The words of an alternative. The two sides of a hyphen range are words, each with a star on its other side.
+function wordsOf(alternative, flags) {
+    const sides = HYPHEN.exec(alternative);
+    if (sides !== null && native.sets(textKey(alternative, flags)) !== null) {
+        return [`${sides[1]} - *`, `* - ${sides[2]}`];
+    }
+    return glued(alternative).split(' ');
+}
+
+// The comparators of an alternative; none if the library refuses it.
+function readAlternative(alternative, flags, options) {
+    if (native.sets(textKey(alternative, flags)) === null) {
+        return [];
+    }
+    const least = flags & INCLUDES_PRERELEASES ? '>=0.0.0-0' : '>=0.0.0';
+    const found = new Map();
+    for (const word of wordsOf(alternative, flags)) {
+        for (const comparator of comparatorsOfWord(word, flags, options)) {
+            if (comparator.value === '<0.0.0-0') {
+                return [comparator];
+            }
+            const isAny = comparator.value === least && !ODD_ZERO.test(word);
+            const one = isAny ? comparatorOf('', ANY, options) : comparator;
+            found.set(one.value, one);
+        }
+    }
+    if (found.size > 1) {
+        found.delete('');
+    }
+    return [...found.values()];
+}
+
+function comparatorsOfWord(word, flags, options) {
+    const cuts = native.sets(textKey(word, flags));
+    return cuts === null ? [] : comparatorsOf(cuts, options);
+}
+
+// The comparators of each alternative. Alternatives that nothing satisfies are left out beside others, and all others
+// beside one that is `*`.
+function readSet(text, flags, options) {
+    const all = text.split('||').map((alternative) => readKept(alternative.trim(), flags, options))
+        .filter((comparators) => comparators.length > 0);
+    const some = all.filter(([first]) => first.value !== '<0.0.0-0');
+    const any = all.length > 1 ? some.find((comparators) => comparators.length === 1 && comparators[0].value === '')
+        : undefined;
+    return any !== undefined ? [any] : some.length > 0 ? some : all.slice(0, 1);
+}
+
+// The text of each alternative. npm reads alternatives of the same text once, so it finds that they are the same.
+const alternatives = new WeakMap();
+const isSameText = (one, other) => one === other
+    || (alternatives.has(one) && alternatives.get(one) === alternatives.get(other));
+
+function readKept(alternative, flags, options) {
+    const comparators = readAlternative(alternative, flags, options);
+    alternatives.set(comparators, textKey(alternative, flags));
+    return comparators;
+}
+
+// The comparators of the sets of a range that was made of others.
+function setOf(key, options) {
+    const cuts = native.sets(key);
+    return Array.from({ length: cuts.length / 4 }, (_, i) =>
+        comparatorsOf(cuts.slice(4 * i, 4 * i + 4), options));
+}
+
+// The first word of a text that is refused.
+function refusedWord(text, flags) {
+    const alternative = text.split('||').map((one) => one.trim())
+        .find((one) => native.sets(textKey(one, flags)) === null);
+    return wordsOf(alternative ?? text, flags).find((word) => native.sets(textKey(word, flags)) === null);
+}
+
+// What npm says of a range text that is refused.
+function refusal(text, flags) {
+    const word = flags & IS_LOOSE ? undefined : refusedWord(text, flags);
+    return word === undefined ? `Invalid SemVer Range: ${text}` : `Invalid comparator: ${word}`;
+}
+
+module.exports = { readSet, setOf, refusal, isSameText };

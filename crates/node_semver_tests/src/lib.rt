@@ -18,6 +18,8 @@ mod checks;
 #[cfg(test)]
 mod clones;
 #[cfg(test)]
+mod coercions;
+#[cfg(test)]
 mod contained;
 #[cfg(test)]
 mod errors;

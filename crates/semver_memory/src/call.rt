@@ -218,6 +218,7 @@ fn call_of_value(alloc: Global, name: &str, one: &str, other: &str) -> Result<Ca
         | "Identifiers::to_vec"
         | "SemverError::new"
         | "Version::bump"
+        | "Version::coerce"
         | "npm_lock::check"
         | "Problem::to_json" => call_of_making(alloc, name, one),
         _ => call_of_question(alloc, name, one, other),

@@ -3,7 +3,7 @@ use crate::answer;
 use crate::answer::Answer;
 use crate::fault::Fault;
 use node_semver::{
-    Bump, Identifier, IdentifierBase, SemverError, SemverErrorKind, Version, VersionRef,
+    Bump, CoerceOptions, Identifier, IdentifierBase, SemverError, SemverErrorKind, Version, VersionRef,
 };
 use npm_lock::Problem;
 use serde_json::Value;
@@ -16,6 +16,8 @@ pub(crate) enum Making {
     Version(String),
     /// The identifiers of the prerelease of a version text.
     Identifiers(String),
+    /// The version that is found in a text.
+    Coerced(String),
     /// An error for a text.
     Error(String),
     /// The problems of a lock file.
@@ -32,6 +34,7 @@ impl Making {
         match self {
             Making::Version(text) => version_of(alloc, text),
             Making::Identifiers(text) => identifiers_of(alloc, text),
+            Making::Coerced(text) => coerced(alloc, text),
             Making::Error(text) => {
                 answer::refusal(SemverError::new(alloc, text, 1, SemverErrorKind::Other))
             }
@@ -47,7 +50,10 @@ impl Making {
     /// The argument as it is now.
     pub(crate) fn print(&self, alloc: Global) -> Result<String, AllocError> {
         match self {
-            Making::Version(text) | Making::Identifiers(text) | Making::Error(text) => text.clone(),
+            Making::Version(text)
+            | Making::Identifiers(text)
+            | Making::Coerced(text)
+            | Making::Error(text) => text.clone(),
             Making::Problems(lock) => lock.to_string(alloc),
             Making::Json(problem) => problem.name.clone(),
             Making::Bumped(version, _) => version.to_string(alloc),
@@ -69,6 +75,13 @@ fn identifiers_of(alloc: Global, text: &str) -> Answer {
     }
 }
 
+fn coerced(alloc: Global, text: &str) -> Answer {
+    match Version::coerce(alloc, text, CoerceOptions { rtl: false }) {
+        Some(version) => answer::version(Ok(version)),
+        None => Answer::Nothing,
+    }
+}
+
 /// The call with this name.
 pub(crate) fn making_of(alloc: Global, name: &str, text: &str) -> Result<Making, Fault> {
     match name {
@@ -77,6 +90,7 @@ pub(crate) fn making_of(alloc: Global, name: &str, text: &str) -> Result<Making,
         "Version::bump" => bump_of(alloc, text),
         "SemverError::new" => Ok(Making::Error(String::from_str(alloc, text)?)),
         "Identifiers::to_vec" => Ok(Making::Identifiers(String::from_str(alloc, text)?)),
+        "Version::coerce" => Ok(Making::Coerced(String::from_str(alloc, text)?)),
         _ => Ok(Making::Version(String::from_str(alloc, text)?)),
     }
 }

@@ -10,3 +10,5 @@ pub mod LastPieces
 pub mod NumberPlaces
 pub mod ChosenPieces
 pub mod StrictNumbers
+pub mod NumberTexts
+pub mod PrintCoerced

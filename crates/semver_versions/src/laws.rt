@@ -11,7 +11,7 @@ ghost use Rattle.semver_versions.specs.declared.version.bump.Bump.{Bump};
 ghost use Rattle.semver_versions.specs.declared.version.bump.IdentifierBase.{IdentifierBase};
 ghost use Rattle.semver_versions.specs.BuildOrder.{version_build_cmp};
 ghost use Rattle.semver_versions.specs.declared.TheConstants.{MAX_LENGTH, MAX_SAFE_INTEGER};
-ghost use Rattle.semver_versions.specs.VersionLaws.{HasOneFault, HasOneReading, IsNeverBoth, IsReadOrFaulty};
+ghost use Rattle.semver_versions.specs.VersionLaws.{HasOneFault, HasOneReading, IsNeverBoth, IsReadOrFaulty, PrintIsCoerced};
 ghost use Rattle.semver_versions.specs.VersionLaws.{HasOneStrictFault, IsNeverStrictAndFaulty};
 
 pub use crate::error::{a_kind_is_always_copied, errors_are_equal_where_their_parts_are};
@@ -57,4 +57,9 @@ pub fn the_order_with_builds_is_total()
 pub fn a_bumped_version_is_greater()
     ensures { (bump : Bump) (identifier : Option IdentifierValue) (base : IdentifierBase) (v w : VersionValue) →
         IsUpward bump identifier → IsBumped bump identifier base v w → IsBelow v w }
+{}
+
+/// From the print of a version, [`Version::coerce`](crate::Version::coerce) returns the release with its triple.
+pub fn a_print_is_coerced_to_its_triple()
+    ensures { (v : VersionValue) → PrintIsCoerced v }
 {}

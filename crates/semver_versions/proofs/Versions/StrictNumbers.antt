@@ -9,7 +9,7 @@ use Rattle.semver_versions.specs.StrictVersionText.{has_zero_in_front, is_strict
 use Rattle.semver_versions.specs.declared.parse.fault.Fault.{Fault}
 use Rattle.semver_versions.specs.Lemmas.Texts.NumberReading.{answer, number-again, number-takes, ok-value, refusal}
 
-is_strict : (text : List ℕ) (number : ℕ) → IsNumberText text number → has_zero_in_front text ≡ false
+pub is_strict : (text : List ℕ) (number : ℕ) → IsNumberText text number → has_zero_in_front text ≡ false
     → is_strict_number text ≡ true
 is_strict [] number read zero = absurd read.some
 is_strict (b ∷ text) number read zero = and_from _ _ read.digits (rw zero refl)
@@ -33,7 +33,8 @@ pub strict_left : (text rest : List ℕ) (number other : ℕ) → read_number te
 strict_left text rest number other h some strict =
     let both : answer (other, rest) ≡ answer (number, []) = sym h ∙ whole_read text number strict in
     let same : rest ≡ [] = ap (λ (p : ℕ × List ℕ). p.1) (ok-value _ _ both) in
-    absurd (omega (arith, some, ap length same))
+    let empty : length rest ≡ 0 = ap length same in
+    absurd (omega (arith, some, empty))
 
 pub strict_refused : (text : List ℕ) (number : ℕ) (fault : Fault) → read_number text ≡ Err fault
     → IsStrictNumber text number → ⊥

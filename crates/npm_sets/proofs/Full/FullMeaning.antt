@@ -36,7 +36,8 @@ use Rattle.npm_sets.specs.declared.options.NpmOptions.{NpmOptions}
 use Rattle.npm_sets.proofs.Full.FullDivision.{full-piece, full-word, lead_named, mark-chunk, mark-full, operand-full}
 use Rattle.npm_sets.proofs.Full.FullPartial.{full-partial, number-begins}
 use Rattle.npm_sets.proofs.Pieces.EndBounds.{zero-read}
-use Rattle.npm_sets.proofs.Pieces.TextReading.{npm-sets-admit, pieces-end, pieces-more}
+use Rattle.npm_sets.proofs.Pieces.SetMeaning.{npm-sets-admit}
+use Rattle.npm_sets.proofs.Pieces.TextReading.{pieces-end, pieces-more}
 use Rattle.npm_sets.proofs.Pieces.WordReading.{comparators-end, comparators-step, word-read}
 
 -- ---- the set

@@ -1,5 +1,7 @@
 pub mod EndBounds
 pub mod WordReading
 pub mod PieceReading
+pub mod PieceDivision
+pub mod SetMeaning
 pub mod TextReading
 pub mod OnePiece

@@ -1,13 +1,13 @@
 -- Chunks and words: what is read at the start of a text is the first of its words.
 use Rattle.std.proofs.Common.{◌≡◌, ◌<◌, ◌≤◌, ◌∙◌, ℕ, Bool, true, false, List, [], ◌∷◌, length, ap, arith, refl, sym, subst}
 use Rattle.std.proofs.Common.{inl, inr}
-use Rattle.std.specs.Prelude.{◌==◌, ◌⊎◌, not, Some, None}
+use Rattle.std.specs.Prelude.{◌==◌, not}
 use Rattle.std.proofs.lemmas.Bool.{cases_Bool, eqb-true}
 use Rattle.semver_versions.specs.Characters.{BeginsWith, BeginsWithNo}
 use Rattle.semver_versions.specs.Readers.Reading.{prefix_of, rest_of}
 use Rattle.semver_versions.specs.Lemmas.Texts.Prefixes.{prefix_of-rest_of, rest-short, rest_of-no, rest_of-none}
-use Rattle.npm_sets.specs.WordTexts.{before_first, chunks_of, is_dash, is_empty, is_solid, is_space, joined}
-use Rattle.npm_sets.specs.WordTexts.{lead_of, sides_of, words_of}
+use Rattle.npm_sets.specs.WordTexts.{before_first, chunks_of, is_empty, is_solid, is_space, joined}
+use Rattle.npm_sets.specs.WordTexts.{lead_of, words_of}
 use Rattle.npm_sets.specs.declared.words.Lead.{Lead}
 
 -- ---- one character
@@ -24,7 +24,7 @@ not-false false h = refl
 pub solid-start : (b : ℕ) (rest : List ℕ) → BeginsWithNo is_space (b ∷ rest) → BeginsWith is_solid (b ∷ rest)
 solid-start b rest h = not-false (is_space b) h
 
-prefix-step : (b : ℕ) (rest : List ℕ) → is_solid b ≡ true
+pub prefix-step : (b : ℕ) (rest : List ℕ) → is_solid b ≡ true
     → prefix_of is_solid (b ∷ rest) ≡ b ∷ prefix_of is_solid rest
 unfolding prefix_of
 prefix-step b rest h = rw h refl
@@ -45,7 +45,7 @@ chunks-space : (b : ℕ) (rest : List ℕ) → is_space b ≡ true → chunks_of
 unfolding chunks_of
 chunks-space b rest h = rw h refl
 
-prefix-empty : prefix_of is_solid [] ≡ []
+pub prefix-empty : prefix_of is_solid [] ≡ []
 unfolding prefix_of
 prefix-empty = refl
 
@@ -234,100 +234,3 @@ pub solid-told : (text : List ℕ) (r : Bool) → r ≡ (length text == 0) → r
     → BeginsWith is_solid text
 solid-told [] r told is h = cc (told, is)
 solid-told (b ∷ text) r told is h = solid-start b text h
-
--- ---- the sides of a hyphen range
-
--- a chunk and those after it, or none if there is no chunk
-abbrev pub and_more : List ℕ → List (List ℕ) → List (List ℕ)
-and_more [] chunks = []
-and_more (b ∷ chunk) chunks = (b ∷ chunk) ∷ chunks
-
--- the chunks of a text that begins with no white space
-pub chunks-more : (text chunk rest : List ℕ) → BeginsWithNo is_space text → chunk ≡ prefix_of is_solid text
-    → rest ≡ rest_of is_space (rest_of is_solid text) → chunks_of text ≡ and_more chunk (chunks_of rest)
-chunks-more [] chunk rest h first after =
-    chunks-empty ∙ ap (λ (l : List ℕ). and_more l (chunks_of rest)) (sym (first ∙ prefix-empty))
-chunks-more (b ∷ text) chunk rest h first after =
-    let solid = solid-start b text h in
-    let e : chunk ≡ b ∷ prefix_of is_solid text = first ∙ prefix-step b text solid in
-    chunk-first (b ∷ text) solid
-    ∙ ap (λ (l : List ℕ). l ∷ chunks_of (rest_of is_space (rest_of is_solid (b ∷ text)))) (prefix-step b text solid)
-    ∙ ap (λ (l : List ℕ). (b ∷ prefix_of is_solid text) ∷ chunks_of l) (sym after)
-    ∙ ap (λ (l : List ℕ). and_more l (chunks_of rest)) (sym e)
-
--- a text that begins so has a chunk
-pub chunks-some : (text : List ℕ) → BeginsWith is_solid text
-    → (chunk : List ℕ) × (chunks : List (List ℕ)) × (chunks_of text ≡ chunk ∷ chunks)
-chunks-some text h = (prefix_of is_solid text, chunks_of (rest_of is_space (rest_of is_solid text)), chunk-first text h)
-
-sides-no_dash : (left dash : List ℕ) (more : List (List ℕ)) → is_dash dash ≡ false
-    → sides_of (left ∷ and_more dash more) ≡ None
-sides-no_dash left [] more h = refl
-sides-no_dash left (b ∷ dash) [] h = refl
-sides-no_dash left (b ∷ dash) (right ∷ []) h = rw h refl
-sides-no_dash left (b ∷ dash) (right ∷ next ∷ more) h = refl
-
-sides-no_right : (left dash right : List ℕ) (more : List (List ℕ)) → right ≡ []
-    → sides_of (left ∷ and_more dash (and_more right more)) ≡ None
-sides-no_right left [] right more h = refl
-sides-no_right left (b ∷ dash) [] more h = refl
-sides-no_right left (b ∷ dash) (c ∷ right) more h = cc h
-
-sides-more : (left dash right next : List ℕ) (more : List (List ℕ))
-    → sides_of (left ∷ and_more dash (and_more right (next ∷ more))) ≡ None
-sides-more left [] right next more = refl
-sides-more left (b ∷ dash) [] next more = refl
-sides-more left (b ∷ dash) (c ∷ right) next more = refl
-
-sides-both : (left dash right : List ℕ) → is_dash dash ≡ true → ¬ (right ≡ [])
-    → sides_of (left ∷ and_more dash (and_more right [])) ≡ Some (left, right)
-sides-both left [] right h some = cc h
-sides-both left (b ∷ dash) [] h some = absurd (some refl)
-sides-both left (b ∷ dash) (c ∷ right) h some = rw h refl
-
--- the first chunk, and those of the rest
-pub one-chunk : (text left rest : List ℕ) → BeginsWith is_solid text → left ≡ prefix_of is_solid text
-    → rest ≡ rest_of is_space (rest_of is_solid text) → chunks_of text ≡ left ∷ chunks_of rest
-one-chunk text left rest h first after =
-    chunk-first text h ∙ ap (λ (l : List ℕ). l ∷ chunks_of (rest_of is_space (rest_of is_solid text))) (sym first)
-    ∙ ap (λ (l : List ℕ). left ∷ chunks_of l) (sym after)
-
--- the second chunk is no `-`
-pub not-dashed : (text left first dash second : List ℕ) → chunks_of text ≡ left ∷ chunks_of first
-    → BeginsWithNo is_space first → dash ≡ prefix_of is_solid first
-    → second ≡ rest_of is_space (rest_of is_solid first) → is_dash dash ≡ false
-    → None ≡ sides_of (chunks_of text)
-not-dashed text left first dash second whole h d s none =
-    sym (ap sides_of (whole ∙ ap (λ (l : List (List ℕ)). left ∷ l) (chunks-more first dash second h d s))
-    ∙ sides-no_dash left dash (chunks_of second) none)
-
--- the chunks from the third on
-pub three-chunks : (text left first dash second right third : List ℕ) → chunks_of text ≡ left ∷ chunks_of first
-    → BeginsWithNo is_space first → dash ≡ prefix_of is_solid first
-    → second ≡ rest_of is_space (rest_of is_solid first) → right ≡ prefix_of is_solid second
-    → third ≡ rest_of is_space (rest_of is_solid second)
-    → chunks_of text ≡ left ∷ and_more dash (and_more right (chunks_of third))
-three-chunks text left first dash second right third whole h d s r t =
-    whole ∙ ap (λ (l : List (List ℕ)). left ∷ l) (chunks-more first dash second h d s)
-    ∙ ap (λ (l : List (List ℕ)). left ∷ and_more dash l)
-    (chunks-more second right third (left-solid (rest_of is_solid first) second s) r t)
-
--- there is no third, or there are more
-pub not-sides : (text left dash right third : List ℕ)
-    → chunks_of text ≡ left ∷ and_more dash (and_more right (chunks_of third))
-    → (right ≡ []) ⊎ BeginsWith is_solid third → None ≡ sides_of (chunks_of text)
-not-sides text left dash right third whole (inl none) =
-    sym (ap sides_of whole ∙ sides-no_right left dash right (chunks_of third) none)
-not-sides text left dash right third whole (inr more) =
-    let some = chunks-some third more in
-    sym (ap sides_of (whole ∙ ap (λ (l : List (List ℕ)). left ∷ and_more dash (and_more right l)) some.2)
-    ∙ sides-more left dash right some.0 some.1)
-
--- there are three, and the second is `-`
-pub both-sides : (text left dash right third : List ℕ)
-    → chunks_of text ≡ left ∷ and_more dash (and_more right (chunks_of third)) → is_dash dash ≡ true
-    → ¬ (right ≡ []) → third ≡ [] → Some (left, right) ≡ sides_of (chunks_of text)
-both-sides text left dash right third whole is some none =
-    sym (ap sides_of (whole ∙ ap (λ (l : List ℕ). left ∷ and_more dash (and_more right (chunks_of l))) none
-    ∙ ap (λ (l : List (List ℕ)). left ∷ and_more dash (and_more right l)) chunks-empty)
-    ∙ sides-both left dash right is some)

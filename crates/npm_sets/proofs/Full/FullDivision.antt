@@ -17,7 +17,7 @@ use Rattle.npm_sets.specs.declared.words.Lead.{Lead}
 use Rattle.npm_sets.specs.declared.words.Lead.TheVariants as Leads
 use Rattle.npm_sets.proofs.Chunks.ChunkLemmas.{chunk-first, chunks-empty, word-last}
 use Rattle.npm_sets.proofs.Full.FullPartial.{number-read}
-use Rattle.npm_sets.proofs.Pieces.TextReading.{piece-step, pieces-nothing, pieces-short}
+use Rattle.npm_sets.proofs.Pieces.PieceDivision.{piece-step, pieces-nothing, pieces-short}
 use Rattle.npm_sets.proofs.Pieces.WordReading.{words-end}
 
 -- ---- the characters of a full text

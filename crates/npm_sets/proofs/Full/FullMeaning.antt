@@ -38,7 +38,8 @@ use Rattle.npm_sets.proofs.Full.FullDivision.{full-ascii, full-piece, full-word,
 use Rattle.npm_sets.proofs.Full.FullPartial.{full-partial, number-begins}
 use Rattle.npm_sets.proofs.PlainSpaces.{ascii-plain}
 use Rattle.npm_sets.proofs.Pieces.EndBounds.{zero-read}
-use Rattle.npm_sets.proofs.Pieces.TextReading.{npm-sets-admit, pieces-end, pieces-more}
+use Rattle.npm_sets.proofs.Pieces.SetMeaning.{npm-sets-admit}
+use Rattle.npm_sets.proofs.Pieces.TextReading.{pieces-end, pieces-more}
 use Rattle.npm_sets.proofs.Pieces.WordReading.{comparators-end, comparators-step, word-read}
 
 -- ---- the set

@@ -17,7 +17,8 @@ use Rattle.npm_sets.specs.NpmMeaning.{alone_or, chunks_comparators, comparators_
 use Rattle.npm_sets.specs.Private.ReadViews.{AreRead, AreReadEnds, IsAdded, IsAddedBy, IsNarrowedTo, IsRead, listed}
 use Rattle.npm_sets.specs.WordTexts.{chunks_of, is_solid, is_space, sides_of, words_of}
 use Rattle.npm_sets.specs.declared.options.NpmOptions.{NpmOptions}
-use Rattle.npm_sets.proofs.Chunks.ChunkLemmas.{chunks-empty, chunks-skip, chunks-some}
+use Rattle.npm_sets.proofs.Chunks.ChunkLemmas.{chunks-empty, chunks-skip}
+use Rattle.npm_sets.proofs.Chunks.SideLemmas.{chunks-some}
 use Rattle.npm_sets.proofs.Pieces.WordReading.{text_comparators}
 
 -- ---- what a piece is

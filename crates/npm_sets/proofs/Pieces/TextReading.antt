@@ -1,89 +1,28 @@
--- The pieces of a text, as they are read one after another, and what their sets admit.
-use Rattle.std.proofs.Common.{◌≡◌, ◌≢◌, ◌↔◌, ◌∙◌, ◌<◌, ℕ, suc, Bool, true, false, List, [], ◌∷◌, ◌++◌, Option, Some, None}
+-- The pieces of a text, as they are read one after another.
+use Rattle.std.proofs.Common.{◌≡◌, ◌≢◌, ◌∙◌, ◌<◌, ℕ, suc, Bool, true, false, List, [], ◌∷◌, ◌++◌, Option, Some, None}
 use Rattle.std.proofs.Common.{ap, arith, inl, inr, length, length-append, refl, subst, sym}
-use Rattle.std.specs.Prelude.{◌==◌, ◌&&◌, IfSome, IfNone}
+use Rattle.std.specs.Prelude.{IfSome, IfNone}
 use Rattle.std.specs.Borrow.{Bor}
 use Rattle.std.specs.List.{AllByRecursion}
-use Rattle.std.proofs.lemmas.Bool.{and_parts, cases_Bool, eqb-true}
 use Rattle.std.proofs.lemmas.List.{append-nil}
-use Rattle.semver_cuts.specs.declared.cut.Cut.TheVariants.{Start, Before}
 use Rattle.semver_cuts.specs.Ends.{Ends}
-use Rattle.semver_cuts.specs.Lemmas.Lists.{all_middle}
 use Rattle.semver_versions.specs.Characters.{bar}
-use Rattle.semver_versions.specs.Lemmas.Order.{Less-version}
-use Rattle.semver_versions.specs.Lemmas.Versions.VersionSteps.{none-below_first}
-use Rattle.semver_versions.specs.Version.{VersionValue, least_of}
+use Rattle.semver_versions.specs.Version.{VersionValue}
 use Rattle.semver_sets.specs.Comparator.{Comparator}
-use Rattle.semver_sets.specs.Division.{EndsInBar, HasBars, HasFirstPiece, IsPieces}
-use Rattle.semver_sets.specs.Lemmas.Merging.{inside-set, merged-admits, merged-gives}
-use Rattle.semver_sets.specs.Meaning.{AnyByRecursion, GiveSet, IsInside}
-use Rattle.semver_sets.specs.Merging.{AreSetsOf, IsSetOf, no_more, none, one_more}
-use Rattle.semver_sets.specs.RangeSets.{IsRangeSet, IsRangeValue, IsRangeCut, sets_of_some, sets_seen}
+use Rattle.semver_sets.specs.Division.{HasFirstPiece, IsPieces}
+use Rattle.semver_sets.specs.Merging.{AreSetsOf, no_more, none, one_more}
+use Rattle.semver_sets.specs.RangeSets.{IsRangeSet, IsRangeValue, sets_of_some, sets_seen}
 use Rattle.semver_sets.specs.declared.set_list.Sets.{Sets}
-use Rattle.npm_sets.specs.NpmMeaning.{AreNpmSets, IsNpmRefused, NpmAdmit, NpmSetAdmits, NpmSetsAdmit, NpmTextAdmits}
+use Rattle.npm_sets.specs.NpmMeaning.{AreNpmSets, IsNpmRefused}
 use Rattle.npm_sets.specs.NpmMeaning.{alternatives_of, or_no_alternatives, piece_comparators, pieces_alternatives}
 use Rattle.npm_sets.specs.NpmMeaning.{with_piece}
 use Rattle.npm_sets.specs.Private.ReadViews.{AreReadEnds, IsAdded, has_some, listed, prepend, some_seen}
 use Rattle.npm_sets.specs.Rows.{no_versions}
-use Rattle.npm_sets.specs.WordTexts.{before_first, pieces_of}
+use Rattle.npm_sets.specs.WordTexts.{pieces_of}
 use Rattle.npm_sets.specs.declared.options.NpmOptions.{NpmOptions}
-use Rattle.npm_sets.proofs.Pieces.EndBounds.{zero-read}
 use Rattle.npm_sets.proofs.Pieces.WordReading.{prepend-append, prepend-none}
-
--- ---- pieces
-
-bars-step : (others : List ℕ) → pieces_of (bar ∷ bar ∷ others) ≡ [] ∷ pieces_of others
-unfolding pieces_of
-bars-step others = refl
-
-pub piece-step : (b c : ℕ) (rest : List ℕ) → ((b == bar) && (c == bar)) ≡ false
-    → pieces_of (b ∷ c ∷ rest) ≡ before_first b (pieces_of (c ∷ rest))
-unfolding pieces_of
-piece-step b c rest h = rw h refl
-
-pub pieces-short : (b : ℕ) → pieces_of (b ∷ []) ≡ (b ∷ []) ∷ []
-unfolding pieces_of
-pieces-short b = refl
-
-pub pieces-nothing : pieces_of [] ≡ [] ∷ []
-unfolding pieces_of
-pieces-nothing = refl
-
--- two characters that are not both bars
-not-both : (b c : ℕ) (rest : List ℕ) → ¬ HasBars (b ∷ c ∷ rest) → ((b == bar) && (c == bar)) ≡ false
-not-both b c rest free = elim (cases_Bool ((b == bar) && (c == bar))) [
-  | inr differ ↦ differ
-  | inl both ↦
-      let parts = and_parts (b == bar) (c == bar) both in
-      let first : b ≡ bar = eqb-true b bar parts.0 in
-      let second : c ≡ bar = eqb-true c bar parts.1 in
-      absurd (free ([], rest, λ i. first i ∷ second i ∷ rest))
-]
-
--- a first piece without bars
-first-piece : (piece others : List ℕ) → ¬ HasBars piece → ¬ EndsInBar piece
-    → pieces_of (piece ++ (bar ∷ bar ∷ others)) ≡ piece ∷ pieces_of others
-first-piece [] others free ends = bars-step others
-first-piece (b ∷ []) others free ends = elim (cases_Bool (b == bar)) [
-  | inl same ↦ absurd (ends ([], ap (λ (n : ℕ). n ∷ []) (eqb-true b bar same)))
-  | inr other ↦
-      let h : ((b == bar) && (bar == bar)) ≡ false = rw other refl in
-      piece-step b bar (bar ∷ others) h ∙ ap (before_first b) (bars-step others)
-]
-first-piece (b ∷ c ∷ piece) others free ends =
-    piece-step b c (piece ++ (bar ∷ bar ∷ others)) (not-both b c piece free)
-    ∙ ap (before_first b) (first-piece (c ∷ piece) others
-    (λ has. free (b ∷ has.0, has.1, ap (λ (l : List ℕ). b ∷ l) has.2))
-    (λ has. ends (b ∷ has.0, ap (λ (l : List ℕ). b ∷ l) has.1)))
-
--- a text without bars
-only-piece : (text : List ℕ) → ¬ HasBars text → pieces_of text ≡ text ∷ []
-only-piece [] free = pieces-nothing
-only-piece (b ∷ []) free = pieces-short b
-only-piece (b ∷ c ∷ text) free =
-    piece-step b c text (not-both b c text free)
-    ∙ ap (before_first b)
-    (only-piece (c ∷ text) (λ has. free (b ∷ has.0, has.1, ap (λ (l : List ℕ). b ∷ l) has.2)))
+use Rattle.npm_sets.proofs.Pieces.PieceDivision.{first-piece, only-piece}
+use Rattle.npm_sets.proofs.Pieces.SetMeaning.{AreReadAlternative, no_versions-bounded, sets-bounded}
 
 -- ---- the alternatives so far
 
@@ -136,10 +75,6 @@ with-some [] None = refl
 with-some [] (Some more) = refl
 with-some (c ∷ comparators) None = refl
 with-some (c ∷ comparators) (Some more) = refl
-
--- all comparators of an alternative have ends that a range can have
-abbrev pub AreReadAlternative : List Comparator → Type 0
-AreReadAlternative comparators = AllByRecursion AreReadEnds comparators
 
 -- the alternatives before the rest of a text, and their sets
 pub record PiecesSoFar (options : NpmOptions) (text : List ℕ) (left : Option (List ℕ)) (sets : List (Ends VersionValue))
@@ -285,115 +220,6 @@ sets-done : (options : NpmOptions) (text : List ℕ) (left : Option (List ℕ)) 
     → AreSetsOf (alternatives_of options text) sets
 sets-done options text left sets found so end =
     subst (λ (l : List (List Comparator)). AreSetsOf l sets) (sym (all-done options text left sets found so end)) so.merged
-
--- ---- what the sets hold
-
-set-bounded : (comparators : List Comparator) (set : Ends VersionValue) → GiveSet comparators
-    → IsSetOf comparators set → AreReadAlternative comparators → IsRangeSet set
-set-bounded comparators set gives is read =
-    let low : AreReadEnds is.lower.span = all_middle AreReadEnds is.lower.before is.lower.after is.lower.span
-    (subst (AllByRecursion AreReadEnds) is.lower.parts read) in
-    let high : AreReadEnds is.upper.span = all_middle AreReadEnds is.upper.before is.upper.after is.upper.span
-    (subst (AllByRecursion AreReadEnds) is.upper.parts read) in
-    record {
-      holds = (merged-gives comparators set is).0 gives;
-      lower = subst IsRangeCut is.lower.end_of low.lower;
-      upper = subst IsRangeCut is.upper.end_of high.upper;
-    }
-
-sets-bounded : (alternatives : List (List Comparator)) (sets : List (Ends VersionValue))
-    → AreSetsOf alternatives sets → AllByRecursion AreReadAlternative alternatives → AllByRecursion IsRangeSet sets
-sets-bounded [] [] none all = tt
-sets-bounded [] (s ∷ sets) are all = elim are [ ]
-sets-bounded (a ∷ alternatives) (s ∷ sets) (one_more _ _ _ _ gives is more) all =
-    (set-bounded a s gives is all.0, sets-bounded alternatives sets more all.1)
-sets-bounded (a ∷ alternatives) sets (no_more _ _ _ nothing more) all = sets-bounded alternatives sets more all.1
-
--- `<0.0.0-0` holds a cut
-pub no_versions-bounded : IsRangeValue (no_versions ∷ [])
-no_versions-bounded = record {
-  some = λ same. cc same;
-  each = (
-    record {
-      holds = (Start, record { lower = inr refl; upper = refl });
-      lower = tt;
-      upper = record {
-        major = omega arith;
-        minor = omega arith;
-        patch = omega arith;
-        pre_release = (zero-read, tt);
-        build = tt;
-      };
-    },
-    tt,
-  );
-}
-
--- ---- what the sets admit
-
--- no version lies below the least one
-none-inside : (v : VersionValue) → ¬ IsInside v no_versions
-none-inside v inside = none-below_first v (Less-version v (least_of 0 0 0) inside.upper)
-
--- what a set admits lies inside it
-inside-of : (pre : Bool) (set : Ends VersionValue) (v : VersionValue) → NpmSetAdmits pre set v → IsInside v set
-inside-of false set v admits = admits.inside
-inside-of true set v inside = inside
-
-gives-from : (pre : Bool) (v : VersionValue) (comparators : List Comparator) → NpmAdmit pre comparators v
-    → GiveSet comparators
-gives-from pre v comparators admit = record { some = admit.some; common = (Before v, admit.inside) }
-
--- a set admits what its comparators do
-one-admits : (pre : Bool) (v : VersionValue) (comparators : List Comparator) (set : Ends VersionValue)
-    → comparators ≢ [] → IsSetOf comparators set → NpmSetAdmits pre set v ↔ NpmAdmit pre comparators v
-one-admits false v comparators set some is =
-    let same = merged-admits comparators set is v in (
-      λ admits. record {
-        some = some;
-        inside = (same.1 admits).inside;
-        opened = λ closed prerelease. (same.1 admits).opened prerelease;
-      },
-      λ admit. same.0 (record { inside = admit.inside; opened = admit.opened refl }),
-    )
-one-admits true v comparators set some is =
-    let inside = inside-set comparators set is v in (
-      λ in_set. record { some = some; inside = inside.1 in_set; opened = λ closed prerelease. absurd (cc closed) },
-      λ admit. inside.0 admit.inside,
-    )
-
-sets-admit : (pre : Bool) (v : VersionValue) (alternatives : List (List Comparator)) (sets : List (Ends VersionValue))
-    → AreSetsOf alternatives sets
-    → NpmSetsAdmit pre sets v ↔ AnyByRecursion (λ comparators. NpmAdmit pre comparators v) alternatives
-sets-admit pre v [] [] none = (λ nowhere. nowhere, λ nowhere. nowhere)
-sets-admit pre v [] (s ∷ sets) m = elim m [ ]
-sets-admit pre v (c ∷ alternatives) (s ∷ sets) (one_more _ _ _ _ g i more) =
-    let others = sets-admit pre v alternatives sets more in
-    let same = one-admits pre v c s g.some i in (
-      λ some. elim some [ inl here ↦ inl (same.0 here) | inr there ↦ inr (others.0 there) ],
-      λ some. elim some [ inl here ↦ inl (same.1 here) | inr there ↦ inr (others.1 there) ],
-    )
-sets-admit pre v (c ∷ alternatives) sets (no_more _ _ _ n more) =
-    let others = sets-admit pre v alternatives sets more in (
-      λ some. inr (others.0 some),
-      λ some. elim some [ inl here ↦ absurd (n (gives-from pre v c here)) | inr there ↦ others.1 there ],
-    )
-
--- the sets of a text admit what the text does
-pub npm-sets-admit : (options : NpmOptions) (text : List ℕ) (sets : List (Ends VersionValue))
-    → AreNpmSets options text sets → (v : VersionValue)
-    → NpmSetsAdmit options.include_prerelease sets v ↔ NpmTextAdmits options text v
-npm-sets-admit options text sets (inl are) v =
-    sets-admit options.include_prerelease v (alternatives_of options text) sets are.0
-npm-sets-admit options text sets (inr are) v =
-    let pre = options.include_prerelease in
-    let nowhere = sets-admit pre v (alternatives_of options text) [] are.0 in (
-      λ some. elim (subst (λ (l : List (Ends VersionValue)). NpmSetsAdmit pre l v) are.1 some) [
-        | inl here ↦ absurd (none-inside v (inside-of pre no_versions v here))
-        | inr there ↦ absurd there
-      ],
-      λ admits. absurd (nowhere.1 admits),
-    )
 
 -- ---- the result
 

@@ -1,8 +1,8 @@
 use Rattle.std.proofs.Common.{◌∙◌, inl, inr, sym}
 use Rattle.semver_versions.specs.Readers.Reading.{rest_of}
 use Rattle.npm_sets.specs.WordTexts.{is_solid}
-use Rattle.npm_sets.proofs.Chunks.ChunkLemmas.{both-sides, left-solid, no-bytes_told, not-dashed, not-sides, one-chunk}
-use Rattle.npm_sets.proofs.Chunks.ChunkLemmas.{solid-told, some-bytes_told, three-chunks}
+use Rattle.npm_sets.proofs.Chunks.ChunkLemmas.{left-solid, no-bytes_told, solid-told, some-bytes_told}
+use Rattle.npm_sets.proofs.Chunks.SideLemmas.{both-sides, not-dashed, not-sides, one-chunk, three-chunks}
 use Rattle.npm_sets.proofs.piece.split_sides.Goals as goal
 
 pub returns-then-not-is_dash : goal.returns-then-not-is_dash

@@ -2,7 +2,7 @@ use Rattle.std.proofs.Common.{◌∷◌, []}
 use Rattle.npm_sets.specs.NpmMeaning.{piece_comparators}
 use Rattle.npm_sets.proofs.Pieces.OnePiece.{one-crossed, one-given, one-passed, one-refused}
 use Rattle.npm_sets.proofs.Pieces.PieceReading.{piece-refused}
-use Rattle.npm_sets.proofs.Pieces.TextReading.{npm-sets-admit}
+use Rattle.npm_sets.proofs.Pieces.SetMeaning.{npm-sets-admit}
 use Rattle.npm_sets.proofs.read.read_one.Goals as goal
 
 pub returns-in-Err-clause-refused : goal.returns-in-Err-clause-refused

@@ -6,7 +6,8 @@ use Rattle.npm_sets.specs.NpmMeaning.{piece_comparators}
 use Rattle.npm_sets.specs.Private.ReadViews.{some_seen}
 use Rattle.npm_sets.proofs.Pieces.PieceReading.{refused-told}
 use Rattle.npm_sets.proofs.Pieces.TextReading.{PiecesSoFar, first-of, left-shorter, left_length, none-gathered, none-refused}
-use Rattle.npm_sets.proofs.Pieces.TextReading.{npm-sets-admit, pieces-found, pieces-passed, pieces-refused, pieces-start}
+use Rattle.npm_sets.proofs.Pieces.SetMeaning.{npm-sets-admit}
+use Rattle.npm_sets.proofs.Pieces.TextReading.{pieces-found, pieces-passed, pieces-refused, pieces-start}
 use Rattle.npm_sets.proofs.Pieces.TextReading.{some-gathered}
 use Rattle.npm_sets.proofs.read.read_several.Goals as goal
 use Rattle.npm_sets.proofs.read.read_several.Goals.{else-here, then-here}

@@ -29,7 +29,7 @@ const LEAST: [&str; 26] = [
     ">=2 || >1.0.0; 1.0.1-0",
     ">1.0.0 || >=1.0.1-0; 1.0.1-0",
     ">1.0.0-a <1.0.0-a.0 || >=3; 3.0.0",
-    "<0.0.0-0 || >2; 2.0.1-0",
+    "<0.0.0-0 || >2.0.0; 2.0.1-0",
     // The build is that of the lower end of the first set that the version lies inside.
     ">1.0.0+b; 1.0.1-0+b",
     ">=1.0.1-0+a || >1.0.0+b; 1.0.1-0+a",
@@ -105,5 +105,81 @@ pub(crate) fn is_least_listed(alloc: Global, versions: &str, text: &str, least: 
             is_found(alloc, included.min_satisfying(read), least)
         }
         _ => false,
+    }
+}
+
+// Two ranges, and the least version that lies inside the first and not inside the second: the empty text where there is
+// none.
+const BEYOND: [&str; 16] = [
+    "1 - 2; 1 || 2; 2.0.0-0",
+    "^1.2.3-rc.4; >=1.0.0-0; ",
+    "^1.2.3; >=1.2.3; ",
+    ">=1.0.0; 1.0.0; 1.0.1-0",
+    ">=1.0.0; <2.0.0-0; 2.0.0-0",
+    ">=1.0.0; <2.0.0; 2.0.0",
+    "<1.0.0; >0.0.0; 0.0.0-0",
+    "<1.0.0; 0.0.0-0; 0.0.0-0.0",
+    "any; >=0.0.0-0; ",
+    "any; *; 0.0.0-0",
+    ">1.0.0-a <1.0.0-a.0; 5; ",
+    ">1.0.0-a+1; >1.0.0-a <=1.0.0-a.0+2; 1.0.0-a.0.0",
+    ">1.0.0 <1.0.1; 5; 1.0.1-0",
+    "^2 || ^1.2.3; ^2; 1.2.3",
+    ">=1.0.0+a; 2; 1.0.0",
+    "{300*>=5.0.0-a <5.0.0-b||}^7; {300*>=5.0.0-a <5.0.0||}7.0.0; 7.0.1-0",
+];
+
+#[test]
+fn the_least_version_beyond_a_range_with_prereleases(rt: HostRuntime) {
+    each(&rt, Question::LeastBeyondIncluded, &BEYOND);
+}
+
+// Two ranges, and the least version that lies inside both.
+const COMMON: [&str; 12] = [
+    "^2.0.0-rc.1; >=1.5; 2.0.0-rc.1",
+    ">1.0.0; <2; 1.0.1-0",
+    "1 - 2; 3; ",
+    "<1.0.0; <2.0.0; 0.0.0-0",
+    "any; any; 0.0.0-0",
+    "any; <0.0.0-0; ",
+    ">1.0.0-a; <1.0.0-a.0; ",
+    ">1.0.0-a; <=1.0.0-a.0; 1.0.0-a.0",
+    ">=1.0.0-a <1.0.0; >=0.9; 1.0.0-a",
+    ">1.2.3; <1.2.4-0; ",
+    ">=1.0.0+a; >=1.0.0+b; 1.0.0",
+    "{300*1.0.0||}3; {300*2.0.0||}>3.1.0; 3.1.1-0",
+];
+
+#[test]
+fn the_least_version_in_two_ranges_with_prereleases(rt: HostRuntime) {
+    each(&rt, Question::LeastCommonIncluded, &COMMON);
+}
+
+pub(crate) fn is_least_beyond(alloc: Global, one: &Range, other: &Range, least: &str) -> bool {
+    match &one.with_prereleases().least_beyond(alloc, other) {
+        Ok(Some(version)) => {
+            one.contains(version)
+                && !other.contains(version)
+                && is_print(version.to_string(alloc).ok(), least)
+        }
+        Ok(None) => least.is_empty(),
+        Err(_) => false,
+    }
+}
+
+// The same version is found whichever range is asked.
+pub(crate) fn is_least_common(alloc: Global, one: &Range, other: &Range, least: &str) -> bool {
+    is_least_inside(alloc, one, other, least) && is_least_inside(alloc, other, one, least)
+}
+
+fn is_least_inside(alloc: Global, one: &Range, other: &Range, least: &str) -> bool {
+    match &one.with_prereleases().least_common(alloc, other) {
+        Ok(Some(version)) => {
+            one.contains(version)
+                && other.contains(version)
+                && is_print(version.to_string(alloc).ok(), least)
+        }
+        Ok(None) => least.is_empty(),
+        Err(_) => false,
     }
 }

@@ -4,6 +4,8 @@
 #[cfg(test)]
 mod algebra;
 #[cfg(test)]
+mod all_of;
+#[cfg(test)]
 mod beyond;
 #[cfg(test)]
 mod checks;

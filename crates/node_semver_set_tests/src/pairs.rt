@@ -2,6 +2,7 @@ use crate::algebra::{answers, made_admits};
 use crate::beyond::is_least_beyond;
 use crate::checks::is_yes;
 use crate::common::is_least_common;
+use crate::included;
 use crate::questions::Question;
 use crate::range_equality::agreed;
 use crate::unions::{is_union, union_admits};
@@ -70,6 +71,8 @@ fn of_ranges(alloc: Global, question: Question, one: &Range, other: &Range, want
         Question::Answers => answers(alloc, one, other, wanted),
         Question::LeastBeyond => is_least_beyond(alloc, one, other, wanted),
         Question::LeastCommon => is_least_common(alloc, one, other, wanted),
+        Question::LeastBeyondIncluded => included::is_least_beyond(alloc, one, other, wanted),
+        Question::LeastCommonIncluded => included::is_least_common(alloc, one, other, wanted),
         Question::Union => is_union(alloc, one, other, wanted),
         Question::UnionAdmits => union_admits(alloc, one, other, wanted),
         Question::CommonAdmits => made_admits(alloc, Made::Common, one, other, wanted),

@@ -1,7 +1,6 @@
 use crate::algebra::admits;
 use crate::beyond::{is_greatest, is_least_listed};
 use crate::checks::{is_print, is_yes};
-use crate::included;
 use crate::json::{of_member, of_string, text_of};
 use crate::least::{least_print, of_least, of_version};
 use crate::pairs::{of_texts, range};
@@ -10,6 +9,7 @@ use crate::set_lists::spans_print;
 use crate::spread::spread;
 use crate::trees::{joins, leaf_print};
 use crate::unions::is_read_of_texts;
+use crate::{all_of, included};
 use node_semver::{Range, Version};
 use std::alloc::{AllocGlobal, Global};
 use std::process::Abort;
@@ -48,6 +48,14 @@ pub(crate) enum Question {
     GreatestIncluded,
     // The same, and the least of them.
     LeastListedIncluded,
+    // Two range texts, and the least version that lies inside the first and not inside the second.
+    LeastBeyondIncluded,
+    // Two range texts, and the least version that lies inside both.
+    LeastCommonIncluded,
+    // Versions with blanks between, range texts with ` & ` between, and the greatest of the versions that all admit.
+    GreatestOfAll,
+    // The same, and the least of them.
+    LeastOfAll,
     // Two range texts, and the union of the two.
     Union,
     // Two range texts, a version, and whether their union admits it.
@@ -128,6 +136,8 @@ fn of_two(alloc: Global, question: Question, one: &str, other: &str, wanted: &st
         Question::Greatest => is_greatest(alloc, one, other, wanted),
         Question::UnionOfTexts => is_read_of_texts(alloc, one, other) == Some(is_yes(wanted)),
         Question::LeastListed => is_least_listed(alloc, one, other, wanted),
+        Question::GreatestOfAll => all_of::is_greatest(alloc, one, other, wanted),
+        Question::LeastOfAll => all_of::is_least(alloc, one, other, wanted),
         Question::GreatestIncluded => included::is_greatest(alloc, one, other, wanted),
         Question::LeastListedIncluded => included::is_least_listed(alloc, one, other, wanted),
         _ => of_texts(alloc, question, one, other, wanted),

@@ -2,6 +2,7 @@
 use crate::answer;
 use crate::answer::{Answer, print_of_error};
 use crate::fault::Fault;
+use crate::included::{Included, included_of};
 use crate::owned::{Making, making_of};
 use crate::question::{Question, error_of, question_of};
 use crate::trees::{push_words, tree_of};
@@ -46,6 +47,7 @@ pub(crate) enum Call {
     RangeFromJson(Value),
     Evaluate(SetTree),
     Make(Making),
+    Include(Included),
     Ask(Question),
 }
 
@@ -82,6 +84,7 @@ impl Call {
             Call::RangeFromJson(value) => answer::range_of_json(Range::from_json(alloc, value)),
             Call::Evaluate(tree) => answer::range_if_any(tree.evaluate(alloc)),
             Call::Make(making) => making.answer(alloc),
+            Call::Include(included) => included.answer(alloc),
             Call::Ask(question) => question.answer(alloc),
         }
     }
@@ -112,6 +115,7 @@ impl Call {
             Call::VersionFromJson(value) | Call::RangeFromJson(value) => value.to_string(alloc),
             Call::Evaluate(tree) => print_of_tree(alloc, tree),
             Call::Make(making) => making.print(alloc),
+            Call::Include(included) => included.print(alloc),
             Call::Ask(question) => question.print(alloc),
         }
     }
@@ -221,6 +225,11 @@ fn call_of_value(alloc: Global, name: &str, one: &str, other: &str) -> Result<Ca
         | "Version::coerce"
         | "npm_lock::check"
         | "Problem::to_json" => call_of_making(alloc, name, one),
+        "WithPrereleases::min_version"
+        | "WithPrereleases::least_beyond"
+        | "WithPrereleases::least_common" => {
+            Ok(Call::Include(included_of(alloc, name, one, other)?))
+        }
         _ => call_of_question(alloc, name, one, other),
     }
 }

@@ -9,6 +9,7 @@
 mod answer;
 mod call;
 mod fault;
+mod included;
 mod owned;
 mod question;
 mod requests;

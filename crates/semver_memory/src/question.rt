@@ -2,7 +2,7 @@
 use crate::answer::{Answer, print_of_error};
 use crate::fault::Fault;
 use node_semver::{
-    Comparisons, Identifier, Range, SemverError, Version, max_satisfying, min_satisfying,
+    AllOf, Comparisons, Identifier, Range, SemverError, Version, max_satisfying, min_satisfying,
 };
 use semver_cuts::algebra::are_merged;
 use semver_cuts::{Cut, Span, Stepped, covers};
@@ -63,7 +63,19 @@ fn is_admitted(range: &Range, version: &Version) -> bool {
     let counted = range.satisfies_counted(version, &mut Comparisons::new());
     let list = std::slice::from_ref(version);
     let listed = max_satisfying(list, range).is_some() && min_satisfying(list, range).is_some();
-    counted && listed && range.satisfies(version) && version.satisfies(range)
+    counted
+        && listed
+        && range.satisfies(version)
+        && version.satisfies(range)
+        && is_contained(range, list)
+}
+
+/// Whether the version of a list is found by the range with prereleases included, and by a list of this range.
+fn is_contained(range: &Range, list: &[Version]) -> bool {
+    let included = range.with_prereleases();
+    let all = AllOf::new(std::slice::from_ref(range));
+    let greatest = included.max_satisfying(list).is_some() && all.max_satisfying(list).is_some();
+    greatest && included.min_satisfying(list).is_some() && all.min_satisfying(list).is_some()
 }
 
 /// Whether two versions are equal prereleases, and the build of the first is less.

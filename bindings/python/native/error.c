@@ -69,3 +69,24 @@ void raise_status(PyTypeObject *type, node_semver_status status, PyObject *text,
     if (state != NULL)
         raise_refusal(state, text, fault);
 }
+
+/* The names of why a version is not raised, by status from NODE_SEMVER_INVALID_IDENTIFIER on. */
+static const char *const BUMP_FAULTS[] = {"InvalidIdentifier", "NoIdentifier", "SameIdentifier", "NumberTooLarge"};
+
+void raise_bump_status(PyTypeObject *type, node_semver_status status)
+{
+    native_state *state;
+    PyObject *error;
+    if (status < NODE_SEMVER_INVALID_IDENTIFIER || status > NODE_SEMVER_NUMBER_TOO_LARGE) {
+        raise_failure(status);
+        return;
+    }
+    state = state_of_type(type);
+    if (state == NULL)
+        return;
+    error = PyObject_CallFunction(state->bump_error_type, "(s)", BUMP_FAULTS[status - NODE_SEMVER_INVALID_IDENTIFIER]);
+    if (error == NULL)
+        return;
+    PyErr_SetObject(state->bump_error_type, error);
+    Py_DECREF(error);
+}

@@ -88,8 +88,9 @@ static int fill_module(PyObject *module)
     if (errors == NULL)
         return -1;
     state->error_type = PyObject_GetAttrString(errors, "SemverError");
+    state->bump_error_type = state->error_type == NULL ? NULL : PyObject_GetAttrString(errors, "BumpError");
     Py_DECREF(errors);
-    if (state->error_type == NULL)
+    if (state->bump_error_type == NULL)
         return -1;
     state->version_type = add_type(module, &version_spec);
     if (state->version_type == NULL)
@@ -106,6 +107,7 @@ static int visit_module(PyObject *module, visitproc visit, void *arg)
     Py_VISIT(state->version_type);
     Py_VISIT(state->range_type);
     Py_VISIT(state->error_type);
+    Py_VISIT(state->bump_error_type);
     return 0;
 }
 
@@ -117,6 +119,7 @@ static int clear_module(PyObject *module)
     Py_CLEAR(state->range_type); /* first: full_state asks for it */
     Py_CLEAR(state->version_type);
     Py_CLEAR(state->error_type);
+    Py_CLEAR(state->bump_error_type);
     return 0;
 }
 

@@ -18,6 +18,7 @@ typedef struct {
     PyTypeObject *version_type;
     PyTypeObject *range_type;
     PyObject *error_type;
+    PyObject *bump_error_type;
 } native_state;
 
 /* ---- module.c ---- */
@@ -77,6 +78,9 @@ void raise_failure(node_semver_status status);
 /* The same, or SemverError for a text that is refused. `type` is one of our two, since its module has the exception. */
 void raise_status(PyTypeObject *type, node_semver_status status, PyObject *text, const node_semver_fault *fault);
 
+/* MemoryError, or BumpError for a version that is not raised. */
+void raise_bump_status(PyTypeObject *type, node_semver_status status);
+
 /* ---- text.c ---- */
 
 /* Prints a value, or the identifier of a version at `place`, as the print functions of node_semver.h do. */
@@ -116,6 +120,14 @@ PyObject *new_version(PyTypeObject *type, node_semver_version handle);
 /* Reads the version of a str into an empty handle, in loose form or by the grammar of SemVer 2.0.0 alone: 0, or -1 with
  * an exception, a TypeError that starts with `wanted` if it is no str. `type` is as for raise_status. */
 int read_version(PyTypeObject *type, PyObject *text, bool is_strict, const char *wanted, node_semver_version *handle);
+
+/* ---- bump.c ---- */
+
+/* npm's name of a bump, or NULL for a number that is none. */
+const char *name_of_bump(uint32_t bump);
+
+/* `Version.bump`. */
+PyObject *version_bump(PyObject *self, PyObject *arguments, PyObject *keywords);
 
 /* ---- range.c ---- */
 

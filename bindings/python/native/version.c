@@ -120,21 +120,18 @@ static PyObject *version_compare_build(PyObject *self, PyObject *other)
     return PyLong_FromLong(node_semver_version_compare_build(VERSION_OF(self), VERSION_OF(other)));
 }
 
-/* The names of the bumps, which node_semver.h numbers from 1. */
-static const char *const BUMPS[] = {
-    NULL, "major", "premajor", "minor", "preminor", "patch", "prepatch", "prerelease",
-};
-
 static PyObject *version_diff(PyObject *self, PyObject *other)
 {
     uint32_t bump;
+    const char *name;
     if (!is_version(self, other))
         return NULL;
     bump = node_semver_version_diff(VERSION_OF(self), VERSION_OF(other));
     if (bump == NODE_SEMVER_NO_BUMP)
         Py_RETURN_NONE;
-    if (bump < sizeof BUMPS / sizeof *BUMPS)
-        return PyUnicode_FromString(BUMPS[bump]);
+    name = name_of_bump(bump);
+    if (name != NULL)
+        return PyUnicode_FromString(name);
     return PyErr_Format(PyExc_SystemError, "a bump of unknown kind %u", (unsigned)bump);
 }
 
@@ -249,6 +246,7 @@ static PyGetSetDef version_fields[] = {
 
 static PyMethodDef version_methods[] = {
     {"diff", version_diff, METH_O, diff_doc},
+    {"bump", (PyCFunction)(void (*)(void))version_bump, METH_VARARGS | METH_KEYWORDS, bump_doc},
     {"compare_build", version_compare_build, METH_O, compare_build_doc},
     {"__copy__", same_object, METH_NOARGS, "__copy__($self, /)\n--\n\nThe version itself: it never changes."},
     {"__deepcopy__", same_object, METH_O, "__deepcopy__($self, memo, /)\n--\n\nThe version itself: it never changes."},

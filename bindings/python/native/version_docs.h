@@ -60,4 +60,28 @@ PyDoc_STRVAR(diff_doc,
 ">>> print(Version('1.2.3+a').diff(Version('1.2.3+b')))\n"
 "None");
 
+PyDoc_STRVAR(bump_doc,
+"bump($self, release, /, *, identifier=None, base=0)\n"
+"--\n"
+"\n"
+"The version after a bump, as npm's `inc` makes it: 'major', 'minor', 'patch', 'premajor', 'preminor', 'prepatch',\n"
+"'prerelease' or 'pre'. It has no build.\n"
+"\n"
+">>> Version('1.2.3').bump('minor'), Version('2.0.0-rc.1').bump('major')\n"
+"(Version('1.3.0'), Version('2.0.0'))\n"
+">>> Version('1.2.3').bump('prerelease', identifier='beta')\n"
+"Version('1.2.4-beta.0')\n"
+">>> Version('1.2.4-beta.0').bump('prerelease', identifier='beta')\n"
+"Version('1.2.4-beta.1')\n"
+"\n"
+"The base is the number after the identifier of a new prerelease: 0, 1, or None for no number. An identifier of\n"
+"digits is a number, and the empty text is none. Raises BumpError if there is no such version.\n"
+"\n"
+">>> Version('1.2.3').bump('preminor', identifier='beta', base=None)\n"
+"Version('1.3.0-beta')\n"
+">>> Version('1.3.0-beta').bump('prerelease', identifier='beta', base=None)\n"
+"Traceback (most recent call last):\n"
+"    ...\n"
+"node_semver.BumpError: SameIdentifier: the prerelease is this identifier already, and no number is to follow it");
+
 #endif

@@ -66,6 +66,7 @@ class Docs(unittest.TestCase):
             (Range.parse_npm, "(text, /, *, loose=False, include_prerelease=False)"),
             (Version.compare_build, "(self, other, /)"),
             (Version.diff, "(self, other, /)"),
+            (Version.bump, "(self, release, /, *, identifier=None, base=0)"),
         ]
         for call, wanted in calls:
             self.assertEqual(str(inspect.signature(call)), wanted)

@@ -6,7 +6,7 @@ import pickle
 import unittest
 from typing import Callable
 
-from node_semver import Range, SemverError, Version
+from node_semver import BumpError, Range, SemverError, Version
 
 
 def error_of(read: Callable[[str], object], text: str) -> SemverError:
@@ -50,6 +50,16 @@ class Errors(unittest.TestCase):
             (Range, "latest next", "NoValidRanges at byte 0: no alternative is a range that a version can be in"),
         ]:
             self.assertEqual(str(error_of(read, text)).split("\n")[0], line)
+
+    def test_a_version_that_is_not_raised(self) -> None:
+        self.assertTrue(issubclass(BumpError, ValueError))
+        self.assertEqual(f"{BumpError.__module__}.{BumpError.__qualname__}", "node_semver.BumpError")
+        with self.assertRaises(BumpError) as caught:
+            Version("9007199254740991.0.0").bump("major")
+        error = caught.exception
+        self.assertEqual(str(error), "NumberTooLarge: a number would be above 9007199254740991")
+        for twin in [copy.copy(error), copy.deepcopy(error), pickle.loads(pickle.dumps(error))]:
+            self.assertEqual((type(twin), twin.kind, str(twin)), (BumpError, error.kind, str(error)))
 
     def test_is_copied_and_pickled(self) -> None:
         error = error_of(Version, "1.2.9007199254740992")

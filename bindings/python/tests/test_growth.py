@@ -56,6 +56,8 @@ WORKS: List[Callable[[], object]] = [
     lambda: (WANTED.min_version(), WANTED.least_beyond(OTHER), WANTED.least_common(OTHER)),
     lambda: (WANTED.contains(VERSION), WANTED.contains("1.2.4-rc.4")),
     lambda: (VERSION.compare_build(LONGEST), VERSION.diff(LONGEST)),
+    lambda: (VERSION.bump("minor"), VERSION.bump("prerelease", identifier="beta", base=1)),
+    lambda: refused(lambda: VERSION.bump("pre", base=None)),
     lambda: WANTED.filter(ASKED),
     lambda: WANTED.max_satisfying(ASKED),
     lambda: WANTED.min_satisfying(ASKED),

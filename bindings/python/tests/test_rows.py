@@ -4,9 +4,9 @@
 import functools
 import itertools
 import unittest
-from typing import Callable, Dict, List, Optional, Tuple
+from typing import Callable, Dict, List, Literal, Optional, Tuple
 
-from node_semver import Range, SemverError, Version, satisfies
+from node_semver import BumpError, BumpFault, Range, ReleaseType, SemverError, Version, satisfies
 
 # SemVer 2.0.0, section 11.
 CHAIN = [
@@ -50,6 +50,49 @@ NOT_STRICT = [
     ("1.2.3a", 4), ("1.2.3-01", 6), ("1.2.3-a.01+b", 8), ("1.2.3-a.00", 8),
 ]  # fmt: skip
 STRICT = ["1.2.3", "0.0.0", "1.2.3-a.1+01", "1.2.3-0a", "1.2.3--", "1.2.3-0", "1.2.3+a-b.007", "1.2.9007199254740991"]
+
+Base = Literal[0, 1, None]
+
+# A version, a release type, an identifier, a base and the result: npm's README, "Functions", "Prerelease Identifiers"
+# and "Prerelease Identifier Base", and what its `semver` 7.6.2 answers.
+BUMPS: List[Tuple[str, ReleaseType, Optional[str], Base, str]] = [
+    ("1.2.3", "prerelease", "beta", 0, "1.2.4-beta.0"),
+    ("1.2.4-beta.0", "prerelease", None, 0, "1.2.4-beta.1"),
+    ("1.2.3", "prerelease", "beta", 1, "1.2.4-beta.1"),
+    ("1.2.3", "prerelease", "beta", None, "1.2.4-beta"),
+    ("1.2.3", "major", None, 0, "2.0.0"),
+    ("1.2.3", "premajor", None, 0, "2.0.0-0"),
+    ("1.2.3", "minor", None, 0, "1.3.0"),
+    ("1.2.3", "preminor", None, 1, "1.3.0-1"),
+    ("1.2.3+b.1", "patch", None, 0, "1.2.4"),
+    ("1.2.3", "prepatch", "beta", 0, "1.2.4-beta.0"),
+    ("1.2.3", "prerelease", None, 0, "1.2.4-0"),
+    ("1.2.3", "pre", None, 0, "1.2.3-0"),
+    ("2.0.0-rc.1", "major", None, 0, "2.0.0"),
+    ("2.0.0-rc.1", "minor", None, 0, "2.0.0"),
+    ("2.0.0-rc.1", "patch", None, 0, "2.0.0"),
+    ("1.2.4-beta.1", "prerelease", "beta", None, "1.2.4-beta.2"),
+    ("1.2.4-beta.1", "prerelease", "alpha", 1, "1.2.4-alpha.1"),
+    ("1.2.4-alpha.1.beta", "prerelease", "alpha", 1, "1.2.4-alpha.2.beta"),
+    ("1.2.3", "prerelease", "1", 0, "1.2.4-1.0"),
+    ("1.2.4-1.0", "prerelease", "1", 0, "1.2.4-1.1"),
+    ("1.2.3", "prerelease", "", 0, "1.2.4-0"),
+    ("1.2.3", "major", "beta", None, "2.0.0"),
+]
+
+# What has no bumped version, and why.
+NOT_BUMPED: List[Tuple[str, ReleaseType, Optional[str], Base, BumpFault]] = [
+    ("1.2.3", "prerelease", None, None, "NoIdentifier"),
+    ("1.2.3", "premajor", "", None, "NoIdentifier"),
+    ("1.2.4-beta", "prerelease", "beta", None, "SameIdentifier"),
+    ("9007199254740991.0.0", "major", None, 0, "NumberTooLarge"),
+    ("1.0.0-a.9007199254740991", "prerelease", None, 0, "NumberTooLarge"),
+    ("1.2.3", "prerelease", "beta.1", 0, "InvalidIdentifier"),
+    ("1.2.3", "major", "a b", 0, "InvalidIdentifier"),
+    ("1.2.3", "prerelease", "b\u0117ta", 0, "InvalidIdentifier"),
+    ("1.2.3", "prerelease", "a\0", 0, "InvalidIdentifier"),
+    ("1.2.3", "prerelease", "-" * 20000 + "!", 0, "InvalidIdentifier"),
+]
 
 RANGE_PRINTS = [
     ("^1.2.3-rc.4 || >=3", ">=1.2.3-rc.4 <2.0.0-0||>=3.0.0"),
@@ -260,6 +303,21 @@ class Rows(unittest.TestCase):
             self.assertEqual((caught.exception.text, fault(caught.exception)), (text, ("NoValidRanges", 0, None)))
         with self.assertRaises(UnicodeEncodeError):
             Range.parse_npm("\ud800")
+
+    def test_raises_versions(self) -> None:
+        for text, release, identifier, base, wanted in BUMPS:
+            with self.subTest(text, release=release, identifier=identifier, base=base):
+                bumped = Version(text).bump(release, identifier=identifier, base=base)
+                self.assertEqual((type(bumped), str(bumped)), (Version, wanted))
+        self.assertEqual(str(Version("1.2.3").bump("preminor")), "1.3.0-0")
+        self.assertEqual(str(Version("1.2.3").bump("pre", identifier="-" * 20000)), f"1.2.3-{'-' * 20000}.0")
+        for text, release, identifier, base, kind in NOT_BUMPED:
+            with self.subTest(text, release=release, identifier=identifier, base=base):
+                with self.assertRaises(BumpError) as caught:
+                    Version(text).bump(release, identifier=identifier, base=base)
+                self.assertEqual(caught.exception.kind, kind)
+        with self.assertRaises(UnicodeEncodeError):
+            Version("1.2.3").bump("pre", identifier="\ud800")
 
     def test_bumps(self) -> None:
         # What npm's README says of `diff`, and its names.

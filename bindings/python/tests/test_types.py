@@ -138,6 +138,26 @@ class Types(unittest.TestCase):
         with self.assertRaises(ZeroDivisionError):
             Range.parse_npm("1", include_prerelease=undecided)
 
+    def test_bumps(self) -> None:
+        bump = VERSION.bump
+        for wrong in PLAIN_TYPES + [VERSION, RANGE]:
+            self.refuses(bump, wrong)
+        for wrong in PLAIN_TYPES[1:] + [VERSION, RANGE]:
+            self.refuses(bump, "major", identifier=wrong)
+        for wrong in [False, True, 1.0, "0", b"1", [], object(), int, VERSION, RANGE]:
+            self.refuses(bump, "major", base=wrong)
+        self.refuses(bump)
+        self.refuses(bump, "major", "beta")
+        self.refuses(bump, release="major")
+        self.refuses(bump, "major", identifierBase=0)
+        self.refuses(Version.bump, RANGE, "major")
+        for release in ["", "Major", "release", "majo", "majors", "pre\0", "none", "\u0161"]:
+            with self.assertRaises(ValueError, msg=release):
+                bump(release)
+        for base in [2, -1, 2**31, 2**64, -(2**64)]:
+            with self.assertRaises(ValueError, msg=base):
+                bump("major", base=base)
+
     def test_membership(self) -> None:
         for wrong in PLAIN_TYPES + [RANGE]:
             self.refuses(operator.contains, RANGE, wrong)

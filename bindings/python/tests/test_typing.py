@@ -60,6 +60,8 @@ class Typing(unittest.TestCase):
             file.write("node_semver.FaultKind\nnode_semver._error.FaultKind\n")
             file.write("node_semver.CutKind\nnode_semver._types.CutKind\n")
             file.write("node_semver.Bump\nnode_semver._types.Bump\n")
+            file.write("node_semver.BumpFault\nnode_semver._error.BumpFault\n")
+            file.write("node_semver.ReleaseType\nnode_semver._types.ReleaseType\n")
             file.flush()
             self.accepts("mypy.stubtest", "node_semver", "--allowlist", file.name, "--ignore-unused-allowlist")
 

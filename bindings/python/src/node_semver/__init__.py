@@ -10,9 +10,12 @@ True
 [Version('1.9.0'), Version('1.10.0-rc.1'), Version('1.10.0')]
 """
 
-from ._error import FaultKind, SemverError
+from ._error import BumpError, BumpFault, FaultKind, SemverError
 from ._native import Range, Version, satisfies
-from ._types import Bump, Cut, CutKind
+from ._types import Bump, Cut, CutKind, ReleaseType
 
-__all__ = ["Bump", "Cut", "CutKind", "FaultKind", "Range", "SemverError", "Version", "satisfies"]
+__all__ = [
+    "Bump", "BumpError", "BumpFault", "Cut", "CutKind", "FaultKind", "Range", "ReleaseType", "SemverError", "Version",
+    "satisfies",
+]  # fmt: skip
 __version__ = "1.0.0"

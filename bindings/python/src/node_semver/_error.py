@@ -1,5 +1,5 @@
 # SPDX-License-Identifier: Apache-2.0
-"""The exception for a text that is not a version or not a range."""
+"""The exceptions: for a text that is not a version or not a range, and for a version that is not raised."""
 
 from typing import Literal, Optional
 
@@ -14,6 +14,15 @@ _REASONS = {
     "Context": "a number or a dot is missing",
     "NoValidRanges": "no alternative is a range that a version can be in",
     "Other": "what begins here is no part of a version",
+}
+
+BumpFault = Literal["InvalidIdentifier", "NoIdentifier", "SameIdentifier", "NumberTooLarge"]
+
+_BUMP_REASONS = {
+    "InvalidIdentifier": "an identifier has ASCII letters, digits and hyphens alone",
+    "NoIdentifier": "there is neither an identifier nor a number to begin a prerelease with",
+    "SameIdentifier": "the prerelease is this identifier already, and no number is to follow it",
+    "NumberTooLarge": "a number would be above 9007199254740991",
 }
 
 # How many characters of a long text the message shows on each side of the fault.
@@ -62,6 +71,32 @@ class SemverError(ValueError):
 
 
 SemverError.__module__ = "node_semver"
+
+
+class BumpError(ValueError):
+    """A version that is not raised by `Version.bump`.
+
+    >>> try:
+    ...     Version('1.2.3').bump('prerelease', base=None)
+    ... except BumpError as error:
+    ...     print(error)
+    ...     print(error.kind)
+    NoIdentifier: there is neither an identifier nor a number to begin a prerelease with
+    NoIdentifier
+    """
+
+    #: Why: a name, as `NoIdentifier`.
+    kind: BumpFault
+
+    def __init__(self, kind: BumpFault) -> None:
+        super().__init__(kind)  # the argument that pickle and copy pass again
+        self.kind = kind
+
+    def __str__(self) -> str:
+        return f"{self.kind}: {_BUMP_REASONS.get(self.kind, 'the version is not raised')}"
+
+
+BumpError.__module__ = "node_semver"
 
 
 def _visible(text: str) -> str:

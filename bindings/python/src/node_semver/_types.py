@@ -8,6 +8,9 @@ from ._native import Version
 #: What leads from one version to another.
 Bump = Literal["major", "premajor", "minor", "preminor", "patch", "prepatch", "prerelease"]
 
+#: How a version is raised: npm's release types.
+ReleaseType = Literal["major", "premajor", "minor", "preminor", "patch", "prepatch", "prerelease", "pre"]
+
 CutKind = Literal["start", "before", "after", "end"]
 
 #: A place between versions: just before a version, just after it, or at the start or the end of all versions.

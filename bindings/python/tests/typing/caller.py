@@ -5,7 +5,8 @@ import copy
 import functools
 from typing import List, Optional, Tuple, Union
 
-from node_semver import Bump, Cut, CutKind, FaultKind, Range, SemverError, Version, satisfies
+from node_semver import Bump, BumpError, BumpFault, Cut, CutKind, FaultKind, Range, ReleaseType, SemverError, Version
+from node_semver import satisfies
 
 version: Version = Version("1.2.3-rc.4")
 strict: Version = Version("1.2.3-rc.4", strict=True)
@@ -28,6 +29,9 @@ common: Optional[Version] = wanted.least_common(Range("^1"))
 inside: List[bool] = [wanted.contains(version), wanted.contains("1.2.3-a")]
 order: int = version.compare_build(version)
 bump: Optional[Bump] = version.diff(version)
+releases: List[ReleaseType] = ["major", "pre"]
+bumped: List[Version] = [version.bump(release, identifier="beta", base=None) for release in releases]
+again: Version = version.bump(bump or "patch", base=1)
 by_build: List[Version] = sorted([version], key=functools.cmp_to_key(Version.compare_build))
 covers: bool = wanted.allows_all(Range("3.0.0")) and wanted.allows_any(Range("3.0.0"))
 
@@ -54,3 +58,8 @@ try:
 except SemverError as error:
     fault: Tuple[FaultKind, int, str, Optional[int]] = (error.kind, error.offset, error.text, error.number)
     is_context: bool = error.kind == "Context"
+
+try:
+    version.bump("pre", base=None)
+except BumpError as error:
+    why: BumpFault = error.kind

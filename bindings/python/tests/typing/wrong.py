@@ -30,6 +30,11 @@ wanted.contains(1)  # wrong
 version.compare_build("1.2.3")  # wrong
 version.diff("1.2.3")  # wrong
 bump: str = version.diff(version)  # wrong
+version.bump("release")  # wrong
+version.bump("major", "beta")  # wrong
+version.bump("major", identifier=1)  # wrong
+version.bump("major", base=2)  # wrong
+version.bump("major", base=False)  # wrong
 wanted.filter([1])  # wrong
 wanted.max_satisfying([wanted])  # wrong
 wanted.min_satisfying(version)  # wrong

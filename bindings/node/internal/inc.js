@@ -21,7 +21,8 @@ const REASONS = new Map([[7, 'identifier is empty'], [8, 'identifier already exi
 // The library's bump. An identifier that SemVer does not have, as `beta.1`, is put before the number as it is, as in
 // npm: the rest of the version is that of a bump without one.
 function bumped(semVer, number, identifier, base) {
-    const found = native.bump(keyOfSemVer(semVer), number, identifier, base);
+    const found = identifier === '' ? INVALID_IDENTIFIER
+        : native.bump(keyOfSemVer(semVer), number, identifier ?? '', base);
     if (found !== INVALID_IDENTIFIER) {
         return found;
     }
@@ -40,7 +41,7 @@ function raise(semVer, release, identifier, identifierBase) {
         throw new Error(`invalid increment argument: ${release}`);
     }
     const isRelease = RELEASES.includes(release);
-    const text = isRelease || !identifier ? '' : String(identifier);
+    const text = isRelease || !identifier ? undefined : String(identifier);
     const found = bumped(semVer, number, text, isRelease ? 0 : baseOf(identifierBase));
     if (typeof found !== 'string') {
         throw new Error(`invalid increment argument: ${REASONS.get(found) ?? release}`);

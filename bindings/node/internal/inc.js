@@ -41,7 +41,7 @@ function raise(semVer, release, identifier, identifierBase) {
         throw new Error(`invalid increment argument: ${release}`);
     }
     const isRelease = RELEASES.includes(release);
-    const text = isRelease || !identifier ? undefined : String(identifier);
+    const text = isRelease || !identifier ? undefined : `${identifier}`;
     const found = bumped(semVer, number, text, isRelease ? 0 : baseOf(identifierBase));
     if (typeof found !== 'string') {
         throw new Error(`invalid increment argument: ${REASONS.get(found) ?? release}`);

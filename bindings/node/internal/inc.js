@@ -1,74 +1,55 @@
 // SPDX-License-Identifier: Apache-2.0
-// The next version, as npm's `inc` has it. This is decided here, in JavaScript, and tested beside npm's.
+// The next version: the library's bump, and what npm adds to it.
 'use strict';
 
+const native = require('./native.js');
+const { BUMPS } = require('./bumps.js');
 const { caught } = require('./errors.js');
-const { compareIdentifiers } = require('./identifiers.js');
-const { SemVer } = require('./semver.js');
+const { SemVer, keyOfSemVer, putParts } = require('./semver.js');
 
-const hasPrerelease = ({ prerelease }) => prerelease.length > 0;
+const NUMBERS = new Map(BUMPS.map((name, number) => [name, number]).slice(1));
+const RELEASES = ['major', 'minor', 'patch'];
 
-function put(semVer, major, minor, patch) {
-    Object.assign(semVer, { major, minor, patch, prerelease: [] });
+// The number after an identifier, by the numbers of node_semver.h.
+const NO_BASE = 2;
+const baseOf = (identifierBase) => (identifierBase === false ? NO_BASE : Number(identifierBase) ? 1 : 0);
+
+// What the native part returns for an identifier as `beta.1` or `a b`.
+const INVALID_IDENTIFIER = 6;
+const REASONS = new Map([[7, 'identifier is empty'], [8, 'identifier already exists']]);
+
+// The library's bump. An identifier that SemVer does not have, as `beta.1`, is put before the number as it is, as in
+// npm: the rest of the version is that of a bump without one.
+function bumped(semVer, number, identifier, base) {
+    const found = identifier === '' ? INVALID_IDENTIFIER
+        : native.bump(keyOfSemVer(semVer), number, identifier ?? '', base);
+    if (found !== INVALID_IDENTIFIER) {
+        return found;
+    }
+    if (base === NO_BASE && semVer.prerelease.join('.') === identifier && number >= NUMBERS.get('prerelease')) {
+        return 8;
+    }
+    const plain = native.bump(keyOfSemVer(semVer), number, '', 0);
+    return typeof plain === 'string'
+        ? `${plain.slice(0, plain.indexOf('-'))}-${identifier}${base === NO_BASE ? '' : `.${base}`}` : plain;
 }
 
-// The release types that end at a release: of a prerelease of that release, the release itself.
-const RELEASES = {
-    major(semVer) {
-        const isBefore = semVer.minor === 0 && semVer.patch === 0 && hasPrerelease(semVer);
-        put(semVer, semVer.major + (isBefore ? 0 : 1), 0, 0);
-    },
-    minor(semVer) {
-        const isBefore = semVer.patch === 0 && hasPrerelease(semVer);
-        put(semVer, semVer.major, semVer.minor + (isBefore ? 0 : 1), 0);
-    },
-    patch(semVer) {
-        put(semVer, semVer.major, semVer.minor, semVer.patch + (hasPrerelease(semVer) ? 0 : 1));
-    },
-};
-
-// What stands before the prerelease of the other types.
-const PRERELEASES = {
-    premajor: (semVer) => put(semVer, semVer.major + 1, 0, 0),
-    preminor: (semVer) => put(semVer, semVer.major, semVer.minor + 1, 0),
-    prepatch: (semVer) => put(semVer, semVer.major, semVer.minor, semVer.patch + 1),
-    prerelease: (semVer) => (hasPrerelease(semVer) ? undefined : RELEASES.patch(semVer)),
-    pre: () => undefined,
-};
-
-// The next prerelease: its last number and one, or a number after it.
-function counted(prerelease, base, identifier, identifierBase) {
-    const last = prerelease.map((one) => typeof one).lastIndexOf('number');
-    if (last >= 0) {
-        return prerelease.map((one, place) => (place === last ? one + 1 : one));
-    }
-    if (prerelease.length > 0 && identifierBase === false && identifier === prerelease.join('.')) {
-        throw new Error('invalid increment argument: identifier already exists');
-    }
-    return [...prerelease, base];
-}
-
-function putPrerelease(semVer, identifier, identifierBase) {
-    const base = Number(identifierBase) ? 1 : 0;
-    if (!identifier && identifierBase === false) {
-        throw new Error('invalid increment argument: identifier is empty');
-    }
-    const next = counted(semVer.prerelease, base, identifier, identifierBase);
-    const isSame = !identifier || (compareIdentifiers(next[0], identifier) === 0 && !isNaN(next[1]));
-    semVer.prerelease = isSame ? next : identifierBase === false ? [identifier] : [identifier, base];
-}
-
-// Raises a SemVer in place.
+// Raises a SemVer in place. Its build stays.
 function raise(semVer, release, identifier, identifierBase) {
-    if (Object.hasOwn(RELEASES, release)) {
-        RELEASES[release](semVer);
-    } else if (Object.hasOwn(PRERELEASES, release)) {
-        PRERELEASES[release](semVer);
-        putPrerelease(semVer, identifier, identifierBase);
-    } else {
+    const number = NUMBERS.get(release);
+    if (number === undefined) {
         throw new Error(`invalid increment argument: ${release}`);
     }
-    semVer.raw = semVer.format() + (semVer.build.length > 0 ? `+${semVer.build.join('.')}` : '');
+    const isRelease = RELEASES.includes(release);
+    const text = isRelease || !identifier ? undefined : `${identifier}`;
+    const found = bumped(semVer, number, text, isRelease ? 0 : baseOf(identifierBase));
+    if (typeof found !== 'string') {
+        throw new Error(`invalid increment argument: ${REASONS.get(found) ?? release}`);
+    }
+    const { build } = semVer;
+    putParts(semVer, found, isRelease ? 1 : 2);
+    semVer.build = build;
+    semVer.raw = found + (build.length > 0 ? `+${build.join('.')}` : '');
     return semVer;
 }
 

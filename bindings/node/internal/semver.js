@@ -187,4 +187,4 @@ function compareVersions(one, other, options, call = native.compare) {
     return compareKeys(new SemVer(one, options), new SemVer(other, options), call);
 }
 
-module.exports = { SemVer, semVerOfKey, keyOfSemVer, versionKey, compareVersions };
+module.exports = { SemVer, putParts, semVerOfKey, keyOfSemVer, versionKey, compareVersions };

@@ -3,6 +3,7 @@
 'use strict';
 
 const native = require('./native.js');
+const { BUMPS } = require('./bumps.js');
 const { caught } = require('./errors.js');
 const { SemVer, compareVersions, keyOfSemVer } = require('./semver.js');
 const { trimmedVersion, withoutBuild, withoutV } = require('./texts.js');
@@ -76,9 +77,6 @@ function cmp(one, operator, other, options) {
     }
     return call(one, other, options);
 }
-
-// The bumps, by their numbers in node_semver.h.
-const BUMPS = [null, 'major', 'premajor', 'minor', 'preminor', 'patch', 'prepatch', 'prerelease'];
 
 function diff(one, other) {
     const keys = [parse(one, null, true), parse(other, null, true)].map(keyOfSemVer);

@@ -5,7 +5,7 @@
 
 const native = require('./native.js');
 const { ANY, comparatorOf } = require('./comparator.js');
-const { textKey } = require('./kept.js');
+const { LONGEST_KEPT, textKey } = require('./kept.js');
 const { INCLUDES_PRERELEASES, IS_LOOSE } = require('./options.js');
 const { semVerOfKey } = require('./semver.js');
 const { withoutBuild } = require('./texts.js');
@@ -96,9 +96,26 @@ const alternatives = new WeakMap();
 const isSameText = (one, other) => one === other
     || (alternatives.has(one) && alternatives.get(one) === alternatives.get(other));
 
+// The alternatives that were read last, as properties: see kept.js. npm keeps them too.
+const MOST_KEPT = 500;
+let kept = Object.create(null);
+let count = 0;
+
 function readKept(alternative, flags, options) {
+    const key = textKey(alternative, flags);
+    if (kept[key] !== undefined) {
+        return kept[key];
+    }
     const comparators = readAlternative(alternative, flags, options);
-    alternatives.set(comparators, textKey(alternative, flags));
+    alternatives.set(comparators, key);
+    if (alternative.length <= LONGEST_KEPT) {
+        if (count === MOST_KEPT) {
+            kept = Object.create(null);
+            count = 0;
+        }
+        kept[key] = comparators;
+        count++;
+    }
     return comparators;
 }
 

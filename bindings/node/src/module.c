@@ -23,6 +23,15 @@ static napi_value version_text(napi_env env, napi_callback_info info) {
     return result;
 }
 
+/* Puts the three numbers of the version into `triple`. Returns 1 where the version is a triple alone, and 2 where it has
+ * a prerelease or a build. */
+static int32_t put_triple(struct state *state, const node_semver_version *version) {
+    state->triple[0] = (double)node_semver_version_major(version);
+    state->triple[1] = (double)node_semver_version_minor(version);
+    state->triple[2] = (double)node_semver_version_patch(version);
+    return node_semver_version_is_prerelease(version) || node_semver_version_build_count(version) > 0 ? 2 : 1;
+}
+
 /* readVersion(key): puts the triple of the version into `triple`. Returns 0 where the key is none, 1 where the version
  * is a triple alone, and 2 where it has a prerelease or a build. */
 static napi_value read_parts(napi_env env, napi_callback_info info) {
@@ -36,13 +45,52 @@ static napi_value read_parts(napi_env env, napi_callback_info info) {
     if (status != NODE_SEMVER_OK) {
         return status == NODE_SEMVER_REFUSED ? of_int(env, 0) : failed(env, status);
     }
-    state->triple[0] = (double)node_semver_version_major(&version.handle);
-    state->triple[1] = (double)node_semver_version_minor(&version.handle);
-    state->triple[2] = (double)node_semver_version_patch(&version.handle);
-    bool has_more = node_semver_version_is_prerelease(&version.handle)
-        || node_semver_version_build_count(&version.handle) > 0;
+    int32_t form = put_triple(state, &version.handle);
     let_version_go(&version);
-    return of_int(env, has_more ? 2 : 1);
+    return of_int(env, form);
+}
+
+/* The print of a bumped version, or the status for which there is none. */
+static napi_value bumped(napi_env env, const struct version *version, uint32_t number, const struct text *identifier,
+                         uint32_t base) {
+    struct state *state = state_of(env);
+    node_semver_version made = NODE_SEMVER_EMPTY;
+    node_semver_status status =
+        node_semver_version_bump(&version->handle, number, identifier->bytes, identifier->length, base, &made);
+    if (status != NODE_SEMVER_OK || state == NULL) {
+        return status == NODE_SEMVER_OUT_OF_MEMORY ? out_of_memory(env) : of_int(env, (int32_t)status);
+    }
+    put_triple(state, &made);
+    napi_value print = version_print(env, &made);
+    node_semver_version_free(made);
+    return print;
+}
+
+/* bump(key, number, identifier, base): puts the triple of the version after the bump into `triple`, and returns its
+ * print; or the status of node_semver.h for which there is none. */
+static napi_value bump(napi_env env, napi_callback_info info) {
+    napi_value arguments[4], result = NULL;
+    struct version version;
+    struct text identifier;
+    uint32_t number = 0, base = 0;
+    if (!get_arguments(env, info, 4, arguments)) {
+        return NULL;
+    }
+    napi_get_value_uint32(env, arguments[1], &number);
+    napi_get_value_uint32(env, arguments[3], &base);
+    node_semver_status status = get_text(env, arguments[2], &identifier);
+    if (status != NODE_SEMVER_OK) {
+        return status == NODE_SEMVER_REFUSED ? of_int(env, NODE_SEMVER_INVALID_IDENTIFIER) : failed(env, status);
+    }
+    status = get_version(env, arguments[0], &version);
+    if (status == NODE_SEMVER_OK) {
+        result = bumped(env, &version, number, &identifier, base);
+        let_version_go(&version);
+    } else {
+        result = status == NODE_SEMVER_REFUSED ? of_int(env, NODE_SEMVER_REFUSED) : failed(env, status);
+    }
+    free_text(&identifier);
+    return result;
 }
 
 /* rangeText(key): the print of the range, or null where the key is none. */
@@ -240,7 +288,7 @@ NAPI_MODULE_INIT() {
         FUNCTION("best", best),                FUNCTION("order", order),
         FUNCTION("diff", diff),                FUNCTION("intersect", intersect),
         FUNCTION("difference", difference),    FUNCTION("leastBeyond", least_beyond),
-        FUNCTION("keep", keep),
+        FUNCTION("keep", keep),                FUNCTION("bump", bump),
         FUNCTION("readVersion", read_parts),   FUNCTION("sets", sets),
         FUNCTION("fromSets", from_sets),       FUNCTION("leastCommon", least_common),
     };

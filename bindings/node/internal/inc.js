@@ -5,7 +5,7 @@
 const native = require('./native.js');
 const { BUMPS } = require('./bumps.js');
 const { caught } = require('./errors.js');
-const { SemVer, keyOfSemVer, putParts } = require('./semver.js');
+const { SemVer, identifierOf, keyOfSemVer } = require('./semver.js');
 
 const NUMBERS = new Map(BUMPS.map((name, number) => [name, number]).slice(1));
 const RELEASES = ['major', 'minor', 'patch'];
@@ -41,15 +41,18 @@ function raise(semVer, release, identifier, identifierBase) {
         throw new Error(`invalid increment argument: ${release}`);
     }
     const isRelease = RELEASES.includes(release);
+    if (!isRelease && typeof identifier === 'bigint') {
+        throw new TypeError('Cannot convert a BigInt value to a number');
+    }
     const text = isRelease || !identifier ? undefined : `${identifier}`;
     const found = bumped(semVer, number, text, isRelease ? 0 : baseOf(identifierBase));
     if (typeof found !== 'string') {
         throw new Error(`invalid increment argument: ${REASONS.get(found) ?? release}`);
     }
-    const { build } = semVer;
-    putParts(semVer, found, isRelease ? 1 : 2);
-    semVer.build = build;
-    semVer.raw = found + (build.length > 0 ? `+${build.join('.')}` : '');
+    [semVer.major, semVer.minor, semVer.patch] = native.triple;
+    semVer.prerelease = isRelease ? [] : found.slice(found.indexOf('-') + 1).split('.').map(identifierOf);
+    semVer.version = found;
+    semVer.raw = found + (semVer.build.length > 0 ? `+${semVer.build.join('.')}` : '');
     return semVer;
 }
 

@@ -14,7 +14,7 @@ const REFUSED = 0;
 const IS_TRIPLE = 1;
 
 // An identifier of digits is a number where JavaScript has that number, as with npm.
-function identifier(text) {
+function identifierOf(text) {
     const number = Number(text);
     return /^[0-9]+$/.test(text) && number < Number.MAX_SAFE_INTEGER ? number : text;
 }
@@ -32,7 +32,7 @@ function putParts(semVer, text, form) {
     }
     const version = withoutBuild(text);
     const dash = version.indexOf('-');
-    semVer.prerelease = dash < 0 ? [] : version.slice(dash + 1).split('.').map(identifier);
+    semVer.prerelease = dash < 0 ? [] : version.slice(dash + 1).split('.').map(identifierOf);
     semVer.build = version === text ? [] : text.slice(version.length + 1).split('.');
     semVer.version = version;
 }
@@ -187,4 +187,4 @@ function compareVersions(one, other, options, call = native.compare) {
     return compareKeys(new SemVer(one, options), new SemVer(other, options), call);
 }
 
-module.exports = { SemVer, putParts, semVerOfKey, keyOfSemVer, versionKey, compareVersions };
+module.exports = { SemVer, identifierOf, semVerOfKey, keyOfSemVer, versionKey, compareVersions };

@@ -1,6 +1,11 @@
 pub mod Examples
 pub mod Groups
+pub mod IndexUpdates
 pub mod MoreFindings
 pub mod NameLists
+pub mod Nearest
+pub mod Paths
 pub mod ProblemTexts
 pub mod Reports
+pub mod Searching
+pub mod Stepping

@@ -1,3 +1,5 @@
 pub mod Adding  -- what a call adds to the problems
 pub mod Groups  -- what a map of names has
+pub mod Index  -- what the index of the folders has
 pub mod PackageValue  -- what is seen of a package, and of what it asks for
+pub mod Search  -- the folders in which names are looked up

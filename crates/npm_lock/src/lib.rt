@@ -4,11 +4,13 @@
 mod asked;
 mod fault;
 mod folder;
+mod index;
 mod lock_file;
 mod outcome;
 mod place;
 mod problem;
 mod range_text;
+mod search;
 #[cfg(test)]
 mod tests;
 mod text;

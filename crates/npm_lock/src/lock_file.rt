@@ -8,15 +8,18 @@ ghost use Rattle.npm_lock.specs.Faults as Faults;
 ghost use Rattle.npm_lock.specs.Findings.{AreFindings, AreMemberFindings, Finding, IsChecked, IsReport, keys_of};
 ghost use Rattle.npm_lock.specs.declared.fault.Fault.{Fault};
 ghost use Rattle.npm_lock.specs.Private.Adding.{Adds};
+ghost use Rattle.npm_lock.specs.Private.Index.{IsComplete};
 ghost use Rattle.npm_lock.specs.Private.PackageValue.{packages_data};
 
 use crate::Result;
 use crate::asked::asked_of;
 use crate::fault::{CheckError, lock_of};
 use crate::folder::is_installed;
+use crate::index::Index;
 use crate::outcome::{engine_problem, outcome_of};
 use crate::place::{Lock, Package, is_link};
 use crate::problem::Problems;
+use crate::search::places_from;
 use node_semver::Version;
 use serde_json::Value;
 use std::alloc::Global;
@@ -46,16 +49,23 @@ fn problems_of(lock: Lock<'_>) -> Result<Problems>
         (members_view lock.entry.members.now.entries) found
         × IsReport found problems) }
 {
+    let index = Index::of_lock(lock)?;
     let mut problems = Problems::new(lock.alloc);
     for (folder, member) in lock.members.iter() {
         let folder = folder.as_str();
-        check_package(lock, Package { folder, member }, &mut problems)?;
+        check_package(lock, &index, Package { folder, member }, &mut problems)?;
     }
     Ok(problems)
 }
 
 /// Adds the problems of one member of `packages`: that with the version of Node, and then those of its dependencies.
-fn check_package(lock: Lock<'_>, asker: Package<'_>, problems: &mut Problems) -> Result<()>
+fn check_package<'v>(
+    lock: Lock<'v>,
+    index: &Index<'v>,
+    asker: Package<'v>,
+    problems: &mut Problems,
+) -> Result<()>
+    requires { IsComplete (packages_data lock) index.now }
     ensures { OnOk result ((found : List Finding)
         × AreMemberFindings (packages_data lock.entry) (option_map (λ version. version.now) lock.entry.node) asker.entry.folder.now
         (view asker.entry.member.now) found
@@ -66,9 +76,18 @@ fn check_package(lock: Lock<'_>, asker: Package<'_>, problems: &mut Problems) ->
     }
     problems.add_package(engine_problem(lock, asker)?)?;
     let is_installed = is_installed(asker.folder);
+    let places = places_from(lock, index, asker.folder)?;
     let all = asked_of(lock.alloc, asker.member, is_installed)?;
     for (name, asked) in all.iter() {
-        let (problem, unchecked) = outcome_of(lock, asker, is_installed, *name, *asked)?;
+        let (problem, unchecked) = outcome_of(
+            lock,
+            asker,
+            index,
+            &places,
+            is_installed,
+            *name,
+            *asked,
+        )?;
         problems.add_dependency(problem, unchecked)?;
     }
     Ok(())

@@ -5,11 +5,14 @@ ghost use Rattle.npm_lock.specs.Findings.{IsNodeOutcome};
 ghost use Rattle.npm_lock.specs.Outcomes as Outcomes;
 ghost use Rattle.npm_lock.specs.Outcomes.{IsOutcome, IsVerdictOn, problem_value};
 ghost use Rattle.npm_lock.specs.Private.PackageValue.{asked_value, package_value, packages_data};
+ghost use Rattle.npm_lock.specs.Private.Search.{IsSearch};
 
 use crate::Result;
 use crate::asked::{Asked, has_true};
+use crate::index::Index;
 use crate::place::{Lock, Package};
 use crate::problem::{Kind, Problem};
+use crate::search::Place;
 use crate::verdict::{Verdict, is_contained, verdict_of_both};
 use crate::workspace::{Workspace, workspace_of};
 use serde_json::Value;
@@ -17,18 +20,21 @@ use std::alloc::Global;
 
 /// Returns the problem with a dependency of a package, or none. Also returns `true` if the dependency is not checked:
 /// it was found, and its spec is no range.
-pub(crate) fn outcome_of(
-    lock: Lock<'_>,
-    asker: Package<'_>,
+pub(crate) fn outcome_of<'v>(
+    lock: Lock<'v>,
+    asker: Package<'v>,
+    index: &Index<'v>,
+    places: &[Place<'v>],
     is_installed: bool,
-    name: &str,
-    asked: Asked<'_>,
+    name: &'v str,
+    asked: Asked<'v>,
 ) -> Result<(Option<Problem>, bool)>
+    requires { IsSearch (packages_data lock) index.now asker.folder.now places.now }
     ensures { IfOk result (λ pair. IsOutcome (packages_data lock.entry) asker.entry.folder.now
         (view asker.entry.member.now) is_installed name.now (asked_value asked.entry) (option_map problem_value pair.0) pair.1) }
 {
     let alloc = lock.alloc;
-    let found = lock.find(asker.folder, name)?;
+    let found = lock.find(index, places, asker.folder, name)?;
     let kind = match found {
         None if asked.is_needed => Kind::Missing,
         None => return Ok((None, false)),

@@ -1,14 +1,16 @@
 //! Where a name is found.
-ghost use Rattle.std.specs.Prelude.{◌≡◌, ◌↔◌, IfNone, IfOk, IfSome, IsTrue, OnOk, option_map, string_bytes};
+ghost use Rattle.std.specs.Prelude.{◌≡◌, ◌↔◌, ℕ, List, IfOk, IfSome, IsTrue, option_map, string_bytes};
 ghost use Rattle.serde_json.specs.Find.{get};
 ghost use Rattle.serde_json.specs.View.{view};
 ghost use Rattle.npm_lock.specs.Folders as Folders;
-ghost use Rattle.npm_lock.specs.Packages.{IsFound, IsFoundIn, IsPassed};
+ghost use Rattle.npm_lock.specs.Packages.{IsFound, IsFoundIn};
 ghost use Rattle.npm_lock.specs.Packages as Packages;
 ghost use Rattle.npm_lock.specs.Private.PackageValue.{package_value, packages_data};
+ghost use Rattle.npm_lock.specs.Private.Search.{IsPlace, IsSearch};
 
 use crate::Result;
-use crate::folder::{above, is_modules};
+use crate::index::Index;
+use crate::search::Place;
 use node_semver::Version;
 use serde_json::{Map, Value};
 use std::alloc::Global;
@@ -31,39 +33,49 @@ pub(crate) struct Package<'v> {
 }
 
 impl<'v> Lock<'v> {
-    /// Finds a name in the `node_modules` of a folder, or else of the next folder above. Also returns `true` if that is
-    /// the `node_modules` of the folder itself.
-    pub(crate) fn find(self, from: &str, name: &str) -> Result<Option<(Package<'v>, bool)>>
+    /// Finds a name in the `node_modules` of the package's folder, or else of the next folder above. Also returns `true`
+    /// if that is the `node_modules` of the folder itself.
+    pub(crate) fn find(
+        self,
+        index: &Index<'v>,
+        places: &[Place<'v>],
+        from: &str,
+        name: &'v str,
+    ) -> Result<Option<(Package<'v>, bool)>>
+        requires { IsSearch (packages_data self) index.now from.now places.now }
         ensures found { IfOk result (λ found. IsFound (packages_data self.entry) name.now from.now
             (option_map (λ f. package_value f.0) found)) }
         ensures own { IfOk result (λ found. IfSome found (λ f. IsTrue f.1
             ↔ IsFoundIn (packages_data self.entry) name.now from.now (package_value f.0))) }
     {
-        // One allocation for most names. A text that grows from nothing takes three or four.
-        let mut place = String::with_capacity(self.alloc, 128)?;
-        let (mut at, mut is_own) = (from, true);
-        'folders: loop {
-            if let Some(found) = self.find_in(&mut place, at, name)? {
-                return Ok(Some((found, is_own)));
+        let mut count = places.len();
+        'places: while count > 0 {
+            count -= 1;
+            let place = places[count];
+            if let Some(found) = self.find_in(index, place, name)? {
+                return Ok(Some((found, place.folder.len() == from.len())));
             }
-            let Some(parent) = above(at) else {
-                return Ok(None);
-            };
-            (at, is_own) = (parent, false);
         }
+        Ok(None)
     }
 
-    /// Finds a name in the `node_modules` of one folder. The text is room for the place.
-    fn find_in(self, place: &mut String, folder: &str, name: &str) -> Result<Option<Package<'v>>>
-        ensures found { IfOk result (λ found. IfSome found (λ found.
-            IsFoundIn (packages_data self.entry) name.now folder.now (package_value found))) }
-        ensures passed { IfOk result (λ found. IfNone found (IsPassed (packages_data self.entry) name.now folder.now)) }
+    /// Finds a name in the `node_modules` of one folder. The index says which names are not there, and no text is built
+    /// for these.
+    fn find_in(
+        self,
+        index: &Index<'v>,
+        place: Place<'v>,
+        name: &'v str,
+    ) -> Result<Option<Package<'v>>>
+        requires { (from : List ℕ) × IsPlace (packages_data self) index.now from place }
+        ensures { IfOk result (λ found. option_map package_value found
+            ≡ Packages.package_at (packages_data self.entry) (Folders.place_in place.entry.folder.now name.now)) }
     {
-        if is_modules(folder) {
+        if !index.has_package(place.modules, name) {
             return Ok(None);
         }
-        put_place(place, folder, name)?;
-        Ok(self.package_at(place.as_str()))
+        let text = place_text(self.alloc, place.folder, name)?;
+        Ok(self.package_at(text.as_str()))
     }
 
     /// The package at a place, which is the target if a link is there.
@@ -103,17 +115,20 @@ pub(crate) fn linked_folder(resolved: &str) -> &str
     resolved.strip_prefix("./").unwrap_or(resolved)
 }
 
-/// Writes the folder of a name in the `node_modules` of a folder, in place of what the text has.
-fn put_place(place: &mut String, folder: &str, name: &str) -> Result<()>
-    ensures { OnOk result (string_bytes place.new ≡ Folders.place_in folder.now name.now) }
+/// The folder of a name in the `node_modules` of a folder.
+fn place_text(alloc: Global, folder: &str, name: &str) -> Result<String>
+    ensures { IfOk result (λ text. string_bytes text ≡ Folders.place_in folder.now name.now) }
 {
-    place.clear();
+    // One allocation. A text that grows from nothing takes three or four.
+    let size = folder.len().saturating_add(name.len()).saturating_add(14);
+    let mut text = String::with_capacity(alloc, size)?;
     if !folder.is_empty() {
-        place.push_str(folder)?;
-        place.push_str("/")?;
+        text.push_str(folder)?;
+        text.push_str("/")?;
     }
-    place.push_str("node_modules/")?;
-    place.push_str(name)
+    text.push_str("node_modules/")?;
+    text.push_str(name)?;
+    Ok(text)
 }
 
 /// Returns `true` if a member of `packages` is a link, and no package of its own.

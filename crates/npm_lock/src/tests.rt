@@ -7,7 +7,7 @@ use std::test::Fail;
 
 // What each package is called in the rows: `packages` of a lock file, and each problem as its kind, the folder of the
 // package that asks, and the name.
-const ROWS: [(&str, &[(Kind, &str, &str)]); 39] = [
+const ROWS: [(&str, &[(Kind, &str, &str)]); 44] = [
     (r#""": {}"#, &[]),
     // A dependency, missing and not.
     (
@@ -219,6 +219,56 @@ const ROWS: [(&str, &[(Kind, &str, &str)]); 39] = [
             (Kind::Missing, "w", "B"),
             (Kind::Missing, "w", "b"),
         ],
+    ),
+    // Folders that are no packages, many deep: the nearest `node_modules` above counts.
+    (
+        r#""f/f/f/f": {"version": "1.0.0", "dependencies": {"a": "1", "b": "1", "c": "1", "node_modules": "1"}},
+            "node_modules/a": {"version": "2.0.0"}, "f/f/node_modules/a": {"version": "1.0.0"},
+            "f/node_modules/b": {"version": "2.0.0"}, "f/f/node_modules": {"version": "1.0.0"}"#,
+        &[
+            (Kind::Invalid, "f/f/f/f", "b"),
+            (Kind::Missing, "f/f/f/f", "c"),
+            (Kind::Missing, "f/f/f/f", "node_modules"),
+        ],
+    ),
+    // A package in another, and again.
+    (
+        r#""node_modules/a": {"version": "1.0.0", "dependencies": {"a": "2"}},
+            "node_modules/a/node_modules/a": {"version": "2.0.0", "dependencies": {"a": "3"}},
+            "node_modules/a/node_modules/a/node_modules/a": {"version": "3.0.0", "dependencies": {"a": "4", "b": "1"}}"#,
+        &[
+            (Kind::Invalid, "node_modules/a/node_modules/a/node_modules/a", "a"),
+            (Kind::Missing, "node_modules/a/node_modules/a/node_modules/a", "b"),
+        ],
+    ),
+    // Names with two parts, names that begin alike, and names with empty parts.
+    (
+        r#""": {"dependencies": {"@s/p": "1", "@s/q": "1", "@s": "1", "p": "1", "@": "1"}},
+            "node_modules/@s/p": {"version": "1.0.0"}, "node_modules/@s/q/r": {"version": "1.0.0"}"#,
+        &[
+            (Kind::Missing, "", "@"),
+            (Kind::Missing, "", "@s"),
+            (Kind::Missing, "", "@s/q"),
+            (Kind::Missing, "", "p"),
+        ],
+    ),
+    (
+        r#""": {"dependencies": {"": "1", "/": "1", "a/": "1", "/a": "1", "a": "1"}},
+            "node_modules/": {"version": "2.0.0"}, "node_modules/a/": {"version": "1.0.0"},
+            "node_modules//a": {"version": "2.0.0"}, "/node_modules/a": {"version": "1.0.0"}"#,
+        &[
+            (Kind::Invalid, "", ""),
+            (Kind::Missing, "", "/"),
+            (Kind::Invalid, "", "/a"),
+            (Kind::Missing, "", "a"),
+        ],
+    ),
+    // From a folder that leads up from the root no name is looked up in the root.
+    (
+        r#""../x": {"version": "1.0.0", "dependencies": {"a": "1", "b": "1", "c": "1"}},
+            "../x/node_modules/a": {"version": "1.0.0"}, "../node_modules/b": {"version": "1.0.0"},
+            "node_modules/c": {"version": "1.0.0"}"#,
+        &[(Kind::Missing, "../x", "c")],
     ),
 ];
 

@@ -1,54 +1,36 @@
-use Rattle.std.proofs.Common.{◌≡◌, ◌↔◌, ◌⊎◌, ℕ, List, Bool, IsTrue, true, false, inl, inr, refl, rules}
-use Rattle.serde_json.specs.Data.{Data}
-use Rattle.npm_lock.specs.Packages.{IsFoundIn, IsPassed, Package, above, here, nowhere}
+-- The nearest place that has the name is the last.
+use Rattle.std.proofs.Common.{◌<◌, [], arith, false, refl, rules}
+use Rattle.std.proofs.Math.Seq.{take-length}
 use Rattle.npm_lock.specs.Private.PackageValue.{package_value, packages_data}
+use Rattle.npm_lock.specs.Private.Search.{IsPlace}
+use Rattle.npm_lock.proofs.Nearest.{all_at, found_at, own_at, passed_at}
 use Rattle.npm_lock.proofs.place.Lock.find.Goals as goal
 
-module _ (packages : Data) (name from : List ℕ) where
-  not_passed : (found : Package) → IsFoundIn packages name from found → IsPassed packages name from → ⊥
-  not_passed found own passed = elim passed [
-    | inl modules ↦ cc (modules, own.no_modules)
-    | inr none ↦ cc (none, own.found)
-  ]
-
-  -- the mark says whether the folder is the first one
-  marked : (at : List ℕ) (found : Package) (mark : Bool) → IsFoundIn packages name at found
-      → ((mark ≡ true) × (at ≡ from)) ⊎ ((mark ≡ false) × IsPassed packages name from)
-      → IsTrue mark ↔ IsFoundIn packages name from found
-  marked at found mark is place = elim place [
-    | inl first ↦ ((λ yes. rw first.1 at is), (λ own. first.0))
-    | inr later ↦ ((λ yes. absurd (cc (later.0, yes))), (λ own. absurd (not_passed found own later.1)))
-  ]
-
-  passed_first : (at : List ℕ) (mark : Bool) → IsPassed packages name at
-      → ((mark ≡ true) × (at ≡ from)) ⊎ ((mark ≡ false) × IsPassed packages name from)
-      → IsPassed packages name from
-  passed_first at mark passed place = elim place [
-    | inl first ↦ rw first.1 at passed
-    | inr later ↦ later.1
-  ]
+pub places-init : goal.places-init
+places-init c = record {
+  within = omega arith;
+  found = rw (take-length c.args.places.now) refl;
+  own = rw (take-length c.args.places.now) (c.requires.own c.args.name.now);
+  each = rw (take-length c.args.places.now) c.requires.each;
+}
 
 pub returns-in-Some-clause-found : goal.returns-in-Some-clause-found
 returns-in-Some-clause-found c =
-    c.folders.invariant.found _ (here _ _ (rw c.in-Some.is at c.in_ok-found.ensures.found))
+    let some : 0 < c.places.count = search (rules, c.places-test.true) in
+    found_at (packages_data c.args.self) c.args.name.now c.args.places.now c.places.count _ some
+    c.places.invariant.within c.args.from.now (package_value c.in-Some.found) (c.requires.found c.args.name.now)
+    c.places.invariant.found (rw c.in-Some.is at c.in_ok-found.ensures)
 
-pub returns-in-Some-clause-own : goal.returns-in-Some-clause-own
-returns-in-Some-clause-own c = marked _ _ _ c.folders.at.now (package_value c.in-Some.found) c.folders.is_own
-    (rw c.in-Some.is at c.in_ok-found.ensures.found) c.folders.invariant.place
-
-pub returns-in_default-above-clause-found : goal.returns-in_default-above-clause-found
-returns-in_default-above-clause-found c =
-    let outermost = rw c.in_default-above.is at c.above.ensures.outermost in
-    let passed = rw c.in_default.is at c.in_ok-found.ensures.passed in
-    c.folders.invariant.found _ (nowhere _ passed outermost)
-
-pub folders-preserved : goal.folders-preserved
-folders-preserved c =
-    let passed : IsPassed (packages_data c.args.self) c.args.name.now c.folders.at.now =
-    rw c.in_default.is at c.in_ok-found.ensures.passed in
-    let parent = rw c.in-Some-above.is at c.above.ensures.above in
+pub places-preserved : goal.places-preserved
+places-preserved c =
+    let some : 0 < c.places.count = search (rules, c.places-test.true) in
+    let none = rw c.in_default.is at c.in_ok-found.ensures in
     record {
-      text = search rules;
-      found = λ found later. c.folders.invariant.found found (above _ _ found passed parent later);
-      place = inr (refl, passed_first (packages_data c.args.self) c.args.name.now _ c.folders.at.now c.folders.is_own passed c.folders.invariant.place);
+      within = omega (arith, c.places.invariant.within);
+      found = passed_at (packages_data c.args.self) c.args.name.now c.args.places.now c.places.count _ some
+          c.places.invariant.within none c.places.invariant.found;
+      own = own_at (packages_data c.args.self) c.args.name.now c.args.places.now c.places.count _ some
+          c.places.invariant.within c.args.from.now none c.places.invariant.own;
+      each = all_at (IsPlace (packages_data c.args.self) c.args.index.now c.args.from.now) c.args.places.now
+          c.places.count (record { folder = record { ref_ptr = (0, 0); now = [] }; modules = record { number = 0; is_package = false } }) some c.places.invariant.within c.places.invariant.each;
     }

@@ -1,20 +1,19 @@
--- What is found from the folder is found from the first one, which is this one or is passed.
-use Rattle.std.proofs.Common.{◌≡◌, ◌⊎◌, length, true, false}
-use Rattle.std.specs.Prelude.{Option}
-use Rattle.npm_lock.specs.Packages.{IsFound, IsPassed, Package}
+-- What is found in the places that are left is found from the folder.
+use Rattle.std.proofs.Common.{◌≡◌, ◌≤◌, ◌⊎◌, None, length, take}
+use Rattle.std.specs.List.{AllByRecursion}
+use Rattle.npm_lock.specs.Packages.{IsPassed}
 use Rattle.npm_lock.specs.Private.PackageValue.{packages_data}
-use denote.Shadow.{shadow}
-use denote.Text.{Utf8}
+use Rattle.npm_lock.specs.Private.Search.{EndsAt, IsPlace, found_among}
 use Rattle.npm_lock.proofs.place.Lock.find.Given as goal
 
-abbrev pub invariant-folders : goal.invariant-folders
-invariant-folders l = record {
-  text : shadow (Utf8 l.at);
-  found : (found : Option Package) → IsFound (packages_data l.self) l.name l.at found
-      → IsFound (packages_data l.self) l.name l.fn.from found;
-  place : ((l.is_own ≡ true) × (l.at ≡ l.fn.from))
-      ⊎ ((l.is_own ≡ false) × IsPassed (packages_data l.self) l.name l.fn.from);
+abbrev pub invariant-places : goal.invariant-places
+invariant-places l = record {
+  within : l.count ≤ length l.places;
+  found : found_among (packages_data l.self) l.fn.name None (take l.count l.places)
+      ≡ found_among (packages_data l.self) l.fn.name None l.places;
+  own : IsPassed (packages_data l.self) l.fn.name l.fn.from ⊎ EndsAt l.fn.from (take l.count l.places);
+  each : AllByRecursion (IsPlace (packages_data l.self) l.index l.fn.from) (take l.count l.places);
 }
 
-abbrev pub decreases-folders : goal.decreases-folders
-decreases-folders l = length l.at
+abbrev pub decreases-places : goal.decreases-places
+decreases-places l = l.count

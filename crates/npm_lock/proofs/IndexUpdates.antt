@@ -1,12 +1,12 @@
 -- What the index has after one more part, and after one more package.
-use Rattle.std.proofs.Common.{◌≡◌, ◌∙◌, ◌⊎◌, ◌<◌, ℕ, List, Bool, true, false, cond, Option, Some, None, Ordering, Less, Equal}
-use Rattle.std.proofs.Common.{Greater, ap, inl, inr, is_eq, nat_cmp, refl, string_bytes, sym}
+use Rattle.std.proofs.Common.{◌≡◌, ◌∙◌, ◌⊎◌, ℕ, List, Bool, true, false, Some, None, Ordering, Less, Equal}
+use Rattle.std.proofs.Common.{Greater, ap, inl, inr, is_eq, nat_cmp, refl, sym}
 use denote.Ref.{Bor}
 use Rattle.std.proofs.lemmas.Cmp.{ranked}
-use Rattle.std.specs.BTreeMap.{UpdatesBy, is_at}
+use Rattle.std.specs.BTreeMap.{UpdatesBy}
 use Rattle.std.specs.Cmp.Lexicographic.{slice_cmp}
 use Rattle.std.specs.Option.{IsSome}
-use Rattle.std.specs.Ordering.{MatchOrdering, ordering_then}
+use Rattle.std.specs.Ordering.{ordering_then}
 use Rattle.serde_json.specs.Data.{Data, Members, member}
 use Rattle.serde_json.specs.Find.{get_member}
 use Rattle.npm_lock.specs.Private.Index.{Grows, HasPackage, IsKept, Leads, at_part}

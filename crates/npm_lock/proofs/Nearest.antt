@@ -1,5 +1,5 @@
 -- What is found in the last of some places, and in those before it.
-use Rattle.std.proofs.Common.{◌≡◌, ◌∙◌, ◌⊎◌, ◌<◌, ◌≤◌, ◌+◌, ◌-◌, ℕ, List, [], ◌∷◌, ◌++◌, None, Option, Some, ap, arith, get_or}
+use Rattle.std.proofs.Common.{◌≡◌, ◌∙◌, ◌⊎◌, ◌<◌, ◌≤◌, ◌+◌, ◌-◌, ℕ, List, [], ◌∷◌, ◌++◌, None, Some, ap, arith, get_or}
 use Rattle.std.proofs.Common.{inl, inr, length, refl, sym, take}
 use Rattle.std.proofs.lemmas.List.{take_more}
 use Rattle.std.specs.List.{AllByRecursion}
@@ -7,8 +7,7 @@ use Rattle.std.specs.Option.{option_or}
 use Rattle.serde_json.specs.Data.{Data}
 use Rattle.npm_lock.specs.Folders.{place_in}
 use Rattle.npm_lock.specs.Packages.{IsFound, IsPassed, Package, package_at}
-use Rattle.npm_lock.specs.Private.Search.{EndsAt, IsPlace, found_among}
-use Rattle.npm_lock.specs.declared.index.Index.{Index}
+use Rattle.npm_lock.specs.Private.Search.{EndsAt, found_among}
 use Rattle.npm_lock.specs.declared.search.Place.{Place}
 use Rattle.npm_lock.proofs.Searching.{all_but_one, last_found, same_end}
 

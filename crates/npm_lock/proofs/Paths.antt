@@ -1,6 +1,6 @@
 -- The parts of a path, and where the index leads by them.
-use Rattle.std.proofs.Common.{◌≡◌, ◌∙◌, ◌==◌, ◌<◌, ◌+◌, ℕ, zero, suc, List, [], ◌∷◌, ◌++◌, Bool, true, false, if◌then◌else◌}
-use Rattle.std.proofs.Common.{Option, Some, None, ap, arith, length, option_and_then, refl, sym}
+use Rattle.std.proofs.Common.{◌≡◌, ◌∙◌, ◌==◌, ℕ, suc, List, [], ◌∷◌, ◌++◌, Bool, true, false}
+use Rattle.std.proofs.Common.{Option, Some, None, arith, option_and_then, refl}
 use Rattle.std.proofs.lemmas.Bool.{ne_eqb}
 use Rattle.npm_lock.specs.Private.Index.{Grows, HasNoSlash, HasPackage, IsKept, Leads, at_part, entry_at, led, longer, parts_of, root}
 use Rattle.npm_lock.specs.declared.index.Entry.{Entry}

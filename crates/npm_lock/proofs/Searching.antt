@@ -1,5 +1,5 @@
 -- The places in which names are looked up, from one folder to the next.
-use Rattle.std.proofs.Common.{◌≡◌, ◌≢◌, ◌∙◌, ◌⊎◌, ◌<◌, ◌≤◌, ◌+◌, ℕ, List, [], ◌∷◌, ◌++◌, Bool, true, false, if◌then◌else◌}
+use Rattle.std.proofs.Common.{◌≡◌, ◌≢◌, ◌∙◌, ◌⊎◌, ◌<◌, ◌+◌, ℕ, List, [], ◌∷◌, ◌++◌, Bool, true, false, if◌then◌else◌}
 use Rattle.std.proofs.Common.{Option, Some, None, ap, arith, codes, inl, inr, length, option_and_then, refl, sym}
 use Rattle.std.proofs.lemmas.List.{length-append}
 use Rattle.std.specs.List.{AllByRecursion}
@@ -7,9 +7,9 @@ use Rattle.std.specs.Option.{IsSome, option_or}
 use Rattle.serde_json.specs.Data.{Data}
 use Rattle.serde_json.specs.Find.{get}
 use Rattle.npm_lock.specs.Folders.{IsAbove, IsOutermost, is_modules, is_up, place_in}
-use Rattle.npm_lock.specs.Packages.{IsFound, IsFoundIn, IsPassed, Package, above as found_above, here, nowhere, package_at}
+use Rattle.npm_lock.specs.Packages.{IsFound, IsPassed, Package, above as found_above, here, nowhere, package_at}
 use Rattle.npm_lock.specs.Private.Index.{IsComplete, at_part, entry_at, led, parts_of, root}
-use Rattle.npm_lock.specs.Private.Search.{EndsAt, IsEntryOf, IsNext, IsPlace, IsSearch, LeadsTo, found_among}
+use Rattle.npm_lock.specs.Private.Search.{IsEntryOf, IsNext, IsPlace, IsSearch, LeadsTo, found_among}
 use Rattle.npm_lock.specs.declared.index.Entry.{Entry}
 use Rattle.npm_lock.specs.declared.index.Index.{Index}
 use Rattle.npm_lock.specs.declared.search.Place.{Place}

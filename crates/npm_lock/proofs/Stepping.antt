@@ -6,7 +6,7 @@ use Rattle.std.proofs.lemmas.List.{length-append}
 use Rattle.std.specs.Option.{IfSome, MatchOption}
 use denote.Ref.{Bor}
 use Rattle.serde_json.specs.Data.{Data}
-use Rattle.npm_lock.specs.Folders.{IsAbove, is_up, place_in}
+use Rattle.npm_lock.specs.Folders.{is_up, place_in}
 use Rattle.npm_lock.specs.Private.Index.{HasNoSlash, at_part, entry_at, led, parts_of, root}
 use Rattle.npm_lock.specs.Private.Search.{IsEntryOf, IsNext, IsSearch}
 use Rattle.npm_lock.specs.declared.index.Entry.{Entry}

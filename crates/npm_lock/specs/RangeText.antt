@@ -1,8 +1,8 @@
 -- Which specs of dependencies are ranges: npm's "package.json", "dependencies", and `npm-package-arg`.
 use Rattle.std.specs.Prelude.{◌==◌, ◌||◌, ℕ, List, [], ◌∷◌, Bool, if◌then◌else◌, Option, Some, None, codes}
-use Rattle.std.specs.Prelude.{drop, length, nat_eq, option_and_then}
+use Rattle.std.specs.Prelude.{length, option_and_then}
 use Rattle.std.specs.Option.{option_map_or}
-use Rattle.std.specs.List.{after_first, list_all, list_any, position_or_len, starts_with}
+use Rattle.std.specs.List.{after_first, list_all, list_any, position_or_len}
 use Rattle.npm_lock.specs.Texts.{rest_after}
 use Rattle.std.specs.Char.{is_ascii_alphanumeric}
 

@@ -1,6 +1,6 @@
 -- Which folders are workspaces of the root: npm's "package.json", "workspaces".
-use Rattle.std.specs.Prelude.{◌≡◌, ◌≢◌, ◌==◌, ◌||◌, ◌&&◌, ◌-◌, ℕ, List, [], Bool, true, false, not, if◌then◌else◌}
-use Rattle.std.specs.Prelude.{Option, Some, None, option_and_then, bytes_eq, codes, drop, length, nat_eq, take}
+use Rattle.std.specs.Prelude.{◌≡◌, ◌≢◌, ◌==◌, ◌||◌, ◌&&◌, ℕ, List, [], Bool, false, not, if◌then◌else◌}
+use Rattle.std.specs.Prelude.{Option, Some, None, option_and_then, bytes_eq, codes, length, nat_eq}
 use Rattle.std.specs.List.{ends_with, list_any, starts_with}
 use Rattle.std.specs.Option.{option_map_or, option_or}
 use Rattle.serde_json.specs.Data.{Data, Items, item, no_items}

@@ -237,8 +237,16 @@ const ROWS: [(&str, &[(Kind, &str, &str)]); 44] = [
             "node_modules/a/node_modules/a": {"version": "2.0.0", "dependencies": {"a": "3"}},
             "node_modules/a/node_modules/a/node_modules/a": {"version": "3.0.0", "dependencies": {"a": "4", "b": "1"}}"#,
         &[
-            (Kind::Invalid, "node_modules/a/node_modules/a/node_modules/a", "a"),
-            (Kind::Missing, "node_modules/a/node_modules/a/node_modules/a", "b"),
+            (
+                Kind::Invalid,
+                "node_modules/a/node_modules/a/node_modules/a",
+                "a",
+            ),
+            (
+                Kind::Missing,
+                "node_modules/a/node_modules/a/node_modules/a",
+                "b",
+            ),
         ],
     ),
     // Names with two parts, names that begin alike, and names with empty parts.

@@ -1,9 +1,9 @@
 -- What the definitions say of one dependency where nothing is installed, and of a version that lies in no set.
-use Rattle.std.proofs.Common.{◌≡◌, ◌≢◌, ℕ, List, [], true, false, Some, None, codes, refl}
+use Rattle.std.proofs.Common.{◌≡◌, ℕ, List, true, false, Some, None, codes, refl}
 use Rattle.serde_json.specs.Data.{Data, no_members, object}
 use Rattle.npm_lock.specs.Asked.{AskedValue}
-use Rattle.npm_lock.specs.Outcomes.{IsOutcome, absent, invalid, local_peer, missing, unchecked, valid}
-use Rattle.npm_lock.specs.Packages.{IsFound, Package, above, here, nowhere}
+use Rattle.npm_lock.specs.Outcomes.{IsOutcome, absent, valid}
+use Rattle.npm_lock.specs.Packages.{IsFound, Package, above, here}
 use Rattle.npm_lock.specs.Verdict.{better}
 use Rattle.npm_lock.specs.declared.verdict.Verdict.TheVariants.{Invalid, Unchecked, Valid}
 

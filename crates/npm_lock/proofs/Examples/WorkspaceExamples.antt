@@ -1,8 +1,7 @@
 -- Which folders are workspaces, by patterns of the root.
-use Rattle.std.proofs.Common.{◌≡◌, ◌≢◌, ℕ, List, [], ◌∷◌, None, Some, codes, refl}
-use Rattle.serde_json.specs.Data.{Data, Items, array, item, member, no_items, no_members, object, string}
-use Rattle.npm_lock.specs.Workspaces.{IsWorkspace, by_patterns, patterns_of}
-use Rattle.npm_lock.specs.Workspaces as Workspaces
+use Rattle.std.proofs.Common.{◌≡◌, ℕ, List, None, Some, codes, refl}
+use Rattle.serde_json.specs.Data.{Items, array, item, member, no_items, no_members, object, string}
+use Rattle.npm_lock.specs.Workspaces.{by_patterns, patterns_of}
 use Rattle.npm_lock.specs.declared.workspace.Workspace.TheVariants.{Is, IsNot, Unread}
 
 abbrev one : List ℕ → Items

@@ -1,14 +1,11 @@
 -- The fault of a member after members that have none is that of the lock file.
-use Rattle.std.proofs.Common.{◌≡◌, ◌∙◌, ◌<◌, ◌≤◌, ℕ, zero, suc, true, None, Option, Some, ap, arith, codes}
-use Rattle.std.proofs.Common.{option_and_then, option_map, refl}
+use Rattle.std.proofs.Common.{◌≡◌, ◌∙◌, true, Some, ap, codes}
+use Rattle.std.proofs.Common.{refl}
 use Rattle.std.proofs.Common.{rules, sym}
-use denote.Ref.{Bor}
-use Rattle.std.specs.Option.{MatchOption}
 use Rattle.std.specs.Result.{result_err}
 use Rattle.serde_json.specs.Data.{Data, Members, object}
-use Rattle.serde_json.specs.Find.{as_number, as_object, as_u64, get}
+use Rattle.serde_json.specs.Find.{as_object, get}
 use Rattle.serde_json.specs.View.{members_view, view}
-use Rattle.serde_json.specs.declared.value.Value.{Value}
 use Rattle.npm_lock.specs.Faults as Faults
 use Rattle.npm_lock.specs.declared.fault.Fault.{Fault}
 use Rattle.npm_lock.proofs.Groups.{is_object_of}

@@ -1,5 +1,5 @@
 -- A text without `/` and `:` is no alias, and a text with one is a range or a tag only as an alias.
-use Rattle.std.proofs.Common.{◌≡◌, ◌∙◌, ◌==◌, ◌||◌, ℕ, List, [], ◌∷◌, Bool, true, false, Option, Some, None, ap}
+use Rattle.std.proofs.Common.{◌≡◌, ◌∙◌, ◌==◌, ◌||◌, ℕ, List, [], ◌∷◌, Bool, true, false, Option, Some, None}
 use Rattle.std.proofs.Common.{IfSome, option_and_then, refl, sym}
 use Rattle.std.specs.List.{list_any}
 use Rattle.npm_lock.specs.RangeText.{after_either, alias_of, is_path_byte}

@@ -1,7 +1,6 @@
 -- The names of the folder are passed, or looked up there.
-use Rattle.std.proofs.Common.{◌≡◌, ◌∙◌, None, Option, Some, ap, codes, inl, option_and_then, refl, rules, sym, true, false}
+use Rattle.std.proofs.Common.{◌≡◌, ◌∙◌, inl, refl, sym, true, false}
 use Rattle.npm_lock.specs.Folders.{is_modules, is_up}
-use Rattle.npm_lock.specs.Private.Index.{at_part}
 use Rattle.npm_lock.proofs.Searching.{is_place, not_there, passed_on, placed_on, started}
 use Rattle.npm_lock.proofs.search.add_place.Goals as goal
 

@@ -1,5 +1,5 @@
 -- `split_once` parts a path at its first `/`.
-use Rattle.std.proofs.Common.{arith, refl}
+use Rattle.std.proofs.Common.{arith}
 use Rattle.std.proofs.lemmas.Str.Pattern.{split_parts}
 use Rattle.npm_lock.proofs.search.next_part.Goals as goal
 

@@ -1,5 +1,5 @@
 -- From one folder to the next.
-use Rattle.std.proofs.Common.{◌≡◌, ◌≢◌, ◌∙◌, [], List, None, Option, Some, ap, length, option_and_then, refl, rules, sym}
+use Rattle.std.proofs.Common.{◌≡◌, ◌≢◌, ◌∙◌, [], Some, length, option_and_then, rules}
 use Rattle.npm_lock.specs.Private.Index.{at_part, entry_at, root}
 use Rattle.npm_lock.specs.Private.PackageValue.{packages_data}
 use Rattle.npm_lock.specs.Private.Search.{IsSearch}

@@ -1,6 +1,5 @@
 -- What is inserted has the number of what was there.
-use Rattle.std.proofs.Common.{◌≡◌, ◌∙◌, Some, None, rules, sym}
-use Rattle.npm_lock.specs.Private.Index.{IsKept, at_part}
+use Rattle.std.proofs.Common.{◌∙◌, rules, sym}
 use Rattle.npm_lock.proofs.IndexUpdates.{grows_by, kept_by, never_kept}
 use Rattle.npm_lock.proofs.index.Index.add_part.Goals as goal
 use Rattle.npm_lock.proofs.index.Index.add_part.Goals.{in-Some-2, in-None}

@@ -1,7 +1,6 @@
 -- Each member is added in turn.
-use Rattle.std.proofs.Common.{◌≡◌, inl, inr, string_bytes, sym}
-use Rattle.serde_json.specs.View.{members_view, view}
-use Rattle.npm_lock.specs.Private.Index.{HasPackage}
+use Rattle.std.proofs.Common.{◌≡◌, inl, inr}
+use Rattle.serde_json.specs.View.{members_view}
 use Rattle.npm_lock.proofs.IndexUpdates.{has_next}
 use Rattle.npm_lock.proofs.index.Index.of_lock.Goals as goal
 

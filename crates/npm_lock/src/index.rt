@@ -1,4 +1,6 @@
 //! The index of all folders of a lock file: which names may be in which folder.
+//!
+//! See docs/DECISIONS.md, "The index of folders leaves no package out, and promises no more".
 ghost use Rattle.std.specs.Prelude.{◌≡◌, IfOk, OnOk, Some, false};
 ghost use Rattle.std.specs.Option.{option_map_or};
 ghost use Rattle.npm_lock.specs.Private.Index.{Grows, HasPackage, IsComplete, Leads, at_part, entry_at};

@@ -1,3 +1,6 @@
+//! A version that borrows its text.
+//!
+//! See docs/DECISIONS.md, "The text of a `VersionRef` is known by an invariant".
 ghost use Rattle.std.specs.Prelude.{◌≡◌, ◌↔◌, IsTrue};
 ghost use Rattle.semver_versions.specs.Comparison.{prerelease_cmp};
 ghost use Rattle.semver_versions.specs.Triple.{triple_of};

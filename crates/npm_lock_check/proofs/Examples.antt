@@ -1,1 +1,4 @@
+pub mod ArgumentExamples
 pub mod InputExamples
+pub mod NodeExamples
+pub mod SentenceExamples

@@ -1,4 +1,4 @@
+pub mod ArgumentLists
 pub mod Examples
 pub mod OutputLines
 pub mod Stopping
-pub mod WordLists

@@ -7,7 +7,8 @@ use Rattle.serde_json.specs.Written.{compact_text, has_float, members_have_float
 use Rattle.npm_lock.specs.Outcomes.{ProblemValue, problem_value}
 use Rattle.npm_lock.specs.ProblemJson.{problem_data, with_text}
 use Rattle.npm_lock.specs.declared.problem.Problem.{Problem}
-use Rattle.npm_lock_check.specs.Output.{lines}
+use Rattle.npm_lock_check.specs.Output.{line_text, lines}
+use Rattle.npm_lock_check.specs.declared.arguments.Format.{Format}
 
 last_members : (to version : Option (List ℕ))
     → members_have_float (with_text (codes "to") to (with_text (codes "version") version no_members)) ≡ false
@@ -22,16 +23,15 @@ no_float problem = last_members problem.to problem.version
 regroup : (a b rest : List ℕ) → ((a ++ b) ++ (10 ∷ [])) ++ rest ≡ a ++ (b ++ (10 ∷ rest))
 regroup a b rest = simp append_assoc
 
-pub line_more : (done line more whole : List ℕ) (problems : List Problem) (i : ℕ) (item : Problem) → i < length problems
-    → item ≡ get_or problems i item → line ≡ compact_text (problem_data (problem_value item))
-    → more ≡ (done ++ line) ++ (10 ∷ [])
-    → done ++ lines (map problem_value (drop i problems)) ≡ whole
-    → more ++ lines (map problem_value (drop (i + 1) problems)) ≡ whole
-line_more done line more whole problems i item small is is_line is_more held =
+pub line_more : (format : Format) (done more whole : List ℕ) (problems : List Problem) (i : ℕ) (item : Problem)
+    → i < length problems → item ≡ get_or problems i item
+    → more ≡ (done ++ line_text format (problem_value item)) ++ (10 ∷ [])
+    → done ++ lines format (map problem_value (drop i problems)) ≡ whole
+    → more ++ lines format (map problem_value (drop (i + 1) problems)) ≡ whole
+line_more format done more whole problems i item small is is_more held =
     let cut : drop i problems ≡ get_or problems i item ∷ drop (i + 1) problems = drop_more problems i item small in
     let here : drop i problems ≡ item ∷ drop (i + 1) problems =
     cut ∙ ap (λ x. x ∷ drop (i + 1) problems) (sym is) in
-    ap (λ text. text ++ lines (map problem_value (drop (i + 1) problems))) is_more
-    ∙ regroup done line (lines (map problem_value (drop (i + 1) problems)))
-    ∙ ap (λ text. done ++ (text ++ (10 ∷ lines (map problem_value (drop (i + 1) problems))))) is_line
-    ∙ ap (λ rest. done ++ lines (map problem_value rest)) (sym here) ∙ held
+    ap (λ text. text ++ lines format (map problem_value (drop (i + 1) problems))) is_more
+    ∙ regroup done (line_text format (problem_value item)) (lines format (map problem_value (drop (i + 1) problems)))
+    ∙ ap (λ rest. done ++ lines format (map problem_value rest)) (sym here) ∙ held

@@ -1,12 +1,13 @@
 -- Why a lock file was not checked.
-use Rattle.std.proofs.Common.{◌≡◌, ◌∙◌, ℕ, List, [], Option, Some, Result, Ok, Err, inr, refl, sym}
+use Rattle.std.proofs.Common.{◌≡◌, ◌∙◌, ℕ, List, [], Option, Some, Result, Ok, Err, inl, inr, refl, sym}
 use Rattle.std.specs.Result.{IsErrAnd, MatchResult}
 use Rattle.serde_json.proofs.OnLiterals.{serde_json_on_literals}
 use Rattle.serde_json.specs.Data.{Data}
 use Rattle.serde_json.specs.Read.{read}
 use Rattle.npm_lock_check.specs.GaugeValue.{GaugeValue}
-use Rattle.npm_lock_check.specs.Output.{IsInput, IsStopped}
-use Rattle.npm_lock_check.specs.declared.run_error.RunError.TheVariants.{Memory}
+use Rattle.npm_lock_check.specs.Output.{IsInput, IsRefused, IsStopped}
+use Rattle.npm_lock_check.specs.declared.run_error.RunError.{RunError}
+use Rattle.npm_lock_check.specs.declared.run_error.RunError.TheVariants.{Memory, Write}
 
 no_value : (lock : Data) → read [] ≡ Some lock → ⊥
 unfolding serde_json_on_literals
@@ -22,6 +23,18 @@ later remaining old new lock input = inr (record {
   unfailed = input.unfailed;
   such = (input.such.0, λ empty. no_value lock (rw empty at input.such.1));
 })
+
+-- the value was refused, or memory ran out in the check
+pub refused : {R : Type 0} (remaining : R → Option (List ℕ)) (old new : GaugeValue R) (lock : Data) (error : RunError)
+    → IsInput remaining old new lock → IsRefused lock error → IsStopped remaining old new error
+refused remaining old new lock error input (inl told) =
+    rw told.1 (lock, input, told.2)
+refused remaining old new lock error input (inr memory) = rw memory (later remaining old new lock input)
+
+-- the check writes nothing, so no write of it fails
+pub unwritten : (lock : Data) → ¬ IsRefused lock Write
+unwritten lock (inl told) = cc told.1
+unwritten lock (inr memory) = cc memory
 
 module _ {T E F : Type 0} (Q : E → F → Type 0) where
   -- the error before its type changed

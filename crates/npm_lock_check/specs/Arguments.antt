@@ -1,20 +1,135 @@
 -- What the arguments of the program ask for.
-use Rattle.std.specs.Prelude.{◌≡◌, ◌≢◌, ℕ, List, [], ◌∷◌, Option, Some, None, Result, Ok, Err, codes}
-use Rattle.node_semver.specs.Versions.{VersionValue}
-use Rattle.node_semver.specs.Versions.{IsVersionText}
+use Rattle.std.specs.Prelude.{◌&&◌, ◌||◌, ℕ, List, [], ◌∷◌, Bool, true, false, not, if◌then◌else◌, nat_eq}
+use Rattle.std.specs.Prelude.{Option, Some, None, is_some, option_map, Result, Ok, Err, codes}
+use Rattle.std.specs.List.{starts_with}
+use Rattle.std.specs.Result.{result_map_both}
+use Rattle.std.specs.Str.{bytes_eq}
+use Rattle.npm_lock.specs.declared.problem.Kind.{Kind}
+use Rattle.npm_lock_check.specs.Kinds.{kind_of, no_kinds, with_kind}
+use Rattle.npm_lock_check.specs.declared.arguments.Argument.{Argument}
+use Rattle.npm_lock_check.specs.declared.arguments.Asked.{Asked}
+use Rattle.npm_lock_check.specs.declared.arguments.Format.{Format}
+use Rattle.npm_lock_check.specs.declared.arguments.Format.TheVariants as Formats
+use Rattle.npm_lock_check.specs.declared.arguments.Name.{Name}
+use Rattle.npm_lock_check.specs.declared.arguments.Name.TheVariants as Names
+use Rattle.npm_lock_check.specs.declared.arguments.Setting.{Setting}
+use Rattle.npm_lock_check.specs.declared.arguments.Setting.TheVariants as Settings
+use Rattle.npm_lock_check.specs.declared.arguments.Shown.{Shown}
+use Rattle.npm_lock_check.specs.declared.arguments.Shown.TheVariants as Shows
+use Rattle.npm_lock_check.specs.declared.kinds.Kinds.{Kinds}
 use Rattle.npm_lock_check.specs.declared.run_error.RunError.{RunError}
-use Rattle.npm_lock_check.specs.declared.run_error.RunError.TheVariants.{Arguments, Memory, NodeVersion}
+use Rattle.npm_lock_check.specs.declared.run_error.RunError.TheVariants as Errors
 
--- the words ask for the version of this text
-abbrev pub IsNodeText : (words : List (List ℕ)) → (text : List ℕ) → Type 0
-IsNodeText words text = words ≡ codes "--node" ∷ text ∷ []
+-- ---- the arguments of a list of words
 
--- the version of Node for the words after the program's name, or the error: no word is no version
-pub data IsNodeOf (words : List (List ℕ)) : Result (Option VersionValue) RunError → Type 0 where
-  no_word : words ≡ [] → IsNodeOf words (Ok None)
-  version : (text : List ℕ) (v : VersionValue) → IsNodeText words text → IsVersionText text v
-      → IsNodeOf words (Ok (Some v))
-  no_version : (text : List ℕ) → IsNodeText words text → ((v : VersionValue) → ¬ IsVersionText text v)
-      → IsNodeOf words (Err NodeVersion)
-  no_memory : (text : List ℕ) → IsNodeText words text → IsNodeOf words (Err Memory)
-  unknown : words ≢ [] → ((text : List ℕ) → ¬ IsNodeText words text) → IsNodeOf words (Err Arguments)
+-- an argument: a word, and the word after it if that is its value
+pub record ArgumentValue : Type 0 where
+  pub word : List ℕ
+  pub value : Option (List ℕ)
+
+-- the option that a word names
+abbrev pub name_of : (word : List ℕ) → Option Name
+name_of word = if bytes_eq word (codes "--help") || bytes_eq word (codes "-h") then Some (Names.Alone Shows.Help)
+    else if bytes_eq word (codes "--version") || bytes_eq word (codes "-V") then Some (Names.Alone Shows.Version)
+    else if bytes_eq word (codes "--node") then Some (Names.Valued Settings.Node)
+    else if bytes_eq word (codes "--format") then Some (Names.Valued Settings.Format)
+    else if bytes_eq word (codes "--ignore") then Some (Names.Valued Settings.Ignore)
+    else None
+
+-- the option has a value
+abbrev pub has_value : Option Name → Bool
+has_value None = false
+has_value (Some (Names.Alone shown)) = false
+has_value (Some (Names.Valued setting)) = true
+
+-- the word is an option that has a value
+abbrev pub takes_value : (word : List ℕ) → Bool
+takes_value word = has_value (name_of word)
+
+-- the arguments of the words: an option that has a value takes the word after it, whatever that is
+abbrev pub arguments_of : (words : List (List ℕ)) → List ArgumentValue
+arguments_of [] = []
+arguments_of (word ∷ []) = record { word = word; value = None } ∷ []
+arguments_of (word ∷ text ∷ rest) = if takes_value word
+    then record { word = word; value = Some text } ∷ arguments_of rest
+    else record { word = word; value = None } ∷ arguments_of (text ∷ rest)
+
+-- ---- what they ask for
+
+-- what is shown in place of a check, the text after `--node`, the format, the kinds after `--ignore`, and the file
+pub record AskedValue : Type 0 where
+  pub shown : Option Shown
+  pub node : Option (List ℕ)
+  pub format : Option Format
+  pub ignored : Kinds
+  pub file : Option (List ℕ)
+
+-- what no argument asks for
+abbrev pub nothing_asked : AskedValue
+nothing_asked = record { shown = None; node = None; format = None; ignored = no_kinds; file = None }
+
+-- the format that a text names
+abbrev pub format_of : (text : List ℕ) → Option Format
+format_of text = if bytes_eq text (codes "text") then Some Formats.Text
+    else if bytes_eq text (codes "json") then Some Formats.Json
+    else None
+
+-- with one more format, or kind to be left out
+abbrev pub with_format : AskedValue → Option Format → Result AskedValue RunError
+with_format asked None = Err Errors.Format
+with_format asked (Some format) = Ok (record asked { format = Some format })
+
+abbrev pub with_ignored : AskedValue → Option Kind → Result AskedValue RunError
+with_ignored asked None = Err Errors.Kind
+with_ignored asked (Some kind) = Ok (record asked { ignored = with_kind asked.ignored kind })
+
+-- with one more option that has a value
+abbrev pub with_value : AskedValue → Setting → (text : List ℕ) → Result AskedValue RunError
+with_value asked Settings.Node text = Ok (record asked { node = Some text })
+with_value asked Settings.Format text = with_format asked (format_of text)
+with_value asked Settings.Ignore text = with_ignored asked (kind_of text)
+
+-- with one more word that is no option, which is the file; `-` is one too
+abbrev pub with_file : AskedValue → (word : List ℕ) → Result AskedValue RunError
+with_file asked word = if starts_with nat_eq word (codes "-") && not (bytes_eq word (codes "-"))
+    then Err Errors.UnknownOption
+    else if is_some asked.file then Err Errors.SecondFile
+    else Ok (record asked { file = Some word })
+
+-- with one more argument, of this name and value
+abbrev pub with_argument : AskedValue → (word : List ℕ) → Option Name → Option (List ℕ) → Result AskedValue RunError
+with_argument asked word None value = with_file asked word
+with_argument asked word (Some (Names.Alone shown)) value = Ok (record asked { shown = Some shown })
+with_argument asked word (Some (Names.Valued setting)) None = Err Errors.NoValue
+with_argument asked word (Some (Names.Valued setting)) (Some text) = with_value asked setting text
+
+-- with one more argument
+abbrev pub asked_with : AskedValue → ArgumentValue → Result AskedValue RunError
+asked_with asked argument = with_argument asked argument.word (name_of argument.word) argument.value
+
+-- what all these arguments ask for, after others: the first error counts
+abbrev pub asked_by : Result AskedValue RunError → List ArgumentValue → Result AskedValue RunError
+asked_by asked [] = asked
+asked_by (Err error) (argument ∷ rest) = Err error
+asked_by (Ok asked) (argument ∷ rest) = asked_by (asked_with asked argument) rest
+
+-- what the words after the program's name ask for
+abbrev pub asked_of : (words : List (List ℕ)) → Result AskedValue RunError
+asked_of words = asked_by (Ok nothing_asked) (arguments_of words)
+
+-- ---- what contracts see
+
+abbrev pub argument_value : Argument → ArgumentValue
+argument_value argument = record { word = argument.word.now; value = option_map (λ text. text.now) argument.value }
+
+abbrev pub asked_value : Asked → AskedValue
+asked_value asked = record {
+  shown = asked.shown;
+  node = option_map (λ text. text.now) asked.node;
+  format = asked.format;
+  ignored = asked.ignored;
+  file = option_map (λ word. word.now) asked.file;
+}
+
+abbrev pub asked_result : Result Asked RunError → Result AskedValue RunError
+asked_result = result_map_both asked_value (λ error. error)

@@ -1,29 +1,204 @@
-//! The arguments of the program.
-ghost use Rattle.std.specs.Prelude.{[], ◌∷◌, codes, map, string_bytes};
-ghost use Rattle.npm_lock_check.specs.Arguments.{IsNodeOf};
+//! What the arguments of the program ask for.
+ghost use Rattle.std.specs.Prelude.{◌≡◌, ◌<◌, [], ◌∷◌, length, map, option_map, string_bytes, MatchOption};
+ghost use Rattle.npm_lock_check.specs.Arguments as Arguments;
+ghost use Rattle.npm_lock_check.specs.Arguments.{argument_value, arguments_of, asked_by, asked_result, asked_value};
 
+use crate::kinds::{Kinds, kind_of};
 use crate::run_error::RunError;
-use node_semver::Version;
-use std::alloc::Global;
 
-/// Returns the version of Node that the words after the program's name ask for, if there are any.
-pub fn node_of(alloc: Global, words: &[String]) -> Result<Option<Version>, RunError>
-    ensures { IsNodeOf (map string_bytes words.now) result }
+/// How problems are written.
+#[derive(Clone, Copy, Drop)]
+pub enum Format {
+    /// A sentence a line.
+    Text,
+    /// A JSON object a line.
+    Json,
+}
+
+/// What is shown in place of a check.
+#[derive(Clone, Copy, Drop)]
+pub enum Shown {
+    Help,
+    Version,
+}
+
+/// What the arguments ask for.
+#[derive(Clone, Copy, Drop)]
+pub struct Asked<'a> {
+    pub shown: Option<Shown>,
+    /// The text after `--node`.
+    pub node: Option<&'a str>,
+    pub format: Option<Format>,
+    /// The kinds after each `--ignore`.
+    pub ignored: Kinds,
+    pub file: Option<&'a str>,
+}
+
+/// One argument: a word, and the word after it if that is its value.
+#[derive(Clone, Copy, Drop)]
+struct Argument<'a> {
+    word: &'a str,
+    value: Option<&'a str>,
+}
+
+/// The options that have a value.
+#[derive(Clone, Copy, Drop)]
+enum Setting {
+    Node,
+    Format,
+    Ignore,
+}
+
+/// The options.
+#[derive(Clone, Copy, Drop)]
+enum Name {
+    Alone(Shown),
+    Valued(Setting),
+}
+
+/// Returns what the words after the program's name ask for. Of two values of an option the last one counts.
+pub fn asked_of<'a>(words: &'a [String]) -> Result<Asked<'a>, RunError>
+    ensures { asked_result result ≡ Arguments.asked_of (map string_bytes words.now) }
 {
-    match words {
-        [] => Ok(None),
-        [option, text] if option.as_str() == "--node" => version_of(alloc, text.as_str()),
-        _ => Err(RunError::Arguments),
+    asked_from(nothing_asked(), words)
+}
+
+/// What these words ask for, after others.
+fn asked_from<'a>(asked: Asked<'a>, words: &'a [String]) -> Result<Asked<'a>, RunError>
+    ensures { asked_result result
+        ≡ asked_by (Ok (asked_value asked.entry)) (arguments_of (map string_bytes words.now)) }
+{
+    match first_argument(words) {
+        Some((argument, rest)) => asked_from(asked_with(asked, argument)?, rest),
+        None => Ok(asked),
     }
 }
 
-/// The version of the text after `--node`.
-fn version_of(alloc: Global, text: &str) -> Result<Option<Version>, RunError>
-    ensures { IsNodeOf (codes "--node" ∷ text.now ∷ []) result }
+/// What no argument asks for.
+fn nothing_asked<'a>() -> Asked<'a>
+    ensures { asked_value result ≡ Arguments.nothing_asked }
 {
-    match Version::parse(alloc, text) {
-        Ok(version) => Ok(Some(version)),
-        Err(error) if error.is_out_of_memory() => Err(RunError::Memory),
-        Err(_) => Err(RunError::NodeVersion),
+    Asked {
+        shown: None,
+        node: None,
+        format: None,
+        ignored: Kinds::none(),
+        file: None,
+    }
+}
+
+/// The first argument of the words, and the words after it.
+fn first_argument<'a>(words: &'a [String]) -> Option<(Argument<'a>, &'a [String])>
+    ensures { MatchOption result (words.now ≡ []) (λ first. (length first.1.now < length words.now)
+        × (arguments_of (map string_bytes words.now)
+        ≡ argument_value first.0 ∷ arguments_of (map string_bytes first.1.now))) }
+{
+    let (first, rest) = words.split_first()?;
+    let word = first.as_str();
+    if takes_value(word)
+        && let Some((text, others)) = rest.split_first()
+    {
+        let value = Some(text.as_str());
+        return Some((Argument { word, value }, others));
+    }
+    Some((Argument { word, value: None }, rest))
+}
+
+/// Returns `true` if the word is an option with a value.
+fn takes_value(word: &str) -> bool
+    ensures { result ≡ Arguments.takes_value word.now }
+{
+    matches!(name_of(word), Some(Name::Valued(_)))
+}
+
+/// The option that the word names.
+fn name_of(word: &str) -> Option<Name>
+    ensures { result ≡ Arguments.name_of word.now }
+{
+    if word == "--help" || word == "-h" {
+        Some(Name::Alone(Shown::Help))
+    } else if word == "--version" || word == "-V" {
+        Some(Name::Alone(Shown::Version))
+    } else if word == "--node" {
+        Some(Name::Valued(Setting::Node))
+    } else if word == "--format" {
+        Some(Name::Valued(Setting::Format))
+    } else if word == "--ignore" {
+        Some(Name::Valued(Setting::Ignore))
+    } else {
+        None
+    }
+}
+
+/// What is asked for with one more argument.
+fn asked_with<'a>(asked: Asked<'a>, argument: Argument<'a>) -> Result<Asked<'a>, RunError>
+    ensures { asked_result result
+        ≡ Arguments.asked_with (asked_value asked.entry) (argument_value argument.entry) }
+{
+    match name_of(argument.word) {
+        None => with_file(asked, argument.word),
+        Some(Name::Alone(shown)) => Ok(Asked {
+            shown: Some(shown),
+            ..asked
+        }),
+        Some(Name::Valued(setting)) => match argument.value {
+            Some(text) => with_value(asked, setting, text),
+            None => Err(RunError::NoValue),
+        },
+    }
+}
+
+/// What is asked for with one more option that has a value.
+fn with_value<'a>(asked: Asked<'a>, setting: Setting, text: &'a str) -> Result<Asked<'a>, RunError>
+    ensures { asked_result result ≡ Arguments.with_value (asked_value asked.entry) setting text.now }
+{
+    match setting {
+        Setting::Node => Ok(Asked {
+            node: Some(text),
+            ..asked
+        }),
+        Setting::Format => match format_of(text) {
+            Some(format) => Ok(Asked {
+                format: Some(format),
+                ..asked
+            }),
+            None => Err(RunError::Format),
+        },
+        Setting::Ignore => match kind_of(text) {
+            Some(kind) => Ok(Asked {
+                ignored: asked.ignored.with(kind),
+                ..asked
+            }),
+            None => Err(RunError::Kind),
+        },
+    }
+}
+
+/// The format that the text names.
+fn format_of(text: &str) -> Option<Format>
+    ensures { result ≡ Arguments.format_of text.now }
+{
+    if text == "text" {
+        Some(Format::Text)
+    } else if text == "json" {
+        Some(Format::Json)
+    } else {
+        None
+    }
+}
+
+/// What is asked for with one more word that is no option: the file, of which there is one.
+fn with_file<'a>(asked: Asked<'a>, word: &'a str) -> Result<Asked<'a>, RunError>
+    ensures { asked_result result ≡ Arguments.with_file (asked_value asked.entry) word.now }
+{
+    if word.starts_with("-") && word != "-" {
+        Err(RunError::UnknownOption)
+    } else if asked.file.is_some() {
+        Err(RunError::SecondFile)
+    } else {
+        Ok(Asked {
+            file: Some(word),
+            ..asked
+        })
     }
 }

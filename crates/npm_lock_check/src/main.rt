@@ -1,62 +1,118 @@
-//! Reads a `package-lock.json` on standard input, and writes each dependency that is missing or has a version that its
-//! spec does not admit, a JSON object a line. With `--node VERSION` also each package whose `engines.node` does not
-//! admit it.
+//! Reads a `package-lock.json`, and writes each dependency that is missing or has a version that its spec does not admit.
+//! With `--node VERSION` also each package whose `engines.node` does not admit it.
 //!
-//! The exit status is 0 if there is no problem, 1 if there is one, and 2 if the file was not checked. Nothing is then
+//! The exit status is 0 if no problem was written, 1 if one was, and 2 if the file was not checked. Nothing is then
 //! written but one line on standard error, which says why.
 #![tactic(auto)]
 
-ghost use Rattle.std.specs.Prelude.{◌≡◌, ◌↔◌, [], IfErr, IfOk};
+ghost use Rattle.std.specs.Prelude.{◌≡◌, ◌↔◌, [], IfErr, IfOk, IsErr, None, Some};
+ghost use Rattle.std.specs.declared.option.Option.{Option};
 
 mod arguments;
 mod gauge;
+mod help;
+mod kinds;
+mod node;
 mod output;
 mod run_error;
+mod sentence;
 
-use arguments::node_of;
+use arguments::{Asked, Format, Shown, asked_of};
 use gauge::Gauge;
+use help::{HELP, VERSION};
+use node::node_of;
 use npm_lock::Problems;
 use output::run;
-use run_error::{RunError, read_error};
+use run_error::{RunError, open_error, read_error};
 use std::env;
+use std::fs::File;
+use std::io::{IsTerminal, Read};
 use std::process::ExitCode;
 
 /// Ends with the status of `status_of`. A line on standard error that cannot be written is dropped.
 fn main(rt: HostRuntime) -> ExitCode {
-    let outcome = checked(&rt);
+    let outcome = answered(&rt);
     let _ = match &outcome {
-        Ok(problems) => eprintln!(rt;
+        Ok(Some(problems)) => eprintln!(rt;
             "{} packages, {} dependencies, {} problems, {} not checked",
             problems.packages,
             problems.dependencies,
             problems.list.len(),
             problems.unchecked
         ),
+        Ok(None) => Ok(()),
         Err(error) => eprintln!(rt; "npm_lock_check: {error}"),
     };
     ExitCode::from(status_of(&outcome))
 }
 
-/// Checks standard input, with what the arguments ask for.
-fn checked(rt: &HostRuntime) -> Result<Problems, RunError> {
+/// Does what the arguments ask for. Returns the problems that were written, or `None` if a text was shown in place of a
+/// check.
+fn answered(rt: &HostRuntime) -> Result<Option<Problems>, RunError> {
     // The first word is the program's name.
     let words = env::args(rt).map_err(read_error)?.skip(1);
     let words: Vec<String> = words.collect(rt.alloc()).map_err(|_| RunError::Memory)?;
-    let node = node_of(rt.alloc(), &words)?;
-    let mut reader = Gauge::new(rt.stdin());
-    let mut writer = Gauge::new(rt.stdout());
-    run(rt.alloc(), &mut reader, &mut writer, node.as_ref())
+    let asked = asked_of(&words)?;
+    if let Some(shown) = asked.shown {
+        show(rt, shown)?;
+        return Ok(None);
+    }
+    match asked.file {
+        None | Some("-") => checked(rt, rt.stdin(), asked).map(Some),
+        Some(path) => {
+            let file = File::open(rt, path).map_err(open_error)?;
+            checked(rt, file, asked).map(Some)
+        }
+    }
 }
 
-/// Returns the exit status: 0 if there is no problem, 1 if there is one, and 2 if the file was not checked.
-fn status_of(outcome: &Result<Problems, RunError>) -> u8
-    ensures checked { IfOk outcome.now (λ problems. (result ≡ 0 ↔ problems.list.items ≡ [])
-        × (result ≡ 1 ↔ ¬ (problems.list.items ≡ []))) }
+/// Writes a text about the program.
+fn show(rt: &HostRuntime, shown: Shown) -> Result<(), RunError> {
+    let text = match shown {
+        Shown::Help => HELP,
+        Shown::Version => VERSION,
+    };
+    print!(rt; "{text}").map_err(|_| RunError::Write)
+}
+
+/// Checks what is read.
+fn checked<R: Read + Drop>(
+    rt: &HostRuntime,
+    reader: R,
+    asked: Asked<'_>,
+) -> Result<Problems, RunError> {
+    let node = match asked.node {
+        Some(text) => Some(node_of(rt.alloc(), text)?),
+        None => None,
+    };
+    let stdout = rt.stdout();
+    let format = match asked.format {
+        Some(format) => format,
+        None if stdout.is_terminal() => Format::Text,
+        None => Format::Json,
+    };
+    let mut reader = Gauge::new(reader);
+    let mut writer = Gauge::new(stdout);
+    run(
+        rt.alloc(),
+        &mut reader,
+        &mut writer,
+        node.as_ref(),
+        asked.ignored,
+        format,
+    )
+}
+
+/// Returns the exit status: 0 if no problem was written, 1 if one was, and 2 if the file was not checked.
+fn status_of(outcome: &Result<Option<Problems>, RunError>) -> u8
+    ensures shown { outcome.now ≡ Ok None → result ≡ 0 }
+    ensures checked { (problems : Problems) → outcome.now ≡ Ok (Some problems)
+        → (result ≡ 0 ↔ problems.list.items ≡ []) × (result ≡ 1 ↔ ¬ (problems.list.items ≡ [])) }
     ensures stopped { IfErr outcome.now (λ _. result ≡ 2) }
 {
     match outcome {
-        Ok(problems) if problems.list.is_empty() => 0,
-        Ok(_) => 1,
+        Ok(Some(problems)) if !problems.list.is_empty() => 1,
+        Ok(_) => 0,
         Err(_) => 2,
     }
 }

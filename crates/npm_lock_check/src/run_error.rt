@@ -1,5 +1,5 @@
 //! Why a lock file was not checked.
-ghost use Rattle.std.specs.Prelude.{◌≡◌, ◌↔◌};
+ghost use Rattle.std.specs.Prelude.{◌≡◌, ◌↔◌, ◌⊎◌, ℕ};
 ghost use Rattle.std.specs.IoError.{error_kind};
 ghost use Rattle.std.specs.declared.io.ErrorKind.{ErrorKind};
 ghost use Rattle.serde_json.specs.Errors.{IsMemory};
@@ -12,12 +12,30 @@ use thiserror::Error;
 /// Why a lock file was not checked.
 #[derive(Debug, PartialEq, Eq, Drop, Error)]
 pub enum RunError {
-    /// An argument that is not known.
-    #[error("takes no arguments but --node VERSION")]
-    Arguments,
+    /// An option that is not known.
+    #[error("no such option; --help lists the options")]
+    UnknownOption,
+    /// A second word that is no option.
+    #[error("more than one FILE; --help shows what is read")]
+    SecondFile,
+    /// An option that has a value is the last word.
+    #[error("the last option has no value; --help lists the options")]
+    NoValue,
+    /// What follows `--format` is no format.
+    #[error("--format takes text or json; --help lists the options")]
+    Format,
+    /// What follows `--ignore` is no kind of problem.
+    #[error("--ignore takes missing, invalid, peer-local or engine; --help lists the options")]
+    Kind,
     /// What follows `--node` is no version.
-    #[error("--node takes a version, as 20.11.1")]
+    #[error("--node takes a version, as 20 or 20.11.1; --help lists the options")]
     NodeVersion,
+    /// The file is not there.
+    #[error("FILE is not there")]
+    NoFile,
+    /// The file cannot be opened.
+    #[error("FILE cannot be opened")]
+    Open,
     /// A read failed.
     #[error("read failed")]
     Read,
@@ -27,9 +45,12 @@ pub enum RunError {
     /// An allocation failed.
     #[error("out of memory")]
     Memory,
-    /// What was read is no JSON text in UTF-8, or nests too deep.
-    #[error("the input is no JSON")]
-    NoJson,
+    /// What was read is no text in UTF-8.
+    #[error("the input is no JSON: it is not in UTF-8")]
+    NoUtf8,
+    /// What was read is no JSON text, or nests too deep. The fault is in this line and column, which count from 1.
+    #[error("the input is no JSON: line {0}, column {1}")]
+    NoJson(usize, usize),
     /// What was read begins with a byte order mark.
     #[error("the input begins with a byte order mark")]
     ByteOrderMark,
@@ -59,12 +80,20 @@ pub(crate) fn failure_error(kind: ErrorKind) -> RunError
 
 /// Why a text was not read as JSON: `Memory` if an allocation failed.
 pub(crate) fn json_error(error: serde_json::Error) -> RunError
-    ensures memory { result ≡ RunError.Memory ↔ IsMemory error }
-    ensures json { result ≡ RunError.NoJson ↔ ¬ IsMemory error }
+    ensures { ((result ≡ RunError.Memory) × IsMemory error)
+        ⊎ ((line column : ℕ) × (result ≡ RunError.NoJson line column) × ¬ IsMemory error) }
 {
     if error.is_memory() {
         RunError::Memory
     } else {
-        RunError::NoJson
+        RunError::NoJson(error.line(), error.column())
+    }
+}
+
+/// Why a file was not opened.
+pub(crate) fn open_error(error: io::Error) -> RunError {
+    match error.kind() {
+        ErrorKind::NotFound => RunError::NoFile,
+        _ => RunError::Open,
     }
 }

@@ -3,23 +3,19 @@ use Rattle.std.proofs.Common.{◌∙◌, ap, Err, IsSome, None, Option, Some, op
 use Rattle.std.specs.Option.{option_or}
 use Rattle.serde_json.specs.View.{view}
 use Rattle.npm_lock.specs.declared.problem.Problems.{Problems}
-use Rattle.npm_lock_check.specs.Output.{IsChecked, IsStopped}
+use Rattle.npm_lock_check.specs.Output.{IsReported, IsStopped}
 use Rattle.npm_lock_check.specs.declared.run_error.RunError.TheVariants.{Memory}
-use Rattle.npm_lock_check.proofs.Stopping.{later, was_err}
+use Rattle.npm_lock_check.proofs.Stopping.{later, refused, unwritten, was_err}
 use Rattle.npm_lock_check.proofs.output.run.Goals as goal
 
 some_of : {X : Type 0} (first : Option X) (second : X) → IsSome (option_or first (Some second))
 some_of None second = refl
 some_of (Some first) second = refl
 
-pub returns-in-Err-Refused-clause-refused : goal.returns-in-Err-Refused-clause-refused
-returns-in-Err-Refused-clause-refused g c = λ other.
-    let told = (c.check.ensures.refused c.in-Err-Refused.fault).0
-    (c.in-Err-Refused.is ∙ ap Err c.in-Err-Refused.field-0-is) in
-    (view c.in_ok-lock.lock, c.in_ok-lock.ensures.value, rw c.in-Err-Refused.field-0-is told)
-
-pub returns-in-Err-Memory-clause-refused : goal.returns-in-Err-Memory-clause-refused
-returns-in-Err-Memory-clause-refused g c = λ other. later _ _ _ (view c.in_ok-lock.lock) c.in_ok-lock.ensures.value
+pub returns-in_err-problems-clause-refused : goal.returns-in_err-problems-clause-refused
+returns-in_err-problems-clause-refused g c =
+    let stopped = refused _ _ _ (view c.in_ok-lock.lock) _ c.in_ok-lock.ensures.value c.in_err-problems.ensures.refused in
+    search (rules, stopped)
 
 pub returns-in_err-lines-clause-refused : goal.returns-in_err-lines-clause-refused
 returns-in_err-lines-clause-refused g c =
@@ -31,12 +27,12 @@ pub returns-in_err-map_err-clause-write : goal.returns-in_err-map_err-clause-wri
 returns-in_err-map_err-clause-write g c = λ told.
     let error = was_err _ c.write_all.result c.map_err-2.result _ c.map_err-2.ensures.cases c.in_err-map_err.was in
     let failed : IsSome c.write_all.new.self.failure = rw (c.write_all.ensures.failure, error.1) (some_of c.args.writer.now.failure _) in
-    let checked : IsChecked g.R.Read.remaining c.args.reader.now c.read_lock.new.reader
-    (option_map (λ version. version.now) c.args.node) c.in-Ok.problems = record {
+    let reported : IsReported g.R.Read.remaining c.args.reader.now c.read_lock.new.reader
+    (option_map (λ version. version.now) c.args.node) c.args.ignored c.in_ok-problems.problems = record {
       lock = view c.in_ok-lock.lock;
       input = c.in_ok-lock.ensures.value;
-      found = rw c.in-Ok.is at c.check.ensures.found;
+      left = c.in_ok-problems.ensures.found;
     } in
-    let both : (problems : Problems) × IsChecked g.R.Read.remaining c.args.reader.now c.read_lock.new.reader
-    (option_map (λ version. version.now) c.args.node) problems = (c.in-Ok.problems, checked) in
+    let both : (problems : Problems) × IsReported g.R.Read.remaining c.args.reader.now c.read_lock.new.reader
+    (option_map (λ version. version.now) c.args.node) c.args.ignored problems = (c.in_ok-problems.problems, reported) in
     (failed, both)

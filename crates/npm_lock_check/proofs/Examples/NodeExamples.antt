@@ -1,0 +1,45 @@
+-- What the definitions say of some versions of Node.
+use Rattle.std.proofs.Common.{Err, Ok, arith, codes, refl}
+use Rattle.semver_versions.specs.Lemmas.Versions.FaultExamples.{computed}
+use Rattle.semver_versions.specs.Lemmas.Versions.OneReading.{read-version, version-read}
+use Rattle.node_semver.specs.Versions.{IsVersionText, release}
+use Rattle.npm_lock_check.specs.NodeVersion.{IsNode, IsNoVersion, no_minor, no_patch, no_version, whole}
+use Rattle.npm_lock_check.specs.declared.run_error.RunError.TheVariants.{NodeVersion}
+
+is_read : IsVersionText (codes "20.11.1") (release 20 11 1)
+unfolding computed
+is_read = read-version _ _ (omega arith) refl
+
+pub a_version : IsNode (codes "20.11.1") (Ok (release 20 11 1))
+a_version = whole (release 20 11 1) is_read
+
+-- a version text is not refused
+pub a_version_is_not_refused : ¬ IsNode (codes "20.11.1") (Err NodeVersion)
+a_version_is_not_refused (no_version unread not_minor not_major) = unread (release 20 11 1) is_read
+
+-- a number alone is no version
+major_alone : IsNoVersion (codes "20")
+unfolding computed
+major_alone v read = cc (version-read (codes "20") v read)
+
+two_numbers : IsNoVersion (codes "20.0")
+unfolding computed
+two_numbers v read = cc (version-read (codes "20.0") v read)
+
+minor_alone : IsNoVersion (codes "v20.11")
+unfolding computed
+minor_alone v read = cc (version-read (codes "v20.11") v read)
+
+with_zeros : IsVersionText (codes "20.0.0") (release 20 0 0)
+unfolding computed
+with_zeros = read-version _ _ (omega arith) refl
+
+with_zero : IsVersionText (codes "v20.11.0") (release 20 11 0)
+unfolding computed
+with_zero = read-version _ _ (omega arith) refl
+
+pub a_major_version : IsNode (codes "20") (Ok (release 20 0 0))
+a_major_version = no_minor (release 20 0 0) major_alone two_numbers with_zeros
+
+pub a_minor_version : IsNode (codes "v20.11") (Ok (release 20 11 0))
+a_minor_version = no_patch (release 20 11 0) minor_alone with_zero

@@ -1,0 +1,30 @@
+//! What the program says of itself.
+
+/// What `--version` writes.
+pub const VERSION: &str = "npm_lock_check 1.0.0\n";
+
+/// What `--help` writes.
+pub const HELP: &str = "\
+Checks the packages of a package-lock.json against what they depend on.
+
+Usage: npm_lock_check [OPTIONS] [FILE]
+
+FILE is a package-lock.json. With no FILE, and if FILE is -, standard input is read.
+
+Options:
+  --node VERSION   Also check engines.node of each package against this version of Node.
+                   20 means 20.0.0, and v20.11 means 20.11.0.
+                   Example: npm_lock_check --node 20 package-lock.json
+  --format FORMAT  text: write each problem as a sentence. json: write it as a JSON object.
+                   The default is text if standard output is a terminal, and json if not.
+                   Example: npm_lock_check --format text package-lock.json > problems.txt
+  --ignore KIND    Leave out problems of this kind: missing, invalid, peer-local or engine.
+                   May be given several times.
+                   Example: npm_lock_check --ignore peer-local --ignore engine package-lock.json
+  -h, --help       Write this text.
+                   Example: npm_lock_check --help
+  -V, --version    Write the version of this program.
+                   Example: npm_lock_check --version
+
+The exit status is 0 if no problem was written, 1 if one was, and 2 if the file was not checked.
+";

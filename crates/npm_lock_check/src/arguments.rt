@@ -1,4 +1,6 @@
 //! What the arguments of the program ask for.
+//!
+//! See docs/DECISIONS.md, "The arguments of `npm_lock_check` are read by hand".
 ghost use Rattle.std.specs.Prelude.{◌≡◌, ◌<◌, [], ◌∷◌, length, map, option_map, string_bytes, MatchOption};
 ghost use Rattle.npm_lock_check.specs.Arguments as Arguments;
 ghost use Rattle.npm_lock_check.specs.Arguments.{argument_value, arguments_of, asked_by, asked_result, asked_value};

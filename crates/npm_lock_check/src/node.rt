@@ -1,4 +1,6 @@
 //! The version of Node that an argument names.
+//!
+//! See docs/DECISIONS.md, "A shorter version of Node is the text with zeros".
 ghost use Rattle.std.specs.Prelude.{◌≡◌, ◌++◌, codes, IfErr, IfOk, MatchOption};
 ghost use Rattle.node_semver.specs.Versions.{IsVersionText, VersionValue};
 ghost use Rattle.npm_lock_check.specs.NodeVersion.{IsNode};

@@ -1,4 +1,6 @@
 //! A problem as a sentence, for a person.
+//!
+//! See docs/DECISIONS.md, "A sentence has printable ASCII alone".
 ghost use Rattle.std.specs.Prelude.{◌≡◌, ◌<◌, ◌++◌, codes, OnOk, option_map, string_bytes};
 ghost use Rattle.std.specs.List.{flat_map};
 ghost use Rattle.npm_lock.specs.Outcomes.{problem_value};

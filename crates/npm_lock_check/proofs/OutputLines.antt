@@ -3,7 +3,7 @@ use Rattle.std.proofs.Common.{◌≡◌, ◌∙◌, ℕ, ◌+◌, ◌<◌, List,
 use Rattle.std.proofs.Common.{false, Option, Some, None, append_assoc, codes}
 use Rattle.std.proofs.lemmas.List.{drop_more}
 use Rattle.serde_json.specs.Data.{no_members}
-use Rattle.serde_json.specs.Written.{compact_text, has_float, members_have_float}
+use Rattle.serde_json.specs.Written.{has_float, members_have_float}
 use Rattle.npm_lock.specs.Outcomes.{ProblemValue, problem_value}
 use Rattle.npm_lock.specs.ProblemJson.{problem_data, with_text}
 use Rattle.npm_lock.specs.declared.problem.Problem.{Problem}

@@ -1,11 +1,11 @@
 -- The input was read, and the check refuses its value, or memory ran out, or the lines were not written.
-use Rattle.std.proofs.Common.{◌∙◌, ap, Err, IsSome, None, Option, Some, option_map, refl, rules}
+use Rattle.std.proofs.Common.{IsSome, None, Option, Some, option_map, refl, rules}
 use Rattle.std.specs.Option.{option_or}
 use Rattle.serde_json.specs.View.{view}
 use Rattle.npm_lock.specs.declared.problem.Problems.{Problems}
 use Rattle.npm_lock_check.specs.Output.{IsReported, IsStopped}
 use Rattle.npm_lock_check.specs.declared.run_error.RunError.TheVariants.{Memory}
-use Rattle.npm_lock_check.proofs.Stopping.{later, refused, unwritten, was_err}
+use Rattle.npm_lock_check.proofs.Stopping.{later, refused, was_err}
 use Rattle.npm_lock_check.proofs.output.run.Goals as goal
 
 some_of : {X : Type 0} (first : Option X) (second : X) → IsSome (option_or first (Some second))

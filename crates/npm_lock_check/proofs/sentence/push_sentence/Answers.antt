@@ -32,10 +32,22 @@ returns c =
     ++ after (codes " in ") (option_map string_bytes c.args.problem.now.to))
     ++ verdict c.args.problem.now.kind) ++ codes " \"") ++ shown (string_bytes c.args.problem.now.spec))
     ++ codes "\", which ") ++ asker (string_bytes c.args.problem.now.from)) ++ codes " asks for" =
-    rw (c.in_ok-push_asker.ensures, c.as_str-3.ensures.value, c.in_ok-extend_from_slice-3.ensures.items,
-    c.in_ok-push_shown-2.ensures, c.as_str-2.ensures.value, c.in_ok-extend_from_slice-2.ensures.items,
-    c.in_ok-extend_from_slice.ensures.items, c.verdict.ensures, c.in_ok-push_after-2.ensures, to,
-    c.in_ok-push_after.ensures, version, c.in_ok-push_shown.ensures, c.as_str.ensures.value) refl in
+    rw (
+      c.in_ok-push_asker.ensures,
+      c.as_str-3.ensures.value,
+      c.in_ok-extend_from_slice-3.ensures.items,
+      c.in_ok-push_shown-2.ensures,
+      c.as_str-2.ensures.value,
+      c.in_ok-extend_from_slice-2.ensures.items,
+      c.in_ok-extend_from_slice.ensures.items,
+      c.verdict.ensures,
+      c.in_ok-push_after-2.ensures,
+      to,
+      c.in_ok-push_after.ensures,
+      version,
+      c.in_ok-push_shown.ensures,
+      c.as_str.ensures.value,
+    ) refl in
     let all = joined ∙ regroup c.args.line.now.items (shown (string_bytes c.args.problem.now.name))
     (after (codes " ") (option_map string_bytes c.args.problem.now.version))
     (after (codes " in ") (option_map string_bytes c.args.problem.now.to))

@@ -1,11 +1,12 @@
 -- What the arguments of the program ask for.
-use Rattle.std.specs.Prelude.{◌&&◌, ◌||◌, ℕ, List, [], ◌∷◌, Bool, true, false, not, if◌then◌else◌, nat_eq}
+use Rattle.std.specs.Prelude.{◌&&◌, ◌||◌, ℕ, List, [], ◌∷◌, Bool, true, false, not, if◌then◌else◌, length, nat_eq, nat_lt}
 use Rattle.std.specs.Prelude.{Option, Some, None, is_some, option_map, Result, Ok, Err, codes}
 use Rattle.std.specs.List.{starts_with}
 use Rattle.std.specs.Result.{result_map_both}
 use Rattle.std.specs.Str.{bytes_eq}
 use Rattle.npm_lock.specs.declared.problem.Kind.{Kind}
 use Rattle.npm_lock_check.specs.Kinds.{kind_of, no_kinds, with_kind}
+use Rattle.npm_lock_check.specs.declared.arguments.TheConstants.{MAX_WORDS}
 use Rattle.npm_lock_check.specs.declared.arguments.Argument.{Argument}
 use Rattle.npm_lock_check.specs.declared.arguments.Asked.{Asked}
 use Rattle.npm_lock_check.specs.declared.arguments.Format.{Format}
@@ -113,9 +114,10 @@ asked_by asked [] = asked
 asked_by (Err error) (argument ∷ rest) = Err error
 asked_by (Ok asked) (argument ∷ rest) = asked_by (asked_with asked argument) rest
 
--- what the words after the program's name ask for
+-- what the words after the program's name ask for, of which there are at most 1,000
 abbrev pub asked_of : (words : List (List ℕ)) → Result AskedValue RunError
-asked_of words = asked_by (Ok nothing_asked) (arguments_of words)
+asked_of words = if nat_lt MAX_WORDS (length words) then Err Errors.TooManyWords
+    else asked_by (Ok nothing_asked) (arguments_of words)
 
 -- ---- what contracts see
 

@@ -24,7 +24,7 @@ use Rattle.npm_lock_check.specs.declared.run_error.RunError.{RunError}
 use Rattle.npm_lock_check.specs.declared.run_error.RunError.TheVariants as Errors
 use Rattle.npm_lock_check.specs.declared.run_error.RunError.TheVariants.{ByteOrderMark, Memory, NodeVersion, NoFile}
 use Rattle.npm_lock_check.specs.declared.run_error.RunError.TheVariants.{NoJson, NoLockFile, NoUtf8, NoValue, Open, Read}
-use Rattle.npm_lock_check.specs.declared.run_error.RunError.TheVariants.{SecondFile, UnknownOption, Write}
+use Rattle.npm_lock_check.specs.declared.run_error.RunError.TheVariants.{SecondFile, TooManyWords, UnknownOption, Write}
 
 -- the JSON text of this value, in UTF-8
 abbrev pub IsTextOf : (bytes : List ℕ) → (lock : Data) → Type 0
@@ -93,6 +93,7 @@ IsStopped remaining old new Read = IsSome new.failure × (new.failure ≢ Some O
 IsStopped remaining old new Memory = (new.failure ≡ Some OutOfMemory)
     ⊎ IsReadAs remaining old new (λ bytes. IsUtf8 bytes × (bytes ≢ []))
 IsStopped remaining old new Write = ⊥
+IsStopped remaining old new TooManyWords = ⊥
 IsStopped remaining old new UnknownOption = ⊥
 IsStopped remaining old new SecondFile = ⊥
 IsStopped remaining old new NoValue = ⊥

@@ -58,10 +58,16 @@ enum Name {
     Valued(Setting),
 }
 
+/// The greatest number of words that are read: each takes room on the stack.
+const MAX_WORDS: usize = 1000;
+
 /// Returns what the words after the program's name ask for. Of two values of an option the last one counts.
 pub fn asked_of<'a>(words: &'a [String]) -> Result<Asked<'a>, RunError>
     ensures { asked_result result ≡ Arguments.asked_of (map string_bytes words.now) }
 {
+    if MAX_WORDS < words.len() {
+        return Err(RunError::TooManyWords);
+    }
     asked_from(nothing_asked(), words)
 }
 

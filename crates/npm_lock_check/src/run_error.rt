@@ -12,6 +12,9 @@ use thiserror::Error;
 /// Why a lock file was not checked.
 #[derive(Debug, PartialEq, Eq, Drop, Error)]
 pub enum RunError {
+    /// More words than are read.
+    #[error("more than 1000 arguments; --help lists the options")]
+    TooManyWords,
     /// An option that is not known.
     #[error("no such option; --help lists the options")]
     UnknownOption,

@@ -17,6 +17,9 @@ const BUILDS = ['compareBuild', 'SemVer.compareBuild', 'sort', 'rsort'];
 // A word that is any version, or nothing.
 const STAR = /(^|[\s<>=~^v|])([xX*]|>=\s*0|$|\|)/;
 
+// A partial that begins with 0.0.0.
+const ZERO = /(^|[\s>=~^v|])0(\.[0xX*]){0,2}(\.\d+)?(?![\w.-])/;
+
 const rules = [
     {
         name: 'large numbers and long words',
@@ -53,15 +56,16 @@ const rules = [
         here: null,
         why: 'an operator has no blank inside. npm joins each operator with what follows, also after other characters: '
             + 'it refuses `foo> 1`, which is `1` here in loose mode',
-        range: has(/[<>=~^]\s+[<>=~^]/, /[^\s<>=~^|][<>=~^]+(\s|$|\|)/, /[<>=~^]{3,}\s/, /<<|>>|[~^][<>=~^]*=\s/),
+        range: has(/[<>=~^]\s+[<>=~^]/, /[^\s<>=~^|][<>=~^]+(\s|$|\|)/, /(?<!\|)\|[<>=~^]+(\s|$)/, /[<>=~^]{3,}\s/,
+            /<<|>>|[~^][<>=~^]*=\s|\^[<>=~^]+\s|[<>=][~^]\s|~[<~^]\s/),
     },
     {
         name: 'a star beside other characters',
         example: ['validRange', '1.2.3*'],
         npm: '1.2.3',
         here: null,
-        why: 'npm takes a star out of any word',
-        range: has(/[^\s|.<>=~^v]\*|\*[^\s|.]/, /\*\.?[^\s|.]/),
+        why: 'npm takes a star out of any word, with a `<` or `>` before it',
+        range: has(/[^\s|.<>=~^v][<>]?=?\s*\*|\*[^\s|.]/, /\*\.?[^\s|.]/),
     },
     {
         name: 'what npm takes for a prerelease',
@@ -101,8 +105,10 @@ const rules = [
         example: ['satisfies', '1.2.3-b', '^1.2.3-a || *'],
         npm: false,
         here: true,
-        why: 'npm drops the alternatives beside `*`, and in loose mode a `*` between words that it ignores',
-        range: (text, isLoose) => (isLoose || text.includes('||')) && STAR.test(text),
+        why: 'npm drops the alternatives beside `*`, and in loose mode a `*` between words that it ignores; it takes '
+            + '`>=0.0.0` for no end, which shows beside a prerelease of 0.0.0',
+        range: (text, isLoose) => ((isLoose || text.includes('||')) && STAR.test(text))
+            || (ZERO.test(text) && text.includes('0.0.0-')),
     },
 ];
 

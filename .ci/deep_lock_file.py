@@ -1,6 +1,6 @@
 """deep_lock_file.py SHAPE N: writes a lock file whose folders are deep.
 
-    path      a package in a folder `f/f/f/..` of N parts asks for N names, and each second is found in the root
+    path      a package in a folder `f/f/f/..` of N parts asks for N names: half are found in the root, the others nowhere
     nested    N packages, each in the `node_modules` of the one before, ask for a name in the root and for one that is nowhere
 """
 import json
@@ -9,7 +9,8 @@ import sys
 shape, count = sys.argv[1], int(sys.argv[2])
 packages = {"": {"name": "deep", "version": "1.0.0"}}
 if shape == "path":
-    packages["/".join(["f"] * count)] = {"dependencies": {f"name-{i}": "^1.0.0" for i in range(count)}}
+    wanted, optional = ({f"name-{i}": "^1.0.0" for i in range(first, count, 2)} for first in (0, 1))
+    packages["/".join(["f"] * count)] = {"dependencies": wanted, "optionalDependencies": optional}
     packages.update({f"node_modules/name-{i}": {"version": "1.2.3"} for i in range(0, count, 2)})
 else:
     folder = "node_modules/a"

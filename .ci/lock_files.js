@@ -1,12 +1,17 @@
 // Compares what npm_lock_check writes with npm's own tree, edge by edge, with npm's node_modules in NODE_PATH.
 // node lock_files.js PROGRAM made COUNT: on COUNT lock files that are made here.
 // node lock_files.js PROGRAM rows: on the rows of this file.
+// node lock_files.js PROGRAM installed: on each spec and each `engines.node` of the packages of the installed npm.
 // node lock_files.js PROGRAM file FILE PACKAGES: on this lock file, of so many packages.
+// node lock_files.js PROGRAM made-old COUNT: on COUNT lock files of version 1 that are made here, each with a manifest.
+// node lock_files.js PROGRAM rows-old: on the rows of version 1.
 const { spawnSync } = require('node:child_process')
 const fs = require('node:fs')
 const os = require('node:os')
 const path = require('node:path')
 const Arborist = require('@npmcli/arborist')
+const npa = require('npm-package-arg')
+const { checkEngine } = require('npm-install-checks')
 
 // Numbers in a fixed order, so that a run can be repeated.
 let seed = 20111
@@ -19,7 +24,14 @@ const pick = list => list[below(list.length)]
 const names = ['a', 'b', 'c', 'd', 'e', '@s/a', '@s/b', '@t/c']
 const versions = ['1.0.0', '1.2.3', '2.0.0', '2.1.0-rc.1', '0.3.4', '3.0.0-beta', '10.4.2']
 const specs = ['^1.0.0', '^1', '~2.0', '>=1 <3', '1.x', '*', '', '2.0.0', '^0.3.0', '^1 || ^2', '>2.1.0-rc.0',
-  '1 - 2', '>=3.0.0-alpha', 'npm:@s/b@^1.0.0', 'npm:a', 'npm:c@', 'npm:@t/c', 'npm:b@~2.0', '=1.2.3', 'v1.2.3']
+  '1 - 2', '>=3.0.0-alpha', 'npm:@s/b@^1.0.0', 'npm:a', 'npm:c@', 'npm:@t/c', 'npm:b@~2.0', '=1.2.3', 'v1.2.3',
+  // Texts that npm and the Rust crate read differently, and white space.
+  '<=2', '<=2.1', '>2', '^1 ||', '|| ^9', '||', ' ', ' ^1 ', '\t1.x', '1.x\n', ' * ', '\u00a0^2', 'foo ^1', '01.2.3', '>=1.2.3beta',
+  '2.1.0rc.1', '>= 1', '^ 1', '~ 2.0', '1.2.3 - 2', '>4 <3', '>4 <3 || 1', '^1 || a:b', 'npm:', 'npm: ^1', 'npm:a@ ^1', '<0', '>*', 'x',
+  'npm:a@github:b/c', '^1 ^2', '= %', '1.2.3+build', '>=2.1.0-rc.0 <2.1.0', '<3.0.0-0', '<=3.0.0-beta']
+const engines = ['>=18', '>=18.0.0', '<=20', '<20', '', ' ', '^18 || >=20', '>= 16.x', 'foo', '18 - 20', '~18.1', '>=18.0.0-rc.1',
+  '^18.0.0-rc.2 || 21', '>20', '*', 'x || 4', '> 10 < 18', '01', ' >=20 ', '>=18 foo', '18.x.x', '<18.0.0', '^18.0.0']
+const nodes = ['18.0.0-rc.1', '18.0.0', '20.11.1', '20.0.0-nightly', '21.0.0-0', '17.9.9']
 const groups = ['dependencies', 'optionalDependencies', 'peerDependencies', 'devDependencies']
 
 const group = () => {
@@ -30,6 +42,8 @@ const group = () => {
 
 const member = () => {
   const made = { version: pick(versions) }
+  if (below(2)) made.engines = { node: pick(engines) }
+  for (const mark of ['dev', 'optional', 'peer']) if (below(8) === 0) made[mark] = true
   for (const name of groups) if (below(3) === 0) made[name] = group()
   if (made.peerDependencies && below(2)) {
     made.peerDependenciesMeta = {}
@@ -59,6 +73,34 @@ const lockFile = () => {
     folders.push(folder)
   }
   return { name: 'root', version: '1.0.0', lockfileVersion: 3, requires: true, packages }
+}
+
+// Lock files of version 1, with a manifest. npm leaves out what a package that is not `dev` requires of one that is, so
+// all packages of a file are, or none.
+const oldMember = (depth, isDev) => {
+  const made = { version: pick(versions) }
+  if (below(2)) made.requires = group()
+  if (below(4) === 0) made.requires = true
+  if (below(4) === 0) made.optional = true
+  if (below(8) === 0) made.bundled = true
+  if (isDev) made.dev = true
+  if (below(2)) made.integrity = 'sha512-' + 'A'.repeat(86) + '=='
+  if (depth > 0 && below(3) === 0) made.dependencies = oldMembers(below(4), depth - 1, isDev)
+  return made
+}
+const oldMembers = (count, depth, isDev) => {
+  const made = {}
+  for (let i = count; i > 0; i--) made[pick(names)] = oldMember(depth, isDev)
+  return made
+}
+const oldFile = () => {
+  const file = { name: 'root', version: '1.0.0' }
+  if (below(4)) file.lockfileVersion = 1
+  if (below(2)) file.requires = true
+  file.dependencies = oldMembers(4 + below(6), 3, below(4) === 0)
+  // A manifest has no marks.
+  const { dev, optional, devOptional, peer, ...manifest } = member()
+  return { file, manifest: { ...manifest, name: 'root' } }
 }
 
 const words = { MISSING: 'missing', INVALID: 'invalid', 'PEER LOCAL': 'peer local' }
@@ -106,8 +148,58 @@ const rows = [
     spec => ({ '': { dependencies: { a: spec } }, 'node_modules/a': at('2.0.0') }))
 ]
 
+// What a JSON object tells: its members in their order.
+const told = object => JSON.stringify(Object.fromEntries(Object.entries(object).sort(([a], [b]) => (a < b ? -1 : 1))))
+
+// npm's own check of `engines.node`. An optional package is not asked.
+const engineProblems = (file, version) => Object.entries(file.packages).flatMap(([from, member]) => {
+  if (member.link || member.optional) return []
+  try {
+    checkEngine(member, null, version)
+    return []
+  } catch (error) {
+    return [told({ from, name: 'node', problem: 'engine', spec: member.engines.node, version, dev: !!member.dev, optional: false,
+      peer: !!member.peer })]
+  }
+})
+
+// Rows of version 1: the manifest, and the members of `dependencies`.
+const asks = spec => ({ dependencies: { a: spec } })
+const oldRows = [
+  [{}, {}],
+  [{ dependencies: { a: '^1', b: '^1' }, devDependencies: { a: '^2' } }, { a: at('1.0.0') }],
+  [{ optionalDependencies: { a: '1', b: '1' } }, { b: at('2.0.0') }],
+  [{ peerDependencies: { a: '1', b: '1' }, peerDependenciesMeta: { a: { optional: true } } }, {}],
+  [{ dependencies: { a: '^2' }, acceptDependencies: { a: '^1' } }, { a: at('1.0.0') }],
+  // What packages require, with the nearest package.
+  [{}, { a: at('1.0.0', { requires: { b: '^1', c: '^1', d: '^1' } }), b: at('2.0.0'), c: at('1.2.0') }],
+  [asks('1'), { a: at('1.0.0', { requires: { b: '1' }, dependencies: { b: at('1.0.0') } }), b: at('2.0.0') }],
+  [{ dependencies: { b: '1' } }, { a: at('1.0.0', { dependencies: { b: at('1.0.0') } }) }],
+  [{}, { a: at('1.0.0', { dependencies: { b: at('1.0.0', { requires: { c: '2' }, dependencies: { c: at('1.0.0') } }) } }),
+    c: at('2.0.0') }],
+  [{}, { '@s/a': at('1.0.0', { requires: { '@s/b': '1' }, dependencies: { '@s/b': at('2.0.0') } }) }],
+  // `requires` that says nothing, and marks of packages.
+  ...[true, false, null, {}].map(requires => [asks('2'), { a: at('1.0.0', { requires }) }]),
+  [{}, { a: at('1.0.0', { requires: { b: '1', c: '1' } }), b: at('2.0.0', { optional: true }) }],
+  [{}, { a: at('1.0.0', { optional: true, requires: { b: '1', c: '1' } }), b: at('2.0.0', { optional: true }) }],
+  [{}, { a: at('1.0.0', { dev: true, requires: { b: '1', c: '1' } }), b: at('2.0.0', { dev: true }) }],
+  [asks('1'), { a: at('1.0.0', { bundled: true, requires: { b: '1' }, dependencies: { b: at('2.0.0', { bundled: true }) } }) }],
+  // Aliases and repositories. A package with a version of its own has `integrity` too.
+  ...['npm:c@1.2.0', 'npm:@s/c@1.2.0', '1.2.0'].flatMap(version => ['^1', 'npm:c@^1', 'npm:c@^2'].map(spec =>
+    [asks(spec), { a: at(version, { integrity: 'sha512-' + 'A'.repeat(86) + '==' }) }])),
+  ...['git+ssh://git@github.com/b/b.git#0123456789012345678901234567890123456789', 'github:b/b#0123'].map(version =>
+    [asks('^1'), { a: at(version, { from: 'github:b/b' }) }])
+]
+
+// The member of a lock file for the package in this folder. In version 1 the root has none.
+const marksOf = (file, folder) => {
+  if (file.packages) return file.packages[folder]
+  const names = folder === '' ? [] : folder.slice('node_modules/'.length).split('/node_modules/')
+  return names.reduce((member, name) => member.dependencies[name], folder === '' ? {} : file)
+}
+
 // npm's problems: those of each edge. A workspace of the root is an edge of its own, which hides that of a group.
-const npmProblems = async folder => {
+const npmProblems = async (folder, file) => {
   const tree = await new Arborist({ path: folder }).loadVirtual()
   const found = []
   let count = 0
@@ -120,15 +212,19 @@ const npmProblems = async folder => {
       }
       count++
       if (!edge.error) continue
-      const problem = { from: node.location, name: edge.name, problem: words[edge.error], spec: edge.rawSpec }
+      const marks = marksOf(file, node.location)
+      // In version 1 npm calls what a package requires optional if the package that is found is.
+      const isOptional = edge.optional && (file.packages || node.isProjectRoot)
+      const problem = { from: node.location, name: edge.name, problem: words[edge.error], spec: edge.rawSpec,
+        dev: !!marks.dev || edge.dev, optional: !!(marks.optional || isOptional), peer: !!marks.peer || edge.peer }
       if (edge.to) {
         problem.to = edge.to.target.location
-        problem.version = edge.to.target.version
+        if (edge.to.target.version) problem.version = edge.to.target.version
       }
-      found.push(JSON.stringify(problem))
+      found.push(told(problem))
     }
   }
-  return { found: found.sort(), count }
+  return { found, count }
 }
 
 // npm reads the folders of workspaces, and not the lock file, for their names.
@@ -140,9 +236,49 @@ const writeFolders = (root, packages) => {
   }
 }
 
+const oldRowFiles = () => oldRows.map(([manifest, dependencies]) => ({
+  manifest: { name: 'root', ...manifest },
+  file: { name: 'root', version: '1.0.0', lockfileVersion: 1, requires: true, dependencies }
+}))
+
 const rowFiles = () => rows.map(packages => ({
   name: 'root', version: '1.0.0', lockfileVersion: 3, requires: true, packages: { '': {}, ...packages }
 }))
+
+// The packages of the installed npm: each spec for a registry, with a package of each of these versions, and each engine.
+const installedFile = () => {
+  const found = { specs: new Set(), engines: new Set() }
+  const walk = folder => {
+    for (const entry of fs.readdirSync(folder, { withFileTypes: true })) {
+      const file = path.join(folder, entry.name)
+      if (entry.isDirectory()) walk(file)
+      if (entry.name !== 'package.json') continue
+      const member = JSON.parse(fs.readFileSync(file, 'utf8'))
+      for (const name of groups) for (const spec of Object.values(member[name] || {})) found.specs.add(spec)
+      if (typeof member.engines?.node === 'string') found.engines.add(member.engines.node)
+    }
+  }
+  walk(process.env.NODE_PATH)
+  const isRegistry = spec => {
+    try {
+      const { type, subSpec } = npa.resolve('a', spec)
+      return ['range', 'version'].includes((subSpec || { type }).type)
+    } catch {
+      return true
+    }
+  }
+  const packages = { '': {} }
+  for (const version of ['0.3.4', '1.0.0', '1.2.3', '2.1.0-rc.1', '3.0.0-beta', '4.2.0', '6.0.0', '7.5.4', '10.4.2', '18.0.0']) {
+    const asker = { version, dependencies: {} }
+    for (const [i, spec] of [...found.specs].filter(isRegistry).entries()) {
+      asker.dependencies[`d${i}`] = spec
+      packages[`node_modules/v${version}/node_modules/d${i}`] = { version }
+    }
+    packages[`node_modules/v${version}`] = asker
+  }
+  for (const [i, node] of [...found.engines].entries()) packages[`node_modules/e${i}`] = { version: '1.0.0', engines: { node } }
+  return { name: 'root', version: '1.0.0', lockfileVersion: 3, requires: true, packages }
+}
 
 // The lock file with other versions, and with dependencies that are nowhere.
 const spoiled = file => {
@@ -153,38 +289,48 @@ const spoiled = file => {
   return file
 }
 
-// The lock files that the arguments ask for, and how many packages they have if that is told.
+// The lock files that the arguments ask for, with a manifest or without, and how many packages they have if that is told.
 const wanted = () => {
   const [kind, text, packages] = process.argv.slice(3)
-  if (kind === 'rows') return { files: rowFiles() }
+  const alone = files => files.map(file => ({ file }))
+  if (kind === 'rows') return { files: alone(rowFiles()) }
+  if (kind === 'installed') return { files: alone([installedFile()]) }
+  if (kind === 'rows-old') return { files: oldRowFiles() }
+  if (kind === 'made-old') return { files: Array.from({ length: Number(text) }, oldFile) }
   if (kind === 'file') {
-    return { files: [spoiled(JSON.parse(fs.readFileSync(text, 'utf8')))], packages: Number(packages) }
+    return { files: alone([spoiled(JSON.parse(fs.readFileSync(text, 'utf8')))]), packages: Number(packages) }
   }
-  return { files: Array.from({ length: Number(text) }, lockFile) }
+  return { files: alone(Array.from({ length: Number(text) }, lockFile)) }
 }
 
 const main = async () => {
   const program = process.argv[2]
   const { files, packages } = wanted()
   let differ = 0, dependencies = 0, problems = 0
-  for (const [i, file] of files.entries()) {
+  for (const [i, { file, manifest }] of files.entries()) {
     const room = fs.mkdtempSync(path.join(os.tmpdir(), 'lock_files-'))
     const folder = path.join(room, 'above', 'root')
     fs.mkdirSync(folder, { recursive: true })
     const text = JSON.stringify(file, null, 2)
     fs.writeFileSync(path.join(folder, 'package-lock.json'), text)
-    writeFolders(folder, file.packages)
-    const npm = await npmProblems(folder)
+    if (file.packages) writeFolders(folder, file.packages)
+    const beside = path.join(folder, 'package.json')
+    if (manifest) fs.writeFileSync(beside, JSON.stringify(manifest))
+    const version = file.packages && nodes[i % nodes.length]
+    const npm = await npmProblems(folder, file)
+    if (version) npm.found.push(...engineProblems(file, version))
+    npm.found.sort()
+    const ran = spawnSync(program, [...(version ? ['--node', version] : []), ...(manifest ? ['--manifest', beside] : [])],
+      { input: text, encoding: 'utf8', maxBuffer: 1 << 28 })
     fs.rmSync(room, { recursive: true })
-    const ran = spawnSync(program, [], { input: text, encoding: 'utf8', maxBuffer: 1 << 28 })
     const sorted = ran.stdout.split('\n').filter(line => line).sort()
-    const told = /^(\d+) packages, (\d+) dependencies/.exec(ran.stderr)
-    const counted = Number(told?.[2])
+    const counts = /^(\d+) packages, (\d+) dependencies/.exec(ran.stderr)
+    const counted = Number(counts?.[2])
     dependencies += npm.count
     problems += npm.found.length
-    if (packages !== undefined && Number(told?.[1]) !== packages) {
+    if (packages !== undefined && Number(counts?.[1]) !== packages) {
       differ++
-      console.log(`WRONG: ${told?.[1]} packages, and not ${packages}: ${ran.stderr}`)
+      console.log(`WRONG: ${counts?.[1]} packages, and not ${packages}: ${ran.stderr}`)
     }
     if (counted !== npm.count || JSON.stringify(sorted) !== JSON.stringify(npm.found)) {
       differ++
@@ -192,7 +338,7 @@ const main = async () => {
         console.log(`WRONG: lock file ${i}: ${counted} dependencies here, ${npm.count} in npm's tree`)
         for (const line of sorted) if (!npm.found.includes(line)) console.log(`  here alone: ${line}`)
         for (const line of npm.found) if (!sorted.includes(line)) console.log(`  npm alone: ${line}`)
-        if (process.env.KEEP) fs.writeFileSync(process.env.KEEP, text)
+        if (process.env.KEEP) fs.writeFileSync(process.env.KEEP, JSON.stringify({ file, manifest }, null, 2))
       }
     }
   }

@@ -92,6 +92,10 @@ export class Range {
     readonly sets: VersionSet[];
     format(): string;
     toString(): string;
+    /** The fields of npm's `Range`, for `JSON.stringify`. */
+    toJSON(): Pick<Range, 'options' | 'loose' | 'includePrerelease' | 'raw' | 'set' | 'range'>;
+    /** The comparators of a text without `||`, by the options of this range. Throws a `TypeError` if there are none. */
+    parseRange(range: string): Comparator[];
     test(version: string | SemVer | null | undefined): boolean;
     intersects(range: Range, options?: Loose): boolean;
 }
@@ -197,6 +201,11 @@ export function leastCommon(one: string | Range, other: string | Range, options?
 /** The order of two identifiers: digits by their numbers, and before the others, which are ordered by characters. */
 export function compareIdentifiers(one: string | number, other: string | number): -1 | 0 | 1;
 export function rcompareIdentifiers(one: string | number, other: string | number): -1 | 0 | 1;
+
+/** npm's regular expressions, their sources, and the place of each by its name: `re[tokens.FULL]`. */
+export const re: RegExp[];
+export const src: string[];
+export const tokens: Record<string, number>;
 
 /** The version of SemVer. */
 export const SEMVER_SPEC_VERSION: '2.0.0';

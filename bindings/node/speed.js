@@ -1,5 +1,6 @@
 // SPDX-License-Identifier: Apache-2.0
-// Speed beside npm's own `semver`, in one run: the least of several rounds by turns, in nanoseconds a call.
+// Speed beside npm's own `semver`, in one run: the least of several rounds by turns, in nanoseconds of processor time a
+// call. The time of other processes does not count.
 'use strict';
 
 const { createNpm } = require('./test/npm.js');
@@ -23,15 +24,20 @@ function ranges(count) {
     });
 }
 
+function processorTime() {
+    const { user, system } = process.cpuUsage();
+    return (user + system) * 1000;
+}
+
 // The time of a call, in a round that takes at least 5 ms: a short one, which other work seldom disturbs.
 function timeOf(call) {
-    const start = process.hrtime.bigint();
+    const start = processorTime();
     let times = 0;
     let spent = 0;
     do {
         call();
         times++;
-        spent = Number(process.hrtime.bigint() - start);
+        spent = processorTime() - start;
     } while (spent < 5e6);
     return spent / times;
 }

@@ -159,6 +159,13 @@ node_semver_status node_semver_version_bump(const node_semver_version *version, 
 #define NODE_SEMVER_BASE_ONE 1u
 #define NODE_SEMVER_NO_BASE 2u
 
+/* Makes the version that is found in a text, as npm's `coerce` does: `1.2.0` of `node-1.2`. It is that of the first one, two
+ * or three numbers with dots between them, of at most 16 digits each; missing numbers are 0. With `rtl` it is that of the
+ * last: `2.3.4` of `1.2.3.4`. The version has no prerelease and no build. Returns NODE_SEMVER_NONE if there is none, or if
+ * one of these numbers has a zero in front or is above 9007199254740991. */
+#define NODE_SEMVER_HAS_COERCE 1
+node_semver_status node_semver_version_coerce(const char *text, size_t length, bool rtl, node_semver_version *answer);
+
 /* Returns a hash. Versions for which node_semver_version_compare returns 0 have the same hash. */
 uint64_t node_semver_version_hash(const node_semver_version *version);
 
@@ -216,6 +223,15 @@ bool node_semver_satisfies(const node_semver_range *range, const node_semver_ver
  * `^1.2.3-rc.4`. */
 #define NODE_SEMVER_HAS_CONTAINS 1
 bool node_semver_range_contains(const node_semver_range *range, const node_semver_version *version);
+
+/* Write whether the version of a text satisfies the range, or lies inside one of its sets. The text is read by the grammar of
+ * SemVer 2.0.0, as node_semver_version_parse_strict reads it, and nothing is allocated. Return NODE_SEMVER_REFUSED if it is
+ * no version, and NODE_SEMVER_NOT_UTF8 for other bytes; then the answer stays as it was. */
+#define NODE_SEMVER_HAS_SATISFIES_STRICT 1
+node_semver_status node_semver_satisfies_strict(const node_semver_range *range, const char *text, size_t length,
+                                                bool *answer);
+node_semver_status node_semver_contains_strict(const node_semver_range *range, const char *text, size_t length,
+                                               bool *answer);
 
 /* Returns whether the ranges have a cut in common, that is, whether node_semver_range_intersect returns a range. */
 bool node_semver_range_allows_any(const node_semver_range *one, const node_semver_range *other);
@@ -294,6 +310,21 @@ bool node_semver_max_satisfying(const node_semver_version *versions, size_t coun
 /* The same with the place of the least: of equal ones, which differ in the build alone, the first. */
 bool node_semver_min_satisfying(const node_semver_version *versions, size_t count, const node_semver_range *range,
                                 size_t *place);
+
+/* The same calls with prereleases included, as npm has them with its option `includePrerelease`: a version counts if it
+ * lies inside one of the sets, as node_semver_range_contains returns. The greatest of `1.2.3` and `1.3.0-rc.1` for `^1` is
+ * `1.3.0-rc.1`; the least version of `>1.2.3` is `1.2.4-0`; and the least of `^2.0.0-rc.1` and `>=1.5` is `2.0.0-rc.1`. */
+#define NODE_SEMVER_HAS_PRERELEASES_INCLUDED 1
+bool node_semver_max_satisfying_with_prereleases(const node_semver_version *versions, size_t count,
+                                                 const node_semver_range *range, size_t *place);
+bool node_semver_min_satisfying_with_prereleases(const node_semver_version *versions, size_t count,
+                                                 const node_semver_range *range, size_t *place);
+node_semver_status node_semver_min_version_with_prereleases(const node_semver_range *range, node_semver_version *answer);
+node_semver_status node_semver_least_beyond_with_prereleases(const node_semver_range *one, const node_semver_range *other,
+                                                             node_semver_version *answer);
+node_semver_status node_semver_range_least_common_with_prereleases(const node_semver_range *one,
+                                                                   const node_semver_range *other,
+                                                                   node_semver_version *answer);
 
 /* Writes whether the version of one text satisfies the range of the other. If one of the texts is not UTF-8, returns
  * NODE_SEMVER_NOT_UTF8. Otherwise the range is parsed first, so if both texts are refused, the fault is that of the

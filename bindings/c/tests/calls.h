@@ -58,10 +58,22 @@ static void run_algebra(algebra *call, const struct read *read, struct answer *a
     node_semver_range_free(found);
 }
 
+/* The calls of one range. */
+static node_semver_status min_version(const node_semver_range *one, const node_semver_range *other,
+                                      node_semver_version *found) {
+    (void)other;
+    return node_semver_min_version(one, found);
+}
+
+static node_semver_status min_version_with(const node_semver_range *one, const node_semver_range *other,
+                                           node_semver_version *found) {
+    (void)other;
+    return node_semver_min_version_with_prereleases(one, found);
+}
+
 static void run_search(search *call, const struct read *read, struct answer *answer) {
     node_semver_version found = NODE_SEMVER_EMPTY;
-    node_semver_status status = call == NULL ? node_semver_min_version(&read->ranges[0], &found)
-                                             : call(&read->ranges[0], &read->ranges[1], &found);
+    node_semver_status status = call(&read->ranges[0], &read->ranges[1], &found);
     if (status != NODE_SEMVER_OK) {
         tell_status(answer, status, NULL);
         return;

@@ -156,6 +156,61 @@ static void the_best_of_many_versions_is_chosen(void) {
     chooses(false, ">=1000", MANY);
 }
 
+/* The same calls with prereleases included, on sets and versions of which each is a prerelease. */
+static void prereleases_are_chosen(void) {
+    char one[32];
+    for (size_t i = 0; i < MANY; i++) {
+        snprintf(one, sizeof one, "%zu.5.0-rc.%zu", 7 * i % MANY, i);
+        if (!parse_version(&held.versions[i], one)) {
+            return;
+        }
+    }
+    size_t greatest = MANY, least = MANY;
+    node_semver_range *all = &held.ranges[0], *but_one = &held.ranges[1], *one_set = &held.ranges[2];
+    if (!parse(all, evens(0, MANY)) || !parse(but_one, evens(0, MANY - 1)) || !parse(one_set, evens(MANY - 1, MANY))) {
+        return;
+    }
+    is(!node_semver_max_satisfying(held.versions, MANY, all, &greatest), "a prerelease satisfies");
+    is(node_semver_max_satisfying_with_prereleases(held.versions, MANY, all, &greatest)
+           && 7 * greatest % MANY == 998, "another greatest is chosen");
+    is(node_semver_min_satisfying_with_prereleases(held.versions, MANY, all, &least) && 7 * least % MANY == 0,
+       "another least is chosen");
+    is(!node_semver_max_satisfying_with_prereleases(held.versions, MANY, one_set, &greatest), "none lies inside");
+    if (done(node_semver_least_beyond_with_prereleases(all, but_one, &held.found), "nothing beyond")) {
+        finds("1998.0.0");
+    }
+    if (done(node_semver_range_least_common_with_prereleases(all, one_set, &held.found), "nothing in common")) {
+        finds("1998.0.0");
+    }
+    if (done(node_semver_min_version_with_prereleases(one_set, &held.found), "no least version")) {
+        finds("1998.0.0");
+    }
+}
+
+/* The texts of 1,000 versions, of which half satisfy the range of 1,000 sets; and a text with 1,000 numbers. */
+static void texts_are_read(void) {
+    char one[32];
+    if (!parse(&held.ranges[0], evens(0, MANY))) {
+        return;
+    }
+    for (size_t i = 0; i < MANY; i++) {
+        bool answers[2] = {false, false};
+        size_t length = (size_t)snprintf(one, sizeof one, "%zu.5.0-rc.1", i);
+        is(node_semver_contains_strict(&held.ranges[0], one, length, &answers[0]) == NODE_SEMVER_OK
+               && node_semver_satisfies_strict(&held.ranges[0], one, length - 5, &answers[1]) == NODE_SEMVER_OK
+               && answers[0] == (i % 2 == 0) && answers[1] == (i % 2 == 0), "another answer for a text");
+    }
+    for (size_t i = 0; i < MANY; i++) {
+        memcpy(text + 4 * i, " 17.", 4);
+    }
+    if (done(node_semver_version_coerce(text, 4 * MANY, false, &held.found), "nothing is found")) {
+        finds("17.0.0");
+    }
+    if (done(node_semver_version_coerce(text, 4 * MANY, true, &held.found), "nothing is found at the end")) {
+        finds("17.0.0");
+    }
+}
+
 /* 1,000 versions that differ in the build alone. */
 static void the_first_of_many_equals_is_chosen(void) {
     char one[32];
@@ -187,6 +242,8 @@ static const struct {
     {"least versions are found", least_versions_are_found},
     {"the best of many versions is chosen", the_best_of_many_versions_is_chosen},
     {"the first of many equals is chosen", the_first_of_many_equals_is_chosen},
+    {"prereleases are chosen", prereleases_are_chosen},
+    {"texts are read", texts_are_read},
 };
 
 static void free_all(void) {

@@ -13,6 +13,7 @@
 #include "calls.h"
 #include "memory.h"
 #include "sets.h"
+#include "strict.h"
 
 struct row {
     const char *call;
@@ -77,7 +78,23 @@ static void run(const struct row *row, struct answer *answer) {
     } else if (strcmp(row->call, "union") == 0) {
         run_algebra(node_semver_range_union, &read, answer);
     } else if (strcmp(row->call, "min_version") == 0) {
-        run_search(NULL, &read, answer);
+        run_search(min_version, &read, answer);
+    } else if (strcmp(row->call, "min_version_with") == 0) {
+        run_search(min_version_with, &read, answer);
+    } else if (strcmp(row->call, "least_beyond_with") == 0) {
+        run_search(node_semver_least_beyond_with_prereleases, &read, answer);
+    } else if (strcmp(row->call, "least_common_with") == 0) {
+        run_search(node_semver_range_least_common_with_prereleases, &read, answer);
+    } else if (strcmp(row->call, "coerce") == 0) {
+        run_coerce(row->texts[0], strcmp(row->texts[1], "rtl") == 0, answer);
+    } else if (strcmp(row->call, "satisfies_strict") == 0) {
+        run_question(node_semver_satisfies_strict, &r[0], row->texts[1], answer);
+    } else if (strcmp(row->call, "contains_strict") == 0) {
+        run_question(node_semver_contains_strict, &r[0], row->texts[1], answer);
+    } else if (strcmp(row->call, "max_satisfying_with") == 0) {
+        run_choice(node_semver_max_satisfying_with_prereleases, row->texts, answer);
+    } else if (strcmp(row->call, "min_satisfying_with") == 0) {
+        run_choice(node_semver_min_satisfying_with_prereleases, row->texts, answer);
     } else if (strcmp(row->call, "least_beyond") == 0) {
         run_search(node_semver_least_beyond, &read, answer);
     } else if (strcmp(row->call, "least_common") == 0) {

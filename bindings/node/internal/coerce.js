@@ -1,10 +1,12 @@
 // SPDX-License-Identifier: Apache-2.0
-// The version that a text holds somewhere: `1.2.0` of `release 1.2, of May`. The text is searched here; the library reads
-// the version that is found.
+// The version that a text holds somewhere: `1.2.0` of `release 1.2, of May`. The library finds it. What the library does not
+// have, a prerelease, a build or a number with zeros in front, is searched here.
 'use strict';
 
-const { parse } = require('./versions.js');
+const native = require('./native.js');
+const { parseOptions } = require('./options.js');
 const { SemVer } = require('./semver.js');
+const { parse } = require('./versions.js');
 
 const NUMBERS = '(^|[^\\d])(\\d{1,16})(?:\\.(\\d{1,16}))?(?:\\.(\\d{1,16}))?';
 const IDENTIFIER = '(?:0|[1-9]\\d{0,256}|\\d{0,256}[a-zA-Z-][a-zA-Z0-9-]{0,250})';
@@ -38,6 +40,10 @@ function coerce(version, options) {
         return null;
     }
     const { rtl, includePrerelease } = options || {};
+    if (!includePrerelease && !parseOptions(options).loose) {
+        const found = native.coerce(text, !!rtl);
+        return found === null ? null : parse(found, options);
+    }
     const source = NUMBERS + (includePrerelease ? MORE : '') + END;
     const match = rtl ? lastMatch(text, source) : new RegExp(source).exec(text);
     if (match === null) {

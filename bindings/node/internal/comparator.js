@@ -7,6 +7,11 @@ const { flagsOf, parseOptions } = require('./options.js');
 const { keptKey } = require('./kept.js');
 const { SemVer, compareVersions, keyOfSemVer } = require('./semver.js');
 const { cmp } = require('./versions.js');
+const { safeRe, t } = require('./npm/re.js');
+const { LONGEST_VERSION } = require('./texts.js');
+
+// What npm takes for the form of a comparator, by which it chooses what it says of a long text.
+const [FORM, LOOSE_FORM] = [safeRe[t.COMPARATOR], safeRe[t.COMPARATORLOOSE]];
 
 // What stands for any version.
 const ANY = Symbol('SemVer ANY');
@@ -19,7 +24,7 @@ class Comparator {
         return ANY;
     }
 
-    constructor(comparator, options, made) {
+    constructor(comparator, options, made = undefined) {
         const parsed = parseOptions(options);
         let text = comparator;
         if (made === undefined && comparator instanceof Comparator) {
@@ -48,7 +53,9 @@ class Comparator {
         try {
             return new SemVer(version, this.loose);
         } catch (error) {
-            throw error.message?.startsWith('Invalid Version:') ? new TypeError(`Invalid comparator: ${text}`) : error;
+            const isForm = error.message?.startsWith('Invalid Version:')
+                || (version.length > LONGEST_VERSION && !(this.loose ? LOOSE_FORM : FORM).test(text));
+            throw isForm ? new TypeError(`Invalid comparator: ${text}`) : error;
         }
     }
 

@@ -10,38 +10,46 @@ const { trimmedRange } = require('./texts.js');
 const PLACES = 512;
 const LONGEST_KEPT = 128;
 
-// The texts whose ranges are kept, by their options, and the place of each; `texts` and `options` by places, of which
-// the next to be used is the oldest. A place is -1 where the text is refused. `kept` has objects and not Maps, since the
-// name of a property is a string of its own: a text that was cut from a long string would keep the long string in memory.
-const kept = Array.from({ length: 4 }, () => Object.create(null));
-const texts = Array(PLACES).fill(undefined);
-const options = Array(PLACES).fill(0);
-let next = 0;
-
 const REFUSED = -1;
 
-// The key of a range text that is read with such options: its place where it is kept, from now on if it was not, or the
-// text itself; or -1. The next text that is kept may take the place, so nothing runs between this and the call that gets
-// the key.
-function keptKey(text, flags) {
-    return kept[flags][text] ?? (text.length > LONGEST_KEPT ? textKey(trimmedRange(text), flags) : keep(text, flags));
+// The places of the texts that are kept, by their options; -1 for a text that is refused. There are two halves: the older
+// one is forgotten, and its places used again, when the newer one is full. That takes less time than to forget the oldest
+// text each time. They are objects and not Maps, since the name of a property is a string of its own: a text that was cut
+// from a long string would keep the long string in memory.
+const HALF = PLACES / 2;
+const emptyHalf = () => Array.from({ length: 4 }, () => Object.create(null));
+let older = emptyHalf();
+let newer = emptyHalf();
+let next = 0;
+
+// The print of the range at each place, which is made when it is asked for.
+const prints = Array(PLACES).fill(undefined);
+
+// The place of a range text that is read with such options, from now on if it was not kept; or -1; or `undefined` for a
+// text that is too long. The next text that is kept may take the place, so nothing runs between this and the call that
+// gets the place.
+function placeOf(text, flags, isTrimmed) {
+    return newer[flags][text] ?? older[flags][text]
+        ?? (text.length > LONGEST_KEPT ? undefined : keep(text, flags, isTrimmed));
 }
+
+// The key of a range text: its place, or the text itself; or -1.
+const keptKey = (text, flags, isTrimmed) => placeOf(text, flags, isTrimmed) ?? textKey(trimmedRange(text), flags);
 
 // The key of a range text, which stays its key.
 const textKey = (text, flags) => `${flags}${text}`;
 
-function keep(text, flags) {
-    const key = textKey(trimmedRange(text), flags);
+function keep(text, flags, isTrimmed) {
     const place = next;
-    const isRead = native.keep(place, key);
-    if (texts[place] !== undefined) {
-        delete kept[options[place]][texts[place]];
-    }
-    texts[place] = text;
-    options[place] = flags;
-    kept[flags][text] = isRead ? place : REFUSED;
+    const found = native.keep(place, isTrimmed ? text : trimmedRange(text), flags) ? place : REFUSED;
+    prints[place] = undefined;
+    newer[flags][text] = found;
     next = (place + 1) % PLACES;
-    return isRead ? place : REFUSED;
+    if (next % HALF === 0) {
+        older = newer;
+        newer = emptyHalf();
+    }
+    return found;
 }
 
-module.exports = { LONGEST_KEPT, REFUSED, keptKey, textKey };
+module.exports = { LONGEST_KEPT, REFUSED, keptKey, placeOf, prints, textKey };

@@ -1,13 +1,13 @@
 // SPDX-License-Identifier: Apache-2.0
 // Functions of a list of versions. Each element is read once, as npm does, before the native part is called. The list
-// crosses as one string, a line for each version.
+// crosses as one string or as bytes, a line for each version.
 'use strict';
 
 const native = require('./native.js');
 const { parseOptions } = require('./options.js');
 const { callKey, rangeOf } = require('./range.js');
 const { SemVer, compareVersions, keyOfSemVer, versionKey } = require('./semver.js');
-const { strictText } = require('./texts.js');
+const { LONGEST_VERSION, strictText } = require('./texts.js');
 
 // A string may have at most 2^29 characters. Versions with more are compared one by one.
 const MOST_LINES = 2 ** 28;
@@ -99,17 +99,75 @@ const rsort = (list, options) => sorted(list, options, true);
 
 // ---- the best ----
 
-// The lines of the elements as `test` reads them, or `undefined` if they cannot be written so.
-function testedLines(list, options) {
-    let lines = '';
+// The lines that `native.best` reads: bytes, since to make one string of many takes longer.
+const ROOM = 2 ** 16;
+const MOST_ROOM = 2 ** 20;
+let room = new Uint8Array(ROOM);
+
+const NEWLINE = 10;
+const LAST_ASCII = 127;
+
+const { forEach, slice } = Array.prototype;
+
+// The elements that `forEach` passes. A plain array is copied, which takes less time; a place without an element is then
+// `undefined`, which satisfies no range.
+function elementsOf(versions) {
+    if (Array.isArray(versions) && versions.constructor === Array && versions.forEach === forEach) {
+        return slice.call(versions);
+    }
+    const list = [];
+    versions.forEach((version) => { list.push(version); });
+    return list;
+}
+
+// Makes room for so many bytes more.
+function makeRoom(length, more) {
+    const larger = new Uint8Array(2 * (length + more));
+    larger.set(room.subarray(0, length));
+    room = larger;
+}
+
+// Writes a line for each element, and returns how many bytes they are; -1 if one is no text, not ASCII, or has lines. Of a
+// text that is too long for a version one character too many is written.
+function writeLines(list) {
+    let bytes = room;
+    let at = 0;
     for (let i = 0; i < list.length; i++) {
-        const more = line(list[i] ? keyOf(list[i], options) : '');
-        if (more === undefined || lines.length > MOST_LINES) {
+        const text = list[i];
+        if (typeof text !== 'string') {
+            return -1;
+        }
+        const end = at + Math.min(text.length, LONGEST_VERSION + 1);
+        if (end >= bytes.length) {
+            makeRoom(at, end + 1 - at);
+            bytes = room;
+        }
+        for (let j = 0; at < end; j++, at++) {
+            const code = text.charCodeAt(j);
+            if (code > LAST_ASCII || code === NEWLINE) {
+                return -1;
+            }
+            bytes[at] = code;
+        }
+        bytes[at++] = NEWLINE;
+    }
+    return at;
+}
+
+const isLine = (text) => /^[\x00-\x09\x0b-\x7f]*$/.test(text);
+
+// The texts of the elements as `test` reads them, or `undefined` if one has none. A text that is not ASCII or has lines is
+// no version.
+function testedTexts(list, options) {
+    const texts = [];
+    for (let i = 0; i < list.length; i++) {
+        const text = list[i] ? keyOf(list[i], options) : '';
+        if (typeof text !== 'string') {
             return undefined;
         }
-        lines += more;
+        texts.push(isLine(text) ? text : '');
     }
-    return lines;
+    return texts;
 }
 
 // One after the other.
@@ -129,13 +187,19 @@ function best(versions, range, options, isGreatest) {
     if (wanted === undefined) {
         return null;
     }
-    const list = [];
-    versions.forEach((version) => { list.push(version); });
-    const lines = testedLines(list, options);
-    if (lines === undefined) {
-        return bestOf(list, wanted, options, isGreatest);
+    const list = elementsOf(versions);
+    let length = wanted.loose ? -1 : writeLines(list);
+    if (length < 0) {
+        const texts = testedTexts(list, options);
+        if (texts === undefined) {
+            return bestOf(list, wanted, options, isGreatest);
+        }
+        length = writeLines(texts);
     }
-    const place = native.best(lines, callKey(wanted), isGreatest);
+    const place = native.best(room, length, list.length, callKey(wanted), isGreatest);
+    if (room.length > MOST_ROOM) {
+        room = new Uint8Array(ROOM);
+    }
     return place < 0 ? null : list[place];
 }
 

@@ -4,14 +4,14 @@
 'use strict';
 
 const {
-    versionText, readVersion, triple, compare, compareBuild, diff, bump,
+    versionText, readVersion, triple, compare, compareBuild, diff, bump, coerce,
     rangeText, heldRange, keep, satisfies, best, order,
     intersect, difference, leastBeyond, leastCommon, sets, fromSets,
 } = require('../build/Release/node_semver.node');
 
 // An object of its own, since one to which C adds more than 16 properties is slow to read.
 module.exports = {
-    versionText, readVersion, triple, compare, compareBuild, diff, bump,
+    versionText, readVersion, triple, compare, compareBuild, diff, bump, coerce,
     rangeText, heldRange, keep, satisfies, best, order,
     intersect, difference, leastBeyond, leastCommon, sets, fromSets,
 };

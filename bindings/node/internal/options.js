@@ -19,4 +19,8 @@ function parseOptions(options) {
 const flagsOf = ({ loose, includePrerelease }) =>
     (includePrerelease ? INCLUDES_PRERELEASES : 0) + (loose ? IS_LOOSE : 0);
 
-module.exports = { INCLUDES_PRERELEASES, IS_LOOSE, parseOptions, flagsOf };
+// Options with these flags.
+const all = [NONE, { includePrerelease: true }, LOOSE, { loose: true, includePrerelease: true }].map(Object.freeze);
+const optionsOf = (flags) => all[flags];
+
+module.exports = { INCLUDES_PRERELEASES, IS_LOOSE, parseOptions, flagsOf, optionsOf };

@@ -9,7 +9,7 @@ const { LONGEST_KEPT, REFUSED, keptKey, textKey } = require('./kept.js');
 const { flagsOf, parseOptions } = require('./options.js');
 const { SemVer, keyOfSemVer, semVerOfKey } = require('./semver.js');
 const { strictText, trimmedRange, trimmedVersion } = require('./texts.js');
-const { readSet, refusal, setOf } = require('./words.js');
+const { readAlternative, readSet, refusal, setOf } = require('./words.js');
 
 // The kinds of cuts, by their numbers in node_semver.h.
 const KINDS = ['start', 'before', 'after', 'end'];
@@ -30,7 +30,7 @@ class Range {
     #set;
     #range;
 
-    constructor(range, options, made) {
+    constructor(range, options, made = undefined) {
         const parsed = parseOptions(options);
         const { loose, includePrerelease } = parsed;
         if (range instanceof Range && range.loose === !!loose && range.includePrerelease === !!includePrerelease) {
@@ -56,13 +56,13 @@ class Range {
         if (this.raw.length > LONGEST_KEPT) {
             this.#held = native.heldRange(textKey(this.raw, this.#flags));
         }
-        if (this.#held === null || (this.#held === undefined && keptKey(this.raw, this.#flags) === REFUSED)) {
+        if (this.#held === null || (this.#held === undefined && keptKey(this.raw, this.#flags, true) === REFUSED)) {
             throw new TypeError(refusal(this.raw, this.#flags));
         }
     }
 
     static {
-        callKey = (range) => range.#held ?? keptKey(range.#text, range.#flags);
+        callKey = (range) => range.#held ?? keptKey(range.#text, range.#flags, true);
         keyOfRange = (range) => range.#held ?? textKey(range.#text, range.#flags);
         rangeOfKey = (key, options) => (key === null ? null : new Range(key, options, MADE));
     }
@@ -109,6 +109,21 @@ class Range {
 
     toString() {
         return this.range;
+    }
+
+    // The fields that npm has, in its order.
+    toJSON() {
+        const { options, loose, includePrerelease, raw, set, range } = this;
+        return { options, loose, includePrerelease, raw, set, range };
+    }
+
+    // The comparators of a text without `||`.
+    parseRange(range) {
+        const comparators = readAlternative(range.trim(), this.#flags, this.options);
+        if (comparators.length === 0 && !this.loose) {
+            throw new TypeError(refusal(range, this.#flags));
+        }
+        return comparators;
     }
 
     test(version) {

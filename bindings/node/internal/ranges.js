@@ -5,8 +5,8 @@
 const native = require('./native.js');
 const { ANY } = require('./comparator.js');
 const { caught } = require('./errors.js');
-const { REFUSED, keptKey } = require('./kept.js');
-const { IS_LOOSE, flagsOf, parseOptions } = require('./options.js');
+const { REFUSED, keptKey, placeOf, prints } = require('./kept.js');
+const { IS_LOOSE, flagsOf, optionsOf, parseOptions } = require('./options.js');
 const { Range, keyOfRange, rangeOf, rangeOfKey } = require('./range.js');
 const { SemVer, semVerOfKey } = require('./semver.js');
 const { strictText, trimmedVersion } = require('./texts.js');
@@ -23,9 +23,26 @@ function satisfies(version, range, options) {
     return rangeOf(range, options)?.test(version) ?? false;
 }
 
+const printOf = (range, options) => new Range(range, options).range || '*';
+
+// The print of a text that is kept is kept too. It is made with options that run no code of a user, since the place may be
+// taken meanwhile.
+function keptPrint(text, place, flags) {
+    if (place === REFUSED) {
+        return null;
+    }
+    prints[place] ??= printOf(text, optionsOf(flags));
+    return prints[place];
+}
+
 function validRange(range, options) {
     try {
-        return new Range(range, options).range || '*';
+        if (typeof range !== 'string') {
+            return printOf(range, options);
+        }
+        const flags = flagsOf(parseOptions(options));
+        const place = placeOf(range, flags);
+        return place === undefined ? printOf(range, optionsOf(flags)) : keptPrint(range, place, flags);
     } catch (error) {
         return caught(error, null);
     }
@@ -81,16 +98,8 @@ const both = (one, other, options) => [keyOfRange(new Range(one, options)), keyO
 const intersect = (one, other, options) => rangeOfKey(native.intersect(...both(one, other, options)), options);
 const difference = (one, other, options) => rangeOfKey(native.difference(...both(one, other, options)), options);
 
-// The library knows no least version of ranges that include prereleases.
-function leastKeys(one, other, options) {
-    if (options?.includePrerelease || one?.includePrerelease || other?.includePrerelease) {
-        throw new TypeError('Option not supported: includePrerelease');
-    }
-    return both(one, other, options);
-}
-
-const leastBeyond = (one, other, options) => semVerOfKey(native.leastBeyond(...leastKeys(one, other, options)));
-const leastCommon = (one, other, options) => semVerOfKey(native.leastCommon(...leastKeys(one, other, options)));
+const leastBeyond = (one, other, options) => semVerOfKey(native.leastBeyond(...both(one, other, options)));
+const leastCommon = (one, other, options) => semVerOfKey(native.leastCommon(...both(one, other, options)));
 
 module.exports = {
     satisfies, validRange, toComparators, minVersion, intersects, intersect, difference, leastBeyond, leastCommon,

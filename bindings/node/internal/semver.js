@@ -44,7 +44,7 @@ const held = new WeakMap();
 const MADE = Symbol('made');
 
 class SemVer {
-    constructor(version, options, made) {
+    constructor(version, options, made = undefined) {
         const parsed = parseOptions(options);
         const { loose, includePrerelease } = parsed;
         let text = version;

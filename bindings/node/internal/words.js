@@ -14,17 +14,23 @@ const { withoutBuild } = require('./texts.js');
 // The kinds of cuts, by their numbers in node_semver.h.
 const [BEFORE, AFTER] = [1, 2];
 
-const NUMBER = '(?:\\d+|[xX*])';
-const IDENTIFIER = '(?:\\d+|\\d*[a-zA-Z-][a-zA-Z0-9-]*)';
-const MORE = `(?:-?${IDENTIFIER}(?:\\.${IDENTIFIER})*)?(?:\\+[a-zA-Z0-9-]+(?:\\.[a-zA-Z0-9-]+)*)?`;
-const PARTIAL = `[v=\\s]*${NUMBER}(?:\\.${NUMBER}(?:\\.${NUMBER}${MORE})?)?`;
+// Repeated parts have limits, as in npm, so that the time is linear in the text.
+const MARKS = '[v=\\s]*';
+const DIGITS = '\\d{1,256}';
+const NUMBER = `(?:${DIGITS}|[xX*])`;
+const IDENTIFIER = `(?:${DIGITS}|\\d{0,256}[a-zA-Z-][a-zA-Z0-9-]{0,250})`;
+const BUILD = '[a-zA-Z0-9-]{1,250}';
+const MORE = `(?:-?${IDENTIFIER}(?:\\.${IDENTIFIER})*)?(?:\\+${BUILD}(?:\\.${BUILD})*)?`;
+const PARTIAL = `${MARKS}${NUMBER}(?:\\.${NUMBER}(?:\\.${NUMBER}${MORE})?)?`;
 const HYPHEN = new RegExp(`^(${PARTIAL})\\s+-\\s+(${PARTIAL})$`);
 
-// Blanks between an operator and what it stands before, which npm takes out.
-const OPERATOR = new RegExp(`(\\s*)([<>]?=?)\\s*([v=\\s]*\\d+\\.\\d+\\.\\d+${MORE}|${PARTIAL})`, 'g');
+// Blanks between an operator and what it stands before, which npm takes out. Marks are looked at from the first of them
+// alone: if no number follows from there, none follows from a later one.
+const OPERATOR = new RegExp(`(\\s?)(?:([<>]=?)|(?<![v=]\\s?)(=?))\\s?(${MARKS}${DIGITS}\\.${DIGITS}\\.${DIGITS}${MORE}|${PARTIAL})`,
+    'g');
 const TILDE = /~>?\s+/g;
 const CARET = /\^\s+/g;
-const glued = (text) => text.replace(OPERATOR, '$1$2$3').replace(TILDE, '~').replace(CARET, '^');
+const glued = (text) => text.replace(OPERATOR, '$1$2$3$4').replace(TILDE, '~').replace(CARET, '^');
 
 // The comparators of a set, of which the native part gives the kinds of its two cuts and the keys of their versions.
 function comparatorsOf([lower, from, upper, to], options) {
@@ -54,7 +60,7 @@ function wordsOf(alternative, flags) {
 }
 
 // The comparators of an alternative; none if the library refuses it.
-function readAlternative(alternative, flags, options) {
+function comparatorsOfText(alternative, flags, options) {
     if (native.sets(textKey(alternative, flags)) === null) {
         return [];
     }
@@ -84,7 +90,7 @@ function comparatorsOfWord(word, flags, options) {
 // The comparators of each alternative. Alternatives that nothing satisfies are left out beside others, and all others
 // beside one that is `*`.
 function readSet(text, flags, options) {
-    const all = text.split('||').map((alternative) => readKept(alternative.trim(), flags, options))
+    const all = text.split('||').map((alternative) => readAlternative(alternative.trim(), flags, options))
         .filter((comparators) => comparators.length > 0);
     const some = all.filter(([first]) => first.value !== '<0.0.0-0');
     const any = all.length > 1 ? some.find((comparators) => comparators.length === 1 && comparators[0].value === '')
@@ -102,12 +108,13 @@ const MOST_KEPT = 500;
 let kept = Object.create(null);
 let count = 0;
 
-function readKept(alternative, flags, options) {
+// The comparators of an alternative, which are kept; none if the library refuses it.
+function readAlternative(alternative, flags, options) {
     const key = textKey(alternative, flags);
     if (kept[key] !== undefined) {
         return kept[key];
     }
-    const comparators = readAlternative(alternative, flags, options);
+    const comparators = comparatorsOfText(alternative, flags, options);
     alternatives.set(comparators, key);
     if (alternative.length <= LONGEST_KEPT) {
         if (count === MOST_KEPT) {
@@ -127,6 +134,9 @@ function setOf(key, options) {
         comparatorsOf(cuts.slice(4 * i, 4 * i + 4), options));
 }
 
+// What npm takes out of a word before it is refused.
+const STAR = /[<>]?=?\s*\*/;
+
 // The first word of a text that is refused.
 function refusedWord(text, flags) {
     const alternative = text.split('||').map((one) => one.trim())
@@ -137,7 +147,7 @@ function refusedWord(text, flags) {
 // What npm says of a range text that is refused.
 function refusal(text, flags) {
     const word = flags & IS_LOOSE ? undefined : refusedWord(text, flags);
-    return word === undefined ? `Invalid SemVer Range: ${text}` : `Invalid comparator: ${word}`;
+    return word === undefined ? `Invalid SemVer Range: ${text}` : `Invalid comparator: ${word.replace(STAR, '')}`;
 }
 
-module.exports = { readSet, setOf, refusal, isSameText };
+module.exports = { readAlternative, readSet, setOf, refusal, isSameText };

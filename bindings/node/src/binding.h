@@ -75,11 +75,21 @@ napi_value version_key(napi_env env, node_semver_version version);
 /* The key of a range may also be the number of a place where it is kept; an empty place is refused. */
 node_semver_status get_range(napi_env env, napi_value key, struct range *range);
 node_semver_status get_range_text(napi_env env, napi_value text, struct range *range);
+
+/* Reads a range with such options: NODE_SEMVER_OK, _REFUSED or _OUT_OF_MEMORY. */
+node_semver_status read_range(const char *text, size_t length, unsigned options, struct range *range);
 void let_range_go(struct range *range);
 napi_value range_key(napi_env env, const struct range *range);
 
 /* Returns whether the version satisfies the range: any version inside, if the range includes prereleases. */
 bool range_admits(const struct range *range, const node_semver_version *version);
+
+/* The same for the version of a text by the grammar of SemVer 2.0.0, without a `v`; false for any other text. */
+bool range_admits_text(const struct range *range, const char *text, size_t length);
+
+/* Returns whether one of the versions satisfies the range, and the place of the greatest or the least. */
+bool range_best(const struct range *range, const node_semver_version *versions, size_t count, bool is_greatest,
+                size_t *place);
 
 /* An object that holds a range, which is freed when JavaScript has no use of the object. */
 napi_value held_range(napi_env env, const struct range *range);
@@ -105,7 +115,7 @@ struct state *state_of(napi_env env);
 /* The range at a place. It stays there until the next call of `keep`. */
 node_semver_status kept_range(napi_env env, uint32_t number, struct range *range);
 
-/* keep(number, text): puts the range of a text at a place, and frees the range that was there. If the text is
+/* keep(number, text, options): puts the range of a text at a place, and frees the range that was there. If the text is
  * refused, returns false and leaves the place empty. */
 napi_value keep(napi_env env, napi_callback_info info);
 
@@ -115,8 +125,9 @@ napi_value keep(napi_env env, napi_callback_info info);
  * the first line that is no version. Of equal versions the first stays first. */
 napi_value order(napi_env env, napi_callback_info info);
 
-/* best(lines, range, isGreatest): the number of the line with the greatest or least version that satisfies the range,
- * or -1. Of equal versions it is the first. What is no version is left out. */
+/* best(bytes, length, count, range, isGreatest): the number of the line with the greatest or least version that satisfies the
+ * range, or -1; the lines are the first `length` bytes of an Uint8Array. Of equal versions it is the first. What is no
+ * version is left out. Returns -1 too if there are not `count` lines. */
 napi_value best(napi_env env, napi_callback_info info);
 
 /* ---- sets.c ---- */

@@ -21,15 +21,21 @@ node_semver_status kept_range(napi_env env, uint32_t number, struct range *range
 }
 
 napi_value keep(napi_env env, napi_callback_info info) {
-    napi_value arguments[2];
-    uint32_t number = PLACES;
+    napi_value arguments[3];
+    uint32_t number = PLACES, options = ~0u;
     struct range range;
-    if (!get_arguments(env, info, 2, arguments)) {
+    struct text text;
+    if (!get_arguments(env, info, 3, arguments)) {
         return NULL;
     }
     napi_get_value_uint32(env, arguments[0], &number);
+    napi_get_value_uint32(env, arguments[2], &options);
     struct range *place = place_of(env, number);
-    node_semver_status status = place == NULL ? NODE_SEMVER_REFUSED : get_range_text(env, arguments[1], &range);
+    node_semver_status status = place == NULL ? NODE_SEMVER_REFUSED : get_text(env, arguments[1], &text);
+    if (status == NODE_SEMVER_OK) {
+        status = read_range(text.bytes, text.length, options, &range);
+        free_text(&text);
+    }
     if (status != NODE_SEMVER_OK && status != NODE_SEMVER_REFUSED) {
         return failed(env, status);
     }

@@ -101,22 +101,22 @@ void let_version_go(struct version *version) {
     }
 }
 
-static node_semver_status read_range(const struct text *text, struct range *range) {
-    unsigned options = text->length > 0 ? (unsigned)text->bytes[0] - '0' : ~0u;
+node_semver_status read_range(const char *text, size_t length, unsigned options, struct range *range) {
     *range = (struct range){.handle = NODE_SEMVER_EMPTY, .is_own = true};
     if (options > (INCLUDES_PRERELEASES | IS_LOOSE)) {
         return NODE_SEMVER_REFUSED;
     }
     range->includes_prereleases = (options & INCLUDES_PRERELEASES) != 0;
-    return refused(node_semver_range_parse_npm(text->bytes + 1, text->length - 1, (options & IS_LOOSE) != 0,
-                                               range->includes_prereleases, &range->handle, NULL));
+    return refused(node_semver_range_parse_npm(text, length, (options & IS_LOOSE) != 0, range->includes_prereleases,
+                                               &range->handle, NULL));
 }
 
 node_semver_status get_range_text(napi_env env, napi_value value, struct range *range) {
     struct text text;
     node_semver_status status = get_text(env, value, &text);
     if (status == NODE_SEMVER_OK) {
-        status = read_range(&text, range);
+        status = text.length == 0 ? NODE_SEMVER_REFUSED
+            : read_range(text.bytes + 1, text.length - 1, (unsigned)text.bytes[0] - '0', range);
         free_text(&text);
     }
     return status;
@@ -150,6 +150,25 @@ void let_range_go(struct range *range) {
 bool range_admits(const struct range *range, const node_semver_version *version) {
     return range->includes_prereleases ? node_semver_range_contains(&range->handle, version)
                                        : node_semver_satisfies(&range->handle, version);
+}
+
+bool range_admits_text(const struct range *range, const char *text, size_t length) {
+    bool answer = false;
+    node_semver_status status = range->includes_prereleases
+        ? node_semver_contains_strict(&range->handle, text, length, &answer)
+        : node_semver_satisfies_strict(&range->handle, text, length, &answer);
+    return status == NODE_SEMVER_OK && answer;
+}
+
+bool range_best(const struct range *range, const node_semver_version *versions, size_t count, bool is_greatest,
+                size_t *place) {
+    const node_semver_range *handle = &range->handle;
+    if (range->includes_prereleases) {
+        return is_greatest ? node_semver_max_satisfying_with_prereleases(versions, count, handle, place)
+                           : node_semver_min_satisfying_with_prereleases(versions, count, handle, place);
+    }
+    return is_greatest ? node_semver_max_satisfying(versions, count, handle, place)
+                       : node_semver_min_satisfying(versions, count, handle, place);
 }
 
 /* Takes the version. Its print is its key where the print can be read again: it may be longer than a version text may

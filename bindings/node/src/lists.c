@@ -1,5 +1,6 @@
 /* SPDX-License-Identifier: Apache-2.0 */
-/* Lists of versions. A list comes as one string, a line for each version, so no JavaScript runs while it is read. */
+/* Lists of versions. A list comes as one string or as bytes, a line for each version, so no JavaScript runs while it is
+ * read. */
 #include "binding.h"
 
 #include <stdlib.h>
@@ -15,6 +16,15 @@ struct items {
     struct item *at;
     size_t count;
 };
+
+/* A part of a text. */
+struct line {
+    const char *at;
+    size_t length;
+};
+
+/* The greatest length of a version text, as npm counts it. */
+#define LONGEST_VERSION 256
 
 static size_t count_lines(const struct text *text) {
     size_t count = 0;
@@ -117,59 +127,98 @@ napi_value order(napi_env env, napi_callback_info info) {
 
 /* ---- the best ---- */
 
-/* The same as node_semver_max_satisfying, and its opposite, for a range that includes prereleases. */
-static bool best_inside(const node_semver_version *versions, size_t count, const struct range *range,
-                        bool is_greatest, size_t *place) {
-    bool is_found = false;
-    for (size_t i = 0; i < count; i++) {
-        if (range_admits(range, &versions[i])
-            && (!is_found || node_semver_version_compare(&versions[i], &versions[*place]) == (is_greatest ? 1 : -1))) {
-            is_found = true;
-            *place = i;
-        }
-    }
-    return is_found;
+/* White space of ASCII, as JavaScript trims it. */
+static bool is_space(char byte) {
+    return byte == ' ' || (byte >= '\t' && byte <= '\r');
 }
 
-/* The line of the greatest or least of the items that satisfies the range, or -1. */
-static int32_t best_line(const struct items *items, const node_semver_version *versions, const struct range *range,
-                         bool is_greatest) {
+/* A line without the white space at its ends and without a `v`, as npm reads a version; longer than a version may be, it
+ * is empty. */
+static struct line trimmed(const char *begin, const char *end) {
+    if (end - begin > LONGEST_VERSION) {
+        return (struct line){begin, 0};
+    }
+    while (begin < end && is_space(*begin)) {
+        begin++;
+    }
+    while (begin < end && is_space(end[-1])) {
+        end--;
+    }
+    begin += begin < end && *begin == 'v';
+    return (struct line){begin, (size_t)(end - begin)};
+}
+
+/* Reads the lines with a version that satisfies the range. */
+static node_semver_status read_satisfying(const struct text *text, const struct range *range, struct items *items) {
+    const char *begin = text->bytes, *end = text->bytes + text->length, *stop;
+    for (uint32_t number = 0; (stop = memchr(begin, '\n', (size_t)(end - begin))) != NULL; number++) {
+        struct line line = trimmed(begin, stop);
+        struct item item = {.version = NODE_SEMVER_EMPTY, .line = number};
+        if (range_admits_text(range, line.at, line.length)) {
+            node_semver_status status = node_semver_version_parse_strict(line.at, line.length, &item.version, NULL);
+            if (status != NODE_SEMVER_OK) {
+                return status;
+            }
+            items->at[items->count++] = item;
+        }
+        begin = stop + 1;
+    }
+    return NODE_SEMVER_OK;
+}
+
+/* The line of the greatest or the least of the items, which all satisfy the range; -1 if there are none. */
+static node_semver_status best_line(const struct items *items, const struct range *range, bool is_greatest,
+                                    int32_t *line) {
     size_t place = 0;
-    bool is_found = range->includes_prereleases ? best_inside(versions, items->count, range, is_greatest, &place)
-        : is_greatest ? node_semver_max_satisfying(versions, items->count, &range->handle, &place)
-                      : node_semver_min_satisfying(versions, items->count, &range->handle, &place);
-    return is_found ? (int32_t)items->at[place].line : -1;
+    node_semver_version *versions = malloc((items->count + 1) * sizeof *versions);
+    if (versions == NULL) {
+        return NODE_SEMVER_OUT_OF_MEMORY;
+    }
+    for (size_t i = 0; i < items->count; i++) {
+        versions[i] = items->at[i].version;
+    }
+    bool is_found = range_best(range, versions, items->count, is_greatest, &place);
+    *line = is_found ? (int32_t)items->at[place].line : -1;
+    free(versions);
+    return NODE_SEMVER_OK;
 }
 
-static napi_value best_of(napi_env env, const struct items *items, napi_value key, bool is_greatest) {
+static napi_value best_of(napi_env env, const struct text *text, size_t count, napi_value key, bool is_greatest) {
     struct range range;
-    napi_value result = NULL;
-    node_semver_version *versions = malloc((items->count + 1) * sizeof *versions);
-    node_semver_status status = versions == NULL ? NODE_SEMVER_OUT_OF_MEMORY : get_range(env, key, &range);
+    struct items items = {.at = malloc((count + 1) * sizeof *items.at)};
+    int32_t line = -1;
+    node_semver_status status = items.at == NULL ? NODE_SEMVER_OUT_OF_MEMORY : get_range(env, key, &range);
     if (status == NODE_SEMVER_OK) {
-        for (size_t i = 0; i < items->count; i++) {
-            versions[i] = items->at[i].version;
+        status = read_satisfying(text, &range, &items);
+        if (status == NODE_SEMVER_OK) {
+            status = best_line(&items, &range, is_greatest, &line);
         }
-        result = of_int(env, best_line(items, versions, &range, is_greatest));
         let_range_go(&range);
-    } else {
-        result = status == NODE_SEMVER_REFUSED ? of_int(env, -1) : failed(env, status);
     }
-    free(versions);
-    return result;
+    free_items(&items);
+    return status == NODE_SEMVER_OK || status == NODE_SEMVER_REFUSED ? of_int(env, line) : failed(env, status);
 }
 
 napi_value best(napi_env env, napi_callback_info info) {
-    napi_value arguments[3], result = NULL;
-    struct items items;
-    uint32_t line = 0;
+    napi_value arguments[5];
+    struct text text;
+    uint32_t length = 0, wanted = 0;
+    size_t room = 0;
+    void *bytes = NULL;
     bool is_greatest = false;
-    if (!get_arguments(env, info, 3, arguments)) {
+    napi_typedarray_type type = napi_int8_array;
+    if (!get_arguments(env, info, 5, arguments)) {
         return NULL;
     }
-    napi_get_value_bool(env, arguments[2], &is_greatest);
-    node_semver_status status = get_items(env, arguments[0], false, &items, &line);
-    result = status == NODE_SEMVER_OK ? best_of(env, &items, arguments[1], is_greatest) : failed(env, status);
-    free_items(&items);
-    return result;
+    napi_get_value_uint32(env, arguments[1], &length);
+    napi_get_value_uint32(env, arguments[2], &wanted);
+    napi_get_value_bool(env, arguments[4], &is_greatest);
+    if (napi_get_typedarray_info(env, arguments[0], &type, &room, &bytes, NULL, NULL) != napi_ok
+        || type != napi_uint8_array || length > room) {
+        wrong_type(env, "no lines of versions");
+        return NULL;
+    }
+    text = (struct text){.bytes = bytes, .length = length};
+    size_t count = count_lines(&text);
+    return count == wanted ? best_of(env, &text, count, arguments[3], is_greatest) : of_int(env, -1);
 }

@@ -93,6 +93,29 @@ static napi_value bump(napi_env env, napi_callback_info info) {
     return result;
 }
 
+/* coerce(text, rtl): the print of the version that is found in the text, or null. */
+static napi_value coerce(napi_env env, napi_callback_info info) {
+    napi_value arguments[2];
+    struct text text;
+    node_semver_version made = NODE_SEMVER_EMPTY;
+    bool rtl = false;
+    if (!get_arguments(env, info, 2, arguments)) {
+        return NULL;
+    }
+    napi_get_value_bool(env, arguments[1], &rtl);
+    node_semver_status status = get_text(env, arguments[0], &text);
+    if (status == NODE_SEMVER_OK) {
+        status = node_semver_version_coerce(text.bytes, text.length, rtl, &made);
+        free_text(&text);
+    }
+    if (status != NODE_SEMVER_OK) {
+        return status == NODE_SEMVER_OUT_OF_MEMORY ? out_of_memory(env) : of_null(env);
+    }
+    napi_value print = version_print(env, &made);
+    node_semver_version_free(made);
+    return print;
+}
+
 /* rangeText(key): the print of the range, or null where the key is none. */
 static napi_value range_text(napi_env env, napi_callback_info info) {
     napi_value key, result;
@@ -173,10 +196,28 @@ static napi_value diff(napi_env env, napi_callback_info info) {
     return with_versions(env, info, bump_between);
 }
 
+/* Whether the version of a key satisfies the range. No version is made of a text. */
+static node_semver_status key_satisfies(napi_env env, napi_value key, const struct range *range, bool *result) {
+    struct text text;
+    struct version version;
+    node_semver_status status = get_text(env, key, &text);
+    if (status == NODE_SEMVER_OK) {
+        size_t before = text.length > 0 && text.bytes[0] == 'v';
+        *result = range_admits_text(range, text.bytes + before, text.length - before);
+        free_text(&text);
+        return NODE_SEMVER_OK;
+    }
+    status = status == NODE_SEMVER_REFUSED ? get_version(env, key, &version) : status;
+    if (status == NODE_SEMVER_OK) {
+        *result = range_admits(range, &version.handle);
+        let_version_go(&version);
+    }
+    return status;
+}
+
 /* satisfies(version, range): false too where one is refused. */
 static napi_value satisfies(napi_env env, napi_callback_info info) {
     napi_value keys[2];
-    struct version version;
     struct range range;
     bool result = false;
     if (!get_arguments(env, info, 2, keys)) {
@@ -186,11 +227,7 @@ static napi_value satisfies(napi_env env, napi_callback_info info) {
     if (status != NODE_SEMVER_OK) {
         return status == NODE_SEMVER_REFUSED ? of_bool(env, false) : failed(env, status);
     }
-    status = get_version(env, keys[0], &version);
-    if (status == NODE_SEMVER_OK) {
-        result = range_admits(&range, &version.handle);
-        let_version_go(&version);
-    }
+    status = key_satisfies(env, keys[0], &range, &result);
     let_range_go(&range);
     return status == NODE_SEMVER_OK || status == NODE_SEMVER_REFUSED ? of_bool(env, result) : failed(env, status);
 }
@@ -219,12 +256,15 @@ static napi_value with_ranges(napi_env env, napi_callback_info info, of_ranges *
     return result;
 }
 
+static bool include_prereleases(const struct range *one, const struct range *other) {
+    return one->includes_prereleases && other->includes_prereleases;
+}
+
 /* A range that is made of two includes prereleases where both do. */
 static napi_value made_range(napi_env env, node_semver_status status, node_semver_range made,
                              const struct range *one, const struct range *other) {
     if (status == NODE_SEMVER_OK) {
-        bool includes_prereleases = one->includes_prereleases && other->includes_prereleases;
-        return range_key(env, &(struct range){.handle = made, .includes_prereleases = includes_prereleases});
+        return range_key(env, &(struct range){.handle = made, .includes_prereleases = include_prereleases(one, other)});
     }
     return status == NODE_SEMVER_NONE ? of_null(env) : failed(env, status);
 }
@@ -250,13 +290,17 @@ static napi_value rest(napi_env env, const struct range *one, const struct range
 
 static napi_value beyond(napi_env env, const struct range *one, const struct range *other) {
     node_semver_version made = NODE_SEMVER_EMPTY;
-    node_semver_status status = node_semver_least_beyond(&one->handle, &other->handle, &made);
+    node_semver_status status = include_prereleases(one, other)
+        ? node_semver_least_beyond_with_prereleases(&one->handle, &other->handle, &made)
+        : node_semver_least_beyond(&one->handle, &other->handle, &made);
     return made_version(env, status, made);
 }
 
 static napi_value least_of_both(napi_env env, const struct range *one, const struct range *other) {
     node_semver_version made = NODE_SEMVER_EMPTY;
-    node_semver_status status = node_semver_range_least_common(&one->handle, &other->handle, &made);
+    node_semver_status status = include_prereleases(one, other)
+        ? node_semver_range_least_common_with_prereleases(&one->handle, &other->handle, &made)
+        : node_semver_range_least_common(&one->handle, &other->handle, &made);
     return made_version(env, status, made);
 }
 
@@ -291,6 +335,7 @@ NAPI_MODULE_INIT() {
         FUNCTION("keep", keep),                FUNCTION("bump", bump),
         FUNCTION("readVersion", read_parts),   FUNCTION("sets", sets),
         FUNCTION("fromSets", from_sets),       FUNCTION("leastCommon", least_common),
+        FUNCTION("coerce", coerce),
     };
     if (!make_state(env, exports)) {
         return out_of_memory(env);

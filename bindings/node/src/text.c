@@ -4,6 +4,9 @@
 
 #include <stdlib.h>
 
+/* How many characters a text has of which the bytes are not counted. */
+#define SHORT 100000u
+
 napi_value out_of_memory(napi_env env) {
     napi_throw_error(env, "ERR_MEMORY_ALLOCATION_FAILED", "out of memory");
     return NULL;
@@ -36,8 +39,11 @@ node_semver_status get_text(napi_env env, napi_value value, struct text *text) {
     if (text->length + 4 < sizeof text->room) {
         return NODE_SEMVER_OK;
     }
+    /* Where there is room for three bytes a character, V8 need not count the bytes first. */
     size_t size = 0;
-    if (napi_get_value_string_utf8(env, value, NULL, 0, &size) != napi_ok) {
+    if (napi_get_value_string_latin1(env, value, NULL, 0, &size) == napi_ok && size < SHORT) {
+        size *= 3;
+    } else if (napi_get_value_string_utf8(env, value, NULL, 0, &size) != napi_ok) {
         return NODE_SEMVER_REFUSED;
     }
     text->bytes = malloc(size + 1);

@@ -145,7 +145,7 @@ describe('the process goes on', () => {
                 [1, 2], [0, null, 3, null], [1, '1.0.0', 1, '2.0.0'], [1, version, 3, null], [1, range, 1, range],
                 [9, '1.0.0', 9, null], [1, external, 1, external], [1, '1.0.0'], external, proxy, trap, getter,
                 version, range, Object.create(version), new Proxy(version, {}), new Proxy(range, {}),
-                new Uint32Array(4)];
+                new Uint32Array(4), new Uint8Array(64).fill(10), new Uint8Array(0), Buffer.from('1.2.3\\n\\n9')];
             let count = 0;
             for (const [name, call] of Object.entries(native)) {
                 if (typeof call !== 'function') continue;
@@ -155,6 +155,10 @@ describe('the process goes on', () => {
                     for (const other of values) {
                         outcome(() => call(one, other));
                         outcome(() => call(one, other, true));
+                        outcome(() => call(one, 64, 64, other, true));
+                        outcome(() => call(one, other, 3, '0^1', false));
+                        outcome(() => call(one, 4294967295, other, '0^1', true));
+                        outcome(() => call(one, other, 3, 0));
                         count++;
                     }
                 }

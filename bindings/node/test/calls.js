@@ -9,11 +9,12 @@ const { createNpm } = require('./npm.js');
 const npm = createNpm();
 
 const OPTIONS = [undefined, true, { loose: true }, { includePrerelease: true }, {},
-    { loose: true, includePrerelease: true }, { rtl: true }, { rtl: true, includePrerelease: true }];
+    { loose: true, includePrerelease: true }, { rtl: true }, { rtl: true, includePrerelease: true },
+    { rtl: true, loose: true }, { rtl: true, loose: true, includePrerelease: true }];
 
 // All fields of a version.
 const fields = (version) => version && [version.version, version.raw, version.major, version.minor, version.patch,
-    version.prerelease, version.build, String(version), version.loose, version.includePrerelease, version.options];
+    [...version.prerelease], version.build, String(version), version.loose, version.includePrerelease, version.options];
 
 // The build of the version is left out: here it has none in a Comparator that a Range has made. The options too: in npm
 // they are those with which the text was first read.
@@ -34,9 +35,12 @@ const calls = {
     coerce: (semver, { v, o }) => fields(semver.coerce(v, o)),
     inc: (semver, { v, release, identifier, base, o }) => semver.inc(v, release, o, identifier, base),
     'inc, without options': (semver, { v, release, identifier, base }) => semver.inc(v, release, identifier, base),
-    // Not the prerelease: npm's has the identifier as it was passed, as `['beta.1', 0]`, until it is read again.
     'SemVer.inc': (semver, { v, release, identifier, base, o }) =>
-        fields({ ...new semver.SemVer(v, o).inc(release, identifier, base), prerelease: [], toString: () => '' }),
+        fields(new semver.SemVer(v, o).inc(release, identifier, base)),
+    'SemVer.inc, again and again': (semver, { v, again, o }) => {
+        const version = new semver.SemVer(v, o);
+        return again.map((words) => fields(version.inc(...words)));
+    },
     diff: (semver, { v, w }) => semver.diff(v, w),
     compare: (semver, { v, w, o }) => semver.compare(v, w, o),
     rcompare: (semver, { v, w, o }) => semver.rcompare(v, w, o),
@@ -63,6 +67,8 @@ const calls = {
     validRange: (semver, { r, o }) => semver.validRange(r, o),
     Range: (semver, { r, o }) => rangeFields(new semver.Range(r, o)),
     toComparators: (semver, { r, o }) => semver.toComparators(r, o),
+    parseRange: (semver, { r, o }) => new semver.Range('1', o).parseRange(r.trim().split(/\s+/).join(' '))
+        .map(comparatorFields),
     comparators: (semver, { r, o }) => new semver.Range(r, o).set.map((one) => one.map(comparatorFields)),
     'Comparator.test': (semver, { v, r, o }) => new semver.Range(r, o).set.map((one) =>
         one.map((comparator) => comparator.test(v))),
@@ -83,13 +89,13 @@ const calls = {
 const takes = Object.fromEntries(Object.entries(calls).map(([name, call]) =>
     [name, call.toString().match(/\{ ([\w, ]+) \}/)[1].split(', ')]));
 
-// What a call returns, as JSON, or the name of what it throws. An error of another kind than npm's is a fault.
+// What a call returns, as JSON, or what it throws. An error of another kind than npm's is a fault.
 function result(name, semver, texts) {
     try {
         return JSON.stringify(calls[name](semver, texts)) ?? 'undefined';
     } catch (error) {
         if (error instanceof TypeError || error.message.startsWith('invalid increment argument')) {
-            return error.constructor.name;
+            return `${error.constructor.name}: ${error.message}`;
         }
         throw error;
     }

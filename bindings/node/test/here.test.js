@@ -270,10 +270,18 @@ describe('options', () => {
             assert.strictEqual(semver.valid('1.2.3beta', options), null);
         }
     });
-    test('leastBeyond and leastCommon refuse includePrerelease by its name', () => {
-        for (const name of ['leastBeyond', 'leastCommon']) {
-            assert.throws(() => semver[name]('1', '2', { includePrerelease: true }),
-                { name: 'TypeError', message: /includePrerelease/ });
+    test('leastBeyond and leastCommon with prereleases included', () => {
+        const options = { includePrerelease: true };
+        const rows = [
+            ['leastBeyond', '>=1.0.0', '1.0.0', '1.0.1-0'], ['leastBeyond', '>1.0.0', '<=1.2.0', '1.2.1-0'],
+            ['leastBeyond', '^1', '>=0', 'null'], ['leastCommon', '^2.0.0-rc.1', '>=1.5', '2.0.0-rc.1'],
+            ['leastCommon', '>1.0.0', '<2', '1.0.1-0'], ['leastCommon', '1', '2', 'null'],
+        ];
+        for (const [name, one, other, expected] of rows) {
+            const found = semver[name](one, other, options);
+            assert.strictEqual(String(found), expected, `${name} ${one} ${other}`);
+            const isWanted = (range) => semver.satisfies(found, range, options);
+            assert.ok(found === null || (isWanted(one) && isWanted(other) === (name === 'leastCommon')));
         }
     });
     test('intersect and difference of ranges that include prereleases', () => {

@@ -12,13 +12,9 @@ const { createNpm, npmFolder } = require('./npm.js');
 const npm = createNpm();
 
 describe('names', () => {
-    const absent = ['re', 'src', 'tokens'];
-    const added = ['difference', 'intersect', 'leastBeyond', 'leastCommon'];
-    test('what npm has and this package has not is listed', () => {
-        assert.deepStrictEqual(Object.keys(npm).filter((name) => !(name in semver)).sort(), absent);
-    });
-    test('what this package has and npm has not is listed', () => {
-        assert.deepStrictEqual(Object.keys(semver).filter((name) => !(name in npm)).sort(), added);
+    const added = ['intersect', 'difference', 'leastBeyond', 'leastCommon'];
+    test("npm's names are there in npm's order, and the added ones after them", () => {
+        assert.deepStrictEqual(Object.keys(semver), [...Object.keys(npm), ...added]);
     });
     test('constants are those of npm', () => {
         assert.strictEqual(semver.SEMVER_SPEC_VERSION, npm.SEMVER_SPEC_VERSION);
@@ -52,8 +48,68 @@ describe('names', () => {
         assert.deepStrictEqual(Object.keys(require(`${name}/classes`)), ['SemVer', 'Range', 'Comparator']);
         assert.strictEqual(require(`${name}/package.json`).version, version);
         assert.ok(exports);
-        assert.throws(() => require(`${name}/internal/native.js`), { code: 'ERR_PACKAGE_PATH_NOT_EXPORTED' });
     });
+    test("internal/: npm's modules are there with what npm's have, and no other", () => {
+        const folder = path.join(npmFolder(), 'node_modules/semver/internal');
+        for (const file of modules(folder)) {
+            const [mine, its] = [require(`${name}/internal/${file}`), require(path.join(folder, file))];
+            assert.strictEqual(mine, require(`${name}/internal/${file}.js`));
+            assert.strictEqual(typeof mine, typeof its, file);
+            assert.deepStrictEqual(Object.keys(mine), Object.keys(its), file);
+        }
+        for (const file of ['native', 'native.js', 'npm/re', 'words']) {
+            assert.throws(() => require(`${name}/internal/${file}`), { code: 'MODULE_NOT_FOUND' }, file);
+        }
+    });
+    test("the regular expressions and the constants are npm's", () => {
+        const folder = path.join(npmFolder(), 'node_modules/semver/internal');
+        for (const file of ['re', 'constants']) {
+            assert.deepStrictEqual({ ...require(`${name}/internal/${file}`) }, { ...require(path.join(folder, file)) });
+        }
+        assert.deepStrictEqual([semver.re, semver.src, semver.tokens], [npm.re, npm.src, npm.tokens]);
+        assert.strictEqual(semver.re, require(`${name}/internal/re`).re);
+    });
+});
+
+// A property as it is declared: whether it is a value of some type or is computed, and what may be done to it.
+function declared(object, key) {
+    const { value, get, set, ...rest } = Object.getOwnPropertyDescriptor(object, key) ?? {};
+    return { ...rest, is: get || set ? `${typeof get} ${typeof set}` : typeof value };
+}
+
+describe('properties are declared as with npm', () => {
+    test('of the module', () => {
+        Object.keys(npm).forEach((key) => assert.deepStrictEqual(declared(semver, key), declared(npm, key), key));
+    });
+    const added = { SemVer: [], Comparator: [], Range: ['toJSON', 'set', 'range', 'sets'] };
+    for (const [name, more] of Object.entries(added)) {
+        test(`of ${name}`, () => {
+            const [mine, its] = [semver[name], npm[name]];
+            Reflect.ownKeys(its).forEach((key) => assert.deepStrictEqual(declared(mine, key), declared(its, key), key));
+            assert.deepStrictEqual([mine.length, mine.name], [its.length, its.name]);
+            for (const key of Reflect.ownKeys(its.prototype)) {
+                assert.deepStrictEqual(declared(mine.prototype, key), declared(its.prototype, key), key);
+                assert.strictEqual(mine.prototype[key].length, its.prototype[key].length, key);
+                assert.strictEqual(mine.prototype[key].name, its.prototype[key].name, key);
+            }
+            const keys = Reflect.ownKeys(mine.prototype).filter((key) => !Reflect.ownKeys(its.prototype).includes(key));
+            assert.deepStrictEqual(keys.sort(), more.sort());
+        });
+    }
+    test('of functions: the number of their parameters', () => {
+        for (const [key, its] of Object.entries(npm)) {
+            assert.strictEqual(semver[key].length, its.length, key);
+        }
+    });
+    const makes = {
+        'a SemVer': (s) => new s.SemVer('v1.2.3-rc.1+b', { loose: true }),
+        'a Comparator': (s) => new s.Comparator('>=1.2.3-rc'),
+        'the comparators of a Range': (s) => new s.Range('^1.2 || * 3').set.flat(),
+        'a Range': (s) => new s.Range(' ^1.2  || 3.x', { includePrerelease: true }),
+    };
+    for (const [name, make] of Object.entries(makes)) {
+        test(`${name} as JSON`, () => assert.strictEqual(JSON.stringify(make(semver)), JSON.stringify(make(npm))));
+    }
 });
 
 describe('compareIdentifiers is as with npm', () => {

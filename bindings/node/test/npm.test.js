@@ -45,8 +45,8 @@ const isLoose = (options) => options === true || options?.loose === true;
 function covering(name, texts) {
     const versions = takes[name].flatMap((word) => (['v', 'w', 'list'].includes(word) ? texts[word] : []));
     const ranges = takes[name].flatMap((word) => (['r', 's'].includes(word) ? [trimmed(texts[word])] : []));
-    return rules.filter((rule) => (!rule.calls || rule.calls.includes(name)) && (rule.texts?.(texts)
-        || (rule.version && versions.some(rule.version))
+    return rules.filter((rule) => (!rule.calls || rule.calls.includes(name))
+        && ((rule.version && versions.some(rule.version))
         || (rule.range && ranges.some((text) => rule.range(text, isLoose(texts.o), texts.o ?? {})))));
 }
 
@@ -61,6 +61,7 @@ function pair(texts) {
         release: texts.of(RELEASES),
         identifier: texts.of(IDENTIFIERS),
         base: texts.of(BASES),
+        again: Array.from({ length: 3 }, () => [texts.of(RELEASES), texts.of(IDENTIFIERS), texts.of(BASES)]),
         list: Array.from({ length: LIST }, () => texts.plainVersion()),
     };
 }

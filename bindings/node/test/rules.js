@@ -2,7 +2,7 @@
 // Where this package differs from npm's `semver`: the rows of the README's table. Each has a predicate of the texts
 // that it is about: `version` of a version text, `range` of a range text as npm trims it, and of its options. It is asked
 // about the smallest texts that differ, so it says what stands in them and no more. `calls` are the functions that a row
-// is about, where it is not about all. `texts` is asked about all that the call takes. `example` is a call.
+// is about, where it is not about all. `example` is a call.
 'use strict';
 
 // Whether a text has a number that JavaScript has not, or that npm takes for none.
@@ -90,15 +90,6 @@ const rules = [
         here: '>=0.2.3 <0.3.0-0',
         why: 'npm compares the text `00` with `0`',
         range: hasLoosely(/\^[v=\s]*(00|0\.00)/),
-    },
-    {
-        name: 'a number that is the prerelease already',
-        example: ['inc', '1.2.3-0', 'prerelease', {}, '0', false],
-        npm: '1.2.3-0',
-        here: null,
-        why: 'npm raises the number first, and then puts the identifier in its place: the version stays',
-        calls: ['inc', 'inc, without options', 'SemVer.inc'],
-        texts: ({ base, identifier }) => base === false && /^\d+$/.test(identifier),
     },
     {
         name: 'any version beside others',

@@ -50,6 +50,7 @@ const smaller = {
     o: (options) => (options === undefined ? [] : [undefined, ...Object.keys(options).map((name) => ({ [name]: true }))]
         .filter((fewer) => JSON.stringify(fewer) !== JSON.stringify(options))),
     release: () => [], identifier: () => [], base: () => [],
+    again: (bumps) => bumps.map((_, i) => without(bumps, i)).filter((fewer) => fewer.length > 0),
 };
 
 const differs = (name, texts) => result(name, npm, texts) !== result(name, here, texts);

@@ -100,6 +100,13 @@ const char *text_of(PyObject *value, const char *wanted, Py_ssize_t *length);
 /* The only argument of a constructor; NULL with a TypeError. The reference is borrowed. */
 PyObject *only_argument(const char *name, PyObject *arguments);
 
+/* The argument of a method, and its option `include_prerelease`, which is false if it is not there: 0, or -1 with an
+ * exception. The format is that of PyArg_ParseTupleAndKeywords. The reference is borrowed. */
+int read_included(PyObject *arguments, PyObject *keywords, const char *format, PyObject **argument, int *is_included);
+
+/* A method with options, as PyMethodDef takes it. */
+#define WITH_OPTIONS(method) (PyCFunction)(void (*)(void))method, METH_VARARGS | METH_KEYWORDS
+
 /* What a value holds, for the garbage collector: its type. It is never cleared. */
 int visit_value(PyObject *self, visitproc visit, void *arg);
 
@@ -120,6 +127,11 @@ PyObject *new_version(PyTypeObject *type, node_semver_version handle);
 /* Reads the version of a str into an empty handle, in loose form or by the grammar of SemVer 2.0.0 alone: 0, or -1 with
  * an exception, a TypeError that starts with `wanted` if it is no str. `type` is as for raise_status. */
 int read_version(PyTypeObject *type, PyObject *text, bool is_strict, const char *wanted, node_semver_version *handle);
+
+/* ---- coerce.c ---- */
+
+/* `Version.coerce`. */
+PyObject *version_coerce(PyObject *type, PyObject *arguments, PyObject *keywords);
 
 /* ---- bump.c ---- */
 
@@ -145,8 +157,8 @@ PyObject *range_from_sets(PyObject *type, PyObject *sets);
 
 /* ---- versions.c: methods of Range over an iterable of versions ---- */
 
-PyObject *range_filter(PyObject *self, PyObject *versions);
-PyObject *range_max_satisfying(PyObject *self, PyObject *versions);
-PyObject *range_min_satisfying(PyObject *self, PyObject *versions);
+PyObject *range_filter(PyObject *self, PyObject *arguments, PyObject *keywords);
+PyObject *range_max_satisfying(PyObject *self, PyObject *arguments, PyObject *keywords);
+PyObject *range_min_satisfying(PyObject *self, PyObject *arguments, PyObject *keywords);
 
 #endif

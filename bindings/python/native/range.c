@@ -181,15 +181,21 @@ static PyObject *found_version(native_state *state, node_semver_status status, n
     return NULL;
 }
 
-static PyObject *range_min_version(PyObject *self, PyObject *ignored)
+typedef node_semver_status least(const node_semver_range *, node_semver_version *);
+
+static PyObject *range_min_version(PyObject *self, PyObject *arguments, PyObject *keywords)
 {
+    static char *names[] = {"include_prerelease", NULL};
     node_semver_version handle = NODE_SEMVER_EMPTY;
     node_semver_status status;
+    int is_included = 0;
+    least *find;
     native_state *state = state_of(self);
-    (void)ignored;
-    if (state == NULL)
+    if (state == NULL
+        || !PyArg_ParseTupleAndKeywords(arguments, keywords, "|$p:min_version", names, &is_included))
         return NULL;
-    WHILE_OTHERS_RUN(SET_COUNT(self) >= LONG, status = node_semver_min_version(RANGE_OF(self), &handle));
+    find = is_included ? node_semver_min_version_with_prereleases : node_semver_min_version;
+    WHILE_OTHERS_RUN(SET_COUNT(self) >= LONG, status = find(RANGE_OF(self), &handle));
     return found_version(state, status, handle);
 }
 
@@ -208,14 +214,23 @@ static PyObject *found(search *find, PyObject *self, PyObject *other)
     return found_version(state, status, handle);
 }
 
-static PyObject *range_least_beyond(PyObject *self, PyObject *other)
+static PyObject *range_least_beyond(PyObject *self, PyObject *arguments, PyObject *keywords)
 {
-    return found(node_semver_least_beyond, self, other);
+    PyObject *other;
+    int is_included;
+    if (read_included(arguments, keywords, "O|$p:least_beyond", &other, &is_included) != 0)
+        return NULL;
+    return found(is_included ? node_semver_least_beyond_with_prereleases : node_semver_least_beyond, self, other);
 }
 
-static PyObject *range_least_common(PyObject *self, PyObject *other)
+static PyObject *range_least_common(PyObject *self, PyObject *arguments, PyObject *keywords)
 {
-    return found(node_semver_range_least_common, self, other);
+    PyObject *other;
+    int is_included;
+    if (read_included(arguments, keywords, "O|$p:least_common", &other, &is_included) != 0)
+        return NULL;
+    return found(is_included ? node_semver_range_least_common_with_prereleases : node_semver_range_least_common, self,
+                 other);
 }
 
 /* What pickle stores of a range whose text is not read back: `Range.from_sets` and the sets. */
@@ -247,14 +262,14 @@ static PyObject *range_reduce(PyObject *self, PyObject *ignored)
 
 static PyMethodDef range_methods[] = {
     {"contains", range_contains, METH_O, contains_doc},
-    {"filter", range_filter, METH_O, filter_doc},
-    {"max_satisfying", range_max_satisfying, METH_O, max_satisfying_doc},
-    {"min_satisfying", range_min_satisfying, METH_O, min_satisfying_doc},
-    {"min_version", range_min_version, METH_NOARGS, min_version_doc},
+    {"filter", WITH_OPTIONS(range_filter), filter_doc},
+    {"max_satisfying", WITH_OPTIONS(range_max_satisfying), max_satisfying_doc},
+    {"min_satisfying", WITH_OPTIONS(range_min_satisfying), min_satisfying_doc},
+    {"min_version", WITH_OPTIONS(range_min_version), min_version_doc},
     {"allows_any", range_allows_any, METH_O, allows_any_doc},
     {"allows_all", range_allows_all, METH_O, allows_all_doc},
-    {"least_beyond", range_least_beyond, METH_O, least_beyond_doc},
-    {"least_common", range_least_common, METH_O, least_common_doc},
+    {"least_beyond", WITH_OPTIONS(range_least_beyond), least_beyond_doc},
+    {"least_common", WITH_OPTIONS(range_least_common), least_common_doc},
     {"parse_npm", (PyCFunction)(void (*)(void))range_parse_npm, METH_VARARGS | METH_KEYWORDS | METH_CLASS,
      parse_npm_doc},
     {"from_sets", range_from_sets, METH_O | METH_CLASS, from_sets_doc},

@@ -122,17 +122,19 @@ PyDoc_STRVAR(contains_doc,
 "False");
 
 PyDoc_STRVAR(filter_doc,
-"filter($self, versions, /)\n"
+"filter($self, versions, /, *, include_prerelease=False)\n"
 "--\n"
 "\n"
 "A list of the versions that are in the range, as they were given and in their order. A str that is not a version is\n"
-"left out.\n"
+"left out. With prereleases included, those for which `contains` is true.\n"
 "\n"
 ">>> Range('^1').filter(['2.0.0', '1.5.0', 'latest', '1.0.0'])\n"
-"['1.5.0', '1.0.0']");
+"['1.5.0', '1.0.0']\n"
+">>> Range('^1').filter(['1.5.0-rc.1', '1.0.0'], include_prerelease=True)\n"
+"['1.5.0-rc.1', '1.0.0']");
 
 PyDoc_STRVAR(max_satisfying_doc,
-"max_satisfying($self, versions, /)\n"
+"max_satisfying($self, versions, /, *, include_prerelease=False)\n"
 "--\n"
 "\n"
 "The greatest of the versions that is in the range, as it was given, or None. Of equal versions, the first. A str\n"
@@ -141,20 +143,24 @@ PyDoc_STRVAR(max_satisfying_doc,
 ">>> Range('^1').max_satisfying(['1.0.0', '1.5.0', 'latest', '2.0.0'])\n"
 "'1.5.0'\n"
 ">>> print(Range('^3').max_satisfying(['1.0.0', '1.5.0', '2.0.0']))\n"
-"None");
+"None\n"
+">>> Range('^1').max_satisfying(['1.5.0', '1.6.0-rc.1'], include_prerelease=True)\n"
+"'1.6.0-rc.1'");
 
 PyDoc_STRVAR(min_satisfying_doc,
-"min_satisfying($self, versions, /)\n"
+"min_satisfying($self, versions, /, *, include_prerelease=False)\n"
 "--\n"
 "\n"
 "The least of the versions that is in the range, as it was given, or None. Of equal versions, the first. A str that\n"
 "is not a version is left out.\n"
 "\n"
 ">>> Range('>=1.1').min_satisfying([Version('1.0.0'), Version('2.0.0'), Version('1.5.0')])\n"
-"Version('1.5.0')");
+"Version('1.5.0')\n"
+">>> Range('>=1.1').min_satisfying(['1.5.0', '1.2.0-rc.1'], include_prerelease=True)\n"
+"'1.2.0-rc.1'");
 
 PyDoc_STRVAR(min_version_doc,
-"min_version($self, /)\n"
+"min_version($self, /, *, include_prerelease=False)\n"
 "--\n"
 "\n"
 "The least version that is in the range, or None if there is none.\n"
@@ -162,7 +168,9 @@ PyDoc_STRVAR(min_version_doc,
 ">>> Range('>1.0.0').min_version()\n"
 "Version('1.0.1')\n"
 ">>> print(Range('>1.0.0 <1.0.1-0').min_version())\n"
-"None");
+"None\n"
+">>> Range('>1.0.0').min_version(include_prerelease=True)\n"
+"Version('1.0.1-0')");
 
 PyDoc_STRVAR(allows_any_doc,
 "allows_any($self, other, /)\n"
@@ -183,7 +191,7 @@ PyDoc_STRVAR(allows_all_doc,
 "(True, False)");
 
 PyDoc_STRVAR(least_beyond_doc,
-"least_beyond($self, other, /)\n"
+"least_beyond($self, other, /, *, include_prerelease=False)\n"
 "--\n"
 "\n"
 "The least version that is in this range and not in the other one, or None if there is none.\n"
@@ -191,10 +199,12 @@ PyDoc_STRVAR(least_beyond_doc,
 ">>> Range('^1.2.3 || ^2').least_beyond(Range('^1.2.3'))\n"
 "Version('2.0.0')\n"
 ">>> print(Range('1 - 2').least_beyond(Range('1 || 2')))\n"
-"None");
+"None\n"
+">>> Range('1 - 2').least_beyond(Range('1 || 2'), include_prerelease=True)\n"
+"Version('2.0.0-0')");
 
 PyDoc_STRVAR(least_common_doc,
-"least_common($self, other, /)\n"
+"least_common($self, other, /, *, include_prerelease=False)\n"
 "--\n"
 "\n"
 "The least version that is in both ranges, or None if there is none. The least version of `self & other` may be a\n"
@@ -204,6 +214,8 @@ PyDoc_STRVAR(least_common_doc,
 ">>> one.least_common(other), (one & other).min_version()\n"
 "(Version('2.0.0'), Version('2.0.0-rc.1'))\n"
 ">>> print(Range('^1').least_common(Range('^2')))\n"
-"None");
+"None\n"
+">>> one.least_common(other, include_prerelease=True)\n"
+"Version('2.0.0-rc.1')");
 
 #endif

@@ -61,6 +61,13 @@ PyObject *only_argument(const char *name, PyObject *arguments)
     return PyTuple_GetItem(arguments, 0);
 }
 
+int read_included(PyObject *arguments, PyObject *keywords, const char *format, PyObject **argument, int *is_included)
+{
+    static char *names[] = {"", "include_prerelease", NULL};
+    *is_included = 0;
+    return PyArg_ParseTupleAndKeywords(arguments, keywords, format, names, argument, is_included) ? 0 : -1;
+}
+
 int visit_value(PyObject *self, visitproc visit, void *arg)
 {
     Py_VISIT(Py_TYPE(self));

@@ -245,8 +245,9 @@ static PyGetSetDef version_fields[] = {
 };
 
 static PyMethodDef version_methods[] = {
+    {"coerce", (PyCFunction)(void (*)(void))version_coerce, METH_VARARGS | METH_KEYWORDS | METH_CLASS, coerce_doc},
     {"diff", version_diff, METH_O, diff_doc},
-    {"bump", (PyCFunction)(void (*)(void))version_bump, METH_VARARGS | METH_KEYWORDS, bump_doc},
+    {"bump", WITH_OPTIONS(version_bump), bump_doc},
     {"compare_build", version_compare_build, METH_O, compare_build_doc},
     {"__copy__", same_object, METH_NOARGS, "__copy__($self, /)\n--\n\nThe version itself: it never changes."},
     {"__deepcopy__", same_object, METH_O, "__deepcopy__($self, memo, /)\n--\n\nThe version itself: it never changes."},

@@ -49,6 +49,20 @@ PyDoc_STRVAR(compare_build_doc,
 ">>> sorted(map(Version, ['1.0.0+2', '1.0.0+10', '1.0.0']), key=cmp_to_key(Version.compare_build))\n"
 "[Version('1.0.0'), Version('1.0.0+2'), Version('1.0.0+10')]");
 
+PyDoc_STRVAR(coerce_doc,
+"coerce($type, text, /, *, rtl=False)\n"
+"--\n"
+"\n"
+"The version that is found in a text, as npm's `coerce` finds it, or None: the first one, two or three numbers with\n"
+"dots between them. With `rtl` the last. Missing numbers are 0. A prerelease and a build are not read.\n"
+"\n"
+">>> Version.coerce('release node-14.2, of May')\n"
+"Version('14.2.0')\n"
+">>> Version.coerce('1.2.3.4'), Version.coerce('1.2.3.4', rtl=True)\n"
+"(Version('1.2.3'), Version('2.3.4'))\n"
+">>> print(Version.coerce('latest'))\n"
+"None");
+
 PyDoc_STRVAR(diff_doc,
 "diff($self, other, /)\n"
 "--\n"

@@ -75,9 +75,11 @@ static int open_list(native_state *state, PyObject *iterable, version_list *list
     return 0;
 }
 
+typedef bool membership(const node_semver_range *range, const node_semver_version *version);
+
 /* Reads the text of each entry. Keeps those that are versions and, if there is a range, are in it. If memory runs out,
  * it keeps what it has read. */
-static node_semver_status read_texts(version_list *list, const node_semver_range *range)
+static node_semver_status read_texts(version_list *list, const node_semver_range *range, membership *is_in)
 {
     size_t place, count = list->count;
     list->count = 0;
@@ -90,7 +92,7 @@ static node_semver_status read_texts(version_list *list, const node_semver_range
             continue;
         if (status != NODE_SEMVER_OK)
             return status;
-        if (range == NULL || node_semver_satisfies(range, &item.version))
+        if (range == NULL || is_in(range, &item.version))
             list->entries[list->count++] = item;
         else if (item.text != NULL)
             node_semver_version_free(item.version);
@@ -111,16 +113,19 @@ static PyObject *items_left(const version_list *list)
     return items;
 }
 
-PyObject *range_filter(PyObject *self, PyObject *iterable)
+PyObject *range_filter(PyObject *self, PyObject *arguments, PyObject *keywords)
 {
     version_list list;
     node_semver_status status;
-    PyObject *items = NULL;
+    PyObject *iterable, *items = NULL;
+    int is_included;
+    membership *is_in;
     native_state *state = state_of(self);
-    if (state == NULL)
+    if (state == NULL || read_included(arguments, keywords, "O|$p:filter", &iterable, &is_included) != 0)
         return NULL;
+    is_in = is_included ? node_semver_range_contains : node_semver_satisfies;
     if (open_list(state, iterable, &list) == 0) {
-        WHILE_OTHERS_RUN(list.count >= LONG, status = read_texts(&list, RANGE_OF(self)));
+        WHILE_OTHERS_RUN(list.count >= LONG, status = read_texts(&list, RANGE_OF(self), is_in));
         if (status == NODE_SEMVER_OK)
             items = items_left(&list);
         else
@@ -156,7 +161,7 @@ static PyObject *chosen(choice *choose, PyObject *self, PyObject *iterable)
     if (state == NULL)
         return NULL;
     if (open_list(state, iterable, &list) == 0) {
-        WHILE_OTHERS_RUN(list.count >= LONG, status = read_texts(&list, NULL));
+        WHILE_OTHERS_RUN(list.count >= LONG, status = read_texts(&list, NULL, NULL));
         if (status == NODE_SEMVER_OK)
             item = chosen_item(choose, RANGE_OF(self), &list);
         else
@@ -166,12 +171,20 @@ static PyObject *chosen(choice *choose, PyObject *self, PyObject *iterable)
     return item;
 }
 
-PyObject *range_max_satisfying(PyObject *self, PyObject *iterable)
+PyObject *range_max_satisfying(PyObject *self, PyObject *arguments, PyObject *keywords)
 {
-    return chosen(node_semver_max_satisfying, self, iterable);
+    PyObject *iterable;
+    int is_included;
+    if (read_included(arguments, keywords, "O|$p:max_satisfying", &iterable, &is_included) != 0)
+        return NULL;
+    return chosen(is_included ? node_semver_max_satisfying_with_prereleases : node_semver_max_satisfying, self, iterable);
 }
 
-PyObject *range_min_satisfying(PyObject *self, PyObject *iterable)
+PyObject *range_min_satisfying(PyObject *self, PyObject *arguments, PyObject *keywords)
 {
-    return chosen(node_semver_min_satisfying, self, iterable);
+    PyObject *iterable;
+    int is_included;
+    if (read_included(arguments, keywords, "O|$p:min_satisfying", &iterable, &is_included) != 0)
+        return NULL;
+    return chosen(is_included ? node_semver_min_satisfying_with_prereleases : node_semver_min_satisfying, self, iterable);
 }

@@ -87,6 +87,12 @@ class Long(unittest.TestCase):
         self.assertIs(self.one.min_satisfying(self.versions), min(inside))
         self.assertEqual(self.one.max_satisfying(TEXTS), str(max(inside)))
         self.assertEqual(self.one.min_satisfying(TEXTS), str(min(inside)))
+        contained = [version for version in self.versions if self.one.contains(version)]
+        self.assertTrue(len(inside) <= len(contained) < len(self.versions))
+        self.assertEqual(self.one.filter(self.versions, include_prerelease=True), contained)
+        self.assertEqual(self.one.filter(TEXTS, include_prerelease=True), [str(version) for version in contained])
+        self.assertIs(self.one.max_satisfying(self.versions, include_prerelease=True), max(contained))
+        self.assertEqual(self.one.min_satisfying(TEXTS, include_prerelease=True), str(min(contained)))
 
     def test_far_longer_lists(self) -> None:
         """20,000 items, past the length from which other threads run during the call."""

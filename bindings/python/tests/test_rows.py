@@ -346,6 +346,52 @@ class Rows(unittest.TestCase):
             self.assertIsNone(choose(["2.0.0", "0.1.0", "1.3.0-rc.1"]))
         self.assertEqual(wanted.filter([]), [])
 
+    def test_prereleases_included(self) -> None:
+        texts = ["2.0.0-rc.1", "1.2.3", "1.3.0-rc.1+a", "1.3.0-rc.1+b", "1.0.0-rc.1", "latest", "\ud800"]
+        versions = [Version(text) for text in texts[:5]]
+        wanted = Range("^1.0.0")
+        self.assertEqual(wanted.filter(texts, include_prerelease=True), texts[1:4])
+        self.assertEqual(wanted.filter(versions, include_prerelease=True), versions[1:4])
+        self.assertEqual(wanted.max_satisfying(texts, include_prerelease=True), "1.3.0-rc.1+a")
+        self.assertIs(wanted.max_satisfying(versions, include_prerelease=True), versions[2])
+        self.assertEqual(wanted.min_satisfying(texts[2:], include_prerelease=True), "1.3.0-rc.1+a")
+        for choose in (wanted.max_satisfying, wanted.min_satisfying):
+            self.assertEqual(choose(texts, include_prerelease=False), "1.2.3")
+            self.assertIsNone(choose(["1.0.0-rc.1", "2.0.0-0x"], include_prerelease=False))
+            self.assertIsNone(choose([], include_prerelease=True))
+        for text, least in [(">1.2.3", "1.2.4-0"), ("<1.0.0", "0.0.0-0"), (">1.0.0 <1.0.1-0", "None")]:
+            self.assertEqual(str(Range(text).min_version(include_prerelease=True)), least)
+        for one, other, beyond, common in [
+            ("1 - 2", "1 || 2", "2.0.0-0", "1.0.0"),
+            (">=1.0.0", "1.0.0", "1.0.1-0", "1.0.0"),
+            ("^2.0.0-rc.1", ">=1.5", "None", "2.0.0-rc.1"),
+            ("^1", "^2", "1.0.0", "None"),
+        ]:
+            with self.subTest(one=one, other=other):
+                ranges = Range(one), Range(other)
+                self.assertEqual(str(ranges[0].least_beyond(ranges[1], include_prerelease=True)), beyond)
+                self.assertEqual(str(ranges[0].least_common(ranges[1], include_prerelease=True)), common)
+
+    def test_finds_a_version_in_a_text(self) -> None:
+        rows = [
+            ("v1.2", "1.2.0", "1.2.0"),
+            ("release node-14.x, of May 5", "14.0.0", "5.0.0"),
+            ("1.2.3.4", "1.2.3", "2.3.4"),
+            ("1.2.3-rc.1+5", "1.2.3", "5.0.0"),
+            ("12345678901234567.2.3", "2.3.0", "2.3.0"),
+            ("\u0661 \U0001f600 7", "7.0.0", "7.0.0"),
+            ("01.2.3", "None", "None"),
+            ("9007199254740992", "None", "None"),
+            ("latest", "None", "None"),
+            ("", "None", "None"),
+        ]
+        for text, first, last in rows:
+            with self.subTest(text=text):
+                self.assertEqual(str(Version.coerce(text)), first)
+                self.assertEqual(str(Version.coerce(text, rtl=True)), last)
+        with self.assertRaises(UnicodeEncodeError):
+            Version.coerce("\ud800")
+
     def test_leaves_out_texts_that_are_no_versions(self) -> None:
         texts = ["latest", "1.2", "", "\ud800", "1.5.0", "v1.2.3 ", "1" * 300, "1.0.0", "1.2.9007199254740992"]
         wanted = Range("^1")

@@ -97,6 +97,7 @@ class Types(unittest.TestCase):
             self.refuses(method)
             self.refuses(method, RANGE, RANGE)
             self.refuses(method, other=RANGE)
+            self.refuses(method, RANGE, strict=True)
 
     def test_methods_that_take_versions(self) -> None:
         for name in METHODS_OF_VERSIONS:
@@ -107,6 +108,33 @@ class Types(unittest.TestCase):
                 self.refuses(method, [VERSION, wrong])
             self.refuses(method)
             self.refuses(method, [], [])
+            self.refuses(method, [], True)
+            self.refuses(method, versions=[])
+            self.refuses(method, include_prerelease=True)
+            self.refuses(method, [1], include_prerelease=True)
+
+    def test_prereleases_included(self) -> None:
+        undecided: Any = Undecided()
+        for name in METHODS_OF_VERSIONS + ["least_beyond", "least_common"]:
+            argument: Any = [] if name in METHODS_OF_VERSIONS else RANGE
+            with self.assertRaises(ZeroDivisionError):
+                getattr(RANGE, name)(argument, include_prerelease=undecided)
+        with self.assertRaises(ZeroDivisionError):
+            RANGE.min_version(include_prerelease=undecided)
+        self.refuses(RANGE.min_version, True)
+        self.refuses(RANGE.min_version, strict=True)
+
+    def test_coerce(self) -> None:
+        for wrong in PLAIN_TYPES + [VERSION, RANGE]:
+            self.refuses(Version.coerce, wrong)
+            self.refuses(Version.coerce, wrong, rtl=True)
+        self.refuses(Version.coerce)
+        self.refuses(Version.coerce, "1", True)
+        self.refuses(Version.coerce, "1", strict=True)
+        self.refuses(Version.coerce, text="1")
+        undecided: Any = Undecided()
+        with self.assertRaises(ZeroDivisionError):
+            Version.coerce("1", rtl=undecided)
 
     def test_sets(self) -> None:
         for wrong in [None, 1, True, object(), "1.2.3", VERSION, RANGE, len]:

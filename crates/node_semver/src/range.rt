@@ -31,7 +31,7 @@ pub use prereleases::WithPrereleases;
 use semver_cuts::{Cut, Span};
 use semver_sets::laws::{a_text_means_its_sets, prints_are_read_back};
 use semver_sets::read::Unread;
-use semver_sets::read::full::{FullLead, caret_set, exact_set, read_full, tilde_set};
+use semver_sets::read::full::{full_set, read_full};
 use semver_sets::set_list::Sets;
 use semver_sets::set_list::gathered::Gathered;
 use semver_versions::Admits;
@@ -130,14 +130,8 @@ impl Range {
         prints_are_read_back();
         let bytes = text.as_bytes();
         match read_full(bytes) {
-            Some((FullLead::Caret, major, minor, patch)) => {
-                Ok(Range::of_set(caret_set(major, minor, patch)))
-            }
-            Some((FullLead::Tilde, major, minor, patch)) => {
-                Ok(Range::of_set(tilde_set(major, minor, patch)))
-            }
-            Some((FullLead::Nothing, major, minor, patch)) => {
-                Ok(Range::of_set(exact_set(major, minor, patch)))
+            Some((form, major, minor, patch)) => {
+                Ok(Range::of_set(full_set(form, major, minor, patch)))
             }
             None => match Sets::read(alloc, bytes) {
                 Ok(sets) => Ok(Range { sets }),

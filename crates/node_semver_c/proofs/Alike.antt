@@ -8,7 +8,7 @@ use Rattle.node_semver_c.specs.Compared.{range_hash, version_hash}
 use Rattle.semver_cuts.specs.Ends.{Ends}
 use Rattle.semver_versions.specs.Comparison.{version_cmp}
 use Rattle.semver_sets.specs.Lemmas.RangeHash.{range_alike}
-use Rattle.semver_versions.specs.Lemmas.Hash.{version_alike}
+use Rattle.semver_versions.specs.Lemmas.Public.{version_alike}
 use Rattle.semver_sets.specs.RangeEquality.{are_same_cuts}
 use Rattle.semver_versions.specs.Version.{VersionValue}
 

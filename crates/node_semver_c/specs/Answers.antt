@@ -1,6 +1,6 @@
 -- What the exports return, by the clauses of the calls of `node_semver` that they make.
 use Rattle.std.specs.Prelude.{◌≡◌, ◌⊎◌, ◌↔◌, ◌++◌, ℕ, Bool, List, []}
-use Rattle.std.specs.Prelude.{Option, Some, None, IfErr, IfOk, IfSome, IsNone, IsOk, IsSome, Result, MatchResult}
+use Rattle.std.specs.Prelude.{Option, Some, None, IfErr, IfNone, IfOk, IfSome, IsNone, IsOk, IsSome, Result, MatchResult}
 use Rattle.node_semver_c.specs.declared.status.Fault.{Fault}
 use Rattle.node_semver_c.specs.declared.status.TheConstants.{OK, NONE, OUT_OF_MEMORY}
 use Rattle.node_semver_c.specs.Status.{IsKept, IsRefusalReported}
@@ -16,12 +16,15 @@ use Rattle.semver_sets.specs.Meaning.{RangeAdmits}
 use Rattle.semver_sets.specs.Merging.{AreSetsOfText}
 use Rattle.semver_sets.specs.RangeSets.{IsRangeValue}
 use Rattle.semver_sets.specs.Union.{AreJoinable, joined_text}
+use Rattle.semver_versions.specs.Coerce.{IsCoerced}
 use Rattle.semver_versions.specs.Version.{IsPrerelease, VersionValue}
 use Rattle.semver_versions.specs.declared.error.SemverError.{SemverError}
 use Rattle.semver_versions.specs.Error.{IsOutOfMemory, IsReadAs, refusal_of}
 use Rattle.semver_versions.specs.StrictVersionText.{IsStrictFaultOf, IsStrictVersionText}
 use Rattle.node_semver.specs.Least.{AdmitNoneInCommon, AdmitsNone, AdmitsNoneBeyond, HasBuildOfFirst, IsAdmittedBy}
 use Rattle.node_semver.specs.Least.{IsLeastAdmitted, IsLeastBeyond, IsLeastCommon}
+use Rattle.node_semver.specs.Least.{BothContain, ContainsBeyond, ContainsNone, HasBuildOfFirstAround, IsContainedIn}
+use Rattle.node_semver.specs.Least.{IsLeastContained, IsLeastOf, IsNoneOf}
 use Rattle.node_semver.specs.RangeAlgebra.{PairAdmits, sets_of_answer}
 
 -- ---- texts
@@ -131,4 +134,30 @@ pub record IsBeyond (one other : List (Ends VersionValue)) (answer : Option Vers
 pub record IsCommonLeast (one other : List (Ends VersionValue)) (answer : Option VersionValue) : Type 0 where
   pub least : IfSome answer (IsLeastCommon one other)
   pub none : IsNone answer ↔ AdmitNoneInCommon one other
+  pub build : IfSome answer (λ v. v.build ≡ [])
+
+-- the result of `Version::coerce` for a text
+pub record IsCoercion (rtl : Bool) (text : List ℕ) (answer : Option VersionValue) : Type 0 where
+  pub found : IfSome answer (IsCoerced rtl text)
+  pub none : IfNone answer ((v : VersionValue) → ¬ IsCoerced rtl text v)
+
+-- ---- the same calls with prereleases included
+
+-- the result of `WithPrereleases::min_version`
+pub record IsMinimumContained (sets : List (Ends VersionValue)) (answer : Option VersionValue) : Type 0 where
+  pub least : IfSome answer (IsLeastContained sets)
+  pub none : IsNone answer ↔ ContainsNone sets
+  pub build : IfSome answer (HasBuildOfFirstAround sets)
+
+-- the result of `WithPrereleases::least_beyond`
+pub record IsLeastContainedBeyond (one other : List (Ends VersionValue)) (answer : Option VersionValue) : Type 0 where
+  pub least : IfSome answer (IsLeastOf (ContainsBeyond one other))
+  pub none : IsNone answer ↔ IsNoneOf (ContainsBeyond one other)
+  pub contained : IsNone answer ↔ IsContainedIn one other
+  pub build : IfSome answer (λ v. v.build ≡ [])
+
+-- the result of `WithPrereleases::least_common`
+pub record IsLeastContainedInBoth (one other : List (Ends VersionValue)) (answer : Option VersionValue) : Type 0 where
+  pub least : IfSome answer (IsLeastOf (BothContain one other))
+  pub none : IsNone answer ↔ IsNoneOf (BothContain one other)
   pub build : IfSome answer (λ v. v.build ≡ [])

@@ -1,11 +1,12 @@
 -- The result of one call with a range text and a version text.
 use Rattle.std.specs.Prelude.{◌≡◌, ◌⊎◌, ◌↔◌, ℕ, List, Bool, IsTrue}
 use Rattle.node_semver_c.specs.declared.status.Fault.{Fault}
-use Rattle.node_semver_c.specs.declared.status.TheConstants.{OK}
+use Rattle.node_semver_c.specs.declared.status.TheConstants.{OK, REFUSED}
 use Rattle.node_semver_c.specs.Status.{IsFaultReported, IsRefusalReported}
 use Rattle.semver_cuts.specs.Ends.{Ends}
 use Rattle.semver_sets.specs.Meaning.{IsRefused, RangeAdmits, TextAdmits}
 use Rattle.semver_versions.specs.Version.{VersionValue}
+use Rattle.semver_versions.specs.StrictVersionText.{IsStrictVersionText}
 use Rattle.semver_versions.specs.VersionText.{IsVersionText}
 use Rattle.semver_versions.specs.declared.error.SemverError.{SemverError}
 use Rattle.semver_versions.specs.Error.{IsOutOfMemory, IsRefusalAt, Kind, no_valid_ranges, refusal_of}
@@ -36,3 +37,10 @@ pub data IsPairReported (range version : List ℕ) (status : ℕ) (answer : Bool
       → IsPairReported range version status answer fault
   accepted : ¬ IsRefused range → IsAnswered (TextAdmits range) version status answer fault
       → IsPairReported range version status answer fault
+
+-- the text is a version by the grammar of SemVer 2.0.0: whether that version is admitted; or it is none
+pub data IsStrictReported (Admits : VersionValue → Type 0) (text : List ℕ) (status : ℕ) (answer : Bool) : Type 0 where
+  strict : (v : VersionValue) → IsStrictVersionText text v → status ≡ OK → (IsTrue answer ↔ Admits v)
+      → IsStrictReported Admits text status answer
+  no_version : ((v : VersionValue) → ¬ IsStrictVersionText text v) → status ≡ REFUSED
+      → IsStrictReported Admits text status answer

@@ -5,6 +5,7 @@
 
 mod algebra;
 mod bump;
+mod coerce;
 mod diff;
 mod greatest;
 mod handle;
@@ -13,6 +14,7 @@ pub mod laws;
 mod loose;
 mod npm;
 mod pair;
+mod prereleases;
 mod range;
 mod sets;
 mod status;

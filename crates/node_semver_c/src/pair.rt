@@ -1,10 +1,12 @@
-//! Two texts in one call.
+//! Two texts in one call, or a range and a text.
 ghost use Rattle.std.specs.Prelude.{IsUtf8, ◌≡◌, ◌≢◌};
-ghost use Rattle.node_semver_c.specs.Pair.{IsPairReported, IsVersionReported};
+ghost use Rattle.node_semver_c.specs.Pair.{IsPairReported, IsStrictReported, IsVersionReported};
+ghost use Rattle.semver_sets.specs.Meaning.{RangeAdmits, RangeContains};
 ghost use Rattle.node_semver_c.specs.declared.status.TheConstants.{NOT_UTF8, OK, OUT_OF_MEMORY, REFUSED};
 
-use crate::status::{Fault, NOT_UTF8, OK, report, report_at};
-use node_semver::{Range, VersionRef};
+use crate::handle::range::RangeRef;
+use crate::status::{Fault, NOT_UTF8, OK, REFUSED, report, report_at};
+use node_semver::{Admits, Range, VersionRef};
 use std::alloc::Global;
 
 /// `Range::parse`, `Version::parse` and `satisfies`: whether the version of one text satisfies the range of another.
@@ -58,5 +60,55 @@ fn satisfies_range(range: &Range, version: &str, answer: &mut bool, fault: &mut 
             OK
         }
         Err(error) => report_at(&error.kind(), error.offset(), fault),
+    }
+}
+
+/// `VersionRef::parse_strict` and `satisfies`: whether the version of a text in the grammar of SemVer 2.0.0 satisfies the
+/// range.
+///
+/// Does not allocate.
+#[unsafe(no_mangle)]
+pub extern "C" fn node_semver_satisfies_strict(
+    range: &RangeRef,
+    text: &[u8],
+    answer: &mut bool,
+) -> u32
+    ensures reported { IsUtf8 text.now → IsStrictReported (RangeAdmits range.now.value) text.now result answer.new }
+    ensures not_utf8 { ¬ IsUtf8 text.now → result ≡ NOT_UTF8 }
+    ensures answer_kept { result ≢ OK → answer.new ≡ answer.old }
+{
+    match std::str::from_utf8(text) {
+        Ok(text) => satisfies_strict(range.get(), text, answer),
+        Err(_) => NOT_UTF8,
+    }
+}
+
+/// The same with prereleases included: whether the range contains the version.
+#[unsafe(no_mangle)]
+pub extern "C" fn node_semver_contains_strict(
+    range: &RangeRef,
+    text: &[u8],
+    answer: &mut bool,
+) -> u32
+    ensures reported { IsUtf8 text.now → IsStrictReported (RangeContains range.now.value) text.now result answer.new }
+    ensures not_utf8 { ¬ IsUtf8 text.now → result ≡ NOT_UTF8 }
+    ensures answer_kept { result ≢ OK → answer.new ≡ answer.old }
+{
+    match std::str::from_utf8(text) {
+        Ok(text) => satisfies_strict(&range.get().with_prereleases(), text, answer),
+        Err(_) => NOT_UTF8,
+    }
+}
+
+fn satisfies_strict<A: Admits>(asked: &A, text: &str, answer: &mut bool) -> u32
+    ensures reported { IsStrictReported (A.admits asked.now) text.now result answer.new }
+    ensures answer_kept { result ≢ OK → answer.new ≡ answer.old }
+{
+    match VersionRef::parse_strict(text) {
+        Ok(version) => {
+            *answer = version.satisfies(asked);
+            OK
+        }
+        Err(_) => REFUSED,
     }
 }

@@ -1,13 +1,14 @@
 use crate::questions::{Question, each};
 
 // npm's "Tilde Ranges".
-const TILDES: [&str; 23] = [
+const TILDES: [&str; 24] = [
     // The last number that is written may rise, or the minor.
     "~1.2.3; 1.2.3 1.2.9; 1.2.2 1.3.0 1.3.0-0 1.2.4-a",
     "~0.2.3; 0.2.3 0.2.9; 0.2.2 0.3.0",
     "~1.2.3-beta.2; 1.2.3-beta.2 1.2.3-beta.4 1.2.4; 1.2.3-beta.1 1.2.4-beta.2",
     "~1.2.3beta; 1.2.3-beta 1.2.9; 1.2.3-alpha 1.3.0",
     "~1.2.3+b; 1.2.3 1.2.9; 1.2.2",
+    "~1.2.3-a+b; 1.2.3-a 1.2.3 1.2.9; 1.2.3-0 1.3.0",
     "~1.2; 1.2.0 1.2.9; 1.1.9 1.3.0 1.3.0-0",
     "~1.2.x-beta; 1.2.0; 1.2.0-beta 1.2.0-beta.1 1.3.0",
     "~1; 1.0.0 1.9.9; 0.9.9 2.0.0 2.0.0-0",

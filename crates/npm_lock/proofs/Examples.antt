@@ -1,4 +1,6 @@
 pub mod LockExamples
 pub mod FindingExamples
 pub mod OutcomeExamples
+pub mod SpecExamples
 pub mod WorkspaceExamples
+pub mod VersionOneExamples

@@ -1,11 +1,15 @@
 pub mod Examples
+pub mod GroupWalk
 pub mod Groups
 pub mod IndexUpdates
+pub mod ManifestWrites
 pub mod MoreFindings
 pub mod NameLists
 pub mod Nearest
+pub mod PackageLists
 pub mod Paths
 pub mod ProblemTexts
 pub mod Reports
+pub mod Requesting
 pub mod Searching
 pub mod Stepping

@@ -34,7 +34,7 @@ other x y differ = apart (bytes_eq y x) refl where
       cc (is_eq-slice_cmp x y, equal, differ)
   apart false same = refl
 
-itself : (x : List ℕ) → is_eq (slice_cmp nat_cmp x x) ≡ true
+pub itself : (x : List ℕ) → is_eq (slice_cmp nat_cmp x x) ≡ true
 itself x = is_eq-slice_cmp x x ∙ (bytes_eq-Decides x x).1 refl
 
 -- what is above a text is not that text

@@ -1,24 +1,59 @@
--- A problem that is made of copies of texts.
-use Rattle.std.proofs.Common.{◌≡◌, ℕ, List, Option, String, Global, option_map, refl, string_bytes}
-use Rattle.npm_lock.specs.Outcomes.{ProblemValue, problem_value}
+-- A dependency that is made of copies of texts.
+use Rattle.std.proofs.Common.{◌≡◌, ℕ, List, Bool, None, Option, Some, String, Global, option_and_then, option_map, refl}
+use Rattle.std.proofs.Common.{string_bytes}
+use Rattle.serde_json.specs.View.{view}
+use Rattle.npm_lock.specs.Outcomes.{DependencyValue, ProblemValue, dependency_value, version_of}
+use Rattle.npm_lock.specs.Private.PackageValue.{package_value}
+use Rattle.npm_lock.specs.declared.place.Package.{Package}
 use Rattle.npm_lock.specs.declared.problem.Kind.{Kind}
 
-abbrev of_texts : Kind → (from name spec : List ℕ) → (to version : Option (List ℕ)) → ProblemValue
-of_texts kind from name spec to version =
-    record { kind = kind; from = from; name = name; spec = spec; to = to; version = version }
+abbrev of_texts : (from : List ℕ) (from_version : Option (List ℕ)) (name spec : List ℕ) (to version : Option (List ℕ))
+    (dev optional peer : Bool) → DependencyValue
+of_texts from from_version name spec to version dev optional peer = record {
+  from = from;
+  from_version = from_version;
+  name = name;
+  spec = spec;
+  to = to;
+  version = version;
+  dev = dev;
+  optional = optional;
+  peer = peer;
+}
 
-moved : (P : ProblemValue → Type 0) (x y : ProblemValue) → x ≡ y → P y → P x
-moved P x y same holds = rw same holds
-
--- what holds of a problem with these texts holds of one with their copies
-pub with_texts : (P : ProblemValue → Type 0) (kind made : Kind) (from name spec : String Global)
-    (to version : Option (String Global)) (from_text name_text spec_text : List ℕ)
-    (to_text version_text : Option (List ℕ)) → kind ≡ made → string_bytes from ≡ from_text
+pub copied : (from name spec : String Global) (from_version to version : Option (String Global))
+    (dev optional peer : Bool) (from_text name_text spec_text : List ℕ)
+    (from_version_text to_text version_text : Option (List ℕ)) (is_dev is_optional is_peer : Bool)
+    → string_bytes from ≡ from_text → option_map string_bytes from_version ≡ from_version_text
     → string_bytes name ≡ name_text → string_bytes spec ≡ spec_text → option_map string_bytes to ≡ to_text
-    → option_map string_bytes version ≡ version_text
-    → P (of_texts made from_text name_text spec_text to_text version_text)
-    → P (problem_value (record { kind = kind; from = from; name = name; spec = spec; to = to; version = version }))
-with_texts P kind made from name spec to version from_text name_text spec_text to_text version_text a b c d e f holds =
-    let same : of_texts kind (string_bytes from) (string_bytes name) (string_bytes spec) (option_map string_bytes to)
-    (option_map string_bytes version) ≡ of_texts made from_text name_text spec_text to_text version_text =
-    rw (a, b, c, d, e, f) refl in moved P _ _ same holds
+    → option_map string_bytes version ≡ version_text → dev ≡ is_dev → optional ≡ is_optional → peer ≡ is_peer
+    → dependency_value (record {
+      from = from;
+      from_version = from_version;
+      name = name;
+      spec = spec;
+      to = to;
+      version = version;
+      dev = dev;
+      optional = optional;
+      peer = peer;
+    })
+    ≡ of_texts from_text from_version_text name_text spec_text to_text version_text is_dev is_optional is_peer
+copied from name spec from_version to version dev optional peer from_text name_text spec_text from_version_text to_text
+    version_text is_dev is_optional is_peer a b c d e f g h i = rw (a, b, c, d, e, f, g, h, i) refl
+
+-- what was found, seen by its texts
+pub folder_of : (found : Option Package)
+    → option_map (λ p. p.folder.now) found ≡ option_map (λ p. p.folder) (option_map package_value found)
+folder_of None = refl
+folder_of (Some found) = refl
+
+pub version_in : (found : Option Package) → option_and_then (λ p. version_of (view p.member.now)) found
+    ≡ option_and_then (λ p. version_of p.member) (option_map package_value found)
+version_in None = refl
+version_in (Some found) = refl
+
+-- what holds of a problem with a dependency holds of one with the same
+pub moved : (P : ProblemValue → Type 0) (kind : Kind) (made wanted : DependencyValue) → made ≡ wanted
+    → P (record { kind = kind; dependency = wanted }) → P (record { kind = kind; dependency = made })
+moved P kind made wanted same holds = rw same holds

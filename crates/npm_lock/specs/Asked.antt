@@ -7,11 +7,13 @@ use Rattle.std.specs.Option.{option_map_or, option_or}
 use Rattle.serde_json.specs.Data.{Data, array, boolean, null, number, object, string}
 use Rattle.serde_json.specs.Find.{as_str, get, to_float}
 
--- a package's dependency on a name: its spec, whether it must be found, and whether it is a peer
+-- a package's dependency on a name: its spec, whether it must be found, whether it is a peer, and whether it counts in
+-- development alone
 pub record AskedValue : Type 0 where
   pub spec : List ℕ
   pub is_needed : Bool
   pub is_peer : Bool
+  pub is_dev : Bool
 
 -- the spec of a name in a group: `^1` for `a` in `{"dependencies": {"a": "^1"}}`
 abbrev pub spec_in : (member : Data) → (group name : List ℕ) → Option (List ℕ)
@@ -40,15 +42,16 @@ abbrev pub accepted_of : (member : Data) → (name : List ℕ) → Option (List 
 accepted_of member name = spec_in member (codes "acceptDependencies") name
 
 -- the dependency on a name in a group
-abbrev pub asked_in : (member : Data) → (group name : List ℕ) → (is_needed is_peer : Bool) → Option AskedValue
-asked_in member group name is_needed is_peer = option_map
-    (λ spec. record { spec = spec; is_needed = is_needed; is_peer = is_peer }) (spec_in member group name)
+abbrev pub asked_in : (member : Data) → (group name : List ℕ) → (is_needed is_peer is_dev : Bool) → Option AskedValue
+asked_in member group name is_needed is_peer is_dev = option_map
+    (λ spec. record { spec = spec; is_needed = is_needed; is_peer = is_peer; is_dev = is_dev })
+    (spec_in member group name)
 
 -- Of one name the later group counts: `peerDependencies`, `dependencies`, `optionalDependencies` and, for a package in
 -- no `node_modules`, `devDependencies`.
 abbrev pub asked_of : (member : Data) → (is_installed : Bool) → (name : List ℕ) → Option AskedValue
 asked_of member is_installed name =
-    option_or (if is_installed then None else asked_in member (codes "devDependencies") name true false)
-    (option_or (asked_in member (codes "optionalDependencies") name false false)
-    (option_or (asked_in member (codes "dependencies") name true false)
-    (asked_in member (codes "peerDependencies") name (not (is_optional_peer member name)) true)))
+    option_or (if is_installed then None else asked_in member (codes "devDependencies") name true false true)
+    (option_or (asked_in member (codes "optionalDependencies") name false false false)
+    (option_or (asked_in member (codes "dependencies") name true false false)
+    (asked_in member (codes "peerDependencies") name (not (is_optional_peer member name)) true false)))

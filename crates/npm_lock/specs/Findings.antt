@@ -12,24 +12,32 @@ use Rattle.serde_json.specs.Find.{get}
 use Rattle.node_semver.specs.Versions.{VersionValue}
 use Rattle.npm_lock.specs.Asked.{AskedValue, asked_of}
 use Rattle.npm_lock.specs.Folders.{IsInstalled}
-use Rattle.npm_lock.specs.Outcomes.{IsEngineOutcome, IsOutcome, ProblemValue, problem_value}
+use Rattle.npm_lock.specs.Outcomes.{IsEngineOutcome, IsOutcome, JudgementValue, ProblemValue, UncheckedValue, dependency_of}
+use Rattle.npm_lock.specs.Outcomes.{fine, problem_value, unchecked_value, unknown, wrong}
 use Rattle.npm_lock.specs.Packages.{is_link}
 use Rattle.npm_lock.specs.declared.problem.Problems.{Problems}
 
 -- what is found out about a package, its problem with the version of Node, and about a dependency
 pub data Finding : Type 0 where
   of_package : (problem : Option ProblemValue) → Finding
-  of_dependency : (problem : Option ProblemValue) → (is_unchecked : Bool) → Finding
+  of_dependency : (problem : Option ProblemValue) → (unchecked : Option UncheckedValue) → Finding
 
 -- ---- a dependency, and all of one package
+
+-- the finding that is told of it: its problem, or why it is not checked
+abbrev pub finding_of : (folder : List ℕ) → (asker : Data) → (name : List ℕ) → AskedValue → JudgementValue → Finding
+finding_of folder asker name asked fine = of_dependency None None
+finding_of folder asker name asked (wrong kind found) =
+    of_dependency (Some (record { kind = kind; dependency = dependency_of folder asker name asked found })) None
+finding_of folder asker name asked (unknown reason found) = of_dependency None
+    (Some (record { reason = reason; dependency = dependency_of folder asker name asked (Some found) }))
 
 -- what is found out about the dependency of the package in this folder on a name
 pub data IsDependencyFinding (packages : Data) (folder : List ℕ) (asker : Data) (is_installed : Bool) (name : List ℕ)
     : Finding → Type 0 where
-  dependency : (asked : AskedValue) (problem : Option ProblemValue) (is_unchecked : Bool)
-      → asked_of asker is_installed name ≡ Some asked
-      → IsOutcome packages folder asker is_installed name asked problem is_unchecked
-      → IsDependencyFinding packages folder asker is_installed name (of_dependency problem is_unchecked)
+  dependency : (asked : AskedValue) (judgement : JudgementValue) → asked_of asker is_installed name ≡ Some asked
+      → IsOutcome packages folder asker is_installed name asked judgement
+      → IsDependencyFinding packages folder asker is_installed name (finding_of folder asker name asked judgement)
 
 -- the names that a package depends on: each once, in the order of their bytes
 pub record AreNames (asker : Data) (is_installed : Bool) (names : List (List ℕ)) : Type 0 where
@@ -85,31 +93,32 @@ keys_of (member key value others) = key ∷ keys_of others
 -- the problem that was found, if there is one
 abbrev pub problem_of : Finding → Option ProblemValue
 problem_of (of_package problem) = problem
-problem_of (of_dependency problem is_unchecked) = problem
+problem_of (of_dependency problem unchecked) = problem
+
+-- the dependency that is not checked, if it is one
+abbrev pub unchecked_of : Finding → Option UncheckedValue
+unchecked_of (of_package problem) = None
+unchecked_of (of_dependency problem unchecked) = unchecked
 
 -- which findings each count counts
 abbrev pub is_package : Finding → Bool
 is_package (of_package problem) = true
-is_package (of_dependency problem is_unchecked) = false
+is_package (of_dependency problem unchecked) = false
 
 abbrev pub is_dependency : Finding → Bool
 is_dependency (of_package problem) = false
-is_dependency (of_dependency problem is_unchecked) = true
-
-abbrev pub is_unchecked_finding : Finding → Bool
-is_unchecked_finding (of_package problem) = false
-is_unchecked_finding (of_dependency problem is_unchecked) = is_unchecked
+is_dependency (of_dependency problem unchecked) = true
 
 -- a count in 64 bits, which stops at their greatest number
 abbrev pub counted : ℕ → ℕ
 counted n = min n (2 ^ 64 - 1)
 
--- the problems and counts of these findings
+-- the problems, the dependencies that are not checked, and the counts of these findings
 pub record IsReport (found : List Finding) (problems : Problems) : Type 0 where
   pub list : map problem_value problems.list.items ≡ filter_map problem_of found
+  pub unchecked : map unchecked_value problems.unchecked.items ≡ filter_map unchecked_of found
   pub packages : problems.packages ≡ counted (count_by is_package found)
   pub dependencies : problems.dependencies ≡ counted (count_by is_dependency found)
-  pub unchecked : problems.unchecked ≡ counted (count_by is_unchecked_finding found)
 
 -- ---- a lock file
 

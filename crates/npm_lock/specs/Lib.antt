@@ -15,6 +15,12 @@ pub mod Outcomes  -- what is wrong with a dependency, and with the version of No
 -- ---- the whole file
 pub mod Findings  -- all problems of a lock file in their order, and the counts
 pub mod ProblemJson  -- a problem as a JSON object
+pub mod Dependents  -- by which texts an installed package is asked for
 pub mod Faults  -- which values are no lock file
+pub mod VersionOne  -- lock files of version 1, and the `packages` that they stand for
+-- ---- a manifest beside the lock file
+pub mod Mismatches  -- where a manifest and the lock file do not ask for the same
+pub mod MismatchJson  -- such a mismatch as a JSON object
+pub mod ManifestPlace  -- a manifest in the place of a package
 -- ---- not part of any public contract: what private functions compute
 pub mod Private

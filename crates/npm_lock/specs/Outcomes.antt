@@ -1,5 +1,5 @@
 -- What is wrong with a dependency, and with the version of Node: npm's "npm ls" and "package.json", "engines".
-use Rattle.std.specs.Prelude.{◌≡◌, ℕ, List, Bool, true, false, Option, Some, None, option_and_then, option_map}
+use Rattle.std.specs.Prelude.{◌≡◌, ◌||◌, not, ℕ, List, Bool, true, false, Option, Some, None, option_and_then, option_map}
 use Rattle.std.specs.Prelude.{if◌then◌else◌, string_bytes, codes}
 use Rattle.serde_json.specs.Data.{Data}
 use Rattle.serde_json.specs.Find.{as_str, get}
@@ -7,7 +7,11 @@ use Rattle.node_semver.specs.Versions.{version_text}
 use Rattle.node_semver.specs.Versions.{VersionValue}
 use Rattle.npm_lock.specs.declared.problem.Kind.{Kind}
 use Rattle.npm_lock.specs.declared.problem.Kind.TheVariants.{Engine, Invalid, Missing, PeerLocal}
+use Rattle.npm_lock.specs.declared.problem.Dependency.{Dependency}
 use Rattle.npm_lock.specs.declared.problem.Problem.{Problem}
+use Rattle.npm_lock.specs.declared.problem.Unchecked.{Unchecked}
+use Rattle.npm_lock.specs.declared.problem.Reason.{Reason}
+use Rattle.npm_lock.specs.declared.problem.Reason.TheVariants as Reasons
 use Rattle.npm_lock.specs.declared.verdict.Verdict.{Verdict}
 use Rattle.npm_lock.specs.declared.verdict.Verdict.TheVariants as Verdicts
 use Rattle.npm_lock.specs.Asked.{AskedValue, accepted_of, has_true}
@@ -16,25 +20,49 @@ use Rattle.npm_lock.specs.Verdict.{IsContained, IsVerdictOfBoth}
 use Rattle.npm_lock.specs.Workspaces.{IsWorkspace}
 use Rattle.npm_lock.specs.declared.workspace.Workspace.TheVariants as Workspaces
 
--- a problem: the package in the folder `from` depends on the name by this spec, and the package in `to` was found
-pub record ProblemValue : Type 0 where
-  pub kind : Kind
+-- A dependency of a package, and what was found for it: the package in the folder `from` depends on the name by this spec,
+-- and the package in `to` was found.
+pub record DependencyValue : Type 0 where
   pub from : List ℕ
+  pub from_version : Option (List ℕ)
   pub name : List ℕ
   pub spec : List ℕ
   pub to : Option (List ℕ)
   pub version : Option (List ℕ)
+  pub dev : Bool
+  pub optional : Bool
+  pub peer : Bool
 
--- a problem as a contract sees it
-abbrev pub problem_value : Problem → ProblemValue
-problem_value problem = record {
-  kind = problem.kind;
-  from = string_bytes problem.from;
-  name = string_bytes problem.name;
-  spec = string_bytes problem.spec;
-  to = option_map string_bytes problem.to;
-  version = option_map string_bytes problem.version;
+-- a problem with a dependency
+pub record ProblemValue : Type 0 where
+  pub kind : Kind
+  pub dependency : DependencyValue
+
+-- a dependency that is not checked, and why
+pub record UncheckedValue : Type 0 where
+  pub reason : Reason
+  pub dependency : DependencyValue
+
+-- what a contract sees of them
+abbrev pub dependency_value : Dependency → DependencyValue
+dependency_value dependency = record {
+  from = string_bytes dependency.from;
+  from_version = option_map string_bytes dependency.from_version;
+  name = string_bytes dependency.name;
+  spec = string_bytes dependency.spec;
+  to = option_map string_bytes dependency.to;
+  version = option_map string_bytes dependency.version;
+  dev = dependency.dev;
+  optional = dependency.optional;
+  peer = dependency.peer;
 }
+
+abbrev pub problem_value : Problem → ProblemValue
+problem_value problem = record { kind = problem.kind; dependency = dependency_value problem.dependency }
+
+abbrev pub unchecked_value : Unchecked → UncheckedValue
+unchecked_value unchecked =
+    record { reason = unchecked.reason; dependency = dependency_value unchecked.dependency }
 
 -- the version of a package, if it has one
 abbrev pub version_of : (member : Data) → Option (List ℕ)
@@ -42,20 +70,25 @@ version_of member = option_and_then as_str (get (codes "version") member)
 
 -- ---- dependencies
 
--- nothing was found: there is no folder, and no version
-abbrev pub missing_problem : (folder name spec : List ℕ) → ProblemValue
-missing_problem folder name spec =
-    record { kind = Missing; from = folder; name = name; spec = spec; to = None; version = None }
+-- the lock file marks the package so, as in `"dev": true`, or the dependency itself is so
+abbrev pub is_marked : (mark : List ℕ) → (member : Data) → (is_so : Bool) → Bool
+is_marked mark member is_so = has_true mark member || is_so
 
--- a package was found, which may have no version
-abbrev pub found_problem : Kind → (folder name spec : List ℕ) → Package → ProblemValue
-found_problem kind folder name spec found = record {
-  kind = kind;
+-- The dependency of the package in this folder on a name, and the package that was found, if one was. It is `dev` if the lock
+-- file marks the package so, or the name is in `devDependencies`; `optional` if it marks the package so, or the name need
+-- not be found; and `peer` if it marks the package so, or the name is in `peerDependencies`.
+abbrev pub dependency_of : (folder : List ℕ) → (asker : Data) → (name : List ℕ) → AskedValue → Option Package
+    → DependencyValue
+dependency_of folder asker name asked found = record {
   from = folder;
+  from_version = version_of asker;
   name = name;
-  spec = spec;
-  to = Some found.folder;
-  version = version_of found.member;
+  spec = asked.spec;
+  to = option_map (λ p. p.folder) found;
+  version = option_and_then (λ p. version_of p.member) found;
+  dev = is_marked (codes "dev") asker asked.is_dev;
+  optional = is_marked (codes "optional") asker (not asked.is_needed);
+  peer = is_marked (codes "peer") asker asked.is_peer;
 }
 
 -- a peer of an installed package that is in the `node_modules` of that very package
@@ -72,36 +105,40 @@ pub data IsVerdictOn (folder : List ℕ) (asker : Data) (name : List ℕ) (asked
   workspace : IsWorkspace folder asker package_found.folder Workspaces.Is
       → IsVerdictOn folder asker name asked package_found Verdicts.Valid
   unread : IsWorkspace folder asker package_found.folder Workspaces.Unread
-      → IsVerdictOn folder asker name asked package_found Verdicts.Unchecked
+      → IsVerdictOn folder asker name asked package_found (Verdicts.Unchecked Reasons.Workspace)
   by_spec : (verdict : Verdict) → IsWorkspace folder asker package_found.folder Workspaces.IsNot
       → IsVerdictOfBoth (version_of package_found.member) asked.spec (accepted_of asker name) verdict
       → IsVerdictOn folder asker name asked package_found verdict
 
--- the problem of a dependency of the package in this folder, or none, and whether the dependency is not checked
+-- what is found out about a dependency: nothing is wrong; something is, with the package that was found, if one was; or it
+-- is not checked
+pub data JudgementValue : Type 0 where
+  fine : JudgementValue
+  wrong : Kind → Option Package → JudgementValue
+  unknown : Reason → Package → JudgementValue
+
+-- what is found out about a dependency of the package in this folder
 pub data IsOutcome (packages : Data) (folder : List ℕ) (asker : Data) (is_installed : Bool) (name : List ℕ)
-    (asked : AskedValue) : Option ProblemValue → (is_unchecked : Bool) → Type 0 where
+    (asked : AskedValue) : JudgementValue → Type 0 where
   absent : IsFound packages name folder None → asked.is_needed ≡ false
-      → IsOutcome packages folder asker is_installed name asked None false
+      → IsOutcome packages folder asker is_installed name asked fine
   missing : IsFound packages name folder None → asked.is_needed ≡ true
-      → IsOutcome packages folder asker is_installed name asked
-      (Some (missing_problem folder name asked.spec)) false
+      → IsOutcome packages folder asker is_installed name asked (wrong Missing None)
   local_peer : (found : Package) → IsFound packages name folder (Some found)
       → IsLocalPeer packages folder is_installed name asked found
-      → IsOutcome packages folder asker is_installed name asked
-      (Some (found_problem PeerLocal folder name asked.spec found)) false
+      → IsOutcome packages folder asker is_installed name asked (wrong PeerLocal (Some found))
   invalid : (found : Package) → IsFound packages name folder (Some found)
       → ¬ IsLocalPeer packages folder is_installed name asked found
       → IsVerdictOn folder asker name asked found Verdicts.Invalid
-      → IsOutcome packages folder asker is_installed name asked
-      (Some (found_problem Invalid folder name asked.spec found)) false
+      → IsOutcome packages folder asker is_installed name asked (wrong Invalid (Some found))
   valid : (found : Package) → IsFound packages name folder (Some found)
       → ¬ IsLocalPeer packages folder is_installed name asked found
       → IsVerdictOn folder asker name asked found Verdicts.Valid
-      → IsOutcome packages folder asker is_installed name asked None false
-  unchecked : (found : Package) → IsFound packages name folder (Some found)
+      → IsOutcome packages folder asker is_installed name asked fine
+  unchecked : (found : Package) (reason : Reason) → IsFound packages name folder (Some found)
       → ¬ IsLocalPeer packages folder is_installed name asked found
-      → IsVerdictOn folder asker name asked found Verdicts.Unchecked
-      → IsOutcome packages folder asker is_installed name asked None true
+      → IsVerdictOn folder asker name asked found (Verdicts.Unchecked reason)
+      → IsOutcome packages folder asker is_installed name asked (unknown reason found)
 
 -- ---- the version of Node
 
@@ -111,15 +148,22 @@ abbrev pub engine_of : (member : Data) → Option (List ℕ)
 engine_of member = if has_true (codes "optional") member then None
     else option_and_then as_str (option_and_then (get (codes "node")) (get (codes "engines") member))
 
--- this version of Node lies in no set of the range that the package in this folder has for it
-abbrev pub engine_problem : (folder spec : List ℕ) → VersionValue → ProblemValue
-engine_problem folder spec node = record {
+-- The version of Node does not satisfy the range that the package in this folder has for it. The lock file alone says whether
+-- this is `dev`, `optional` or `peer`.
+abbrev pub engine_problem : (folder : List ℕ) → (member : Data) → (spec : List ℕ) → VersionValue → ProblemValue
+engine_problem folder member spec node = record {
   kind = Engine;
-  from = folder;
-  name = codes "node";
-  spec = spec;
-  to = None;
-  version = Some (version_text node);
+  dependency = record {
+    from = folder;
+    from_version = version_of member;
+    name = codes "node";
+    spec = spec;
+    to = None;
+    version = Some (version_text node);
+    dev = is_marked (codes "dev") member false;
+    optional = is_marked (codes "optional") member false;
+    peer = is_marked (codes "peer") member false;
+  };
 }
 
 -- the problem of the package in this folder with a version of Node, or none
@@ -128,4 +172,4 @@ pub data IsEngineOutcome (node : VersionValue) (folder : List ℕ) (member : Dat
   admitted : (spec : List ℕ) → engine_of member ≡ Some spec → IsContained spec node true
       → IsEngineOutcome node folder member None
   engine : (spec : List ℕ) → engine_of member ≡ Some spec → IsContained spec node false
-      → IsEngineOutcome node folder member (Some (engine_problem folder spec node))
+      → IsEngineOutcome node folder member (Some (engine_problem folder member spec node))

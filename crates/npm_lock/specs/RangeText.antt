@@ -1,31 +1,82 @@
--- Which specs of dependencies are ranges: npm's "package.json", "dependencies", and `npm-package-arg`.
-use Rattle.std.specs.Prelude.{◌==◌, ◌||◌, ℕ, List, [], ◌∷◌, Bool, if◌then◌else◌, Option, Some, None, codes}
-use Rattle.std.specs.Prelude.{length, option_and_then}
+-- What npm reads a spec as: npm's "package.json", "dependencies", and `npm-package-arg`.
+use Rattle.std.specs.Prelude.{◌==◌, ◌||◌, ◌&&◌, not, ℕ, List, [], ◌∷◌, Bool, if◌then◌else◌, Option, Some, None, codes}
+use Rattle.std.specs.Prelude.{length, option_and_then, nat_eq, unwrap_or}
 use Rattle.std.specs.Option.{option_map_or}
-use Rattle.std.specs.List.{after_first, list_all, list_any, position_or_len}
+use Rattle.std.specs.List.{after_first, before_first, ends_with, list_all, list_any, position_or_len, starts_with}
+use Rattle.std.specs.Str.{trim}
 use Rattle.npm_lock.specs.Texts.{rest_after}
-use Rattle.std.specs.Char.{is_ascii_alphanumeric}
+use Rattle.std.specs.Char.{is_ascii_alphabetic, is_ascii_alphanumeric}
 
--- the byte `@`
+-- what a spec is: a range or a tag of a registry; a URL, a repository, a file or a folder; or what npm refuses
+pub data SpecValue : Type 0 where
+  in_registry : (range : List ℕ) → SpecValue
+  location : SpecValue
+  refused : SpecValue
+
+-- ---- bytes
+
 abbrev pub is_at_sign : ℕ → Bool
 is_at_sign b = b == 64
+
+abbrev pub is_colon : ℕ → Bool
+is_colon b = b == 58
+
+abbrev pub is_slash : ℕ → Bool
+is_slash b = b == 47
 
 -- letters, digits and `-_.!~*'()`, of which tags and names are made
 abbrev pub is_tag_byte : ℕ → Bool
 is_tag_byte b = is_ascii_alphanumeric b || list_any (λ c. b == c) (codes "-_.!~*'()")
 
--- a text that may be a tag: `latest`, `next-11`
-abbrev pub is_tag : List ℕ → Bool
-is_tag text = list_all is_tag_byte text
+-- ---- URLs, repositories, files and folders
 
--- the text after the `@` of `NAME@RANGE`, or the other text if there is none: `a@^1` gives `^1`
+-- a byte or more, and all of them letters
+abbrev pub are_letters : List ℕ → Bool
+are_letters text = not (length text == 0) && list_all is_ascii_alphabetic text
+
+-- What comes before the `:` of a URL or of a repository: letters, also after `git+`, or a user's name and an `@`. So
+-- `https`, `github`, `git+ssh` and `git@gist.github.com`.
+abbrev pub is_scheme : List ℕ → Bool
+is_scheme text = are_letters (unwrap_or (rest_after (codes "git+") text) text) || list_any is_at_sign text
+
+-- a text that begins as a URL: `github:a`, and not `^1 || a:b`
+abbrev pub is_url : List ℕ → Bool
+is_url text =
+    not (position_or_len is_colon text == length text) && is_scheme (before_first is_colon text)
+
+-- an archive: `a.tgz`
+abbrev pub is_archive : List ℕ → Bool
+is_archive text = ends_with nat_eq text (codes ".tgz") || ends_with nat_eq text (codes ".tar.gz")
+    || ends_with nat_eq text (codes ".tar")
+
+-- a URL, a repository, a file or a folder: `https://a/b`, `github:a/b`, `a/b`, `./a`, `a.tgz`
+abbrev pub is_location : List ℕ → Bool
+is_location text = starts_with nat_eq text (codes ".") || list_any is_slash text || is_url text || is_archive text
+
+-- ---- texts: the empty one is `*`
+
+abbrev pub filled : List ℕ → List ℕ
+filled [] = codes "*"
+filled (b ∷ text) = b ∷ text
+
+-- a text that may be a tag: `latest`, `next-11`. White space around it does not count.
+abbrev pub is_tag : List ℕ → Bool
+is_tag text = list_all is_tag_byte (trim text)
+
+-- ---- aliases: `npm:NAME@TEXT`
+
+-- the text after the `@` of `NAME@TEXT`, or the other text if there is none: `a@^1` gives `^1`, and `a@` gives `*`
 abbrev pub range_of_name : (name other : List ℕ) → List ℕ
 range_of_name name other =
-    if position_or_len is_at_sign name == length name then other else after_first is_at_sign name
+    if position_or_len is_at_sign name == length name then other else filled (after_first is_at_sign name)
 
--- the range of `NAME@RANGE`. A name alone gives `*`, and a text that can be no name is a range itself: `^1`.
+-- a text that can be a name
+abbrev pub is_name : List ℕ → Bool
+is_name text = not (length text == 0) && list_all is_tag_byte text
+
+-- the text of `NAME@TEXT`. A name alone gives `*`, and a text that can be no name stands for itself: `^1`.
 abbrev pub range_of_plain : List ℕ → List ℕ
-range_of_plain alias = range_of_name alias (if is_tag alias then codes "*" else alias)
+range_of_plain alias = range_of_name alias (if is_name alias then codes "*" else alias)
 
 -- the same for a name that may have a scope: `@s/a@^1` gives `^1`, and `@s/a` gives `*`
 abbrev pub range_of_alias : List ℕ → List ℕ
@@ -42,14 +93,16 @@ abbrev pub alias_of : List ℕ → Option (List ℕ)
 alias_of spec = option_and_then (after_either 58 58) (option_and_then (after_either 109 77)
     (option_and_then (after_either 112 80) (after_either 110 78 spec)))
 
--- the text after `npm:NAME@` of an alias, and the whole of any other spec: `npm:a@^1` and `^1` give `^1`
-abbrev pub unaliased : List ℕ → List ℕ
-unaliased spec = option_map_or range_of_alias (alias_of spec) spec
+-- ---- specs
 
--- a `/` or a `:`
-abbrev pub is_path_byte : ℕ → Bool
-is_path_byte b = (b == 47) || (b == 58)
+-- an alias of what is in no registry is refused: `npm:a@github:b/c`
+abbrev pub aliased : (range : List ℕ) → SpecValue
+aliased range = if is_location range then refused else in_registry range
 
--- the text that is a range or a tag; a URL, a file, a folder or a repository has none: `github:a/b`, `file:../a`
-abbrev pub range_text : List ℕ → Option (List ℕ)
-range_text spec = if list_any is_path_byte (unaliased spec) then None else Some (unaliased spec)
+-- a spec that is no alias
+abbrev pub plain_spec : (spec : List ℕ) → SpecValue
+plain_spec spec = if is_location spec then location else in_registry (filled spec)
+
+-- what a spec is: `^1` and `npm:a@^1` are the text `^1`, and the empty spec is `*`
+abbrev pub spec_of : (spec : List ℕ) → SpecValue
+spec_of spec = option_map_or (λ alias. aliased (range_of_alias alias)) (alias_of spec) (plain_spec spec)

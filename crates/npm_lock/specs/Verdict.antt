@@ -1,44 +1,67 @@
--- Whether a version satisfies a dependency's spec.
-use Rattle.std.specs.Prelude.{◌≡◌, ◌==◌, ◌||◌, ℕ, List, Bool, true, false, Option, Some, None, IfSome, bytes_eq}
-use Rattle.std.specs.Prelude.{codes, length}
-use Rattle.node_semver.specs.Ranges.{AreSetsOfText, IsRefused, RangeContains, TextAdmits}
-use Rattle.semver_cuts.specs.Ends.{Ends}
-use Rattle.node_semver.specs.Versions.{VersionValue}
-use Rattle.node_semver.specs.Versions.{IsVersionText}
-use Rattle.npm_lock.specs.RangeText.{is_tag, range_text}
+-- Whether a version satisfies a dependency's spec: npm's "package.json", "dependencies", and `npm install`'s check of
+-- "engines".
+use Rattle.std.specs.Prelude.{◌≡◌, ℕ, List, Bool, true, false, Option, Some, None, IfSome, bytes_eq, codes}
+use Rattle.std.specs.Str.{trim}
+use Rattle.node_semver.specs.NpmRanges.{IsNpmRefused, NpmOptions, NpmTextAdmits, with_plain_spaces}
+use Rattle.node_semver.specs.Versions.{IsVersionText, VersionValue}
+use Rattle.npm_lock.specs.RangeText.{in_registry, is_tag, location, refused, spec_of}
+use Rattle.npm_lock.specs.declared.problem.Reason.TheVariants.{Location, Tag}
 use Rattle.npm_lock.specs.declared.verdict.Verdict.{Verdict}
 use Rattle.npm_lock.specs.declared.verdict.Verdict.TheVariants.{Invalid, Unchecked, Valid}
 
--- `*` and the empty text admit any version, a prerelease too
-abbrev pub asks_for_any : List ℕ → Bool
-asks_for_any text = (length text == 0) || bytes_eq text (codes "*")
+-- ---- how npm reads ranges: those of dependencies in loose form, and those of engines with prereleases included
+
+abbrev pub of_dependencies : NpmOptions
+of_dependencies = record { loose = true; include_prerelease = false }
+
+abbrev pub of_engines : NpmOptions
+of_engines = record { loose = false; include_prerelease = true }
+
+-- the text is no range
+abbrev pub IsNoRange : NpmOptions → (text : List ℕ) → Type 0
+IsNoRange options text = IsNpmRefused options (with_plain_spaces text)
+
+-- the text is a range that admits the version
+abbrev pub Admits : NpmOptions → (text : List ℕ) → VersionValue → Type 0
+Admits options text v = NpmTextAdmits options (with_plain_spaces text) v
+
+-- ---- dependencies
+
+-- `*` admits any version, a prerelease too
+abbrev pub asks_for_any : (text : List ℕ) → Bool
+asks_for_any text = bytes_eq (trim text) (codes "*")
 
 -- The verdict on a text that is a range or a tag, for the version of the package that was found, if it has one. A text
--- that is refused as a range is a tag where it can be one. A version that is no version text does not satisfy a range.
+-- that is no range is a tag where it can be one. A version that is no version text does not satisfy a range.
 pub data IsVerdictOfText (version : Option (List ℕ)) (text : List ℕ) : Verdict → Type 0 where
   any : asks_for_any text ≡ true → IsVerdictOfText version text Valid
-  tag : asks_for_any text ≡ false → IsRefused text → is_tag text ≡ true → IsVerdictOfText version text Unchecked
-  bad_range : asks_for_any text ≡ false → IsRefused text → is_tag text ≡ false → IsVerdictOfText version text Invalid
-  satisfied : (written : List ℕ) (v : VersionValue) → asks_for_any text ≡ false → ¬ IsRefused text
-      → version ≡ Some written → IsVersionText written v → TextAdmits text v → IsVerdictOfText version text Valid
-  unsatisfied : (written : List ℕ) (v : VersionValue) → asks_for_any text ≡ false → ¬ IsRefused text
-      → version ≡ Some written → IsVersionText written v → ¬ TextAdmits text v → IsVerdictOfText version text Invalid
-  no_version : asks_for_any text ≡ false → ¬ IsRefused text
+  tag : asks_for_any text ≡ false → IsNoRange of_dependencies text → is_tag text ≡ true
+      → IsVerdictOfText version text (Unchecked Tag)
+  bad_range : asks_for_any text ≡ false → IsNoRange of_dependencies text → is_tag text ≡ false
+      → IsVerdictOfText version text Invalid
+  satisfied : (written : List ℕ) (v : VersionValue) → asks_for_any text ≡ false → ¬ IsNoRange of_dependencies text
+      → version ≡ Some written → IsVersionText written v → Admits of_dependencies text v
+      → IsVerdictOfText version text Valid
+  unsatisfied : (written : List ℕ) (v : VersionValue) → asks_for_any text ≡ false → ¬ IsNoRange of_dependencies text
+      → version ≡ Some written → IsVersionText written v → ¬ Admits of_dependencies text v
+      → IsVerdictOfText version text Invalid
+  no_version : asks_for_any text ≡ false → ¬ IsNoRange of_dependencies text
       → IfSome version (λ written. (v : VersionValue) → ¬ IsVersionText written v)
       → IsVerdictOfText version text Invalid
 
--- the verdict on a spec alone: a text that is neither a range nor a tag is not checked
+-- the verdict on a spec alone: a location is not checked, and what npm refuses no version satisfies
 pub data IsVerdict (version : Option (List ℕ)) (spec : List ℕ) : Verdict → Type 0 where
-  other : range_text spec ≡ None → IsVerdict version spec Unchecked
-  of_text : (text : List ℕ) (verdict : Verdict) → range_text spec ≡ Some text → IsVerdictOfText version text verdict
+  elsewhere : spec_of spec ≡ location → IsVerdict version spec (Unchecked Location)
+  never : spec_of spec ≡ refused → IsVerdict version spec Invalid
+  of_text : (range : List ℕ) (verdict : Verdict) → spec_of spec ≡ in_registry range → IsVerdictOfText version range verdict
       → IsVerdict version spec verdict
 
--- the better of two verdicts: `Valid` before `Unchecked` before `Invalid`
+-- the better of two verdicts: `Valid` before `Unchecked` before `Invalid`, and of two that are not checked the first
 abbrev pub better : Verdict → Verdict → Verdict
 better Valid second = Valid
-better Unchecked Valid = Valid
-better Unchecked Unchecked = Unchecked
-better Unchecked Invalid = Unchecked
+better (Unchecked reason) Valid = Valid
+better (Unchecked reason) (Unchecked other) = Unchecked reason
+better (Unchecked reason) Invalid = Unchecked reason
 better Invalid second = second
 
 -- the verdict on a spec, beside which another may be accepted: the better one counts
@@ -49,9 +72,9 @@ pub data IsVerdictOfBoth (version : Option (List ℕ)) (spec : List ℕ) (accept
   both : (other : List ℕ) (first second : Verdict) → accepted ≡ Some other → IsVerdict version spec first
       → IsVerdict version other second → IsVerdictOfBoth version spec accepted (better first second)
 
--- whether a version lies inside a set of a range text. It may be a prerelease of any triple.
+-- ---- engines
+
+-- whether a range for Node admits a version. No version is admitted by a text that is no range.
 pub data IsContained (text : List ℕ) (v : VersionValue) : Bool → Type 0 where
-  inside : (sets : List (Ends VersionValue)) → AreSetsOfText text sets → RangeContains sets v → IsContained text v true
-  outside : (sets : List (Ends VersionValue)) → AreSetsOfText text sets → ¬ RangeContains sets v
-      → IsContained text v false
-  no_range : IsRefused text → IsContained text v false
+  inside : Admits of_engines text v → IsContained text v true
+  outside : ¬ Admits of_engines text v → IsContained text v false

@@ -17,6 +17,8 @@ pub(crate) struct Asked<'v> {
     /// It is a problem if the name is found nowhere.
     pub(crate) is_needed: bool,
     pub(crate) is_peer: bool,
+    /// It counts in development alone.
+    pub(crate) is_dev: bool,
 }
 
 /// What a package asks for, by name.
@@ -29,11 +31,11 @@ pub(crate) fn asked_of(alloc: Global, asker: &Value, is_installed: bool) -> Resu
         → at_name all name ≡ Asks.asked_of (view asker.now) is_installed name) }
 {
     let mut all = BTreeMap::new(alloc);
-    add_group(&mut all, asker, "peerDependencies", true, true)?;
-    add_group(&mut all, asker, "dependencies", true, false)?;
-    add_group(&mut all, asker, "optionalDependencies", false, false)?;
+    add_group(&mut all, asker, "peerDependencies", true, true, false)?;
+    add_group(&mut all, asker, "dependencies", true, false, false)?;
+    add_group(&mut all, asker, "optionalDependencies", false, false, false)?;
     if !is_installed {
-        add_group(&mut all, asker, "devDependencies", true, false)?;
+        add_group(&mut all, asker, "devDependencies", true, false, true)?;
     }
     Ok(all)
 }
@@ -45,10 +47,11 @@ fn add_group<'v>(
     group: &str,
     is_needed: bool,
     is_peer: bool,
+    is_dev: bool,
 ) -> Result<()>
     ensures { OnOk result ((name : List ℕ) → at_name all.new name
         ≡ option_or (Asks.asked_in (view asker.now) group.now name
-        (is_needed_in (view asker.now) is_needed is_peer name) is_peer) (at_name all.old name)) }
+        (is_needed_in (view asker.now) is_needed is_peer name) is_peer is_dev) (at_name all.old name)) }
 {
     let Some(specs) = asker.get(group).and_then(Value::as_object) else {
         return Ok(());
@@ -61,6 +64,7 @@ fn add_group<'v>(
                 spec,
                 is_needed,
                 is_peer,
+                is_dev,
             };
             all.insert(name, asked)?;
         }

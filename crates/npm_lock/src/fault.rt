@@ -1,7 +1,7 @@
 //! Why a lock file is not checked, and values that are none.
 ghost use Rattle.std.specs.Prelude.{◌≡◌, IfErr, IfOk, None, Some, codes};
 ghost use Rattle.std.specs.Result.{result_err};
-ghost use Rattle.serde_json.specs.Find.{get};
+ghost use Rattle.serde_json.specs.Find.{as_object, get};
 ghost use Rattle.serde_json.specs.View.{view};
 ghost use Rattle.npm_lock.specs.Private.PackageValue.{packages_data};
 ghost use Rattle.npm_lock.specs.Faults as Faults;
@@ -16,8 +16,8 @@ use thiserror::Error;
 /// Why a JSON value is no lock file that is read here.
 #[derive(Clone, Copy, Debug, PartialEq, Eq, Drop, Error)]
 pub enum Fault {
-    /// `lockfileVersion` is neither 2 nor 3.
-    #[error("`lockfileVersion` is neither 2 nor 3")]
+    /// `lockfileVersion` is no version that is read: 2 and 3, and by `check_any` also 1.
+    #[error("`lockfileVersion` is not 1, 2 or 3")]
     Version,
     /// `packages` is missing, or is no object.
     #[error("`packages` is no object")]
@@ -25,6 +25,12 @@ pub enum Fault {
     /// A member of `packages` is no object.
     #[error("a member of `packages` is no object")]
     Package,
+    /// In a file of version 1 a member of `dependencies` is no object.
+    #[error("a member of `dependencies` is no object")]
+    Entry,
+    /// A manifest is no object, or that of a file of version 1 is a link.
+    #[error("the manifest is no object, or has `link`")]
+    Manifest,
     /// `resolved` of a link names no package of the file.
     #[error("`resolved` of a link names no package of the file")]
     Link,
@@ -103,13 +109,27 @@ fn check_member(lock: Lock<'_>, member: &Value) -> Result<(), Fault>
             _ => Err(Fault::Link),
         };
     }
-    if !member.get("version").is_none_or(Value::is_string) {
+    check_package(member)
+}
+
+/// Fails if a package that is no link has a fault.
+pub(crate) fn check_package(member: &Value) -> Result<(), Fault>
+    ensures { result_err result ≡ Faults.package_fault (view member.now) }
+{
+    if !has_text_version(member) {
         return Err(Fault::PackageVersion);
     }
     check_group(member, "peerDependencies")?;
     check_group(member, "dependencies")?;
     check_group(member, "optionalDependencies")?;
     check_group(member, "devDependencies")
+}
+
+/// Returns `true` if `version` is a string, or absent.
+pub(crate) fn has_text_version(member: &Value) -> bool
+    ensures { result ≡ Faults.has_text_version (view member.now) }
+{
+    member.get("version").is_none_or(Value::is_string)
 }
 
 /// Fails if a group of dependencies is there, and is neither `null` nor an object of strings.
@@ -122,6 +142,13 @@ fn check_group(member: &Value, group: &str) -> Result<(), Fault>
     if group.is_null() {
         return Ok(());
     }
+    check_specs(group)
+}
+
+/// Fails if this is no object of strings.
+pub(crate) fn check_specs(group: &Value) -> Result<(), Fault>
+    ensures { result_err result ≡ Faults.specs_fault (as_object (view group.now)) }
+{
     let specs = group.as_object().ok_or(Fault::Dependencies)?;
     for (_, spec) in specs.iter() {
         spec.as_str().ok_or(Fault::Spec)?;

@@ -1,11 +1,17 @@
 //! Checks the packages of a lock file, `package-lock.json`, against what they depend on, as `npm ls` does.
 #![tactic(auto)]
 
+mod any_version;
 mod asked;
+mod dependents;
 mod fault;
 mod folder;
+mod group;
 mod index;
 mod lock_file;
+mod manifest;
+mod manifest_place;
+mod mismatch;
 mod outcome;
 mod place;
 mod problem;
@@ -15,11 +21,19 @@ mod search;
 mod tests;
 mod text;
 mod verdict;
+mod version_one;
+mod version_one_fault;
 mod workspace;
 
+pub use any_version::check_any;
+pub use dependents::Dependents;
 pub use fault::{CheckError, Fault};
+pub use group::Group;
 pub use lock_file::check;
-pub use problem::{Kind, Problem, Problems};
+pub use manifest::mismatches_of;
+pub use manifest_place::put_manifest;
+pub use mismatch::Mismatch;
+pub use problem::{Dependency, Kind, Problem, Problems, Reason, Unchecked};
 
 /// The result of what fails by memory alone, if no other error is named.
 type Result<T, E = std::alloc::AllocError> = std::result::Result<T, E>;

@@ -16,7 +16,7 @@ use crate::asked::asked_of;
 use crate::fault::{CheckError, lock_of};
 use crate::folder::is_installed;
 use crate::index::Index;
-use crate::outcome::{engine_problem, outcome_of};
+use crate::outcome::{add_judgement, engine_problem, judgement_of};
 use crate::place::{Lock, Package, is_link};
 use crate::problem::Problems;
 use crate::search::places_from;
@@ -29,7 +29,8 @@ use std::alloc::Global;
 ///
 /// # Errors
 ///
-/// - `Refused`: the value is no lock file of version 2 or 3, or a member that counts has the wrong type.
+/// - `Refused`: the value is no lock file of version 2 or 3, or a member that counts has the wrong type. `check_any` reads
+///   version 1 too.
 /// - `Memory`: an allocation failed.
 pub fn check(alloc: Global, lock: &Value, node: Option<&Version>) -> Result<Problems, CheckError>
     ensures found { IfOk result (IsChecked (view lock.now) (option_map (λ version. version.now) node.entry)) }
@@ -41,7 +42,7 @@ pub fn check(alloc: Global, lock: &Value, node: Option<&Version>) -> Result<Prob
 }
 
 /// The problems of the members of `packages`.
-fn problems_of(lock: Lock<'_>) -> Result<Problems>
+pub(crate) fn problems_of(lock: Lock<'_>) -> Result<Problems>
     ensures ascending { IfOk result (λ problems.
         IsStrictlySortedBy (slice_cmp nat_cmp) (keys_of (members_view lock.entry.members.now.entries))) }
     ensures found { IfOk result (λ problems. (found : List Finding)
@@ -79,16 +80,8 @@ fn check_package<'v>(
     let places = places_from(lock, index, asker.folder)?;
     let all = asked_of(lock.alloc, asker.member, is_installed)?;
     for (name, asked) in all.iter() {
-        let (problem, unchecked) = outcome_of(
-            lock,
-            asker,
-            index,
-            &places,
-            is_installed,
-            *name,
-            *asked,
-        )?;
-        problems.add_dependency(problem, unchecked)?;
+        let judgement = judgement_of(lock, asker, index, &places, is_installed, *name, *asked)?;
+        add_judgement(problems, lock.alloc, asker, *name, *asked, judgement)?;
     }
     Ok(())
 }

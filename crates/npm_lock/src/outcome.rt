@@ -1,26 +1,37 @@
 //! What is wrong with one dependency, and with the version of Node.
-ghost use Rattle.std.specs.Prelude.{◌≡◌, IfOk, option_map, string_bytes};
+ghost use Rattle.std.specs.Prelude.{◌≡◌, [], ◌∷◌, IfOk, OnOk, option_map, string_bytes};
 ghost use Rattle.serde_json.specs.View.{view};
-ghost use Rattle.npm_lock.specs.Findings.{IsNodeOutcome};
+ghost use Rattle.npm_lock.specs.Findings.{IsNodeOutcome, finding_of};
 ghost use Rattle.npm_lock.specs.Outcomes as Outcomes;
-ghost use Rattle.npm_lock.specs.Outcomes.{IsOutcome, IsVerdictOn, problem_value};
-ghost use Rattle.npm_lock.specs.Private.PackageValue.{asked_value, package_value, packages_data};
+ghost use Rattle.npm_lock.specs.Outcomes.{IsOutcome, IsVerdictOn, dependency_value, problem_value};
+ghost use Rattle.npm_lock.specs.Private.Adding.{Adds};
+ghost use Rattle.npm_lock.specs.Private.PackageValue.{asked_value, judgement_value, package_value, packages_data};
 ghost use Rattle.npm_lock.specs.Private.Search.{IsSearch};
 
 use crate::Result;
 use crate::asked::{Asked, has_true};
 use crate::index::Index;
 use crate::place::{Lock, Package};
-use crate::problem::{Kind, Problem};
+use crate::problem::{Dependency, Kind, Problem, Problems, Reason, Unchecked};
 use crate::search::Place;
 use crate::verdict::{Verdict, is_contained, verdict_of_both};
 use crate::workspace::{Workspace, workspace_of};
+use node_semver::Version;
 use serde_json::Value;
 use std::alloc::Global;
 
-/// Returns the problem with a dependency of a package, or none. Also returns `true` if the dependency is not checked:
-/// it was found, and its spec is no range.
-pub(crate) fn outcome_of<'v>(
+/// What is found out about a dependency.
+#[derive(Clone, Copy)]
+pub(crate) enum Judgement<'v> {
+    Fine,
+    /// A problem, with the package that was found, if one was.
+    Wrong(Kind, Option<Package<'v>>),
+    /// It is not checked. The package was found.
+    Unknown(Reason, Package<'v>),
+}
+
+/// Returns what is found out about a dependency of a package.
+pub(crate) fn judgement_of<'v>(
     lock: Lock<'v>,
     asker: Package<'v>,
     index: &Index<'v>,
@@ -28,32 +39,77 @@ pub(crate) fn outcome_of<'v>(
     is_installed: bool,
     name: &'v str,
     asked: Asked<'v>,
-) -> Result<(Option<Problem>, bool)>
+) -> Result<Judgement<'v>>
     requires { IsSearch (packages_data lock) index.now asker.folder.now places.now }
-    ensures { IfOk result (λ pair. IsOutcome (packages_data lock.entry) asker.entry.folder.now
-        (view asker.entry.member.now) is_installed name.now (asked_value asked.entry) (option_map problem_value pair.0) pair.1) }
+    ensures { IfOk result (λ judgement. IsOutcome (packages_data lock.entry) asker.entry.folder.now
+        (view asker.entry.member.now) is_installed name.now (asked_value asked.entry) (judgement_value judgement)) }
 {
-    let alloc = lock.alloc;
-    let found = lock.find(index, places, asker.folder, name)?;
-    let kind = match found {
-        None if asked.is_needed => Kind::Missing,
-        None => return Ok((None, false)),
-        Some((_, is_own)) if asked.is_peer && is_installed && is_own => Kind::PeerLocal,
-        Some((found, _)) => match verdict_on(lock, asker, name, asked, found)? {
-            Verdict::Valid => return Ok((None, false)),
-            Verdict::Unchecked => return Ok((None, true)),
-            Verdict::Invalid => Kind::Invalid,
-        },
+    let Some((found, is_own)) = lock.find(index, places, asker.folder, name)? else {
+        return Ok(if asked.is_needed {
+            Judgement::Wrong(Kind::Missing, None)
+        } else {
+            Judgement::Fine
+        });
     };
-    let problem = Problem {
-        kind,
+    if asked.is_peer && is_installed && is_own {
+        return Ok(Judgement::Wrong(Kind::PeerLocal, Some(found)));
+    }
+    match verdict_on(lock, asker, name, asked, found)? {
+        Verdict::Valid => Ok(Judgement::Fine),
+        Verdict::Unchecked(reason) => Ok(Judgement::Unknown(reason, found)),
+        Verdict::Invalid => Ok(Judgement::Wrong(Kind::Invalid, Some(found))),
+    }
+}
+
+/// Adds what is found out about a dependency of a package.
+pub(crate) fn add_judgement(
+    problems: &mut Problems,
+    alloc: Global,
+    asker: Package<'_>,
+    name: &str,
+    asked: Asked<'_>,
+    judgement: Judgement<'_>,
+) -> Result<()>
+    ensures { OnOk result (Adds problems.old problems.new (finding_of asker.entry.folder.now
+        (view asker.entry.member.now) name.now (asked_value asked.entry) (judgement_value judgement.entry) ∷ [])) }
+{
+    match judgement {
+        Judgement::Fine => problems.add_dependency(None, None),
+        Judgement::Wrong(kind, found) => {
+            let dependency = dependency_of(alloc, asker, name, asked, found)?;
+            problems.add_dependency(Some(Problem { kind, dependency }), None)
+        }
+        Judgement::Unknown(reason, found) => {
+            let dependency = dependency_of(alloc, asker, name, asked, Some(found))?;
+            problems.add_dependency(None, Some(Unchecked { reason, dependency }))
+        }
+    }
+}
+
+/// A dependency of a package, and the package that was found, if one was.
+fn dependency_of(
+    alloc: Global,
+    asker: Package<'_>,
+    name: &str,
+    asked: Asked<'_>,
+    found: Option<Package<'_>>,
+) -> Result<Dependency>
+    ensures { IfOk result (λ dependency. dependency_value dependency
+        ≡ Outcomes.dependency_of asker.entry.folder.now (view asker.entry.member.now) name.now
+        (asked_value asked.entry) (option_map package_value found.entry)) }
+{
+    let member = asker.member;
+    Ok(Dependency {
         from: String::from_str(alloc, asker.folder)?,
+        from_version: copied(alloc, version_of(member))?,
         name: String::from_str(alloc, name)?,
         spec: String::from_str(alloc, asked.spec)?,
-        to: copied(alloc, found.map(|(found, _)| found.folder))?,
-        version: copied(alloc, found.and_then(|(found, _)| version_of(found.member)))?,
-    };
-    Ok((Some(problem), false))
+        to: copied(alloc, found.map(|found| found.folder))?,
+        version: copied(alloc, found.and_then(|found| version_of(found.member)))?,
+        dev: is_marked(member, "dev", asked.is_dev),
+        optional: is_marked(member, "optional", !asked.is_needed),
+        peer: is_marked(member, "peer", asked.is_peer),
+    })
 }
 
 /// The verdict on a package that was found. A workspace of the root is valid whatever the spec.
@@ -69,7 +125,7 @@ fn verdict_on(
 {
     match workspace_of(asker, found.folder) {
         Workspace::Is => Ok(Verdict::Valid),
-        Workspace::Unread => Ok(Verdict::Unchecked),
+        Workspace::Unread => Ok(Verdict::Unchecked(Reason::Workspace)),
         Workspace::IsNot => {
             let version = version_of(found.member);
             verdict_of_both(lock.alloc, asker.member, name, asked.spec, version)
@@ -89,14 +145,40 @@ pub(crate) fn engine_problem(lock: Lock<'_>, asker: Package<'_>) -> Result<Optio
     if is_contained(alloc, spec, node)? {
         return Ok(None);
     }
-    Ok(Some(Problem {
-        kind: Kind::Engine,
+    let dependency = engine_of_node(alloc, asker, spec, node)?;
+    let kind = Kind::Engine;
+    Ok(Some(Problem { kind, dependency }))
+}
+
+/// What a package asks of Node, as a dependency, and the version of Node.
+fn engine_of_node(
+    alloc: Global,
+    asker: Package<'_>,
+    spec: &str,
+    node: &Version,
+) -> Result<Dependency>
+    ensures { IfOk result (λ dependency. dependency_value dependency
+        ≡ (Outcomes.engine_problem asker.entry.folder.now (view asker.entry.member.now) spec.now node.now).dependency) }
+{
+    let member = asker.member;
+    Ok(Dependency {
         from: String::from_str(alloc, asker.folder)?,
+        from_version: copied(alloc, version_of(member))?,
         name: String::from_str(alloc, "node")?,
         spec: String::from_str(alloc, spec)?,
         to: None,
         version: Some(node.to_string(alloc)?),
-    }))
+        dev: is_marked(member, "dev", false),
+        optional: is_marked(member, "optional", false),
+        peer: is_marked(member, "peer", false),
+    })
+}
+
+/// Returns `true` if the lock file marks the package so, or the dependency itself is so.
+fn is_marked(member: &Value, mark: &str, is_so: bool) -> bool
+    ensures { result ≡ Outcomes.is_marked mark.now (view member.now) is_so }
+{
+    has_true(member, mark) || is_so
 }
 
 /// What a package says of Node. Old packages have a list there, which says nothing, and an optional one is not asked.
@@ -117,7 +199,7 @@ fn version_of(member: &Value) -> Option<&str>
 }
 
 /// A copy of a text that may be absent.
-fn copied(alloc: Global, text: Option<&str>) -> Result<Option<String>>
+pub(crate) fn copied(alloc: Global, text: Option<&str>) -> Result<Option<String>>
     ensures { IfOk result (λ copy. option_map string_bytes copy ≡ option_map (λ text. text.now) text.entry) }
 {
     text.map(|text| String::from_str(alloc, text)).transpose()

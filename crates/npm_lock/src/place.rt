@@ -116,7 +116,7 @@ pub(crate) fn linked_folder(resolved: &str) -> &str
 }
 
 /// The folder of a name in the `node_modules` of a folder.
-fn place_text(alloc: Global, folder: &str, name: &str) -> Result<String>
+pub(crate) fn place_text(alloc: Global, folder: &str, name: &str) -> Result<String>
     ensures { IfOk result (λ text. string_bytes text ≡ Folders.place_in folder.now name.now) }
 {
     // One allocation. A text that grows from nothing takes three or four.

@@ -1,23 +1,61 @@
-//! Which specs are ranges.
+//! What npm reads a spec as.
 ghost use Rattle.std.specs.Prelude.{◌≡◌, ◌<◌, option_map};
-ghost use Rattle.std.specs.List.{list_any};
-ghost use Rattle.npm_lock.specs.RangeText.{is_path_byte, range_of_alias};
+ghost use Rattle.std.specs.Char.{is_ascii_alphabetic};
+ghost use Rattle.std.specs.List.{list_all, list_any};
 ghost use Rattle.npm_lock.specs.RangeText as RangeText;
+ghost use Rattle.npm_lock.specs.RangeText.{range_of_alias};
+ghost use Rattle.npm_lock.specs.Private.PackageValue.{spec_value};
 
-use crate::text::rest_after;
+use crate::text::{ends_with, rest_after};
 
-/// The text that is a range or a tag, or `None` for any other spec: a URL, git, a file, a folder.
-///
-/// The text after `npm:NAME@` counts, or `*` if there is none: `npm:@s/a@^1` is `^1`, and `npm:@s/a` is `*`.
-pub(crate) fn range_text(spec: &str) -> Option<&str>
-    ensures { option_map (λ text. text.now) result ≡ RangeText.range_text spec.now }
+/// What npm reads a spec as.
+#[derive(Clone, Copy)]
+pub(crate) enum Spec<'t> {
+    /// A range or a tag.
+    Text(&'t str),
+    /// A URL, a repository, a file or a folder.
+    Location,
+    /// An alias of what is in no registry. npm refuses it.
+    Refused,
+}
+
+/// Returns what npm reads a spec as. `^1` and `npm:a@^1` are the text `^1`, and the empty spec is `*`.
+pub(crate) fn spec_of(spec: &str) -> Spec<'_>
+    ensures { spec_value result ≡ RangeText.spec_of spec.now }
 {
-    // No alias is without a `:`, and most specs have none.
-    if !is_path(spec) {
-        return Some(spec);
+    match alias_of(spec) {
+        Some(alias) => aliased(alias_range(alias)),
+        None => plain_spec(spec),
     }
-    let text = alias_range(alias_of(spec)?);
-    if is_path(text) { None } else { Some(text) }
+}
+
+/// What the text of an alias is.
+fn aliased(range: &str) -> Spec<'_>
+    ensures { spec_value result ≡ RangeText.aliased range.now }
+{
+    if is_location(range) {
+        Spec::Refused
+    } else {
+        Spec::Text(range)
+    }
+}
+
+/// What a spec is that is no alias.
+fn plain_spec(spec: &str) -> Spec<'_>
+    ensures { spec_value result ≡ RangeText.plain_spec spec.now }
+{
+    if is_location(spec) {
+        Spec::Location
+    } else {
+        Spec::Text(filled(spec))
+    }
+}
+
+/// Returns the text, or `*` if it is empty.
+fn filled(text: &str) -> &str
+    ensures { result.now ≡ RangeText.filled text.now }
+{
+    if text.is_empty() { "*" } else { text }
 }
 
 /// Returns the text after `npm:`, with letters of either case.
@@ -41,7 +79,7 @@ fn after_either(text: &str, character: char, other: char) -> Option<&str>
     }
 }
 
-/// Returns the range of an alias. A scope's `@` comes before the name.
+/// Returns the text of an alias. A scope's `@` comes before the name.
 fn alias_range(alias: &str) -> &str
     ensures { result.now ≡ range_of_alias alias.now }
 {
@@ -51,31 +89,93 @@ fn alias_range(alias: &str) -> &str
     }
 }
 
-/// Returns the range of an alias whose name has no scope. A text that can be no name is a range itself.
+/// Returns the text of an alias whose name has no scope. A text that can be no name stands for itself.
 fn range_of_plain(alias: &str) -> &str
     ensures { result.now ≡ RangeText.range_of_plain alias.now }
 {
-    let other = if is_tag(alias) { "*" } else { alias };
+    let other = if is_name(alias) { "*" } else { alias };
     range_of_name(alias, other)
 }
 
-/// Returns the text after the `@` of `NAME@RANGE`, or the other text if there is none.
+/// Returns the text after the `@` of `NAME@TEXT`, or the other text if there is none.
 fn range_of_name<'t>(name: &'t str, other: &'t str) -> &'t str
     ensures { result.now ≡ RangeText.range_of_name name.now other.now }
 {
-    name.split_once('@').map_or(other, |(_, range)| range)
+    match name.split_once('@') {
+        Some((_, range)) => filled(range),
+        None => other,
+    }
 }
 
-/// Returns `true` if the text has a `/` or a `:`, and so is neither a range nor a tag.
-fn is_path(text: &str) -> bool
-    ensures { result ≡ list_any is_path_byte text.now }
+/// Returns `true` if the text can be a name.
+fn is_name(text: &str) -> bool
+    ensures { result ≡ RangeText.is_name text.now }
 {
-    text.bytes().any(|byte| byte == b'/' || byte == b':')
+    !text.is_empty() && are_tag_bytes(text)
 }
 
-/// Returns `true` if the text has letters, digits and `-_.!~*'()` alone.
+/// Returns `true` for a URL, a repository, a file or a folder.
+fn is_location(text: &str) -> bool
+    ensures { result ≡ RangeText.is_location text.now }
+{
+    text.starts_with(".") || has_slash(text) || is_url(text) || is_archive(text)
+}
+
+fn has_slash(text: &str) -> bool
+    ensures { result ≡ list_any RangeText.is_slash text.now }
+{
+    text.bytes().any(|byte| byte == b'/')
+}
+
+/// Returns `true` if the text begins as a URL or a repository, with a scheme and a `:`.
+fn is_url(text: &str) -> bool
+    ensures { result ≡ RangeText.is_url text.now }
+{
+    match text.split_once(':') {
+        Some((scheme, _)) => is_scheme(scheme),
+        None => false,
+    }
+}
+
+fn is_scheme(text: &str) -> bool
+    ensures { result ≡ RangeText.is_scheme text.now }
+{
+    are_letters(rest_after(text, "git+").unwrap_or(text)) || has_at_sign(text)
+}
+
+fn has_at_sign(text: &str) -> bool
+    ensures { result ≡ list_any RangeText.is_at_sign text.now }
+{
+    text.bytes().any(|byte| byte == b'@')
+}
+
+fn are_letters(text: &str) -> bool
+    ensures { result ≡ RangeText.are_letters text.now }
+{
+    !text.is_empty() && has_letters_alone(text)
+}
+
+fn has_letters_alone(text: &str) -> bool
+    ensures { result ≡ list_all is_ascii_alphabetic text.now }
+{
+    text.bytes().all(|byte| byte.is_ascii_alphabetic())
+}
+
+fn is_archive(text: &str) -> bool
+    ensures { result ≡ RangeText.is_archive text.now }
+{
+    ends_with(text, ".tgz") || ends_with(text, ".tar.gz") || ends_with(text, ".tar")
+}
+
+/// Returns `true` if the text can be a tag. White space around it does not count.
 pub(crate) fn is_tag(text: &str) -> bool
     ensures { result ≡ RangeText.is_tag text.now }
+{
+    are_tag_bytes(text.trim())
+}
+
+fn are_tag_bytes(text: &str) -> bool
+    ensures { result ≡ list_all RangeText.is_tag_byte text.now }
 {
     text.bytes().all(is_tag_byte)
 }

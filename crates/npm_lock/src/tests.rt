@@ -1,4 +1,7 @@
 //! Tests of the check: texts of lock files, and the problems of each.
+mod manifest;
+mod version_one;
+
 use crate::{CheckError, Fault, Kind, Problem, check};
 use node_semver::Version;
 use serde_json::Value;
@@ -7,7 +10,7 @@ use std::test::Fail;
 
 // What each package is called in the rows: `packages` of a lock file, and each problem as its kind, the folder of the
 // package that asks, and the name.
-const ROWS: [(&str, &[(Kind, &str, &str)]); 44] = [
+const ROWS: [(&str, &[(Kind, &str, &str)]); 46] = [
     (r#""": {}"#, &[]),
     // A dependency, missing and not.
     (
@@ -111,7 +114,7 @@ const ROWS: [(&str, &[(Kind, &str, &str)]); 44] = [
     (
         r#""": {"dependencies": {"a": "npm:b@", "c": "npm:b@latest", "d": "npm:b@github:b/b"}}, "node_modules/a": {},
             "node_modules/c": {}, "node_modules/d": {}"#,
-        &[],
+        &[(Kind::Invalid, "", "d")],
     ),
     // A tag and a URL are not checked, and a text that is neither a range nor a tag is invalid.
     (
@@ -208,6 +211,29 @@ const ROWS: [(&str, &[(Kind, &str, &str)]); 44] = [
             "node_modules/c": {"version": "1.0.0"}, "node_modules/d": {}, "node_modules/e": {"version": "1.0.0"}"#,
         &[(Kind::Invalid, "", "a"), (Kind::Invalid, "", "b")],
     ),
+    // Ranges as npm reads them: `<=2` is `<3.0.0-0`, a piece of nothing is every release, white space does not count, and a
+    // word that is no comparator is ignored.
+    (
+        r#""": {"dependencies": {"a": "<=2", "b": "^1 ||", "c": " ", "d": "\t^1 ", "e": "foo ^1", "f": "01.2.3", "g": " * "}},
+            "node_modules/a": {"version": "2.3.0"}, "node_modules/b": {"version": "2.0.0"},
+            "node_modules/c": {"version": "2.0.0"}, "node_modules/d": {"version": "1.2.3"},
+            "node_modules/e": {"version": "1.2.3"}, "node_modules/f": {"version": "1.2.3"}, "node_modules/g": {}"#,
+        &[],
+    ),
+    (
+        r#""": {"dependencies": {"a": "<=2", "b": "|| ^1", "c": "npm:", "d": " ^1 || a:b", "e": "^1 || <0", "f": ">4 <3"}},
+            "node_modules/a": {"version": "3.0.0"}, "node_modules/b": {"version": "2.0.0-rc.1"},
+            "node_modules/c": {"version": "2.0.0-rc.1"}, "node_modules/d": {"version": "2.0.0"},
+            "node_modules/e": {"version": "0.0.0"}, "node_modules/f": {"version": "1.0.0"}"#,
+        &[
+            (Kind::Invalid, "", "a"),
+            (Kind::Invalid, "", "b"),
+            (Kind::Invalid, "", "c"),
+            (Kind::Invalid, "", "d"),
+            (Kind::Invalid, "", "e"),
+            (Kind::Invalid, "", "f"),
+        ],
+    ),
     // Packages in the order of their folders' bytes, and the dependencies of each in the order of their names' bytes.
     (
         r#""w": {"dependencies": {"b": "1", "@s/a": "1", "B": "1"}}, "node_modules/z": {"dependencies": {"a": "1"}},
@@ -302,7 +328,9 @@ fn are_problems(found: &[Problem], wanted: &[(Kind, &str, &str)]) -> bool {
 }
 
 fn is_problem(found: &Problem, wanted: &(Kind, &str, &str)) -> bool {
-    found.kind == wanted.0 && found.from.as_str() == wanted.1 && found.name.as_str() == wanted.2
+    found.kind == wanted.0
+        && found.dependency.from.as_str() == wanted.1
+        && found.dependency.name.as_str() == wanted.2
 }
 
 // The texts are no lock files, each for its fault.
@@ -315,7 +343,10 @@ fn refuses_what_is_no_lock_file(rt: HostRuntime) -> Result<(), Fail> {
             r#"{"lockfileVersion": "3", "packages": {}}"#,
             Fault::Version,
         ),
-        (r#"{"lockfileVersion": 1, "packages": {}}"#, Fault::Version),
+        (
+            r#"{"lockfileVersion": 1, "dependencies": {}}"#,
+            Fault::Version,
+        ),
         (
             r#"{"lockfileVersion": 3.5, "packages": {}}"#,
             Fault::Version,
@@ -395,23 +426,27 @@ fn counts_what_it_checks(rt: HostRuntime) -> Result<(), Fail> {
     let found = check(alloc, &lock, None)?;
     assert_eq!(rt; found.packages, 4);
     assert_eq!(rt; found.dependencies, 4);
-    assert_eq!(rt; found.unchecked, 2);
+    assert_eq!(rt; found.unchecked.len(), 2);
     assert_eq!(rt; found.list.len(), 1);
     let written = found.list[0].to_json(alloc)?.to_string(alloc)?;
     let wanted =
-        r#"{"from":"","name":"a","problem":"invalid","spec":"^1","to":"node_modules/a","version":"2.0.0"}"#;
+        r#"{"dev":false,"from":"","name":"a","optional":false,"peer":false,"problem":"invalid","spec":"^1","to":"node_modules/a","version":"2.0.0"}"#;
+    assert_eq!(rt; written.as_str(), wanted);
+    let written = found.unchecked[0].to_json(alloc)?.to_string(alloc)?;
+    let wanted =
+        r#"{"dev":false,"from":"","name":"b","optional":false,"peer":false,"spec":"a/b","to":"node_modules/b","unchecked":"location"}"#;
     assert_eq!(rt; written.as_str(), wanted);
     Ok(())
 }
 
-// npm admits each prerelease that lies inside a set, and does not ask a package that is optional.
+// npm reads these ranges with prereleases included: `>=18` begins at 18.0.0-0. It does not ask a package that is optional.
 #[test]
 fn asks_for_a_prerelease_of_node(rt: HostRuntime) -> Result<(), Fail> {
     let alloc = rt.alloc();
     let text = r#"{"lockfileVersion": 3, "packages": {
         "node_modules/a": {"engines": {"node": ">=16 <17 || >=18.0.0-0"}},
-        "node_modules/b": {"engines": {"node": ">=16"}},
-        "node_modules/c": {"engines": {"node": ">=18"}},
+        "node_modules/b": {"engines": {"node": ">=18"}},
+        "node_modules/c": {"engines": {"node": ">=18.0.0"}},
         "node_modules/d": {"engines": {"node": ">=20"}, "optional": true},
         "node_modules/e": {"engines": {"node": ">=20"}, "optional": false}}}"#;
     let lock = Value::from_str(alloc, text)?;

@@ -1,16 +1,18 @@
 //! Whether a version satisfies a dependency's spec.
 ghost use Rattle.std.specs.Prelude.{◌≡◌, ◌↔◌, List, ℕ, IfOk, IfNone, IfSome, IsTrue, false, if◌then◌else◌, option_map};
-ghost use Rattle.node_semver.specs.Ranges.{AreSetsOfText, IsRefused, RangeAdmits, TextAdmits};
+ghost use Rattle.node_semver.specs.NpmRanges.{NpmSetsAdmit};
+ghost use Rattle.node_semver.specs.Ranges.{RangeAdmits};
 ghost use Rattle.node_semver.specs.Versions.{VersionValue};
 ghost use Rattle.serde_json.specs.View.{view};
 ghost use Rattle.npm_lock.specs.Asked.{accepted_of};
 ghost use Rattle.npm_lock.specs.Verdict as Verdicts;
-ghost use Rattle.npm_lock.specs.Verdict.{IsContained, IsVerdict, IsVerdictOfBoth, IsVerdictOfText};
+ghost use Rattle.npm_lock.specs.Verdict.{Admits, IsContained, IsNoRange, IsVerdict, IsVerdictOfBoth, IsVerdictOfText};
 
 use crate::Result;
 use crate::asked::accepted_of;
-use crate::range_text::{is_tag, range_text};
-use node_semver::{Range, Version, VersionRef};
+use crate::problem::Reason;
+use crate::range_text::{Spec, is_tag, spec_of};
+use node_semver::{NpmOptions, Range, Version, VersionRef};
 use serde_json::Value;
 use std::alloc::{AllocError, Global};
 
@@ -19,8 +21,8 @@ use std::alloc::{AllocError, Global};
 pub(crate) enum Verdict {
     Valid,
     Invalid,
-    /// The spec is no range.
-    Unchecked,
+    /// It is not known, for this reason.
+    Unchecked(Reason),
 }
 
 impl Verdict {
@@ -30,8 +32,8 @@ impl Verdict {
     {
         match (self, other) {
             (Verdict::Valid, _) | (_, Verdict::Valid) => Verdict::Valid,
-            (Verdict::Unchecked, _) | (_, Verdict::Unchecked) => Verdict::Unchecked,
-            (Verdict::Invalid, Verdict::Invalid) => Verdict::Invalid,
+            (Verdict::Unchecked(reason), _) => Verdict::Unchecked(reason),
+            (Verdict::Invalid, other) => other,
         }
     }
 }
@@ -62,30 +64,38 @@ pub(crate) fn verdict_of_both(
 fn verdict_of(alloc: Global, spec: &str, version: Option<&str>) -> Result<Verdict>
     ensures { IfOk result (IsVerdict (option_map (λ t. t.now) version.entry) spec.now) }
 {
-    let Some(text) = range_text(spec) else {
-        return Ok(Verdict::Unchecked);
-    };
+    match spec_of(spec) {
+        Spec::Text(text) => verdict_of_text(alloc, text, version),
+        Spec::Location => Ok(Verdict::Unchecked(Reason::Location)),
+        Spec::Refused => Ok(Verdict::Invalid),
+    }
+}
+
+/// Returns whether the version of a package satisfies a text that is a range or a tag.
+fn verdict_of_text(alloc: Global, text: &str, version: Option<&str>) -> Result<Verdict>
+    ensures { IfOk result (IsVerdictOfText (option_map (λ t. t.now) version.entry) text.now) }
+{
     if asks_for_any(text) {
         return Ok(Verdict::Valid);
     }
-    match range_of(alloc, text)? {
+    match range_of(alloc, text, OF_DEPENDENCIES)? {
         Some(range) if is_satisfied(&range, version) => Ok(Verdict::Valid),
-        None if is_tag(text) => Ok(Verdict::Unchecked),
+        None if is_tag(text) => Ok(Verdict::Unchecked(Reason::Tag)),
         _ => Ok(Verdict::Invalid),
     }
 }
 
-/// Returns `true` for `*` and the empty text, which hold for any version, a prerelease too.
+/// Returns `true` for `*`, which holds for any version, a prerelease too.
 fn asks_for_any(text: &str) -> bool
     ensures { result ≡ Verdicts.asks_for_any text.now }
 {
-    text.is_empty() || text == "*"
+    text.trim() == "*"
 }
 
 /// Returns `true` if a version text satisfies a range. One that is no version does not, and neither does none.
 fn is_satisfied(range: &Range, version: Option<&str>) -> bool
-    ensures { (text : List ℕ) → Verdicts.asks_for_any text ≡ false → ¬ IsRefused text
-        → ((v : VersionValue) → RangeAdmits range.now v ↔ TextAdmits text v)
+    ensures { (text : List ℕ) → Verdicts.asks_for_any text ≡ false → ¬ IsNoRange Verdicts.of_dependencies text
+        → ((v : VersionValue) → RangeAdmits range.now v ↔ Admits Verdicts.of_dependencies text v)
         → IsVerdictOfText (option_map (λ t. t.now) version.entry) text
         (if result then Verdict.Valid else Verdict.Invalid) }
 {
@@ -95,26 +105,37 @@ fn is_satisfied(range: &Range, version: Option<&str>) -> bool
     VersionRef::parse(text).is_ok_and(|version| range.satisfies(&version))
 }
 
-/// Returns `true` if a version lies inside a set of a range text, whatever prerelease it is. It lies in no text that is
-/// refused.
+/// Returns `true` if a version lies inside a range for Node, whatever prerelease it is. It lies in no text that is no
+/// range.
 pub(crate) fn is_contained(alloc: Global, text: &str, version: &Version) -> Result<bool>
     ensures { IfOk result (IsContained text.now version.now) }
 {
-    match range_of(alloc, text)? {
+    match range_of(alloc, text, OF_ENGINES)? {
         Some(range) => Ok(range.contains(version)),
         None => Ok(false),
     }
 }
 
-/// The range of a text, or `None` if the text is refused.
-fn range_of(alloc: Global, text: &str) -> Result<Option<Range>>
-    ensures refused { IfOk result (λ range. IfNone range (IsRefused text.now)) }
-    ensures accepted { IfOk result (λ range. IfSome range (λ range. ¬ IsRefused text.now)) }
-    ensures sets { IfOk result (λ range. IfSome range (λ range. AreSetsOfText text.now range)) }
+/// How npm reads the ranges of dependencies.
+const OF_DEPENDENCIES: NpmOptions = NpmOptions {
+    loose: true,
+    include_prerelease: false,
+};
+
+/// How npm reads the ranges of engines.
+const OF_ENGINES: NpmOptions = NpmOptions {
+    loose: false,
+    include_prerelease: true,
+};
+
+/// The range of a text as npm reads it, or `None` if it is none.
+fn range_of(alloc: Global, text: &str, options: NpmOptions) -> Result<Option<Range>>
+    ensures refused { IfOk result (λ range. IfNone range (IsNoRange options text.now)) }
+    ensures accepted { IfOk result (λ range. IfSome range (λ range. ¬ IsNoRange options text.now)) }
     ensures means { IfOk result (λ range. IfSome range (λ range.
-        (v : VersionValue) → RangeAdmits range v ↔ TextAdmits text.now v)) }
+        (v : VersionValue) → NpmSetsAdmit options.include_prerelease range v ↔ Admits options text.now v)) }
 {
-    match Range::parse(alloc, text) {
+    match Range::parse_npm(alloc, text, options) {
         Ok(range) => Ok(Some(range)),
         Err(error) if error.is_out_of_memory() => Err(AllocError),
         Err(_) => Ok(None),

@@ -1,14 +1,13 @@
--- The lines of problems, one more at a time.
+-- Lines, one more at a time.
 use Rattle.std.proofs.Common.{◌≡◌, ◌∙◌, ℕ, ◌+◌, ◌<◌, List, [], ◌∷◌, ◌++◌, length, get_or, drop, map, refl, sym, ap}
 use Rattle.std.proofs.Common.{false, Option, Some, None, append_assoc, codes}
 use Rattle.std.proofs.lemmas.List.{drop_more}
-use Rattle.serde_json.specs.Data.{no_members}
+use Rattle.serde_json.proofs.OnLiterals.{serde_json_on_literals}
+use Rattle.serde_json.specs.Data.{no_members, put, string}
 use Rattle.serde_json.specs.Written.{has_float, members_have_float}
-use Rattle.npm_lock.specs.Outcomes.{ProblemValue, problem_value}
-use Rattle.npm_lock.specs.ProblemJson.{problem_data, with_text}
-use Rattle.npm_lock.specs.declared.problem.Problem.{Problem}
-use Rattle.npm_lock_check.specs.Output.{line_text, lines}
-use Rattle.npm_lock_check.specs.declared.arguments.Format.{Format}
+use Rattle.npm_lock.specs.Outcomes.{ProblemValue, UncheckedValue}
+use Rattle.npm_lock.specs.ProblemJson.{problem_data, reason_text, unchecked_data, with_text}
+use Rattle.npm_lock_check.specs.Output.{lines}
 
 last_members : (to version : Option (List ℕ))
     → members_have_float (with_text (codes "to") to (with_text (codes "version") version no_members)) ≡ false
@@ -18,20 +17,34 @@ last_members (Some to) None = refl
 last_members (Some to) (Some version) = refl
 
 pub no_float : (problem : ProblemValue) → has_float (problem_data problem) ≡ false
-no_float problem = last_members problem.to problem.version
+unfolding serde_json_on_literals
+no_float problem = last_members problem.dependency.to problem.dependency.version
+
+-- the last members, and why a dependency is not checked between them
+marked_members : (mark : List ℕ) (to version : Option (List ℕ))
+    → members_have_float (put (codes "unchecked") (string mark)
+    (with_text (codes "to") to (with_text (codes "version") version no_members))) ≡ false
+unfolding serde_json_on_literals
+marked_members mark None None = refl
+marked_members mark None (Some version) = refl
+marked_members mark (Some to) None = refl
+marked_members mark (Some to) (Some version) = refl
+
+pub no_float_unchecked : (unchecked : UncheckedValue) → has_float (unchecked_data unchecked) ≡ false
+unfolding serde_json_on_literals
+no_float_unchecked unchecked = marked_members (reason_text unchecked.reason) unchecked.dependency.to
+    unchecked.dependency.version
 
 regroup : (a b rest : List ℕ) → ((a ++ b) ++ (10 ∷ [])) ++ rest ≡ a ++ (b ++ (10 ∷ rest))
 regroup a b rest = simp append_assoc
 
-pub line_more : (format : Format) (done more whole : List ℕ) (problems : List Problem) (i : ℕ) (item : Problem)
-    → i < length problems → item ≡ get_or problems i item
-    → more ≡ (done ++ line_text format (problem_value item)) ++ (10 ∷ [])
-    → done ++ lines format (map problem_value (drop i problems)) ≡ whole
-    → more ++ lines format (map problem_value (drop (i + 1) problems)) ≡ whole
-line_more format done more whole problems i item small is is_more held =
-    let cut : drop i problems ≡ get_or problems i item ∷ drop (i + 1) problems = drop_more problems i item small in
-    let here : drop i problems ≡ item ∷ drop (i + 1) problems =
-    cut ∙ ap (λ x. x ∷ drop (i + 1) problems) (sym is) in
-    ap (λ text. text ++ lines format (map problem_value (drop (i + 1) problems))) is_more
-    ∙ regroup done (line_text format (problem_value item)) (lines format (map problem_value (drop (i + 1) problems)))
-    ∙ ap (λ rest. done ++ lines format (map problem_value rest)) (sym here) ∙ held
+pub line_more : {T V : Type 0} (value : T → V) (line : V → List ℕ) (done more whole : List ℕ) (all : List T) (i : ℕ)
+    (item : T) → i < length all → item ≡ get_or all i item → more ≡ (done ++ line (value item)) ++ (10 ∷ [])
+    → done ++ lines line (map value (drop i all)) ≡ whole
+    → more ++ lines line (map value (drop (i + 1) all)) ≡ whole
+line_more value line done more whole all i item small is is_more held =
+    let cut : drop i all ≡ get_or all i item ∷ drop (i + 1) all = drop_more all i item small in
+    let here : drop i all ≡ item ∷ drop (i + 1) all = cut ∙ ap (λ x. x ∷ drop (i + 1) all) (sym is) in
+    ap (λ text. text ++ lines line (map value (drop (i + 1) all))) is_more
+    ∙ regroup done (line (value item)) (lines line (map value (drop (i + 1) all)))
+    ∙ ap (λ rest. done ++ lines line (map value rest)) (sym here) ∙ held

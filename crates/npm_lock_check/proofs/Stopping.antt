@@ -14,9 +14,9 @@ unfolding serde_json_on_literals
 no_value lock is = cc is
 
 -- memory ran out after the input was read
-pub later : {R : Type 0} (remaining : R → Option (List ℕ)) (old new : GaugeValue R) (lock : Data)
-    → IsInput remaining old new lock → IsStopped remaining old new Memory
-later remaining old new lock input = inr (record {
+pub later : {R : Type 0} (remaining : R → Option (List ℕ)) (manifest : Option Data) (old new : GaugeValue R) (lock : Data)
+    → IsInput remaining old new lock → IsStopped remaining manifest old new Memory
+later remaining manifest old new lock input = inr (record {
   bytes = input.bytes;
   taken = input.taken;
   ended = input.ended;
@@ -25,16 +25,18 @@ later remaining old new lock input = inr (record {
 })
 
 -- the value was refused, or memory ran out in the check
-pub refused : {R : Type 0} (remaining : R → Option (List ℕ)) (old new : GaugeValue R) (lock : Data) (error : RunError)
-    → IsInput remaining old new lock → IsRefused lock error → IsStopped remaining old new error
-refused remaining old new lock error input (inl told) =
+pub refused : {R : Type 0} (remaining : R → Option (List ℕ)) (manifest : Option Data) (old new : GaugeValue R)
+    (lock : Data) (error : RunError)
+    → IsInput remaining old new lock → IsRefused lock manifest error → IsStopped remaining manifest old new error
+refused remaining manifest old new lock error input (inl told) =
     rw told.1 (lock, input, told.2)
-refused remaining old new lock error input (inr memory) = rw memory (later remaining old new lock input)
+refused remaining manifest old new lock error input (inr memory) =
+    rw memory (later remaining manifest old new lock input)
 
 -- the check writes nothing, so no write of it fails
-pub unwritten : (lock : Data) → ¬ IsRefused lock Write
-unwritten lock (inl told) = cc told.1
-unwritten lock (inr memory) = cc memory
+pub unwritten : (lock : Data) (manifest : Option Data) → ¬ IsRefused lock manifest Write
+unwritten lock manifest (inl told) = cc told.1
+unwritten lock manifest (inr memory) = cc memory
 
 module _ {T E F : Type 0} (Q : E → F → Type 0) where
   -- the error before its type changed

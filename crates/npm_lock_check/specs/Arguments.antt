@@ -28,6 +28,12 @@ pub record ArgumentValue : Type 0 where
   pub word : List ℕ
   pub value : Option (List ℕ)
 
+-- the option that a word names, of those that add to a check
+abbrev pub input_name_of : (word : List ℕ) → Option Name
+input_name_of word = if bytes_eq word (codes "--unchecked") then Some Names.Unchecked
+    else if bytes_eq word (codes "--manifest") then Some (Names.Valued Settings.Manifest)
+    else None
+
 -- the option that a word names
 abbrev pub name_of : (word : List ℕ) → Option Name
 name_of word = if bytes_eq word (codes "--help") || bytes_eq word (codes "-h") then Some (Names.Alone Shows.Help)
@@ -35,12 +41,13 @@ name_of word = if bytes_eq word (codes "--help") || bytes_eq word (codes "-h") t
     else if bytes_eq word (codes "--node") then Some (Names.Valued Settings.Node)
     else if bytes_eq word (codes "--format") then Some (Names.Valued Settings.Format)
     else if bytes_eq word (codes "--ignore") then Some (Names.Valued Settings.Ignore)
-    else None
+    else input_name_of word
 
 -- the option has a value
 abbrev pub has_value : Option Name → Bool
 has_value None = false
 has_value (Some (Names.Alone shown)) = false
+has_value (Some Names.Unchecked) = false
 has_value (Some (Names.Valued setting)) = true
 
 -- the word is an option that has a value
@@ -57,17 +64,28 @@ arguments_of (word ∷ text ∷ rest) = if takes_value word
 
 -- ---- what they ask for
 
--- what is shown in place of a check, the text after `--node`, the format, the kinds after `--ignore`, and the file
+-- What is shown in place of a check, the text after `--node`, the format, the kinds after `--ignore`, whether dependencies
+-- that are not checked are listed, the text after `--manifest`, and the file.
 pub record AskedValue : Type 0 where
   pub shown : Option Shown
   pub node : Option (List ℕ)
   pub format : Option Format
   pub ignored : Kinds
+  pub unchecked : Bool
+  pub manifest : Option (List ℕ)
   pub file : Option (List ℕ)
 
 -- what no argument asks for
 abbrev pub nothing_asked : AskedValue
-nothing_asked = record { shown = None; node = None; format = None; ignored = no_kinds; file = None }
+nothing_asked = record {
+  shown = None;
+  node = None;
+  format = None;
+  ignored = no_kinds;
+  unchecked = false;
+  manifest = None;
+  file = None;
+}
 
 -- the format that a text names
 abbrev pub format_of : (text : List ℕ) → Option Format
@@ -89,6 +107,7 @@ abbrev pub with_value : AskedValue → Setting → (text : List ℕ) → Result 
 with_value asked Settings.Node text = Ok (record asked { node = Some text })
 with_value asked Settings.Format text = with_format asked (format_of text)
 with_value asked Settings.Ignore text = with_ignored asked (kind_of text)
+with_value asked Settings.Manifest text = Ok (record asked { manifest = Some text })
 
 -- with one more word that is no option, which is the file; `-` is one too
 abbrev pub with_file : AskedValue → (word : List ℕ) → Result AskedValue RunError
@@ -101,6 +120,7 @@ with_file asked word = if starts_with nat_eq word (codes "-") && not (bytes_eq w
 abbrev pub with_argument : AskedValue → (word : List ℕ) → Option Name → Option (List ℕ) → Result AskedValue RunError
 with_argument asked word None value = with_file asked word
 with_argument asked word (Some (Names.Alone shown)) value = Ok (record asked { shown = Some shown })
+with_argument asked word (Some Names.Unchecked) value = Ok (record asked { unchecked = true })
 with_argument asked word (Some (Names.Valued setting)) None = Err Errors.NoValue
 with_argument asked word (Some (Names.Valued setting)) (Some text) = with_value asked setting text
 
@@ -130,6 +150,8 @@ asked_value asked = record {
   node = option_map (λ text. text.now) asked.node;
   format = asked.format;
   ignored = asked.ignored;
+  unchecked = asked.unchecked;
+  manifest = option_map (λ text. text.now) asked.manifest;
   file = option_map (λ word. word.now) asked.file;
 }
 

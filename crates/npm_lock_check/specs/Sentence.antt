@@ -1,10 +1,12 @@
--- A problem as a sentence, for a person.
+-- A problem, or a dependency that is not checked, as a sentence for a person.
 use Rattle.std.specs.Prelude.{◌||◌, ◌==◌, ◌+◌, ◌-◌, ◌/◌, ◌%◌, ℕ, List, [], ◌∷◌, ◌++◌, if◌then◌else◌, nat_lt}
 use Rattle.std.specs.Prelude.{Option, Some, None, codes}
 use Rattle.std.specs.List.{flat_map}
-use Rattle.npm_lock.specs.Outcomes.{ProblemValue}
+use Rattle.npm_lock.specs.Outcomes.{DependencyValue, ProblemValue, UncheckedValue}
 use Rattle.npm_lock.specs.declared.problem.Kind.{Kind}
 use Rattle.npm_lock.specs.declared.problem.Kind.TheVariants.{Engine, Invalid, Missing, PeerLocal}
+use Rattle.npm_lock.specs.declared.problem.Reason.{Reason}
+use Rattle.npm_lock.specs.declared.problem.Reason.TheVariants.{Location, Tag, Workspace}
 
 -- ---- texts of the file: a terminal gets printable ASCII alone
 
@@ -23,27 +25,46 @@ shown_byte byte = if byte == 34 || byte == 92 then 92 ∷ byte ∷ []
 abbrev pub shown : (text : List ℕ) → List ℕ
 shown text = flat_map shown_byte text
 
--- ---- the sentence
+-- a spec, which is written `""` if it is empty
+abbrev pub shown_spec : (spec : List ℕ) → List ℕ
+shown_spec [] = codes "\"\""
+shown_spec (byte ∷ spec) = shown (byte ∷ spec)
+
+-- ---- the sentences
 
 -- what is wrong
 abbrev pub verdict : Kind → List ℕ
-verdict Missing = codes " is not installed, so nothing satisfies"
-verdict Invalid = codes " does not satisfy"
-verdict PeerLocal = codes " is installed inside the package that has it as a peer:"
-verdict Engine = codes " does not satisfy"
+verdict Missing = codes " is not installed, so nothing satisfies "
+verdict Invalid = codes " does not satisfy "
+verdict PeerLocal = codes " is installed inside the package that has it as a peer: "
+verdict Engine = codes " does not satisfy "
+
+-- why a dependency is not checked
+abbrev pub reason : Reason → List ℕ
+reason Tag = codes ": a tag"
+reason Location = codes ": a URL, a repository, a file or a folder"
+reason Workspace = codes ": a pattern of workspaces that is not read"
 
 -- a text after this start, if there is one
 abbrev pub after : (start : List ℕ) → Option (List ℕ) → List ℕ
 after start None = []
 after start (Some text) = start ++ shown text
 
--- the package in this folder
-abbrev pub asker : (folder : List ℕ) → List ℕ
-asker [] = codes "the root"
-asker (byte ∷ folder) = shown (byte ∷ folder)
+-- the package in this folder, of this version, asks
+abbrev pub asker : (folder : List ℕ) → (version : Option (List ℕ)) → List ℕ
+asker [] version = codes "the root asks for"
+asker (byte ∷ folder) version = shown (byte ∷ folder) ++ after (codes " ") version ++ codes " asks for"
 
--- the sentence: `a 1.0.0 in node_modules/a does not satisfy "^2", which node_modules/b asks for`
+-- a dependency, with this verdict on what was found for it
+abbrev pub said : (verdict : List ℕ) → DependencyValue → List ℕ
+said verdict dependency = shown dependency.name ++ after (codes " ") dependency.version ++ verdict
+    ++ shown_spec dependency.spec ++ codes ", which " ++ asker dependency.from dependency.from_version
+
+-- the sentence of a problem: `a 1.0.0 does not satisfy ^2, which node_modules/b 3.0.0 asks for`
 abbrev pub sentence : ProblemValue → List ℕ
-sentence problem = shown problem.name ++ after (codes " ") problem.version ++ after (codes " in ") problem.to
-    ++ verdict problem.kind ++ codes " \"" ++ shown problem.spec ++ codes "\", which " ++ asker problem.from
-    ++ codes " asks for"
+sentence problem = said (verdict problem.kind) problem.dependency
+
+-- the sentence of a dependency that is not checked: `a 1.0.0 is not checked against latest, which the root asks for: a tag`
+abbrev pub unchecked_sentence : UncheckedValue → List ℕ
+unchecked_sentence unchecked =
+    said (codes " is not checked against ") unchecked.dependency ++ reason unchecked.reason

@@ -33,6 +33,10 @@ pub struct Asked<'a> {
     pub format: Option<Format>,
     /// The kinds after each `--ignore`.
     pub ignored: Kinds,
+    /// Dependencies that are not checked are listed too.
+    pub unchecked: bool,
+    /// The text after `--manifest`.
+    pub manifest: Option<&'a str>,
     pub file: Option<&'a str>,
 }
 
@@ -49,12 +53,14 @@ enum Setting {
     Node,
     Format,
     Ignore,
+    Manifest,
 }
 
 /// The options.
 #[derive(Clone, Copy, Drop)]
 enum Name {
     Alone(Shown),
+    Unchecked,
     Valued(Setting),
 }
 
@@ -91,6 +97,8 @@ fn nothing_asked<'a>() -> Asked<'a>
         node: None,
         format: None,
         ignored: Kinds::none(),
+        unchecked: false,
+        manifest: None,
         file: None,
     }
 }
@@ -134,6 +142,19 @@ fn name_of(word: &str) -> Option<Name>
     } else if word == "--ignore" {
         Some(Name::Valued(Setting::Ignore))
     } else {
+        input_name_of(word)
+    }
+}
+
+/// The option that the word names, of those that add to a check.
+fn input_name_of(word: &str) -> Option<Name>
+    ensures { result ≡ Arguments.input_name_of word.now }
+{
+    if word == "--unchecked" {
+        Some(Name::Unchecked)
+    } else if word == "--manifest" {
+        Some(Name::Valued(Setting::Manifest))
+    } else {
         None
     }
 }
@@ -147,6 +168,10 @@ fn asked_with<'a>(asked: Asked<'a>, argument: Argument<'a>) -> Result<Asked<'a>,
         None => with_file(asked, argument.word),
         Some(Name::Alone(shown)) => Ok(Asked {
             shown: Some(shown),
+            ..asked
+        }),
+        Some(Name::Unchecked) => Ok(Asked {
+            unchecked: true,
             ..asked
         }),
         Some(Name::Valued(setting)) => match argument.value {
@@ -179,6 +204,10 @@ fn with_value<'a>(asked: Asked<'a>, setting: Setting, text: &'a str) -> Result<A
             }),
             None => Err(RunError::Kind),
         },
+        Setting::Manifest => Ok(Asked {
+            manifest: Some(text),
+            ..asked
+        }),
     }
 }
 

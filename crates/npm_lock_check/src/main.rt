@@ -22,8 +22,9 @@ use gauge::Gauge;
 use help::{HELP, VERSION};
 use node::node_of;
 use npm_lock::Problems;
-use output::run;
+use output::{Wanted, read_json, run};
 use run_error::{RunError, open_error, read_error};
+use serde_json::Value;
 use std::env;
 use std::fs::File;
 use std::io::{IsTerminal, Read};
@@ -38,7 +39,7 @@ fn main(rt: HostRuntime) -> ExitCode {
             problems.packages,
             problems.dependencies,
             problems.list.len(),
-            problems.unchecked
+            problems.unchecked.len()
         ),
         Ok(None) => Ok(()),
         Err(error) => eprintln!(rt; "npm_lock_check: {error}"),
@@ -93,14 +94,24 @@ fn checked<R: Read + Drop>(
     };
     let mut reader = Gauge::new(reader);
     let mut writer = Gauge::new(stdout);
-    run(
-        rt.alloc(),
-        &mut reader,
-        &mut writer,
-        node.as_ref(),
-        asked.ignored,
+    let manifest = match asked.manifest {
+        Some(path) => Some(manifest_of(rt, path)?),
+        None => None,
+    };
+    let wanted = Wanted {
+        manifest: manifest.as_ref(),
+        node: node.as_ref(),
+        ignored: asked.ignored,
+        unchecked: asked.unchecked,
         format,
-    )
+    };
+    run(rt.alloc(), &mut reader, &mut writer, wanted)
+}
+
+/// Reads a manifest.
+fn manifest_of(rt: &HostRuntime, path: &str) -> Result<Value, RunError> {
+    let file = File::open(rt, path).map_err(open_error)?;
+    read_json(rt.alloc(), &mut Gauge::new(file))
 }
 
 /// Returns the exit status: 0 if no problem was written, 1 if one was, and 2 if the file was not checked.

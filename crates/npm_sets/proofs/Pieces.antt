@@ -1,5 +1,6 @@
 pub mod EndBounds
 pub mod WordReading
+pub mod SignPieces
 pub mod PieceReading
 pub mod PieceDivision
 pub mod SetMeaning

@@ -1,18 +1,20 @@
 -- Range texts that are a full version, with `^`, `~` or nothing before it: most are. Such a text has one set.
-use Rattle.std.specs.Prelude.{◌≡◌, ◌↔◌, ℕ, List, [], ◌∷◌}
+use Rattle.std.specs.Prelude.{◌≡◌, ◌↔◌, ℕ, IsTrue, List, [], ◌∷◌}
 use Rattle.semver_versions.specs.Version.{VersionValue}
-use Rattle.semver_sets.specs.FullTexts.{full_set}
+use Rattle.semver_sets.specs.FullTexts.{AreInLimit, full_set, is_full_form}
 use Rattle.semver_sets.specs.RangeSets.{IsRangeSet}
-use Rattle.semver_sets.specs.declared.read.full.FullLead.{FullLead}
+use Rattle.semver_sets.specs.declared.word.form.Form.{Form}
 use Rattle.npm_sets.specs.NpmMeaning.{AreNpmSets, IsNpmRefused, NpmSetsAdmit, NpmTextAdmits}
 use Rattle.npm_sets.specs.Spaces.{with_plain_spaces}
 use Rattle.npm_sets.specs.declared.options.NpmOptions.{NpmOptions}
 
 -- the text has this set alone, which admits what the text admits, and no white space outside ASCII
-pub record IsNpmFullText (options : NpmOptions) (text : List ℕ) (lead : FullLead) (major minor patch : ℕ) : Type 0 where
-  pub sets : AreNpmSets options text (full_set lead major minor patch ∷ [])
+pub record IsNpmFullText (options : NpmOptions) (text : List ℕ) (form : Form) (major minor patch : ℕ) : Type 0 where
+  pub sets : AreNpmSets options text (full_set form major minor patch ∷ [])
   pub means : (v : VersionValue)
-      → NpmSetsAdmit options.include_prerelease (full_set lead major minor patch ∷ []) v ↔ NpmTextAdmits options text v
-  pub set : IsRangeSet (full_set lead major minor patch)
+      → NpmSetsAdmit options.include_prerelease (full_set form major minor patch ∷ []) v ↔ NpmTextAdmits options text v
+  pub set : IsRangeSet (full_set form major minor patch)
+  pub full : IsTrue (is_full_form form)
+  pub limit : AreInLimit major minor patch
   pub accepted : ¬ IsNpmRefused options text
   pub plain : with_plain_spaces text ≡ text

@@ -2,7 +2,7 @@
 use Rattle.std.specs.Prelude.{ℕ, ◌==◌, ◌&&◌, ◌||◌, Bool, true, false, not, nat_le, if◌then◌else◌, length}
 use Rattle.std.specs.Prelude.{List, [], ◌∷◌, Option, Some, None, Result, Ok, Err}
 use Rattle.semver_versions.specs.Characters.{dot, hyphen, is_digit, is_identifier_character, is_x, plus}
-use Rattle.semver_versions.specs.Readers.Reading.{Read, ◌>>=◌, begins, missing, read_extras, read_number, rest_of}
+use Rattle.semver_versions.specs.Reading.{Read, ◌>>=◌, begins, missing, read_extras, read_number, rest_of}
 use Rattle.semver_versions.specs.declared.TheConstants.{MAX_LENGTH}
 use Rattle.semver_versions.specs.declared.parse.fault.Fault.{Fault}
 use Rattle.semver_versions.specs.declared.parse.fault.Fault.TheVariants.{TooLong}

@@ -59,7 +59,7 @@ impl<'a> WordVersion<'a> {
 }
 
 // Builds the version of a triple and the prerelease of a text of extras. Most have no extras.
-#[tactic(auto, using(semver_versions::specs::Lemmas::Texts::CleanExtras::clean_extras))]
+#[tactic(auto, using(semver_versions::specs::Lemmas::Public::clean_extras))]
 fn end_of(alloc: Global, triple: (u64, u64, u64), extras: &[u8]) -> Result<EndVersion, AllocError>
     ensures { IfOk result (λ end. end ≡ full_version triple.0 triple.1 triple.2 extras.now) }
 {

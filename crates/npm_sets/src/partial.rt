@@ -1,6 +1,6 @@
 //! Partials as npm reads them, in strict and in loose form. Nothing is built: a partial keeps the text of its extras.
 ghost use Rattle.std.specs.Prelude.{◌≡◌, ◌≤◌, [], IfOk, IfSome, None};
-ghost use Rattle.semver_versions.specs.Readers.ReadingViews.{seen};
+ghost use Rattle.semver_versions.specs.Reading.{seen};
 ghost use Rattle.npm_sets.specs.PartialTexts as Texts;
 ghost use Rattle.npm_sets.specs.Private.ReadViews.{IsSound, partial_seen, read_partial_seen, result_seen, some_seen};
 

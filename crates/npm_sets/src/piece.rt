@@ -1,10 +1,11 @@
 //! Reading one piece of a range text: nothing, a hyphen range, or words. Comparators are merged as they are read.
 ghost use Rattle.std.specs.Prelude.{◌≡◌, IfSome, None, OnOk};
 ghost use Rattle.semver_versions.specs.Characters.{BeginsWith, BeginsWithNo};
+ghost use Rattle.semver_versions.specs.Reading.{begins, is_hyphen};
 ghost use Rattle.npm_sets.specs.NpmMeaning as Meaning;
 ghost use Rattle.npm_sets.specs.WordTexts as Texts;
-ghost use Rattle.npm_sets.specs.Private.ReadViews.{AreReadEnds, AreSmallEnds, IsNarrowedTo, IsRead, IsWordRead};
-ghost use Rattle.npm_sets.specs.Private.ReadViews.{ends_seen, hyphen_seen, sides_seen};
+ghost use Rattle.npm_sets.specs.Private.ReadViews.{AreSmallEnds, IsNarrowedTo, IsRead, IsWordRead};
+ghost use Rattle.npm_sets.specs.Private.ReadViews.{ends_seen, hyphen_seen, is_sign, sides_seen};
 
 use crate::NpmOptions;
 use crate::ends::WordEnds;
@@ -64,12 +65,32 @@ fn is_dash(chunk: &[u8]) -> bool
     }
 }
 
+// Returns `true` if the first character is a `-`.
+#[inline(always)]
+fn begins_with_dash(text: &[u8]) -> bool
+    ensures { result ≡ begins is_hyphen text.now }
+{
+    matches!(text, [b'-', ..])
+}
+
+// Returns `true` if the first character is a sign that begins no partial. Most pieces that come here begin so, and are not
+// divided for a hyphen range.
+#[inline(always)]
+fn begins_with_sign(text: &[u8]) -> bool
+    ensures { result ≡ begins is_sign text.now }
+{
+    matches!(text, [b'>' | b'<' | b'~' | b'^', ..])
+}
+
 // `1.2` and `3` of `1.2 - 3`
 fn split_sides(text: &[u8]) -> Option<(&[u8], &[u8])>
     requires { BeginsWith Texts.is_solid text.now }
     ensures { sides_seen result ≡ Texts.sides_of (Texts.chunks_of text.now) }
 {
     let (left, first) = split_chunk(text);
+    if !begins_with_dash(first) {
+        return None;
+    }
     let (dash, second) = split_chunk(first);
     if !is_dash(dash) {
         return None;
@@ -91,6 +112,9 @@ fn read_hyphen(text: &[u8], options: NpmOptions) -> Option<WordEnds>
         ≡ Meaning.hyphen_range options (Texts.sides_of (Texts.chunks_of text.now)) }
     ensures small { IfSome result (λ ends. AreSmallEnds ends) }
 {
+    if begins_with_sign(text) {
+        return None;
+    }
     let (left, right) = split_sides(text)?;
     let Ok(left) = read_partial(options.loose, left) else {
         return None;

@@ -1,14 +1,16 @@
 //! The rows of npm's tables: which comparator a lead and a partial give, and a hyphen range.
 //!
 //! Each row has a parameter `pre`: whether prereleases are included.
-ghost use Rattle.std.specs.Prelude.{◌≡◌, ◌≤◌, IfSome};
+ghost use Rattle.std.specs.Prelude.{◌≡◌, ◌≤◌};
 ghost use Rattle.semver_sets.specs.Comparator as Comparators;
 ghost use Rattle.semver_sets.specs.Merging.{all_cuts};
 ghost use Rattle.semver_versions.specs.Version as Versions;
-ghost use Rattle.semver_versions.specs.Readers.Reading.{read_extras};
+ghost use Rattle.semver_versions.specs.Version.{without_build};
+ghost use Rattle.semver_sets.specs.PartialText.{zeroed};
+ghost use Rattle.semver_versions.specs.Reading.{read_extras};
 ghost use Rattle.npm_sets.specs.Rows as Rows;
 ghost use Rattle.npm_sets.specs.Private.ReadViews.{AreSmall, AreSmallEnds, IsSmallCut, IsSmallVersion, IsSound};
-ghost use Rattle.npm_sets.specs.Private.ReadViews.{bare_version, cut_seen, ends_seen, full_version, has_some};
+ghost use Rattle.npm_sets.specs.Private.ReadViews.{cut_seen, ends_seen, full_version, has_some};
 ghost use Rattle.npm_sets.specs.Private.ReadViews.{partial_seen, version_seen};
 
 use crate::ends::{WordCut, WordEnds, WordVersion};
@@ -120,28 +122,20 @@ fn has_prerelease(extras: &[u8]) -> bool
 }
 
 // `1.2.3`, `1.2`, `1`, `*`
-fn equal_ends<'a>(
-    pre: bool,
-    major: Option<u64>,
-    minor: Option<u64>,
-    patch: Option<u64>,
-    extras: &'a [u8],
-) -> WordEnds<'a>
-    requires major { IfSome major (λ n. n ≤ MAX_SAFE_INTEGER) }
-    requires minor { IfSome minor (λ n. n ≤ MAX_SAFE_INTEGER) }
-    requires patch { IfSome patch (λ n. n ≤ MAX_SAFE_INTEGER) }
-    ensures ends { ends_seen result
-        ≡ Rows.equal_row pre major minor patch (bare_version major minor patch extras.now) }
+fn equal_ends(pre: bool, partial: Partial) -> WordEnds
+    requires { IsSound partial }
+    ensures ends { let p = partial_seen partial.entry in
+        ends_seen result ≡ Rows.equal_row pre p.major p.minor p.patch (without_build (zeroed p)) }
     ensures small { AreSmallEnds result }
 {
-    match (major, minor, patch) {
+    match (partial.major, partial.minor, partial.patch) {
         (None, _, _) => all_cuts(),
         (Some(major), None, _) => from_up_to(first_of(pre, major, 0, 0), major + 1, 0, 0),
         (Some(major), Some(minor), None) => {
             from_up_to(first_of(pre, major, minor, 0), major, minor + 1, 0)
         }
         (Some(major), Some(minor), Some(patch)) => {
-            let version = WordVersion::Full(major, minor, patch, extras);
+            let version = WordVersion::Full(major, minor, patch, partial.extras);
             WordEnds {
                 lower: WordCut::Before(version),
                 upper: WordCut::After(version),
@@ -151,149 +145,104 @@ fn equal_ends<'a>(
 }
 
 // `>=1.2.3`, `>=1.2`, `>=1`, `>=*`
-fn at_least_ends<'a>(
-    pre: bool,
-    major: Option<u64>,
-    minor: Option<u64>,
-    patch: Option<u64>,
-    extras: &'a [u8],
-) -> WordEnds<'a>
-    requires major { IfSome major (λ n. n ≤ MAX_SAFE_INTEGER) }
-    requires minor { IfSome minor (λ n. n ≤ MAX_SAFE_INTEGER) }
-    requires patch { IfSome patch (λ n. n ≤ MAX_SAFE_INTEGER) }
-    ensures ends { ends_seen result
-        ≡ Rows.at_least_row pre major minor patch (bare_version major minor patch extras.now) }
+fn at_least_ends(pre: bool, partial: Partial) -> WordEnds
+    requires { IsSound partial }
+    ensures ends { let p = partial_seen partial.entry in
+        ends_seen result ≡ Rows.at_least_row pre p.major p.minor p.patch (without_build (zeroed p)) }
     ensures small { AreSmallEnds result }
 {
-    match (major, minor, patch) {
+    match (partial.major, partial.minor, partial.patch) {
         (None, _, _) => all_cuts(),
         (Some(major), None, _) => at_least(first_of(pre, major, 0, 0)),
         (Some(major), Some(minor), None) => at_least(first_of(pre, major, minor, 0)),
         (Some(major), Some(minor), Some(patch)) => {
-            at_least(WordVersion::Full(major, minor, patch, extras))
+            at_least(WordVersion::Full(major, minor, patch, partial.extras))
         }
     }
 }
 
 // `>1.2.3`, `>1.2`, `>1`, `>*`
-fn above_ends<'a>(
-    pre: bool,
-    major: Option<u64>,
-    minor: Option<u64>,
-    patch: Option<u64>,
-    extras: &'a [u8],
-) -> WordEnds<'a>
-    requires major { IfSome major (λ n. n ≤ MAX_SAFE_INTEGER) }
-    requires minor { IfSome minor (λ n. n ≤ MAX_SAFE_INTEGER) }
-    requires patch { IfSome patch (λ n. n ≤ MAX_SAFE_INTEGER) }
-    ensures ends { ends_seen result
-        ≡ Rows.above_row pre major minor patch (bare_version major minor patch extras.now) }
+fn above_ends(pre: bool, partial: Partial) -> WordEnds
+    requires { IsSound partial }
+    ensures ends { let p = partial_seen partial.entry in
+        ends_seen result ≡ Rows.above_row pre p.major p.minor p.patch (without_build (zeroed p)) }
     ensures small { AreSmallEnds result }
 {
-    match (major, minor, patch) {
+    match (partial.major, partial.minor, partial.patch) {
         (None, _, _) => below_least(0, 0),
         (Some(major), None, _) => at_least(first_of(pre, major + 1, 0, 0)),
         (Some(major), Some(minor), None) => at_least(first_of(pre, major, minor + 1, 0)),
         (Some(major), Some(minor), Some(patch)) => WordEnds {
-            lower: WordCut::After(WordVersion::Full(major, minor, patch, extras)),
+            lower: WordCut::After(WordVersion::Full(major, minor, patch, partial.extras)),
             upper: WordCut::End,
         },
     }
 }
 
 // `<1.2.3`, `<1.2`, `<1`, `<*`
-fn below_ends<'a>(
-    major: Option<u64>,
-    minor: Option<u64>,
-    patch: Option<u64>,
-    extras: &'a [u8],
-) -> WordEnds<'a>
-    requires major { IfSome major (λ n. n ≤ MAX_SAFE_INTEGER) }
-    requires minor { IfSome minor (λ n. n ≤ MAX_SAFE_INTEGER) }
-    requires patch { IfSome patch (λ n. n ≤ MAX_SAFE_INTEGER) }
-    ensures ends { ends_seen result
-        ≡ Rows.below_row major minor patch (bare_version major minor patch extras.now) }
+fn below_ends(partial: Partial) -> WordEnds
+    requires { IsSound partial }
+    ensures ends { let p = partial_seen partial.entry in
+        ends_seen result ≡ Rows.below_row p.major p.minor p.patch (without_build (zeroed p)) }
     ensures small { AreSmallEnds result }
 {
-    match (major, minor, patch) {
+    match (partial.major, partial.minor, partial.patch) {
         (None, _, _) => below_least(0, 0),
         (Some(major), None, _) => below_least(major, 0),
         (Some(major), Some(minor), None) => below_least(major, minor),
         (Some(major), Some(minor), Some(patch)) => WordEnds {
             lower: WordCut::Start,
-            upper: WordCut::Before(WordVersion::Full(major, minor, patch, extras)),
+            upper: WordCut::Before(WordVersion::Full(major, minor, patch, partial.extras)),
         },
     }
 }
 
 // `<=1.2.3`, `<=1.2`, `<=1`, `<=*`
-fn at_most_ends<'a>(
-    major: Option<u64>,
-    minor: Option<u64>,
-    patch: Option<u64>,
-    extras: &'a [u8],
-) -> WordEnds<'a>
-    requires major { IfSome major (λ n. n ≤ MAX_SAFE_INTEGER) }
-    requires minor { IfSome minor (λ n. n ≤ MAX_SAFE_INTEGER) }
-    requires patch { IfSome patch (λ n. n ≤ MAX_SAFE_INTEGER) }
-    ensures ends { ends_seen result
-        ≡ Rows.at_most_row major minor patch (bare_version major minor patch extras.now) }
+fn at_most_ends(partial: Partial) -> WordEnds
+    requires { IsSound partial }
+    ensures ends { let p = partial_seen partial.entry in
+        ends_seen result ≡ Rows.at_most_row p.major p.minor p.patch (without_build (zeroed p)) }
     ensures small { AreSmallEnds result }
 {
-    match (major, minor, patch) {
+    match (partial.major, partial.minor, partial.patch) {
         (None, _, _) => all_cuts(),
         (Some(major), None, _) => below_least(major + 1, 0),
         (Some(major), Some(minor), None) => below_least(major, minor + 1),
         (Some(major), Some(minor), Some(patch)) => WordEnds {
             lower: WordCut::Start,
-            upper: WordCut::After(WordVersion::Full(major, minor, patch, extras)),
+            upper: WordCut::After(WordVersion::Full(major, minor, patch, partial.extras)),
         },
     }
 }
 
 // `~1.2.3`, `~1.2`, `~1`, `~*`
-fn tilde_ends<'a>(
-    major: Option<u64>,
-    minor: Option<u64>,
-    patch: Option<u64>,
-    extras: &'a [u8],
-) -> WordEnds<'a>
-    requires major { IfSome major (λ n. n ≤ MAX_SAFE_INTEGER) }
-    requires minor { IfSome minor (λ n. n ≤ MAX_SAFE_INTEGER) }
-    requires patch { IfSome patch (λ n. n ≤ MAX_SAFE_INTEGER) }
-    ensures ends { ends_seen result
-        ≡ Rows.tilde_row major minor patch (bare_version major minor patch extras.now) }
+fn tilde_ends(partial: Partial) -> WordEnds
+    requires { IsSound partial }
+    ensures ends { let p = partial_seen partial.entry in
+        ends_seen result ≡ Rows.tilde_row p.major p.minor p.patch (without_build (zeroed p)) }
     ensures small { AreSmallEnds result }
 {
-    match (major, minor, patch) {
+    match (partial.major, partial.minor, partial.patch) {
         (None, _, _) => all_cuts(),
         (Some(major), None, _) => from_up_to(WordVersion::Release(major, 0, 0), major + 1, 0, 0),
         (Some(major), Some(minor), None) => {
             from_up_to(WordVersion::Release(major, minor, 0), major, minor + 1, 0)
         }
         (Some(major), Some(minor), Some(patch)) => {
-            let version = WordVersion::Full(major, minor, patch, extras);
+            let version = WordVersion::Full(major, minor, patch, partial.extras);
             from_up_to(version, major, minor + 1, 0)
         }
     }
 }
 
 // `^1.2.3`, `^1.2`, `^1`, `^*`, `^0.2.3`, `^0.0.3`, `^0.2`, `^0`
-fn caret_ends<'a>(
-    pre: bool,
-    major: Option<u64>,
-    minor: Option<u64>,
-    patch: Option<u64>,
-    extras: &'a [u8],
-) -> WordEnds<'a>
-    requires major { IfSome major (λ n. n ≤ MAX_SAFE_INTEGER) }
-    requires minor { IfSome minor (λ n. n ≤ MAX_SAFE_INTEGER) }
-    requires patch { IfSome patch (λ n. n ≤ MAX_SAFE_INTEGER) }
-    ensures ends { ends_seen result
-        ≡ Rows.caret_row pre major minor patch (bare_version major minor patch extras.now) }
+fn caret_ends(pre: bool, partial: Partial) -> WordEnds
+    requires { IsSound partial }
+    ensures ends { let p = partial_seen partial.entry in
+        ends_seen result ≡ Rows.caret_row pre p.major p.minor p.patch (without_build (zeroed p)) }
     ensures small { AreSmallEnds result }
 {
-    match (major, minor, patch) {
+    match (partial.major, partial.minor, partial.patch) {
         (None, _, _) => all_cuts(),
         (Some(major), None, _) => from_up_to(first_of(pre, major, 0, 0), major + 1, 0, 0),
         (Some(0), Some(minor), None) => from_up_to(first_of(pre, 0, minor, 0), 0, minor + 1, 0),
@@ -302,7 +251,7 @@ fn caret_ends<'a>(
         }
         (Some(0), Some(0), Some(patch)) => {
             from_up_to(
-                prerelease_or_first(pre, 0, 0, patch, extras),
+                prerelease_or_first(pre, 0, 0, patch, partial.extras),
                 0,
                 0,
                 patch + 1,
@@ -310,14 +259,14 @@ fn caret_ends<'a>(
         }
         (Some(0), Some(minor), Some(patch)) => {
             from_up_to(
-                prerelease_or_first(pre, 0, minor, patch, extras),
+                prerelease_or_first(pre, 0, minor, patch, partial.extras),
                 0,
                 minor + 1,
                 0,
             )
         }
         (Some(major), Some(minor), Some(patch)) => {
-            let version = WordVersion::Full(major, minor, patch, extras);
+            let version = WordVersion::Full(major, minor, patch, partial.extras);
             from_up_to(version, major + 1, 0, 0)
         }
     }
@@ -326,52 +275,42 @@ fn caret_ends<'a>(
 // ---- hyphen ranges
 
 // `1.2.3 - `, `1.2 - `, `1 - `, `* - `
-fn left_cut<'a>(
-    pre: bool,
-    major: Option<u64>,
-    minor: Option<u64>,
-    patch: Option<u64>,
-    extras: &'a [u8],
-) -> WordCut<'a>
-    requires major { IfSome major (λ n. n ≤ MAX_SAFE_INTEGER) }
-    requires minor { IfSome minor (λ n. n ≤ MAX_SAFE_INTEGER) }
-    requires patch { IfSome patch (λ n. n ≤ MAX_SAFE_INTEGER) }
-    ensures cut { cut_seen result
-        ≡ Rows.left_row pre major minor patch (bare_version major minor patch extras.now) }
+fn left_cut(pre: bool, partial: Partial) -> WordCut
+    requires { IsSound partial }
+    ensures cut { let p = partial_seen partial.entry in
+        cut_seen result ≡ Rows.left_row pre p.major p.minor p.patch (without_build (zeroed p)) }
     ensures small { IsSmallCut result }
 {
-    match (major, minor, patch) {
+    match (partial.major, partial.minor, partial.patch) {
         (None, _, _) => WordCut::Start,
         (Some(major), None, _) => WordCut::Before(first_of(pre, major, 0, 0)),
         (Some(major), Some(minor), None) => WordCut::Before(first_of(pre, major, minor, 0)),
         (Some(major), Some(minor), Some(patch)) => {
-            WordCut::Before(prerelease_or_first(pre, major, minor, patch, extras))
+            WordCut::Before(prerelease_or_first(pre, major, minor, patch, partial.extras))
         }
     }
 }
 
 // ` - 1.2.3`, ` - 1.2`, ` - 1`, ` - *`
-fn right_cut<'a>(
-    pre: bool,
-    major: Option<u64>,
-    minor: Option<u64>,
-    patch: Option<u64>,
-    extras: &'a [u8],
-) -> WordCut<'a>
-    requires major { IfSome major (λ n. n ≤ MAX_SAFE_INTEGER) }
-    requires minor { IfSome minor (λ n. n ≤ MAX_SAFE_INTEGER) }
-    requires patch { IfSome patch (λ n. n ≤ MAX_SAFE_INTEGER) }
-    ensures cut { cut_seen result
-        ≡ Rows.right_row pre major minor patch (bare_version major minor patch extras.now) }
+fn right_cut(pre: bool, partial: Partial) -> WordCut
+    requires { IsSound partial }
+    ensures cut { let p = partial_seen partial.entry in
+        cut_seen result ≡ Rows.right_row pre p.major p.minor p.patch (without_build (zeroed p)) }
     ensures small { IsSmallCut result }
 {
-    match (major, minor, patch) {
+    match (partial.major, partial.minor, partial.patch) {
         (None, _, _) => WordCut::End,
         (Some(major), None, _) => WordCut::Before(WordVersion::Least(major + 1, 0, 0)),
         (Some(major), Some(minor), None) => {
             WordCut::Before(WordVersion::Least(major, minor + 1, 0))
         }
-        (Some(major), Some(minor), Some(patch)) => right_full(pre, major, minor, patch, extras),
+        (Some(major), Some(minor), Some(patch)) => right_full(
+            pre,
+            major,
+            minor,
+            patch,
+            partial.extras,
+        ),
     }
 }
 
@@ -383,20 +322,14 @@ pub(crate) fn lead_ends<'a>(pre: bool, lead: Lead, partial: Partial<'a>) -> Word
     ensures ends { ends_seen result ≡ Rows.lead_comparator pre lead (partial_seen partial.entry) }
     ensures small { AreSmallEnds result }
 {
-    let Partial {
-        major,
-        minor,
-        patch,
-        extras,
-    } = partial;
     match lead {
-        Lead::Nothing | Lead::Equal => equal_ends(pre, major, minor, patch, extras),
-        Lead::AtLeast => at_least_ends(pre, major, minor, patch, extras),
-        Lead::Above => above_ends(pre, major, minor, patch, extras),
-        Lead::Below => below_ends(major, minor, patch, extras),
-        Lead::AtMost => at_most_ends(major, minor, patch, extras),
-        Lead::Tilde => tilde_ends(major, minor, patch, extras),
-        Lead::Caret => caret_ends(pre, major, minor, patch, extras),
+        Lead::Nothing | Lead::Equal => equal_ends(pre, partial),
+        Lead::AtLeast => at_least_ends(pre, partial),
+        Lead::Above => above_ends(pre, partial),
+        Lead::Below => below_ends(partial),
+        Lead::AtMost => at_most_ends(partial),
+        Lead::Tilde => tilde_ends(partial),
+        Lead::Caret => caret_ends(pre, partial),
     }
 }
 
@@ -409,7 +342,7 @@ pub(crate) fn hyphen_ends<'a>(pre: bool, left: Partial<'a>, right: Partial<'a>) 
     ensures small { AreSmallEnds result }
 {
     WordEnds {
-        lower: left_cut(pre, left.major, left.minor, left.patch, left.extras),
-        upper: right_cut(pre, right.major, right.minor, right.patch, right.extras),
+        lower: left_cut(pre, left),
+        upper: right_cut(pre, right),
     }
 }

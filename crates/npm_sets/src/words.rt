@@ -1,7 +1,7 @@
 //! The words of a piece: a lead such as `>=`, and its operand.
 ghost use Rattle.std.specs.Prelude.{◌≡◌, ◌<◌, ◌∷◌, ℕ, IfSome, IfNone, IsTrue, length};
 ghost use Rattle.semver_versions.specs.Characters.{BeginsWith, BeginsWithNo};
-ghost use Rattle.semver_versions.specs.Readers.Reading.{prefix_of, rest_of};
+ghost use Rattle.semver_versions.specs.Reading.{prefix_of, rest_of};
 ghost use Rattle.npm_sets.specs.WordTexts as Texts;
 ghost use Rattle.npm_sets.specs.WordTexts.{chunks_of, words_of};
 

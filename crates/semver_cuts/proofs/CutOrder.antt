@@ -11,15 +11,11 @@ use Rattle.semver_cuts.specs.CutLaws.{IsOrderOfCuts}
 module _ {T : Type 0} {cmp : T → T → Ordering} (o : IsTotalOrder cmp) where
   start_least : (c : Cut T) → (c ≡ Start → ⊥) → cut_cmp cmp Start c ≡ Less
   start_least Start h = absurd (h refl)
-  start_least (Before v) h = refl
-  start_least (After v) h = refl
-  start_least End h = refl
+  start_least c h = refl
 
   end_greatest : (c : Cut T) → (c ≡ End → ⊥) → cut_cmp cmp c End ≡ Less
-  end_greatest Start h = refl
-  end_greatest (Before v) h = refl
-  end_greatest (After v) h = refl
   end_greatest End h = absurd (h refl)
+  end_greatest c h = refl
 
   pub cut_cmp-order : IsOrderOfCuts cmp (cut_cmp cmp)
   cut_cmp-order = record {
@@ -76,18 +72,12 @@ module _ {T : Type 0} {cmp : T → T → Ordering} (o : IsTotalOrder cmp) where
 
     pub only_order : (c d : Cut T) → order c d ≡ cut_cmp cmp c d
     only_order Start Start = tied_itself l.total Start
-    only_order Start (Before w) = l.start (Before w) (λ e. cc)
-    only_order Start (After w) = l.start (After w) (λ e. cc)
-    only_order Start End = l.start End (λ e. cc)
-    only_order (Before v) Start = turn (Before v) Start (l.start (Before v) (λ e. cc))
+    only_order End End = tied_itself l.total End
     only_order (Before v) (Before w) = both_before v w (cmp v w) refl
     only_order (Before v) (After w) = first_before v w (cmp v w) refl
-    only_order (Before v) End = l.end (Before v) (λ e. cc)
-    only_order (After v) Start = turn (After v) Start (l.start (After v) (λ e. cc))
     only_order (After v) (Before w) = first_after v w (cmp v w) refl
     only_order (After v) (After w) = both_after v w (cmp v w) refl
-    only_order (After v) End = l.end (After v) (λ e. cc)
-    only_order End Start = turn End Start (l.start End (λ e. cc))
-    only_order End (Before w) = turn End (Before w) (l.end (Before w) (λ e. cc))
-    only_order End (After w) = turn End (After w) (l.end (After w) (λ e. cc))
-    only_order End End = tied_itself l.total End
+    only_order Start d = l.start d (λ e. cc)
+    only_order End d = turn End d (l.end d (λ e. cc))
+    only_order c Start = turn c Start (l.start c (λ e. cc))
+    only_order c End = l.end c (λ e. cc)

@@ -4,5 +4,3 @@ pub mod GreatestSpans
 pub mod PiecesAlong
 -- these are all pieces of the span
 pub mod PiecesFound
--- the loop that finds them
-pub mod PiecesLoop

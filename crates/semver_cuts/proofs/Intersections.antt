@@ -1,5 +1,3 @@
--- one more span of either list
-pub mod IntersectionSteps
 -- one span with spans that are apart
 pub mod AscendingSpans
 -- the first of such spans that ends above a cut

@@ -8,8 +8,6 @@ pub mod JoinedRuns
 pub mod JoinedSpans
 -- the places of the joined spans
 pub mod JoinedPlaces
--- the loop that finds these places
-pub mod PlacesLoop
 -- the loop that tests whether a list is merged as it stands
 pub mod ApartLoop
 -- moving the ends out of the list

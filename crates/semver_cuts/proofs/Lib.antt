@@ -2,7 +2,7 @@
 -- functions, by module.
 -- ---- the order of cuts
 pub mod CutOrder
--- ---- lists: their elements, and ascending lists
+-- ---- lists and their elements
 pub mod Lists
 -- ---- a step of a loop along a list
 pub mod LoopSteps

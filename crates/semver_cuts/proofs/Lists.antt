@@ -1,4 +1,2 @@
 -- the elements of a list, and those of a permutation of it
 pub mod Elements
--- strictly ascending lists
-pub mod AscendingLists

@@ -1,6 +1,7 @@
 -- The intersection of two lists of spans, as a list of spans: that of 0 to 1 and 3 to 5 with 0.5 to 4 is 0.5 to 1 and 3
 -- to 4.
-use Rattle.std.specs.Prelude.{List, [], ◌∷◌, ◌++◌, if◌then◌else◌}
+use Rattle.std.specs.Prelude.{List, [], ◌∷◌, if◌then◌else◌}
+use Rattle.std.specs.List.{flat_map}
 use Rattle.std.specs.Ordering.{is_lt}
 use Rattle.std.specs.declared.cmp.Ordering.{Ordering}
 use Rattle.semver_cuts.specs.declared.cut.Cut.{Cut}
@@ -28,10 +29,8 @@ common_of cmp one other =
 
 -- the intersection of one span with each of the others
 abbrev pub common_with : {T : Type 0} → (T → T → Ordering) → Ends T → List (Ends T) → List (Ends T)
-common_with cmp one [] = []
-common_with cmp one (other ∷ others) = common_of cmp one other ++ common_with cmp one others
+common_with cmp one = flat_map (common_of cmp one)
 
 -- the intersection of each span of one list with each of the other: those of the first span come first
 abbrev pub common_spans : {T : Type 0} → (T → T → Ordering) → List (Ends T) → List (Ends T) → List (Ends T)
-common_spans cmp [] others = []
-common_spans cmp (one ∷ ones) others = common_with cmp one others ++ common_spans cmp ones others
+common_spans {T} cmp ones others = flat_map (λ (one : Ends T). common_with cmp one others) ones

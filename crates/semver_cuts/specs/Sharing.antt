@@ -1,14 +1,10 @@
 -- Whether two lists of spans share a cut, and whether one contains all cuts of the other.
-use Rattle.std.specs.Prelude.{◌⊎◌, List, [], ◌∷◌}
+use Rattle.std.specs.Prelude.{List}
 use Rattle.std.specs.declared.cmp.Ordering.{Ordering}
 use Rattle.semver_cuts.specs.declared.cut.Cut.{Cut}
 use Rattle.semver_cuts.specs.Ends.{Ends, IsInSpan}
+pub use Rattle.semver_cuts.specs.SpanLists.{AnyByRecursion}
 use Rattle.semver_cuts.specs.SpanLists.{IsInSome}
-
--- `P` holds of at least one element of the list
-abbrev pub AnyByRecursion : {X : Type 0} → (X → Type 0) → List X → Type 0
-AnyByRecursion P [] = ⊥
-AnyByRecursion P (x ∷ xs) = P x ⊎ AnyByRecursion P xs
 
 -- some cut lies in both spans: `Before 2` lies in 1 to 3 and in 2 to 4, and none in both 1 to 2 and 2 to 4
 abbrev pub HaveCommonCut : {T : Type 0} → (T → T → Ordering) → Ends T → Ends T → Type 0

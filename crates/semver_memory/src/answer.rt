@@ -1,6 +1,6 @@
 //! The results of calls.
 use node_semver::{BumpError, Identifier, JsonError, Range, SemverError, Version};
-use npm_lock::{CheckError, Problems};
+use npm_lock::{CheckError, Mismatch, Problems};
 use semver_cuts::{Cut, Span};
 use serde_json::Value;
 use std::alloc::{AllocError, Global};
@@ -65,7 +65,7 @@ fn print_of_problems(alloc: Global, problems: &Problems) -> Result<String, Alloc
     for problem in problems.list.iter() {
         text.push_str(problem.kind.as_str())?;
         text.push(' ')?;
-        text.push_str(problem.name.as_str())?;
+        text.push_str(problem.dependency.name.as_str())?;
         text.push_str(", ")?;
     }
     let (packages, dependencies) = (problems.packages, problems.dependencies);
@@ -159,6 +159,15 @@ pub(crate) fn json(found: Result<Value, AllocError>) -> Answer {
 pub(crate) fn problems(found: Result<Problems, CheckError>) -> Answer {
     match found {
         Ok(problems) => Answer::Problems(problems),
+        Err(CheckError::Refused(fault)) => Answer::NoLock(fault),
+        Err(CheckError::Memory) => Answer::OutOfMemory,
+    }
+}
+
+/// How many mismatches were given.
+pub(crate) fn mismatches(found: Result<Vec<Mismatch>, CheckError>) -> Answer {
+    match found {
+        Ok(mismatches) => Answer::Count(mismatches.len()),
         Err(CheckError::Refused(fault)) => Answer::NoLock(fault),
         Err(CheckError::Memory) => Answer::OutOfMemory,
     }

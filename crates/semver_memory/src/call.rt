@@ -224,6 +224,12 @@ fn call_of_value(alloc: Global, name: &str, one: &str, other: &str) -> Result<Ca
         | "Version::bump"
         | "Version::coerce"
         | "npm_lock::check"
+        | "npm_lock::check_any"
+        | "npm_lock::mismatches_of"
+        | "npm_lock::put_manifest"
+        | "Mismatch::to_json"
+        | "npm_advisories::audit_lock"
+        | "Unchecked::to_json"
         | "Problem::to_json" => call_of_making(alloc, name, one),
         "WithPrereleases::min_version"
         | "WithPrereleases::least_beyond"

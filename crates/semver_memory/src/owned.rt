@@ -1,4 +1,4 @@
-//! What is made of a text, of its borrowed parts, and of a lock file.
+//! What is made of a text, of its borrowed parts, and of a lock file, also with a manifest or with advisories.
 use crate::answer;
 use crate::answer::Answer;
 use crate::fault::Fault;
@@ -6,7 +6,8 @@ use node_semver::{
     Bump, CoerceOptions, Identifier, IdentifierBase, SemverError, SemverErrorKind, Version,
     VersionRef,
 };
-use npm_lock::Problem;
+use npm_advisories::{LockError, Severity, audit_lock};
+use npm_lock::{CheckError, Mismatch, Problem, Unchecked};
 use serde_json::Value;
 use std::alloc::{AllocError, Global};
 
@@ -23,8 +24,20 @@ pub(crate) enum Making {
     Error(String),
     /// The problems of a lock file.
     Problems(Value),
+    /// The problems of a lock file of any version, with the manifest in its member `manifest`.
+    AnyProblems(Value),
     /// The JSON of the last of these problems.
     Json(Problem),
+    /// The JSON of the last dependency that is not checked.
+    UncheckedJson(Unchecked),
+    /// The mismatches of a manifest, the member `manifest` of a lock file.
+    Mismatches(Value),
+    /// The JSON of the last of these mismatches.
+    MismatchJson(Mismatch),
+    /// A lock file with its member `manifest` in the place of the root.
+    Put(Value),
+    /// The first package that is hit, of an object with a `lock` and its `advisories`.
+    Audit(Value),
     /// The next prerelease after a version, with an identifier or without.
     Bumped(Version, Option<Identifier>),
 }
@@ -40,7 +53,16 @@ impl Making {
                 answer::refusal(SemverError::new(alloc, text, 1, SemverErrorKind::Other))
             }
             Making::Problems(lock) => answer::problems(npm_lock::check(alloc, lock, None)),
+            Making::AnyProblems(lock) => {
+                let manifest = lock.get("manifest");
+                answer::problems(npm_lock::check_any(alloc, lock, manifest, None))
+            }
             Making::Json(problem) => answer::json(problem.to_json(alloc)),
+            Making::UncheckedJson(unchecked) => answer::json(unchecked.to_json(alloc)),
+            Making::Mismatches(lock) => answer::mismatches(mismatches_of(alloc, lock)),
+            Making::MismatchJson(mismatch) => answer::json(mismatch.to_json(alloc)),
+            Making::Put(lock) => answer::json(with_manifest(alloc, lock)),
+            Making::Audit(input) => audited(alloc, input),
             Making::Bumped(version, identifier) => {
                 let base = IdentifierBase::Zero;
                 answer::bumped(version.bump(alloc, Bump::PreRelease, identifier.as_ref(), base))
@@ -55,8 +77,14 @@ impl Making {
             | Making::Identifiers(text)
             | Making::Coerced(text)
             | Making::Error(text) => text.clone(),
-            Making::Problems(lock) => lock.to_string(alloc),
-            Making::Json(problem) => problem.name.clone(),
+            Making::Problems(value)
+            | Making::AnyProblems(value)
+            | Making::Mismatches(value)
+            | Making::Put(value)
+            | Making::Audit(value) => value.to_string(alloc),
+            Making::MismatchJson(mismatch) => mismatch.name.clone(),
+            Making::UncheckedJson(unchecked) => unchecked.dependency.name.clone(),
+            Making::Json(problem) => problem.dependency.name.clone(),
             Making::Bumped(version, _) => version.to_string(alloc),
         }
     }
@@ -83,11 +111,31 @@ fn coerced(alloc: Global, text: &str) -> Answer {
     }
 }
 
+fn audited(alloc: Global, input: &Value) -> Answer {
+    let (Some(lock), Some(advisories)) = (input.get("lock"), input.get("advisories")) else {
+        return Answer::Nothing;
+    };
+    match audit_lock(alloc, advisories, Severity::Info, lock) {
+        Ok(found) => match found.first() {
+            Some(found) => answer::json(found.to_json(alloc)),
+            None => Answer::Nothing,
+        },
+        Err(LockError::Memory) => Answer::OutOfMemory,
+        Err(_) => Answer::Nothing,
+    }
+}
+
 /// The call with this name.
 pub(crate) fn making_of(alloc: Global, name: &str, text: &str) -> Result<Making, Fault> {
     match name {
         "npm_lock::check" => Ok(Making::Problems(lock_of(alloc, text)?)),
+        "npm_lock::check_any" => Ok(Making::AnyProblems(lock_of(alloc, text)?)),
         "Problem::to_json" => problem_of(alloc, text),
+        "Unchecked::to_json" => unchecked_of(alloc, text),
+        "npm_lock::mismatches_of" => Ok(Making::Mismatches(lock_of(alloc, text)?)),
+        "npm_lock::put_manifest" => Ok(Making::Put(lock_of(alloc, text)?)),
+        "Mismatch::to_json" => mismatch_of(alloc, text),
+        "npm_advisories::audit_lock" => Ok(Making::Audit(lock_of(alloc, text)?)),
         "Version::bump" => bump_of(alloc, text),
         "SemverError::new" => Ok(Making::Error(String::from_str(alloc, text)?)),
         "Identifiers::to_vec" => Ok(Making::Identifiers(String::from_str(alloc, text)?)),
@@ -124,4 +172,42 @@ fn problem_of(alloc: Global, text: &str) -> Result<Making, Fault> {
         },
         Err(_) => Err(Fault::Text),
     }
+}
+
+fn unchecked_of(alloc: Global, text: &str) -> Result<Making, Fault> {
+    match npm_lock::check(alloc, &lock_of(alloc, text)?, None) {
+        Ok(mut problems) => match problems.unchecked.pop() {
+            Some(unchecked) => Ok(Making::UncheckedJson(unchecked)),
+            None => Err(Fault::Text),
+        },
+        Err(_) => Err(Fault::Text),
+    }
+}
+
+fn mismatch_of(alloc: Global, text: &str) -> Result<Making, Fault> {
+    match mismatches_of(alloc, &lock_of(alloc, text)?) {
+        Ok(mut mismatches) => match mismatches.pop() {
+            Some(mismatch) => Ok(Making::MismatchJson(mismatch)),
+            None => Err(Fault::Text),
+        },
+        Err(_) => Err(Fault::Text),
+    }
+}
+
+/// The mismatches of the manifest that stands in the lock file.
+fn mismatches_of(alloc: Global, lock: &Value) -> Result<Vec<Mismatch>, CheckError> {
+    let none = Value::Null;
+    let manifest = lock.get("manifest").unwrap_or(&none);
+    npm_lock::mismatches_of(alloc, lock, "", manifest)
+}
+
+/// The lock file with that manifest in the place of the root.
+fn with_manifest(alloc: Global, lock: &Value) -> Result<Value, AllocError> {
+    let manifest = match lock.get("manifest") {
+        Some(manifest) => manifest.clone()?,
+        None => Value::Null,
+    };
+    let mut changed = lock.clone()?;
+    npm_lock::put_manifest(alloc, &mut changed, "", manifest)?;
+    Ok(changed)
 }

@@ -11,9 +11,8 @@ use Rattle.semver_sets.specs.Meaning.{TextAdmits}
 use Rattle.semver_versions.specs.Version.{VersionValue}
 use Rattle.semver_versions.specs.VersionText.{IsVersionText}
 use Rattle.semver_sets.proofs.Ranges.Decisions.{Decided, admits_or_not, refused_or_not}
-use Rattle.semver_versions.specs.Lemmas.Versions.OneReading.{one_reading}
+use Rattle.semver_versions.specs.Lemmas.Public.{one_reading, read_or_faulty, version-no_fault}
 use Rattle.semver_versions.specs.ErrorLocation.{newline}
-use Rattle.semver_versions.specs.Lemmas.Versions.FaultLemmas.{read_or_faulty, version-no_fault}
 
 -- ---- a line is bad or good, and not both
 

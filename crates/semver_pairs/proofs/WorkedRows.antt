@@ -9,17 +9,12 @@ use Rattle.semver_pairs.specs.Pairs.{both, lone, lines_read, pairs_read}
 use Rattle.semver_sets.specs.Comparator.{from_up_to, with_major}
 use Rattle.semver_versions.specs.IdentifierValue.{alphanumeric, numeric}
 use Rattle.semver_sets.specs.Meaning.{TextAdmits}
-use Rattle.semver_versions.specs.Readers.Reading.{rest_of, skip_one, skip_plus, read_build, read_extras, prefix_of}
-use Rattle.semver_versions.specs.Readers.Reading.{list_rest, list_prefix, read_version, read_number, read_triple}
-use Rattle.semver_versions.specs.Readers.Reading.{read_dot}
-use Rattle.semver_versions.specs.Readers.Reading.{read_prerelease, read_unmarked}
 use Rattle.semver_versions.specs.Version.{VersionValue, least_of, release}
-use Rattle.semver_versions.specs.Lemmas.Versions.OneReading.{read-version}
+use Rattle.semver_versions.specs.Lemmas.Public.{computed, is-computed, is-version_in, version-no_fault, version_in}
 use Rattle.semver_sets.proofs.Examples.RangeComputing.{accepted-by, admits-by, alternatives_in, written-by}
 use Rattle.semver_sets.proofs.Examples.RangeExamples.{no_word-refused}
 use Rattle.semver_versions.specs.Error.{context}
 use Rattle.semver_versions.specs.Fault.{IsFault}
-use Rattle.semver_versions.specs.Lemmas.Versions.FaultLemmas.{fault-computed, version-no_fault}
 
 -- ---- lines and pairs
 
@@ -109,9 +104,8 @@ caret-admits = admits-by _ _ _ (written-by _ _ caret) refl
 
 -- the version line is read as what it writes
 version-good : IsGoodVersion (codes "1.2.3-rc.5") (prerelease 5)
-unfolding rest_of skip_one skip_plus read_build read_extras prefix_of list_rest list_prefix read_version
-    read_number read_triple read_dot read_prerelease read_unmarked lib.Utf8.encode
-version-good = ((codes "1.2.3-rc.5", (refl, refl)), read-version _ _ (omega arith) refl)
+unfolding version_in lib.Utf8.encode
+version-good = ((codes "1.2.3-rc.5", (refl, refl)), is-version_in _ _ (omega arith) refl)
 
 -- the third range line
 one : alternatives_in (codes "1") ≡ Some ((with_major 1 ∷ []) ∷ [])
@@ -124,9 +118,8 @@ one-good = ((codes "1", (refl, refl)), accepted-by _ _ (with_major 1).lower (wri
 
 -- its version line begins with no number
 word-faulty : IsFault (codes "bad") (context (codes "version")) 0
-unfolding rest_of skip_one skip_plus read_build read_extras prefix_of list_rest list_prefix read_version read_number
-    read_triple read_dot read_prerelease read_unmarked
-word-faulty = fault-computed _ _ _ refl
+unfolding computed
+word-faulty = is-computed _ _ _ refl
 
 word-bad : IsBadVersion (codes "bad")
 word-bad = inr (λ v read. version-no_fault (codes "bad") v _ _ read word-faulty)

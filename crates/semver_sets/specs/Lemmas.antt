@@ -4,3 +4,4 @@ pub mod Merging
 pub mod RangeHash
 -- ---- definitions that compute, for worked examples
 pub mod Deciding
+pub mod Forms

@@ -4,6 +4,7 @@
 -- ---- words, and the comparators that they give
 pub mod Comparator
 pub mod PartialText
+pub mod Forms
 pub mod Operators
 pub mod TildeRanges
 pub mod CaretRanges

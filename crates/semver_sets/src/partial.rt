@@ -4,8 +4,9 @@
 //! `#[inline(always)]` makes one function of the readers of a word, so that numbers and shapes stay in registers.
 ghost use Rattle.std.specs.Prelude.{◌≡◌, IfSome};
 ghost use Rattle.semver_versions.specs.Characters.{is_blank, is_partial_mark};
-ghost use Rattle.semver_versions.specs.Readers.Reading.{read_extras, rest_of, skip_one};
+ghost use Rattle.semver_versions.specs.Reading.{read_extras, rest_of, skip_one};
 ghost use Rattle.semver_sets.specs.Private.WordReading as Reading;
+ghost use Rattle.semver_sets.specs.Private.WordViews as WordViews;
 ghost use Rattle.semver_sets.specs.Private.WordViews.{IsComponentSound, IsSound, component_seen, component_value};
 ghost use Rattle.semver_sets.specs.Private.WordViews.{partial_seen, read_partial_seen};
 
@@ -14,33 +15,17 @@ use semver_versions::parse::extras::skip_extras;
 use semver_versions::parse::number::{is_digit, read_number};
 use semver_versions::parse::{is_clean_end, skip_blanks};
 
-// Which components of a partial are numbers.
-#[derive(Clone, Copy)]
-pub(crate) enum Shape {
-    // `1.2.3`
-    Full,
-    // `1.2`, `1.2.x`
-    MajorMinor,
-    // `1.x.3`
-    MajorPatch,
-    // `1`, `1.x`, `1.x.x`
-    Major,
-    // `x.2.3`
-    MinorPatch,
-    // `x.2`, `x.2.x`
-    Minor,
-    // `x.x.3`
-    Patch,
-    // `x`, `x.x`, `x.x.x`
-    Nothing,
-}
-
 // `1.2.x` of `1.2.x-alpha <2`: its version, with 0 for each absent number, and which components are numbers.
 #[derive(Clone, Copy)]
 pub(crate) struct Partial<'a> {
     pub(crate) version: WrittenVersion<'a>,
-    pub(crate) shape: Shape,
+    has_major: bool,
+    has_minor: bool,
+    has_patch: bool,
 }
+
+// The major, the minor and the patch of a partial, each a number or `None`.
+pub(crate) type Components = (Option<u64>, Option<u64>, Option<u64>);
 
 // A number, or 0 if it is absent.
 #[derive(Clone, Copy)]
@@ -81,23 +66,39 @@ fn partial_of(major: Component, minor: Component, patch: Component, extras: &[u8
         (component_value patch) (read_extras extras.now).0 }
     ensures sound { IsComponentSound major → IsComponentSound minor → IsComponentSound patch → IsSound result }
 {
-    let shape = match (major.is_number, minor.is_number, patch.is_number) {
-        (true, true, true) => Shape::Full,
-        (true, true, false) => Shape::MajorMinor,
-        (true, false, true) => Shape::MajorPatch,
-        (true, false, false) => Shape::Major,
-        (false, true, true) => Shape::MinorPatch,
-        (false, true, false) => Shape::Minor,
-        (false, false, true) => Shape::Patch,
-        (false, false, false) => Shape::Nothing,
-    };
     let version = WrittenVersion {
         major: major.number,
         minor: minor.number,
         patch: patch.number,
         extras,
     };
-    Partial { version, shape }
+    Partial {
+        version,
+        has_major: major.is_number,
+        has_minor: minor.is_number,
+        has_patch: patch.is_number,
+    }
+}
+
+impl<'a> Partial<'a> {
+    #[inline(always)]
+    pub(crate) fn components(self) -> Components
+        ensures { let p = partial_seen self.entry in
+            result ≡ (p.major, p.minor, p.patch) }
+    {
+        (
+            number_if(self.has_major, self.version.major),
+            number_if(self.has_minor, self.version.minor),
+            number_if(self.has_patch, self.version.patch),
+        )
+    }
+}
+
+#[inline(always)]
+fn number_if(is_number: bool, number: u64) -> Option<u64>
+    ensures { result ≡ WordViews.number_if is_number number }
+{
+    if is_number { Some(number) } else { None }
 }
 
 // `1.2.x` and ` <2` of `1.2.x-alpha <2`
@@ -121,7 +122,7 @@ fn read_components(text: &[u8]) -> Option<(Partial, &[u8])>
 
 // `1.2` of `v 1.2`: the text after an optional `v` and blanks. Most texts begin with a digit.
 #[inline(always)]
-#[tactic(auto, unfolding(semver_versions::specs::Readers::Reading::skip_one))]
+#[tactic(auto, unfolding(semver_versions::specs::Reading::skip_one))]
 fn skip_to_components(text: &[u8]) -> &[u8]
     ensures { result.now ≡ rest_of is_blank (skip_one is_partial_mark text.now) }
 {

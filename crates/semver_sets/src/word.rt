@@ -7,28 +7,31 @@ ghost use Rattle.std.specs.Prelude.{◌≡◌, List, None, Some, false};
 ghost use Rattle.semver_sets.specs.Comparator.{Comparator};
 ghost use Rattle.semver_sets.specs.Division.{IsAlternative};
 ghost use Rattle.semver_versions.specs.Characters.{BeginsWithNo, is_blank};
-ghost use Rattle.semver_versions.specs.Readers.Reading.{rest_of};
+ghost use Rattle.semver_versions.specs.Reading.{rest_of};
 ghost use Rattle.semver_sets.specs.Private.WordReading as Reading;
 ghost use Rattle.semver_sets.specs.Private.WordViews.{IsSound, ends_seen, lead_seen, partial_seen, word_seen};
 
 mod caret;
 mod ends;
+pub mod form;
 mod hyphen;
 mod operator;
 mod plain;
 mod tilde;
 
-use crate::partial::{Partial, read_clean_partial};
-use caret::caret_ends;
-pub(crate) use ends::{Form, WordEnds, WrittenVersion};
-use ends::{nothing, of_one};
+use crate::partial::{Components, Partial, read_clean_partial};
+pub(crate) use caret::caret_form;
+use ends::nothing;
+pub(crate) use ends::{Sides, WordEnds, WrittenVersion};
+use form::{Form, row_ends};
 pub(crate) use hyphen::read_leading_hyphen;
 use hyphen::{hyphen_ends, read_right};
 use memchr::memchr2;
-use operator::{above_ends, at_most_ends, below_ends, equal_ends};
-use plain::plain_ends;
+use operator::{above_form, at_most_form, below_form, equal_form};
+pub(crate) use plain::plain_form;
 use semver_versions::parse::{is_clean_end, skip_blanks};
-use tilde::{read_tilde, tilde_ends, tilde_greater_ends};
+pub(crate) use tilde::tilde_form;
+use tilde::{read_tilde, tilde_greater_form};
 
 // `>=1.2.3` of `>=1.2.3 <2`, or nothing for `foo`, and the rest
 #[inline(always)]
@@ -130,23 +133,31 @@ fn read_lead(text: &[u8]) -> (Lead, &[u8])
     }
 }
 
+// The form of a partial after a lead: each lead has a row.
+#[inline(always)]
+pub(crate) fn lead_form(lead: Lead, components: Components) -> Option<Form>
+    ensures { result ≡ Reading.lead_row (lead_seen lead) components.0 components.1 components.2 }
+{
+    match lead {
+        Lead::Plain => plain_form(components),
+        Lead::AtLeast => Some(Form::AtLeast),
+        Lead::Above => above_form(components),
+        Lead::Equal => equal_form(components),
+        Lead::AtMost => at_most_form(components),
+        Lead::Below => below_form(components),
+        Lead::Tilde => tilde_form(components),
+        Lead::TildeGreater => tilde_greater_form(components),
+        Lead::Caret => caret_form(components),
+    }
+}
+
 // The ends of the comparator that a lead and a partial give, if they give one.
 #[inline(always)]
 fn lead_ends(lead: Lead, partial: Partial) -> WordEnds
     requires { IsSound partial }
     ensures { ends_seen result ≡ Reading.lead_comparator (lead_seen lead) (partial_seen partial.entry) }
 {
-    match lead {
-        Lead::Plain => plain_ends(partial),
-        Lead::AtLeast => of_one(Form::AtLeast, partial.version),
-        Lead::Above => above_ends(partial),
-        Lead::Equal => equal_ends(partial),
-        Lead::AtMost => at_most_ends(partial),
-        Lead::Below => below_ends(partial),
-        Lead::Tilde => tilde_ends(partial),
-        Lead::TildeGreater => tilde_greater_ends(partial),
-        Lead::Caret => caret_ends(partial),
-    }
+    row_ends(lead_form(lead, partial.components()), partial.version)
 }
 
 // A plain partial before a blank: alone, or as the left side of a hyphen range.
@@ -159,6 +170,6 @@ fn plain_or_hyphen<'a>(partial: Partial<'a>, text: &'a [u8]) -> (WordEnds<'a>, &
 {
     match read_right(text) {
         Some((right, rest)) => (hyphen_ends(partial, right), rest),
-        None => (plain_ends(partial), text),
+        None => (lead_ends(Lead::Plain, partial), text),
     }
 }

@@ -1,5 +1,6 @@
 mod OrderExamples
 mod PrintExamples
 pub mod ErrorExamples
+pub mod FaultExamples
 mod StrictExamples
 mod CoerceExamples

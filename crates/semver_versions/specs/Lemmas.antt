@@ -6,3 +6,5 @@ pub mod Print
 pub mod Texts
 -- ---- the readers of versions, and their faults
 pub mod Versions
+-- ---- those that the crates above may cite
+pub mod Public

@@ -19,6 +19,8 @@ pub mod Hash
 pub mod Error
 pub mod Fault
 pub mod StrictVersionText
+-- ---- what a text begins with: npm's own reading of range texts rests on it
+pub mod Reading
 -- ---- versions: the least one and the next; raised ones
 pub mod VersionSteps
 pub mod Bump
@@ -40,7 +42,7 @@ pub mod VersionLaws
 pub mod Identifier
 pub mod IdentifierRef
 pub mod EndViews
--- ---- not to be trusted: what readers of bytes compute, for the crates above, and lemmas. No contract of `node_semver`
--- ---- uses these.
-pub mod Readers
+-- ---- not to be trusted: what private functions compute, and lemmas. The lemmas that the crates above cite are listed in
+-- ---- `Lemmas/Public`.
+pub mod Private
 pub mod Lemmas

@@ -14,7 +14,7 @@ use Rattle.semver_cuts.specs.Lemmas.Ends.{at_most_trans, at_most-or-below, below
 use Rattle.semver_sets.specs.Comparator.{above, at_least, with_major, with_minor}
 use Rattle.semver_versions.specs.Comparison.{version_cmp}
 use Rattle.semver_versions.specs.IdentifierValue.{alphanumeric}
-use Rattle.semver_versions.specs.Lemmas.Order.{version_total}
+use Rattle.semver_versions.specs.Lemmas.Public.{version_total}
 use Rattle.semver_versions.specs.Version.{VersionValue, least_of, release}
 use Rattle.semver_sets.proofs.Examples.SetComputing.{Sets, merged-by, sets_in}
 use Rattle.semver_sets.proofs.Examples.SetExamples.{from_to}

@@ -9,11 +9,10 @@ use Rattle.semver_versions.specs.IdentifierValue.{IdentifierValue, alphanumeric,
 use Rattle.semver_sets.specs.Meaning.{SetAdmits}
 use Rattle.semver_versions.specs.Order.{IsBelow, before_release}
 use Rattle.semver_versions.specs.Version.{VersionValue, least_of, release}
-use Rattle.semver_versions.specs.Lemmas.Order.{version-Less}
+use Rattle.semver_versions.specs.Lemmas.Public.{next-above, none-before_next, version-Less}
 use Rattle.node_semver.specs.Least.{AdmitsNone, HasBuildOfFirst, IsLeastAdmitted, build_at}
 use Rattle.semver_versions.specs.VersionSteps.{HasGreatestPatch, next_version}
 use Rattle.node_semver.proofs.Least.LeastLemmas.{after-floor}
-use Rattle.semver_versions.specs.Lemmas.Versions.VersionSteps.{next-above, none-before_next}
 
 -- ---- steps
 

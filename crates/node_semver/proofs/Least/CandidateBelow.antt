@@ -11,7 +11,7 @@ use Rattle.semver_versions.specs.Comparison.{version_cmp}
 use Rattle.semver_versions.specs.IdentifierValue.{IdentifierValue}
 use Rattle.semver_sets.specs.Meaning.{Opens, SetAdmits}
 use Rattle.semver_versions.specs.Version.{IsPrerelease, VersionValue}
-use Rattle.semver_versions.specs.Lemmas.Order.{Less-version, version-Less, version_total}
+use Rattle.semver_versions.specs.Lemmas.Public.{Less-version, none-below_least, version-Less, version_total}
 use Rattle.node_semver.specs.Private.CandidateViews.{AreEndsTried, IsLeastOrNone, IsNotBelow, IsSetTried}
 use Rattle.node_semver.specs.Private.CandidateViews.{IsTried, candidates_at}
 use Rattle.node_semver.specs.Private.LeastViews.{IsIn, IsInRange}
@@ -21,7 +21,6 @@ use Rattle.node_semver.proofs.Least.HighestCut.{AskAlike, IsAlike, both_prerelea
 use Rattle.node_semver.proofs.Least.HighestCut.{highest, set-between, some-along}
 use Rattle.node_semver.proofs.Least.LeastLemmas.{at-least, lies-inside}
 use Rattle.node_semver.proofs.Least.LeastOfSets.{not-below}
-use Rattle.semver_versions.specs.Lemmas.Versions.VersionSteps.{none-below_least}
 
 -- ---- what is wanted
 

@@ -12,7 +12,7 @@ use Rattle.semver_versions.specs.Comparison.{version_cmp}
 use Rattle.semver_versions.specs.IdentifierValue.{IdentifierValue}
 use Rattle.semver_sets.specs.Meaning.{SetAdmits}
 use Rattle.semver_versions.specs.Version.{IsPrerelease, VersionValue, least_of, release, without_build}
-use Rattle.semver_versions.specs.Lemmas.Order.{version_total}
+use Rattle.semver_versions.specs.Lemmas.Public.{version_total}
 use Rattle.semver_versions.specs.VersionSteps.{with_zero}
 use Rattle.node_semver.specs.Private.CandidateViews.{AreEndsTried, AreSetsTried, IsBelowBest, IsCutTrial, IsCutTried}
 use Rattle.node_semver.specs.Private.CandidateViews.{IsLeastOpened, IsOpenTrial, IsSetTrial, IsSetTried, IsShut, IsStep}

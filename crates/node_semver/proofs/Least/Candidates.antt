@@ -10,14 +10,14 @@ use Rattle.semver_versions.specs.Comparison.{version_cmp}
 use Rattle.semver_versions.specs.IdentifierValue.{IdentifierValue, numeric}
 use Rattle.semver_sets.specs.Meaning.{Opens}
 use Rattle.semver_versions.specs.Version.{HasSameTriple, IsPrerelease, VersionValue, least_of, release, without_build}
-use Rattle.semver_versions.specs.Lemmas.Order.{Less-version, version-Equal, version_total}
+use Rattle.semver_versions.specs.Lemmas.Public.{Less-version, none-below_least, none-between_patches}
+use Rattle.semver_versions.specs.Lemmas.Public.{none-between_zeros, patch-above, prerelease-below}
+use Rattle.semver_versions.specs.Lemmas.Public.{prerelease-from_below, triple-back, triple-between, version-Equal}
+use Rattle.semver_versions.specs.Lemmas.Public.{version_total, with_zero-above}
 use Rattle.semver_sets.specs.Lemmas.Convex.{by-value, from-cmp}
-use Rattle.semver_versions.specs.Lemmas.Versions.Between.{prerelease-below, triple-back, triple-between}
 use Rattle.semver_versions.specs.VersionSteps.{with_zero}
 use Rattle.node_semver.specs.Private.CandidateViews.{after_by, before_by, candidates_at}
 use Rattle.node_semver.proofs.Least.LeastLemmas.{IsFloor, after-floor, at-least, before-floor, same-floor, start-floor}
-use Rattle.semver_versions.specs.Lemmas.Versions.VersionSteps.{none-below_least, none-between_patches, none-between_zeros}
-use Rattle.semver_versions.specs.Lemmas.Versions.VersionSteps.{patch-above, prerelease-from_below, with_zero-above}
 
 -- ---- the least version after a cut, and the release of its triple
 

@@ -9,8 +9,7 @@ use Rattle.semver_cuts.specs.Lemmas.Ends.{below-not-at_most}
 use Rattle.semver_versions.specs.Comparison.{version_cmp}
 use Rattle.semver_sets.specs.Meaning.{AnyByRecursion}
 use Rattle.semver_versions.specs.Version.{HasSameTriple, IsPrerelease, VersionValue}
-use Rattle.semver_versions.specs.Lemmas.Order.{version_total}
-use Rattle.semver_versions.specs.Lemmas.Versions.Between.{triple-back}
+use Rattle.semver_versions.specs.Lemmas.Public.{triple-back, version_total}
 use Rattle.node_semver.specs.Least.{IsBeyond}
 use Rattle.node_semver.specs.Private.LeastViews.{IsIn, IsInRange, IsOpenIn}
 use Rattle.node_semver.proofs.Least.LeastLemmas.{is-opened, lies-in, lies-inside, open_in-triple}

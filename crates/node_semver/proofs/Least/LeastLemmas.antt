@@ -12,15 +12,15 @@ use Rattle.semver_versions.specs.IdentifierValue.{IdentifierValue, numeric}
 use Rattle.semver_sets.specs.Meaning.{IsInside, Opens}
 use Rattle.semver_versions.specs.Order.{IsBelow}
 use Rattle.semver_versions.specs.Version.{HasSameTriple, IsPrerelease, VersionValue, least_of, release}
-use Rattle.semver_versions.specs.Lemmas.Order.{Greater-turned, Less-version, version-Equal, version-Less, version_total}
+use Rattle.semver_versions.specs.Lemmas.Public.{Greater-turned, Less-version, none-below_first, none-between_patches}
+use Rattle.semver_versions.specs.Lemmas.Public.{none-between_zeros, patch-above, prerelease-from_below, triple-back}
+use Rattle.semver_versions.specs.Lemmas.Public.{triple-between, version-Equal, version-Less, version_total}
+use Rattle.semver_versions.specs.Lemmas.Public.{with_zero-above}
 use Rattle.semver_sets.specs.Lemmas.Convex.{from-cmp}
-use Rattle.semver_versions.specs.Lemmas.Versions.Between.{triple-back, triple-between}
 use Rattle.node_semver.specs.Least.{build_at}
 use Rattle.semver_versions.specs.VersionSteps.{with_zero}
 use Rattle.node_semver.proofs.Least.OpenTriples.{open_end-in_triple}
 use Rattle.node_semver.specs.Private.LeastViews.{IsIn, IsInsideOrNone, IsLeastInSet, IsLeastOfSet, IsLeastOfTriple, IsOpenIn}
-use Rattle.semver_versions.specs.Lemmas.Versions.VersionSteps.{none-below_first, none-between_patches, none-between_zeros}
-use Rattle.semver_versions.specs.Lemmas.Versions.VersionSteps.{patch-above, prerelease-from_below, with_zero-above}
 
 -- ---- versions and ends
 

@@ -11,9 +11,9 @@ use Rattle.semver_versions.specs.Comparison.{identifier_cmp, prerelease_cmp}
 use Rattle.semver_versions.specs.Identifier.{value_of, values_of}
 use Rattle.semver_versions.specs.IdentifierValue.{IdentifierValue, numeric}
 use Rattle.semver_versions.specs.declared.identifier.Identifier.{Identifier}
-use Rattle.semver_versions.specs.Lemmas.Order.{Greater-turned, identifier-IsAntisymmetric, identifier_total}
+use Rattle.semver_versions.specs.Lemmas.Public.{Greater-turned, identifier-IsAntisymmetric, identifier_total}
+use Rattle.semver_versions.specs.Lemmas.Public.{none-before_zero, zero-above}
 use Rattle.node_semver.specs.Private.LeastViews.{with_zeros}
-use Rattle.semver_versions.specs.Lemmas.Versions.VersionSteps.{none-before_zero, zero-above}
 
 -- lists with identifiers, identifier by identifier
 abbrev order : List IdentifierValue → List IdentifierValue → Ordering

@@ -13,7 +13,7 @@ use Rattle.semver_sets.specs.RangeLaws.{MeansItsSets}
 use Rattle.semver_sets.specs.RangePrint.{range_text}
 use Rattle.semver_sets.specs.RangeSets.{IsRangeValue}
 use Rattle.semver_sets.specs.ReadingBack.{IsPlainlyBounded, RangeReadsBack}
-use Rattle.semver_sets.specs.declared.read.full.FullLead.{FullLead}
+use Rattle.semver_sets.specs.declared.word.form.Form.{Form}
 use Rattle.node_semver.specs.RangeAnswer.{IsRangeAnswer, IsReadAsRange}
 
 -- what the laws of texts and of prints say
@@ -54,12 +54,12 @@ range-read mean back text sets are holds =
     }
 
 -- and of the one set of a full version after `^`, `~` or nothing
-pub full-read : TextsMeanTheirSets → PrintsAreReadBack → (text bytes : List ℕ) (lead : FullLead)
+pub full-read : TextsMeanTheirSets → PrintsAreReadBack → (text bytes : List ℕ) (form : Form)
     (major minor patch : ℕ) (set : Ends VersionValue) (sets : List (Ends VersionValue)) → bytes ≡ text
-    → IsFullText bytes lead major minor patch → set ≡ full_set lead major minor patch → sets ≡ set ∷ []
+    → IsFullText bytes form major minor patch → set ≡ full_set form major minor patch → sets ≡ set ∷ []
     → IsRangeAnswer text (Ok sets)
-full-read mean back text bytes lead major minor patch set sets same full is alone =
-    let here : sets ≡ full_set lead major minor patch ∷ [] = alone ∙ ap (λ (s : Ends VersionValue). s ∷ []) is in
+full-read mean back text bytes form major minor patch set sets same full is alone =
+    let here : sets ≡ full_set form major minor patch ∷ [] = alone ∙ ap (λ (s : Ends VersionValue). s ∷ []) is in
     let are = subst (λ (t : List ℕ). AreSetsOfText t sets) same (subst (AreSetsOfText bytes) (sym here) full.sets) in
     range-read mean back text sets are ((mean text sets are).holds (λ none. cc (none, here)))
 

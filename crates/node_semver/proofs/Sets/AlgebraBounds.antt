@@ -10,7 +10,7 @@ use Rattle.semver_cuts.specs.Difference.{AreDifference}
 use Rattle.semver_cuts.specs.Lemmas.CommonSpans.{common_spans-ends, common_spans-hold}
 use Rattle.semver_cuts.specs.Lemmas.Difference.{difference-ends, difference-hold}
 use Rattle.semver_versions.specs.Comparison.{version_cmp}
-use Rattle.semver_versions.specs.Lemmas.Order.{version_total}
+use Rattle.semver_versions.specs.Lemmas.Public.{version_total}
 use Rattle.semver_sets.specs.RangeSets.{IsRangeCut, IsRangeSet, IsRangeValue}
 use Rattle.semver_versions.specs.Version.{VersionValue}
 use Rattle.node_semver.specs.RangeAlgebra.{sets_of_answer}

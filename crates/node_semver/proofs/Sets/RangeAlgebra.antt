@@ -15,7 +15,7 @@ use Rattle.semver_cuts.specs.Difference.{AreDifference}
 use Rattle.semver_cuts.specs.Lemmas.Difference.{difference-cuts}
 use Rattle.semver_cuts.specs.Lemmas.Lists.{any-map}
 use Rattle.semver_versions.specs.Comparison.{version_cmp}
-use Rattle.semver_versions.specs.Lemmas.Order.{version_total}
+use Rattle.semver_versions.specs.Lemmas.Public.{version_total}
 use Rattle.semver_sets.specs.Meaning.{Admit, AnyByRecursion, RangeAdmits, SetAdmits}
 use Rattle.semver_sets.specs.Merging.{IsSetOf}
 use Rattle.semver_versions.specs.Version.{IsPrerelease, VersionValue}

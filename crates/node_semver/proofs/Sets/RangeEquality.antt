@@ -8,7 +8,7 @@ use Rattle.semver_cuts.specs.Ends.{AreSameEnds, Ends}
 use Rattle.semver_cuts.specs.Lemmas.CutOrder.{equal-by_kind}
 use Rattle.semver_cuts.specs.Lemmas.Ends.{same_ends-back, same_ends-in_span}
 use Rattle.semver_versions.specs.Comparison.{version_cmp}
-use Rattle.semver_versions.specs.Lemmas.Order.{Equal-version, version_total}
+use Rattle.semver_versions.specs.Lemmas.Public.{Equal-version, version_total}
 use Rattle.semver_sets.specs.Meaning.{HasOpenEnd, Opens, RangeAdmits, SetAdmits}
 use Rattle.semver_sets.specs.RangeEquality.{AreSameCuts}
 use Rattle.semver_versions.specs.Version.{HasSameTriple, IsPrerelease, VersionValue}

@@ -9,7 +9,7 @@ use Rattle.semver_versions.specs.Comparison.{version_cmp}
 use Rattle.semver_sets.specs.Meaning.{AnyByRecursion}
 use Rattle.semver_sets.specs.Merging.{AreSetsOf, AreSetsOfText, no_more, none, one_more}
 use Rattle.semver_versions.specs.Version.{VersionValue}
-use Rattle.semver_versions.specs.Lemmas.Order.{version_total}
+use Rattle.semver_versions.specs.Lemmas.Public.{version_total}
 use Rattle.semver_sets.specs.RangeLaws.{IsWrittenOneWay}
 use Rattle.node_semver.specs.SetTree.{TextHasCut}
 

@@ -16,7 +16,7 @@ use Rattle.semver_sets.specs.RangeLaws.{IsWrittenOneWay}
 use Rattle.semver_sets.specs.Merging.{AreSetsOf, AreSetsOfText, no_more, none}
 use Rattle.semver_sets.specs.RangeSets.{IsRangeSet}
 use Rattle.semver_versions.specs.Version.{VersionValue}
-use Rattle.semver_versions.specs.Lemmas.Order.{version_total}
+use Rattle.semver_versions.specs.Lemmas.Public.{version_total}
 use Rattle.node_semver.specs.RangeAlgebra.{sets_of_answer}
 use Rattle.node_semver.specs.SetTree.{AreSetsOfTree, Formula, InFormula, both, of_text, without}
 use Rattle.node_semver.proofs.Sets.TextCuts.{text-cut}

@@ -9,7 +9,7 @@ use Rattle.semver_cuts.specs.Lemmas.Lists.{all-append, all_map}
 use Rattle.semver_versions.specs.Comparison.{version_cmp}
 use Rattle.semver_versions.specs.Order.{IsBelow, IsSame}
 use Rattle.semver_versions.specs.Version.{VersionValue}
-use Rattle.semver_versions.specs.Lemmas.Order.{version-Equal, version-Less, version_total}
+use Rattle.semver_versions.specs.Lemmas.Public.{version-Equal, version-Less, version_total}
 use Rattle.node_semver.specs.Greatest.{IsFirstBest, IsGreatestIn, IsLeastIn, IsNoneIn}
 use Rattle.node_semver.specs.Lemmas.GreatestViews.{IsBestOrNone, IsBetterOf, Order, downward, order_of}
 

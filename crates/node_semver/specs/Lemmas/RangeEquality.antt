@@ -7,7 +7,7 @@ use Rattle.std.specs.Cmp.Lexicographic.{lists_equiv}
 use Rattle.semver_cuts.specs.Ends.{Ends}
 use Rattle.semver_cuts.specs.Lemmas.Ends.{are_same_ends-equiv, span_same}
 use Rattle.semver_versions.specs.Comparison.{version_cmp}
-use Rattle.semver_versions.specs.Lemmas.Order.{version_total}
+use Rattle.semver_versions.specs.Lemmas.Public.{version_total}
 use Rattle.semver_sets.specs.RangeEquality.{AreSameCuts, are_same_cuts}
 use Rattle.semver_versions.specs.Version.{VersionValue}
 

@@ -13,7 +13,7 @@ use crate::{NpmOptions, Range, SemverError, SemverErrorKind};
 use npm_sets::read::full::read_full;
 use npm_sets::spaces::read_npm_text;
 use semver_sets::read::Unread;
-use semver_sets::read::full::{FullLead, caret_set, exact_set, tilde_set};
+use semver_sets::read::full::full_set;
 use std::alloc::Global;
 
 impl Range {
@@ -59,14 +59,8 @@ impl Range {
         ensures { IsNpmRangeAnswer options text.now result }
     {
         match read_full(text.as_bytes(), options) {
-            Some((FullLead::Caret, major, minor, patch)) => {
-                Ok(Range::of_set(caret_set(major, minor, patch)))
-            }
-            Some((FullLead::Tilde, major, minor, patch)) => {
-                Ok(Range::of_set(tilde_set(major, minor, patch)))
-            }
-            Some((FullLead::Nothing, major, minor, patch)) => {
-                Ok(Range::of_set(exact_set(major, minor, patch)))
+            Some((form, major, minor, patch)) => {
+                Ok(Range::of_set(full_set(form, major, minor, patch)))
             }
             None => match read_npm_text(alloc, text, options) {
                 Ok(sets) => Ok(Range { sets }),

@@ -5,8 +5,7 @@ use Rattle.node_semver_c.specs.Status.{IsFaultReported}
 use Rattle.node_semver_c.specs.declared.status.Fault.{Fault}
 use Rattle.semver_versions.specs.Error.{Kind}
 use Rattle.semver_versions.specs.Fault.{IsFault}
-use Rattle.semver_versions.specs.Lemmas.Versions.FaultLemmas.{one_fault, version-no_fault}
-use Rattle.semver_versions.specs.Lemmas.Versions.OneReading.{one_reading}
+use Rattle.semver_versions.specs.Lemmas.Public.{one_fault, one_reading, version-no_fault}
 use Rattle.semver_versions.specs.Version.{VersionValue}
 use Rattle.semver_versions.specs.VersionText.{IsVersionText}
 

@@ -8,10 +8,11 @@ use Rattle.std.specs.List.{Contains, list_all}
 use Rattle.std.specs.List.Sorted.{IsStrictlySortedBy}
 use Rattle.std.specs.Option.{IsSome}
 use Rattle.serde_json.specs.Data.{Data, Members, boolean, member, no_members, object, string}
-use Rattle.npm_lock.specs.Asked.{asked_of}
+use Rattle.npm_lock.specs.Asked.{AskedValue, asked_of}
 use Rattle.npm_lock.specs.Findings.{AreFindings, AreMemberFindings, AreNames, dependency, of_dependency, of_package}
 use Rattle.npm_lock.specs.Findings.{ArePackageFindings}
-use Rattle.npm_lock.specs.Outcomes.{ProblemValue, missing, missing_problem}
+use Rattle.npm_lock.specs.Outcomes.{ProblemValue, dependency_of, missing, wrong}
+use Rattle.npm_lock.specs.declared.problem.Kind.TheVariants.{Missing}
 use Rattle.npm_lock.specs.Packages.{IsFound, above, nowhere}
 use Rattle.npm_lock.proofs.NameLists.{exact}
 
@@ -76,14 +77,17 @@ nowhere_found = above _ (codes "node_modules") None (inr refl)
 
 -- ---- the findings
 
+abbrev pub asked : AskedValue
+asked = record { spec = codes "^1"; is_needed = true; is_peer = false; is_dev = false }
+
 abbrev pub problem : ProblemValue
-problem = missing_problem (codes "node_modules/p") (codes "a") (codes "^1")
+problem = record { kind = Missing; dependency = dependency_of (codes "node_modules/p") asker (codes "a") asked None }
 
 of_p : ArePackageFindings packages None (codes "node_modules/p") asker
-    (of_package None ∷ of_dependency (Some problem) false ∷ [])
+    (of_package None ∷ of_dependency (Some problem) None ∷ [])
 of_p = record {
   problem = None;
-  dependencies = of_dependency (Some problem) false ∷ [];
+  dependencies = of_dependency (Some problem) None ∷ [];
   of_node = refl;
   of_dependencies = record {
     is_installed = true;
@@ -91,7 +95,7 @@ of_p = record {
     names = codes "a" ∷ [];
     are_names = one_name;
     each = (
-      dependency (record { spec = codes "^1"; is_needed = true; is_peer = false }) (Some problem) false refl
+      dependency asked (wrong Missing None) refl
           (missing nowhere_found refl),
       tt,
     );
@@ -100,7 +104,7 @@ of_p = record {
 }
 
 -- nothing is found out about the link, and the package has no problem with Node and one missing dependency
-pub a_link_and_a_package : AreFindings packages None members (of_package None ∷ of_dependency (Some problem) false ∷ [])
+pub a_link_and_a_package : AreFindings packages None members (of_package None ∷ of_dependency (Some problem) None ∷ [])
 a_link_and_a_package = ([], _, refl, (_, [], of_p, refl, refl), refl)
 
 -- and nothing else can be found out about a link

@@ -1,6 +1,8 @@
 -- What the definitions say of some lock files.
 use Rattle.std.proofs.Common.{◌≡◌, true, false, codes, inl, refl, Some, None}
+use lib.Utf8.{encode}
 use Rattle.std.specs.Float.Ieee.{eq, of_int}
+use Rattle.std.specs.Str.{chars, trim_end, trim_start}
 use Rattle.serde_json.specs.Data.{Data, Members, Num, boolean, member, no_members, null, number, object, string, unsigned}
 use Rattle.npm_lock.specs.Asked.{asked_of, is_optional_peer}
 use Rattle.npm_lock.specs.Faults.{group_fault, has_format}
@@ -9,29 +11,31 @@ use Rattle.npm_lock.specs.declared.fault.Fault.TheVariants.{Dependencies}
 use Rattle.npm_lock.proofs.Examples.FindingExamples.{no_slash}
 use Rattle.npm_lock.specs.Folders.{IsAbove, is_modules, place_in}
 use Rattle.npm_lock.specs.Packages.{linked_folder, package_at}
-use Rattle.npm_lock.specs.RangeText.{is_tag, range_text}
+use Rattle.npm_lock.specs.RangeText.{in_registry, is_tag, location, spec_of}
 
 -- ---- which specs are ranges
 
-pub a_range_stands_for_itself : range_text (codes "^1.2") ≡ Some (codes "^1.2")
+pub a_range_stands_for_itself : spec_of (codes "^1.2") ≡ in_registry (codes "^1.2")
 a_range_stands_for_itself = refl
 
-pub an_alias_has_a_range : range_text (codes "npm:a@^1") ≡ Some (codes "^1")
+pub an_alias_has_a_range : spec_of (codes "npm:a@^1") ≡ in_registry (codes "^1")
 an_alias_has_a_range = refl
 
-pub a_scope_is_no_range : range_text (codes "npm:@s/a@^1") ≡ Some (codes "^1")
+pub a_scope_is_no_range : spec_of (codes "npm:@s/a@^1") ≡ in_registry (codes "^1")
 a_scope_is_no_range = refl
 
-pub an_alias_alone_is_any : range_text (codes "npm:@s/a") ≡ Some (codes "*")
+pub an_alias_alone_is_any : spec_of (codes "npm:@s/a") ≡ in_registry (codes "*")
 an_alias_alone_is_any = refl
 
-pub a_repository_is_no_range : range_text (codes "github:a/b") ≡ None
+pub a_repository_is_no_range : spec_of (codes "github:a/b") ≡ location
 a_repository_is_no_range = refl
 
 pub a_word_is_a_tag : is_tag (codes "next-11") ≡ true
+unfolding trim_start trim_end chars encode
 a_word_is_a_tag = refl
 
 pub a_caret_is_in_no_tag : is_tag (codes "^1") ≡ false
+unfolding trim_start trim_end chars encode
 a_caret_is_in_no_tag = refl
 
 -- ---- folders
@@ -72,7 +76,7 @@ abbrev pub with_development : Data
 with_development = object (member (codes "devDependencies") (object specs) no_members)
 
 pub of_a_workspace : asked_of with_development false (codes "a")
-    ≡ Some (record { spec = codes "^1"; is_needed = true; is_peer = false })
+    ≡ Some (record { spec = codes "^1"; is_needed = true; is_peer = false; is_dev = true })
 of_a_workspace = refl
 
 pub of_an_installed_package : asked_of with_development true (codes "a") ≡ None
@@ -85,21 +89,21 @@ with_peer = object (member (codes "peerDependencies") (object specs)
     (object (member (codes "a") (object (member (codes "optional") (boolean true) no_members)) no_members)) no_members))
 
 pub an_optional_peer : asked_of with_peer true (codes "a")
-    ≡ Some (record { spec = codes "^1"; is_needed = false; is_peer = true })
+    ≡ Some (record { spec = codes "^1"; is_needed = false; is_peer = true; is_dev = false })
 an_optional_peer = refl
 
 -- ---- aliases: `npm:` in letters of either case, and before a text that is no name
 
-pub in_capitals : range_text (codes "NPM:a@^1") ≡ Some (codes "^1")
+pub in_capitals : spec_of (codes "NPM:a@^1") ≡ in_registry (codes "^1")
 in_capitals = refl
 
-pub a_range_is_no_name : range_text (codes "npm:^2") ≡ Some (codes "^2")
+pub a_range_is_no_name : spec_of (codes "npm:^2") ≡ in_registry (codes "^2")
 a_range_is_no_name = refl
 
-pub a_number_is_a_name : range_text (codes "npm:2") ≡ Some (codes "*")
+pub a_number_is_a_name : spec_of (codes "npm:2") ≡ in_registry (codes "*")
 a_number_is_a_name = refl
 
-pub another_scheme : range_text (codes "npx:a@^1") ≡ None
+pub another_scheme : spec_of (codes "npx:a@^1") ≡ location
 another_scheme = refl
 
 -- ---- folders outside the root

@@ -1,24 +1,25 @@
 -- What the definitions say of one dependency where nothing is installed, and of a version that lies in no set.
 use Rattle.std.proofs.Common.{◌≡◌, ℕ, List, true, false, Some, None, codes, refl}
-use Rattle.serde_json.specs.Data.{Data, no_members, object}
+use Rattle.serde_json.specs.Data.{Data, boolean, member, no_members, object, string}
 use Rattle.npm_lock.specs.Asked.{AskedValue}
-use Rattle.npm_lock.specs.Outcomes.{IsOutcome, absent, valid}
+use Rattle.npm_lock.specs.Outcomes.{IsOutcome, absent, dependency_of, fine, valid}
 use Rattle.npm_lock.specs.Packages.{IsFound, Package, above, here}
 use Rattle.npm_lock.specs.Verdict.{better}
+use Rattle.npm_lock.specs.declared.problem.Reason.TheVariants.{Location, Tag}
 use Rattle.npm_lock.specs.declared.verdict.Verdict.TheVariants.{Invalid, Unchecked, Valid}
 
 abbrev nothing : Data
 nothing = object no_members
 
 abbrev asked : AskedValue
-asked = record { spec = codes "^1"; is_needed = true; is_peer = false }
+asked = record { spec = codes "^1"; is_needed = true; is_peer = false; is_dev = false }
 
 no_package : (name folder : List ℕ) (found : Package) → IsFound nothing name folder (Some found) → ⊥
 no_package name folder found (here _ _ is) = cc is.found
 no_package name folder found (above _ parent _ passed is_above later) = no_package name parent found later
 
 -- a dependency that is needed and found nowhere is a problem
-pub what_is_needed_is_not_left_out : ¬ IsOutcome nothing (codes "") nothing false (codes "a") asked None false
+pub what_is_needed_is_not_left_out : ¬ IsOutcome nothing (codes "") nothing false (codes "a") asked fine
 what_is_needed_is_not_left_out (absent none unneeded) = cc unneeded
 what_is_needed_is_not_left_out (valid found is outside verdict) = no_package _ _ found is
 
@@ -27,8 +28,31 @@ what_is_needed_is_not_left_out (valid found is outside verdict) = no_package _ _
 pub a_valid_one_is_enough : better Invalid Valid ≡ Valid
 a_valid_one_is_enough = refl
 
-pub a_tag_hides_an_invalid_one : better Invalid Unchecked ≡ Unchecked
+pub a_tag_hides_an_invalid_one : better Invalid (Unchecked Tag) ≡ Unchecked Tag
 a_tag_hides_an_invalid_one = refl
 
 pub two_invalid_ones : better Invalid Invalid ≡ Invalid
 two_invalid_ones = refl
+
+pub the_first_reason_counts : better (Unchecked Location) (Unchecked Tag) ≡ Unchecked Location
+the_first_reason_counts = refl
+
+-- ---- what is told of a dependency
+
+-- an asker that the lock file marks
+abbrev marked : Data
+marked = object (member (codes "dev") (boolean true) (member (codes "version") (string (codes "1.0.0")) no_members))
+
+pub of_a_marked_package : (dependency_of (codes "node_modules/b") marked (codes "a") asked None).dev ≡ true
+of_a_marked_package = refl
+
+pub of_no_marked_package : (dependency_of (codes "") nothing (codes "a") asked None).dev ≡ false
+of_no_marked_package = refl
+
+pub what_need_not_be_found_is_optional :
+    (dependency_of (codes "") nothing (codes "a") (record asked { is_needed = false }) None).optional ≡ true
+what_need_not_be_found_is_optional = refl
+
+pub the_version_of_the_asker : (dependency_of (codes "node_modules/b") marked (codes "a") asked None).from_version
+    ≡ Some (codes "1.0.0")
+the_version_of_the_asker = refl

@@ -1,11 +1,18 @@
 -- What is seen of a lock file, of a package, and of what it asks for.
+use Rattle.std.specs.Prelude.{option_map}
 use Rattle.serde_json.specs.Data.{Data, object}
 use Rattle.serde_json.specs.View.{members_view, view}
 use Rattle.npm_lock.specs.Asked.{AskedValue}
+use Rattle.npm_lock.specs.Outcomes.{JudgementValue, fine, unknown, wrong}
 use Rattle.npm_lock.specs.Packages as Packages
+use Rattle.npm_lock.specs.RangeText.{SpecValue, in_registry, location, refused}
 use Rattle.npm_lock.specs.declared.asked.Asked.{Asked}
+use Rattle.npm_lock.specs.declared.outcome.Judgement.{Judgement}
+use Rattle.npm_lock.specs.declared.outcome.Judgement.TheVariants as Judgements
 use Rattle.npm_lock.specs.declared.place.Lock.{Lock}
 use Rattle.npm_lock.specs.declared.place.Package.{Package}
+use Rattle.npm_lock.specs.declared.range_text.Spec.{Spec}
+use Rattle.npm_lock.specs.declared.range_text.Spec.TheVariants as Specs
 
 -- its member `packages`
 abbrev pub packages_data : Lock → Data
@@ -15,6 +22,23 @@ packages_data lock = object (members_view lock.members.now.entries)
 abbrev pub package_value : Package → Packages.Package
 package_value found = record { folder = found.folder.now; member = view found.member.now }
 
--- the spec, whether it must be found, and whether it is a peer
+-- the spec, whether it must be found, whether it is a peer, and whether it counts in development alone
 abbrev pub asked_value : Asked → AskedValue
-asked_value asked = record { spec = asked.spec.now; is_needed = asked.is_needed; is_peer = asked.is_peer }
+asked_value asked = record {
+  spec = asked.spec.now;
+  is_needed = asked.is_needed;
+  is_peer = asked.is_peer;
+  is_dev = asked.is_dev;
+}
+
+-- what a spec is
+abbrev pub spec_value : Spec → SpecValue
+spec_value (Specs.Text range) = in_registry range.now
+spec_value Specs.Location = location
+spec_value Specs.Refused = refused
+
+-- what is found out about a dependency
+abbrev pub judgement_value : Judgement → JudgementValue
+judgement_value Judgements.Fine = fine
+judgement_value (Judgements.Wrong kind found) = wrong kind (option_map package_value found)
+judgement_value (Judgements.Unknown reason found) = unknown reason (package_value found)

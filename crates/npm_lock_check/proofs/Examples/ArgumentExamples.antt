@@ -1,5 +1,5 @@
 -- What the definitions say of some arguments.
-use Rattle.std.proofs.Common.{◌≡◌, ◌∷◌, [], Err, Ok, Some, codes, refl}
+use Rattle.std.proofs.Common.{◌≡◌, ◌∷◌, [], Err, None, Ok, Some, codes, refl, true}
 use Rattle.npm_lock.specs.declared.problem.Kind.TheVariants.{Engine, Missing, PeerLocal}
 use Rattle.npm_lock_check.specs.Arguments.{asked_of, nothing_asked}
 use Rattle.npm_lock_check.specs.Kinds.{kind_of, no_kinds, with_kind}
@@ -49,3 +49,13 @@ no_kind = refl
 
 pub a_kind_is_not_left_out_by_another : kind_of (codes "engine") ≡ Some Engine
 a_kind_is_not_left_out_by_another = refl
+
+-- `--unchecked` has no value, so the word after it is the file
+pub more_options : asked_of (codes "--unchecked" ∷ codes "a.json" ∷ codes "--manifest"
+    ∷ codes "package.json" ∷ [])
+    ≡ Ok (record nothing_asked {
+      unchecked = true;
+      manifest = Some (codes "package.json");
+      file = Some (codes "a.json");
+    })
+more_options = refl

@@ -1,14 +1,13 @@
 -- What the definitions say of some versions of Node.
 use Rattle.std.proofs.Common.{Err, Ok, arith, codes, refl}
-use Rattle.semver_versions.specs.Lemmas.Versions.FaultExamples.{computed}
-use Rattle.semver_versions.specs.Lemmas.Versions.OneReading.{read-version, version-read}
+use Rattle.semver_versions.specs.Lemmas.Public.{computed, is-computed, is-version_in, version-no_fault, version_in}
 use Rattle.node_semver.specs.Versions.{IsVersionText, release}
 use Rattle.npm_lock_check.specs.NodeVersion.{IsNode, IsNoVersion, no_minor, no_patch, no_version, whole}
 use Rattle.npm_lock_check.specs.declared.run_error.RunError.TheVariants.{NodeVersion}
 
 is_read : IsVersionText (codes "20.11.1") (release 20 11 1)
-unfolding computed
-is_read = read-version _ _ (omega arith) refl
+unfolding version_in
+is_read = is-version_in _ _ (omega arith) refl
 
 pub a_version : IsNode (codes "20.11.1") (Ok (release 20 11 1))
 a_version = whole (release 20 11 1) is_read
@@ -20,23 +19,23 @@ a_version_is_not_refused (no_version unread not_minor not_major) = unread (relea
 -- a number alone is no version
 major_alone : IsNoVersion (codes "20")
 unfolding computed
-major_alone v read = cc (version-read (codes "20") v read)
+major_alone v read = version-no_fault (codes "20") v _ _ read (is-computed _ _ _ refl)
 
 two_numbers : IsNoVersion (codes "20.0")
 unfolding computed
-two_numbers v read = cc (version-read (codes "20.0") v read)
+two_numbers v read = version-no_fault (codes "20.0") v _ _ read (is-computed _ _ _ refl)
 
 minor_alone : IsNoVersion (codes "v20.11")
 unfolding computed
-minor_alone v read = cc (version-read (codes "v20.11") v read)
+minor_alone v read = version-no_fault (codes "v20.11") v _ _ read (is-computed _ _ _ refl)
 
 with_zeros : IsVersionText (codes "20.0.0") (release 20 0 0)
-unfolding computed
-with_zeros = read-version _ _ (omega arith) refl
+unfolding version_in
+with_zeros = is-version_in _ _ (omega arith) refl
 
 with_zero : IsVersionText (codes "v20.11.0") (release 20 11 0)
-unfolding computed
-with_zero = read-version _ _ (omega arith) refl
+unfolding version_in
+with_zero = is-version_in _ _ (omega arith) refl
 
 pub a_major_version : IsNode (codes "20") (Ok (release 20 0 0))
 a_major_version = no_minor (release 20 0 0) major_alone two_numbers with_zeros

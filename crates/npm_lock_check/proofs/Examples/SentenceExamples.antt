@@ -1,48 +1,56 @@
 -- What the definitions say of some sentences.
-use Rattle.std.proofs.Common.{◌≡◌, ◌∷◌, ◌++◌, [], None, Some, codes, refl}
+use Rattle.std.proofs.Common.{◌≡◌, ◌∷◌, ◌++◌, ℕ, List, [], None, Option, Some, codes, false, refl}
+use Rattle.npm_lock.specs.Outcomes.{DependencyValue}
 use Rattle.npm_lock.specs.declared.problem.Kind.TheVariants.{Engine, Invalid, Missing, PeerLocal}
-use Rattle.npm_lock_check.specs.Sentence.{sentence, shown}
+use Rattle.npm_lock.specs.declared.problem.Reason.TheVariants.{Location, Tag}
+use Rattle.npm_lock_check.specs.Sentence.{sentence, shown, unchecked_sentence}
 
-pub a_missing_dependency : sentence (record {
-  kind = Missing;
-  from = [];
+-- of the package in this folder, of this version, on `a`: this spec, and the version that was found
+abbrev on_a : (from : List ℕ) (from_version : Option (List ℕ)) (spec : List ℕ) (version : Option (List ℕ))
+    → DependencyValue
+on_a from from_version spec version = record {
+  from = from;
+  from_version = from_version;
   name = codes "a";
-  spec = codes "^1";
+  spec = spec;
   to = None;
-  version = None;
-}) ≡ codes "a is not installed, so nothing satisfies \"^1\", which the root asks for"
+  version = version;
+  dev = false;
+  optional = false;
+  peer = false;
+}
+
+pub a_missing_dependency :
+    sentence (record { kind = Missing; dependency = on_a [] (Some (codes "1.0.0")) (codes "^1") None })
+    ≡ codes "a is not installed, so nothing satisfies ^1, which the root asks for"
 a_missing_dependency = refl
 
 pub another_version : sentence (record {
   kind = Invalid;
-  from = codes "node_modules/b";
-  name = codes "a";
-  spec = codes "^2";
-  to = Some (codes "node_modules/a");
-  version = Some (codes "1.0.0");
-}) ≡ codes "a 1.0.0 in node_modules/a does not satisfy \"^2\", which node_modules/b asks for"
+  dependency = on_a (codes "node_modules/b") (Some (codes "3.0.0")) (codes "^2") (Some (codes "1.0.0"));
+}) ≡ codes "a 1.0.0 does not satisfy ^2, which node_modules/b 3.0.0 asks for"
 another_version = refl
 
--- a package without a version
-pub no_version : sentence (record {
-  kind = PeerLocal;
-  from = codes "b";
-  name = codes "a";
-  spec = [];
-  to = Some (codes "b/node_modules/a");
-  version = None;
-}) ≡ codes "a in b/node_modules/a is installed inside the package that has it as a peer: \"\", which b asks for"
+-- packages without a version, and the empty spec
+pub no_version : sentence (record { kind = PeerLocal; dependency = on_a (codes "b") None [] None })
+    ≡ codes "a is installed inside the package that has it as a peer: \"\", which b asks for"
 no_version = refl
 
 pub a_version_of_node : sentence (record {
   kind = Engine;
-  from = [];
-  name = codes "node";
-  spec = codes ">=22";
-  to = None;
-  version = Some (codes "20.11.1");
-}) ≡ codes "node 20.11.1 does not satisfy \">=22\", which the root asks for"
+  dependency = record (on_a [] None (codes ">=22") (Some (codes "20.11.1"))) { name = codes "node" };
+}) ≡ codes "node 20.11.1 does not satisfy >=22, which the root asks for"
 a_version_of_node = refl
+
+pub a_tag : unchecked_sentence (record { reason = Tag; dependency = on_a [] None (codes "latest") (Some (codes "1.0.0")) })
+    ≡ codes "a 1.0.0 is not checked against latest, which the root asks for: a tag"
+a_tag = refl
+
+pub a_repository : unchecked_sentence (record {
+  reason = Location;
+  dependency = on_a (codes "node_modules/b") None (codes "github:a/a") None;
+}) ≡ codes "a is not checked against github:a/a, which node_modules/b asks for: a URL, a repository, a file or a folder"
+a_repository = refl
 
 -- an escape sequence, a newline and U+009B do not reach a terminal
 pub control_characters : shown (27 ∷ codes "[2J" ++ (10 ∷ 194 ∷ 155 ∷ 127 ∷ [])) ≡ codes "\\x1b[2J\\x0a\\xc2\\x9b\\x7f"

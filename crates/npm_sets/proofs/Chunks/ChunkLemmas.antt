@@ -4,8 +4,8 @@ use Rattle.std.proofs.Common.{inl, inr}
 use Rattle.std.specs.Prelude.{◌==◌, not}
 use Rattle.std.proofs.lemmas.Bool.{cases_Bool, eqb-true}
 use Rattle.semver_versions.specs.Characters.{BeginsWith, BeginsWithNo}
-use Rattle.semver_versions.specs.Readers.Reading.{prefix_of, rest_of}
-use Rattle.semver_versions.specs.Lemmas.Texts.Prefixes.{prefix_of-rest_of, rest-short, rest_of-no, rest_of-none}
+use Rattle.semver_versions.specs.Reading.{prefix_of, rest_of}
+use Rattle.semver_versions.specs.Lemmas.Public.{prefix_of-rest_of, rest-short, rest_of-no, rest_of-none}
 use Rattle.npm_sets.specs.WordTexts.{before_first, chunks_of, is_empty, is_solid, is_space, joined}
 use Rattle.npm_sets.specs.WordTexts.{lead_of, words_of}
 use Rattle.npm_sets.specs.declared.words.Lead.{Lead}
@@ -142,9 +142,6 @@ pub left-solid : (text rest : List ℕ) → rest ≡ rest_of is_space text → B
 left-solid text rest same = subst (BeginsWithNo is_space) (sym same) (rest_of-no is_space text)
 
 -- ---- words
-
-empty-is : (text : List ℕ) → text ≡ [] → is_empty text ≡ true
-empty-is text h = rw h refl
 
 pub some-is : (text : List ℕ) → ¬ (text ≡ []) → is_empty text ≡ false
 some-is [] h = absurd (h refl)

@@ -3,7 +3,7 @@ use Rattle.std.proofs.Common.{◌≡◌, ◌∙◌, ℕ, true, false, List, [], 
 use Rattle.std.proofs.Common.{inl, inr}
 use Rattle.std.specs.Prelude.{◌⊎◌, Some, None}
 use Rattle.semver_versions.specs.Characters.{BeginsWith, BeginsWithNo}
-use Rattle.semver_versions.specs.Readers.Reading.{prefix_of, rest_of}
+use Rattle.semver_versions.specs.Reading.{prefix_of, rest_of}
 use Rattle.npm_sets.specs.WordTexts.{chunks_of, is_dash, is_solid, is_space}
 use Rattle.npm_sets.specs.WordTexts.{sides_of}
 use Rattle.npm_sets.proofs.Chunks.ChunkLemmas.{chunk-first, chunks-empty, left-solid, prefix-empty, prefix-step, solid-start}

@@ -2,8 +2,8 @@
 use Rattle.std.proofs.Common.{◌≡◌, ℕ, Bool, true, false, List, [], ◌∷◌, map, refl, codes}
 use Rattle.semver_cuts.specs.declared.cut.Cut.TheVariants.{Before, After}
 use Rattle.semver_versions.specs.IdentifierValue.{alphanumeric}
-use Rattle.semver_versions.specs.Readers.Reading.{list_prefix, list_rest, prefix_of, read_build, read_extras, read_number}
-use Rattle.semver_versions.specs.Readers.Reading.{read_prerelease, rest_of, skip_one, skip_plus}
+use Rattle.semver_versions.specs.Reading.{list_prefix, list_rest, prefix_of, read_build, read_extras, read_number}
+use Rattle.semver_versions.specs.Reading.{read_prerelease, rest_of, skip_one, skip_plus}
 use Rattle.semver_versions.specs.Version.{VersionValue, least_of, release}
 use Rattle.semver_sets.specs.Comparator.{Comparator, at_least, at_most, below, exactly, from_up_to}
 use Rattle.semver_sets.specs.Merging.{all_cuts}

@@ -6,9 +6,8 @@ use Rattle.std.proofs.lemmas.List.{append-nil}
 use Rattle.std.specs.List.{list_all}
 use Rattle.std.specs.Prelude.{◌==◌, ◌||◌, IsAscii}
 use Rattle.semver_versions.specs.Characters.{AreAll, BeginsWith, bar, caret, dot, greater_sign, is_digit, tilde}
-use Rattle.semver_versions.specs.Lemmas.Texts.NumberReading.{number-takes}
-use Rattle.semver_versions.specs.Lemmas.Texts.Prefixes.{prefix_of-again, rest_of-again}
-use Rattle.semver_versions.specs.Readers.Reading.{prefix_of, rest_of}
+use Rattle.semver_versions.specs.Lemmas.Public.{number-takes, prefix_of-again, rest_of-again}
+use Rattle.semver_versions.specs.Reading.{prefix_of, rest_of}
 use Rattle.semver_sets.specs.declared.read.full.FullLead.{FullLead}
 use Rattle.semver_sets.specs.declared.read.full.FullLead.TheVariants as FullLeads
 use Rattle.npm_sets.specs.Private.ReadViews.{IsNumberBefore, full_mark}

@@ -2,11 +2,11 @@
 use Rattle.std.proofs.Common.{[], ◌∷◌, refl}
 use Rattle.semver_versions.specs.IdentifierText.{IsReadIdentifier}
 use Rattle.semver_versions.specs.IdentifierValue.{numeric}
-use Rattle.semver_versions.specs.Lemmas.Texts.ExtrasReading.{extras-takes}
-use Rattle.semver_versions.specs.Lemmas.Versions.ReadIdentifiers.{prerelease-read}
-use Rattle.semver_versions.specs.Readers.Reading.{read_extras}
+use Rattle.semver_versions.specs.Lemmas.Public.{extras-takes, prerelease-read}
+use Rattle.semver_versions.specs.Reading.{read_extras}
 use Rattle.semver_sets.specs.RangeSets.{IsRangeCut, IsRangeEnd}
-use Rattle.npm_sets.specs.Private.ReadViews.{AreReadEnds, AreSmallEnds, IsSmallCut, IsSmallVersion, cut_seen, ends_seen}
+use Rattle.semver_sets.specs.Lemmas.Forms.{IsReadEnds}
+use Rattle.npm_sets.specs.Private.ReadViews.{AreSmallEnds, IsSmallCut, IsSmallVersion, cut_seen, ends_seen}
 use Rattle.npm_sets.specs.Private.ReadViews.{version_seen}
 use Rattle.npm_sets.specs.declared.ends.WordCut.{WordCut}
 use Rattle.npm_sets.specs.declared.ends.WordCut.TheVariants as WordCuts
@@ -38,5 +38,5 @@ cut-read (WordCuts.Before v) small = version-read v small
 cut-read (WordCuts.After v) small = version-read v small
 cut-read WordCuts.End small = tt
 
-pub small-read : (e : WordEnds) → AreSmallEnds e → AreReadEnds (ends_seen e)
+pub small-read : (e : WordEnds) → AreSmallEnds e → IsReadEnds (ends_seen e)
 small-read e small = record { lower = cut-read e.lower small.lower; upper = cut-read e.upper small.upper }

@@ -5,16 +5,17 @@ use Rattle.std.proofs.lemmas.List.{append-nil}
 use Rattle.semver_cuts.specs.Ends.{Ends}
 use Rattle.semver_cuts.specs.Lemmas.ChosenEnds.{chosen_lower-some}
 use Rattle.semver_versions.specs.Characters.{BeginsWith}
-use Rattle.semver_versions.specs.Lemmas.Order.{version_total}
-use Rattle.semver_versions.specs.Readers.Reading.{rest_of}
+use Rattle.semver_versions.specs.Lemmas.Public.{version_total}
+use Rattle.semver_versions.specs.Reading.{rest_of}
 use Rattle.semver_versions.specs.Version.{VersionValue}
 use Rattle.semver_sets.specs.Comparator.{Comparator}
 use Rattle.semver_sets.specs.Lemmas.Merging.{merged-gives}
 use Rattle.semver_sets.specs.Merging.{AreSetsOf, IsCommonSpan, IsSetOf, IsSpanOf, all_cuts, no_more, none, one_more}
 use Rattle.semver_sets.specs.declared.read.Unread.{Unread}
 use Rattle.semver_sets.specs.declared.read.Unread.TheVariants.{OutOfMemory, Refused}
+use Rattle.semver_sets.specs.Lemmas.Forms.{IsReadEnds}
 use Rattle.npm_sets.specs.NpmMeaning.{alone_or, chunks_comparators, comparators_of, hyphen_range, piece_comparators}
-use Rattle.npm_sets.specs.Private.ReadViews.{AreRead, AreReadEnds, IsAdded, IsAddedBy, IsNarrowedTo, IsRead, listed}
+use Rattle.npm_sets.specs.Private.ReadViews.{AreRead, IsAdded, IsAddedBy, IsNarrowedTo, IsRead, listed}
 use Rattle.npm_sets.specs.WordTexts.{chunks_of, is_solid, is_space, sides_of, words_of}
 use Rattle.npm_sets.specs.declared.options.NpmOptions.{NpmOptions}
 use Rattle.npm_sets.proofs.Chunks.ChunkLemmas.{chunks-empty, chunks-skip}
@@ -53,7 +54,7 @@ none-common (Some common) absent = absurd (cc absent)
 
 -- one comparator
 pub one-read : (value : Option (List Comparator)) (before after : Option Comparator) (c : Comparator)
-    → before ≡ None → IsNarrowedTo before c after → AreReadEnds c → value ≡ Some (c ∷ []) → AreRead value after true
+    → before ≡ None → IsNarrowedTo before c after → IsReadEnds c → value ≡ Some (c ∷ []) → AreRead value after true
 one-read value before after c absent narrows bounded is = record {
   comparators = c ∷ [];
   value_is = is;
@@ -62,7 +63,7 @@ one-read value before after c absent narrows bounded is = record {
   bounded = (bounded, tt);
 }
 
-pub all-bounded : AreReadEnds all_cuts
+pub all-bounded : IsReadEnds all_cuts
 all-bounded = record { lower = tt; upper = tt }
 
 -- ---- the set

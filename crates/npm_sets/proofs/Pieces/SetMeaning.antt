@@ -5,17 +5,16 @@ use Rattle.std.specs.List.{AllByRecursion}
 use Rattle.semver_cuts.specs.declared.cut.Cut.TheVariants.{Start, Before}
 use Rattle.semver_cuts.specs.Ends.{Ends}
 use Rattle.semver_cuts.specs.Lemmas.Lists.{all_middle}
-use Rattle.semver_versions.specs.Lemmas.Order.{Less-version}
-use Rattle.semver_versions.specs.Lemmas.Versions.VersionSteps.{none-below_first}
+use Rattle.semver_versions.specs.Lemmas.Public.{Less-version, none-below_first}
 use Rattle.semver_versions.specs.Version.{VersionValue, least_of}
 use Rattle.semver_sets.specs.Comparator.{Comparator}
 use Rattle.semver_sets.specs.Lemmas.Merging.{inside-set, merged-admits, merged-gives}
 use Rattle.semver_sets.specs.Meaning.{AnyByRecursion, GiveSet, IsInside}
 use Rattle.semver_sets.specs.Merging.{AreSetsOf, IsSetOf, no_more, none, one_more}
 use Rattle.semver_sets.specs.RangeSets.{IsRangeSet, IsRangeValue, IsRangeCut}
+use Rattle.semver_sets.specs.Lemmas.Forms.{IsReadEnds}
 use Rattle.npm_sets.specs.NpmMeaning.{AreNpmSets, NpmAdmit, NpmSetAdmits, NpmSetsAdmit, NpmTextAdmits}
 use Rattle.npm_sets.specs.NpmMeaning.{alternatives_of}
-use Rattle.npm_sets.specs.Private.ReadViews.{AreReadEnds}
 use Rattle.npm_sets.specs.Rows.{no_versions}
 use Rattle.npm_sets.specs.declared.options.NpmOptions.{NpmOptions}
 use Rattle.npm_sets.proofs.Pieces.EndBounds.{zero-read}
@@ -24,15 +23,15 @@ use Rattle.npm_sets.proofs.Pieces.EndBounds.{zero-read}
 
 -- all comparators of an alternative have ends that a range can have
 abbrev pub AreReadAlternative : List Comparator → Type 0
-AreReadAlternative comparators = AllByRecursion AreReadEnds comparators
+AreReadAlternative comparators = AllByRecursion IsReadEnds comparators
 
 set-bounded : (comparators : List Comparator) (set : Ends VersionValue) → GiveSet comparators
     → IsSetOf comparators set → AreReadAlternative comparators → IsRangeSet set
 set-bounded comparators set gives is read =
-    let low : AreReadEnds is.lower.span = all_middle AreReadEnds is.lower.before is.lower.after is.lower.span
-    (subst (AllByRecursion AreReadEnds) is.lower.parts read) in
-    let high : AreReadEnds is.upper.span = all_middle AreReadEnds is.upper.before is.upper.after is.upper.span
-    (subst (AllByRecursion AreReadEnds) is.upper.parts read) in
+    let low : IsReadEnds is.lower.span = all_middle IsReadEnds is.lower.before is.lower.after is.lower.span
+    (subst (AllByRecursion IsReadEnds) is.lower.parts read) in
+    let high : IsReadEnds is.upper.span = all_middle IsReadEnds is.upper.before is.upper.after is.upper.span
+    (subst (AllByRecursion IsReadEnds) is.upper.parts read) in
     record {
       holds = (merged-gives comparators set is).0 gives;
       lower = subst IsRangeCut is.lower.end_of low.lower;

@@ -13,10 +13,11 @@ use Rattle.semver_sets.specs.Division.{HasFirstPiece, IsPieces}
 use Rattle.semver_sets.specs.Merging.{AreSetsOf, no_more, none, one_more}
 use Rattle.semver_sets.specs.RangeSets.{IsRangeSet, IsRangeValue, sets_of_some, sets_seen}
 use Rattle.semver_sets.specs.declared.set_list.Sets.{Sets}
+use Rattle.semver_sets.specs.Lemmas.Forms.{IsReadEnds}
 use Rattle.npm_sets.specs.NpmMeaning.{AreNpmSets, IsNpmRefused}
 use Rattle.npm_sets.specs.NpmMeaning.{alternatives_of, or_no_alternatives, piece_comparators, pieces_alternatives}
 use Rattle.npm_sets.specs.NpmMeaning.{with_piece}
-use Rattle.npm_sets.specs.Private.ReadViews.{AreReadEnds, IsAdded, has_some, listed, prepend, some_seen}
+use Rattle.npm_sets.specs.Private.ReadViews.{IsAdded, has_some, listed, prepend, some_seen}
 use Rattle.npm_sets.specs.Rows.{no_versions}
 use Rattle.npm_sets.specs.WordTexts.{pieces_of}
 use Rattle.npm_sets.specs.declared.options.NpmOptions.{NpmOptions}
@@ -116,7 +117,7 @@ has-same done [] some = ap has_some (sym (append-nil done))
 has-same done (c ∷ comparators) some = cc some
 
 all-more : (done : List (List Comparator)) (comparators : List Comparator) → AllByRecursion AreReadAlternative done
-    → AllByRecursion AreReadEnds comparators → AllByRecursion AreReadAlternative (done ++ listed comparators)
+    → AllByRecursion IsReadEnds comparators → AllByRecursion AreReadAlternative (done ++ listed comparators)
 all-more [] [] all here = tt
 all-more [] (c ∷ comparators) all here = (here, tt)
 all-more (d ∷ done) comparators all here = (all.0, all-more done comparators all.1 here)

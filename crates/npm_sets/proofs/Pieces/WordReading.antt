@@ -7,8 +7,8 @@ use Rattle.std.proofs.lemmas.List.{append-nil, append_assoc}
 use Rattle.semver_cuts.specs.declared.cut.Cut.{Cut}
 use Rattle.semver_cuts.specs.Ends.{span_between}
 use Rattle.semver_versions.specs.Characters.{BeginsWithNo}
-use Rattle.semver_versions.specs.Lemmas.Texts.NumberReading.{answer}
-use Rattle.semver_versions.specs.Readers.Reading.{◌>>=◌}
+use Rattle.semver_versions.specs.Lemmas.Public.{answer}
+use Rattle.semver_versions.specs.Reading.{◌>>=◌}
 use Rattle.semver_versions.specs.Version.{VersionValue}
 use Rattle.semver_versions.specs.declared.parse.fault.Fault.{Fault}
 use Rattle.semver_sets.specs.Comparator.{Comparator}
@@ -16,9 +16,10 @@ use Rattle.semver_sets.specs.Merging.{IsCommonSpan}
 use Rattle.semver_sets.specs.PartialText.{Partial}
 use Rattle.semver_sets.specs.declared.read.Unread.{Unread}
 use Rattle.semver_sets.specs.declared.read.Unread.TheVariants.{OutOfMemory, Refused}
+use Rattle.semver_sets.specs.Lemmas.Forms.{IsReadEnds}
 use Rattle.npm_sets.specs.NpmMeaning.{comparators_of, is_unknown, with_word, word_comparator}
 use Rattle.npm_sets.specs.PartialTexts.{partial_of}
-use Rattle.npm_sets.specs.Private.ReadViews.{AreRead, AreReadEnds, IsNarrowedTo, IsRead, IsWordRead}
+use Rattle.npm_sets.specs.Private.ReadViews.{AreRead, IsNarrowedTo, IsRead, IsWordRead}
 use Rattle.npm_sets.specs.Private.ReadViews.{has_some, prepend}
 use Rattle.npm_sets.specs.Rows.{lead_comparator}
 use Rattle.npm_sets.specs.WordTexts.{Word, chunks_of, is_space, words_of}
@@ -110,24 +111,8 @@ pub record WordsSoFar (options : NpmOptions) (text rest : List ℕ) (common : Op
   pub read : prepend done (text_comparators options rest) ≡ text_comparators options text
   pub common_is : IsCommonSpan done common
   pub found_is : found ≡ has_some done
-  pub bounded : AllByRecursion AreReadEnds done
+  pub bounded : AllByRecursion IsReadEnds done
   pub solid : BeginsWithNo is_space rest
-
--- none of no comparators
-none-common : (common : Option Comparator) → common ≡ None → IsCommonSpan [] common
-none-common None none = refl
-none-common (Some common) none = absurd (cc none)
-
-pub words-start : (options : NpmOptions) (text : List ℕ) (common : Option Comparator) → common ≡ None
-    → BeginsWithNo is_space text → WordsSoFar options text text common false
-words-start options text common none solid = record {
-  done = [];
-  read = prepend-none (text_comparators options text);
-  common_is = none-common common none;
-  found_is = refl;
-  bounded = tt;
-  solid = solid;
-}
 
 -- the first word of the rest
 rest-step : (options : NpmOptions) (rest others : List ℕ) (word : Word)
@@ -140,7 +125,7 @@ rest-step options rest others word first =
 pub words-merged : (options : NpmOptions) (text rest others : List ℕ) (before after : Option Comparator) (found : Bool)
     (word : Word) (c : Comparator) → WordsSoFar options text rest before found
     → words_of (chunks_of rest) ≡ word ∷ words_of (chunks_of others) → BeginsWithNo is_space others
-    → word_comparator options word ≡ Ok c → IsNarrowedTo before c after → AreReadEnds c
+    → word_comparator options word ≡ Ok c → IsNarrowedTo before c after → IsReadEnds c
     → WordsSoFar options text others after true
 words-merged options text rest others before after found word c so first solid is narrows bounded = record {
   done = so.done ++ c ∷ [];
@@ -153,7 +138,7 @@ words-merged options text rest others before after found word c so first solid i
       ∙ so.read;
   common_is = narrows so.done so.common_is;
   found_is = has-last so.done c;
-  bounded = all-last AreReadEnds so.done c so.bounded bounded;
+  bounded = all-last IsReadEnds so.done c so.bounded bounded;
   solid = solid;
 }
 

@@ -1,20 +1,20 @@
 -- What a contract sees of the results of the private readers.
 use Rattle.std.specs.Prelude.{◌≡◌, ◌≤◌, ◌+◌, ℕ, Bool, true, false, List, [], ◌∷◌, ◌++◌, Option, Some, None}
-use Rattle.std.specs.Prelude.{◌&&◌, Result, Ok, Err, IfSome}
+use Rattle.std.specs.Prelude.{◌==◌, ◌&&◌, ◌||◌, Result, Ok, Err, IfSome}
 use Rattle.std.specs.Borrow.{Bor}
 use Rattle.std.specs.List.{AllByRecursion}
 use Rattle.semver_cuts.specs.declared.cut.Cut.{Cut}
 use Rattle.semver_cuts.specs.declared.cut.Cut.TheVariants as Cuts
 use Rattle.semver_cuts.specs.Ends.{Ends}
 use Rattle.semver_versions.specs.Characters.{caret, tilde}
-use Rattle.semver_versions.specs.Readers.Reading.{Read, read_extras}
-use Rattle.semver_versions.specs.Version.{VersionValue, least_of, release, without_build}
+use Rattle.semver_versions.specs.Reading.{Read, read_extras}
+use Rattle.semver_versions.specs.Version.{VersionValue, least_of, release}
 use Rattle.semver_versions.specs.declared.TheConstants.{MAX_SAFE_INTEGER}
 use Rattle.semver_versions.specs.declared.parse.fault.Fault.{Fault}
 use Rattle.semver_sets.specs.Comparator.{Comparator}
+use Rattle.semver_sets.specs.Lemmas.Forms.{IsReadEnds}
 use Rattle.semver_sets.specs.Merging.{AreSetsOf, IsCommonSpan}
-use Rattle.semver_sets.specs.PartialText.{Partial, zeroed}
-use Rattle.semver_sets.specs.RangeSets.{IsRangeCut}
+use Rattle.semver_sets.specs.PartialText.{Partial}
 use Rattle.semver_sets.specs.declared.read.full.FullLead.{FullLead}
 use Rattle.semver_sets.specs.declared.read.full.FullLead.TheVariants as FullLeads
 use Rattle.semver_sets.specs.declared.read.Unread.{Unread}
@@ -42,6 +42,10 @@ read_partial_seen (Err fault) = Err fault
 abbrev pub result_seen : Result CodePartial Fault → Result Partial Fault
 result_seen (Ok p) = Ok (partial_seen p)
 result_seen (Err fault) = Err fault
+
+-- `>`, `<`, `~` and `^`: with these begins no partial
+abbrev pub is_sign : ℕ → Bool
+is_sign b = (b == 62) || (b == 60) || (b == tilde) || (b == caret)
 
 -- a text that is there or not
 abbrev pub some_seen : Option (Bor (List ℕ)) → Option (List ℕ)
@@ -80,11 +84,6 @@ cut_seen WordCuts.End = Cuts.End
 abbrev pub ends_seen : WordEnds → Comparator
 ends_seen e = record { lower = cut_seen e.lower; upper = cut_seen e.upper }
 
--- both ends are cuts that a range can have
-pub record AreReadEnds (c : Comparator) : Type 0 where
-  pub lower : IsRangeCut c.lower
-  pub upper : IsRangeCut c.upper
-
 -- ---- lists
 
 -- `true` if the list has an element
@@ -96,10 +95,6 @@ has_some (x ∷ xs) = true
 abbrev pub prepend : {X : Type 0} → List X → Option (List X) → Option (List X)
 prepend before None = None
 prepend before (Some after) = Some (before ++ after)
-
--- the version of three components and extras, with 0 for each absent one, without its build
-abbrev pub bare_version : Option ℕ → Option ℕ → Option ℕ → List ℕ → VersionValue
-bare_version major minor patch extras = without_build (zeroed (with_extras major minor patch extras))
 
 -- ---- numbers of ends
 
@@ -134,7 +129,7 @@ IsNarrowedTo before c after = (comparators : List Comparator) → IsCommonSpan c
 abbrev pub IsWordRead : Bool → Result Comparator Fault → Option Comparator → Option Comparator → Result Bool Unread
     → Type 0
 IsWordRead loose word before after (Ok true) =
-    (c : Comparator) × (word ≡ Ok c) × IsNarrowedTo before c after × AreReadEnds c
+    (c : Comparator) × (word ≡ Ok c) × IsNarrowedTo before c after × IsReadEnds c
 IsWordRead loose word before after (Ok false) =
     (fault : Fault) × (word ≡ Err fault) × ((loose && is_unknown fault) ≡ true) × (after ≡ before)
 IsWordRead loose word before after (Err Refused) =
@@ -147,7 +142,7 @@ pub record AreRead (value : Option (List Comparator)) (common : Option Comparato
   pub value_is : value ≡ Some comparators
   pub common_is : IsCommonSpan comparators common
   pub found_is : found ≡ has_some comparators
-  pub bounded : AllByRecursion AreReadEnds comparators
+  pub bounded : AllByRecursion IsReadEnds comparators
 
 -- the result of reading a piece or its words
 abbrev pub IsRead : Option (List Comparator) → Option Comparator → Result Bool Unread → Type 0
@@ -166,7 +161,7 @@ pub record IsAdded (value : Option (List Comparator)) (before after : List (Ends
   pub comparators : List Comparator
   pub value_is : value ≡ Some comparators
   pub found_is : found ≡ has_some comparators
-  pub bounded : AllByRecursion AreReadEnds comparators
+  pub bounded : AllByRecursion IsReadEnds comparators
   pub more : List (Ends VersionValue)
   pub merged : AreSetsOf (listed comparators) more
   pub added : after ≡ before ++ more

@@ -9,7 +9,7 @@ ghost use Rattle.npm_sets.specs.Private.ReadViews.{IsNumberBefore, full_mark};
 
 use crate::NpmOptions;
 use crate::partial::read_number_component;
-use semver_sets::read::full::FullLead;
+use semver_sets::read::full::{Form, FullLead, full_form};
 use semver_versions::{MAX_LENGTH, MAX_SAFE_INTEGER};
 
 // `^` and `1.2.3` of `^1.2.3`
@@ -48,9 +48,9 @@ fn read_last(loose: bool, text: &[u8]) -> Option<u64>
     }
 }
 
-/// Returns `^` and the three numbers of `^1.2.3`, or `None` if the text has another form or prereleases are included.
+/// Returns the form and the three numbers of `^1.2.3`, or `None` if the text has to be read word by word.
 #[inline(always)]
-pub fn read_full(text: &[u8], options: NpmOptions) -> Option<(FullLead, u64, u64, u64)>
+pub fn read_full(text: &[u8], options: NpmOptions) -> Option<(Form, u64, u64, u64)>
     ensures { IfSome result (λ f. IsNpmFullText options text.now f.0 f.1 f.2 f.3) }
 {
     if options.include_prerelease || text.len() > MAX_LENGTH {
@@ -60,5 +60,6 @@ pub fn read_full(text: &[u8], options: NpmOptions) -> Option<(FullLead, u64, u64
     let (major, rest) = read_dotted(options.loose, version)?;
     let (minor, rest) = read_dotted(options.loose, rest)?;
     let patch = read_last(options.loose, rest)?;
-    Some((lead, major, minor, patch))
+    let form = full_form(lead, major, minor, patch)?;
+    Some((form, major, minor, patch))
 }

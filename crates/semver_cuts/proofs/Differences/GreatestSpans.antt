@@ -16,9 +16,7 @@ module _ {T : Type 0} (cmp : T → T → Ordering) where
   -- no cut lies in spans that all begin above it
   pub none-above : IsTotalOrder cmp → (cut : Cut T) (spans : List (Ends T))
       → AllByRecursion (λ (s : Ends T). IsCutBelow cmp cut s.lower) spans → ¬ (IsInSome cmp spans cut)
-  none-above o cut [] above is = elim is [ ]
-  none-above o cut (span ∷ spans) above (inl here) = below-not-at_most o cut span.lower above.0 here.lower
-  none-above o cut (span ∷ spans) above (inr there) = none-above o cut spans above.1 there
+  none-above o cut spans above is = below_irrefl o cut (some-above o cut cut spans above is)
 
   -- each cut of an element of a list lies in some span of the list
   pub each-in_some : (spans : List (Ends T))

@@ -1,20 +1,18 @@
--- The pieces of a span outside spans that are apart, one by one in ascending order.
-use Rattle.std.proofs.Common.{◌≡◌, List, [], ◌∷◌, ◌++◌, Ordering, Bool, true, false, if◌then◌else◌, refl, inl, inr}
-use Rattle.std.proofs.Common.{⊎_elim}
+-- The pieces of a span outside merged spans, found one by one in ascending order.
+use Rattle.std.proofs.Common.{◌≡◌, ◌⊎◌, List, [], ◌∷◌, ◌++◌, Ordering, true, false, refl, inl, inr, ⊎_elim, ap, subst, sym, ◌∙◌}
+use Rattle.std.proofs.lemmas.List.{append-nil, append_assoc}
 use Rattle.std.specs.List.{AllByRecursion}
-use Rattle.std.specs.Ordering.{is_lt}
 use Rattle.std.specs.Cmp.{IsTotalOrder}
-use Rattle.semver_cuts.specs.declared.cut.Cut.{Cut}
+use Rattle.std.specs.Ordering.{is_lt}
 use Rattle.semver_cuts.specs.Cut.{cut_cmp}
+use Rattle.semver_cuts.specs.declared.cut.Cut.{Cut}
 use Rattle.semver_cuts.specs.SpanLists.{AreApart, IsInSome}
 use Rattle.semver_cuts.specs.Ends.{Ends, IsCutAtMost, IsCutBelow, span_between}
-use Rattle.semver_cuts.specs.Difference.{IsFirstAt, IsPieceLower, IsPieceUpper}
-use Rattle.semver_cuts.specs.Joined.{AreRising}
-use Rattle.semver_cuts.specs.SpanDifference.{span_if_any}
-use Rattle.semver_cuts.specs.Private.Difference.{pieces_between}
-use Rattle.semver_cuts.specs.Lemmas.Apart.{apart-above, apart-cons, apart-tail}
-use Rattle.semver_cuts.specs.Lemmas.Ends.{at_most-below, at_most-from_not_lt, at_most-or-below, at_most_refl}
-use Rattle.semver_cuts.specs.Lemmas.Ends.{at_most_trans, below-at_most, below-from_lt, below-not-at_most, below_trans}
+use Rattle.semver_cuts.specs.Difference.{ArePieces, IsFirstAt, IsPieceLower, IsPieceUpper}
+use Rattle.semver_cuts.specs.Joined.{AreMerged, AreRising}
+use Rattle.semver_cuts.specs.Lemmas.Apart.{apart-above, apart-cons, merged-tail}
+use Rattle.semver_cuts.specs.Lemmas.Ends.{at_most-below, at_most-from_not_lt, at_most-or-below, at_most_refl, below-from_lt}
+use Rattle.semver_cuts.specs.Lemmas.Ends.{at_most_trans, below-at_most, below-not-at_most, below_trans}
 use Rattle.semver_cuts.specs.Lemmas.Lists.{all_both, all_map}
 use Rattle.semver_cuts.proofs.Differences.GreatestSpans.{none-above}
 
@@ -36,6 +34,24 @@ abbrev pub HasFirstEnds : {T : Type 0} → (T → T → Ordering) → List (Ends
 HasFirstEnds {T} cmp others span =
     IsFirstAt cmp (λ (s : Ends T). s.lower) others span.lower × IsFirstAt cmp
     (λ (s : Ends T). s.upper) others span.upper
+
+module _ {T : Type 0} {cmp : T → T → Ordering} (o : IsTotalOrder cmp) where
+  -- the piece below the next span is added, if a cut lies there
+  abbrev pub IsAdded : Cut T → Cut T → List (Ends T) → List (Ends T) → Type 0
+  IsAdded low lower done new =
+      (IsCutBelow cmp low lower × (new ≡ done ++ span_between low lower ∷ [])) ⊎ (IsCutAtMost cmp lower low × (new ≡ done))
+
+  pub added-by : (low lower : Cut T) (first old now done : List (Ends T)) → old ≡ first ++ done
+      → ((is_lt (cut_cmp cmp low lower) ≡ true) × (now ≡ old ++ span_between low lower ∷ []))
+      ⊎ ((is_lt (cut_cmp cmp low lower) ≡ false) × (now ≡ old))
+      → (new : List (Ends T)) × (now ≡ first ++ new) × IsAdded low lower done new
+  added-by low lower first old now done e (inl h) = (
+    done ++ span_between low lower ∷ [],
+    h.1 ∙ ap (λ l. l ++ span_between low lower ∷ []) e ∙ append_assoc first done (span_between low lower ∷ []),
+    inl (below-from_lt cmp low lower h.0, refl),
+  )
+  added-by low lower first old now done e (inr h) =
+      (done, h.1 ∙ e, inr (at_most-from_not_lt o low lower h.0, refl))
 
 module _ {T : Type 0} {cmp : T → T → Ordering} (o : IsTotalOrder cmp) (others : List (Ends T)) (one : Ends T) where
   -- if no span begins below the end of `one`, the part is one piece
@@ -143,64 +159,78 @@ module _ {T : Type 0} {cmp : T → T → Ordering} (o : IsTotalOrder cmp) (other
       uppers = (inr (begins, first), are.uppers);
     }
 
-  -- the pieces along the spans, if those above the first of them are known
-  module _ (low : Cut T) (span : Ends T) (spans : List (Ends T)) (below : IsCutBelow cmp low one.upper)
-      (end : IsPieceLower cmp others one low) (over : IsCutBelow cmp low span.upper)
-      (rising : IsCutBelow cmp span.lower span.upper)
-      (above : AllByRecursion (λ (s : Ends T). IsCutBelow cmp span.upper s.lower) spans)
-      (first : IsFirstAt cmp (λ (s : Ends T). s.lower) others span.lower)
-      (go_on : IsCutBelow cmp span.upper one.upper
-      → ArePiecesFrom cmp others one span.upper spans (pieces_between cmp span.upper one.upper spans)) where
-    by_end : (b : Bool) → is_lt (cut_cmp cmp span.upper one.upper) ≡ b
-        → ArePiecesFrom cmp others one span.upper spans (if b then pieces_between cmp span.upper one.upper spans else [])
-    by_end true e = go_on (below-from_lt cmp span.upper one.upper e)
-    by_end false e = no-piece span.upper spans (at_most-from_not_lt o span.upper one.upper e)
+  -- ---- the walk along the spans
 
-    by_room : (b : Bool) → is_lt (cut_cmp cmp low span.lower) ≡ b → IsCutBelow cmp span.lower one.upper
-        → (parts : List (Ends T)) → ArePiecesFrom cmp others one span.upper spans parts
-        → ArePiecesFrom cmp others one low (span ∷ spans) ((if b then span_between low span.lower ∷ [] else []) ++ parts)
-    by_room true e begins parts are =
-        with-first low span spans over rising above begins parts are (below-from_lt cmp low span.lower e) end first
-    by_room false e begins parts are =
-        without-first low span spans over rising above begins parts are (at_most-from_not_lt o low span.lower e)
+  -- the pieces so far, where those from a cut on are left, outside the spans that are left
+  pub record IsWalked (low : Cut T) (spans done : List (Ends T)) : Type 0 where
+    pub below : IsCutBelow cmp low one.upper
+    pub least : IsCutAtMost cmp one.lower low
+    pub end : IsPieceLower cmp others one low
+    pub over : AllByRecursion (λ (s : Ends T). IsCutBelow cmp low s.upper) spans
+    pub merged : AreMerged cmp spans
+    pub first : AllByRecursion (HasFirstEnds cmp others) spans
+    pub left : (parts : List (Ends T)) → ArePiecesFrom cmp others one low spans parts
+        → ArePieces cmp others one (done ++ parts)
 
-    by_begin : (b : Bool) → is_lt (cut_cmp cmp span.lower one.upper) ≡ b
-        → ArePiecesFrom cmp others one low (span ∷ spans)
-        (if b
-        then span_if_any cmp low span.lower
-        ++ (if is_lt (cut_cmp cmp span.upper one.upper) then pieces_between cmp span.upper one.upper spans else [])
-        else span_between low one.upper ∷ [])
-    by_begin true e =
-        by_room (is_lt (cut_cmp cmp low span.lower)) refl (below-from_lt cmp span.lower one.upper e)
-        (if is_lt (cut_cmp cmp span.upper one.upper) then pieces_between cmp span.upper one.upper spans else [])
-        (by_end (is_lt (cut_cmp cmp span.upper one.upper)) refl)
-    by_begin false e =
-        let past : IsCutAtMost cmp one.upper span.lower = at_most-from_not_lt o span.lower one.upper e in
-        whole-piece low (span ∷ spans) below end (
+  -- no span begins below the end of `one`: one more piece
+  pub walked-stopped : (low : Cut T) (spans done : List (Ends T)) → IsWalked low spans done
+      → AllByRecursion (λ (s : Ends T). IsCutAtMost cmp one.upper s.lower) spans
+      → ArePieces cmp others one (done ++ span_between low one.upper ∷ [])
+  walked-stopped low spans done walked above =
+      walked.left (span_between low one.upper ∷ []) (whole-piece low spans walked.below walked.end above)
+
+  module _ (low : Cut T) (span : Ends T) (all spans done : List (Ends T)) (walking : IsWalked low all done)
+      (parts : all ≡ span ∷ spans) where
+    walked : IsWalked low (span ∷ spans) done
+    walked = subst (λ l. IsWalked low l done) parts walking
+
+    above : AllByRecursion (λ (s : Ends T). IsCutBelow cmp span.upper s.lower) spans
+    above = apart-above o span spans walked.merged.apart walked.merged.rising.1
+
+    -- the next span begins at the end of `one` or above
+    pub walked-past : IsCutAtMost cmp one.upper span.lower
+        → ArePieces cmp others one (done ++ span_between low one.upper ∷ [])
+    walked-past past =
+        walked-stopped low (span ∷ spans) done walked (
           past,
           all_map (λ (s : Ends T). IsCutBelow cmp span.upper s.lower)
               (λ (s : Ends T). IsCutAtMost cmp one.upper s.lower)
               (λ s h. inl (at_most-below o one.upper span.lower s.lower past
-              (below_trans o span.lower span.upper s.lower rising h)))
-              spans above,
+              (below_trans o span.lower span.upper s.lower walked.merged.rising.0 h))) spans above,
         )
 
-  -- the pieces along the spans
-  pub pieces-along : (low : Cut T) (spans : List (Ends T)) → IsCutBelow cmp low one.upper → IsCutAtMost cmp one.lower low
-      → IsPieceLower cmp others one low → AreRising cmp spans → AreApart cmp spans
-      → AllByRecursion (λ (s : Ends T). IsCutBelow cmp low s.upper) spans
-      → AllByRecursion (HasFirstEnds cmp others) spans
-      → ArePiecesFrom cmp others one low spans (pieces_between cmp low one.upper spans)
-  pieces-along low [] below least end rising apart over first = whole-piece low [] below end tt
-  pieces-along low (span ∷ spans) below least end rising apart over first =
-      let above : AllByRecursion (λ (s : Ends T). IsCutBelow cmp span.upper s.lower) spans =
-      apart-above o span spans apart rising.1 in
-      by_begin low span spans below end over.0 rising.0 above first.0.0
-      (λ goes_on. pieces-along span.upper spans goes_on (inl (at_most-below o one.lower low span.upper least over.0))
-      (inr (at_most-below o one.lower low span.upper least over.0, first.0.1))
-      rising.1 (apart-tail cmp span spans apart)
-      (all_both (λ (s : Ends T). IsCutBelow cmp span.upper s.lower) (λ (s : Ends T). IsCutBelow cmp s.lower s.upper)
-      (λ (s : Ends T). IsCutBelow cmp span.upper s.upper)
-      (λ s p q. below_trans o span.upper s.lower s.upper p q) spans above rising.1)
-      first.1)
-      (is_lt (cut_cmp cmp span.lower one.upper)) refl
+    module _ (begins : IsCutBelow cmp span.lower one.upper) (new : List (Ends T)) where
+      added : IsAdded o low span.lower done new → (parts : List (Ends T))
+          → ArePiecesFrom cmp others one span.upper spans parts → ArePieces cmp others one (new ++ parts)
+      added (inl h) parts from =
+          subst (ArePieces cmp others one) (sym (append_assoc done (span_between low span.lower ∷ []) parts)
+          ∙ ap (λ l. l ++ parts) (sym h.1)) (walked.left (span_between low span.lower ∷ parts)
+          (with-first low span spans walked.over.0 walked.merged.rising.0 above begins parts from h.0 walked.end walked.first.0.0))
+      added (inr h) parts from =
+          subst (λ l. ArePieces cmp others one (l ++ parts)) (sym h.1) (walked.left parts
+          (without-first low span spans walked.over.0 walked.merged.rising.0 above begins parts from h.0))
+
+      -- it ends at the end of `one` or above: there are no more pieces
+      pub walked-ended : IsAdded o low span.lower done new → IsCutAtMost cmp one.upper span.upper
+          → ArePieces cmp others one new
+      walked-ended more past =
+          subst (ArePieces cmp others one) (append-nil new)
+          (added more [] (no-piece span.upper spans past))
+
+      -- or below it: the walk goes on
+      pub walked-next : IsAdded o low span.lower done new → IsCutBelow cmp span.upper one.upper
+          → IsWalked span.upper spans new
+      walked-next more ends =
+          let over : IsCutBelow cmp one.lower span.upper =
+          at_most-below o one.lower low span.upper walked.least walked.over.0 in
+          record {
+            below = ends;
+            least = inl over;
+            end = inr (over, walked.first.0.1);
+            over = all_both (λ (s : Ends T). IsCutBelow cmp span.upper s.lower)
+                (λ (s : Ends T). IsCutBelow cmp s.lower s.upper) (λ (s : Ends T). IsCutBelow cmp span.upper s.upper)
+                (λ s p q. below_trans o span.upper s.lower s.upper p q) spans above walked.merged.rising.1;
+            merged = merged-tail cmp span spans walked.merged;
+            first = walked.first.1;
+            left = added more;
+          }

@@ -11,8 +11,6 @@ use Rattle.semver_cuts.specs.Ends.{Ends, IsCutAtMost, IsCutBelow, span_between}
 use Rattle.semver_cuts.specs.ChosenEnds.{IsFirstLeastUpper, IsLastGreatestLower}
 use Rattle.semver_cuts.specs.Places.{merged_spans}
 use Rattle.semver_cuts.specs.Difference.{IsFirstAt, IsPieceLower, IsPieceUpper}
-use Rattle.semver_cuts.specs.Private.Joining.{places_in_order}
-use Rattle.semver_cuts.specs.Private.Placed.{PlacedSpan}
 
 abbrev Marked : Type 0
 Marked = ℕ × ℕ
@@ -201,20 +199,11 @@ not-last_upper at =
 
 -- ---- the spans that a list is joined to: of equal ends the first of the list
 
--- 1 to 3, 3 to 5 and 1 to 5, in the order of their lower ends
+-- 1 to 3, 3 to 5 and 1 to 5
 abbrev touching : List (Ends Marked)
 touching = from_to 1 1 3 ∷ from_to 2 3 5 ∷ from_to 3 1 5 ∷ []
 
-abbrev touching_in_order : List (PlacedSpan Marked)
-touching_in_order =
-    record { span = from_to 1 1 3; place = 0 } ∷ record { span = from_to 3 1 5; place = 2 }
-    ∷ record { span = from_to 2 3 5; place = 1 } ∷ []
-
-joined-places : places_in_order marked_cmp touching_in_order ≡ (0, 1) ∷ []
-joined-places = refl
-
-joined-ties : merged_spans touching (places_in_order marked_cmp touching_in_order)
-    ≡ span_between (Before (1, 1)) (Before (5, 2)) ∷ []
+joined-ties : merged_spans touching ((0, 1) ∷ []) ≡ span_between (Before (1, 1)) (Before (5, 2)) ∷ []
 joined-ties = refl
 
 first-joined : IsFirstAt marked_cmp (λ (s : Ends Marked). s.upper) touching (Before (5, 2))

@@ -1,47 +1,50 @@
--- Of spans that are apart, one is the first that ends above a cut, if it does and the one before it does not.
-use Rattle.std.proofs.Common.{◌≡◌, ◌<◌, ◌+◌, ◌-◌, ℕ, List, ◌∷◌, get_or, length, take, drop, ap, subst, sym, ◌∙◌, arith}
+-- Merged spans before one that ends at or below a cut do so too, and those after one that ends above it.
+use Rattle.std.proofs.Common.{◌≡◌, ◌<◌, ◌+◌, ℕ, List, [], ◌∷◌, ◌++◌, length, take, drop, ap, subst, sym, ◌∙◌, inl}
 use Rattle.std.proofs.Common.{Ordering}
-use Rattle.std.proofs.lemmas.List.{drop_more, take-append-drop}
+use Rattle.std.proofs.lemmas.List.{drop_more, take_more, take-append-drop}
 use Rattle.std.specs.Cmp.{IsTotalOrder}
 use Rattle.std.specs.List.{AllByRecursion}
 use Rattle.semver_cuts.specs.declared.cut.Cut.{Cut}
 use Rattle.semver_cuts.specs.Ends.{Ends, IsCutAtMost, IsCutBelow}
+use Rattle.semver_cuts.specs.Joined.{AreMerged, AreRising}
 use Rattle.semver_cuts.specs.SpanLists.{AreApart}
-use Rattle.semver_cuts.specs.Joined.{AreRising}
-use Rattle.semver_cuts.specs.Private.Difference.{ending_above}
-use Rattle.semver_cuts.specs.Lemmas.Apart.{ending_above-at, halved_above, halved_below}
+use Rattle.semver_cuts.specs.Lemmas.Apart.{apart-above, apart-before, merged-drop}
+use Rattle.semver_cuts.specs.Lemmas.Ends.{below-at_most, below_trans}
+use Rattle.semver_cuts.specs.Lemmas.Lists.{all_both, all_map, all_push}
 
-module _ {T : Type 0} {cmp : T → T → Ordering} (o : IsTotalOrder cmp) (spans : List (Ends T)) (cut : Cut T)
-    (apart : AreApart cmp spans) (rising : AreRising cmp spans) where
-  at : (place : ℕ) (span : Ends T) → place < length spans → span ≡ get_or spans place span
-      → drop place spans ≡ span ∷ drop (place + 1) spans
-  at place span lt e = drop_more spans place span lt ∙ ap (λ s. s ∷ drop (place + 1) spans) (sym e)
+module _ {T : Type 0} {cmp : T → T → Ordering} (o : IsTotalOrder cmp) (spans : List (Ends T)) (are : AreMerged cmp spans)
+    (cut : Cut T) (place : ℕ) (span : Ends T) (within : place < length spans)
+    (here : drop place spans ≡ span ∷ drop (place + 1) spans) where
+  parts : spans ≡ take place spans ++ span ∷ drop (place + 1) spans
+  parts = sym (take-append-drop place spans) ∙ ap (λ l. take place spans ++ l) here
 
-  found : (place : ℕ) (span : Ends T) → place < length spans → span ≡ get_or spans place span
-      → IsCutBelow cmp cut span.upper
-      → AllByRecursion (λ (s : Ends T). IsCutAtMost cmp s.upper cut) (take place spans)
-      → drop place spans ≡ ending_above cmp cut spans
-  found place span lt e above below =
-      sym (ending_above-at o cut (take place spans) (drop place spans) below
-      (halved_above o spans rising apart cut place span lt (at place span lt e) above))
-      ∙ ap (ending_above cmp cut) (take-append-drop place spans)
+  one_more : take (place + 1) spans ≡ take place spans ++ span ∷ []
+  one_more = let e = drop_more spans place span within in let f = take_more spans place span within in cc
 
-  -- the first span
-  pub found_first : (place : ℕ) (span : Ends T) → place < length spans → span ≡ get_or spans place span
-      → IsCutBelow cmp cut span.upper → place ≡ 0
-      → drop place spans ≡ ending_above cmp cut spans
-  found_first place span lt e above none =
-      found place span lt e above
-      (subst (λ k. AllByRecursion (λ (s : Ends T). IsCutAtMost cmp s.upper cut) (take k spans)) (sym none) tt)
+  whole : AreMerged cmp (span ∷ drop (place + 1) spans)
+  whole = subst (AreMerged cmp) here (merged-drop cmp place spans are)
 
-  -- the span after one that ends at or below the cut
-  pub found_behind : (place : ℕ) (span last : Ends T) → place < length spans → span ≡ get_or spans place span
-      → IsCutBelow cmp cut span.upper → 0 < place → last ≡ get_or spans (place - 1) last
-      → IsCutAtMost cmp last.upper cut
-      → drop place spans ≡ ending_above cmp cut spans
-  found_behind place span last lt e above positive e' ended =
-      let within : place - 1 < length spans = omega arith in
-      let next : (place - 1) + 1 ≡ place = omega arith in
-      found place span lt e above
-      (subst (λ k. AllByRecursion (λ (s : Ends T). IsCutAtMost cmp s.upper cut) (take k spans)) next
-      (halved_below o spans rising apart cut (place - 1) last within (at (place - 1) last within e') ended))
+  -- a span that ends at or below the cut: so do all those before it
+  pub ended-before : IsCutAtMost cmp span.upper cut
+      → AllByRecursion (λ (s : Ends T). IsCutAtMost cmp s.upper cut) (take (place + 1) spans)
+  ended-before h =
+      let Ended : Ends T → Type 0 = λ s. IsCutAtMost cmp s.upper cut in
+      subst (AllByRecursion Ended) (sym one_more) (all_push Ended (take place spans) span
+      (all_map (λ (s : Ends T). IsCutBelow cmp s.upper span.lower) Ended
+      (λ s p. inl (below-at_most o s.upper span.upper cut (below_trans o s.upper span.lower span.upper p
+      whole.rising.0) h)) (take place spans) (apart-before o (take place spans) (drop (place + 1) spans) span
+      (subst (AreApart cmp) parts are.apart) (subst (AreRising cmp) parts are.rising))) h)
+
+  -- a span that ends above the cut: so do all those after it
+  pub above-from : IsCutBelow cmp cut span.upper
+      → AllByRecursion (λ (s : Ends T). IsCutBelow cmp cut s.upper) (drop place spans)
+  above-from h =
+      let Above : Ends T → Type 0 = λ s. IsCutBelow cmp cut s.upper in
+      let rest : List (Ends T) = drop (place + 1) spans in
+      subst (AllByRecursion Above) (sym here) (
+        h,
+        all_both (λ (s : Ends T). IsCutBelow cmp span.upper s.lower) (λ (s : Ends T). IsCutBelow cmp s.lower s.upper)
+            Above
+            (λ s p q. below_trans o cut span.upper s.upper h (below_trans o span.upper s.lower s.upper p q))
+            rest (apart-above o span rest whole.apart whole.rising.1) whole.rising.1,
+      )

@@ -1,7 +1,7 @@
 -- Spans that are joined in the order of their lower ends. The joined spans are apart and have the same cuts, and of
 -- equal ends that of the first span is chosen.
-use Rattle.std.proofs.Common.{◌≡◌, ◌⊎◌, ◌↔◌, ℕ, ◌≤◌, List, [], ◌∷◌, map, Ordering, Equal, Bool, true, false}
-use Rattle.std.proofs.Common.{if◌then◌else◌, refl, sym, ap, subst, ◌∙◌, inl, inr, ⊎_elim, arith}
+use Rattle.std.proofs.Common.{◌≡◌, ◌+◌, ◌⊎◌, ◌↔◌, ℕ, ◌≤◌, List, [], ◌∷◌, map, Ordering, Equal, false}
+use Rattle.std.proofs.Common.{refl, sym, ap, subst, ◌∙◌, inl, inr, ⊎_elim, arith}
 use Rattle.std.specs.List.{AllByRecursion}
 use Rattle.std.specs.Ordering.{is_lt}
 use Rattle.std.specs.Cmp.{IsTotalOrder}
@@ -10,19 +10,32 @@ use Rattle.semver_cuts.specs.Cut.{cut_cmp}
 use Rattle.semver_cuts.specs.SpanLists.{AreApart, IsInSome}
 use Rattle.semver_cuts.specs.Ends.{Ends, IsCutAtMost, IsCutBelow, IsInSpan, span_between}
 use Rattle.semver_cuts.specs.Joined.{AreRising}
-use Rattle.semver_cuts.specs.Private.Joining.{ends_later, joined_from}
-use Rattle.semver_cuts.specs.Private.Placed.{PlacedSpan, placed_cmp}
+use Rattle.semver_cuts.specs.Private.Placed.{AreSorted, PlacedSpan, placed_cmp, placed_from}
 use Rattle.semver_cuts.specs.Lemmas.Apart.{apart-cons}
-use Rattle.semver_cuts.specs.Lemmas.Ends.{at_most-below, at_most-from_not_lt, at_most-or-below, at_most_refl}
-use Rattle.semver_cuts.specs.Lemmas.Ends.{at_most_trans, below-at_most, below-from_lt, below-not-at_most, below_trans}
+use Rattle.semver_cuts.specs.Lemmas.Ends.{at_most-below, at_most-or-below, at_most_refl}
+use Rattle.semver_cuts.specs.Lemmas.Ends.{at_most_trans, below-at_most, below-not-at_most, below_trans}
 use Rattle.semver_cuts.specs.Lemmas.Ends.{cut_cmp-equal_back, cut_cmp-refl}
 use Rattle.semver_cuts.specs.Lemmas.Lists.{all_map}
 use Rattle.semver_cuts.proofs.Lists.Elements.{IsAmong, all-among}
-use Rattle.semver_cuts.proofs.Joining.PlacedOrder.{AreInOrder, EndsNoLater, later_by, lower-later}
-use Rattle.semver_cuts.proofs.Joining.PlacedOrder.{no_later-trans, no_later_by, place-later}
+use Rattle.semver_cuts.proofs.Joining.PlacedOrder.{AreInOrder, EndsLater, EndsNoLater, lower-later}
+use Rattle.semver_cuts.proofs.Joining.PlacedOrder.{no_later-trans, place-later}
 
-module _ {T : Type 0} {cmp : T → T → Ordering} (o : IsTotalOrder cmp) (In : PlacedSpan T → Type 0)
-    (rises : (p : PlacedSpan T) → In p → IsCutBelow cmp p.span.lower p.span.upper) where
+module _ {T : Type 0} (cmp : T → T → Ordering) where
+  rising-placed : (n : ℕ) (spans : List (Ends T)) → AreRising cmp spans
+      → AllByRecursion (λ (p : PlacedSpan T). IsCutBelow cmp p.span.lower p.span.upper) (placed_from n spans)
+  rising-placed n [] rising = tt
+  rising-placed n (span ∷ spans) rising = (rising.0, rising-placed (n + 1) spans rising.1)
+
+module _ {T : Type 0} {cmp : T → T → Ordering} (o : IsTotalOrder cmp) (spans : List (Ends T))
+    (order : List (PlacedSpan T)) (s : AreSorted cmp spans order) where
+  abbrev pub In : PlacedSpan T → Type 0
+  In = IsAmong (placed_from 0 spans)
+
+  rises : (p : PlacedSpan T) → In p → IsCutBelow cmp p.span.lower p.span.upper
+  rises p is =
+      all-among (λ (p : PlacedSpan T). IsCutBelow cmp p.span.lower p.span.upper) (placed_from 0 spans) p
+      (rising-placed cmp 0 spans s.rising) is
+
   -- the end of one of all spans, such that no span with an equal end has a lower place
   abbrev pub IsFirstPlaced : (Ends T → Cut T) → Cut T → Type 0
   IsFirstPlaced end cut = (p : PlacedSpan T) × In p × (end p.span ≡ cut)
@@ -70,7 +83,7 @@ module _ {T : Type 0} {cmp : T → T → Ordering} (o : IsTotalOrder cmp) (In : 
   pub new-run : (next : PlacedSpan T) (later : List (PlacedSpan T)) → In next → AreInOrder cmp (next ∷ later)
       → ((q : PlacedSpan T) → In q → IsAmong (next ∷ later) q ⊎ IsCutBelow cmp q.span.upper next.span.lower)
       → IsRun next.span.lower next.span.upper next.place later
-  new-run next later in' order old = record {
+  new-run next later in' ascends old = record {
     rising = rises next in';
     begins = (
       next,
@@ -79,7 +92,7 @@ module _ {T : Type 0} {cmp : T → T → Ordering} (o : IsTotalOrder cmp) (In : 
       λ q is same. ⊎_elim
           (⊎_elim (λ e. let e' = ap (λ (p : PlacedSpan T). p.place) e in omega arith)
           (λ there. place-later o next q
-          (all-among (λ (p : PlacedSpan T). is_lt (placed_cmp cmp p next) ≡ false) later q order.0 there) same))
+          (all-among (λ (p : PlacedSpan T). is_lt (placed_cmp cmp p next) ≡ false) later q ascends.0 there) same))
           (λ below. absurd (below-not-at_most o q.span.lower next.span.lower
           (below_trans o q.span.lower q.span.upper next.span.lower (rises q is) below)
           (inr (cut_cmp-equal_back o q.span.lower next.span.lower same))))
@@ -97,45 +110,60 @@ module _ {T : Type 0} {cmp : T → T → Ordering} (o : IsTotalOrder cmp) (In : 
         (old q is);
     ahead = all_map (λ (q : PlacedSpan T). is_lt (placed_cmp cmp q next) ≡ false)
         (λ (q : PlacedSpan T). IsCutAtMost cmp next.span.lower q.span.lower)
-        (λ q h. lower-later o next q h) later order.0;
+        (λ q h. lower-later o next q h) later ascends.0;
+  }
+
+  -- the joined spans after the last of the later spans
+  pub entries-last : (lower upper : Cut T) (place : ℕ) → IsRun lower upper place []
+      → AreEntries lower upper [] (span_between lower upper ∷ [])
+  entries-last lower upper place run = record {
+    rising = (run.rising, tt);
+    apart = tt;
+    from = (at_most_refl o lower, tt);
+    lowers = (run.begins, tt);
+    uppers = (first-end lower upper place [] run tt tt, tt);
+    cuts = λ cut. (λ h. h, λ h. h);
   }
 
   -- ---- one more span
 
   module _ (lower upper : Cut T) (place : ℕ) (next : PlacedSpan T) (later : List (PlacedSpan T))
       (run : IsRun lower upper place (next ∷ later)) (all : AllByRecursion In (next ∷ later))
-      (order : AreInOrder cmp (next ∷ later)) where
+      (ascends : AreInOrder cmp (next ∷ later)) where
     -- it begins above the end of the run
-    starts : IsCutBelow cmp upper next.span.lower → (entries : List (Ends T))
-        → (IsRun next.span.lower next.span.upper next.place later
-        → AreEntries next.span.lower next.span.upper later entries)
-        → AreEntries lower upper (next ∷ later) (span_between lower upper ∷ entries)
-    starts gap entries are =
-        let begun : IsRun next.span.lower next.span.upper next.place later =
-        new-run next later all.0 order
+    pub starts-run : IsCutBelow cmp upper next.span.lower → IsRun next.span.lower next.span.upper next.place later
+    starts-run gap =
+        new-run next later all.0 ascends
         (λ q in'. ⊎_elim (λ there. inl there)
         (λ done. inr (at_most-below o q.span.upper upper next.span.lower
         (⊎_elim (λ h. inl h) (λ h. inr h.0) done) gap))
-        (run.done q in')) in
-        let rest = are begun in
-        let above : AllByRecursion (λ (q : PlacedSpan T). IsCutBelow cmp upper q.span.lower) later =
-        all_map (λ (q : PlacedSpan T). IsCutAtMost cmp next.span.lower q.span.lower)
-        (λ (q : PlacedSpan T). IsCutBelow cmp upper q.span.lower)
-        (λ q h. below-at_most o upper next.span.lower q.span.lower gap h) later begun.ahead in
+        (run.done q in'))
+
+    pub starts : IsCutBelow cmp upper next.span.lower → (entries : List (Ends T))
+        → AreEntries next.span.lower next.span.upper later entries
+        → AreEntries lower upper (next ∷ later) (span_between lower upper ∷ entries)
+    starts gap entries rest =
+        let over : AllByRecursion (λ (s : Ends T). IsCutBelow cmp upper s.lower) entries =
+        all_map (λ (s : Ends T). IsCutAtMost cmp next.span.lower s.lower) (λ (s : Ends T). IsCutBelow cmp upper s.lower)
+        (λ s h. below-at_most o upper next.span.lower s.lower gap h) entries rest.from in
         record {
           rising = (run.rising, rest.rising);
-          apart = apart-cons cmp (span_between lower upper) entries
-              (all_map (λ (s : Ends T). IsCutAtMost cmp next.span.lower s.lower)
-              (λ (s : Ends T). IsCutBelow cmp upper s.lower)
-              (λ s h. below-at_most o upper next.span.lower s.lower gap h) entries rest.from) rest.apart;
+          apart = apart-cons cmp (span_between lower upper) entries over rest.apart;
           from = (
             at_most_refl o lower,
-            all_map (λ (s : Ends T). IsCutAtMost cmp next.span.lower s.lower)
-                (λ (s : Ends T). IsCutAtMost cmp lower s.lower)
-                (λ s h. at_most_trans o lower next.span.lower s.lower run.ahead.0 h) entries rest.from,
+            all_map (λ (s : Ends T). IsCutBelow cmp upper s.lower) (λ (s : Ends T). IsCutAtMost cmp lower s.lower)
+                (λ s h. inl (below_trans o lower upper s.lower run.rising h)) entries over,
           );
           lowers = (run.begins, rest.lowers);
-          uppers = (first-end lower upper place (next ∷ later) run all (gap, above), rest.uppers);
+          uppers = (
+            first-end lower upper place (next ∷ later) run all (
+              gap,
+              all_map (λ (q : PlacedSpan T). IsCutAtMost cmp next.span.lower q.span.lower)
+                  (λ (q : PlacedSpan T). IsCutBelow cmp upper q.span.lower)
+                  (λ q h. below-at_most o upper next.span.lower q.span.lower gap h) later (starts-run gap).ahead,
+            ),
+            rest.uppers,
+          );
           cuts = λ cut. (
             ⊎_elim (λ h. inl h) (λ h. inr ((rest.cuts cut).0 h)),
             ⊎_elim (λ h. inl h) (λ h. inr ((rest.cuts cut).1 h)),
@@ -143,126 +171,62 @@ module _ {T : Type 0} {cmp : T → T → Ordering} (o : IsTotalOrder cmp) (In : 
         }
 
     -- it begins at or below the end of the run, and ends later
-    grown : IsCutAtMost cmp next.span.lower upper
-        → IsCutBelow cmp upper next.span.upper ⊎ ((cut_cmp cmp upper next.span.upper ≡ Equal) × (next.place ≤ place))
-        → (entries : List (Ends T))
-        → (IsRun lower next.span.upper next.place later → AreEntries lower next.span.upper later entries)
-        → AreEntries lower upper (next ∷ later) entries
-    grown touches ends_later entries are =
-        let higher : IsCutAtMost cmp upper next.span.upper = ⊎_elim (λ h. inl h) (λ h. inr h.0) ends_later in
-        let rest = are (record {
-          rising = below-at_most o lower upper next.span.upper run.rising higher;
-          begins = run.begins;
-          ends = (next, all.0, refl, refl);
-          done = λ q in'. ⊎_elim
-              (⊎_elim
-              (λ e. inr (inr (
-                ap (λ (p : PlacedSpan T). cut_cmp cmp p.span.upper next.span.upper) e ∙ cut_cmp-refl o next.span.upper,
-                let e' = ap (λ (p : PlacedSpan T). p.place) e in omega arith,
-              )))
-              (λ there. inl there))
-              (λ done. inr (no_later-trans o upper next.span.upper place next.place q done ends_later))
-              (run.done q in');
-          ahead = run.ahead.1;
-        }) in
-        record {
-          rising = rest.rising;
-          apart = rest.apart;
-          from = rest.from;
-          lowers = rest.lowers;
-          uppers = rest.uppers;
-          cuts = λ cut. (
-            λ is. ⊎_elim
-                (λ h. ⊎_elim (λ past. inr (inl
-                (record { lower = at_most_trans o next.span.lower upper cut touches past; upper = h.upper })))
-                (λ inside. inl (record { lower = h.lower; upper = inside })) (at_most-or-below o upper cut))
-                (λ h. inr (inr h)) ((rest.cuts cut).0 is),
-            λ is. (rest.cuts cut).1 (⊎_elim
-                (λ h. inl (record {
-                  lower = h.lower;
-                  upper =
-                      below-at_most o cut upper next.span.upper h.upper higher;
-                }))
-                (⊎_elim
-                (λ h. inl (record {
-                  lower = at_most_trans o lower next.span.lower cut run.ahead.0 h.lower;
-                  upper = h.upper;
-                }))
-                (λ h. inr h)) is),
-          );
-        }
+    pub grown-run : EndsLater o upper place next → IsRun lower next.span.upper next.place later
+    grown-run ends_later = record {
+      rising = below-at_most o lower upper next.span.upper run.rising (⊎_elim (λ h. inl h) (λ h. inr h.0) ends_later);
+      begins = run.begins;
+      ends = (next, all.0, refl, refl);
+      done = λ q in'. ⊎_elim
+          (⊎_elim
+          (λ e. inr (inr (
+            ap (λ (p : PlacedSpan T). cut_cmp cmp p.span.upper next.span.upper) e ∙ cut_cmp-refl o next.span.upper,
+            let e' = ap (λ (p : PlacedSpan T). p.place) e in omega arith,
+          )))
+          (λ there. inl there))
+          (λ done. inr (no_later-trans o upper next.span.upper place next.place q done ends_later))
+          (run.done q in');
+      ahead = run.ahead.1;
+    }
 
-    -- it begins at or below the end of the run, and does not end later
-    kept : EndsNoLater o upper place next → (entries : List (Ends T))
-        → (IsRun lower upper place later → AreEntries lower upper later entries)
-        → AreEntries lower upper (next ∷ later) entries
-    kept no_later entries are =
-        let rest = are (record {
-          rising = run.rising;
-          begins = run.begins;
-          ends = run.ends;
-          done = λ q in'. ⊎_elim (⊎_elim (λ e. inr (subst (EndsNoLater o upper place) (sym e) no_later))
-              (λ there. inl there))
-              (λ done. inr done) (run.done q in');
-          ahead = run.ahead.1;
-        }) in
-        let within : IsCutAtMost cmp next.span.upper upper = ⊎_elim (λ h. inl h) (λ h. inr h.0) no_later in
-        record {
-          rising = rest.rising;
-          apart = rest.apart;
-          from = rest.from;
-          lowers = rest.lowers;
-          uppers = rest.uppers;
-          cuts = λ cut. (
-            λ is. ⊎_elim (λ h. inl h) (λ h. inr (inr h)) ((rest.cuts cut).0 is),
-            λ is. (rest.cuts cut).1 (⊎_elim (λ h. inl h)
-                (⊎_elim
-                (λ h. inl (record {
-                  lower = at_most_trans o lower next.span.lower cut run.ahead.0 h.lower;
-                  upper = below-at_most o cut next.span.upper upper h.upper within;
-                }))
-                (λ h. inr h)) is),
-          );
-        }
+    -- or it does not end later
+    pub kept-run : EndsNoLater o upper place next → IsRun lower upper place later
+    kept-run no_later = record {
+      rising = run.rising;
+      begins = run.begins;
+      ends = run.ends;
+      done = λ q in'. ⊎_elim (⊎_elim (λ e. inr (subst (EndsNoLater o upper place) (sym e) no_later))
+          (λ there. inl there))
+          (λ done. inr done) (run.done q in');
+      ahead = run.ahead.1;
+    }
 
-    by_end : (b : Bool) → is_lt (ends_later cmp upper place next) ≡ b → IsCutAtMost cmp next.span.lower upper
-        → ((l u : Cut T) (n : ℕ) → IsRun l u n later → AreEntries l u later (joined_from cmp l u n later))
-        → AreEntries lower upper (next ∷ later)
-        (if b then joined_from cmp lower next.span.upper next.place later else joined_from cmp lower upper place later)
-    by_end true e touches are =
-        grown touches (later_by o upper place next (cut_cmp cmp upper next.span.upper) refl e)
-        (joined_from cmp lower next.span.upper next.place later) (are lower next.span.upper next.place)
-    by_end false e touches are =
-        kept (no_later_by o upper place next (cut_cmp cmp upper next.span.upper) refl e)
-        (joined_from cmp lower upper place later) (are lower upper place)
-
-    by_start : (b : Bool) → is_lt (cut_cmp cmp upper next.span.lower) ≡ b
-        → ((l u : Cut T) (n : ℕ) → IsRun l u n later → AreEntries l u later (joined_from cmp l u n later))
-        → AreEntries lower upper (next ∷ later)
-        (if b
-        then span_between lower upper ∷ joined_from cmp next.span.lower next.span.upper next.place later
-        else (if is_lt (ends_later cmp upper place next)
-        then joined_from cmp lower next.span.upper next.place later
-        else joined_from cmp lower upper place later))
-    by_start true e are =
-        starts (below-from_lt cmp upper next.span.lower e)
-        (joined_from cmp next.span.lower next.span.upper next.place later)
-        (are next.span.lower next.span.upper next.place)
-    by_start false e are =
-        by_end (is_lt (ends_later cmp upper place next)) refl (at_most-from_not_lt o upper next.span.lower e) are
-
-  -- the joined spans from a run on, for all later spans
-  pub entries-from : (later : List (PlacedSpan T)) → AllByRecursion In later → AreInOrder cmp later
-      → (lower upper : Cut T) (place : ℕ) → IsRun lower upper place later
-      → AreEntries lower upper later (joined_from cmp lower upper place later)
-  entries-from [] all order lower upper place run = record {
-    rising = (run.rising, tt);
-    apart = tt;
-    from = (at_most_refl o lower, tt);
-    lowers = (run.begins, tt);
-    uppers = (first-end lower upper place [] run all tt, tt);
-    cuts = λ cut. (λ h. h, λ h. h);
-  }
-  entries-from (next ∷ later) all order lower upper place run =
-      by_start lower upper place next later run all order (is_lt (cut_cmp cmp upper next.span.lower)) refl
-      (λ l u n begun. entries-from later all.1 order.1 l u n begun)
+    -- then the joined spans are those of the longer run, `wide` being the greater of the two ends
+    pub goes-on : IsCutAtMost cmp next.span.lower upper → (wide : Cut T) → IsCutAtMost cmp upper wide
+        → IsCutAtMost cmp next.span.upper wide → (wide ≡ upper) ⊎ (wide ≡ next.span.upper) → (entries : List (Ends T))
+        → AreEntries lower wide later entries → AreEntries lower upper (next ∷ later) entries
+    goes-on touches wide higher within which entries rest = record {
+      rising = rest.rising;
+      apart = rest.apart;
+      from = rest.from;
+      lowers = rest.lowers;
+      uppers = rest.uppers;
+      cuts = λ cut. (
+        λ is. ⊎_elim
+            (λ h. ⊎_elim
+            (λ past. inr (inl (record {
+              lower = at_most_trans o next.span.lower upper cut touches past;
+              upper = ⊎_elim (λ e. absurd (below-not-at_most o cut upper (subst (IsCutBelow cmp cut) e h.upper) past))
+                  (λ e. subst (IsCutBelow cmp cut) e h.upper) which;
+            })))
+            (λ inside. inl (record { lower = h.lower; upper = inside })) (at_most-or-below o upper cut))
+            (λ h. inr (inr h)) ((rest.cuts cut).0 is),
+        λ is. (rest.cuts cut).1 (⊎_elim
+            (λ h. inl (record { lower = h.lower; upper = below-at_most o cut upper wide h.upper higher }))
+            (⊎_elim
+            (λ h. inl (record {
+              lower = at_most_trans o lower next.span.lower cut run.ahead.0 h.lower;
+              upper = below-at_most o cut next.span.upper wide h.upper within;
+            }))
+            (λ h. inr h)) is),
+      );
+    }

@@ -3,7 +3,7 @@
 use Rattle.std.proofs.Common.{◌≡◌, ◌↔◌, ℕ, ◌+◌, ◌≤◌, suc, List, [], ◌∷◌, map, Ordering, Equal, Bool, false, refl, sym}
 use Rattle.std.proofs.Common.{ap, subst, ◌∙◌, inl, inr, arith, add-one}
 use Rattle.std.specs.List.{AllByRecursion}
-use Rattle.std.specs.List.Sorted.{IsPermutation, IsSorted, IsSortedBy}
+use Rattle.std.specs.List.Sorted.{IsPermutation, IsSortedBy}
 use Rattle.std.specs.Ordering.{is_lt}
 use Rattle.std.specs.Cmp.{IsStrictWeakOrder, IsTotalOrder}
 use Rattle.std.proofs.lemmas.List.Elements.{recursion_from_All}
@@ -11,17 +11,16 @@ use Rattle.std.proofs.lemmas.List.Sorted.{IsPermutation-sym, ranks_by, sorted_fa
 use Rattle.semver_cuts.specs.declared.cut.Cut.{Cut}
 use Rattle.semver_cuts.specs.Cut.{cut_cmp}
 use Rattle.semver_cuts.specs.SpanLists.{IsInSome}
-use Rattle.semver_cuts.specs.Ends.{Ends, IsCutBelow, IsInSpan}
+use Rattle.semver_cuts.specs.Ends.{Ends, IsInSpan}
 use Rattle.semver_cuts.specs.Difference.{IsFirstAt}
-use Rattle.semver_cuts.specs.Joined.{AreJoined, AreRising}
-use Rattle.semver_cuts.specs.Private.Joining.{joined_in_order}
-use Rattle.semver_cuts.specs.Private.Placed.{PlacedSpan, placed_cmp, placed_from}
+use Rattle.semver_cuts.specs.Joined.{AreJoined}
+use Rattle.semver_cuts.specs.Private.Placed.{AreSorted, PlacedSpan, placed_cmp, placed_from}
 use Rattle.semver_cuts.specs.Lemmas.Joined.{all_unit}
 use Rattle.semver_cuts.specs.Lemmas.Lists.{all_map}
 use Rattle.semver_cuts.specs.Lemmas.Placed.{placed_total}
-use Rattle.semver_cuts.proofs.Lists.Elements.{IsAmong, all-among, all-moved, among-itself, among-moved}
+use Rattle.semver_cuts.proofs.Lists.Elements.{IsAmong, all-moved, among-itself, among-moved}
 use Rattle.semver_cuts.proofs.Joining.PlacedOrder.{AreInOrder}
-use Rattle.semver_cuts.proofs.Joining.JoinedRuns.{IsFirstPlaced, entries-from, new-run}
+use Rattle.semver_cuts.proofs.Joining.JoinedRuns.{AreEntries, In, IsFirstPlaced, IsRun, new-run}
 
 -- ---- spans with their places, and a permutation of them
 
@@ -48,11 +47,6 @@ module _ {T : Type 0} {cmp : T → T → Ordering} (o : IsTotalOrder cmp) where
   pub map-placed : (n : ℕ) (spans : List (Ends T)) → map (λ (p : PlacedSpan T). p.span) (placed_from n spans) ≡ spans
   map-placed n [] = refl
   map-placed n (span ∷ spans) = ap (λ l. span ∷ l) (map-placed (n + 1) spans)
-
-  rising-placed : (n : ℕ) (spans : List (Ends T)) → AreRising cmp spans
-      → AllByRecursion (λ (p : PlacedSpan T). IsCutBelow cmp p.span.lower p.span.upper) (placed_from n spans)
-  rising-placed n [] rising = tt
-  rising-placed n (span ∷ spans) rising = (rising.0, rising-placed (n + 1) spans rising.1)
 
   place-from : (n : ℕ) (spans : List (Ends T)) (p : PlacedSpan T) → IsAmong (placed_from n spans) p → n ≤ p.place
   place-from n [] p is = elim is [ ]
@@ -115,50 +109,52 @@ module _ {T : Type 0} {cmp : T → T → Ordering} (o : IsTotalOrder cmp) where
 
   -- ---- the spans of a list, sorted and joined
 
-  module _ (spans : List (Ends T)) (rising : AreRising cmp spans) where
-    abbrev In : PlacedSpan T → Type 0
-    In = IsAmong (placed_from 0 spans)
-
-    rises : (p : PlacedSpan T) → In p → IsCutBelow cmp p.span.lower p.span.upper
-    rises p is =
-        all-among (λ (p : PlacedSpan T). IsCutBelow cmp p.span.lower p.span.upper) (placed_from 0 spans) p
-        (rising-placed 0 spans rising) is
-
-    some-of : (order : List (PlacedSpan T)) → IsPermutation (placed_from 0 spans) order → (cut : Cut T)
-        → IsInSome cmp (map (λ (p : PlacedSpan T). p.span) order) cut ↔ IsInSome cmp spans cut
-    some-of order moves cut = (
-      λ is. subst (λ l. IsInSome cmp l cut) (map-placed 0 spans) (some-moved (placed_from 0 spans) order moves cut is),
-      λ is. some-moved order (placed_from 0 spans) (IsPermutation-sym (placed_from 0 spans) order moves) cut
+  module _ (spans : List (Ends T)) (order : List (PlacedSpan T)) (s : AreSorted cmp spans order) where
+    some-of : (cut : Cut T) → IsInSome cmp (map (λ (p : PlacedSpan T). p.span) order) cut ↔ IsInSome cmp spans cut
+    some-of cut = (
+      λ is. subst (λ l. IsInSome cmp l cut) (map-placed 0 spans) (some-moved (placed_from 0 spans) order s.same cut is),
+      λ is. some-moved order (placed_from 0 spans) (IsPermutation-sym (placed_from 0 spans) order s.same) cut
           (subst (λ l. IsInSome cmp l cut) (sym (map-placed 0 spans)) is),
     )
 
-    pub order-joined : (order : List (PlacedSpan T)) → IsPermutation (placed_from 0 spans) order
-        → IsSorted (placed_cmp cmp) order → AreJoined cmp spans (joined_in_order cmp order)
+    pub all-in_order : AreInOrder cmp order
     unfolding before
-    order-joined [] moves sorted = record {
+    all-in_order = in-order order s.sorted
+
+    pub all-in : AllByRecursion (In o spans order s) order
+    all-in = all-moved (In o spans order s) (placed_from 0 spans) order s.same (among-itself (placed_from 0 spans))
+
+    -- an empty list is joined to itself
+    pub none-joined : order ≡ [] → AreJoined cmp spans []
+    none-joined e = record {
       merged = record { rising = tt; apart = tt };
-      cuts = some-of [] moves;
+      cuts = λ cut. subst (λ l. IsInSome cmp (map (λ (p : PlacedSpan T). p.span) l) cut ↔ IsInSome cmp spans cut) e
+          (some-of cut);
       lowers = tt;
       uppers = tt;
     }
-    order-joined (first ∷ later) moves sorted =
-        let order = in-order (first ∷ later) sorted in
-        let all = all-moved In (placed_from 0 spans) (first ∷ later) moves (among-itself (placed_from 0 spans)) in
-        let back = IsPermutation-sym (placed_from 0 spans) (first ∷ later) moves in
-        let run = new-run o In rises first later all.0 order
-        (λ q is. inl (among-moved (first ∷ later) (placed_from 0 spans) back q is)) in
-        let come = entries-from o In rises later all.1 order.1 first.span.lower first.span.upper first.place run in
-        let entries = joined_in_order cmp (first ∷ later) in
-        record {
-          merged = record { rising = come.rising; apart = come.apart };
-          cuts = λ cut. (
-            λ is. (some-of (first ∷ later) moves cut).0 ((come.cuts cut).0 is),
-            λ is. (come.cuts cut).1 ((some-of (first ∷ later) moves cut).1 is),
-          );
-          lowers = all_map (λ (s : Ends T). IsFirstPlaced o In rises (λ s. s.lower) s.lower)
-              (λ (s : Ends T). IsFirstAt cmp (λ (s : Ends T). s.lower) spans s.lower)
-              (λ s h. first-placed (λ s. s.lower) s.lower 0 spans h.0 h.1 h.2 h.3) entries come.lowers;
-          uppers = all_map (λ (s : Ends T). IsFirstPlaced o In rises (λ s. s.upper) s.upper)
-              (λ (s : Ends T). IsFirstAt cmp (λ (s : Ends T). s.upper) spans s.upper)
-              (λ s h. first-placed (λ s. s.upper) s.upper 0 spans h.0 h.1 h.2 h.3) entries come.uppers;
-        }
+
+    module _ (first : PlacedSpan T) (later : List (PlacedSpan T)) (e : order ≡ first ∷ later) where
+      -- the run of the first span
+      pub first-run : IsRun o spans order s first.span.lower first.span.upper first.place later
+      first-run =
+          new-run o spans order s first later (subst (AllByRecursion (In o spans order s)) e all-in).0 (subst (AreInOrder cmp) e all-in_order)
+          (λ q is. inl (subst (λ l. IsAmong l q) e (among-moved order (placed_from 0 spans)
+          (IsPermutation-sym (placed_from 0 spans) order s.same) q is)))
+
+      -- the joined spans from there on are those that the list is joined to
+      pub first-joined : (entries : List (Ends T))
+          → AreEntries o spans order s first.span.lower first.span.upper later entries → AreJoined cmp spans entries
+      first-joined entries come = record {
+        merged = record { rising = come.rising; apart = come.apart };
+        cuts = λ cut.
+            let whole = subst (λ l. IsInSome cmp (map (λ (p : PlacedSpan T). p.span) l) cut ↔ IsInSome cmp spans cut) e
+            (some-of cut) in
+            (λ is. whole.0 ((come.cuts cut).0 is), λ is. (come.cuts cut).1 (whole.1 is));
+        lowers = all_map (λ (span : Ends T). IsFirstPlaced o spans order s (λ s. s.lower) span.lower)
+            (λ (s : Ends T). IsFirstAt cmp (λ (s : Ends T). s.lower) spans s.lower)
+            (λ span h. first-placed (λ s. s.lower) span.lower 0 spans h.0 h.1 h.2 h.3) entries come.lowers;
+        uppers = all_map (λ (span : Ends T). IsFirstPlaced o spans order s (λ s. s.upper) span.upper)
+            (λ (s : Ends T). IsFirstAt cmp (λ (s : Ends T). s.upper) spans s.upper)
+            (λ span h. first-placed (λ s. s.upper) span.upper 0 spans h.0 h.1 h.2 h.3) entries come.uppers;
+      }

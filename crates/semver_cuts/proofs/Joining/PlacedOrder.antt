@@ -1,6 +1,6 @@
 -- Spans in the order of their lower ends: which of two begins later, and which ends later.
 use Rattle.std.proofs.Common.{◌≡◌, ◌⊎◌, ℕ, ◌<◌, ◌≤◌, List, [], ◌∷◌, Ordering, Less, Equal, Greater, true, false, refl}
-use Rattle.std.proofs.Common.{sym, ap, ◌∙◌, inl, inr, ⊎_elim, arith, zero, suc, get_or, length, lit<}
+use Rattle.std.proofs.Common.{Bool, sym, ap, ◌∙◌, inl, inr, ⊎_elim, arith, zero, suc, get_or, length, lit<}
 use mathlib.Core.Bool.{true≢false}
 use Rattle.std.specs.List.{AllByRecursion}
 use Rattle.std.specs.List.Sorted.{IsPermutation, IsSorted}
@@ -19,13 +19,17 @@ use Rattle.semver_cuts.specs.Lemmas.Ends.{cut_cmp-equal_left}
 
 lt-from_test : (x y : ℕ) (r : Ordering) → r ≡ nat_cmp x y → is_lt r ≡ true → x < y
 lt-from_test x y Less e h = ranked x y Less e
-lt-from_test x y Equal e h = absurd (true≢false (sym h))
-lt-from_test x y Greater e h = absurd (true≢false (sym h))
+lt-from_test x y r e h = absurd (true≢false (sym h))
 
 le-from_test : (x y : ℕ) (r : Ordering) → r ≡ nat_cmp x y → is_lt r ≡ false → y ≤ x
 le-from_test x y Less e h = absurd (true≢false h)
 le-from_test x y Equal e h = let same = ranked x y Equal e in omega arith
 le-from_test x y Greater e h = let less = ranked x y Greater e in omega arith
+
+-- the first if the test is true, and else the second
+abbrev pub Tested : Bool → Type 0 → Type 0 → Type 0
+Tested true P Q = P
+Tested false P Q = Q
 
 -- ---- the order
 
@@ -63,26 +67,32 @@ module _ {T : Type 0} {cmp : T → T → Ordering} (o : IsTotalOrder cmp) where
   EndsNoLater upper place p =
       IsCutBelow cmp p.span.upper upper ⊎ ((cut_cmp cmp p.span.upper upper ≡ Equal) × (place ≤ p.place))
 
-  pub no_later_by : (upper : Cut T) (place : ℕ) (next : PlacedSpan T) (r : Ordering)
-      → cut_cmp cmp upper next.span.upper ≡ r
-      → is_lt (ordering_then r (nat_cmp next.place place)) ≡ false → EndsNoLater upper place next
-  no_later_by upper place next Less e h = absurd (true≢false h)
-  no_later_by upper place next Equal e h =
+  -- or it ends above the cut, or at the cut and does not come after the place
+  abbrev pub EndsLater : Cut T → ℕ → PlacedSpan T → Type 0
+  EndsLater upper place p =
+      IsCutBelow cmp upper p.span.upper ⊎ ((cut_cmp cmp upper p.span.upper ≡ Equal) × (p.place ≤ place))
+
+  later_by : (upper : Cut T) (place : ℕ) (next : PlacedSpan T) (r : Ordering) → cut_cmp cmp upper next.span.upper ≡ r
+      → (b : Bool) → is_lt (ordering_then r (nat_cmp next.place place)) ≡ b
+      → Tested b (EndsLater upper place next) (EndsNoLater upper place next)
+  later_by upper place next Less e true h = inl e
+  later_by upper place next Less e false h = absurd (true≢false h)
+  later_by upper place next Equal e true h =
+      let less : next.place < place = lt-from_test next.place place (nat_cmp next.place place) refl h in
+      inr (e, omega arith)
+  later_by upper place next Equal e false h =
       inr (
         cut_cmp-equal_back o upper next.span.upper e,
         le-from_test next.place place (nat_cmp next.place place) refl h,
       )
-  no_later_by upper place next Greater e h = inl (below-from_greater o upper next.span.upper e)
+  later_by upper place next Greater e true h = absurd (true≢false (sym h))
+  later_by upper place next Greater e false h = inl (below-from_greater o upper next.span.upper e)
 
-  pub later_by : (upper : Cut T) (place : ℕ) (next : PlacedSpan T) (r : Ordering)
-      → cut_cmp cmp upper next.span.upper ≡ r
-      → is_lt (ordering_then r (nat_cmp next.place place)) ≡ true
-      → IsCutBelow cmp upper next.span.upper ⊎ ((cut_cmp cmp upper next.span.upper ≡ Equal) × (next.place ≤ place))
-  later_by upper place next Less e h = inl e
-  later_by upper place next Equal e h =
-      let less : next.place < place = lt-from_test next.place place (nat_cmp next.place place) refl h in
-      inr (e, omega arith)
-  later_by upper place next Greater e h = absurd (true≢false (sym h))
+  -- by the test of the program
+  pub later-tested : (upper : Cut T) (place : ℕ) (next : PlacedSpan T) (b : Bool)
+      → is_lt (ordering_then (cut_cmp cmp upper next.span.upper) (nat_cmp next.place place)) ≡ b
+      → Tested b (EndsLater upper place next) (EndsNoLater upper place next)
+  later-tested upper place next b h = later_by upper place next (cut_cmp cmp upper next.span.upper) refl b h
 
   -- a span that does not end later than one end does not end later than a later end
   pub no_later-trans : (upper upper' : Cut T) (place place' : ℕ) (p : PlacedSpan T) → EndsNoLater upper place p
@@ -114,8 +124,7 @@ two-sorted cmp one other h (suc k) d from below = absurd (omega arith)
 
 not_above : (r : Ordering) → is_lt r ≡ true → is_lt (ordering_reverse r) ≡ false
 not_above Less e = refl
-not_above Equal e = absurd (true≢false (sym e))
-not_above Greater e = absurd (true≢false (sym e))
+not_above r e = absurd (true≢false (sym e))
 
 -- and the other way round if it is
 pub two-turned : {X : Type 0} (cmp : X → X → Ordering) → IsTotalOrder cmp → (one other : X)

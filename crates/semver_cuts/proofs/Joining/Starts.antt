@@ -1,6 +1,6 @@
 -- For each cut of a list: either a joined span begins there, or a span of the list reaches it from below.
-use Rattle.std.proofs.Common.{◌≡◌, List, [], ◌∷◌, Bool, true, false, not, ◌&&◌, Ordering, Less, Equal}
-use Rattle.std.proofs.Common.{Greater, refl, sym, ap, ◌∙◌, inl, inr, ⊎_elim}
+use Rattle.std.proofs.Common.{◌≡◌, List, [], ◌∷◌, Bool, true, false, not, ◌&&◌, Ordering, Equal}
+use Rattle.std.proofs.Common.{refl, sym, ap, ◌∙◌, inl, inr, ⊎_elim}
 use mathlib.Core.Bool.{true≢false}
 use Rattle.std.specs.List.{AllByRecursion}
 use Rattle.std.specs.Ordering.{is_eq, is_le, is_lt}
@@ -12,12 +12,12 @@ use Rattle.semver_cuts.specs.SpanLists.{IsInSome}
 use Rattle.semver_cuts.specs.Ends.{Ends, IsCutAtMost, IsCutBelow}
 use Rattle.semver_cuts.specs.Joined.{AreJoined, AreMerged, AreRising}
 use Rattle.semver_cuts.specs.Starts.{begins_at, reaches}
-use Rattle.semver_cuts.specs.Lemmas.Apart.{apart-above, apart-tail}
 use Rattle.semver_cuts.specs.Lemmas.Ends.{at_most-below, at_most-from_le, at_most-or-below, at_most_refl, at_most_trans}
-use Rattle.semver_cuts.specs.Lemmas.Ends.{below-at_most, below-from_lt, below-not-at_most, below_irrefl, below_trans}
+use Rattle.semver_cuts.specs.Lemmas.Ends.{below-at_most, below-from_lt, below-not-at_most, below_trans}
 use Rattle.semver_cuts.specs.Lemmas.Ends.{cut_cmp-equal_back, le-from_at_most, lt-from_below}
 use Rattle.semver_cuts.specs.Lemmas.InSome.{in_span-or_not}
-use Rattle.semver_cuts.proofs.Walks.{all-from_first, first-cut, later-above}
+use Rattle.semver_cuts.proofs.Differences.GreatestSpans.{HasGapBelow, gaps-below}
+use Rattle.semver_cuts.proofs.Walks.{first-cut}
 
 -- ---- tests
 
@@ -32,11 +32,6 @@ one_only true true p q = absurd (p refl refl)
 one_only true false p q = refl
 one_only false true p q = refl
 one_only false false p q = absurd (q refl refl)
-
-pub not_equal : (r : Ordering) → ¬ (r ≡ Equal) → is_eq r ≡ false
-not_equal Less h = refl
-not_equal Equal h = absurd (h refl)
-not_equal Greater h = refl
 
 -- ---- where a merged span begins
 
@@ -54,37 +49,23 @@ module _ {T : Type 0} {cmp : T → T → Ordering} (o : IsTotalOrder cmp) where
       (λ there. begins-above c cut spans above.1 there)
       (or_cases (is_eq (cut_cmp cmp span.lower cut)) (begins_at cmp spans cut) h)
 
+  -- a fact of each lower end is one of a cut that equals the cut where one of the spans begins
+  begun-of : (P : Ends T → Type 0) (spans : List (Ends T)) (cut : Cut T) → AllByRecursion P spans
+      → begins_at cmp spans cut ≡ true → (span : Ends T) × P span × (cut_cmp cmp span.lower cut ≡ Equal)
+  begun-of P [] cut all h = absurd (true≢false (sym h))
+  begun-of P (span ∷ spans) cut all h =
+      ⊎_elim (λ here. (span, all.0, equal-from span.lower cut here)) (λ there. begun-of P spans cut all.1 there)
+      (or_cases (is_eq (cut_cmp cmp span.lower cut)) (begins_at cmp spans cut) h)
+
   -- between a cut of merged spans and a lower end above it, some cut lies in none of them
   gap-before : (spans : List (Ends T)) → AreMerged cmp spans → (cut early : Cut T) → begins_at cmp spans cut ≡ true
       → IsInSome cmp spans early → IsCutBelow cmp early cut
       → (gap : Cut T) × IsCutBelow cmp early gap × IsCutBelow cmp gap cut × ¬ IsInSome cmp spans gap
-  gap-before [] are cut early h is low = absurd is
-  gap-before (span ∷ spans) are cut early h is low =
-      let above = apart-above o span spans are.apart are.rising.1 in
-      let rest : AreMerged cmp spans = record { rising = are.rising.1; apart = apart-tail cmp span spans are.apart } in
-      ⊎_elim
-      (λ here. absurd (below-not-at_most o early cut low
-      (at_most_trans o cut span.lower early (inr (cut_cmp-equal_back o span.lower cut (equal-from span.lower cut here)))
-      (all-from_first o span spans early are is))))
-      (λ later. ⊎_elim
-      (λ inside. (
-        span.upper,
-        inside.upper,
-        begins-above span.upper cut spans above later,
-        ⊎_elim (λ itself. below_irrefl o span.upper itself.upper)
-            (λ there. below_irrefl o span.upper (later-above o span spans span.upper are there)),
-      ))
-      (λ there.
-      let found = gap-before spans rest cut early later there low in
-      let over : IsCutBelow cmp span.upper found.0 = below_trans o span.upper early found.0
-      (later-above o span spans early are there) found.1 in (
-        found.0,
-        found.1,
-        found.2,
-        ⊎_elim (λ itself. below-not-at_most o span.upper found.0 over (inl itself.upper)) (λ there'. found.3 there'),
-      ))
-      is)
-      (or_cases (is_eq (cut_cmp cmp span.lower cut)) (begins_at cmp spans cut) h)
+  gap-before spans are cut early h is low =
+      let begun = begun-of (HasGapBelow o spans) spans cut (gaps-below o spans are.apart are.rising) h in
+      let found = begun.1 early (below-at_most o early cut begun.0.lower low
+      (inr (cut_cmp-equal_back o begun.0.lower cut begun.2))) is in
+      (found.0, found.1, below-at_most o found.0 begun.0.lower cut found.2 (inr begun.2), found.3)
 
   -- below a cut of merged spans at which none begins, there is a cut such that all cuts between lie in the spans
   goes-on : (spans : List (Ends T)) → (cut : Cut T) → IsInSome cmp spans cut → begins_at cmp spans cut ≡ false

@@ -21,22 +21,34 @@ middle≢[] : {X : Type 0} (before after : List X) (x : X) → before ++ x ∷ a
 middle≢[] [] after x e = cc e
 middle≢[] (y ∷ before) after x e = cc e
 
-module _ {T : Type 0} (end : Ends T → Cut T) (Before After : Cut T → Cut T → Type 0) where
-  chosen-one : (span : Ends T) → IsChosenEnd end Before After (span ∷ []) (end span)
-  chosen-one span = record {
-    before = [];
-    span = span;
-    after = [];
-    parts = refl;
-    end_of = refl;
-    earlier = tt;
-    later = tt;
-  }
+module _ {T : Type 0} (end : Ends T → Cut T) (Before After : Cut T → Cut T → Type 0)
+    (clash : (c d : Cut T) → Before c d → After d c → ⊥) (c d : Cut T) where
+  -- if `Before` and `After` never hold together, only one place can be chosen
+  same-place : (before before' after after' : List (Ends T)) (span span' : Ends T)
+      → before ++ span ∷ after ≡ before' ++ span' ∷ after' → end span ≡ c → end span' ≡ d
+      → AllByRecursion (λ (other : Ends T). Before (end other) c) before
+      → AllByRecursion (λ (other : Ends T). Before (end other) d) before'
+      → AllByRecursion (λ (other : Ends T). After (end other) c) after
+      → AllByRecursion (λ (other : Ends T). After (end other) d) after' → c ≡ d
+  same-place [] [] after after' span span' same p q e e' l l' = cc (same, p, q)
+  same-place [] (y ∷ before') after after' span span' same p q e e' l l' =
+      let After' : Ends T → Type 0 = λ other. After (end other) c in
+      let rest : after ≡ before' ++ span' ∷ after' = cc same in
+      let later : After (end span') c = all_middle After' before' after' span' (subst (AllByRecursion After') rest l) in
+      absurd (clash c d (subst (λ k. Before k d) (cc (same, p)) e'.0) (subst (λ k. After k c) q later))
+  same-place (x ∷ before) [] after after' span span' same p q e e' l l' =
+      let After' : Ends T → Type 0 = λ other. After (end other) d in
+      let rest : after' ≡ before ++ span ∷ after = cc same in
+      let later : After (end span) d = all_middle After' before after span (subst (AllByRecursion After') rest l') in
+      absurd (clash d c (subst (λ k. Before k c) (cc (same, q)) e.0) (subst (λ k. After k d) p later))
+  same-place (x ∷ before) (y ∷ before') after after' span span' same p q e e' l l' =
+      same-place before before' after after' span span' (cc same) p q e.1 e'.1 l l'
 
+module _ {T : Type 0} {end : Ends T → Cut T} {Before After : Cut T → Cut T → Type 0} where
   -- the choice stays if `After` holds between the span that is added and it
-  chosen-kept : (spans : List (Ends T)) (span : Ends T) (chosen : Cut T) → IsChosenEnd end Before After spans chosen
+  chosen-kept : {spans : List (Ends T)} {chosen : Cut T} (span : Ends T) → IsChosenEnd end Before After spans chosen
       → After (end span) chosen → IsChosenEnd end Before After (spans ++ span ∷ []) chosen
-  chosen-kept spans span chosen is h = record {
+  chosen-kept {chosen = chosen} span is h = record {
     before = is.before;
     span = is.span;
     after = is.after ++ span ∷ [];
@@ -46,25 +58,11 @@ module _ {T : Type 0} (end : Ends T → Cut T) (Before After : Cut T → Cut T �
     later = all_push (λ (other : Ends T). After (end other) chosen) is.after span is.later h;
   }
 
-  -- the span that is added is chosen if `Before` holds between all the others and it
-  chosen-last : (spans : List (Ends T)) (span : Ends T)
-      → AllByRecursion (λ (other : Ends T). Before (end other) (end span)) spans
-      → IsChosenEnd end Before After (spans ++ span ∷ []) (end span)
-  chosen-last spans span all = record {
-    before = spans;
-    span = span;
-    after = [];
-    parts = refl;
-    end_of = refl;
-    earlier = all;
-    later = tt;
-  }
-
   -- a fact of the ends before the chosen one, of itself, and of those after it is a fact of all ends
-  chosen-all : (P : Cut T → Type 0) (spans : List (Ends T)) (chosen : Cut T) → IsChosenEnd end Before After spans chosen
+  chosen-all : (P : Cut T → Type 0) {spans : List (Ends T)} {chosen : Cut T} → IsChosenEnd end Before After spans chosen
       → ((c : Cut T) → Before c chosen → P c) → P chosen → ((c : Cut T) → After c chosen → P c)
       → AllByRecursion (λ (other : Ends T). P (end other)) spans
-  chosen-all P spans chosen is from_before at from_after =
+  chosen-all P {chosen = chosen} is from_before at from_after =
       let Of : (Cut T → Type 0) → Ends T → Type 0 = λ Q other. Q (end other) in
       subst (AllByRecursion (Of P)) (sym is.parts) (all_join (Of P) is.before is.after is.span
       (all_map (Of (λ c. Before c chosen)) (Of P) (λ other h. from_before (end other) h) is.before is.earlier)
@@ -72,116 +70,98 @@ module _ {T : Type 0} (end : Ends T → Cut T) (Before After : Cut T → Cut T �
       (all_map (Of (λ c. After c chosen)) (Of P) (λ other h. from_after (end other) h) is.after is.later))
 
   -- a fact of all ends is a fact of the chosen one
-  chosen-of : (P : Cut T → Type 0) (spans : List (Ends T)) (chosen : Cut T) → IsChosenEnd end Before After spans chosen
+  pub chosen-of : (P : Cut T → Type 0) {spans : List (Ends T)} {chosen : Cut T} → IsChosenEnd end Before After spans chosen
       → AllByRecursion (λ (other : Ends T). P (end other)) spans → P chosen
-  chosen-of P spans chosen is all =
+  chosen-of P is all =
       let Of : Ends T → Type 0 = λ other. P (end other) in
       subst P is.end_of (all_middle Of is.before is.after is.span (subst (AllByRecursion Of) is.parts all))
 
-  chosen-some : (spans : List (Ends T)) (chosen : Cut T) → IsChosenEnd end Before After spans chosen → spans ≢ []
-  chosen-some spans chosen is empty = middle≢[] is.before is.after is.span (sym is.parts ∙ empty)
-
-  -- if `Before` and `After` never hold together, only one place can be chosen
-  module _ (clash : (c d : Cut T) → Before c d → After d c → ⊥) (c d : Cut T) where
-    same-place : (before before' after after' : List (Ends T)) (span span' : Ends T)
-        → before ++ span ∷ after ≡ before' ++ span' ∷ after' → end span ≡ c → end span' ≡ d
-        → AllByRecursion (λ (other : Ends T). Before (end other) c) before
-        → AllByRecursion (λ (other : Ends T). Before (end other) d) before'
-        → AllByRecursion (λ (other : Ends T). After (end other) c) after
-        → AllByRecursion (λ (other : Ends T). After (end other) d) after' → c ≡ d
-    same-place [] [] after after' span span' same p q e e' l l' = cc (same, p, q)
-    same-place [] (y ∷ before') after after' span span' same p q e e' l l' =
-        let first : end y ≡ c = cc (same, p) in
-        let rest : after ≡ before' ++ span' ∷ after' = cc same in
-        let later : After (end span') c = all_middle (λ (other : Ends T). After (end other) c) before' after' span'
-        (subst (AllByRecursion (λ (other : Ends T). After (end other) c)) rest l) in
-        absurd (clash c d (subst (λ k. Before k d) first e'.0) (subst (λ k. After k c) q later))
-    same-place (x ∷ before) [] after after' span span' same p q e e' l l' =
-        let first : end x ≡ d = cc (same, q) in
-        let rest : after' ≡ before ++ span ∷ after = cc same in
-        let later : After (end span) d = all_middle (λ (other : Ends T). After (end other) d) before after span
-        (subst (AllByRecursion (λ (other : Ends T). After (end other) d)) rest l') in
-        absurd (clash d c (subst (λ k. Before k c) first e.0) (subst (λ k. After k d) p later))
-    same-place (x ∷ before) (y ∷ before') after after' span span' same p q e e' l l' =
-        let rest : before ++ span ∷ after ≡ before' ++ span' ∷ after' = cc same in
-        same-place before before' after after' span span' rest p q e.1 e'.1 l l'
-
-  chosen-unique : ((c d : Cut T) → Before c d → After d c → ⊥) → (spans : List (Ends T)) (one other : Cut T)
+  chosen-unique : ((c d : Cut T) → Before c d → After d c → ⊥) → {spans : List (Ends T)} {one other : Cut T}
       → IsChosenEnd end Before After spans one → IsChosenEnd end Before After spans other → one ≡ other
-  chosen-unique clash spans one other is is' =
-      same-place clash one other is.before is'.before is.after is'.after is.span is'.span (sym is.parts ∙ is'.parts)
+  chosen-unique clash {one = one} {other = other} is is' =
+      same-place end Before After clash one other is.before is'.before is.after is'.after is.span is'.span (sym is.parts ∙ is'.parts)
       is.end_of is'.end_of is.earlier is'.earlier is.later is'.later
+
+-- the only span is chosen, and so is the last one if `Before` holds between all the others and it
+chosen-last : {T : Type 0} (end : Ends T → Cut T) (Before After : Cut T → Cut T → Type 0)
+    → (spans : List (Ends T)) (span : Ends T)
+    → AllByRecursion (λ (other : Ends T). Before (end other) (end span)) spans
+    → IsChosenEnd end Before After (spans ++ span ∷ []) (end span)
+chosen-last end Before After spans span all = record {
+  before = spans;
+  span = span;
+  after = [];
+  parts = refl;
+  end_of = refl;
+  earlier = all;
+  later = tt;
+}
 
 -- ---- the last of the greatest lower ends, and the first of the least upper ends
 
 module _ {T : Type 0} {cmp : T → T → Ordering} (o : IsTotalOrder cmp) where
+  lower-last : (spans : List (Ends T)) (span : Ends T)
+      → AllByRecursion (λ (s : Ends T). IsCutAtMost cmp s.lower span.lower) spans
+      → IsLastGreatestLower cmp (spans ++ span ∷ []) span.lower
+  lower-last = chosen-last (λ (s : Ends T). s.lower) (λ c d. IsCutAtMost cmp c d) (λ c d. IsCutBelow cmp c d)
+
+  upper-last : (spans : List (Ends T)) (span : Ends T)
+      → AllByRecursion (λ (s : Ends T). IsCutBelow cmp span.upper s.upper) spans
+      → IsFirstLeastUpper cmp (spans ++ span ∷ []) span.upper
+  upper-last = chosen-last (λ (s : Ends T). s.upper) (λ c d. IsCutBelow cmp d c) (λ c d. IsCutAtMost cmp d c)
+
   -- the chosen ends of one span are its own
   pub chosen_lower-one : (span : Ends T) → IsLastGreatestLower cmp (span ∷ []) span.lower
-  chosen_lower-one span =
-      chosen-one (λ (s : Ends T). s.lower) (λ c d. IsCutAtMost cmp c d) (λ c d. IsCutBelow cmp c d) span
+  chosen_lower-one span = lower-last [] span tt
 
   pub chosen_upper-one : (span : Ends T) → IsFirstLeastUpper cmp (span ∷ []) span.upper
-  chosen_upper-one span =
-      chosen-one (λ (s : Ends T). s.upper) (λ c d. IsCutBelow cmp d c) (λ c d. IsCutAtMost cmp d c) span
+  chosen_upper-one span = upper-last [] span tt
 
   -- each lower end is at most the chosen one
   pub chosen_lower-above : (spans : List (Ends T)) (chosen : Cut T) → IsLastGreatestLower cmp spans chosen
       → AllByRecursion (λ (span : Ends T). IsCutAtMost cmp span.lower chosen) spans
   chosen_lower-above spans chosen is =
-      chosen-all (λ (s : Ends T). s.lower) (λ c d. IsCutAtMost cmp c d) (λ c d. IsCutBelow cmp c d)
-      (λ c. IsCutAtMost cmp c chosen) spans chosen is (λ c h. h) (at_most_refl o chosen) (λ c h. inl h)
+      chosen-all (λ c. IsCutAtMost cmp c chosen) is (λ c h. h) (at_most_refl o chosen) (λ c h. inl h)
 
   -- and each upper end at least the chosen one
   pub chosen_upper-below : (spans : List (Ends T)) (chosen : Cut T) → IsFirstLeastUpper cmp spans chosen
       → AllByRecursion (λ (span : Ends T). IsCutAtMost cmp chosen span.upper) spans
   chosen_upper-below spans chosen is =
-      chosen-all (λ (s : Ends T). s.upper) (λ c d. IsCutBelow cmp d c) (λ c d. IsCutAtMost cmp d c)
-      (λ c. IsCutAtMost cmp chosen c) spans chosen is (λ c h. inl h) (at_most_refl o chosen) (λ c h. h)
+      chosen-all (λ c. IsCutAtMost cmp chosen c) is (λ c h. inl h) (at_most_refl o chosen) (λ c h. h)
 
   -- the choice of a list and a span after it
   pub chosen_lower-push : (spans : List (Ends T)) (span : Ends T) (old new : Cut T) → IsLastGreatestLower cmp spans old
       → IsLaterGreatest cmp old span.lower new → IsLastGreatestLower cmp (spans ++ span ∷ []) new
   chosen_lower-push spans span old new is (inl h) =
-      subst (IsLastGreatestLower cmp (spans ++ span ∷ [])) (sym h.1)
-      (chosen-kept (λ (s : Ends T). s.lower) (λ c d. IsCutAtMost cmp c d) (λ c d. IsCutBelow cmp c d) spans span old is
-      h.0)
+      subst (IsLastGreatestLower cmp (spans ++ span ∷ [])) (sym h.1) (chosen-kept span is h.0)
   chosen_lower-push spans span old new is (inr h) =
-      let all : AllByRecursion (λ (s : Ends T). IsCutAtMost cmp s.lower span.lower) spans =
-      all_map (λ (s : Ends T). IsCutAtMost cmp s.lower old) (λ (s : Ends T). IsCutAtMost cmp s.lower span.lower)
-      (λ s p. at_most_trans o s.lower old span.lower p h.0) spans (chosen_lower-above spans old is) in
-      subst (IsLastGreatestLower cmp (spans ++ span ∷ [])) (sym h.1)
-      (chosen-last (λ (s : Ends T). s.lower) (λ c d. IsCutAtMost cmp c d) (λ c d. IsCutBelow cmp c d) spans span all)
+      subst (IsLastGreatestLower cmp (spans ++ span ∷ [])) (sym h.1) (lower-last spans span
+      (all_map (λ (s : Ends T). IsCutAtMost cmp s.lower old) (λ (s : Ends T). IsCutAtMost cmp s.lower span.lower)
+      (λ s p. at_most_trans o s.lower old span.lower p h.0) spans (chosen_lower-above spans old is)))
 
   pub chosen_upper-push : (spans : List (Ends T)) (span : Ends T) (old new : Cut T) → IsFirstLeastUpper cmp spans old
       → IsEarlierLeast cmp old span.upper new → IsFirstLeastUpper cmp (spans ++ span ∷ []) new
   chosen_upper-push spans span old new is (inl h) =
-      let all : AllByRecursion (λ (s : Ends T). IsCutBelow cmp span.upper s.upper) spans =
-      all_map (λ (s : Ends T). IsCutAtMost cmp old s.upper) (λ (s : Ends T). IsCutBelow cmp span.upper s.upper)
-      (λ s p. below-at_most o span.upper old s.upper h.0 p) spans (chosen_upper-below spans old is) in
-      subst (IsFirstLeastUpper cmp (spans ++ span ∷ [])) (sym h.1)
-      (chosen-last (λ (s : Ends T). s.upper) (λ c d. IsCutBelow cmp d c) (λ c d. IsCutAtMost cmp d c) spans span all)
+      subst (IsFirstLeastUpper cmp (spans ++ span ∷ [])) (sym h.1) (upper-last spans span
+      (all_map (λ (s : Ends T). IsCutAtMost cmp old s.upper) (λ (s : Ends T). IsCutBelow cmp span.upper s.upper)
+      (λ s p. below-at_most o span.upper old s.upper h.0 p) spans (chosen_upper-below spans old is)))
   chosen_upper-push spans span old new is (inr h) =
-      subst (IsFirstLeastUpper cmp (spans ++ span ∷ [])) (sym h.1)
-      (chosen-kept (λ (s : Ends T). s.upper) (λ c d. IsCutBelow cmp d c) (λ c d. IsCutAtMost cmp d c) spans span old is
-      h.0)
+      subst (IsFirstLeastUpper cmp (spans ++ span ∷ [])) (sym h.1) (chosen-kept span is h.0)
 
   -- only one end is chosen
   pub chosen_lower-unique : (spans : List (Ends T)) (one other : Cut T) → IsLastGreatestLower cmp spans one
       → IsLastGreatestLower cmp spans other → one ≡ other
   chosen_lower-unique spans one other is is' =
-      chosen-unique (λ (s : Ends T). s.lower) (λ c d. IsCutAtMost cmp c d) (λ c d. IsCutBelow cmp c d)
-      (λ c d at_most below. below-not-at_most o d c below at_most) spans one other is is'
+      chosen-unique (λ c d at_most below. below-not-at_most o d c below at_most) is is'
 
   pub chosen_upper-unique : (spans : List (Ends T)) (one other : Cut T) → IsFirstLeastUpper cmp spans one
       → IsFirstLeastUpper cmp spans other → one ≡ other
   chosen_upper-unique spans one other is is' =
-      chosen-unique (λ (s : Ends T). s.upper) (λ c d. IsCutBelow cmp d c) (λ c d. IsCutAtMost cmp d c)
-      (λ c d below at_most. below-not-at_most o d c below at_most) spans one other is is'
+      chosen-unique (λ c d below at_most. below-not-at_most o d c below at_most) is is'
 
   -- and none is chosen of no spans
   pub chosen_lower-some : (spans : List (Ends T)) (chosen : Cut T) → IsLastGreatestLower cmp spans chosen → spans ≢ []
-  chosen_lower-some spans chosen is =
-      chosen-some (λ (s : Ends T). s.lower) (λ c d. IsCutAtMost cmp c d) (λ c d. IsCutBelow cmp c d) spans chosen is
+  chosen_lower-some spans chosen is empty = middle≢[] is.before is.after is.span (sym is.parts ∙ empty)
 
   -- ---- the intersection of the spans
 
@@ -193,10 +173,8 @@ module _ {T : Type 0} {cmp : T → T → Ordering} (o : IsTotalOrder cmp) where
         let Begins : Ends T → Type 0 = λ s. IsCutAtMost cmp s.lower cut in
         let GoesOn : Ends T → Type 0 = λ s. IsCutBelow cmp cut s.upper in
         record {
-          lower = chosen-of (λ (s : Ends T). s.lower) (λ c d. IsCutAtMost cmp c d) (λ c d. IsCutBelow cmp c d)
-              (λ c. IsCutAtMost cmp c cut) spans lower l (all_map In Begins (λ s h. h.lower) spans all);
-          upper = chosen-of (λ (s : Ends T). s.upper) (λ c d. IsCutBelow cmp d c) (λ c d. IsCutAtMost cmp d c)
-              (λ c. IsCutBelow cmp cut c) spans upper u (all_map In GoesOn (λ s h. h.upper) spans all);
+          lower = chosen-of (λ c. IsCutAtMost cmp c cut) l (all_map In Begins (λ s h. h.lower) spans all);
+          upper = chosen-of (λ c. IsCutBelow cmp cut c) u (all_map In GoesOn (λ s h. h.upper) spans all);
         }
 
     between-every : (cut : Cut T) → IsInSpan cmp (span_between lower upper) cut → IsInEvery cmp spans cut

@@ -1,107 +1,36 @@
 -- The intersection of two lists of spans: its cuts, its ends, and from which two spans each of its spans comes.
-use Rattle.std.specs.Prelude.{◌≡◌, ◌≢◌, ◌↔◌, Bool, List, [], ◌∷◌, if◌then◌else◌, refl, true, false}
+use Rattle.std.specs.Prelude.{◌≡◌, ◌≢◌, ◌↔◌, List, [], ◌∷◌, refl}
 use mathlib.Core.Path.{subst}
 use mathlib.Core.Logic.{inl, inr}
 use Rattle.std.specs.declared.cmp.Ordering.{Ordering}
-use Rattle.std.specs.Ordering.{is_lt}
 use Rattle.std.specs.Cmp.{IsTotalOrder}
 use Rattle.std.specs.List.{AllByRecursion}
 use Rattle.semver_cuts.specs.declared.cut.Cut.{Cut}
-use Rattle.semver_cuts.specs.Cut.{cut_cmp}
 use Rattle.semver_cuts.specs.Ends.{Ends, HoldsCut, IsInSpan}
-use Rattle.semver_cuts.specs.SpanLists.{IsInSome}
-use Rattle.semver_cuts.specs.CommonSpans.{common_ends, common_of, common_spans, common_with, greater_cut, lesser_cut}
-use Rattle.semver_cuts.specs.Sharing.{AnyByRecursion, HaveCommonCut, ShareCut}
-use Rattle.semver_cuts.specs.Lemmas.InSome.{in_some-either, in_some-left, in_some-right, none_held}
-use Rattle.semver_cuts.specs.Lemmas.Lists.{all-always, all-append, any-either, any-left, any-right}
-use Rattle.semver_cuts.specs.Lemmas.TwoSpans.{common_ends-hold, common_of-cases, common_of-cuts, holds-below}
-
--- the greater and the lesser of two cuts are one of them
-either-is : {T : Type 0} (P : Cut T → Type 0) (c d : Cut T) (r : Bool) → P c → P d → P (if r then c else d)
-either-is P c d true p q = p
-either-is P c d false p q = q
-
-greater-is : {T : Type 0} (cmp : T → T → Ordering) (P : Cut T → Type 0) (c d : Cut T) → P c → P d
-    → P (greater_cut cmp c d)
-greater-is cmp P c d p q = either-is P c d (is_lt (cut_cmp cmp d c)) p q
-
-lesser-is : {T : Type 0} (cmp : T → T → Ordering) (P : Cut T → Type 0) (c d : Cut T) → P c → P d
-    → P (lesser_cut cmp c d)
-lesser-is cmp P c d p q = either-is P d c (is_lt (cut_cmp cmp d c)) q p
-
-only : {X : Type 0} (Q : X → Type 0) (x : X) → AnyByRecursion Q (x ∷ []) → Q x
-only Q x (inl q) = q
-only Q x (inr none) = absurd none
+use Rattle.semver_cuts.specs.SpanLists.{AnyByRecursion, IsInSome}
+use Rattle.semver_cuts.specs.CommonSpans.{common_ends, common_of, common_spans, common_with}
+use Rattle.semver_cuts.specs.Sharing.{HaveCommonCut, ShareCut}
+use Rattle.semver_cuts.specs.Lemmas.InSome.{none_held}
+use Rattle.semver_cuts.specs.Lemmas.Lists.{all-always, all-flat_map, all_map, any-flat_map, any-found, any-map}
+use Rattle.semver_cuts.specs.Lemmas.Lists.{flat_map-any}
+use Rattle.semver_cuts.specs.Lemmas.TwoSpans.{common_ends-cuts, common_ends-hold, common_of-cases, greater-is, holds-below}
+use Rattle.semver_cuts.specs.Lemmas.TwoSpans.{lesser-is}
 
 module _ {T : Type 0} {cmp : T → T → Ordering} (o : IsTotalOrder cmp) where
-  -- ---- cuts
-
-  with-both : (one : Ends T) (others : List (Ends T)) (cut : Cut T) → IsInSome cmp (common_with cmp one others) cut
-      → IsInSpan cmp one cut × IsInSome cmp others cut
-  with-both one [] cut is = absurd is
-  with-both one (other ∷ others) cut is =
-      elim (in_some-either cmp cut (common_of cmp one other) (common_with cmp one others) is) [
-        | inl here ↦ let both = (common_of-cuts o one other cut).0 here in (both.0, inl both.1)
-        | inr there ↦ let both = with-both one others cut there in (both.0, inr both.1)
-      ]
-
-  both-with : (one : Ends T) (others : List (Ends T)) (cut : Cut T) → IsInSpan cmp one cut → IsInSome cmp others cut
-      → IsInSome cmp (common_with cmp one others) cut
-  both-with one [] cut is some = absurd some
-  both-with one (other ∷ others) cut is (inl here) =
-      in_some-left cmp cut (common_of cmp one other) (common_with cmp one others)
-      ((common_of-cuts o one other cut).1 (is, here))
-  both-with one (other ∷ others) cut is (inr there) =
-      in_some-right cmp cut (common_of cmp one other) (common_with cmp one others) (both-with one others cut is there)
-
-  spans-both : (ones others : List (Ends T)) (cut : Cut T) → IsInSome cmp (common_spans cmp ones others) cut
-      → IsInSome cmp ones cut × IsInSome cmp others cut
-  spans-both [] others cut is = absurd is
-  spans-both (one ∷ ones) others cut is =
-      elim (in_some-either cmp cut (common_with cmp one others) (common_spans cmp ones others) is) [
-        | inl here ↦ let both = with-both one others cut here in (inl both.0, both.1)
-        | inr there ↦ let both = spans-both ones others cut there in (inr both.0, both.1)
-      ]
-
-  both-spans : (ones others : List (Ends T)) (cut : Cut T) → IsInSome cmp ones cut → IsInSome cmp others cut
-      → IsInSome cmp (common_spans cmp ones others) cut
-  both-spans [] others cut is some = absurd is
-  both-spans (one ∷ ones) others cut (inl here) some =
-      in_some-left cmp cut (common_with cmp one others) (common_spans cmp ones others)
-      (both-with one others cut here some)
-  both-spans (one ∷ ones) others cut (inr there) some =
-      in_some-right cmp cut (common_with cmp one others) (common_spans cmp ones others)
-      (both-spans ones others cut there some)
-
-  -- a cut lies in one of the common spans exactly if it lies in a span of each list
-  pub common_spans-cuts : (ones others : List (Ends T)) (cut : Cut T)
-      → IsInSome cmp (common_spans cmp ones others) cut ↔ (IsInSome cmp ones cut × IsInSome cmp others cut)
-  common_spans-cuts ones others cut =
-      (spans-both ones others cut, λ both. both-spans ones others cut both.0 both.1)
-
   -- ---- each of the common spans
 
-  module _ (P P' Q : Ends T → Type 0)
-      (from : (one other : Ends T) → P one → P' other → HaveCommonCut cmp one other
-      → Q (common_ends cmp one other)) where
-    of-all : (one other : Ends T) → P one → P' other → AllByRecursion Q (common_of cmp one other)
-    of-all one other p p' = common_of-cases o one other (AllByRecursion Q)
-        (λ shared. (from one other p p' shared, tt)) (λ apart. tt)
-
-    with-all : (one : Ends T) (others : List (Ends T)) → P one → AllByRecursion P' others
-        → AllByRecursion Q (common_with cmp one others)
-    with-all one [] p all = tt
-    with-all one (other ∷ others) p all =
-        all-append Q (common_of cmp one other) (common_with cmp one others) (of-all one other p all.0)
-        (with-all one others p all.1)
-
-    -- a fact of the common ends of each two spans that share a cut is a fact of each common span
-    pub common_spans-each : (ones others : List (Ends T)) → AllByRecursion P ones → AllByRecursion P' others
-        → AllByRecursion Q (common_spans cmp ones others)
-    common_spans-each [] others all all' = tt
-    common_spans-each (one ∷ ones) others all all' =
-        all-append Q (common_with cmp one others) (common_spans cmp ones others) (with-all one others all.0 all')
-        (common_spans-each ones others all.1 all')
+  -- a fact of the common ends of each two spans that share a cut is a fact of each common span
+  pub common_spans-each : (P P' Q : Ends T → Type 0)
+      → ((one other : Ends T) → P one → P' other → HaveCommonCut cmp one other → Q (common_ends cmp one other))
+      → (ones others : List (Ends T)) → AllByRecursion P ones → AllByRecursion P' others
+      → AllByRecursion Q (common_spans cmp ones others)
+  common_spans-each P P' Q from ones others all all' =
+      all-flat_map (λ (one : Ends T). common_with cmp one others) Q ones
+      (all_map P (λ (one : Ends T). AllByRecursion Q (common_with cmp one others))
+      (λ one p. all-flat_map (common_of cmp one) Q others
+      (all_map P' (λ (other : Ends T). AllByRecursion Q (common_of cmp one other))
+      (λ other p'. common_of-cases o one other (AllByRecursion Q) (λ shared. (from one other p p' shared, tt))
+      (λ apart. tt)) others all')) ones all)
 
   -- each common span holds a cut
   pub common_spans-hold : (ones others : List (Ends T)) → AllByRecursion (HoldsCut cmp) (common_spans cmp ones others)
@@ -120,68 +49,67 @@ module _ {T : Type 0} {cmp : T → T → Ordering} (o : IsTotalOrder cmp) where
       let Of : Ends T → Type 0 = λ span. Lower span.lower × Upper span.upper in
       common_spans-each Of Of Of
       (λ one other p p' shared. (
-        greater-is cmp Lower one.lower other.lower p.0 p'.0,
-        lesser-is cmp Upper one.upper other.upper p.1 p'.1,
+        greater-is o Lower one.lower other.lower (λ h. p.0) (λ h. p'.0),
+        lesser-is o Upper one.upper other.upper (λ h. p'.1) (λ h. p.1),
       ))
       ones others all all'
 
   -- ---- some of the common spans
 
   module _ (Q : Ends T → Type 0) where
-    some-of : (one other : Ends T) → AnyByRecursion Q (common_of cmp one other)
-        → HaveCommonCut cmp one other × Q (common_ends cmp one other)
-    some-of one other = common_of-cases o one other
-        (λ spans. AnyByRecursion Q spans → HaveCommonCut cmp one other × Q (common_ends cmp one other))
-        (λ shared some. (shared, only Q (common_ends cmp one other) some)) (λ apart some. absurd some)
+    abbrev IsFrom : Ends T → Ends T → Type 0
+    IsFrom one other = HaveCommonCut cmp one other × Q (common_ends cmp one other)
 
-    of-some : (one other : Ends T) → HaveCommonCut cmp one other → Q (common_ends cmp one other)
-        → AnyByRecursion Q (common_of cmp one other)
-    of-some one other shared q = common_of-cases o one other (AnyByRecursion Q)
-        (λ shared'. inl q) (λ apart. apart shared)
-
-    some-with : (one : Ends T) (others : List (Ends T)) → AnyByRecursion Q (common_with cmp one others)
-        → AnyByRecursion (λ (other : Ends T). HaveCommonCut cmp one other × Q (common_ends cmp one other)) others
-    some-with one [] some = absurd some
-    some-with one (other ∷ others) some =
-        elim (any-either Q (common_of cmp one other) (common_with cmp one others) some) [
-          | inl here ↦ inl (some-of one other here)
-          | inr there ↦ inr (some-with one others there)
-        ]
-
-    with-some : (one : Ends T) (others : List (Ends T))
-        → AnyByRecursion (λ (other : Ends T). HaveCommonCut cmp one other × Q (common_ends cmp one other)) others
-        → AnyByRecursion Q (common_with cmp one others)
-    with-some one [] some = absurd some
-    with-some one (other ∷ others) (inl here) =
-        any-left Q (common_of cmp one other) (common_with cmp one others) (of-some one other here.0 here.1)
-    with-some one (other ∷ others) (inr there) =
-        any-right Q (common_of cmp one other) (common_with cmp one others) (with-some one others there)
-
-    some-spans : (ones others : List (Ends T)) → AnyByRecursion Q (common_spans cmp ones others)
-        → AnyByRecursion (λ (one : Ends T). AnyByRecursion (λ (other : Ends T).
-        HaveCommonCut cmp one other × Q (common_ends cmp one other)) others) ones
-    some-spans [] others some = absurd some
-    some-spans (one ∷ ones) others some =
-        elim (any-either Q (common_with cmp one others) (common_spans cmp ones others) some) [
-          | inl here ↦ inl (some-with one others here)
-          | inr there ↦ inr (some-spans ones others there)
-        ]
-
-    spans-some : (ones others : List (Ends T))
-        → AnyByRecursion (λ (one : Ends T). AnyByRecursion (λ (other : Ends T).
-        HaveCommonCut cmp one other × Q (common_ends cmp one other)) others) ones
-        → AnyByRecursion Q (common_spans cmp ones others)
-    spans-some [] others some = absurd some
-    spans-some (one ∷ ones) others (inl here) =
-        any-left Q (common_with cmp one others) (common_spans cmp ones others) (with-some one others here)
-    spans-some (one ∷ ones) others (inr there) =
-        any-right Q (common_with cmp one others) (common_spans cmp ones others) (spans-some ones others there)
+    some-of : (one other : Ends T) → AnyByRecursion Q (common_of cmp one other) ↔ IsFrom one other
+    some-of one other = common_of-cases o one other (λ spans. AnyByRecursion Q spans ↔ IsFrom one other)
+        (λ shared. (
+          λ some. elim some [
+            | inl here ↦ (shared, here)
+            | inr none ↦ absurd none
+          ],
+          λ is. inl is.1,
+        ))
+        (λ apart. (λ none. absurd none, λ is. absurd (apart is.0)))
 
     -- a fact of the common ends of some two spans that share a cut is a fact of some common span
     pub common_spans-some : (ones others : List (Ends T)) → AnyByRecursion Q (common_spans cmp ones others)
         ↔ AnyByRecursion (λ (one : Ends T). AnyByRecursion (λ (other : Ends T).
         HaveCommonCut cmp one other × Q (common_ends cmp one other)) others) ones
-    common_spans-some ones others = (some-spans ones others, spans-some ones others)
+    common_spans-some ones others =
+        let With : Ends T → Type 0 = λ one. AnyByRecursion Q (common_with cmp one others) in
+        let From : Ends T → Type 0 = λ one. AnyByRecursion (IsFrom one) others in (
+          λ some. any-map With From
+              (λ one with. any-map (λ (other : Ends T). AnyByRecursion Q (common_of cmp one other)) (IsFrom one)
+              (λ other is. (some-of one other).0 is) others (any-flat_map (common_of cmp one) Q others with))
+              ones (any-flat_map (λ (one : Ends T). common_with cmp one others) Q ones some),
+          λ from. flat_map-any (λ (one : Ends T). common_with cmp one others) Q ones (any-map From With
+              (λ one some. flat_map-any (common_of cmp one) Q others
+              (any-map (IsFrom one) (λ (other : Ends T). AnyByRecursion Q (common_of cmp one other))
+              (λ other is. (some-of one other).1 is) others some)) ones from),
+        )
+
+  -- ---- cuts
+
+  -- a cut lies in one of the common spans exactly if it lies in a span of each list
+  pub common_spans-cuts : (ones others : List (Ends T)) (cut : Cut T)
+      → IsInSome cmp (common_spans cmp ones others) cut ↔ (IsInSome cmp ones cut × IsInSome cmp others cut)
+  common_spans-cuts ones others cut =
+      let In : Ends T → Type 0 = λ span. IsInSpan cmp span cut in
+      let law = common_spans-some In ones others in
+      let both = λ (one other : Ends T). common_ends-cuts o one other cut in (
+        λ is.
+            let some = law.0 is in
+            let One : Ends T → Type 0 = λ one. AnyByRecursion (IsFrom In one) others in
+            let found = any-found One ones some in (
+              any-map One In
+                  (λ one from. let other = any-found (IsFrom In one) others from in ((both one other.0).0 other.1.1).0)
+                  ones some,
+              any-map (IsFrom In found.0) In (λ other from. ((both found.0 other).0 from.1).1) others found.1,
+            ),
+        λ is. law.1 (any-map In (λ (one : Ends T). AnyByRecursion (IsFrom In one) others)
+            (λ one here. any-map In (IsFrom In one)
+            (λ other there. ((cut, here, there), (both one other).1 (here, there))) others is.1) ones is.0),
+      )
 
   -- ---- no common span
 
@@ -195,9 +123,9 @@ module _ {T : Type 0} {cmp : T → T → Ordering} (o : IsTotalOrder cmp) where
       → (common_spans cmp ones others ≡ []) ↔ (¬ ShareCut cmp ones others)
   common_spans-none ones others = (
     λ none shared. subst (λ spans. IsInSome cmp spans shared.0) none
-        (both-spans ones others shared.0 shared.1 shared.2),
+        ((common_spans-cuts ones others shared.0).1 (shared.1, shared.2)),
     λ apart. none_held cmp (common_spans cmp ones others) (common_spans-hold ones others)
-        (λ cut is. apart (cut, (spans-both ones others cut is).0, (spans-both ones others cut is).1)),
+        (λ cut is. let both = (common_spans-cuts ones others cut).0 is in apart (cut, both.0, both.1)),
   )
 
   -- and there is one if some cut does
@@ -205,6 +133,6 @@ module _ {T : Type 0} {cmp : T → T → Ordering} (o : IsTotalOrder cmp) where
       → (common_spans cmp ones others ≢ []) ↔ ShareCut cmp ones others
   common_spans-any ones others = (
     λ some. let held = some-held (common_spans cmp ones others) (common_spans-hold ones others) some in
-        let both = spans-both ones others held.0 held.1 in (held.0, both.0, both.1),
+        let both = (common_spans-cuts ones others held.0).0 held.1 in (held.0, both.0, both.1),
     λ shared none. (common_spans-none ones others).0 none shared,
   )

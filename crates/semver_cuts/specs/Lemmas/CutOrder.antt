@@ -1,13 +1,12 @@
 -- The order of cuts is a total order wherever the order of the values is.
-use Rattle.std.specs.Prelude.{◌≡◌, ℕ, false}
-use mathlib.Core.Path.{refl, ap, subst, sym, ◌∙◌}
-use mathlib.Core.Bool.{true≢false}
+use Rattle.std.specs.Prelude.{◌≡◌, ℕ}
+use mathlib.Core.Path.{refl, subst}
 use Rattle.std.specs.declared.cmp.Ordering.{Ordering}
 use Rattle.std.specs.declared.cmp.Ordering.TheVariants.{Less, Equal, Greater}
 use Rattle.std.specs.declared.option.Option.{Option}
 use Rattle.std.specs.declared.option.Option.TheVariants.{Some, None}
 use Rattle.std.specs.Option.{option_cmp}
-use Rattle.std.specs.Ordering.{is_eq, ordering_then, nat_cmp, on, flip_args, then_cmp}
+use Rattle.std.specs.Ordering.{ordering_then, nat_cmp, on, flip_args, then_cmp}
 use Rattle.std.specs.Cmp.{IsTotalOrder, on_total, then_total, back_total, nat_cmp_total}
 use Rattle.std.specs.Cmp.Lexicographic.{options_total}
 use Rattle.semver_cuts.specs.declared.cut.Cut.{Cut}
@@ -34,22 +33,11 @@ then_equal Greater = refl
 
 by_key : {T : Type 0} (cmp : T → T → Ordering) (c d : Cut T) → on key (key_cmp cmp) c d ≡ cut_cmp cmp c d
 unfolding key key_cmp pair_cmp
-by_key cmp Start Start = refl
-by_key cmp Start (Before w) = refl
-by_key cmp Start (After w) = refl
-by_key cmp Start End = refl
-by_key cmp (Before v) Start = refl
 by_key cmp (Before v) (Before w) = then_equal (cmp v w)
-by_key cmp (Before v) (After w) = refl
-by_key cmp (Before v) End = refl
-by_key cmp (After v) Start = refl
-by_key cmp (After v) (Before w) = refl
 by_key cmp (After v) (After w) = then_equal (cmp v w)
-by_key cmp (After v) End = refl
-by_key cmp End Start = refl
-by_key cmp End (Before w) = refl
-by_key cmp End (After w) = refl
+by_key cmp Start Start = refl
 by_key cmp End End = refl
+by_key cmp c d = refl
 
 pair_total : {T : Type 0} {cmp : T → T → Ordering} → IsTotalOrder cmp → IsTotalOrder (pair_cmp cmp)
 unfolding pair_cmp
@@ -63,18 +51,9 @@ key_total o = options_total (back_total (options_total (back_total (pair_total o
 pub cut_total : {T : Type 0} {cmp : T → T → Ordering} → IsTotalOrder cmp → IsTotalOrder (cut_cmp cmp)
 cut_total {T} {cmp} o = subst IsTotalOrder (λ i c d. by_key cmp c d i) (on_total key (key_total o))
 
-never : {P : Type 0} (r : Ordering) → is_eq r ≡ false → r ≡ Equal → P
-never r h e = absurd (true≢false (ap is_eq (sym e) ∙ h))
-
-before≢after : {P : Type 0} (r : Ordering) → ordering_then r Less ≡ Equal → P
-before≢after Less e = never Less refl e
-before≢after Equal e = never Less refl e
-before≢after Greater e = never Greater refl e
-
-after≢before : {P : Type 0} (r : Ordering) → ordering_then r Greater ≡ Equal → P
-after≢before Less e = never Less refl e
-after≢before Equal e = never Greater refl e
-after≢before Greater e = never Greater refl e
+never_equal : {P : Type 0} (r s : Ordering) → (s ≡ Equal → ⊥) → ordering_then r s ≡ Equal → P
+never_equal Equal s h e = absurd (h e)
+never_equal r s h e = cc
 
 -- equal cuts are of one kind: what holds of those of each kind holds of all
 pub equal-by_kind : {T : Type 0} (cmp : T → T → Ordering) (P : Cut T → Cut T → Type 0) → P Start Start
@@ -82,18 +61,9 @@ pub equal-by_kind : {T : Type 0} (cmp : T → T → Ordering) (P : Cut T → Cut
     → ((v w : T) → cmp v w ≡ Equal → P (After v) (After w))
     → P End End → (c d : Cut T) → cut_cmp cmp c d ≡ Equal → P c d
 equal-by_kind cmp P start before after end Start Start e = start
-equal-by_kind cmp P start before after end Start (Before w) e = never Less refl e
-equal-by_kind cmp P start before after end Start (After w) e = never Less refl e
-equal-by_kind cmp P start before after end Start End e = never Less refl e
-equal-by_kind cmp P start before after end (Before v) Start e = never Greater refl e
 equal-by_kind cmp P start before after end (Before v) (Before w) e = before v w e
-equal-by_kind cmp P start before after end (Before v) (After w) e = before≢after (cmp v w) e
-equal-by_kind cmp P start before after end (Before v) End e = never Less refl e
-equal-by_kind cmp P start before after end (After v) Start e = never Greater refl e
-equal-by_kind cmp P start before after end (After v) (Before w) e = after≢before (cmp v w) e
 equal-by_kind cmp P start before after end (After v) (After w) e = after v w e
-equal-by_kind cmp P start before after end (After v) End e = never Less refl e
-equal-by_kind cmp P start before after end End Start e = never Greater refl e
-equal-by_kind cmp P start before after end End (Before w) e = never Greater refl e
-equal-by_kind cmp P start before after end End (After w) e = never Greater refl e
 equal-by_kind cmp P start before after end End End e = end
+equal-by_kind cmp P start before after end (Before v) (After w) e = never_equal (cmp v w) Less (λ h. cc) e
+equal-by_kind cmp P start before after end (After v) (Before w) e = never_equal (cmp v w) Greater (λ h. cc) e
+equal-by_kind cmp P start before after end c d e = cc

@@ -9,11 +9,12 @@ use Rattle.semver_cuts.specs.declared.cut.Cut.{Cut}
 use Rattle.semver_cuts.specs.Ends.{Ends, HoldsCut, IsInSpan}
 use Rattle.semver_cuts.specs.SpanLists.{IsInSome}
 use Rattle.semver_cuts.specs.CommonSpans.{common_spans}
-use Rattle.semver_cuts.specs.Difference.{AreDifference, IsFirstAt, IsPiece, IsPieceLower, IsPieceUpper}
+use Rattle.semver_cuts.specs.Difference.{AreDifference, IsPiece, IsPieceLower, IsPieceUpper}
 use Rattle.semver_cuts.specs.Lemmas.CommonSpans.{common_spans-cuts}
 use Rattle.semver_cuts.specs.Lemmas.InSome.{in_some-either, in_some-left, in_some-or_not, in_some-right, none_held}
 use Rattle.semver_cuts.specs.Lemmas.Lists.{all-always, all-append}
-use Rattle.semver_cuts.specs.Lemmas.Lists.{all_map, all_middle}
+use Rattle.semver_cuts.specs.Lemmas.Lists.{all_map}
+use Rattle.semver_cuts.specs.Lemmas.ChosenEnds.{chosen-of}
 
 module _ {T : Type 0} (cmp : T → T → Ordering) where
   -- ---- cuts
@@ -70,21 +71,15 @@ module _ {T : Type 0} (cmp : T → T → Ordering) where
       difference-each (HoldsCut cmp) others (λ one. Unit {0}) (λ one piece held is. is.holds) ones spans
       (all-always (λ (one : Ends T). Unit {0}) (λ one. tt) ones) are
 
-  first_at-is : (end : Ends T → Cut T) (P : Cut T → Type 0) (spans : List (Ends T)) (cut : Cut T)
-      → AllByRecursion (λ (span : Ends T). P (end span)) spans → IsFirstAt cmp end spans cut → P cut
-  first_at-is end P spans cut all is =
-      let Of : Ends T → Type 0 = λ span. P (end span) in
-      subst P is.end_of (all_middle Of is.before is.after is.span (subst (AllByRecursion Of) is.parts all))
-
   lower-is : (P : Cut T → Type 0) (others : List (Ends T)) (one : Ends T) (cut : Cut T) → P one.lower
       → AllByRecursion (λ (other : Ends T). P other.upper) others → IsPieceLower cmp others one cut → P cut
   lower-is P others one cut p all (inl own) = subst P (sym own) p
-  lower-is P others one cut p all (inr inner) = first_at-is (λ (span : Ends T). span.upper) P others cut all inner.1
+  lower-is P others one cut p all (inr inner) = chosen-of P inner.1 all
 
   upper-is : (P : Cut T → Type 0) (others : List (Ends T)) (one : Ends T) (cut : Cut T) → P one.upper
       → AllByRecursion (λ (other : Ends T). P other.lower) others → IsPieceUpper cmp others one cut → P cut
   upper-is P others one cut p all (inl own) = subst P (sym own) p
-  upper-is P others one cut p all (inr inner) = first_at-is (λ (span : Ends T). span.lower) P others cut all inner.1
+  upper-is P others one cut p all (inr inner) = chosen-of P inner.1 all
 
   -- what holds of all ends of the first list, and of the opposite ends of the second, holds of those of the difference
   pub difference-ends : (Lower Upper : Cut T → Type 0) (ones others spans : List (Ends T))
@@ -104,30 +99,19 @@ module _ {T : Type 0} (cmp : T → T → Ordering) where
       ))
       ones spans all are
 
-  -- ---- an empty difference
-
-  -- the difference is empty exactly if no cut of the first list lies outside the second
-  pub difference-none : (ones others spans : List (Ends T)) → AreDifference cmp ones others spans
-      → (spans ≡ []) ↔ (¬ ((cut : Cut T) × IsInSome cmp ones cut × (¬ IsInSome cmp others cut)))
-  difference-none ones others spans are = (
-    λ none left. subst (λ spans. IsInSome cmp spans left.0) none
-        (in-difference ones others spans left.0 are left.1 left.2),
-    λ covered. none_held cmp spans (difference-hold ones others spans are)
-        (λ cut is. let left = of-difference ones others spans cut are is in covered (cut, left.0, left.1)),
-  )
-
 module _ {T : Type 0} {cmp : T → T → Ordering} (o : IsTotalOrder cmp) where
   -- the difference is empty exactly if each cut of the first list lies in some span of the second
   pub difference-covered : (ones others spans : List (Ends T)) → AreDifference cmp ones others spans
       → (spans ≡ []) ↔ ((cut : Cut T) → IsInSome cmp ones cut → IsInSome cmp others cut)
-  difference-covered ones others spans are =
-      let law = difference-none cmp ones others spans are in (
-        λ none cut is. elim (in_some-or_not o cut others) [
-          | inl there ↦ there
-          | inr out ↦ absurd (law.0 none (cut, is, out))
-        ],
-        λ covered. law.1 (λ left. left.2 (covered left.0 left.1)),
-      )
+  difference-covered ones others spans are = (
+    λ none cut is. elim (in_some-or_not o cut others) [
+      | inl there ↦ there
+      | inr out ↦ absurd (subst (λ spans. IsInSome cmp spans cut) none
+          (in-difference cmp ones others spans cut are is out))
+    ],
+    λ covered. none_held cmp spans (difference-hold cmp ones others spans are)
+        (λ cut is. let left = of-difference cmp ones others spans cut are is in left.1 (covered cut left.0)),
+  )
 
 -- ---- the intersection and the difference
 

@@ -101,9 +101,8 @@ module _ {T : Type 0} {cmp : T → T → Ordering} (o : IsTotalOrder cmp) where
   at_most-from_not_lt c d h = not_below_by c d (cut_cmp cmp c d) refl h
 
   not_at_most_by : (c d : Cut T) (r : Ordering) → cut_cmp cmp c d ≡ r → is_le r ≡ false → IsCutBelow cmp d c
-  not_at_most_by c d Less p h = absurd (true≢false h)
-  not_at_most_by c d Equal p h = absurd (true≢false h)
   not_at_most_by c d Greater p h = below-from_greater c d p
+  not_at_most_by c d r p h = absurd (true≢false h)
 
   -- what follows if the test `c <= d` is false
   pub below-from_not_le : (c d : Cut T) → is_le (cut_cmp cmp c d) ≡ false → IsCutBelow cmp d c
@@ -135,8 +134,7 @@ module _ {T : Type 0} {cmp : T → T → Ordering} (o : IsTotalOrder cmp) where
 module _ {T : Type 0} (cmp : T → T → Ordering) where
   below_by : (r : Ordering) → is_lt r ≡ true → r ≡ Less
   below_by Less h = refl
-  below_by Equal h = absurd (true≢false (sym h))
-  below_by Greater h = absurd (true≢false (sym h))
+  below_by r h = absurd (true≢false (sym h))
 
   -- what follows if the test `c < d` is true
   pub below-from_lt : (c d : Cut T) → is_lt (cut_cmp cmp c d) ≡ true → IsCutBelow cmp c d

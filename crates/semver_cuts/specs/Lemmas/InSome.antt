@@ -8,28 +8,21 @@ use Rattle.semver_cuts.specs.declared.cut.Cut.{Cut}
 use Rattle.semver_cuts.specs.Ends.{Ends, HoldsCut, IsCutBelow, IsInSpan}
 use Rattle.semver_cuts.specs.SpanLists.{IsInSome}
 use Rattle.semver_cuts.specs.Lemmas.Ends.{at_most-or-below, below-at_most, below-not-at_most}
+use Rattle.semver_cuts.specs.Lemmas.Lists.{any-either, any-left, any-right}
 
 module _ {T : Type 0} (cmp : T → T → Ordering) (cut : Cut T) where
   -- if it lies in a span of the first of two lists, it does in the two together
   pub in_some-left : (ones others : List (Ends T)) → IsInSome cmp ones cut → IsInSome cmp (ones ++ others) cut
-  in_some-left [] others is = absurd is
-  in_some-left (one ∷ ones) others (inl here) = inl here
-  in_some-left (one ∷ ones) others (inr there) = inr (in_some-left ones others there)
+  in_some-left ones others is = any-left (λ (span : Ends T). IsInSpan cmp span cut) ones others is
 
   -- and the same for the second
   pub in_some-right : (ones others : List (Ends T)) → IsInSome cmp others cut → IsInSome cmp (ones ++ others) cut
-  in_some-right [] others is = is
-  in_some-right (one ∷ ones) others is = inr (in_some-right ones others is)
+  in_some-right ones others is = any-right (λ (span : Ends T). IsInSpan cmp span cut) ones others is
 
   -- if it lies in a span of the two together, it does in one of the two
   pub in_some-either : (ones others : List (Ends T)) → IsInSome cmp (ones ++ others) cut
       → IsInSome cmp ones cut ⊎ IsInSome cmp others cut
-  in_some-either [] others is = inr is
-  in_some-either (one ∷ ones) others (inl here) = inl (inl here)
-  in_some-either (one ∷ ones) others (inr there) = elim (in_some-either ones others there) [
-    | inl l ↦ inl (inr l)
-    | inr r ↦ inr r
-  ]
+  in_some-either ones others is = any-either (λ (span : Ends T). IsInSpan cmp span cut) ones others is
 
 module _ {T : Type 0} (cmp : T → T → Ordering) where
   -- if each span contains a cut, and no cut lies in any, there is no span

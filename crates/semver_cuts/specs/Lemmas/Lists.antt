@@ -2,9 +2,9 @@
 use Rattle.std.specs.Prelude.{◌≡◌, ◌⊎◌, ◌<◌, ◌+◌, ℕ, zero, suc, List, [], ◌∷◌, ◌++◌, get_or, length, take}
 use mathlib.Core.Path.{sym, subst}
 use mathlib.Core.Logic.{inl, inr}
-use Rattle.std.specs.List.{AllByRecursion}
+use Rattle.std.specs.List.{AllByRecursion, flat_map}
 use Rattle.std.proofs.Common.{arith}
-use Rattle.semver_cuts.specs.Sharing.{AnyByRecursion}
+use Rattle.semver_cuts.specs.SpanLists.{AnyByRecursion}
 
 module _ {X : Type 0} (P : X → Type 0) where
   -- what is true of every value is true of each element
@@ -97,9 +97,29 @@ module _ {X : Type 0} (P Q : X → Type 0) where
   any-map f (x ∷ xs) (inl p) = inl (f x p)
   any-map f (x ∷ xs) (inr a) = inr (any-map f xs a)
 
-  -- if one fact is true of some element and another of each, then both are true of some element
-  pub any-with_all : (R : X → Type 0) → ((x : X) → P x → Q x → R x) → (xs : List X)
-      → AnyByRecursion P xs → AllByRecursion Q xs → AnyByRecursion R xs
-  any-with_all R f [] a b = absurd a
-  any-with_all R f (x ∷ xs) (inl p) b = inl (f x p b.0)
-  any-with_all R f (x ∷ xs) (inr a) b = inr (any-with_all R f xs a b.1)
+-- a list of the elements of several lists, one after another
+module _ {X Y : Type 0} (f : X → List Y) (P : Y → Type 0) where
+  pub all-flat_map : (xs : List X) → AllByRecursion (λ (x : X). AllByRecursion P (f x)) xs
+      → AllByRecursion P (flat_map f xs)
+  all-flat_map [] all = tt
+  all-flat_map (x ∷ xs) all = all-append P (f x) (flat_map f xs) all.0 (all-flat_map xs all.1)
+
+  pub any-flat_map : (xs : List X) → AnyByRecursion P (flat_map f xs)
+      → AnyByRecursion (λ (x : X). AnyByRecursion P (f x)) xs
+  any-flat_map [] some = some
+  any-flat_map (x ∷ xs) some = elim (any-either P (f x) (flat_map f xs) some) [
+    | inl here ↦ inl here
+    | inr there ↦ inr (any-flat_map xs there)
+  ]
+
+  pub flat_map-any : (xs : List X) → AnyByRecursion (λ (x : X). AnyByRecursion P (f x)) xs
+      → AnyByRecursion P (flat_map f xs)
+  flat_map-any [] some = some
+  flat_map-any (x ∷ xs) (inl here) = any-left P (f x) (flat_map f xs) here
+  flat_map-any (x ∷ xs) (inr there) = any-right P (f x) (flat_map f xs) (flat_map-any xs there)
+
+-- an element of which a fact is true
+pub any-found : {X : Type 0} (P : X → Type 0) (xs : List X) → AnyByRecursion P xs → (x : X) × P x
+any-found P [] some = absurd some
+any-found P (x ∷ xs) (inl here) = (x, here)
+any-found P (x ∷ xs) (inr there) = any-found P xs there

@@ -1,14 +1,15 @@
 -- Two spans: their intersection, when they share a cut, and when one contains all cuts of the other.
-use Rattle.std.specs.Prelude.{◌≡◌, ◌↔◌, Bool, IsTrue, List, [], ◌∷◌, if◌then◌else◌, refl, true, false}
-use mathlib.Core.Path.{sym, ap, ◌∙◌}
+use Rattle.std.specs.Prelude.{◌≡◌, ◌⊎◌, ◌↔◌, ◌&&◌, Bool, IsTrue, List, [], ◌∷◌, if◌then◌else◌, refl, true, false}
+use mathlib.Core.Path.{sym, ◌∙◌}
 use mathlib.Core.Logic.{inl, inr}
 use mathlib.Core.Bool.{true≢false}
 use Rattle.std.specs.declared.cmp.Ordering.{Ordering}
 use Rattle.std.specs.Ordering.{is_le, is_lt}
 use Rattle.std.specs.Cmp.{IsTotalOrder}
+use Rattle.std.proofs.lemmas.Bool.{and_parts}
 use Rattle.semver_cuts.specs.declared.cut.Cut.{Cut}
 use Rattle.semver_cuts.specs.Cut.{cut_cmp}
-use Rattle.semver_cuts.specs.Ends.{Ends, HoldsCut, IsCutAtMost, IsCutBelow, IsInSpan, span_between}
+use Rattle.semver_cuts.specs.Ends.{Ends, HoldsCut, IsCutAtMost, IsCutBelow, IsInSpan}
 use Rattle.semver_cuts.specs.SpanLists.{IsInSome, IsWithin}
 use Rattle.semver_cuts.specs.CommonSpans.{common_ends, common_of, greater_cut, lesser_cut}
 use Rattle.semver_cuts.specs.Sharing.{HaveCommonCut}
@@ -20,49 +21,53 @@ use Rattle.semver_cuts.specs.Lemmas.Ends.{below_irrefl, below_trans, le-from_at_
 both_ways : {P : Type 0} (r : Bool) → r ≡ true → r ≡ false → P
 both_ways r p q = absurd (true≢false (sym p ∙ q))
 
--- two tests are equal if each is `true` if the other is
-alike : (r s : Bool) → (r ≡ true → s ≡ true) → (s ≡ true → r ≡ true) → r ≡ s
-alike true s f g = sym (f refl)
-alike false true f g = g refl
-alike false false f g = refl
-
 module _ {T : Type 0} {cmp : T → T → Ordering} (o : IsTotalOrder cmp) where
   -- ---- the greater and the lesser of two cuts
 
-  greater_by : (c d e : Cut T) (r : Bool) → is_lt (cut_cmp cmp d c) ≡ r
-      → IsCutAtMost cmp (if r then c else d) e ↔ (IsCutAtMost cmp c e × IsCutAtMost cmp d e)
-  greater_by c d e true h =
-      (λ p. (p, at_most_trans o d c e (inl (below-from_lt cmp d c h)) p), λ both. both.0)
-  greater_by c d e false h =
-      (λ p. (at_most_trans o c d e (at_most-from_not_lt o d c h) p, p), λ both. both.1)
+  -- a fact of the first if the second is less, and of the second if not, is one of the greater
+  greater-by : (P : Cut T → Type 0) (c d : Cut T) (r : Bool) → is_lt (cut_cmp cmp d c) ≡ r
+      → (IsCutBelow cmp d c → P c) → (IsCutAtMost cmp c d → P d) → P (if r then c else d)
+  greater-by P c d true h first second = first (below-from_lt cmp d c h)
+  greater-by P c d false h first second = second (at_most-from_not_lt o d c h)
+
+  pub greater-is : (P : Cut T → Type 0) (c d : Cut T)
+      → (IsCutBelow cmp d c → P c) → (IsCutAtMost cmp c d → P d) → P (greater_cut cmp c d)
+  greater-is P c d = greater-by P c d (is_lt (cut_cmp cmp d c)) refl
+
+  lesser-by : (P : Cut T → Type 0) (c d : Cut T) (r : Bool) → is_lt (cut_cmp cmp d c) ≡ r
+      → (IsCutBelow cmp d c → P d) → (IsCutAtMost cmp c d → P c) → P (if r then d else c)
+  lesser-by P c d true h first second = first (below-from_lt cmp d c h)
+  lesser-by P c d false h first second = second (at_most-from_not_lt o d c h)
+
+  -- and the other way round of the lesser
+  pub lesser-is : (P : Cut T → Type 0) (c d : Cut T)
+      → (IsCutBelow cmp d c → P d) → (IsCutAtMost cmp c d → P c) → P (lesser_cut cmp c d)
+  lesser-is P c d first second =
+      lesser-by P c d (is_lt (cut_cmp cmp d c)) refl first second
 
   -- the greater of two cuts is at most a third exactly if both are
   pub greater-at_most : (c d e : Cut T)
       → IsCutAtMost cmp (greater_cut cmp c d) e ↔ (IsCutAtMost cmp c e × IsCutAtMost cmp d e)
-  greater-at_most c d e = greater_by c d e (is_lt (cut_cmp cmp d c)) refl
-
-  lesser_by : (c d e : Cut T) (r : Bool) → is_lt (cut_cmp cmp d c) ≡ r
-      → IsCutBelow cmp e (if r then d else c) ↔ (IsCutBelow cmp e c × IsCutBelow cmp e d)
-  lesser_by c d e true h = (λ p. (below_trans o e d c p (below-from_lt cmp d c h), p), λ both. both.1)
-  lesser_by c d e false h =
-      (λ p. (p, below-at_most o e c d p (at_most-from_not_lt o d c h)), λ both. both.0)
+  greater-at_most c d e =
+      greater-is (λ k. IsCutAtMost cmp k e ↔ (IsCutAtMost cmp c e × IsCutAtMost cmp d e)) c d
+      (λ h. (λ p. (p, at_most_trans o d c e (inl h) p), λ both. both.0))
+      (λ h. (λ p. (at_most_trans o c d e h p, p), λ both. both.1))
 
   -- a cut is below the lesser of two exactly if it is below both
   pub below-lesser : (c d e : Cut T)
       → IsCutBelow cmp e (lesser_cut cmp c d) ↔ (IsCutBelow cmp e c × IsCutBelow cmp e d)
-  below-lesser c d e = lesser_by c d e (is_lt (cut_cmp cmp d c)) refl
-
-  greater_below_by : (c d e : Cut T) (r : Bool) → is_lt (cut_cmp cmp d c) ≡ r
-      → IsCutBelow cmp (if r then c else d) e ↔ (IsCutBelow cmp c e × IsCutBelow cmp d e)
-  greater_below_by c d e true h =
-      (λ p. (p, below_trans o d c e (below-from_lt cmp d c h) p), λ both. both.0)
-  greater_below_by c d e false h =
-      (λ p. (at_most-below o c d e (at_most-from_not_lt o d c h) p, p), λ both. both.1)
+  below-lesser c d e =
+      lesser-is (λ k. IsCutBelow cmp e k ↔ (IsCutBelow cmp e c × IsCutBelow cmp e d)) c d
+      (λ h. (λ p. (below_trans o e d c p h, p), λ both. both.1))
+      (λ h. (λ p. (p, below-at_most o e c d p h), λ both. both.0))
 
   -- the greater of two cuts is below a third exactly if both are
   pub greater-below : (c d e : Cut T)
       → IsCutBelow cmp (greater_cut cmp c d) e ↔ (IsCutBelow cmp c e × IsCutBelow cmp d e)
-  greater-below c d e = greater_below_by c d e (is_lt (cut_cmp cmp d c)) refl
+  greater-below c d e =
+      greater-is (λ k. IsCutBelow cmp k e ↔ (IsCutBelow cmp c e × IsCutBelow cmp d e)) c d
+      (λ h. (λ p. (p, below_trans o d c e h p), λ both. both.0))
+      (λ h. (λ p. (at_most-below o c d e h p, p), λ both. both.1))
 
   -- ---- the cuts of a span
 
@@ -139,66 +144,30 @@ module _ {T : Type 0} {cmp : T → T → Ordering} (o : IsTotalOrder cmp) where
         )),
       )
 
-  -- the test of a common cut, if the first span begins last
-  pub shares-from_first : (one other : Ends T) → IsCutBelow cmp one.lower one.upper
-      → is_lt (cut_cmp cmp one.lower (lesser_cut cmp one.upper other.upper)) ≡ is_lt (cut_cmp cmp one.lower other.upper)
-  shares-from_first one other held =
-      alike (is_lt (cut_cmp cmp one.lower (lesser_cut cmp one.upper other.upper)))
-      (is_lt (cut_cmp cmp one.lower other.upper))
-      (λ p. lt-from_below cmp one.lower other.upper
-      ((below-lesser one.upper other.upper one.lower).0 (below-from_lt cmp one.lower _ p)).1)
-      (λ p. lt-from_below cmp one.lower (lesser_cut cmp one.upper other.upper)
-      ((below-lesser one.upper other.upper one.lower).1 (held, below-from_lt cmp one.lower other.upper p)))
+  -- the two tests of the program
+  pub shares-by : (one other : Ends T) → IsCutBelow cmp one.lower one.upper → IsCutBelow cmp other.lower other.upper
+      → (r : Bool) → r ≡ (is_lt (cut_cmp cmp one.lower other.upper) && is_lt (cut_cmp cmp other.lower one.upper))
+      → IsTrue r ↔ HaveCommonCut cmp one other
+  shares-by one other held held' r e =
+      let law = shares-ends one other held held' in (
+        λ p. let tests = and_parts _ _ (sym e ∙ p) in
+            law.1 (below-from_lt cmp one.lower other.upper tests.0, below-from_lt cmp other.lower one.upper tests.1),
+        λ h. let ends = law.0 h in
+            e ∙ (λ i. lt-from_below cmp one.lower other.upper ends.0 i
+            && lt-from_below cmp other.lower one.upper ends.1 i),
+      )
 
-  -- and if the second span begins last
-  pub shares-from_second : (one other : Ends T) → IsCutBelow cmp other.lower other.upper
-      → is_lt (cut_cmp cmp other.lower (lesser_cut cmp one.upper other.upper))
-      ≡ is_lt (cut_cmp cmp other.lower one.upper)
-  shares-from_second one other held =
-      alike (is_lt (cut_cmp cmp other.lower (lesser_cut cmp one.upper other.upper)))
-      (is_lt (cut_cmp cmp other.lower one.upper))
-      (λ p. lt-from_below cmp other.lower one.upper
-      ((below-lesser one.upper other.upper other.lower).0 (below-from_lt cmp other.lower _ p)).0)
-      (λ p. lt-from_below cmp other.lower (lesser_cut cmp one.upper other.upper)
-      ((below-lesser one.upper other.upper other.lower).1 (below-from_lt cmp other.lower one.upper p, held)))
-
-  -- the test of the second end, once that of the first has passed
-  pub shares-tested : (one other : Ends T) → IsCutBelow cmp one.lower one.upper → IsCutBelow cmp other.lower other.upper
-      → is_lt (cut_cmp cmp one.lower other.upper) ≡ true
-      → (r : Bool) → r ≡ is_lt (cut_cmp cmp other.lower one.upper) → IsTrue r ↔ HaveCommonCut cmp one other
-  shares-tested one other held held' first r e = (
-    λ p. (shares-ends one other held held').1
-        (below-from_lt cmp one.lower other.upper first, below-from_lt cmp other.lower one.upper (sym e ∙ p)),
-    λ h. e ∙ lt-from_below cmp other.lower one.upper ((shares-ends one other held held').0 h).1,
-  )
-
-  -- and if it has failed
-  pub shares-failed : (one other : Ends T) → IsCutBelow cmp one.lower one.upper → IsCutBelow cmp other.lower other.upper
-      → is_lt (cut_cmp cmp one.lower other.upper) ≡ false
-      → (r : Bool) → r ≡ false → IsTrue r ↔ HaveCommonCut cmp one other
-  shares-failed one other held held' first r e = (
-    λ p. both_ways r p e,
-    λ h. both_ways _ (lt-from_below cmp one.lower other.upper ((shares-ends one other held held').0 h).0) first,
-  )
-
-  -- the test of the upper ends, once that of the lower ends has passed
-  pub covers-tested : (one other : Ends T) → IsCutBelow cmp other.lower other.upper
-      → is_le (cut_cmp cmp one.lower other.lower) ≡ true
-      → (r : Bool) → r ≡ is_le (cut_cmp cmp other.upper one.upper) → IsTrue r ↔ IsWithin cmp other one
-  covers-tested one other held first r e = (
-    λ p. (within-ends other one held).1
-        (at_most-from_le cmp one.lower other.lower first, at_most-from_le cmp other.upper one.upper (sym e ∙ p)),
-    λ h. e ∙ le-from_at_most cmp other.upper one.upper ((within-ends other one held).0 h).1,
-  )
-
-  -- and if it has failed
-  pub covers-failed : (one other : Ends T) → IsCutBelow cmp other.lower other.upper
-      → is_le (cut_cmp cmp one.lower other.lower) ≡ false
-      → (r : Bool) → r ≡ false → IsTrue r ↔ IsWithin cmp other one
-  covers-failed one other held first r e = (
-    λ p. both_ways r p e,
-    λ h. both_ways _ (le-from_at_most cmp one.lower other.lower ((within-ends other one held).0 h).0) first,
-  )
+  pub covers-by : (one other : Ends T) → IsCutBelow cmp other.lower other.upper
+      → (r : Bool) → r ≡ (is_le (cut_cmp cmp one.lower other.lower) && is_le (cut_cmp cmp other.upper one.upper))
+      → IsTrue r ↔ IsWithin cmp other one
+  covers-by one other held r e =
+      let law = within-ends other one held in (
+        λ p. let tests = and_parts _ _ (sym e ∙ p) in
+            law.1 (at_most-from_le cmp one.lower other.lower tests.0, at_most-from_le cmp other.upper one.upper tests.1),
+        λ h. let ends = law.0 h in
+            e ∙ (λ i. le-from_at_most cmp one.lower other.lower ends.0 i
+            && le-from_at_most cmp other.upper one.upper ends.1 i),
+      )
 
   -- ---- the common span, as a list of one span or none
 
@@ -233,36 +202,22 @@ module _ {T : Type 0} {cmp : T → T → Ordering} (o : IsTotalOrder cmp) where
       ))
       (λ apart. (λ is. absurd is, λ both. absurd (apart (cut, both.0, both.1))))
 
-  -- ---- the common span by the tests that the program makes
+  -- there is none if one begins where the other ends or above
+  pub common_of-none : (one other : Ends T) → IsCutBelow cmp one.lower one.upper → IsCutBelow cmp other.lower other.upper
+      → IsCutAtMost cmp other.upper one.lower ⊎ IsCutAtMost cmp one.upper other.lower → [] ≡ common_of cmp one other
+  common_of-none one other held held' apart =
+      common_of-cases one other (λ spans. [] ≡ spans)
+      (λ shared. let ends = (shares-ends one other held held').0 shared in
+      absurd (elim apart [
+        | inl past ↦ below-not-at_most o one.lower other.upper ends.0 past
+        | inr past ↦ below-not-at_most o other.lower one.upper ends.1 past
+      ]))
+      (λ none. refl)
 
-  first_begins_last : (one other : Ends T) → IsCutBelow cmp one.lower one.upper
-      → is_lt (cut_cmp cmp other.lower one.lower) ≡ true → common_of cmp one other
-      ≡ if is_lt (cut_cmp cmp one.lower other.upper)
-      then span_between one.lower (lesser_cut cmp one.upper other.upper) ∷ [] else []
-  first_begins_last one other held last =
-      let upper : Cut T = lesser_cut cmp one.upper other.upper in
-      rw last (ap (λ r. if r then span_between one.lower upper ∷ [] else []) (shares-from_first one other held))
-
-  second_begins_last : (one other : Ends T) → IsCutBelow cmp other.lower other.upper
-      → is_lt (cut_cmp cmp other.lower one.lower) ≡ false → common_of cmp one other
-      ≡ if is_lt (cut_cmp cmp other.lower one.upper)
-      then span_between other.lower (lesser_cut cmp one.upper other.upper) ∷ [] else []
-  second_begins_last one other held last =
-      let upper : Cut T = lesser_cut cmp one.upper other.upper in
-      rw last (ap (λ r. if r then span_between other.lower upper ∷ [] else []) (shares-from_second one other held))
-
-  -- the first begins last, and not below the end of the second
-  pub common_of-past_second : (one other : Ends T) → IsCutBelow cmp one.lower one.upper
-      → is_lt (cut_cmp cmp other.lower one.lower) ≡ true → is_lt (cut_cmp cmp one.lower other.upper) ≡ false
-      → [] ≡ common_of cmp one other
-  common_of-past_second one other held last apart =
-      sym (first_begins_last one other held last
-      ∙ ap (λ r. if r then span_between one.lower (lesser_cut cmp one.upper other.upper) ∷ [] else []) apart)
-
-  -- the second begins last, and not below the end of the first
-  pub common_of-past_first : (one other : Ends T) → IsCutBelow cmp other.lower other.upper
-      → is_lt (cut_cmp cmp other.lower one.lower) ≡ false → is_lt (cut_cmp cmp other.lower one.upper) ≡ false
-      → [] ≡ common_of cmp one other
-  common_of-past_first one other held last apart =
-      sym (second_begins_last one other held last
-      ∙ ap (λ r. if r then span_between other.lower (lesser_cut cmp one.upper other.upper) ∷ [] else []) apart)
+  -- and it begins below where it ends
+  pub common_of-rising : (one other span : Ends T) → span ∷ [] ≡ common_of cmp one other
+      → IsCutBelow cmp span.lower span.upper
+  common_of-rising one other span =
+      common_of-cases one other (λ spans. span ∷ [] ≡ spans → IsCutBelow cmp span.lower span.upper)
+      (λ shared e. let same : span ≡ common_ends cmp one other = cc e in
+      rw same ((common_ends-hold one other).0 shared)) (λ none e. cc e)

@@ -1,7 +1,6 @@
 //! The intersection of two lists of spans.
 ghost use Rattle.std.specs.Prelude.{◌≡◌, ◌++◌, OnOk};
-ghost use Rattle.semver_cuts.specs.SpanLists.{AreApart};
-ghost use Rattle.semver_cuts.specs.Joined.{AreRising};
+ghost use Rattle.semver_cuts.specs.Joined.{AreMerged};
 ghost use Rattle.semver_cuts.specs.CommonSpans.{common_of, common_spans, common_with};
 
 use crate::Span;
@@ -73,8 +72,7 @@ fn common_ascending<'a, T: Ord, S: Gather<'a, T>>(
     others: &'a [Span<T>],
     into: &mut S,
 ) -> Result<(), AllocError>
-    requires apart { AreApart T.cmp others.now }
-    requires rising { AreRising T.cmp others.now }
+    requires { AreMerged T.cmp others.now }
     ensures { OnOk result (S.gathered into.new ≡ S.gathered into.old ++ common_spans T.cmp ones.now others.now) }
 {
     let mut place = 0;
@@ -125,8 +123,7 @@ fn common_along<'a, T: Ord, S: Gather<'a, T>>(
     place: usize,
     into: &mut S,
 ) -> Result<usize, AllocError>
-    requires apart { AreApart T.cmp others.now }
-    requires rising { AreRising T.cmp others.now }
+    requires { AreMerged T.cmp others.now }
     ensures { OnOk result (S.gathered into.new ≡ S.gathered into.old ++ common_with T.cmp one.now others.now) }
 {
     let first = first_near(others, place, one.lower());
@@ -141,8 +138,7 @@ fn common_until<'a, T: Ord, S: Gather<'a, T>>(
     others: &'a [Span<T>],
     into: &mut S,
 ) -> Result<(), AllocError>
-    requires apart { AreApart T.cmp others.now }
-    requires rising { AreRising T.cmp others.now }
+    requires { AreMerged T.cmp others.now }
     ensures { OnOk result (S.gathered into.new ≡ S.gathered into.old ++ common_with T.cmp one.now others.now) }
 {
     for other in others {

@@ -1,8 +1,7 @@
 //! The difference of two lists of spans: the part of one list outside the other.
 ghost use Rattle.std.specs.Prelude.{◌≡◌, ◌++◌, List, OnOk};
-ghost use Rattle.semver_cuts.specs.Ends.{Ends, IsCutBelow};
-ghost use Rattle.semver_cuts.specs.Difference.{AreDifference};
-ghost use Rattle.semver_cuts.specs.Private.Difference.{pieces_of};
+ghost use Rattle.semver_cuts.specs.Ends.{Ends};
+ghost use Rattle.semver_cuts.specs.Difference.{AreDifference, ArePieces};
 
 use crate::Span;
 use crate::algebra::Gather;
@@ -54,9 +53,8 @@ fn add_pieces<'a, T: Ord, S: Gather<'a, T>>(
     others: &MergedSpans<'a, '_, T>,
     into: &mut S,
 ) -> Result<(), AllocError>
-    ensures holds { IsCutBelow T.cmp one.now.lower one.now.upper }
-    ensures pieces { OnOk result
-        (S.gathered into.new ≡ S.gathered into.old ++ pieces_of T.cmp one.now others.now.merged) }
+    ensures { OnOk result ((pieces : List (Ends T)) × ArePieces T.cmp others.now.list one.now pieces
+        × (S.gathered into.new ≡ S.gathered into.old ++ pieces)) }
 {
     let (mut low, high) = one.ends();
     for number in others.first_above(low)..others.len() {

@@ -1,12 +1,12 @@
 //! A list of spans together with its merged spans, which are kept as places in the list.
 //!
 //! `#[inline]`: the functions copy two slices or read one element, and are in the loops of walks and searches.
-ghost use Rattle.std.specs.Prelude.{◌≡◌, ◌<◌, ◌≤◌, ◌+◌, ◌∷◌, IsTrue, length, drop};
+ghost use Rattle.std.specs.Prelude.{◌≡◌, ◌<◌, ◌+◌, ◌∷◌, IsTrue, length, drop};
 ghost use Rattle.semver_cuts.specs.Ends.{span_between};
 ghost use Rattle.semver_cuts.specs.Joined.{AreJoined, AreMerged};
 ghost use Rattle.semver_cuts.specs.Places.{AreWithin, IsPlacesOf, merged_spans, span_of_places};
 ghost use Rattle.semver_cuts.specs.Starts.{count_of_starts};
-ghost use Rattle.semver_cuts.specs.Private.Difference.{ending_above};
+ghost use Rattle.semver_cuts.specs.Private.FirstAbove.{IsFirstAbove};
 
 use crate::algebra::places::Places;
 use crate::{Cut, Span};
@@ -120,8 +120,7 @@ impl<'a, 'p, T: Ord> MergedSpans<'a, 'p, T> {
 
     // Returns the number of the first merged span that ends above the cut, found by binary search.
     pub(crate) fn first_above(&self, cut: &Cut<T>) -> usize
-        ensures place { result ≤ length self.now.merged }
-        ensures above { drop result self.now.merged ≡ ending_above T.cmp cut.now self.now.merged }
+        ensures { IsFirstAbove T.cmp self.now.merged cut.now result }
     {
         let mut low = 0;
         let mut high = self.len();

@@ -1,10 +1,9 @@
 //! A search for the first span that ends above a cut, in a list of spans that are apart. It begins near a place.
 //!
 //! `#[inline]`: it is called once for each span of a list, and the first test usually succeeds.
-ghost use Rattle.std.specs.Prelude.{◌≡◌, ◌≤◌, IsTrue, length, drop};
-ghost use Rattle.semver_cuts.specs.SpanLists.{AreApart};
-ghost use Rattle.semver_cuts.specs.Joined.{AreRising};
-ghost use Rattle.semver_cuts.specs.Private.Difference.{ending_above};
+ghost use Rattle.std.specs.Prelude.{IsTrue};
+ghost use Rattle.semver_cuts.specs.Joined.{AreMerged};
+ghost use Rattle.semver_cuts.specs.Private.FirstAbove.{IsFirstAbove};
 
 use crate::algebra::merged::MergedSpans;
 use crate::{Cut, Span};
@@ -13,10 +12,8 @@ use crate::{Cut, Span};
 // search.
 #[inline]
 pub(crate) fn first_near<T: Ord>(spans: &[Span<T>], place: usize, cut: &Cut<T>) -> usize
-    requires apart { AreApart T.cmp spans.now }
-    requires rising { AreRising T.cmp spans.now }
-    ensures place { result ≤ length spans.now }
-    ensures above { drop result spans.now ≡ ending_above T.cmp cut.now spans.now }
+    requires { AreMerged T.cmp spans.now }
+    ensures { IsFirstAbove T.cmp spans.now cut.now result }
 {
     if is_first_above(spans, place, cut) {
         return place;
@@ -31,10 +28,8 @@ pub(crate) fn first_near<T: Ord>(spans: &[Span<T>], place: usize, cut: &Cut<T>) 
 // Returns `true` only if the span at the place is the first that ends above the cut.
 #[inline]
 fn is_first_above<T: Ord>(spans: &[Span<T>], place: usize, cut: &Cut<T>) -> bool
-    requires apart { AreApart T.cmp spans.now }
-    requires rising { AreRising T.cmp spans.now }
-    ensures place { IsTrue result → place ≤ length spans.now }
-    ensures above { IsTrue result → drop place spans.now ≡ ending_above T.cmp cut.now spans.now }
+    requires { AreMerged T.cmp spans.now }
+    ensures { IsTrue result → IsFirstAbove T.cmp spans.now cut.now place }
 {
     if place >= spans.len() || *spans[place].upper() <= *cut {
         return false;

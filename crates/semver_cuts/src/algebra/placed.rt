@@ -1,14 +1,12 @@
 //! The spans of a list with their places, sorted by their lower ends.
-ghost use Rattle.std.specs.Prelude.{◌≡◌, ◌∷◌, [], OnOk, IfOk};
+ghost use Rattle.std.specs.Prelude.{◌≡◌, ◌∷◌, [], IfOk};
 ghost use Rattle.std.proofs.Common.{refl};
 ghost use Rattle.std.specs.Cmp.{eq_by_cmp_equiv, nat_cmp_total, on_total, partial_equiv_from_equiv};
 ghost use Rattle.std.specs.Cmp.{partial_order_from_total, then_total};
-ghost use Rattle.std.specs.List.Sorted.{IsPermutation, IsSorted};
 ghost use Rattle.std.specs.Ordering.{as_partial_cmp, eq_by_cmp};
 ghost use Rattle.semver_cuts.specs.Ends.{IsCutBelow, span_between};
 ghost use Rattle.semver_cuts.specs.Lemmas.Placed.{placed_total};
-ghost use Rattle.semver_cuts.specs.Joined.{AreRising};
-ghost use Rattle.semver_cuts.specs.Private.Placed.{PlacedSpan, placed_cmp, placed_from};
+ghost use Rattle.semver_cuts.specs.Private.Placed.{AreSorted, PlacedSpan, placed_cmp};
 
 use crate::{Cut, Span};
 use std::alloc::{AllocError, Global};
@@ -93,9 +91,7 @@ pub(crate) fn in_order<'a, T: Ord>(
     alloc: Global,
     spans: &'a [Span<T>],
 ) -> Result<Vec<Placed<'a, T>>, AllocError>
-    ensures same { IfOk result (λ order. IsPermutation (placed_from 0 spans.now) order.items) }
-    ensures sorted { IfOk result (λ order. IsSorted (placed_cmp T.cmp) order.items) }
-    ensures rising { OnOk result (AreRising T.cmp spans.now) }
+    ensures { IfOk result (λ order. AreSorted T.cmp spans.now order.items) }
 {
     let mut order = Vec::with_capacity(alloc, spans.len())?;
     for (place, span) in spans.iter().enumerate() {
@@ -109,9 +105,7 @@ pub(crate) fn in_order<'a, T: Ord>(
 // The same for a list of two spans. Does not allocate.
 #[inline]
 pub(crate) fn two_in_order<'a, T: Ord>(one: &'a Span<T>, other: &'a Span<T>) -> [Placed<'a, T>; 2]
-    ensures same { IsPermutation (placed_from 0 (one.now ∷ other.now ∷ [])) result }
-    ensures sorted { IsSorted (placed_cmp T.cmp) result }
-    ensures rising { AreRising T.cmp (one.now ∷ other.now ∷ []) }
+    ensures { AreSorted T.cmp (one.now ∷ other.now ∷ []) result }
 {
     let _one = one.ends();
     let _other = other.ends();

@@ -1,12 +1,13 @@
 //! The merged spans of a list, kept as places in that list.
 //!
 //! `#[inline]`: the functions make or return one slice.
-ghost use Rattle.std.specs.Prelude.{◌≡◌, ◌↔◌, ◌∷◌, [], IfOk, IsTrue};
+ghost use Rattle.std.specs.Prelude.{◌≡◌, ◌↔◌, ◌∷◌, [], List, IfOk, IsTrue};
 ghost use Rattle.std.specs.Ordering.{is_lt, nat_cmp, ordering_then};
 ghost use Rattle.semver_cuts.specs.Cut.{cut_cmp};
+ghost use Rattle.semver_cuts.specs.Ends.{Ends};
 ghost use Rattle.semver_cuts.specs.Joined.{AreMerged};
 ghost use Rattle.semver_cuts.specs.Places.{IsPlacesOf};
-ghost use Rattle.semver_cuts.specs.Private.Joining.{places_in_order};
+ghost use Rattle.semver_cuts.specs.Private.Placed.{AreJoinedAt, AreSorted};
 
 use crate::algebra::placed::{Placed, in_order, two_in_order};
 use crate::{Cut, Span};
@@ -142,7 +143,8 @@ fn places_in_order<T: Ord>(
     alloc: Global,
     order: &[Placed<T>],
 ) -> Result<Vec<(usize, usize)>, AllocError>
-    ensures { IfOk result (λ pairs. pairs.items ≡ places_in_order T.cmp order.now) }
+    ensures { IfOk result (λ pairs. (spans : List (Ends T)) → AreSorted T.cmp spans order.now
+        → AreJoinedAt T.cmp spans pairs.items) }
 {
     let Some((first, later)) = order.split_first() else {
         return Ok(Vec::new(alloc));

@@ -5,10 +5,10 @@ use Rattle.std.specs.Fmt.{decimal, digits}
 use Rattle.semver_cuts.specs.declared.cut.Cut.TheVariants.{Before}
 use Rattle.semver_cuts.specs.Ends.{Ends}
 use Rattle.semver_versions.specs.declared.TheConstants.{MAX_SAFE_INTEGER}
-use Rattle.semver_sets.specs.Comparator.{from_up_to, with_major, with_minor}
+use Rattle.semver_sets.specs.Comparator.{with_major}
 use Rattle.semver_sets.specs.Merging.{AreSetsOfText}
 use Rattle.semver_sets.specs.RangeSets.{IsRangeEnd}
-use Rattle.semver_versions.specs.Version.{VersionValue, least_of, release}
+use Rattle.semver_versions.specs.Version.{VersionValue, least_of}
 use Rattle.semver_sets.proofs.Examples.SetComputing.{merged-by, sets_in}
 
 -- the greatest number that a text may write, as it is written
@@ -40,36 +40,6 @@ major-reached v is = (
     has = refl;
   },
   is.major,
-)
-
--- `~0.9007199254740991`
-pub minor-reached : IsReachedBy (codes "~0." ++ greatest) (λ v. v.minor)
-unfolding sets_in digits
-minor-reached v is = (
-  MAX_SAFE_INTEGER + 1,
-  record {
-    set = with_minor 0 MAX_SAFE_INTEGER;
-    version = least_of 0 (MAX_SAFE_INTEGER + 1) 0;
-    written = merged-by _ _ refl;
-    upper = refl;
-    has = refl;
-  },
-  is.minor,
-)
-
--- `^0.0.9007199254740991`
-pub patch-reached : IsReachedBy (codes "^0.0." ++ greatest) (λ v. v.patch)
-unfolding sets_in digits
-patch-reached v is = (
-  MAX_SAFE_INTEGER + 1,
-  record {
-    set = from_up_to (release 0 0 MAX_SAFE_INTEGER) (least_of 0 0 (MAX_SAFE_INTEGER + 1));
-    version = least_of 0 0 (MAX_SAFE_INTEGER + 1);
-    written = merged-by _ _ refl;
-    upper = refl;
-    has = refl;
-  },
-  is.patch,
 )
 
 -- one more is no number of a range text: the word is ignored

@@ -1,5 +1,5 @@
 -- Worked examples: what some texts mean, on both sides. Each is computed over the definitions.
-use Rattle.std.proofs.Common.{◌≡◌, ℕ, List, [], ◌∷◌, ◌++◌, Some, refl, codes}
+use Rattle.std.proofs.Common.{◌≡◌, ℕ, List, [], ◌∷◌, Some, refl, codes}
 use Rattle.semver_sets.specs.Comparator.{above, at_least, below, exactly, with_major}
 use Rattle.semver_versions.specs.IdentifierValue.{IdentifierValue, alphanumeric, numeric}
 use Rattle.semver_sets.specs.Meaning.{IsRefused, TextAdmits}
@@ -10,20 +10,6 @@ use Rattle.semver_sets.proofs.Examples.RangeComputing.{turns_away-by, written-by
 -- `1.2.3-rc.4` is `prerelease 1 2 3 (text "rc" ∷ numeric 4 ∷ [])`
 abbrev prerelease : ℕ → ℕ → ℕ → List IdentifierValue → VersionValue
 prerelease m n p identifiers = record (release m n p) { pre_release = identifiers }
-
--- `>=1.2.3 <2.0.0`
-two_ends : alternatives_in (codes ">=1.2.3 <2.0.0")
-    ≡ Some ((at_least (release 1 2 3) ∷ below (release 2 0 0) ∷ []) ∷ [])
-unfolding alternatives_in
-two_ends = refl
-
--- `>=1.2.3 <2.0.0` admits 1.9.0
-pub two_ends-admits : TextAdmits (codes ">=1.2.3 <2.0.0") (release 1 9 0)
-two_ends-admits = admits-by _ _ _ (written-by _ _ two_ends) refl
-
--- `>=1.2.3 <2.0.0` does not admit 2.0.0
-pub two_ends-turns_away : ¬ TextAdmits (codes ">=1.2.3 <2.0.0") (release 2 0 0)
-two_ends-turns_away = turns_away-by _ _ _ (written-by _ _ two_ends) refl
 
 -- `>=1.2.3-rc.4 <2.0.0`
 opened : alternatives_in (codes ">=1.2.3-rc.4 <2.0.0")
@@ -60,38 +46,7 @@ no_word = refl
 pub no_word-refused : IsRefused (codes "foo")
 no_word-refused = refused-by _ _ (written-by _ _ no_word) refl
 
--- the empty text
-no_text : alternatives_in (codes "") ≡ Some ([] ∷ [])
-unfolding alternatives_in
-no_text = refl
-
--- is refused
-pub no_text-refused : IsRefused (codes "")
-no_text-refused = refused-by _ _ (written-by _ _ no_text) refl
-
--- `>=1.2.3` with a newline, which is no blank
-newline : alternatives_in (codes ">=1.2.3" ++ 10 ∷ []) ≡ Some ([] ∷ [])
-unfolding alternatives_in
-newline = refl
-
--- is refused
-pub newline-refused : IsRefused (codes ">=1.2.3" ++ 10 ∷ [])
-newline-refused = refused-by _ _ (written-by _ _ newline) refl
-
 -- ---- alternatives
-
--- `1 || foo || 2`: the second alternative has no comparator
-three : alternatives_in (codes "1 || foo || 2") ≡ Some ((with_major 1 ∷ []) ∷ [] ∷ (with_major 2 ∷ []) ∷ [])
-unfolding alternatives_in
-three = refl
-
--- `1 || foo || 2` admits 1.5.0
-pub three-admits : TextAdmits (codes "1 || foo || 2") (release 1 5 0)
-three-admits = admits-by _ _ _ (written-by _ _ three) refl
-
--- `1 || foo || 2` does not admit 3.0.0: `foo` has no comparator
-pub three-turns_away : ¬ TextAdmits (codes "1 || foo || 2") (release 3 0 0)
-three-turns_away = turns_away-by _ _ _ (written-by _ _ three) refl
 
 -- `1 || - 10`: without the blank before it, ` - 10` is `-`, which is ignored, and `10`
 later_hyphen : alternatives_in (codes "1 || - 10") ≡ Some ((with_major 1 ∷ []) ∷ (with_major 10 ∷ []) ∷ [])
@@ -101,19 +56,6 @@ later_hyphen = refl
 -- `1 || - 10` does not admit 5.0.0
 pub later_hyphen-turns_away : ¬ TextAdmits (codes "1 || - 10") (release 5 0 0)
 later_hyphen-turns_away = turns_away-by _ _ _ (written-by _ _ later_hyphen) refl
-
--- `1|||2`: `1`, and `|2`, which is ignored
-odd_bars : alternatives_in (codes "1|||2") ≡ Some ((with_major 1 ∷ []) ∷ [] ∷ [])
-unfolding alternatives_in
-odd_bars = refl
-
--- `1|||2` admits 1.0.0
-pub odd_bars-admits : TextAdmits (codes "1|||2") (release 1 0 0)
-odd_bars-admits = admits-by _ _ _ (written-by _ _ odd_bars) refl
-
--- `1|||2` does not admit 2.0.0
-pub odd_bars-turns_away : ¬ TextAdmits (codes "1|||2") (release 2 0 0)
-odd_bars-turns_away = turns_away-by _ _ _ (written-by _ _ odd_bars) refl
 
 -- `1.2.3-a || >=1`
 one_opens : alternatives_in (codes "1.2.3-a || >=1")

@@ -13,7 +13,7 @@ use Rattle.semver_sets.specs.Comparator.{Comparator, above, at_least, at_most, b
 use Rattle.semver_versions.specs.Comparison.{version_cmp}
 use Rattle.semver_sets.specs.Division.{IsAlternative}
 use Rattle.semver_versions.specs.Characters.{IsCleanEnd}
-use Rattle.semver_versions.specs.Lemmas.Order.{version_total}
+use Rattle.semver_versions.specs.Lemmas.Public.{IsTextVersion, begins-append, version_total}
 use Rattle.semver_sets.specs.Merging.{IsSetOf}
 use Rattle.semver_sets.specs.Operators.{greater, greater_or_equal, less, less_or_equal}
 use Rattle.semver_versions.specs.Print.{version_text}
@@ -23,10 +23,8 @@ use Rattle.semver_versions.specs.Version.{VersionValue}
 use Rattle.semver_sets.specs.Private.WordReading.{is_not_blank}
 use Rattle.semver_sets.specs.Lemmas.Merging.{set-one, set-push}
 use Rattle.semver_sets.proofs.Words.NoBars.{HasNoBar, none-append}
-use Rattle.semver_versions.specs.Lemmas.Texts.Prefixes.{begins-append}
 use Rattle.semver_versions.specs.ReadingBack.{HasTextNumbers}
 use Rattle.semver_sets.specs.ReadingBack.{IsPlainlyBounded, IsTextCut, IsUnbounded}
-use Rattle.semver_versions.specs.Lemmas.Versions.PrintReading.{IsTextVersion}
 use Rattle.semver_sets.proofs.Prints.WordPrintReading.{IsPrintedWord, operator-word, solid-begins, version-word}
 
 -- ---- one word and two

@@ -9,7 +9,8 @@ use Rattle.semver_sets.specs.Division.{IsSimpleText, IsWord, NoneAt, by_operator
 use Rattle.semver_versions.specs.Characters.{IsCleanEnd}
 use Rattle.semver_sets.specs.HyphenRanges.{IsHyphenText}
 use Rattle.semver_sets.specs.Operators.{Operator, equal, greater, greater_or_equal, less, less_or_equal}
-use Rattle.semver_sets.specs.Operators.{operator_comparator, operator_text}
+use Rattle.semver_sets.specs.Forms.{by_row}
+use Rattle.semver_sets.specs.Operators.{operator_row, operator_text}
 use Rattle.semver_sets.specs.PartialText.{IsPartialText, IsUnmarkedPartial, Partial, three}
 use Rattle.semver_versions.specs.Print.{version_text}
 use Rattle.semver_versions.specs.Version.{VersionValue}
@@ -19,10 +20,9 @@ use Rattle.semver_sets.proofs.Words.HyphenReading.{left-ends, right-none}
 use Rattle.semver_sets.proofs.Words.LeadReading.{lead-not_partial, lead-operator}
 use Rattle.semver_sets.proofs.Words.NoBars.{HasNoBar, simple-none}
 use Rattle.semver_sets.proofs.Words.PartialReading.{partial-again}
-use Rattle.semver_versions.specs.Lemmas.Texts.Prefixes.{begins-append}
+use Rattle.semver_versions.specs.Lemmas.Public.{IsTextVersion, begins-append, digit-no_blank, print-begins}
+use Rattle.semver_versions.specs.Lemmas.Public.{three-printed, unmarked}
 use Rattle.semver_sets.proofs.Words.WordLemmas.{hyphen-with_left, no-hyphen, right-no_blank}
-use Rattle.semver_versions.specs.Lemmas.Texts.Characters.{digit-no_blank}
-use Rattle.semver_versions.specs.Lemmas.Versions.PrintReading.{IsTextVersion, print-begins, three-printed, unmarked}
 
 -- ---- the print of a version as a partial
 
@@ -113,7 +113,7 @@ operator-no_hyphen o behind ends =
 -- an operator and the print of a version: `>=1.2.3`
 pub operator-word : (o : Operator) (v : VersionValue) (rest : List ℕ) (c : Comparator) → IsTextVersion v
     → IsCleanEnd rest
-    → Some c ≡ operator_comparator o (partial_of v) → IsPrintedWord (operator_text o ++ version_text v) rest c
+    → Some c ≡ by_row (operator_row o) (partial_of v) → IsPrintedWord (operator_text o ++ version_text v) rest c
 operator-word o v rest c is clean says =
     let text = operator_text o ++ version_text v in
     let written : IsSimpleText text (Some c) =

@@ -7,11 +7,11 @@ use Rattle.semver_sets.specs.Comparator.{Comparator}
 use Rattle.semver_sets.specs.Division.{AreAlternatives, AreLaterAlternatives, IsAlternative, IsLaterAlternative}
 use Rattle.semver_sets.specs.Division.{IsPieces, IsWritten}
 use Rattle.semver_sets.specs.Private.PieceReading.{piece_at}
-use Rattle.semver_versions.specs.Readers.Reading.{prefix_of, rest_of}
+use Rattle.semver_versions.specs.Reading.{prefix_of, rest_of}
 use Rattle.semver_sets.proofs.Ranges.DivisionLemmas.{alternative-exists, alternative-unique}
 use Rattle.semver_sets.proofs.Ranges.PieceLemmas.{before-more, piece-first, piece-last, piece-shorter, pieces-exist}
 use Rattle.semver_sets.proofs.Ranges.PieceLemmas.{pieces-unique}
-use Rattle.semver_versions.specs.Lemmas.Texts.Prefixes.{prefix_of-all, prefix_of-rest_of, rest_of-again, rest_of-no}
+use Rattle.semver_versions.specs.Lemmas.Public.{prefix_of-all, prefix_of-rest_of, rest_of-again, rest_of-no}
 
 -- ---- a piece after the first
 

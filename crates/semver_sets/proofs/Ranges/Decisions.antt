@@ -9,7 +9,7 @@ use Rattle.semver_cuts.specs.Lemmas.Ends.{below-from_lt, lt-from_below}
 use Rattle.semver_cuts.specs.Lemmas.TwoSpans.{holds-below}
 use Rattle.semver_sets.specs.Comparator.{Comparator}
 use Rattle.semver_versions.specs.Comparison.{version_cmp}
-use Rattle.semver_versions.specs.Lemmas.Order.{version_total}
+use Rattle.semver_versions.specs.Lemmas.Public.{version_total}
 use Rattle.semver_sets.specs.Meaning.{GiveSet, IsRefused, TextAdmits}
 use Rattle.semver_versions.specs.Version.{VersionValue}
 use Rattle.semver_sets.proofs.Ranges.AlternativeLemmas.{written-exists}

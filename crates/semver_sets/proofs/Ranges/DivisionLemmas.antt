@@ -6,14 +6,15 @@ use Rattle.std.proofs.lemmas.List.{append-nil}
 use Rattle.semver_versions.specs.Characters.{AreAll, BeginsWith, BeginsWithNo, is_blank}
 use Rattle.semver_sets.specs.Comparator.{Comparator}
 use Rattle.semver_sets.specs.Division.{IsAlternative, IsDivision, IsWord, comparators_of}
-use Rattle.semver_versions.specs.Readers.Reading.{prefix_of, rest_of, skip_one}
+use Rattle.semver_versions.specs.Reading.{prefix_of, rest_of, skip_one}
 use Rattle.semver_sets.specs.Private.WordReading.{ReadPartial, Word, leading_or_none, read_component, read_components}
 use Rattle.semver_sets.specs.Private.WordReading.{read_hyphen, read_lead, read_partial, read_right, read_simple}
 use Rattle.semver_sets.specs.Private.WordReading.{read_word}
 use Rattle.semver_sets.specs.Private.WordViews.{listed}
-use Rattle.semver_versions.specs.Lemmas.Texts.Prefixes.{prefix_of-all, prefix_of-begins, prefix_of-rest_of}
-use Rattle.semver_versions.specs.Lemmas.Texts.Prefixes.{rest_of-again}
-use Rattle.semver_versions.specs.Lemmas.Texts.Prefixes.{rest_of-no}
+use Rattle.semver_versions.specs.Lemmas.Public.{prefix_of-all, prefix_of-begins, prefix_of-rest_of}
+use Rattle.semver_versions.specs.Lemmas.Public.{rest_of-short}
+use Rattle.semver_versions.specs.Lemmas.Public.{rest_of-again}
+use Rattle.semver_versions.specs.Lemmas.Public.{rest_of-no}
 use Rattle.semver_sets.proofs.Words.WordLemmas.{HasWord, has-word, word-after_blanks, word-again, word-is, word-leading}
 
 -- ---- all words
@@ -48,14 +49,6 @@ divide-last : (text : List ℕ) (c : Option Comparator) → HasWord text c [] �
 divide-last text c w =
     subst (λ (l : List ℕ). IsWord l [] c) (sym (w.whole ∙ append-nil w.word)) w.is_word
 
-rest_of-length : (test : ℕ → Bool) (text : List ℕ) → length (rest_of test text) ≤ length text
-unfolding rest_of
-rest_of-length test [] = omega arith
-rest_of-length test (b ∷ rest) = elim (cases_Bool (test b)) [
-  | inl passes ↦ rw passes (let shorter = rest_of-length test rest in omega arith)
-  | inr stops ↦ rw stops (omega arith)
-]
-
 -- a text gets shorter by a word and the blanks after it
 pub rest-shorter : (text : List ℕ) (c : Option Comparator) (rest : List ℕ) → HasWord text c rest → 0 < length text
     → length (rest_of is_blank rest) < length text
@@ -63,7 +56,7 @@ unfolding rest_of
 rest-shorter text c [] w some = some
 rest-shorter text c (b ∷ rest) w some =
     let skipped : rest_of is_blank (b ∷ rest) ≡ rest_of is_blank rest = rw w.clean refl in
-    let shorter : length (rest_of is_blank rest) ≤ length rest = rest_of-length is_blank rest in
+    let shorter : length (rest_of is_blank rest) ≤ length rest = rest_of-short is_blank rest in
     let whole : length text ≡ length (w.word ++ (b ∷ rest)) = ap length w.whole in
     rw skipped (omega (arith, length-append w.word (b ∷ rest)))
 

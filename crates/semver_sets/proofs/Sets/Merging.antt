@@ -13,7 +13,7 @@ use Rattle.semver_versions.specs.Comparison.{version_cmp}
 use Rattle.semver_sets.specs.Merging.{IsSetOf}
 use Rattle.semver_sets.specs.Private.RangeViews.{IsCommonSpan, IsNarrowed, common_seen}
 use Rattle.semver_versions.specs.Version.{VersionValue}
-use Rattle.semver_versions.specs.Lemmas.Order.{version_total}
+use Rattle.semver_versions.specs.Lemmas.Public.{version_total}
 use Rattle.semver_sets.specs.Lemmas.Merging.{set-one, set-push}
 
 -- nothing is below the start

@@ -12,7 +12,7 @@ use Rattle.std.proofs.lemmas.List.{append-nil, get_or_default, take-append-drop,
 use Rattle.std.proofs.lemmas.List.Elements.{filter-append}
 use Rattle.std.proofs.lemmas.List.Sorted.{searchable_from_sorted}
 use Rattle.semver_cuts.specs.Lemmas.Lists.{all-append}
-use Rattle.semver_versions.specs.Lemmas.Order.{triple_total}
+use Rattle.semver_versions.specs.Lemmas.Public.{triple_total}
 use Rattle.semver_versions.specs.Version.{VersionValue}
 use Rattle.semver_sets.specs.Private.SearchViews.{is_opening_of, same_triples}
 use Rattle.semver_versions.specs.Triple.{triple_cmp, triple_of}

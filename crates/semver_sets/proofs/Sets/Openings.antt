@@ -25,7 +25,7 @@ use Rattle.semver_cuts.specs.Lemmas.Ends.{cut_cmp-refl}
 use Rattle.semver_versions.specs.Comparison.{version_cmp}
 use Rattle.semver_versions.specs.IdentifierValue.{IdentifierValue}
 use Rattle.semver_sets.specs.Meaning.{HasOpenEnd, IsInside, Opens, RangeAdmits, SetAdmits}
-use Rattle.semver_versions.specs.Lemmas.Order.{version_total}
+use Rattle.semver_versions.specs.Lemmas.Public.{version_total}
 use Rattle.semver_sets.specs.Searching.{IsShortSearch, count_of_opening, has_identifiers, has_open_end, has_same_triple}
 use Rattle.semver_sets.specs.Searching.{opens}
 use Rattle.semver_versions.specs.Version.{HasSameTriple, IsPrerelease, VersionValue}
@@ -121,11 +121,6 @@ named-at : (place : ℕ) (v : VersionValue) (o : Option Triple) → named v (ope
 unfolding fits named place-if
 named-at place v None = refl
 named-at place v (Some t) = one-if place t v (same_triples t (triple_of v)) refl
-
-joined-same : (place : ℕ) (a : Bool) → place-if place a ++ [] ≡ place-if place (a || a)
-unfolding place-if
-joined-same place true = refl
-joined-same place false = refl
 
 joined-apart : (place : ℕ) (a b : Bool) → ¬ (IsTrue a × IsTrue b)
     → place-if place a ++ place-if place b ≡ place-if place (a || b)

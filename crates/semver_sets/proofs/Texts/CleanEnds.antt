@@ -7,8 +7,8 @@ use Rattle.semver_versions.specs.Characters.{BeginsWith, BeginsWithNo, dot, is_b
 use Rattle.semver_versions.specs.Characters.{IsCleanEnd}
 use Rattle.semver_sets.specs.PartialText.{Partial}
 use Rattle.semver_sets.specs.Private.WordReading.{ReadPartial, up_to_clean}
-use Rattle.semver_versions.specs.Readers.Reading.{is_clean_end}
-use Rattle.semver_versions.specs.Lemmas.Texts.Characters.{blank-cases}
+use Rattle.semver_versions.specs.Reading.{is_clean_end}
+use Rattle.semver_versions.specs.Lemmas.Public.{blank-cases}
 
 -- the test of a clean end, and the fact
 pub clean-true : (rest : List ℕ) → is_clean_end rest ≡ true → IsCleanEnd rest

@@ -6,7 +6,7 @@ use Rattle.semver_cuts.specs.declared.cut.Cut.TheVariants.{Before, After, End}
 use Rattle.semver_cuts.specs.Ends.{Ends}
 use Rattle.semver_versions.specs.Comparison.{version_cmp}
 use Rattle.semver_versions.specs.Print.{version_text}
-use Rattle.semver_versions.specs.Lemmas.Texts.LineText.{whole_text}
+use Rattle.semver_versions.specs.Lemmas.Public.{whole_text}
 use Rattle.semver_sets.specs.RangePrint.{both_text, ends_text, set_text}
 use Rattle.semver_versions.specs.Version.{VersionValue}
 

@@ -9,13 +9,13 @@ use Rattle.semver_sets.specs.Comparator.{Comparator}
 use Rattle.semver_versions.specs.Characters.{IsCleanEnd}
 use Rattle.semver_sets.specs.HyphenRanges.{IsHyphenText, IsLeftText, hyphen_comparator}
 use Rattle.semver_sets.specs.PartialText.{IsPartialText, Partial}
-use Rattle.semver_versions.specs.Readers.Reading.{begins, prefix_of, rest_of}
+use Rattle.semver_versions.specs.Reading.{begins, prefix_of, rest_of}
 use Rattle.semver_sets.specs.Private.WordReading.{ReadPartial, Word, or_else, read_hyphen, read_partial, read_right}
 use Rattle.semver_sets.specs.Private.WordReading.{right_at, said_hyphen, with_left}
 use Rattle.semver_sets.proofs.Texts.CleanEnds.{blanks-clean, true-clean, up_to_clean-takes}
 use Rattle.semver_sets.proofs.Words.PartialReading.{partial-again, partial-no, partial-takes, partial-unblanked}
-use Rattle.semver_versions.specs.Lemmas.Texts.Prefixes.{begins-append, begins-with, prefix_of-all, prefix_of-begins}
-use Rattle.semver_versions.specs.Lemmas.Texts.Prefixes.{prefix_of-rest_of, rest_of-again, rest_of-all, with-begins}
+use Rattle.semver_versions.specs.Lemmas.Public.{begins-append, begins-with, prefix_of-all, prefix_of-begins}
+use Rattle.semver_versions.specs.Lemmas.Public.{prefix_of-rest_of, rest_of-again, rest_of-all, with-begins}
 
 -- ---- from the blanks before a hyphen on
 

@@ -16,7 +16,7 @@ use Rattle.semver_sets.specs.Operators.{Operator, equal, greater, greater_or_equ
 use Rattle.semver_sets.specs.PartialText.{IsComponentText, IsLed, IsPartialText, IsUnmarkedPartial, Partial, one, three}
 use Rattle.semver_sets.specs.PartialText.{two}
 use Rattle.semver_sets.specs.TildeRanges.{with_tilde, with_tilde_greater}
-use Rattle.semver_versions.specs.Lemmas.Texts.IdentifierReading.{parts-dot, parts-other, parts-shape}
+use Rattle.semver_versions.specs.Lemmas.Public.{parts-dot, parts-other, parts-shape}
 
 -- ---- texts whose characters are all no `|`
 

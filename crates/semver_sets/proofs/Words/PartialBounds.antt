@@ -1,15 +1,13 @@
--- What a partial that is read holds, and the versions that are made of one.
-use Rattle.std.proofs.Common.{◌≤◌, ◌+◌, ℕ, List, [], ◌∷◌, Option, Some, None, arith, refl, sym, subst}
+-- What a partial that is read holds, and its version.
+use Rattle.std.proofs.Common.{◌≤◌, ℕ, List, Option, Some, None, arith, sym, subst}
 use Rattle.std.specs.Prelude.{unwrap_or}
 use Rattle.std.specs.List.{AllByRecursion}
 use Rattle.semver_versions.specs.declared.TheConstants.{MAX_SAFE_INTEGER}
-use Rattle.semver_versions.specs.IdentifierValue.{numeric}
 use Rattle.semver_sets.specs.PartialText.{IsComponentText, IsLed, IsPartialText, IsUnmarkedPartial, Partial, one}
 use Rattle.semver_sets.specs.PartialText.{plain_partial, three, two, zeroed}
 use Rattle.semver_versions.specs.IdentifierText.{IsReadIdentifier}
-use Rattle.semver_versions.specs.Lemmas.Versions.ReadIdentifiers.{build-read, prerelease-read}
-use Rattle.semver_sets.specs.RangeSets.{IsRangeEnd}
-use Rattle.semver_versions.specs.Version.{VersionValue, least_of, release, without_build}
+use Rattle.semver_versions.specs.Lemmas.Public.{build-read, prerelease-read}
+use Rattle.semver_sets.specs.Lemmas.Forms.{IsReadVersion}
 
 -- ---- partials
 
@@ -55,13 +53,12 @@ partial-read text p is = unmarked-read is.unmarked p is.read
 pub led-read : (lead text : List ℕ) (p : Partial) → IsLed lead text p → IsReadPartial p
 led-read lead text p is = partial-read is.operand p is.read
 
--- ---- versions
-
-pub or-zero : (component : Option ℕ) → IsReadComponent component → unwrap_or component 0 ≤ MAX_SAFE_INTEGER + 1
+-- the version of a partial
+or-zero : (component : Option ℕ) → IsReadComponent component → unwrap_or component 0 ≤ MAX_SAFE_INTEGER
 or-zero None is = omega arith
-or-zero (Some number) is = omega arith
+or-zero (Some number) is = is
 
-pub zeroed-read : (p : Partial) → IsReadPartial p → IsRangeEnd (zeroed p)
+pub zeroed-read : (p : Partial) → IsReadPartial p → IsReadVersion (zeroed p)
 zeroed-read p is = record {
   major = or-zero p.major is.major;
   minor = or-zero p.minor is.minor;
@@ -69,18 +66,3 @@ zeroed-read p is = record {
   pre_release = is.pre_release;
   build = is.build;
 }
-
-pub without_build-read : (v : VersionValue) → IsRangeEnd v → IsRangeEnd (without_build v)
-without_build-read v is =
-    record { major = is.major; minor = is.minor; patch = is.patch; pre_release = is.pre_release; build = tt }
-
-pub release-read : (m n p : ℕ) → m ≤ MAX_SAFE_INTEGER + 1 → n ≤ MAX_SAFE_INTEGER + 1 → p ≤ MAX_SAFE_INTEGER + 1
-    → IsRangeEnd (release m n p)
-release-read m n p a b c = record { major = a; minor = b; patch = c; pre_release = tt; build = tt }
-
-zero-read : IsReadIdentifier (numeric 0)
-zero-read = (48 ∷ [], (refl, refl), refl)
-
-pub least-read : (m n p : ℕ) → m ≤ MAX_SAFE_INTEGER + 1 → n ≤ MAX_SAFE_INTEGER + 1 → p ≤ MAX_SAFE_INTEGER + 1
-    → IsRangeEnd (least_of m n p)
-least-read m n p a b c = record { major = a; minor = b; patch = c; pre_release = (zero-read, tt); build = tt }

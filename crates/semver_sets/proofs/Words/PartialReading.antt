@@ -6,13 +6,11 @@ use Rattle.std.specs.Prelude.{◌==◌, ◌||◌}
 use Rattle.semver_versions.specs.Characters.{BeginsWith, BeginsWithNo, dot, is_blank, is_digit, is_partial_mark, is_x}
 use Rattle.semver_versions.specs.Characters.{IsCleanEnd}
 use Rattle.semver_sets.specs.PartialText.{IsComponentText, IsPartialText, IsUnmarkedPartial, Partial, one, three, two}
-use Rattle.semver_versions.specs.Readers.Reading.{rest_of, skip_one}
+use Rattle.semver_versions.specs.Reading.{rest_of, skip_one}
 use Rattle.semver_sets.specs.Private.WordReading.{read_components, read_partial}
 use Rattle.semver_sets.proofs.Words.DottedReading.{components-again, components-takes, same-read}
-use Rattle.semver_versions.specs.Lemmas.Texts.Marks.{TakesMarked, marked-follows, marked-taken}
-use Rattle.semver_versions.specs.Lemmas.Texts.Prefixes.{begins-append, rest_of-none}
-use Rattle.semver_versions.specs.Lemmas.Versions.VersionReading.{begins-some}
-use Rattle.semver_versions.specs.Lemmas.Texts.Characters.{blank-cases}
+use Rattle.semver_versions.specs.Lemmas.Public.{TakesMarked, begins-append, begins-some, blank-cases, marked-follows}
+use Rattle.semver_versions.specs.Lemmas.Public.{marked-taken, rest_of-none}
 
 -- ---- the first character
 

@@ -1,32 +1,25 @@
 -- Partials, as the readers see them.
-use Rattle.std.proofs.Common.{◌≡◌, ◌≢◌, ◌<◌, ◌≤◌, ℕ, arith, ◌-◌, drop, get_or, length, take, true, List, [], ◌∷◌}
+use Rattle.std.proofs.Common.{◌≡◌, ◌≢◌, ◌<◌, ◌≤◌, ℕ, arith, ◌-◌, drop, get_or, length, take, Bool, true, false, List, [], ◌∷◌}
 use Rattle.std.proofs.Common.{Ok, Err, Option, Some, None, refl, subst, sym, ap, ◌∙◌}
+use Rattle.std.specs.Prelude.{unwrap_or}
 use Rattle.std.proofs.lemmas.Bool.{ne_eqb}
 use Rattle.std.proofs.lemmas.List.{take_all}
 use Rattle.semver_versions.specs.declared.TheConstants.{MAX_SAFE_INTEGER}
 use Rattle.semver_versions.specs.declared.parse.fault.Fault.{Fault}
-use Rattle.semver_versions.specs.Lemmas.Texts.CleanExtras.{clean_extras}
+use Rattle.semver_versions.specs.Lemmas.Public.{clean_extras, digit-begins_no_x, digit-no_blank}
+use Rattle.semver_versions.specs.Lemmas.Public.{digit-no_partial_mark, number-digit, number-takes}
 use Rattle.semver_versions.specs.Characters.{BeginsWith, BeginsWithNo, dot, is_blank, is_digit, is_partial_mark, is_x}
-use Rattle.semver_sets.specs.PartialText.{Partial, plain_partial}
+use Rattle.semver_sets.specs.PartialText.{Partial, plain_partial, zeroed}
+use Rattle.semver_sets.specs.Private.WordViews.{IsSound, number_if, partial_seen, written_seen}
+use Rattle.semver_sets.specs.declared.partial.Partial.{Partial as CodePartial}
 use Rattle.semver_sets.specs.Private.RangeViews.{IsFullNumbers}
 use Rattle.semver_versions.specs.Version.{release}
-use Rattle.semver_versions.specs.Readers.Reading.{read_dot, read_extras, read_number, read_triple, read_unmarked}
-use Rattle.semver_versions.specs.Readers.Reading.{read_version, rest_of, skip_one}
+use Rattle.semver_versions.specs.Reading.{read_extras, read_number}
+use Rattle.semver_versions.specs.Reading.{rest_of, skip_one}
 use Rattle.semver_sets.specs.Private.WordReading.{after_dot, read_component, read_components, read_from_minor}
 use Rattle.semver_sets.specs.Private.WordReading.{read_from_patch, read_partial, with_extras}
-use Rattle.semver_versions.specs.Lemmas.Texts.NumberReading.{number-takes}
-use Rattle.semver_versions.specs.Lemmas.Versions.LeadingTriple.{number-digit, version-begins}
-use Rattle.semver_versions.specs.Lemmas.Texts.Characters.{digit-begins_no_x, digit-no_blank, digit-no_partial_mark}
 
 -- ---- components
-
-pub no-x_first : (text : List ℕ)
-    → (0 < length text → (get_or text 0 0 ≢ 120) × (get_or text 0 0 ≢ 88) × (get_or text 0 0 ≢ 42))
-    → BeginsWithNo is_x text
-no-x_first [] h = tt
-no-x_first (b ∷ rest) h =
-    let n = h (omega arith) in
-    rw (ne_eqb b 120 n.0, ne_eqb b 88 n.1, ne_eqb b 42 n.2) refl
 
 -- the text after the first byte
 pub behind-first : (first : ℕ) (rest : List ℕ) → 0 < length rest → get_or rest 0 0 ≡ first
@@ -70,13 +63,6 @@ patch-none : (major minor : Option ℕ) (text : List ℕ) (p : Partial) → None
     → p ≡ with_extras major minor None (read_extras []).0 → Some (p, text) ≡ read_from_patch major minor text
 patch-none major minor text p none whole = rw (← none, whole, no-extras) refl
 
--- neither an x nor a number is no component
-pub no-component : (text : List ℕ) (fault : Fault) → BeginsWithNo is_x text → Err fault ≡ read_number text
-    → None ≡ read_component text
-unfolding read_component
-no-component [] fault x none = refl
-no-component (b ∷ text) fault x none = rw (x, ← none) refl
-
 -- one component, or two
 pub major-alone : (text rest : List ℕ) (major : Option ℕ) (p : Partial) → Some (major, rest) ≡ read_component text
     → None ≡ after_dot rest → p ≡ with_extras major None None (read_extras []).0 → Some (p, rest) ≡ read_components text
@@ -89,6 +75,19 @@ pub major-and-minor : (text behind second rest : List ℕ) (major minor : Option
 unfolding read_components
 major-and-minor text behind second rest major minor p one dotted two none whole =
     rw (← one, dotted, ← two) (patch-none major minor rest p none whole)
+
+-- ---- the version of a partial
+
+or-zero : (is_number : Bool) (number : ℕ) → (is_number ≡ false → number ≡ 0) → number ≡ unwrap_or (number_if is_number number) 0
+or-zero true number absent = refl
+or-zero false number absent = absent refl
+
+pub sound-version : (p : CodePartial) → IsSound p → written_seen p.version ≡ zeroed (partial_seen p)
+sound-version p is =
+    let major = or-zero p.has_major p.version.major is.no_major in
+    let minor = or-zero p.has_minor p.version.minor is.no_minor in
+    let patch = or-zero p.has_patch p.version.patch is.no_patch in
+    λ i. record (written_seen p.version) { major = major i; minor = minor i; patch = patch i }
 
 -- ---- full versions
 
@@ -104,7 +103,7 @@ pub number-component : (text rest : List ℕ) (number : ℕ) → Ok (number, res
 number-component text rest number h = component-number text rest number h
     (digit-begins_no_x text (number-digit text rest number h))
 
--- three numbers with dots between them, and nothing else: as components, as a version, and both
+-- three numbers with dots between them, and nothing else: as components, and as a partial
 module _ (text second third : List ℕ) (major minor patch : ℕ) (one : Ok (major, dot ∷ second) ≡ read_number text)
     (two : Ok (minor, dot ∷ third) ≡ read_number second) (three : Ok (patch, []) ≡ read_number third) where
   full-components : Some (plain_partial (Some major) (Some minor) (Some patch), []) ≡ read_components text
@@ -115,10 +114,6 @@ module _ (text second third : List ℕ) (major minor patch : ℕ) (one : Ok (maj
       let last = number-component third [] patch three in
       rw (← first, ← next, ← last, no-extras) refl
 
-  full-version : BeginsWith is_digit text → read_version text ≡ Ok (release major minor patch, [])
-  unfolding read_version read_unmarked read_triple read_dot
-  full-version digit = rw (version-begins text digit, ← one, ← two, ← three, no-extras) refl
-
   pub full-numbers : IsFullNumbers text major minor patch
   unfolding read_partial
   full-numbers =
@@ -126,10 +121,11 @@ module _ (text second third : List ℕ) (major minor patch : ℕ) (one : Ok (maj
       record {
         digit = digit;
         read = full-components ∙ ap read_components (sym (digit-begins text digit));
-        version = full-version digit;
-        major_limit = number-limit text (dot ∷ second) major one;
-        minor_limit = number-limit second (dot ∷ third) minor two;
-        patch_limit = number-limit third [] patch three;
+        limit = record {
+          major_limit = number-limit text (dot ∷ second) major one;
+          minor_limit = number-limit second (dot ∷ third) minor two;
+          patch_limit = number-limit third [] patch three;
+        };
       }
 
 -- the same by the first byte

@@ -9,15 +9,15 @@ use Rattle.semver_sets.specs.Division.{IsSimpleText, IsWord, NoneAt, hyphen_rang
 use Rattle.semver_versions.specs.Characters.{IsCleanEnd}
 use Rattle.semver_sets.specs.HyphenRanges.{IsHyphenText, hyphen_comparator}
 use Rattle.semver_sets.specs.PartialText.{Partial}
-use Rattle.semver_versions.specs.Readers.Reading.{prefix_of, rest_of}
+use Rattle.semver_versions.specs.Reading.{prefix_of, rest_of}
 use Rattle.semver_sets.specs.Private.WordReading.{ReadPartial, Word, is_not_blank, no_lead, or_else, or_ignored}
 use Rattle.semver_sets.specs.Private.WordReading.{read_hyphen, read_lead, read_operator, read_partial, read_right}
 use Rattle.semver_sets.specs.Private.WordReading.{read_simple, read_word, said, up_to_clean, with_left}
 use Rattle.semver_sets.proofs.Words.HyphenReading.{hyphen-again, hyphen-takes}
 use Rattle.semver_sets.proofs.Words.LeadReading.{lead-none}
 use Rattle.semver_sets.proofs.Words.PartialReading.{partial-unblanked}
-use Rattle.semver_versions.specs.Lemmas.Texts.Prefixes.{prefix_of-all, prefix_of-rest_of, rest_of-again, rest_of-no}
-use Rattle.semver_versions.specs.Lemmas.Texts.Prefixes.{with_no-begins}
+use Rattle.semver_versions.specs.Lemmas.Public.{prefix_of-all, prefix_of-rest_of, rest_of-again, rest_of-no}
+use Rattle.semver_versions.specs.Lemmas.Public.{with_no-begins}
 use Rattle.semver_sets.proofs.Words.SimpleReading.{simple-again, simple-takes}
 
 -- what begins with no solid character is the end or begins with a blank

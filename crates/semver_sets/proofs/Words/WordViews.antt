@@ -5,25 +5,22 @@ use Rattle.std.proofs.lemmas.Bool.{and_parts, cases_Bool, leb-true, ne_eqb}
 use Rattle.std.proofs.lemmas.Option.{same_Some}
 use Rattle.semver_versions.specs.Characters.{BeginsWithNo, is_blank, is_digit}
 use Rattle.semver_sets.specs.PartialText.{Partial}
-use Rattle.semver_versions.specs.Readers.Reading.{begins, read_number, rest_of, skip_one}
+use Rattle.semver_versions.specs.Reading.{begins, read_number, rest_of, skip_one}
 use Rattle.semver_sets.specs.Private.WordReading.{Lead, ReadPartial, Word, caret_lead, lead_comparator, no_lead, operator}
-use Rattle.semver_versions.specs.Readers.Reading.{is_clean_end}
+use Rattle.semver_versions.specs.Reading.{is_clean_end}
 use Rattle.semver_sets.specs.Private.WordReading.{is_not_blank, or_else, or_ignored, read_component}
 use Rattle.semver_sets.specs.Private.WordReading.{read_components, read_hyphen, read_lead, read_word}
 use Rattle.semver_sets.specs.Private.WordReading.{read_operator, read_partial, read_right, read_simple, said}
 use Rattle.semver_sets.specs.Private.WordReading.{said_hyphen, tilde_greater_lead, tilde_lead, up_to_clean, with_left}
-use Rattle.semver_sets.specs.Private.WordViews.{form_comparator, lead_seen}
+use Rattle.semver_sets.specs.Private.WordViews.{lead_seen, sides_comparator}
 use Rattle.semver_sets.specs.declared.word.Lead.{Lead as CodeLead}
 use Rattle.semver_sets.specs.declared.word.Lead.TheVariants.{Above, AtLeast, AtMost, Below, Caret, Equal, Plain}
 use Rattle.semver_sets.specs.declared.word.Lead.TheVariants.{Tilde, TildeGreater}
-use Rattle.semver_sets.specs.declared.word.ends.Form.{Form}
-use Rattle.semver_sets.specs.declared.word.ends.Form.TheVariants.{Above as FormAbove, AtLeast as FormAtLeast}
-use Rattle.semver_sets.specs.declared.word.ends.Form.TheVariants.{AtMost as FormAtMost, AtMostLeast, BareUpTo}
-use Rattle.semver_sets.specs.declared.word.ends.Form.TheVariants.{Below as FormBelow, BelowLeast, Equal as FormEqual}
-use Rattle.semver_sets.specs.declared.word.ends.Form.TheVariants.{Exactly, Nothing, Through, UpTo}
+use Rattle.semver_sets.specs.declared.word.ends.Sides.{Sides}
+use Rattle.semver_sets.specs.declared.word.ends.Sides.TheVariants as AllSides
 use Rattle.semver_versions.specs.Version.{VersionValue}
 use Rattle.semver_sets.proofs.Words.LeadReading.{lead-not_partial, lead-plain}
-use Rattle.semver_versions.specs.Lemmas.Texts.Prefixes.{with_no-begins}
+use Rattle.semver_versions.specs.Lemmas.Public.{with_no-begins}
 
 -- ---- leads
 
@@ -49,20 +46,20 @@ plain-seen Caret h = cc h
 
 -- ---- ends
 
--- every form but one has a comparator
-pub some-comparator : (f : Form) (v w : VersionValue) → (f ≡ Nothing → ⊥) → form_comparator f v w ≡ None → ⊥
-some-comparator Nothing v w other none = other refl
-some-comparator FormAtLeast v w other none = cc none
-some-comparator FormAbove v w other none = cc none
-some-comparator FormBelow v w other none = cc none
-some-comparator BelowLeast v w other none = cc none
-some-comparator FormAtMost v w other none = cc none
-some-comparator AtMostLeast v w other none = cc none
-some-comparator Exactly v w other none = cc none
-some-comparator FormEqual v w other none = cc none
-some-comparator UpTo v w other none = cc none
-some-comparator BareUpTo v w other none = cc none
-some-comparator Through v w other none = cc none
+-- all sides but one have a comparator
+pub some-comparator : (s : Sides) (v w : VersionValue) → (s ≡ AllSides.Nothing → ⊥) → sides_comparator s v w ≡ None → ⊥
+some-comparator AllSides.Nothing v w other none = other refl
+some-comparator AllSides.AtLeast v w other none = cc none
+some-comparator AllSides.Above v w other none = cc none
+some-comparator AllSides.Below v w other none = cc none
+some-comparator AllSides.BelowLeast v w other none = cc none
+some-comparator AllSides.AtMost v w other none = cc none
+some-comparator AllSides.AtMostLeast v w other none = cc none
+some-comparator AllSides.Exactly v w other none = cc none
+some-comparator AllSides.ExactlyBare v w other none = cc none
+some-comparator AllSides.UpTo v w other none = cc none
+some-comparator AllSides.BareUpTo v w other none = cc none
+some-comparator AllSides.Through v w other none = cc none
 
 -- ---- hyphens
 

@@ -4,14 +4,10 @@ use Rattle.semver_cuts.specs.declared.cut.Cut.TheVariants.{Start}
 use Rattle.semver_cuts.specs.Ends.{Ends, HoldsCut, IsCutBelow}
 use Rattle.semver_cuts.specs.Lemmas.TwoSpans.{holds-below}
 use Rattle.semver_versions.specs.Comparison.{version_cmp}
-use Rattle.semver_versions.specs.Lemmas.Order.{version_total}
+use Rattle.semver_versions.specs.Lemmas.Public.{version_total}
 use Rattle.semver_versions.specs.Version.{VersionValue}
 use Rattle.semver_sets.specs.Merging.{all_cuts}
 use Rattle.semver_sets.specs.RangeSets.{IsRangeSet, IsRangeValue}
-
--- the ends of a set that holds a cut are in order
-pub set-below : (set : Ends VersionValue) → IsRangeSet set → IsCutBelow version_cmp set.lower set.upper
-set-below set is = (holds-below version_total set).0 is.holds
 
 -- the set of all cuts holds the first one
 pub all_cuts-hold : HoldsCut version_cmp all_cuts

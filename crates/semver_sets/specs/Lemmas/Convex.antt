@@ -7,9 +7,9 @@ use Rattle.semver_cuts.specs.Ends.{IsCutAtMost, IsCutBelow}
 use Rattle.semver_versions.specs.Comparison.{version_cmp}
 use Rattle.semver_sets.specs.Meaning.{Opens}
 use Rattle.semver_versions.specs.Order.{IsBelow, IsSame}
-use Rattle.semver_versions.specs.Lemmas.Versions.Between.{prerelease-below, triple-back, triple-between}
+use Rattle.semver_versions.specs.Lemmas.Public.{Equal-version, Less-version, prerelease-below, triple-back}
+use Rattle.semver_versions.specs.Lemmas.Public.{triple-between}
 use Rattle.semver_versions.specs.Version.{HasSameTriple, IsPrerelease, VersionValue}
-use Rattle.semver_versions.specs.Lemmas.Order.{Equal-version, Less-version}
 
 pub from-cmp : (v w : VersionValue) → (version_cmp v w ≡ Less) ⊎ (version_cmp v w ≡ Equal) → IsBelow v w ⊎ IsSame v w
 from-cmp v w (inl e) = inl (Less-version v w e)

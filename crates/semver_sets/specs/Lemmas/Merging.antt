@@ -17,7 +17,7 @@ use Rattle.semver_versions.specs.Comparison.{version_cmp}
 use Rattle.semver_sets.specs.Meaning.{AnyByRecursion, GiveSet, HasOpenEnd, IsInside, Opens}
 use Rattle.semver_sets.specs.Merging.{AdmitsTheSame, AreSetsOf, HasOneSet, IsSetOf, LosesNothing, no_more, none, one_more}
 use Rattle.semver_versions.specs.Version.{IsPrerelease, VersionValue}
-use Rattle.semver_versions.specs.Lemmas.Order.{version_total}
+use Rattle.semver_versions.specs.Lemmas.Public.{version_total}
 use Rattle.semver_sets.specs.Lemmas.Convex.{convex-lower, convex-upper}
 
 -- ---- one comparator more

@@ -12,12 +12,11 @@ pub use Rattle.semver_sets.specs.Merging.{IsCommonSpan, IsSpanOf}
 use Rattle.semver_sets.specs.RangeSets.{IsRangeValue, sets_seen}
 use Rattle.semver_sets.specs.PartialText.{plain_partial}
 use Rattle.semver_versions.specs.Version.{VersionValue, release}
-use Rattle.semver_versions.specs.Readers.Reading.{read_version}
 use Rattle.semver_versions.specs.Characters.{BeginsWith, is_digit}
 use Rattle.semver_sets.specs.Private.PieceReading.{piece_at}
 use Rattle.semver_sets.specs.Private.WordViews.{listed}
-use Rattle.semver_sets.specs.Private.WordReading.{Lead, lead_comparator, read_partial}
-use Rattle.semver_versions.specs.declared.TheConstants.{MAX_SAFE_INTEGER}
+use Rattle.semver_sets.specs.Private.WordReading.{read_partial}
+use Rattle.semver_sets.specs.FullTexts.{AreInLimit}
 use Rattle.semver_sets.specs.declared.read.Unread.{Unread}
 use Rattle.semver_sets.specs.declared.read.Unread.TheVariants.{OutOfMemory, Refused}
 use Rattle.semver_sets.specs.declared.set_list.Sets.{Sets}
@@ -50,27 +49,11 @@ pub record IsOnlyComparator (text : List ℕ) (comparator : Comparator) : Type 0
   pub no_bars : ¬ HasBars text
   pub below : IsCutBelow version_cmp comparator.lower comparator.upper
 
--- the whole text is three numbers, as a partial and as a version
+-- the whole text is three numbers, as a partial
 pub record IsFullNumbers (text : List ℕ) (major minor patch : ℕ) : Type 0 where
   pub digit : BeginsWith is_digit text
   pub read : Some (plain_partial (Some major) (Some minor) (Some patch), []) ≡ read_partial text
-  pub version : read_version text ≡ Ok (release major minor patch, [])
-  pub major_limit : major ≤ MAX_SAFE_INTEGER
-  pub minor_limit : minor ≤ MAX_SAFE_INTEGER
-  pub patch_limit : patch ≤ MAX_SAFE_INTEGER
-
--- the comparator that a lead and three numbers give
-abbrev pub full_comparator : Lead → ℕ → ℕ → ℕ → Option Comparator
-full_comparator lead major minor patch = lead_comparator lead (plain_partial (Some major) (Some minor) (Some patch))
-
--- the whole text is a lead and three numbers, and this is its only comparator
-pub record IsFull (text : List ℕ) (lead : Lead) (major minor patch : ℕ) : Type 0 where
-  pub comparator : Comparator
-  pub written : full_comparator lead major minor patch ≡ Some comparator
-  pub only : IsOnlyComparator text comparator
-  pub major_limit : major ≤ MAX_SAFE_INTEGER
-  pub minor_limit : minor ≤ MAX_SAFE_INTEGER
-  pub patch_limit : patch ≤ MAX_SAFE_INTEGER
+  pub limit : AreInLimit major minor patch
 
 -- the set as a list, or the empty list
 abbrev pub listed_set : Option (Ends VersionValue) → List (Ends VersionValue)

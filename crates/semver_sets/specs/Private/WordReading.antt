@@ -7,11 +7,13 @@ use Rattle.semver_sets.specs.Comparator.{Comparator}
 use Rattle.semver_sets.specs.HyphenRanges.{hyphen_comparator}
 use Rattle.semver_versions.specs.IdentifierValue.{IdentifierValue}
 use Rattle.semver_sets.specs.Operators.{Operator, equal, greater, greater_or_equal, less}
-use Rattle.semver_sets.specs.Operators.{less_or_equal, operator_comparator, plain_comparator}
-use Rattle.semver_sets.specs.PartialText.{Partial, plain_partial, zeroed}
+use Rattle.semver_sets.specs.Operators.{less_or_equal, operator_row, plain_row}
+use Rattle.semver_sets.specs.Forms.{by_row}
+use Rattle.semver_sets.specs.declared.word.form.Form.{Form}
+use Rattle.semver_sets.specs.PartialText.{Partial, plain_partial}
 use Rattle.semver_sets.specs.TildeRanges.{tilde_greater_row, tilde_row}
-use Rattle.semver_versions.specs.Readers.Reading.{Read, begins, is_clean_end, read_extras, read_number, rest_of}
-use Rattle.semver_versions.specs.Readers.Reading.{skip_one}
+use Rattle.semver_versions.specs.Reading.{Read, begins, is_clean_end, read_extras, read_number, rest_of}
+use Rattle.semver_versions.specs.Reading.{skip_one}
 
 -- any character but a blank
 abbrev pub is_not_blank : ℕ → Bool
@@ -132,13 +134,17 @@ read_lead (b ∷ rest) =
     if b == tilde then tilde_at (rest_of is_blank rest) else
     operator_lead (read_operator (b ∷ rest)) (b ∷ rest)
 
+-- the row of a lead
+abbrev pub lead_row : Lead → (major minor patch : Option ℕ) → Option Form
+lead_row no_lead major minor patch = plain_row major minor patch
+lead_row (operator o) major minor patch = operator_row o major minor patch
+lead_row tilde_lead major minor patch = tilde_row major minor patch
+lead_row tilde_greater_lead major minor patch = tilde_greater_row major minor patch
+lead_row caret_lead major minor patch = caret_row major minor patch
+
 -- the comparator that a lead and a partial give
 abbrev pub lead_comparator : Lead → Partial → Option Comparator
-lead_comparator no_lead p = plain_comparator p
-lead_comparator (operator o) p = operator_comparator o p
-lead_comparator tilde_lead p = tilde_row p.major p.minor p.patch (zeroed p)
-lead_comparator tilde_greater_lead p = tilde_greater_row p.major p.minor p.patch (zeroed p)
-lead_comparator caret_lead p = caret_row p.major p.minor p.patch (zeroed p)
+lead_comparator lead p = by_row (lead_row lead) p
 
 -- ---- words
 

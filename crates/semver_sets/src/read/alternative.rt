@@ -9,7 +9,7 @@ ghost use Rattle.semver_cuts.specs.Ends.{span_between};
 ghost use Rattle.semver_cuts.specs.KeptEnds.{IsEarlierLeast, IsLaterGreatest};
 ghost use Rattle.semver_versions.specs.Characters.{BeginsWithNo, is_blank};
 ghost use Rattle.semver_versions.specs.Comparison.{version_cmp};
-ghost use Rattle.semver_versions.specs.Readers.Reading.{rest_of};
+ghost use Rattle.semver_versions.specs.Reading.{rest_of};
 ghost use Rattle.semver_sets.specs.Comparator.{Comparator};
 ghost use Rattle.semver_sets.specs.Merging.{IsCommonSpan, IsSpanOf};
 ghost use Rattle.semver_sets.specs.Private.RangeViews.{IsNarrowed, IsSetOfAlternative, IsSpanOfAlternative};
@@ -18,7 +18,7 @@ ghost use Rattle.semver_sets.specs.Private.WordReading.{leading_or_none, read_ri
 ghost use Rattle.semver_sets.specs.Private.WordViews.{ends_seen};
 
 use crate::word::{
-    Form, WordEnds, begins_comparator, read_leading_hyphen, read_word, skip_to_blank,
+    Sides, WordEnds, begins_comparator, read_leading_hyphen, read_word, skip_to_blank,
 };
 use semver_cuts::{Cut, Span};
 use semver_versions::end::EndVersion;
@@ -135,7 +135,7 @@ impl CommonSpan {
     fn narrow(&mut self, alloc: Global, word: WordEnds) -> Result<(), AllocError>
         ensures { OnOk result (IsNarrowed self.old (ends_seen word.entry) self.new) }
     {
-        if let Form::Nothing = word.form {
+        if let Sides::Nothing = word.sides {
             return Ok(());
         }
         let lower = word.lower_cut(alloc)?;

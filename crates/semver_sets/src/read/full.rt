@@ -2,16 +2,18 @@
 //! and its set is built at once. Each kind has a function of its own.
 //!
 //! `#[inline(always)]`: the numbers stay in registers, and the set is built in the place of the caller's result.
-ghost use Rattle.std.specs.Prelude.{◌≡◌, IfSome};
+ghost use Rattle.std.specs.Prelude.{◌≡◌, IfSome, IsTrue, Some};
 ghost use Rattle.semver_cuts.specs.Ends.{IsCutBelow};
-ghost use Rattle.semver_cuts.specs.declared.cut.Cut.TheVariants.{Before};
+ghost use Rattle.semver_cuts.specs.declared.cut.Cut.TheVariants.{After, Before};
 ghost use Rattle.semver_versions.specs.Comparison.{version_cmp};
 ghost use Rattle.semver_versions.specs.Version as Versions;
 ghost use Rattle.semver_sets.specs.Comparator as Comparators;
-ghost use Rattle.semver_sets.specs.FullTexts.{IsFullText, full_set};
+ghost use Rattle.semver_sets.specs.FullTexts as FullTexts;
+ghost use Rattle.semver_sets.specs.FullTexts.{AreInLimit, IsFullText};
 ghost use Rattle.semver_sets.specs.RangeSets.{IsRangeSet};
-ghost use Rattle.semver_sets.specs.declared.read.full.FullLead.TheVariants as Leads;
 
+pub use crate::word::form::Form;
+use crate::word::{caret_form, plain_form, tilde_form};
 use semver_cuts::{Cut, Span};
 use semver_versions::end::EndVersion;
 use semver_versions::parse::number::read_number;
@@ -27,9 +29,27 @@ pub enum FullLead {
     Nothing,
 }
 
-/// Returns `^` and the three numbers of `^1.2.3`, or `None` if the text has another form.
+/// Returns the form that the row of a lead gives for a full version, if [`full_set`] builds its set.
 #[inline(always)]
-pub fn read_full(text: &[u8]) -> Option<(FullLead, u64, u64, u64)>
+pub fn full_form(lead: FullLead, major: u64, minor: u64, patch: u64) -> Option<Form>
+    ensures row { IfSome result (λ form. FullTexts.full_form lead major minor patch ≡ Some form) }
+    ensures full { IfSome result (λ form. IsTrue (FullTexts.is_full_form form)) }
+{
+    let components = (Some(major), Some(minor), Some(patch));
+    let form = match lead {
+        FullLead::Caret => caret_form(components)?,
+        FullLead::Tilde => tilde_form(components)?,
+        FullLead::Nothing => plain_form(components)?,
+    };
+    match form {
+        Form::Exactly | Form::ToNextMajor | Form::ToNextMinor | Form::ToNextPatch => Some(form),
+        _ => None,
+    }
+}
+
+/// Returns the form and the three numbers of `^1.2.3`, or `None` if the text has to be read word by word.
+#[inline(always)]
+pub fn read_full(text: &[u8]) -> Option<(Form, u64, u64, u64)>
     ensures { IfSome result (λ f. IsFullText text.now f.0 f.1 f.2 f.3) }
 {
     let (lead, version) = match text {
@@ -43,45 +63,39 @@ pub fn read_full(text: &[u8]) -> Option<(FullLead, u64, u64, u64)>
     let Ok((minor, [b'.', rest @ ..])) = read_number(rest) else {
         return None;
     };
-    match read_number(rest) {
-        Ok((patch, [])) => Some((lead, major, minor, patch)),
-        _ => None,
+    let Ok((patch, [])) = read_number(rest) else {
+        return None;
+    };
+    let form = full_form(lead, major, minor, patch)?;
+    Some((form, major, minor, patch))
+}
+
+/// Returns the set of a form and a full version: `>=1.2.3 <2.0.0-0` for `^1.2.3`.
+#[inline(always)]
+pub fn full_set(form: Form, major: u64, minor: u64, patch: u64) -> Span<EndVersion>
+    requires full { IsTrue (FullTexts.is_full_form form) }
+    requires set { IsRangeSet (FullTexts.full_set form major minor patch) }
+    requires limit { AreInLimit major minor patch }
+    ensures { result ≡ FullTexts.full_set form major minor patch }
+{
+    let version = (major, minor, patch);
+    match form {
+        Form::ToNextMajor => set_up_to(version, (major + 1, 0, 0)),
+        Form::ToNextMinor => set_up_to(version, (major, minor + 1, 0)),
+        Form::ToNextPatch => set_up_to(version, (major, minor, patch + 1)),
+        _ => set_of_one(version),
     }
 }
 
-/// Returns the set of `^1.2.3`, `>=1.2.3 <2.0.0-0`. That of `^0.2.3` is `>=0.2.3 <0.3.0-0`, and that of `^0.0.3` is
-/// `>=0.0.3 <0.0.4-0`.
+// The set of one release: `>=1.2.3 <=1.2.3`
 #[inline(always)]
-pub fn caret_set(major: u64, minor: u64, patch: u64) -> Span<EndVersion>
-    requires { IsRangeSet (full_set Leads.Caret major minor patch) }
-    ensures { result ≡ full_set Leads.Caret major minor patch }
+fn set_of_one(version: (u64, u64, u64)) -> Span<EndVersion>
+    requires { let v = Versions.release version.0 version.1 version.2 in
+        IsCutBelow version_cmp (Before v) (After v) }
+    ensures { result ≡ Comparators.exactly (Versions.release version.0 version.1 version.2) }
 {
-    if major != 0 {
-        set_up_to((major, minor, patch), (major + 1, 0, 0))
-    } else if minor != 0 {
-        set_up_to((major, minor, patch), (0, minor + 1, 0))
-    } else {
-        set_up_to((major, minor, patch), (0, 0, patch + 1))
-    }
-}
-
-/// Returns the set of `~1.2.3`, `>=1.2.3 <1.3.0-0`.
-#[inline(always)]
-pub fn tilde_set(major: u64, minor: u64, patch: u64) -> Span<EndVersion>
-    requires { IsRangeSet (full_set Leads.Tilde major minor patch) }
-    ensures { result ≡ full_set Leads.Tilde major minor patch }
-{
-    set_up_to((major, minor, patch), (major, minor + 1, 0))
-}
-
-/// Returns the set of `1.2.3`, `>=1.2.3 <=1.2.3`.
-#[inline(always)]
-pub fn exact_set(major: u64, minor: u64, patch: u64) -> Span<EndVersion>
-    requires { IsRangeSet (full_set Leads.Nothing major minor patch) }
-    ensures { result ≡ full_set Leads.Nothing major minor patch }
-{
-    let lower = EndVersion::release(major, minor, patch);
-    let upper = EndVersion::release(major, minor, patch);
+    let lower = EndVersion::release(version.0, version.1, version.2);
+    let upper = EndVersion::release(version.0, version.1, version.2);
     Span::between(Cut::Before(lower), Cut::After(upper))
 }
 

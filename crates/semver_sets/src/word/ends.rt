@@ -1,14 +1,14 @@
 //! The ends of a comparator as its word writes them. Their versions are built only if the comparator is kept.
 //!
-//! All values are flat: one form, two triples and the text after them. `#[inline(always)]`: the constructors here only
+//! All values are flat: the sides, two triples and the text after them. `#[inline(always)]`: the constructors here only
 //! hand numbers on, and in registers if they are inlined.
-ghost use Rattle.std.specs.Prelude.{◌≡◌, ◌≤◌, IfOk, IfSome, None, Some};
+ghost use Rattle.std.specs.Prelude.{◌≡◌, IfOk, IfSome, None, Some};
+ghost use Rattle.semver_cuts.specs.declared.cut.Cut.TheVariants.{Before};
 ghost use Rattle.semver_sets.specs.Comparator as Comparators;
 ghost use Rattle.semver_versions.specs.Version as Versions;
-ghost use Rattle.semver_sets.specs.Private.WordViews.{ends_seen, form_comparator, written_seen};
+ghost use Rattle.semver_sets.specs.Private.WordViews.{HasUpperAlone, ends_seen, sides_comparator, with_lower, written_seen};
 
 use semver_cuts::Cut;
-use semver_versions::MAX_SAFE_INTEGER;
 use semver_versions::end::EndVersion;
 use semver_versions::identifier::borrowed::borrow_extras;
 use semver_versions::parse::is_clean_end;
@@ -23,9 +23,9 @@ pub(crate) struct WrittenVersion<'a> {
     pub(crate) extras: &'a [u8],
 }
 
-// The form of the two ends. If a form has one version, it is the lower one.
+// Which ends a comparator has, and how they are made of two versions. If there is one version, it is the lower one.
 #[derive(Clone, Copy)]
-pub(crate) enum Form {
+pub(crate) enum Sides {
     // no comparator
     Nothing,
     // `>=1.2.3`
@@ -43,7 +43,7 @@ pub(crate) enum Form {
     // `>=1.2.3+5 <=1.2.3+5`
     Exactly,
     // `>=1.2.3 <=1.2.3` of `1.2.3+5`
-    Equal,
+    ExactlyBare,
     // `>=1.2.3+5 <2.0.0-0`: below the least version of the upper triple
     UpTo,
     // `>=1.2.3 <2.0.0-0` of `1.2.3+5`
@@ -55,14 +55,14 @@ pub(crate) enum Form {
 // The two ends of a comparator, or no comparator.
 #[derive(Clone, Copy)]
 pub(crate) struct WordEnds<'a> {
-    pub(crate) form: Form,
+    pub(crate) sides: Sides,
     lower: WrittenVersion<'a>,
     upper: WrittenVersion<'a>,
 }
 
 // `1.2.3`
 #[inline(always)]
-#[tactic(auto, using(semver_versions::specs::Lemmas::Texts::ExtrasReading::no_extras))]
+#[tactic(auto, using(semver_versions::specs::Lemmas::Public::no_extras))]
 pub(crate) fn release(major: u64, minor: u64, patch: u64) -> WrittenVersion<'static>
     ensures { written_seen result ≡ Versions.release major minor patch }
 {
@@ -74,29 +74,34 @@ pub(crate) fn release(major: u64, minor: u64, patch: u64) -> WrittenVersion<'sta
     }
 }
 
-// The ends of a form with one version.
+// The ends of one version.
 #[inline(always)]
-pub(crate) fn of_one<'a>(form: Form, version: WrittenVersion<'a>) -> WordEnds<'a>
-    ensures { ends_seen result
-        ≡ form_comparator form (written_seen version.entry) (written_seen version.entry) }
+pub(crate) fn of_one<'a>(sides: Sides, version: WrittenVersion<'a>) -> WordEnds<'a>
+    ensures ends { ends_seen result
+        ≡ sides_comparator sides (written_seen version.entry) (written_seen version.entry) }
+    ensures sides { result.sides ≡ sides }
 {
     WordEnds {
-        form,
+        sides,
         lower: version,
         upper: version,
     }
 }
 
-// The ends of a form with two versions.
+// The ends of two versions.
 #[inline(always)]
 pub(crate) fn of_two<'a>(
-    form: Form,
+    sides: Sides,
     lower: WrittenVersion<'a>,
     upper: WrittenVersion<'a>,
 ) -> WordEnds<'a>
-    ensures { ends_seen result ≡ form_comparator form (written_seen lower.entry) (written_seen upper.entry) }
+    ensures { ends_seen result ≡ sides_comparator sides (written_seen lower.entry) (written_seen upper.entry) }
 {
-    WordEnds { form, lower, upper }
+    WordEnds {
+        sides,
+        lower,
+        upper,
+    }
 }
 
 // no comparator
@@ -104,23 +109,7 @@ pub(crate) fn of_two<'a>(
 pub(crate) fn nothing() -> WordEnds<'static>
     ensures { ends_seen result ≡ None }
 {
-    of_one(Form::Nothing, release(0, 0, 0))
-}
-
-// `<1.2.3-0`
-#[inline(always)]
-pub(crate) fn below_least(major: u64, minor: u64, patch: u64) -> WordEnds<'static>
-    ensures { ends_seen result ≡ Some (Comparators.below (Versions.least_of major minor patch)) }
-{
-    of_one(Form::BelowLeast, release(major, minor, patch))
-}
-
-// `<=1.2.3-0`
-#[inline(always)]
-pub(crate) fn at_most_least(major: u64, minor: u64, patch: u64) -> WordEnds<'static>
-    ensures { ends_seen result ≡ Some (Comparators.at_most (Versions.least_of major minor patch)) }
-{
-    of_one(Form::AtMostLeast, release(major, minor, patch))
+    of_one(Sides::Nothing, release(0, 0, 0))
 }
 
 // `>=1.2.3+5 <2.0.0-0`
@@ -135,7 +124,7 @@ pub(crate) fn up_to<'a>(
         ≡ Some (Comparators.from_up_to (written_seen lower.entry) (Versions.least_of major minor patch)) }
 {
     WordEnds {
-        form: Form::UpTo,
+        sides: Sides::UpTo,
         lower,
         upper: release(major, minor, patch),
     }
@@ -153,45 +142,42 @@ pub(crate) fn bare_up_to<'a>(
         (Versions.least_of major minor patch)) }
 {
     WordEnds {
-        form: Form::BareUpTo,
+        sides: Sides::BareUpTo,
         lower,
         upper: release(major, minor, patch),
     }
 }
 
-// All versions with this major: `>=1.0.0 <2.0.0-0`
-#[inline(always)]
-pub(crate) fn with_major(major: u64) -> WordEnds<'static>
-    requires { major ≤ MAX_SAFE_INTEGER }
-    ensures { ends_seen result ≡ Some (Comparators.with_major major) }
-{
-    up_to(release(major, 0, 0), major + 1, 0, 0)
-}
-
-// All versions with this major and this minor: `>=1.2.0 <1.3.0-0`
-#[inline(always)]
-pub(crate) fn with_minor(major: u64, minor: u64) -> WordEnds<'static>
-    requires { minor ≤ MAX_SAFE_INTEGER }
-    ensures { ends_seen result ≡ Some (Comparators.with_minor major minor) }
-{
-    up_to(release(major, minor, 0), major, minor + 1, 0)
-}
-
 impl<'a> WordEnds<'a> {
+    // The same upper end, with a lower end just before a version: `>=1.2.0 <4.0.0-0` of `<4.0.0-0`
+    #[inline(always)]
+    pub(crate) fn with_lower(self, lower: WrittenVersion<'a>) -> WordEnds<'a>
+        requires { HasUpperAlone self.sides }
+        ensures { ends_seen result ≡ with_lower (Before (written_seen lower.entry)) (ends_seen self.entry) }
+    {
+        let sides = match self.sides {
+            Sides::AtMost => Sides::Through,
+            _ => Sides::UpTo,
+        };
+        of_two(sides, lower, self.lower)
+    }
+
     // Where the comparator begins. Allocates only for prerelease and build.
     #[inline(always)]
     pub(crate) fn lower_cut(&self, alloc: Global) -> Result<Cut<EndVersion>, AllocError>
         ensures { IfOk result (λ cut. IfSome (ends_seen self.now) (λ c. c.lower ≡ cut)) }
     {
-        match self.form {
-            Form::AtLeast | Form::Exactly | Form::UpTo | Form::Through => {
+        match self.sides {
+            Sides::AtLeast | Sides::Exactly | Sides::UpTo | Sides::Through => {
                 Ok(Cut::Before(self.lower.end(alloc)?))
             }
-            Form::Equal | Form::BareUpTo => Ok(Cut::Before(self.lower.bare_end(alloc)?)),
-            Form::Above => Ok(Cut::After(self.lower.end(alloc)?)),
-            Form::Nothing | Form::Below | Form::BelowLeast | Form::AtMost | Form::AtMostLeast => {
-                Ok(Cut::Start)
-            }
+            Sides::ExactlyBare | Sides::BareUpTo => Ok(Cut::Before(self.lower.bare_end(alloc)?)),
+            Sides::Above => Ok(Cut::After(self.lower.end(alloc)?)),
+            Sides::Nothing
+            | Sides::Below
+            | Sides::BelowLeast
+            | Sides::AtMost
+            | Sides::AtMostLeast => { Ok(Cut::Start) }
         }
     }
 
@@ -200,15 +186,15 @@ impl<'a> WordEnds<'a> {
     pub(crate) fn upper_cut(&self, alloc: Global) -> Result<Cut<EndVersion>, AllocError>
         ensures { IfOk result (λ cut. IfSome (ends_seen self.now) (λ c. c.upper ≡ cut)) }
     {
-        match self.form {
-            Form::UpTo | Form::BareUpTo => Ok(Cut::Before(self.upper.least_end())),
-            Form::Exactly | Form::AtMost => Ok(Cut::After(self.lower.end(alloc)?)),
-            Form::Equal => Ok(Cut::After(self.lower.bare_end(alloc)?)),
-            Form::Through => Ok(Cut::After(self.upper.end(alloc)?)),
-            Form::Below => Ok(Cut::Before(self.lower.end(alloc)?)),
-            Form::BelowLeast => Ok(Cut::Before(self.lower.least_end())),
-            Form::AtMostLeast => Ok(Cut::After(self.lower.least_end())),
-            Form::Nothing | Form::AtLeast | Form::Above => Ok(Cut::End),
+        match self.sides {
+            Sides::UpTo | Sides::BareUpTo => Ok(Cut::Before(self.upper.least_end())),
+            Sides::Exactly | Sides::AtMost => Ok(Cut::After(self.lower.end(alloc)?)),
+            Sides::ExactlyBare => Ok(Cut::After(self.lower.bare_end(alloc)?)),
+            Sides::Through => Ok(Cut::After(self.upper.end(alloc)?)),
+            Sides::Below => Ok(Cut::Before(self.lower.end(alloc)?)),
+            Sides::BelowLeast => Ok(Cut::Before(self.lower.least_end())),
+            Sides::AtMostLeast => Ok(Cut::After(self.lower.least_end())),
+            Sides::Nothing | Sides::AtLeast | Sides::Above => Ok(Cut::End),
         }
     }
 }
@@ -216,7 +202,7 @@ impl<'a> WordEnds<'a> {
 impl<'a> WrittenVersion<'a> {
     // Builds the version. Most have no extras, and then nothing is allocated.
     #[inline(always)]
-    #[tactic(auto, using(semver_versions::specs::Lemmas::Texts::CleanExtras::clean_extras))]
+    #[tactic(auto, using(semver_versions::specs::Lemmas::Public::clean_extras))]
     fn end(&self, alloc: Global) -> Result<EndVersion, AllocError>
         ensures { IfOk result (λ e. e ≡ written_seen self.now) }
     {
@@ -229,7 +215,7 @@ impl<'a> WrittenVersion<'a> {
 
     // The same without the build.
     #[inline(always)]
-    #[tactic(auto, using(semver_versions::specs::Lemmas::Texts::CleanExtras::clean_extras))]
+    #[tactic(auto, using(semver_versions::specs::Lemmas::Public::clean_extras))]
     fn bare_end(&self, alloc: Global) -> Result<EndVersion, AllocError>
         ensures { IfOk result (λ e. e ≡ Versions.without_build (written_seen self.now)) }
     {
@@ -250,7 +236,7 @@ impl<'a> WrittenVersion<'a> {
 
     // `inline(never)`: few versions have extras, and the others then need no stack for them.
     #[inline(never)]
-    #[tactic(auto, unfolding(semver_versions::specs::Readers::Reading::read_extras))]
+    #[tactic(auto, unfolding(semver_versions::specs::Reading::read_extras))]
     fn end_with_extras(&self, alloc: Global) -> Result<EndVersion, AllocError>
         ensures { IfOk result (λ e. e ≡ written_seen self.now) }
     {
@@ -265,7 +251,7 @@ impl<'a> WrittenVersion<'a> {
 
     // The same without the build. `inline(never)`: few versions have extras, as at `end_with_extras`.
     #[inline(never)]
-    #[tactic(auto, unfolding(semver_versions::specs::Readers::Reading::read_extras))]
+    #[tactic(auto, unfolding(semver_versions::specs::Reading::read_extras))]
     fn end_with_prerelease(&self, alloc: Global) -> Result<EndVersion, AllocError>
         ensures { IfOk result (λ e. e ≡ Versions.without_build (written_seen self.now)) }
     {

@@ -1,71 +1,55 @@
 //! `>=1.2.3`, `>1.2`, `=1`, `<=1.x`, `< v 2`
 //!
 //! `#[inline(always)]`: see `partial.rt`.
-ghost use Rattle.std.specs.Prelude.{◌≡◌, Some};
+ghost use Rattle.std.specs.Prelude.{◌≡◌};
 ghost use Rattle.semver_sets.specs.Operators as Operators;
-ghost use Rattle.semver_sets.specs.PartialText as PartialText;
-ghost use Rattle.semver_sets.specs.Private.WordViews.{IsSound, ends_seen, partial_seen};
 
-use crate::partial::{Partial, Shape};
-use crate::word::ends::{
-    Form, WordEnds, WrittenVersion, at_most_least, below_least, nothing, of_one, release,
-    with_major, with_minor,
-};
+use crate::partial::Components;
+use crate::word::form::Form;
 
-// `>1.2` is `>=1.3.0`, `>1` is `>=2.0.0`.
+// The form of a partial after `>`.
 #[inline(always)]
-pub(crate) fn above_ends(partial: Partial) -> WordEnds
-    requires { IsSound partial }
-    ensures { let p = partial_seen partial.entry in
-        ends_seen result ≡ Some (Operators.greater_row p.major p.minor p.patch (PartialText.zeroed p)) }
+pub(crate) fn above_form(components: Components) -> Option<Form>
+    ensures { result ≡ Operators.greater_row components.0 components.1 components.2 }
 {
-    let WrittenVersion { major, minor, .. } = partial.version;
-    match partial.shape {
-        Shape::MajorMinor => of_one(Form::AtLeast, release(major, minor + 1, 0)),
-        Shape::Major => of_one(Form::AtLeast, release(major + 1, 0, 0)),
-        _ => of_one(Form::Above, partial.version),
+    match components {
+        (Some(_), Some(_), None) => Some(Form::FromNextMinor),
+        (Some(_), None, None) => Some(Form::FromNextMajor),
+        _ => Some(Form::Above),
     }
 }
 
-// `<1.2` is `<1.2.0-0`.
+// After `<`.
 #[inline(always)]
-pub(crate) fn below_ends(partial: Partial) -> WordEnds
-    requires { IsSound partial }
-    ensures { let p = partial_seen partial.entry in
-        ends_seen result ≡ Some (Operators.less_row p.major p.minor p.patch (PartialText.zeroed p)) }
+pub(crate) fn below_form(components: Components) -> Option<Form>
+    ensures { result ≡ Operators.less_row components.0 components.1 components.2 }
 {
-    match partial.shape {
-        Shape::MajorMinor => below_least(partial.version.major, partial.version.minor, 0),
-        _ => of_one(Form::Below, partial.version),
+    match components {
+        (Some(_), Some(_), None) => Some(Form::BelowLeast),
+        _ => Some(Form::Below),
     }
 }
 
-// `<=1.2` is `<=1.2.0-0`.
+// After `<=`.
 #[inline(always)]
-pub(crate) fn at_most_ends(partial: Partial) -> WordEnds
-    requires { IsSound partial }
-    ensures { let p = partial_seen partial.entry in
-        ends_seen result ≡ Some (Operators.less_or_equal_row p.major p.minor p.patch (PartialText.zeroed p)) }
+pub(crate) fn at_most_form(components: Components) -> Option<Form>
+    ensures { result ≡ Operators.less_or_equal_row components.0 components.1 components.2 }
 {
-    match partial.shape {
-        Shape::Full | Shape::MajorPatch | Shape::MinorPatch | Shape::Patch => {
-            of_one(Form::AtMost, partial.version)
-        }
-        _ => at_most_least(partial.version.major, partial.version.minor, 0),
+    match components.2 {
+        Some(_) => Some(Form::AtMost),
+        None => Some(Form::AtMostLeast),
     }
 }
 
-// `=1.2.3+5` is `>=1.2.3 <=1.2.3`, `=1.2` is `>=1.2.0 <1.3.0-0`, `=*` gives no comparator.
+// After `=`.
 #[inline(always)]
-pub(crate) fn equal_ends(partial: Partial) -> WordEnds
-    requires { IsSound partial }
-    ensures { let p = partial_seen partial.entry in
-        ends_seen result ≡ Operators.equal_row p.major p.minor p.patch (PartialText.zeroed p) }
+pub(crate) fn equal_form(components: Components) -> Option<Form>
+    ensures { result ≡ Operators.equal_row components.0 components.1 components.2 }
 {
-    match partial.shape {
-        Shape::Full => of_one(Form::Equal, partial.version),
-        Shape::MajorMinor => with_minor(partial.version.major, partial.version.minor),
-        Shape::Major | Shape::MajorPatch => with_major(partial.version.major),
-        Shape::MinorPatch | Shape::Minor | Shape::Patch | Shape::Nothing => nothing(),
+    match components {
+        (Some(_), Some(_), Some(_)) => Some(Form::ExactlyBare),
+        (Some(_), Some(_), None) => Some(Form::WithMinor),
+        (Some(_), None, _) => Some(Form::WithMajor),
+        (None, _, _) => None,
     }
 }

@@ -1,19 +1,16 @@
 //! `~1.2.3`, `~1.2`, `~> 1`
 //!
 //! `#[inline(always)]`: see `partial.rt`.
-ghost use Rattle.std.specs.Prelude.{◌≡◌, ◌+◌, Some};
-ghost use Rattle.semver_sets.specs.Comparator as Comparators;
-ghost use Rattle.semver_versions.specs.Version as Versions;
+ghost use Rattle.std.specs.Prelude.{◌≡◌};
 ghost use Rattle.semver_versions.specs.Characters.{is_blank};
-ghost use Rattle.semver_versions.specs.Readers.Reading.{rest_of};
-ghost use Rattle.semver_sets.specs.PartialText as PartialText;
-ghost use Rattle.semver_sets.specs.TildeRanges as TildeRanges;
+ghost use Rattle.semver_versions.specs.Reading.{rest_of};
+ghost use Rattle.semver_sets.specs.TildeRanges.{tilde_greater_row, tilde_row};
 ghost use Rattle.semver_sets.specs.Private.WordReading as Reading;
-ghost use Rattle.semver_sets.specs.Private.WordViews.{IsSound, ends_seen, lead_seen, partial_seen};
+ghost use Rattle.semver_sets.specs.Private.WordViews.{lead_seen};
 
-use crate::partial::{Partial, Shape};
+use crate::partial::Components;
 use crate::word::Lead;
-use crate::word::ends::{WordEnds, WrittenVersion, bare_up_to, nothing, with_major, with_minor};
+use crate::word::form::Form;
 use semver_versions::parse::skip_blanks;
 
 // `> 1.2` of `~ > 1.2`: which tilde it is, and the rest without its leading blanks
@@ -27,43 +24,26 @@ pub(crate) fn read_tilde(text: &[u8]) -> (Lead, &[u8])
     }
 }
 
-// `~1.2.3` is `>=1.2.3 <1.3.0-0`, `~1.2` is `>=1.2.0 <1.3.0-0`, `~1` is `>=1.0.0 <2.0.0-0`.
+// The form of a partial after `~`.
 #[inline(always)]
-pub(crate) fn tilde_ends(partial: Partial) -> WordEnds
-    requires { IsSound partial }
-    ensures { let p = partial_seen partial.entry in
-        ends_seen result ≡ TildeRanges.tilde_row p.major p.minor p.patch (PartialText.zeroed p) }
+pub(crate) fn tilde_form(components: Components) -> Option<Form>
+    ensures { result ≡ tilde_row components.0 components.1 components.2 }
 {
-    match partial.shape {
-        Shape::Full => up_to_next_minor(partial),
-        Shape::MajorMinor => with_minor(partial.version.major, partial.version.minor),
-        Shape::Major => with_major(partial.version.major),
-        Shape::MajorPatch | Shape::MinorPatch | Shape::Minor | Shape::Patch | Shape::Nothing =>
-            nothing(),
+    match components {
+        (Some(_), Some(_), Some(_)) => Some(Form::ToNextMinor),
+        (Some(_), Some(_), None) => Some(Form::WithMinor),
+        (Some(_), None, None) => Some(Form::WithMajor),
+        _ => None,
     }
 }
 
-// `~>1.2.x-b` is `>=1.2.0-b <1.3.0-0`. Every other shape is read as after `~`.
+// After `~>`: a prerelease after an x is kept, and every other partial is read as after `~`.
 #[inline(always)]
-pub(crate) fn tilde_greater_ends(partial: Partial) -> WordEnds
-    requires { IsSound partial }
-    ensures { let p = partial_seen partial.entry in
-        ends_seen result ≡ TildeRanges.tilde_greater_row p.major p.minor p.patch (PartialText.zeroed p) }
+pub(crate) fn tilde_greater_form(components: Components) -> Option<Form>
+    ensures { result ≡ tilde_greater_row components.0 components.1 components.2 }
 {
-    match partial.shape {
-        Shape::MajorMinor => up_to_next_minor(partial),
-        _ => tilde_ends(partial),
+    match components {
+        (Some(_), Some(_), None) => Some(Form::ToNextMinor),
+        _ => tilde_form(components),
     }
-}
-
-// From the partial's version up to the next minor: `>=1.2.3-b <1.3.0-0`
-#[inline(always)]
-fn up_to_next_minor(partial: Partial) -> WordEnds
-    requires { IsSound partial }
-    ensures { ends_seen result ≡ Some (Comparators.from_up_to
-        (Versions.without_build (PartialText.zeroed (partial_seen partial.entry)))
-        (Versions.least_of partial.entry.version.major (partial.entry.version.minor + 1) 0)) }
-{
-    let WrittenVersion { major, minor, .. } = partial.version;
-    bare_up_to(partial.version, major, minor + 1, 0)
 }

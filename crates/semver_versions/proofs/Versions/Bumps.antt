@@ -20,27 +20,14 @@ last-unique : (before before' after after' : List IdentifierValue) (number numbe
     → before ++ (numeric number ∷ after) ≡ before' ++ (numeric number' ∷ after')
     → AllByRecursion IsText after → AllByRecursion IsText after' → number ≡ number'
 last-unique [] [] after after' number number' same all all' = cc same
-last-unique [] (x ∷ before') after after' number number' same all all' =
-    let rest : after ≡ before' ++ (numeric number' ∷ after') = cc same in
-    absurd (texts-none before' after' number' (subst (AllByRecursion IsText) rest all))
-last-unique (x ∷ before) [] after after' number number' same all all' =
-    let rest : after' ≡ before ++ (numeric number ∷ after) = cc same in
-    absurd (texts-none before after number (subst (AllByRecursion IsText) rest all'))
-last-unique (x ∷ before) (y ∷ before') after after' number number' same all all' =
-    let rest : before ++ (numeric number ∷ after) ≡ before' ++ (numeric number' ∷ after') = cc same in
-    last-unique before before' after after' number number' rest all all'
+last-unique [] (x ∷ before') after after' number number' same all all' = grind (arith, texts-none)
+last-unique (x ∷ before) [] after after' number number' same all all' = grind (arith, texts-none)
+last-unique (x ∷ before) (y ∷ before') after after' number number' same all all' = grind (arith, last-unique before before' after after' number number')
 
 -- where the last number is at the limit, no identifiers are next
 pub no_next_at_limit : (base : IdentifierBase) (one before after : List IdentifierValue) (number : ℕ)
     → IsSplitAtLastNumber one before number after → MAX_SAFE_INTEGER ≤ number → HasNoNext None base one
-no_next_at_limit base one before after number split limit other next = elim next [
-  | inl raised ↦
-      let same = last-unique before raised.before after raised.after number raised.number
-      (sym split.whole ∙ raised.split.whole) split.texts raised.split.texts in
-      let below = raised.limit in
-      absurd (omega (arith, same, below, limit))
-  | inr texts ↦ texts-none before after number (subst (AllByRecursion IsText) split.whole texts.0)
-]
+no_next_at_limit base one before after number split limit other next = grind (arith, last-unique, texts-none)
 
 -- ---- with an identifier
 
@@ -53,10 +40,7 @@ numbered-none identifier one begins all =
 -- so its last number is raised
 pub next_with : (identifier : IdentifierValue) (base : IdentifierBase) (one other : List IdentifierValue)
     → BeginsNumbered identifier one → IsNext None base one other → IsNext (Some identifier) base one other
-next_with identifier base one other begins next = elim next [
-  | inl raised ↦ inl (begins, raised)
-  | inr texts ↦ absurd (numbered-none identifier one begins texts.0)
-]
+next_with identifier base one other begins next = grind (arith, numbered-none)
 
 pub no_next_with : (identifier : IdentifierValue) (base : IdentifierBase) (one : List IdentifierValue)
     → BeginsNumbered identifier one → HasNoNext None base one → HasNoNext (Some identifier) base one
@@ -68,10 +52,7 @@ no_next_with identifier base one begins none other next = elim next [
 -- the identifier alone would stay as it is
 pub no_next_alone : (identifier : IdentifierValue) (one : List IdentifierValue) → one ≡ identifier ∷ []
     → HasNoNext (Some identifier) Absent one
-no_next_alone identifier one alone other next = elim next [
-  | inl raised ↦ cc (raised.0.whole, alone)
-  | inr new ↦ new.2 (new.1 ∙ sym alone)
-]
+no_next_alone identifier one alone other next = grind arith
 
 -- any other prerelease becomes a new one
 new-other : (identifier : IdentifierValue) (base : IdentifierBase) (one : List IdentifierValue)
@@ -93,10 +74,7 @@ next_new identifier base one other begins alone is =
 pub other-reason : {A E : Type 0} → (Memory Reason Other : E → Type 0) (result : Result A E)
     → ((e : E) → Reason e → Other e) → IfErr result (λ e. Memory e ⊎ Reason e) → IfErr result (λ e. Memory e ⊎ Other e)
 other-reason Memory Reason Other (Ok value) gives reasons = tt
-other-reason Memory Reason Other (Err e) gives reasons = elim reasons [
-  | inl memory ↦ inl memory
-  | inr reason ↦ inr (gives e reason)
-]
+other-reason Memory Reason Other (Err e) gives reasons = grind arith
 
 -- what follows the prerelease of a version that has one
 pub next-of_some : (identifier : Option IdentifierValue) (base : IdentifierBase) (one other : List IdentifierValue)

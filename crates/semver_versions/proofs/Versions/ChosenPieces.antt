@@ -1,10 +1,10 @@
 -- The chosen piece: it is found from a number at its end, and there is only one.
-use Rattle.std.proofs.Common.{◌≡◌, ◌+◌, ℕ, Bool, true, false, List, [], ◌∷◌, Option, Some, None, refl, sym, ap}
-use Rattle.std.proofs.Common.{◌∙◌, subst, arith}
+use Rattle.std.proofs.Common.{◌≡◌, ◌+◌, ℕ, Bool, true, false, List, [], ◌∷◌, Option, Some, None, refl, ap}
+use Rattle.std.proofs.Common.{arith}
 use Rattle.std.specs.Prelude.{IfNone, slice_range}
 use Rattle.semver_versions.specs.Coerce.{IsChosen, IsCoerced, IsFirstPiece, IsLastPiece, IsPiece, IsReleaseOf}
 use Rattle.semver_versions.specs.Coerce.{one, two, three}
-use Rattle.semver_versions.specs.Readers.PieceViews.{IsFirstNumber, IsLastNumber, IsLongestFrom, IsLongestTo}
+use Rattle.semver_versions.specs.Private.PieceViews.{IsFirstNumber, IsLastNumber, IsLongestFrom, IsLongestTo}
 use Rattle.semver_versions.specs.Version.{VersionValue}
 use Rattle.semver_versions.proofs.Versions.Pieces.{first_of, last_of, next_end, same_end}
 
@@ -58,33 +58,15 @@ same_numbers text start end _ _ (three _ first second _ h point g dash f) (one _
     absurd (omega (arith, same_end text start end first k h, g.some, f.some))
 same_numbers text start end _ _ (three _ first second _ h point g dash f) (two _ other _ k last m) =
     absurd (omega (arith, next_end text start other first end second k h m g, f.some))
-same_numbers text start end _ _ (three _ first second _ h point g dash f) (three _ other next _ k last m mark l) =
-    ap (λ (n : ℕ). slice_range text start n
-    ∷ slice_range text (n + 1) next
-    ∷ slice_range text (next + 1) end
-    ∷ []) (same_end text start first other h k)
-    ∙ ap (λ (n : ℕ). slice_range text start first
-    ∷ slice_range text (first + 1) n
-    ∷ slice_range text (n + 1) end
-    ∷ []) (next_end text start first other second next h k g m)
+same_numbers text start end _ _ (three _ first second _ h point g dash f) (three _ other next _ k last m mark l) = grind (arith, same_end, next_end)
 
 first_same : (text : List ℕ) (start end from to : ℕ) (numbers others : List (List ℕ))
     → IsFirstPiece text start end numbers → IsFirstPiece text from to others → others ≡ numbers
-first_same text start end from to numbers others h g =
-    let here : from ≡ start = omega (arith, h.first from to others g.piece, g.first start end numbers h.piece) in
-    let moved : IsPiece text start to others = subst (λ (n : ℕ). IsPiece text n to others) here g.piece in
-    let back : IsPiece text from end numbers = subst (λ (n : ℕ). IsPiece text n end numbers) (sym here) h.piece in
-    let there : to ≡ end = omega (arith, h.longest to others moved, g.longest end numbers back) in
-    same_numbers text start end numbers others h.piece (subst (λ (n : ℕ). IsPiece text start n others) there moved)
+first_same text start end from to numbers others h g = grind (arith, same_numbers)
 
 last_same : (text : List ℕ) (start end from to : ℕ) (numbers others : List (List ℕ))
     → IsLastPiece text start end numbers → IsLastPiece text from to others → others ≡ numbers
-last_same text start end from to numbers others h g =
-    let there : to ≡ end = omega (arith, h.last from to others g.piece, g.last start end numbers h.piece) in
-    let moved : IsPiece text from end others = subst (λ (n : ℕ). IsPiece text from n others) there g.piece in
-    let back : IsPiece text start to numbers = subst (λ (n : ℕ). IsPiece text start n numbers) (sym there) h.piece in
-    let here : from ≡ start = omega (arith, h.longest from others moved, g.longest start numbers back) in
-    same_numbers text start end numbers others h.piece (subst (λ (n : ℕ). IsPiece text n end others) here moved)
+last_same text start end from to numbers others h g = grind (arith, same_numbers)
 
 chosen_same : (rtl : Bool) (text : List ℕ) (start end from to : ℕ) (numbers others : List (List ℕ))
     → IsChosen rtl text start end numbers → IsChosen rtl text from to others → others ≡ numbers
@@ -96,9 +78,7 @@ pub not_coerced : (rtl : Bool) (text : List ℕ) (start end : ℕ) (numbers : Li
     → IsChosen rtl text start end numbers → IfNone r ((v : VersionValue) → ¬ IsReleaseOf numbers v)
     → IfNone r ((v : VersionValue) → ¬ IsCoerced rtl text v)
 not_coerced rtl text start end numbers (Some w) chosen none = tt
-not_coerced rtl text start end numbers None chosen none = λ v h.
-    none v (subst (λ (l : List (List ℕ)). IsReleaseOf l v)
-    (chosen_same rtl text start end h.start h.end numbers h.numbers chosen h.chosen) h.version)
+not_coerced rtl text start end numbers None chosen none = grind (arith, chosen_same)
 
 -- and a text without pieces has none
 chosen_piece : (rtl : Bool) (text : List ℕ) (start end : ℕ) (numbers : List (List ℕ))

@@ -3,7 +3,7 @@ use Rattle.std.proofs.Common.{◌≡◌, ◌+◌, ◌≤◌, ℕ, List, [], ◌�
 use Rattle.std.specs.Prelude.{slice_index, slice_range}
 use Rattle.semver_versions.specs.Characters.{dot}
 use Rattle.semver_versions.specs.Coerce.{IsNumberAt, IsPiece, one, two, three}
-use Rattle.semver_versions.specs.Readers.PieceViews.{HasNoPrevious, IsLongestTo}
+use Rattle.semver_versions.specs.Private.PieceViews.{HasNoPrevious, IsLongestTo}
 use Rattle.semver_versions.proofs.Versions.Pieces.{previous_start, same_start}
 
 -- ---- the pieces, where a number starts after a dot

@@ -6,9 +6,9 @@ use Rattle.std.proofs.lemmas.Bool.{lt-ltb}
 use Rattle.semver_versions.specs.Characters.{AreAll, BeginsWithNo, dot, is_digit, is_identifier_character}
 use Rattle.semver_versions.specs.IdentifierText.{IsListed, identifier_of, identifiers_of}
 use Rattle.semver_versions.specs.IdentifierValue.{IdentifierValue, numeric}
-use Rattle.semver_versions.specs.NumberText.{IsNumberText, number_of}
-use Rattle.semver_versions.specs.Readers.ListedViews.{IsFirstSplit, IsNumberSplit}
-use Rattle.semver_versions.specs.Readers.Reading.{prefix_of, read_number, rest_of}
+use Rattle.semver_versions.specs.NumberText.{IsNumberText}
+use Rattle.semver_versions.specs.Private.ListedViews.{IsFirstSplit, IsNumberSplit}
+use Rattle.semver_versions.specs.Reading.{prefix_of, read_number, rest_of}
 use Rattle.semver_versions.specs.declared.TheConstants.{MAX_SAFE_INTEGER}
 use Rattle.semver_versions.specs.Lemmas.Texts.DecimalReading.{characters-of_digits}
 use Rattle.semver_versions.specs.Lemmas.Texts.ListedTexts.{first-alone, first-before}
@@ -21,9 +21,7 @@ fits number limit = omega arith
 
 -- digits of a number, as an identifier
 digits-numeric : (digits : List ℕ) (number : ℕ) → IsNumberText digits number → identifier_of digits ≡ numeric number
-digits-numeric digits number read =
-    let small : number_of digits < 2 ^ 64 = subst (λ (n : ℕ). n < 2 ^ 64) read.value (fits number read.limit) in
-    rw (read.digits, lt-ltb _ _ small) (ap numeric (sym read.value))
+digits-numeric digits number read = grind (arith, fits, lt-ltb)
 
 -- such digits end where an identifier does
 record EndsThere (text digits left : List ℕ) : Type 0 where
@@ -32,14 +30,7 @@ record EndsThere (text digits left : List ℕ) : Type 0 where
 
 digits-end : (text digits left : List ℕ) → text ≡ digits ++ left → AreAll is_digit digits
     → BeginsWithNo is_identifier_character left → EndsThere text digits left
-digits-end text digits left whole all ends =
-    let characters = characters-of_digits digits all in
-    record {
-      prefix = ap (λ (l : List ℕ). prefix_of is_identifier_character l) whole
-          ∙ prefix_of-again is_identifier_character digits left characters ends;
-      rest = ap (λ (l : List ℕ). rest_of is_identifier_character l) whole
-          ∙ rest_of-again is_identifier_character digits left characters ends;
-    }
+digits-end text digits left whole all ends = grind (arith, characters-of_digits, prefix_of-again, rest_of-again)
 
 -- a list with such a first identifier
 first-number : (text digits rest : List ℕ) (number : ℕ) → IsFirstSplit text digits rest → IsNumberText digits number
@@ -53,9 +44,7 @@ first-number text digits rest number first read shorter =
     }
 
 longer : (text left : List ℕ) (number : ℕ) (t : TakesNumber text number left) → length left < length text
-longer text left number t =
-    let some = begins-some is_digit t.digits t.read.some in
-    omega (arith, ap length t.whole, length-append t.digits left)
+longer text left number t = grind (arith, begins-some, length-append)
 
 -- if it is the last
 pub number-alone : (text left : List ℕ) (number : ℕ) → IsListed text → Ok (number, left) ≡ read_number text

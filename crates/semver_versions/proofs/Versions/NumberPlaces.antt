@@ -14,13 +14,7 @@ pub record IsRun (text : List ℕ) (start end : ℕ) : Type 0 where
 -- a number that starts or ends with the run is the run
 run_end : (text : List ℕ) (start end other : ℕ) → IsRun text start end → start < end → IsNumberAt text start other
     → other ≡ end
-run_end text start end other run some h = elim (below_or_not other end) [
-  | inl below ↦ absurd (clash text other (run.digits other (omega (arith, h.some)) below) h.after)
-  | inr above ↦ elim (below_or_not end other) [
-    | inl more ↦ absurd (clash text end (h.digits end (omega (arith, run.to)) more) run.after)
-    | inr same ↦ omega (arith, above, same)
-  ]
-]
+run_end text start end other run some h = grind (arith, below_or_not, clash)
 
 run_start : (text : List ℕ) (start end other : ℕ) → IsRun text start end → start < end → IsNumberAt text other end
     → other ≡ start

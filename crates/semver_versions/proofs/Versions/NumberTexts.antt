@@ -1,8 +1,7 @@
 -- A number that is written in a text, and the texts around it.
 use Rattle.std.proofs.Common.{◌≡◌, ◌+◌, ◌-◌, ◌<◌, ◌≤◌, ℕ, true, false, List, [], ◌∷◌, ◌++◌, length, get_or, take, drop, refl}
-use Rattle.std.proofs.Common.{sym, ap, ◌∙◌, inl, inr, subst, arith, length-append}
+use Rattle.std.proofs.Common.{ap, ◌∙◌, subst, arith, length-append}
 use Rattle.std.proofs.Math.Seq.{drop-append_seam, take-append_seam}
-use Rattle.std.proofs.lemmas.Bool.{cases_Bool}
 use Rattle.std.proofs.lemmas.List.{get_or-append-add, get_or_append_left}
 use Rattle.std.proofs.lemmas.List.Folds.{list_all_at}
 use Rattle.std.specs.Prelude.{slice_range}
@@ -11,10 +10,7 @@ use Rattle.semver_versions.specs.Coerce.{IsNumberAt, is_digit_at}
 
 digit_in : (digits : List ℕ) (k : ℕ) → AreAll is_digit digits → k < length digits
     → is_digit (get_or digits k 0) ≡ true
-digit_in digits k all below = elim (cases_Bool (is_digit (get_or digits k 0))) [
-  | inl here ↦ here
-  | inr other ↦ cc (sym all ∙ list_all_at is_digit digits k 0 below other)
-]
+digit_in digits k all below = grind (arith, get_or, list_all_at)
 
 no_digit : (rest : List ℕ) → BeginsWithNo is_digit rest → is_digit (get_or rest 0 0) ≡ false
 no_digit [] h = refl
@@ -24,16 +20,11 @@ module _ (before digits rest : List ℕ) where
   -- the digit so many places after the texts before
   inside : (k : ℕ) → AreAll is_digit digits → k < length digits
       → is_digit_at (before ++ (digits ++ rest)) (length before + k) ≡ true
-  inside k all below =
-      ap is_digit (get_or-append-add before (digits ++ rest) k 0 ∙ get_or_append_left digits rest 0 k below)
-      ∙ digit_in digits k all below
+  inside k all below = grind (arith, get_or-append-add, get_or_append_left, digit_in)
 
   behind : BeginsWithNo is_digit rest
       → is_digit_at (before ++ (digits ++ rest)) (length before + length digits) ≡ false
-  behind h =
-      let here : get_or (digits ++ rest) (length digits) 0 ≡ get_or rest 0 0 =
-      ap (λ (n : ℕ). get_or (digits ++ rest) n 0) (omega arith) ∙ get_or-append-add digits rest 0 0 in
-      ap is_digit (get_or-append-add before (digits ++ rest) (length digits) 0 ∙ here) ∙ no_digit rest h
+  behind h = grind (arith, get_or, get_or-append-add, no_digit)
 
   -- it is a number there
   pub number_at : 0 < length digits → length digits ≤ 16 → AreAll is_digit digits → BeginsWithNo is_digit rest

@@ -1,16 +1,13 @@
 -- The pieces of a text that look like a version: by their ends a piece and its numbers are found from either side.
 use Rattle.std.proofs.Common.{◌≡◌, ◌+◌, ◌-◌, ◌<◌, ◌≤◌, ◌⊎◌, ℕ, true, false, List, [], ◌∷◌, sym, ◌∙◌, inl, inr, subst, arith}
-use Rattle.std.proofs.lemmas.Bool.{cases_Bool, ltb-false, ltb-true}
-use Rattle.std.specs.Prelude.{nat_lt, slice_index, slice_range}
+use Rattle.std.proofs.lemmas.Bool.{ltb-false, ltb-true}
+use Rattle.std.specs.Prelude.{slice_index, slice_range}
 use Rattle.semver_versions.specs.Characters.{dot}
 use Rattle.semver_versions.specs.Coerce.{IsNumberAt, IsPiece, is_digit_at, one, two, three}
-use Rattle.semver_versions.specs.Readers.PieceViews.{HasNoNext, IsLongestFrom}
+use Rattle.semver_versions.specs.Private.PieceViews.{HasNoNext, IsLongestFrom}
 
 pub below_or_not : (a b : ℕ) → (a < b) ⊎ (b ≤ a)
-below_or_not a b = elim (cases_Bool (nat_lt a b)) [
-  | inl below ↦ inl (ltb-true _ _ below)
-  | inr above ↦ inr (ltb-false _ _ above)
-]
+below_or_not a b = grind (arith, ltb-true, ltb-false)
 
 -- a place has a digit or none
 pub clash : (text : List ℕ) (place : ℕ) → is_digit_at text place ≡ true → is_digit_at text place ≡ false → ⊥
@@ -20,10 +17,7 @@ clash text place some none = cc (sym some ∙ none)
 
 end_below : (text : List ℕ) (start end other : ℕ) → IsNumberAt text start end → IsNumberAt text start other
     → other ≤ end
-end_below text start end other h g = elim (below_or_not end other) [
-  | inl below ↦ absurd (clash text end (g.digits end (omega (arith, h.some)) below) h.after)
-  | inr above ↦ above
-]
+end_below text start end other h g = grind (arith, below_or_not, clash)
 
 pub same_end : (text : List ℕ) (start end other : ℕ) → IsNumberAt text start end → IsNumberAt text start other
     → other ≡ end
@@ -47,9 +41,7 @@ same_start text start other end h g =
 -- the same of the number after the dot
 pub next_end : (text : List ℕ) (start first other end last : ℕ) → IsNumberAt text start first
     → IsNumberAt text start other → IsNumberAt text (first + 1) end → IsNumberAt text (other + 1) last → last ≡ end
-next_end text start first other end last h g next after =
-    same_end text (first + 1) end last next
-    (subst (λ (n : ℕ). IsNumberAt text (n + 1) last) (same_end text start first other h g) after)
+next_end text start first other end last h g next after = grind (arith, same_end)
 
 -- and of the one before it
 pub previous_start : (text : List ℕ) (start other first last third fourth end : ℕ) → first + 1 ≡ third
@@ -77,10 +69,7 @@ last_of text start end _ (three _ first second _ h point g dash k) = (second + 1
 
 none_after : (text : List ℕ) (start first other end : ℕ) → IsNumberAt text start first → IsNumberAt text start other
     → HasNoNext text first → slice_index text other ≡ dot → IsNumberAt text (other + 1) end → ⊥
-none_after text start first other end h g none point next =
-    let same : other ≡ first = same_end text start first other h g in
-    none end (subst (λ (n : ℕ). slice_index text n ≡ dot) same point)
-    (subst (λ (n : ℕ). IsNumberAt text (n + 1) end) same next)
+none_after text start first other end h g none point next = grind (arith, same_end)
 
 -- the second number is where it was
 second_there : (text : List ℕ) (start first other end : ℕ) → IsNumberAt text start first

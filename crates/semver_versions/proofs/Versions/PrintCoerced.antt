@@ -1,21 +1,19 @@
 -- The print of a version is coerced to the release with its triple.
 use Rattle.std.proofs.Common.{◌≡◌, ◌+◌, ◌<◌, ◌≤◌, ◌^◌, ℕ, false, List, [], ◌∷◌, ◌++◌, length, get_or, zero, suc, refl}
-use Rattle.std.proofs.Common.{sym, ap, ◌∙◌, inl, inr, subst, arith, append_assoc, length-append, lit<}
+use Rattle.std.proofs.Common.{sym, ap, ◌∙◌, subst, arith, append_assoc, length-append, lit<}
 use Rattle.std.proofs.Math.Seq.{get_or-append_seam}
-use Rattle.std.proofs.lemmas.Bool.{cases_Bool, eqb-true}
+use Rattle.std.proofs.lemmas.Bool.{eqb-true}
 use Rattle.std.proofs.lemmas.Fmt.{decimal_nonempty, first_decimal, length-decimal-le}
 use Rattle.std.specs.Fmt.{decimal}
-use Rattle.std.specs.Prelude.{◌==◌, slice_index, slice_range}
+use Rattle.std.specs.Prelude.{slice_index, slice_range}
 use Rattle.semver_versions.specs.declared.TheConstants.{MAX_SAFE_INTEGER}
 use Rattle.semver_versions.specs.Characters.{BeginsWithNo, dot, is_digit}
 use Rattle.semver_versions.specs.Coerce.{IsCoerced, IsNumberAt, IsStrictNumber, is_digit_at}
-use Rattle.semver_versions.specs.IdentifierValue.{IdentifierValue}
-use Rattle.semver_versions.specs.NumberText.{IsNumberText}
-use Rattle.semver_versions.specs.Print.{marked_text}
 use Rattle.semver_versions.specs.StrictVersionText.{has_zero_in_front}
 use Rattle.semver_versions.specs.Version.{VersionValue, release}
 use Rattle.semver_versions.specs.VersionLaws.{PrintIsCoerced}
-use Rattle.semver_versions.specs.Lemmas.Texts.DecimalReading.{decimal-begins, decimal-digits, decimal-value}
+use Rattle.semver_versions.specs.Lemmas.Texts.DecimalReading.{decimal-digits}
+use Rattle.semver_versions.specs.Lemmas.Versions.PrintReading.{extras_text, extras_text-no_digit, number-text, print-whole}
 use Rattle.semver_versions.proofs.Versions.ChosenPieces.{first_found}
 use Rattle.semver_versions.proofs.Versions.NumberTexts.{number_at, range_at}
 use Rattle.semver_versions.proofs.Versions.Pieces.{three_from}
@@ -26,10 +24,7 @@ use Rattle.semver_versions.proofs.Versions.StrictNumbers.{is_strict}
 no_zero : (text : List ℕ) → 48 < get_or text 0 0 → has_zero_in_front text ≡ false
 no_zero [] h = refl
 no_zero (b ∷ []) h = refl
-no_zero (b ∷ c ∷ rest) h = elim (cases_Bool (b == 48)) [
-  | inl here ↦ absurd (omega (arith, h, eqb-true b 48 here))
-  | inr other ↦ other
-]
+no_zero (b ∷ c ∷ rest) h = grind (arith, eqb-true)
 
 short_no_zero : (text : List ℕ) → length text ≤ 1 → has_zero_in_front text ≡ false
 short_no_zero [] h = refl
@@ -47,14 +42,7 @@ decimal_short : (n : ℕ) → n ≤ MAX_SAFE_INTEGER → length (decimal n) ≤ 
 decimal_short n h = length-decimal-le 16 n (lit< tt) (omega (arith, h)) (fits n h)
 
 decimal_strict : (n : ℕ) → n ≤ MAX_SAFE_INTEGER → IsStrictNumber (decimal n) n
-decimal_strict n h =
-    let read : IsNumberText (decimal n) n = record {
-      some = decimal-begins n (fits n h);
-      digits = decimal-digits n (fits n h);
-      value = sym (decimal-value n (fits n h));
-      limit = h;
-    } in
-    record { read = read; strict = is_strict (decimal n) n read (no_zero_decimal n (fits n h)) }
+decimal_strict n h = grind (arith, number-text, is_strict, no_zero_decimal, fits)
 
 -- the number is from `start` up to `end`, and its text is this one
 record IsWritten (text : List ℕ) (start end : ℕ) (digits : List ℕ) : Type 0 where
@@ -63,9 +51,7 @@ record IsWritten (text : List ℕ) (start end : ℕ) (digits : List ℕ) : Type 
 
 moved : (text other digits : List ℕ) (start from end to : ℕ) → text ≡ other → start ≡ from → end ≡ to
     → IsWritten text start end digits → IsWritten other from to digits
-moved text other digits start from end to e f g h =
-    subst (λ (l : List ℕ). IsWritten l from to digits) e
-    (subst (λ (n : ℕ). IsWritten text n to digits) f (subst (λ (n : ℕ). IsWritten text start n digits) g h))
+moved text other digits start from end to e f g h = grind arith
 
 -- a number is where it is written, if no digit comes before or after it
 decimal_at : (before rest : List ℕ) (n : ℕ) → n ≤ MAX_SAFE_INTEGER → BeginsWithNo is_digit rest
@@ -131,9 +117,7 @@ module _ (a b c : ℕ) (rest : List ℕ) where
   -- no digit comes before a number
   after_dot : (whole : List ℕ) (dotted size : ℕ) → whole ≡ text → slice_index text dotted ≡ dot → size ≡ dotted + 1
       → (place : ℕ) → place + 1 ≡ size → is_digit_at whole place ≡ false
-  after_dot whole dotted size e point f place g =
-      let same : place ≡ dotted = omega (arith, f, g) in
-      ap (λ (l : List ℕ). is_digit_at l place) e ∙ ap (is_digit_at text) same ∙ ap is_digit point
+  after_dot whole dotted size e point f place g = grind arith
 
   first_there : a ≤ MAX_SAFE_INTEGER → IsWritten text 0 first_place (decimal a)
   first_there h =
@@ -190,23 +174,8 @@ module _ (a b c : ℕ) (rest : List ℕ) where
 
 -- ---- the print
 
-extras_no_digit : (prerelease build : List IdentifierValue)
-    → BeginsWithNo is_digit (marked_text 45 prerelease ++ marked_text 43 build)
-extras_no_digit [] [] = tt
-extras_no_digit [] (x ∷ xs) = refl
-extras_no_digit (x ∷ xs) build = refl
-
-regrouped : (a b c prerelease build : List ℕ) → a ++ (dot ∷ b) ++ (dot ∷ c) ++ prerelease ++ build
-    ≡ a ++ (dot ∷ (b ++ (dot ∷ (c ++ (prerelease ++ build)))))
-regrouped a b c prerelease build =
-    append_assoc (a ++ (dot ∷ b) ++ (dot ∷ c)) prerelease build
-    ∙ append_assoc (a ++ (dot ∷ b)) (dot ∷ c) (prerelease ++ build)
-    ∙ append_assoc a (dot ∷ b) (dot ∷ (c ++ (prerelease ++ build)))
-
 pub print_coerced : (v : VersionValue) → PrintIsCoerced v
 print_coerced v h =
-    let rest : List ℕ = marked_text 45 v.pre_release ++ marked_text 43 v.build in
-    let print = regrouped (decimal v.major) (decimal v.minor) (decimal v.patch) (marked_text 45 v.pre_release)
-    (marked_text 43 v.build) in
-    subst (λ (l : List ℕ). IsCoerced false l (release v.major v.minor v.patch)) (sym print)
-    (numbers_coerced v.major v.minor v.patch rest h.major h.minor h.patch (extras_no_digit v.pre_release v.build))
+    subst (λ (l : List ℕ). IsCoerced false l (release v.major v.minor v.patch)) (sym (print-whole v))
+    (numbers_coerced v.major v.minor v.patch (extras_text v) h.major h.minor h.patch
+    (extras_text-no_digit v.pre_release v.build))

@@ -4,7 +4,7 @@ use Rattle.std.proofs.Common.{append-nil, arith, refl, subst}
 use Rattle.std.proofs.lemmas.Bool.{and_from}
 use Rattle.semver_versions.specs.Coerce.{IsStrictNumber}
 use Rattle.semver_versions.specs.NumberText.{IsNumberText}
-use Rattle.semver_versions.specs.Readers.Reading.{read_number}
+use Rattle.semver_versions.specs.Reading.{read_number}
 use Rattle.semver_versions.specs.StrictVersionText.{has_zero_in_front, is_strict_number}
 use Rattle.semver_versions.specs.declared.parse.fault.Fault.{Fault}
 use Rattle.semver_versions.specs.Lemmas.Texts.NumberReading.{answer, number-again, number-takes, ok-value, refusal}
@@ -30,14 +30,8 @@ whole_read text number h =
 
 pub strict_left : (text rest : List ℕ) (number other : ℕ) → read_number text ≡ Ok (other, rest) → 1 ≤ length rest
     → IsStrictNumber text number → ⊥
-strict_left text rest number other h some strict =
-    let both : answer (other, rest) ≡ answer (number, []) = sym h ∙ whole_read text number strict in
-    let same : rest ≡ [] = ap (λ (p : ℕ × List ℕ). p.1) (ok-value _ _ both) in
-    let empty : length rest ≡ 0 = ap length same in
-    absurd (omega (arith, some, empty))
+strict_left text rest number other h some strict = grind (arith, answer, whole_read, ok-value)
 
 pub strict_refused : (text : List ℕ) (number : ℕ) (fault : Fault) → read_number text ≡ Err fault
     → IsStrictNumber text number → ⊥
-strict_refused text number fault h strict =
-    let both : refusal {A = ℕ × List ℕ} fault ≡ answer (number, []) = sym h ∙ whole_read text number strict in
-    cc both
+strict_refused text number fault h strict = grind (arith, refusal, answer, whole_read)

@@ -1,15 +1,15 @@
 -- The parts between dots, as the reader of strict texts goes over them.
 use Rattle.std.proofs.Common.{◌≡◌, ◌+◌, ◌-◌, ◌≤◌, ◌<◌, ℕ, Bool, true, false, List, [], ◌∷◌, length, refl, sym, ap, ◌∙◌}
-use Rattle.std.proofs.Common.{inl, inr, arith, length-append, subst, suc}
+use Rattle.std.proofs.Common.{inl, inr, arith, length-append}
 use Rattle.std.proofs.lemmas.Bool.{cases_Bool}
 use Rattle.std.specs.Prelude.{◌==◌, ◌&&◌, not}
-use Rattle.std.specs.List.{list_all, onto_first, prefix_len, take_while}
+use Rattle.std.specs.List.{list_all, onto_first, take_while}
 use Rattle.semver_versions.specs.Characters.{BeginsWithNo, dot}
 use Rattle.semver_versions.specs.Fault.{with_dots}
 use Rattle.semver_versions.specs.IdentifierText.{parts_of}
-use Rattle.semver_versions.specs.Readers.Reading.{prefix_of, rest_of}
-use Rattle.semver_versions.specs.Readers.StrictViews.{IsStrictUpTo, IsUnstrictFrom, are_strict, is_inner, is_listed}
-use Rattle.semver_versions.specs.Readers.StrictViews.{is_strict, strict_offset}
+use Rattle.semver_versions.specs.Reading.{prefix_of, rest_of}
+use Rattle.semver_versions.specs.Private.StrictViews.{IsStrictUpTo, IsUnstrictFrom, are_strict, is_inner, is_listed}
+use Rattle.semver_versions.specs.Private.StrictViews.{is_strict, strict_offset}
 use Rattle.semver_versions.specs.declared.parse.strict.Part.{Part}
 use Rattle.semver_versions.specs.declared.parse.strict.Part.TheVariants.{Identifier, Number}
 use Rattle.semver_versions.specs.Lemmas.Texts.Prefixes.{prefix_of-rest_of}
@@ -27,18 +27,7 @@ pub last-part : (listed : ℕ → Bool) (text : List ℕ) → BeginsWithNo (λ b
     → IsLastPart listed text
 unfolding prefix_of rest_of
 last-part listed [] none = record { parts = refl; rest = refl }
-last-part listed (b ∷ text) none = elim (cases_Bool (listed b)) [
-  | inr stops ↦ record { parts = rw stops refl; rest = rw stops refl }
-  | inl goes ↦ elim (cases_Bool (b == dot)) [
-    | inl here ↦ absurd (let no : (b == dot) ≡ false = rw (goes, here) at none in cc (sym here ∙ no))
-    | inr other ↦
-        let r = last-part listed text (rw (goes, other) at none) in
-        record {
-          parts = rw (goes, other) (ap (onto_first b) r.parts);
-          rest = rw (goes, other) r.rest;
-        }
-  ]
-]
+last-part listed (b ∷ text) none = grind (arith, last-part listed text)
 
 -- more parts follow it after a dot
 pub record HasNextPart (listed : ℕ → Bool) (text next : List ℕ) : Type 0 where
@@ -49,27 +38,7 @@ pub next-part : (listed : ℕ → Bool) (text next : List ℕ) → listed dot �
     → rest_of (inner listed) text ≡ dot ∷ next → HasNextPart listed text next
 unfolding prefix_of rest_of
 next-part listed [] next dots e = cc e
-next-part listed (b ∷ text) next dots e = elim (cases_Bool (listed b)) [
-  | inr stops ↦
-      let same : b ∷ text ≡ dot ∷ next = rw stops at e in
-      let is : b ≡ dot = cc same in
-      absurd (let no : listed dot ≡ false = rw is at stops in cc (sym dots ∙ no))
-  | inl goes ↦ elim (cases_Bool (b == dot)) [
-    | inl here ↦
-        let same : b ∷ text ≡ dot ∷ next = rw (goes, here) at e in
-        let tail : text ≡ next = cc same in
-        record {
-          parts = rw (goes, here) (ap (λ (l : List ℕ). [] ∷ parts_of (prefix_of listed l)) tail);
-          rest = rw goes (ap (λ (l : List ℕ). rest_of listed l) tail);
-        }
-    | inr other ↦
-        let r = next-part listed text next dots (rw (goes, other) at e) in
-        record {
-          parts = rw (goes, other) (ap (onto_first b) r.parts);
-          rest = rw goes r.rest;
-        }
-  ]
-]
+next-part listed (b ∷ text) next dots e = grind (arith, next-part listed text next dots)
 
 -- the first part, whatever follows it
 pub parts-first : (listed : ℕ → Bool) (text : List ℕ)
@@ -98,9 +67,7 @@ passed-none test part parts fails = rw fails refl
 
 pub passed-one : (test : List ℕ → Bool) (part : List ℕ) (parts : List (List ℕ)) → test part ≡ true
     → passed test (part ∷ parts) ≡ length part + 1 + passed test parts
-passed-one test part parts passes =
-    let one : prefix_len test (part ∷ parts) ≡ suc (prefix_len test parts) = rw passes (omega arith) in
-    rw one (omega (arith, length-append part (dot ∷ with_dots (take_while test parts))))
+passed-one test part parts passes = grind (arith, length-append)
 
 -- the length of a text is that of its first part, the mark after it and what follows
 pub part-length : (test : ℕ → Bool) (text : List ℕ) (mark : ℕ) (next : List ℕ) → rest_of test text ≡ mark ∷ next
@@ -155,18 +122,11 @@ module _ (part : Part) (text rest first others : List ℕ) (reached : IsReached 
 
   -- the parts of the rest, if no dot follows the first one
   last-strict : BeginsWithNo (λ b. b == dot) others → are_strict part rest ≡ is_strict part first && true
-  last-strict none =
-      let l = last-part (is_listed part) rest (subst (BeginsWithNo (λ b. b == dot)) others_is none) in
-      ap (list_all (is_strict part)) l.parts ∙ ap (λ (p : List ℕ). is_strict part p && true) (sym first_is)
+  last-strict none = grind (arith, last-part)
 
   -- a last part that is strictly written
   pub reached-end : is_strict part first ≡ true → BeginsWithNo (λ b. b == dot) others → IsStrictUpTo part text others
-  reached-end strict none =
-      let l = last-part (is_listed part) rest (subst (BeginsWithNo (λ b. b == dot)) others_is none) in
-      record {
-        strict = reached.strict ∙ last-strict none ∙ rw strict refl;
-        follows = others_is ∙ sym l.rest ∙ sym reached.follows;
-      }
+  reached-end strict none = grind (arith, last-part)
 
   -- a part that is not
   pub reached-unstrict : is_strict part first ≡ false → IsUnstrictFrom part text (length rest)

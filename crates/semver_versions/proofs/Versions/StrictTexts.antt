@@ -4,10 +4,10 @@ use Rattle.std.proofs.Common.{inl, inr, arith, drop, subst, suc, take}
 use Rattle.std.proofs.lemmas.Bool.{cases_Bool}
 use Rattle.std.specs.Prelude.{◌==◌, not}
 use Rattle.std.specs.List.{list_all, prefix_len}
-use Rattle.semver_versions.specs.Characters.{BeginsWithNo, hyphen, plus}
+use Rattle.semver_versions.specs.Characters.{BeginsWithNo, hyphen}
 use Rattle.semver_versions.specs.IdentifierText.{parts_of}
-use Rattle.semver_versions.specs.Readers.Reading.{prefix_of, rest_of}
-use Rattle.semver_versions.specs.Readers.StrictViews.{IsStrictUpTo, IsUnstrictFrom, is_listed}
+use Rattle.semver_versions.specs.Reading.{prefix_of, rest_of}
+use Rattle.semver_versions.specs.Private.StrictViews.{IsStrictUpTo, IsUnstrictFrom, is_listed}
 use Rattle.semver_versions.specs.Lemmas.Versions.FaultLemmas.{one_fault, version-no_fault}
 use Rattle.semver_versions.specs.VersionLaws.{HasOneStrictFault, IsNeverStrictAndFaulty}
 use Rattle.semver_versions.specs.StrictVersionText.{IsStrictlyWritten, IsUnstrictAt, first_failing, identifier, loose}
@@ -33,47 +33,21 @@ behind text = drop (prefix_len (λ b. not (b == hyphen)) text + 1) text
 
 -- one character more, which is no hyphen
 behind-other : (b : ℕ) (text : List ℕ) → (b == hyphen) ≡ false → behind (b ∷ text) ≡ behind text
-behind-other b text other =
-    let one : 1 + prefix_len (λ c. not (c == hyphen)) text + 1 ≡ suc (prefix_len (λ c. not (c == hyphen)) text + 1) =
-    omega arith in
-    rw (other, one) refl
+behind-other b text other = grind arith
 
 -- the identifiers after the hyphen
 behind-hyphen : (text identifiers : List ℕ) → rest_of (is_listed Number) text ≡ hyphen ∷ identifiers
     → behind (prefix_of (is_listed Identifier) text) ≡ prefix_of (is_listed Identifier) identifiers
 unfolding prefix_of rest_of
 behind-hyphen [] identifiers e = cc e
-behind-hyphen (b ∷ text) identifiers e = elim (cases_Bool (b == hyphen)) [
-  | inl here ↦
-      let same : b ∷ text ≡ hyphen ∷ identifiers = rw here at e in
-      let is : b ≡ hyphen = cc same in
-      let tail : text ≡ identifiers = cc same in
-      rw is (ap (prefix_of (is_listed Identifier)) tail)
-  | inr other ↦ elim (cases_Bool (b == plus)) [
-    | inl mark ↦
-        let same : b ∷ text ≡ hyphen ∷ identifiers = rw (other, mark) at e in
-        let is : b ≡ hyphen = cc same in
-        absurd (let no : (hyphen == hyphen) ≡ false = rw is at other in cc no)
-    | inr none ↦
-        let rest : rest_of (is_listed Number) text ≡ hyphen ∷ identifiers = rw (other, none) at e in
-        rw none (behind-other b (prefix_of (is_listed Identifier) text) other) ∙ behind-hyphen text identifiers rest
-  ]
-]
+behind-hyphen (b ∷ text) identifiers e = grind (arith, behind-hyphen text identifiers, behind-other)
 
 -- nothing, if there is no hyphen before the build
 behind-none : (text : List ℕ) → BeginsWithNo (λ b. b == hyphen) (rest_of (is_listed Number) text)
     → behind (prefix_of (is_listed Identifier) text) ≡ []
 unfolding prefix_of rest_of
 behind-none [] none = refl
-behind-none (b ∷ text) none = elim (cases_Bool (b == hyphen)) [
-  | inl here ↦ absurd (let no : (b == hyphen) ≡ false = rw here at none in cc (sym here ∙ no))
-  | inr other ↦ elim (cases_Bool (b == plus)) [
-    | inl mark ↦ rw mark refl
-    | inr more ↦
-        let rest : BeginsWithNo (λ b. b == hyphen) (rest_of (is_listed Number) text) = rw (other, more) at none in
-        rw more (behind-other b (prefix_of (is_listed Identifier) text) other) ∙ behind-none text rest
-  ]
-]
+behind-none (b ∷ text) none = grind (arith, behind-none text, behind-other)
 
 -- the numbers
 numbers-are : (text : List ℕ) → numbers_text text ≡ prefix_of (is_listed Number) text

@@ -1,9 +1,9 @@
 -- A bumped version is above the version, but after `pre`, and after `prerelease` with an identifier.
-use Rattle.std.proofs.Common.{◌≡◌, ◌≢◌, ◌+◌, List, [], ◌∷◌, ◌++◌, ◌∙◌, Option, Some, None, arith, inl, inr, refl, subst, sym}
-use Rattle.semver_versions.specs.Bump.{IsBumped, IsNextOf, IsUpward, base_identifiers}
-use Rattle.semver_versions.specs.IdentifierValue.{IdentifierValue, numeric}
+use Rattle.std.proofs.Common.{◌≡◌, ◌≢◌, ◌+◌, List, [], ◌∷◌, ◌++◌, ◌∙◌, Option, Some, None, arith, inl, inr, refl, sym}
+use Rattle.semver_versions.specs.Bump.{IsBumped, IsNextOf, IsUpward}
+use Rattle.semver_versions.specs.IdentifierValue.{IdentifierValue}
 use Rattle.semver_versions.specs.Order.{IsBelow, IsIdentifierBelow, IsListBelow, before_release}
-use Rattle.semver_versions.specs.Order.{by_identifiers, by_major, by_minor, by_patch}
+use Rattle.semver_versions.specs.Order.{by_major, by_minor, by_patch}
 use Rattle.semver_versions.specs.Triple.{triple_of}
 use Rattle.semver_versions.specs.Version.{HasSameTriple, IsPrerelease, VersionValue}
 use Rattle.semver_versions.specs.declared.version.bump.Bump.{Bump}
@@ -21,20 +21,7 @@ longer one (x ∷ more) some = inl (record { next = x; rest = more; goes_on = re
 pub next-below : (base : IdentifierBase) (one other : List IdentifierValue) → one ≢ [] → IsNextOf None base one other
     → IsListBelow IsIdentifierBelow one other
 next-below base [] other some next = absurd (some refl)
-next-below base (x ∷ xs) other some next = elim next.1 [
-  | inl raised ↦ inr (record {
-    common = raised.before;
-    next = numeric raised.number;
-    rest = raised.after;
-    other_next = numeric (raised.number + 1);
-    other_rest = raised.after;
-    first = raised.split.whole;
-    second = raised.raised;
-    below = omega arith;
-  })
-  | inr texts ↦ subst (IsListBelow IsIdentifierBelow (x ∷ xs)) (sym texts.1)
-      (longer (x ∷ xs) (base_identifiers base) next.0)
-]
+next-below base (x ∷ xs) other some next = grind (arith, longer)
 
 some-append : {A : Type 0} (before : List A) (x : A) (after : List A) → before ++ (x ∷ after) ≢ []
 some-append [] x after same = cc same
@@ -42,19 +29,14 @@ some-append (y ∷ before) x after same = cc same
 
 -- what is above a list is not empty
 below-some : (one other : List IdentifierValue) → IsListBelow IsIdentifierBelow one other → other ≢ []
-below-some one other below none = elim below [
-  | inl more ↦ some-append one more.next more.rest (sym more.goes_on ∙ none)
-  | inr next ↦ some-append next.common next.other_next next.other_rest (sym next.second ∙ none)
-]
+below-some one other below none = grind (arith, some-append)
 
 -- ---- by the kinds of bump
 
 -- the next prerelease of a prerelease
 pub next-above : (base : IdentifierBase) (v w : VersionValue) → HasSameTriple v w → IsPrerelease v
     → IsNextOf None base v.pre_release w.pre_release → IsBelow v w
-next-above base v w triple pre next =
-    let below = next-below base v.pre_release w.pre_release pre next in
-    by_identifiers triple pre (below-some v.pre_release w.pre_release below) below
+next-above base v w triple pre next = grind (arith, next-below, below-some)
 
 same-triple : (v w : VersionValue) → (triple_of w).major ≡ v.major → (triple_of w).minor ≡ v.minor
     → (triple_of w).patch ≡ v.patch → HasSameTriple v w

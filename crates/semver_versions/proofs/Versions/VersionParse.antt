@@ -1,16 +1,18 @@
 -- What a reader at the start of a text says of the whole text.
-use Rattle.std.proofs.Common.{◌≡◌, ◌-◌, ◌<◌, ◌≤◌, ◌^◌, ℕ, List, [], ◌∷◌, ◌++◌, length, Ok, Err, refl, sym, ◌∙◌}
-use Rattle.std.proofs.Common.{inl, inr, subst, arith, take, drop}
+use Rattle.std.proofs.Common.{◌≡◌, ◌-◌, ◌<◌, ◌≤◌, ℕ, List, [], ◌∷◌, length, Ok, Err, refl, ◌∙◌}
+use Rattle.std.proofs.Common.{arith, take, drop}
 use Rattle.std.proofs.lemmas.List.{take_rest}
 use Rattle.std.specs.Borrow.{Bor}
-use Rattle.std.proofs.lemmas.Bool.{cases_Bool, cond-false, cond-true}
-use Rattle.std.specs.Prelude.{IfErr, Result, codes, nat_lt}
+use Rattle.std.proofs.lemmas.Bool.{cond-false, cond-true}
+use Rattle.std.specs.Prelude.{IfErr, Result, codes}
 use Rattle.semver_versions.specs.Lemmas.Texts.Prefixes.{begins-append}
 use Rattle.semver_versions.specs.declared.TheConstants.{MAX_LENGTH}
 use Rattle.semver_versions.specs.Characters.{BeginsWith, is_digit}
-use Rattle.semver_versions.specs.Readers.Reading.{read_extras, read_marked_triple, read_unmarked, read_version}
-use Rattle.semver_versions.specs.Readers.Reading.{version_of}
-use Rattle.semver_versions.specs.Readers.ReadingViews.{IsBegun, seen}
+use Rattle.semver_versions.specs.Reading.{read_extras}
+use Rattle.semver_versions.specs.Private.VersionReading.{read_marked_triple, read_unmarked, read_version}
+use Rattle.semver_versions.specs.Private.VersionReading.{version_of}
+use Rattle.semver_versions.specs.Reading.{seen}
+use Rattle.semver_versions.specs.Private.VersionReading.{IsBegun}
 use Rattle.semver_versions.specs.declared.parse.fault.Fault.TheVariants.{LeftOver, TooLarge}
 use Rattle.semver_versions.specs.Version.{VersionValue, release}
 use Rattle.semver_versions.specs.VersionText.{IsVersionText}
@@ -19,7 +21,7 @@ use Rattle.semver_versions.specs.Lemmas.Texts.ExtrasReading.{no_extras}
 use Rattle.semver_versions.specs.Lemmas.Versions.OneReading.{read-version}
 use Rattle.semver_versions.specs.Error.{Kind, context, max_int, max_length, other, parse_int}
 use Rattle.semver_versions.specs.Fault.{IsFault, large_number, left_over, no_number, no_dot, too_large, too_long}
-use Rattle.semver_versions.specs.Readers.FaultViews.{IsReadFault}
+use Rattle.semver_versions.specs.Private.FaultViews.{IsReadFault}
 use Rattle.semver_versions.specs.Lemmas.Versions.FaultReading.{behind-there, fault-takes, left-takes}
 
 -- the fault of a text whose triple was not read
@@ -60,10 +62,7 @@ begun-left text rest (b ∷ left) triple begun end some =
 
 -- a kind of fault that is not one of a number
 no-large : (kind : Kind) (n : ℕ) → ((m : ℕ) → kind ≡ max_int m → ⊥) → (kind ≡ parse_int → ⊥) → kind ≡ too_large n → ⊥
-no-large kind n ints parses same = elim (cases_Bool (nat_lt n (2 ^ 64))) [
-  | inl fits ↦ ints n (same ∙ cond-true _ _ _ fits)
-  | inr large ↦ parses (same ∙ cond-false _ _ _ large)
-]
+no-large kind n ints parses same = grind (arith, cond-true, cond-false)
 
 -- the fault of a number that is too large is where that number begins
 large-here : (text : List ℕ) (kind : Kind) (offset n : ℕ) → IsFault text kind offset → kind ≡ too_large n
@@ -71,10 +70,7 @@ large-here : (text : List ℕ) (kind : Kind) (offset n : ℕ) → IsFault text k
 large-here text _ _ n (too_long long) same = absurd (no-large max_length n (λ m e. cc e) (λ e. cc e) same)
 large-here text _ _ n (no_number beginning rest count short before none) same =
     absurd (no-large (context (codes "version")) n (λ m e. cc e) (λ e. cc e) same)
-large-here text _ _ n (large_number beginning digits rest count short before all large) same =
-    let here : drop (length beginning) text ≡ digits ++ rest =
-    behind-there text beginning (digits ++ rest) before.whole in
-    subst (λ (l : List ℕ). BeginsWith is_digit l) (sym here) (begins-append is_digit digits rest all.some)
+large-here text _ _ n (large_number beginning digits rest count short before all large) same = grind (arith, behind-there, begins-append)
 large-here text _ _ n (no_dot beginning digits rest count short before few all small none) same =
     absurd (no-large (context (codes "version")) n (λ m e. cc e) (λ e. cc e) same)
 large-here text _ _ n (left_over beginning v b rest short whole digit read longest) same =

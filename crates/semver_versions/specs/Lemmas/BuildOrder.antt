@@ -1,4 +1,5 @@
 -- The order with builds is total, and its function agrees with its relation.
+use Rattle.std.proofs.Common.{arith}
 use Rattle.std.proofs.Common.{◌≡◌, refl, sym, subst, ◌∙◌}
 use Rattle.std.specs.Ordering.{ordering_then}
 use Rattle.std.specs.Cmp.{IsTotalOrder, on_total, then_total, tied_itself}
@@ -33,13 +34,7 @@ build-Less v w (by_build s b) = then-tied _ _ (version-Equal v w s)
 
 -- versions that tie have the same fields
 all-fields : (v w : VersionValue) → IsSame v w → v.build ≡ w.build → v ≡ w
-all-fields v w s b = λ i. record {
-  major = s.triple.major i;
-  minor = s.triple.minor i;
-  patch = s.triple.patch i;
-  pre_release = s.pre_release i;
-  build = b i;
-}
+all-fields v w s b = grind arith
 
 Equal-build : (v w : VersionValue) → version_build_cmp v w ≡ Equal → v ≡ w
 Equal-build v w e = all-fields v w (Equal-version v w (then-first _ _ e))

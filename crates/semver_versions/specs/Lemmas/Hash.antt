@@ -1,5 +1,6 @@
 -- Equal identifiers and equal versions feed a hasher the same.
-use Rattle.std.proofs.Common.{◌≡◌, ◌++◌, ℕ, true, List, ap, sym}
+use Rattle.std.proofs.Common.{arith}
+use Rattle.std.proofs.Common.{◌≡◌, ◌++◌, ℕ, true, List, ap}
 use Rattle.std.specs.Hash as fed
 use Rattle.std.specs.Ordering.{eq_by_cmp}
 use Rattle.std.specs.Cmp.{Equal-is}
@@ -33,6 +34,4 @@ pub version_writes-fields : (major minor patch : ℕ) (identifiers : List Identi
           values_of identifiers;
       build = build;
     })
-version_writes-fields major minor patch identifiers build =
-    ap (λ r. fed.u64 major ++ fed.u64 minor ++ fed.u64 patch ++ r)
-    (sym (items_map value_of identifier_writes identifiers))
+version_writes-fields major minor patch identifiers build = grind (arith, items_map)

@@ -1,9 +1,10 @@
 -- The comparisons of `Order` are total orders, and agree with its relations.
-use Rattle.std.proofs.Common.{◌≡◌, ◌≢◌, ◌<◌, ◌↔◌, ℕ, List, [], ◌∷◌, ◌++◌, refl}
+use Rattle.std.proofs.Common.{arith}
+use Rattle.std.proofs.Common.{◌≡◌, ◌≢◌, ◌<◌, ◌↔◌, ◌⊎◌, ℕ, List, [], ◌∷◌, ◌++◌, refl}
 use Rattle.std.proofs.Common.{sym, ap, subst, ◌∙◌, inl, inr, Bool, IsTrue, ◌==◌, ◌&&◌}
-use Rattle.std.specs.Ordering.{eq_by_cmp, is_eq, nat_cmp, on, then_cmp, ordering_then, ordering_reverse}
+use Rattle.std.specs.Ordering.{eq_by_cmp, nat_cmp, on, then_cmp, ordering_then, ordering_reverse}
 use Rattle.std.specs.Cmp.{Equal-is, IsTotalOrder, nat_cmp_is, nat_cmp_total, on_total, then_total, tied_itself}
-use Rattle.std.specs.Cmp.{unsigned_ties}
+use Rattle.std.specs.Cmp.{tied_then, unsigned_ties}
 use Rattle.std.specs.Cmp.Lexicographic.{slice_cmp, lists_total, nat_list_cmp_total}
 use Rattle.std.specs.FinMap.{IsAntisymmetric, nat_cmp-IsAntisymmetric, slice_cmp-IsAntisymmetric}
 use Rattle.std.proofs.lemmas.Cmp.{ranked}
@@ -63,6 +64,11 @@ pub prerelease_total : IsTotalOrder prerelease_cmp
 prerelease_total = subst IsTotalOrder (λ i xs ys. by_rank xs ys i)
     (then_total (on_total rank nat_cmp_total) (lists_total identifier_total))
 
+pub triple_total : IsTotalOrder triple_cmp
+triple_total =
+    then_total (on_total (λ (t : Triple). t.major) nat_cmp_total)
+    (then_total (on_total (λ (t : Triple). t.minor) nat_cmp_total) (on_total (λ (t : Triple). t.patch) nat_cmp_total))
+
 pub version_total : IsTotalOrder version_cmp
 version_total = then_total (on_total (λ (v : VersionValue). v.major) nat_cmp_total)
     (then_total (on_total (λ (v : VersionValue). v.minor) nat_cmp_total)
@@ -85,6 +91,11 @@ Greater-turned {R = R} o x y =
 -- the first decides, unless it is `Equal`
 pub then-Less : (r s : Ordering) → r ≡ Less → ordering_then r s ≡ Less
 then-Less r s e = ap (λ k. ordering_then k s) e
+
+pub then-cases : (r s : Ordering) → ordering_then r s ≡ Less → (r ≡ Less) ⊎ ((r ≡ Equal) × (s ≡ Less))
+then-cases Less s e = inl refl
+then-cases Equal s e = inr (refl, e)
+then-cases Greater s e = cc e
 
 pub then-tied : (r s : Ordering) → r ≡ Equal → ordering_then r s ≡ s
 then-tied r s e = ap (λ k. ordering_then k s) e
@@ -211,10 +222,7 @@ pub identifier_order : (a b : IdentifierValue) (r : Ordering) → r ≡ identifi
 identifier_order a b r e = subst (IdentifierOrderMeans a b) (sym e) (identifier_cmp-means a b)
 
 pub identifier_same : (a b : IdentifierValue) (r : Bool) → r ≡ eq_by_cmp identifier_cmp a b → IsTrue r ↔ (a ≡ b)
-identifier_same a b r e = (
-  λ t. (identifier_cmp-means a b).same.0 ((Equal-is (identifier_cmp a b)).0 (sym e ∙ t)),
-  λ s. e ∙ (Equal-is (identifier_cmp a b)).1 ((identifier_cmp-means a b).same.1 s),
-)
+identifier_same a b r e = grind (arith, identifier_cmp-means)
 
 -- ---- versions
 
@@ -248,32 +256,25 @@ Less-prereleases v w t (x ∷ xs) (y ∷ ys) p q e = by_identifiers t (λ n. cc 
     (Less-list identifier_cmp IsIdentifierBelow Less-identifier identifier-IsAntisymmetric v.pre_release w.pre_release
     ((λ i. slice_cmp identifier_cmp (p i) (q i)) ∙ e))
 
-Less-patches : (v w : VersionValue) → v.major ≡ w.major → v.minor ≡ w.minor → (r : Ordering)
-    → nat_cmp v.patch w.patch ≡ r
-    → ordering_then r (prerelease_cmp v.pre_release w.pre_release) ≡ Less → IsBelow v w
-Less-patches v w a b Less p e = by_patch a b (Less-number v.patch w.patch p)
-Less-patches v w a b Equal p e = Less-prereleases v w
-    (record { major = a; minor = b; patch = nat_cmp-IsAntisymmetric v.patch w.patch p }) v.pre_release w.pre_release
-    refl refl e
-Less-patches v w a b Greater p e = cc e
-
-Less-minors : (v w : VersionValue) → v.major ≡ w.major → (r : Ordering) → nat_cmp v.minor w.minor ≡ r
-    → ordering_then r (ordering_then (nat_cmp v.patch w.patch) (prerelease_cmp v.pre_release w.pre_release)) ≡ Less
-    → IsBelow v w
-Less-minors v w a Less p e = by_minor a (Less-number v.minor w.minor p)
-Less-minors v w a Equal p e =
-    Less-patches v w a (nat_cmp-IsAntisymmetric v.minor w.minor p) (nat_cmp v.patch w.patch) refl e
-Less-minors v w a Greater p e = cc e
-
-Less-majors : (v w : VersionValue) → (r : Ordering) → nat_cmp v.major w.major ≡ r
-    → ordering_then r (ordering_then (nat_cmp v.minor w.minor)
-    (ordering_then (nat_cmp v.patch w.patch) (prerelease_cmp v.pre_release w.pre_release))) ≡ Less → IsBelow v w
-Less-majors v w Less p e = by_major (Less-number v.major w.major p)
-Less-majors v w Equal p e = Less-minors v w (nat_cmp-IsAntisymmetric v.major w.major p) (nat_cmp v.minor w.minor) refl e
-Less-majors v w Greater p e = cc e
-
 pub Less-version : (v w : VersionValue) → version_cmp v w ≡ Less → IsBelow v w
-Less-version v w e = Less-majors v w (nat_cmp v.major w.major) refl e
+Less-version v w e = elim (then-cases (nat_cmp v.major w.major) _ e) [
+  | inl less ↦ by_major (Less-number _ _ less)
+  | inr minors ↦
+      let major = nat_cmp-IsAntisymmetric v.major w.major minors.0 in
+      elim (then-cases (nat_cmp v.minor w.minor) _ minors.1) [
+        | inl less ↦ by_minor major (Less-number _ _ less)
+        | inr patches ↦
+            let minor = nat_cmp-IsAntisymmetric v.minor w.minor patches.0 in
+            elim (then-cases (nat_cmp v.patch w.patch) _ patches.1) [
+              | inl less ↦ by_patch major minor (Less-number _ _ less)
+              | inr lists ↦ Less-prereleases v w (record {
+                major = major;
+                minor = minor;
+                patch = nat_cmp-IsAntisymmetric v.patch w.patch lists.0;
+              }) v.pre_release w.pre_release refl refl lists.1
+            ]
+      ]
+]
 
 -- equal numbers tie
 number-tied : (m n : ℕ) → m ≡ n → nat_cmp m n ≡ Equal
@@ -312,8 +313,7 @@ Equal-version v w e =
     }
 
 pub version-Equal : (v w : VersionValue) → IsSame v w → version_cmp v w ≡ Equal
-version-Equal v w s = same-triple v w s.triple
-    ∙ subst (λ l. prerelease_cmp v.pre_release l ≡ Equal) s.pre_release (tied_itself prerelease_total v.pre_release)
+version-Equal v w s = grind (arith, same-triple, tied_itself, prerelease_total)
 
 -- `version_cmp` agrees with the relations
 pub version_cmp-means : (v w : VersionValue) → OrderMeans v w (version_cmp v w)
@@ -338,25 +338,10 @@ version_same v w r e = (
 
 -- ---- triples
 
-pub triple_total : IsTotalOrder triple_cmp
-triple_total =
-    then_total (on_total (λ (t : Triple). t.major) nat_cmp_total)
-    (then_total (on_total (λ (t : Triple). t.minor) nat_cmp_total) (on_total (λ (t : Triple). t.patch) nat_cmp_total))
-
 -- triples are equal exactly where they tie
 pub triples_tie : (t u : Triple) → ((t.major == u.major) && ((t.minor == u.minor) && (t.patch == u.patch)))
     ≡ eq_by_cmp triple_cmp t u
-triples_tie t u =
-    (λ i. unsigned_ties t.major u.major i && (unsigned_ties t.minor u.minor i && unsigned_ties t.patch u.patch i))
-    ∙ all_equal (nat_cmp t.major u.major) (nat_cmp t.minor u.minor) (nat_cmp t.patch u.patch)
-  where
-    all_equal : (r s w : Ordering)
-        → (is_eq r && (is_eq s && is_eq w)) ≡ is_eq (ordering_then r (ordering_then s w))
-    all_equal Less s w = refl
-    all_equal Greater s w = refl
-    all_equal Equal Less w = refl
-    all_equal Equal Greater w = refl
-    all_equal Equal Equal w = refl
+triples_tie t u = grind (arith, unsigned_ties, tied_then)
 
 -- versions are compared by their triples, and then by their prereleases
 pub by_triple : (v w : VersionValue)

@@ -1,5 +1,5 @@
 pub mod Between
-pub mod FaultExamples
+pub mod Computing
 pub mod FaultLemmas
 pub mod FaultReading
 pub mod LargeNumbers

@@ -6,9 +6,10 @@ ghost use Rattle.semver_versions.specs.Comparison.{prerelease_cmp, version_cmp};
 ghost use Rattle.semver_versions.specs.Identifier.{values_of};
 ghost use Rattle.semver_versions.specs.Lemmas.Order.{version_total};
 
-use crate::Identifier;
 use crate::end::{EndVersion, Extras, Zero};
+use crate::identifier::borrowed::cmp_with_borrowed;
 use crate::identifier::order::cmp_prereleases;
+use crate::{Identifier, Identifiers};
 use std::cmp::Ordering;
 
 impl PartialEq for EndVersion {
@@ -104,5 +105,15 @@ impl EndVersion {
     {
         let zero = Zero::new();
         cmp_prereleases(self.pre_release().as_slice(&zero), identifiers)
+    }
+
+    /// Returns the same for a prerelease that borrows its text.
+    // `inline(never)`: as above.
+    #[inline(never)]
+    pub fn cmp_borrowed(&self, identifiers: &Identifiers<'_>) -> Ordering
+        ensures { result ≡ prerelease_cmp self.now.pre_release identifiers.now }
+    {
+        let zero = Zero::new();
+        cmp_with_borrowed(self.pre_release().as_slice(&zero), identifiers)
     }
 }

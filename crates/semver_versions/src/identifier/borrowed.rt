@@ -8,13 +8,12 @@ ghost use Rattle.semver_versions.specs.Identifier.{value_of, values_of};
 ghost use Rattle.semver_versions.specs.IdentifierRef.{borrowed_value};
 ghost use Rattle.semver_versions.specs.IdentifierText as IdentifierText;
 ghost use Rattle.semver_versions.specs.IdentifierText.{IsListed, identifiers_of};
-ghost use Rattle.semver_versions.specs.Readers.Reading as Reading;
+ghost use Rattle.semver_versions.specs.Reading as Reading;
 
 mod length;
 mod order;
 
 use crate::Identifier;
-use crate::end::{EndVersion, Zero};
 use crate::identifier::common_start::{are_decided, common_length, first_byte, last_start};
 use crate::parse::identifiers::numeric;
 use crate::parse::listed::{split_extras, split_first};
@@ -142,8 +141,8 @@ pub(crate) fn borrowed_of(text: &[u8]) -> IdentifierRef<'_>
     }
 }
 
-// The identifier, by reference.
-#[inline]
+// The identifier, by reference. `inline(always)`: it stays in registers.
+#[inline(always)]
 pub(crate) fn by_reference(identifier: &Identifier) -> IdentifierRef<'_>
     ensures { borrowed_value result ≡ value_of identifier.now }
 {
@@ -278,17 +277,5 @@ pub fn cmp_with_borrowed(a: &[Identifier], b: &Identifiers<'_>) -> Ordering
         (true, false) => Ordering::Greater,
         (false, true) => Ordering::Less,
         (false, false) => cmp_list_with_text(a, b.text),
-    }
-}
-
-impl EndVersion {
-    /// Returns the order of this end and the version of its triple that has this prerelease.
-    // `inline(never)`: few comparisons reach the prereleases.
-    #[inline(never)]
-    pub fn cmp_borrowed(&self, identifiers: &Identifiers<'_>) -> Ordering
-        ensures { result ≡ prerelease_cmp self.now.pre_release identifiers.now }
-    {
-        let zero = Zero::new();
-        cmp_with_borrowed(self.pre_release().as_slice(&zero), identifiers)
     }
 }

@@ -2,8 +2,8 @@
 //!
 //! `#[inline(always)]`: these are the steps of one comparison.
 ghost use Rattle.std.specs.Prelude.{◌≡◌, ◌≤◌, length, take};
-ghost use Rattle.semver_versions.specs.Readers.CommonStarts as CommonStarts;
-ghost use Rattle.semver_versions.specs.Readers.CommonStarts.{IsCommon, IsStart};
+ghost use Rattle.semver_versions.specs.Private.CommonStarts as CommonStarts;
+ghost use Rattle.semver_versions.specs.Private.CommonStarts.{IsCommon, IsStart};
 
 use crate::parse::number::is_digit;
 

@@ -10,6 +10,7 @@ ghost use Rattle.semver_versions.specs.Comparison.{identifier_cmp, prerelease_cm
 ghost use Rattle.semver_versions.specs.Lemmas.Order.{identifier_total};
 
 use crate::Identifier;
+use crate::identifier::borrowed::{by_reference, cmp_identifiers};
 use std::cmp::Ordering;
 
 /// Two identifiers are equal if they are the same number or the same text. `Numeric(1)` and the `AlphaNumeric` of `1`
@@ -24,16 +25,12 @@ impl PartialEq for Identifier {
     ghost laws = { partial_equiv_from_equiv (on_equiv value_of (eq_by_cmp_equiv identifier_total)) };
 
     #[inline]
+    #[tactic(auto, using(crate::specs::Lemmas::Order::identifier_same))]
     fn eq(&self, other: &Identifier) -> bool
         ensures answer { result ≡ eq_by_cmp identifier_cmp (value_of self.now) (value_of other.now) }
         ensures same { IsTrue result ↔ (value_of self.now ≡ value_of other.now) }
     {
-        match (self, other) {
-            (Identifier::Numeric(a), Identifier::Numeric(b)) => *a == *b,
-            (Identifier::AlphaNumeric(a), Identifier::AlphaNumeric(b)) => a.as_str() == b.as_str(),
-            (Identifier::Numeric(_), Identifier::AlphaNumeric(_)) => false,
-            (Identifier::AlphaNumeric(_), Identifier::Numeric(_)) => false,
-        }
+        self.cmp(other).is_eq()
     }
 }
 
@@ -83,14 +80,7 @@ impl Ord for Identifier {
         ensures answer { result ≡ identifier_cmp (value_of self.now) (value_of other.now) }
         ensures order { IdentifierOrderMeans (value_of self.now) (value_of other.now) result }
     {
-        match (self, other) {
-            (Identifier::Numeric(a), Identifier::Numeric(b)) => a.cmp(b),
-            (Identifier::Numeric(_), Identifier::AlphaNumeric(_)) => Ordering::Less,
-            (Identifier::AlphaNumeric(_), Identifier::Numeric(_)) => Ordering::Greater,
-            (Identifier::AlphaNumeric(a), Identifier::AlphaNumeric(b)) => a
-                .as_str()
-                .cmp(b.as_str()),
-        }
+        cmp_identifiers(by_reference(self), by_reference(other))
     }
 }
 

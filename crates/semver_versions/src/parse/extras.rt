@@ -1,6 +1,6 @@
 //! Where a prerelease and a build end. The readers here only pass over them and build nothing.
 ghost use Rattle.std.specs.Prelude.{◌≡◌, ◌∷◌, []};
-ghost use Rattle.semver_versions.specs.Readers.Reading as Reading;
+ghost use Rattle.semver_versions.specs.Reading as Reading;
 
 use crate::parse::identifiers::{
     begins_identifier, is_identifier_character, skip_hyphen, skip_plus,
@@ -55,7 +55,7 @@ fn skip_fours(text: &[u8]) -> &[u8]
 
 // `+5` of `alpha.1+5`. `inline(always)`: as a call it takes 18 instructions more.
 #[inline(always)]
-#[tactic(auto, unfolding(crate::specs::Readers::Reading::list_rest))]
+#[tactic(auto, unfolding(crate::specs::Reading::list_rest))]
 pub(crate) fn skip_identifiers(text: &[u8]) -> &[u8]
     ensures { result.now ≡ Reading.list_rest text.now }
 {
@@ -82,7 +82,7 @@ fn skip_list<'a>(otherwise: &'a [u8], text: &'a [u8]) -> &'a [u8]
 
 // `+5` of `-alpha.1+5`
 #[inline]
-#[tactic(auto, unfolding(crate::specs::Readers::Reading::read_prerelease))]
+#[tactic(auto, unfolding(crate::specs::Reading::read_prerelease))]
 fn skip_prerelease(text: &[u8]) -> &[u8]
     ensures { result.now ≡ (Reading.read_prerelease text.now).1 }
 {
@@ -91,7 +91,7 @@ fn skip_prerelease(text: &[u8]) -> &[u8]
 
 // ` <2` of `+5 <2`
 #[inline]
-#[tactic(auto, unfolding(crate::specs::Readers::Reading::read_build))]
+#[tactic(auto, unfolding(crate::specs::Reading::read_build))]
 fn skip_build(text: &[u8]) -> &[u8]
     ensures { result.now ≡ (Reading.read_build text.now).1 }
 {
@@ -113,7 +113,7 @@ pub fn skip_extras(text: &[u8]) -> &[u8]
 
 // `inline(never)`: most words have no extras.
 #[inline(never)]
-#[tactic(auto, unfolding(crate::specs::Readers::Reading::read_extras))]
+#[tactic(auto, unfolding(crate::specs::Reading::read_extras))]
 fn skip_some_extras(text: &[u8]) -> &[u8]
     ensures { result.now ≡ (Reading.read_extras text.now).1 }
 {

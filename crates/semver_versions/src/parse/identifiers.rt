@@ -2,7 +2,7 @@ ghost use Rattle.std.specs.Prelude.{◌≡◌, ◌&&◌, ◌^◌, ◌+◌, ◌-�
 ghost use Rattle.std.specs.List.{list_all};
 ghost use Rattle.semver_versions.specs.Characters as Characters;
 ghost use Rattle.semver_versions.specs.NumberText.{number_of};
-ghost use Rattle.semver_versions.specs.Readers.Reading as Reading;
+ghost use Rattle.semver_versions.specs.Reading as Reading;
 
 use crate::parse::number::is_digit;
 use crate::parse::skip::{skip_one, split};
@@ -94,7 +94,7 @@ pub(crate) fn skip_hyphen(text: &[u8]) -> &[u8]
 
 // The text without the `+` that it begins with, or an empty text if it begins with none.
 #[inline(always)]
-#[tactic(auto, unfolding(crate::specs::Readers::Reading::skip_plus))]
+#[tactic(auto, unfolding(crate::specs::Reading::skip_plus))]
 pub(crate) fn skip_plus(text: &[u8]) -> &[u8]
     ensures { result.now ≡ Reading.skip_plus text.now }
 {

@@ -3,8 +3,8 @@
 //! `#[inline(always)]`: what is short is part of the reader around it, and hands slices on in registers.
 ghost use Rattle.std.specs.Prelude.{◌≡◌, ◌<◌, ℕ, IfSome, length};
 ghost use Rattle.semver_versions.specs.IdentifierText.{IsListed, identifiers_of};
-ghost use Rattle.semver_versions.specs.Readers.ListedViews.{IsFirstSplit, IsListSplit, IsNumberSplit, is_inner};
-ghost use Rattle.semver_versions.specs.Readers.Reading as Reading;
+ghost use Rattle.semver_versions.specs.Private.ListedViews.{IsFirstSplit, IsListSplit, IsNumberSplit, is_inner};
+ghost use Rattle.semver_versions.specs.Reading as Reading;
 
 use crate::parse::extras::skip_identifiers;
 use crate::parse::identifiers::{begins_identifier, skip_hyphen, skip_plus};
@@ -26,7 +26,7 @@ fn split_list<'a>(otherwise: &'a [u8], text: &'a [u8]) -> (&'a [u8], &'a [u8])
 
 // `alpha.1` and `+5` of `-alpha.1+5`
 #[inline(always)]
-#[tactic(auto, unfolding(crate::specs::Readers::Reading::read_prerelease))]
+#[tactic(auto, unfolding(crate::specs::Reading::read_prerelease))]
 fn split_prerelease(text: &[u8]) -> (&[u8], &[u8])
     ensures { IsListSplit (Reading.read_prerelease text.now) result.0.now result.1.now }
 {
@@ -35,7 +35,7 @@ fn split_prerelease(text: &[u8]) -> (&[u8], &[u8])
 
 // `5` and ` <2` of `+5 <2`
 #[inline(always)]
-#[tactic(auto, unfolding(crate::specs::Readers::Reading::read_build))]
+#[tactic(auto, unfolding(crate::specs::Reading::read_build))]
 fn split_build(text: &[u8]) -> (&[u8], &[u8])
     ensures { IsListSplit (Reading.read_build text.now) result.0.now result.1.now }
 {
@@ -46,7 +46,7 @@ fn split_build(text: &[u8]) -> (&[u8], &[u8])
 /// `-alpha+5 <2`. What is absent is empty.
 // `inline(always)`: the parts stay in registers.
 #[inline(always)]
-#[tactic(auto, unfolding(crate::specs::Readers::Reading::read_extras))]
+#[tactic(auto, unfolding(crate::specs::Reading::read_extras))]
 pub(crate) fn split_extras(text: &[u8]) -> (&[u8], &[u8], &[u8])
     ensures prerelease { identifiers_of result.0.now ≡ (Reading.read_extras text.now).0.0 }
     ensures prerelease_listed { IsListed result.0.now }

@@ -1,7 +1,7 @@
 ghost use Rattle.std.specs.Prelude.{◌≡◌, length};
 ghost use Rattle.semver_versions.specs.Characters as Characters;
-ghost use Rattle.semver_versions.specs.Readers.Reading as Reading;
-ghost use Rattle.semver_versions.specs.Readers.ReadingViews.{seen};
+ghost use Rattle.semver_versions.specs.Reading as Reading;
+ghost use Rattle.semver_versions.specs.Reading.{seen};
 ghost use Rattle.semver_versions.specs.declared.parse.fault.Fault.TheVariants.{Missing};
 
 use crate::MAX_SAFE_INTEGER;
@@ -18,7 +18,7 @@ pub fn is_digit(byte: u8) -> bool
 
 // 12 and `.3` of `12.3`: all leading digits, and the rest
 #[inline(always)]
-#[tactic(auto, unfolding(crate::specs::Readers::Reading::prefix_of, crate::specs::Readers::Reading::rest_of, crate::specs::Readers::Reading::read_number))]
+#[tactic(auto, unfolding(crate::specs::Reading::prefix_of, crate::specs::Reading::rest_of, crate::specs::Reading::read_number))]
 pub fn read_number(text: &[u8]) -> Result<(u64, &[u8]), Fault>
     ensures { seen result ≡ Reading.read_number text.now }
 {
@@ -51,7 +51,7 @@ pub(crate) fn missing(text: &[u8]) -> Fault
 }
 
 /// Returns all leading digits: `12` for `12.3`.
-pub fn leading_digits(text: &[u8]) -> &[u8]
+pub(crate) fn leading_digits(text: &[u8]) -> &[u8]
     ensures { result.now ≡ Reading.prefix_of Characters.is_digit text.now }
 {
     split(text, is_digit).0

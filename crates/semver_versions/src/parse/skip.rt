@@ -3,8 +3,8 @@
 //! `#[inline(always)]` makes the test, a closure, part of the loop.
 ghost use Rattle.std.specs.Prelude.{◌≡◌, ℕ, Bool, false, IfSome, IfNone, IsTrue};
 ghost use Rattle.semver_versions.specs.Characters as Characters;
-ghost use Rattle.semver_versions.specs.Readers.Reading as Reading;
-ghost use Rattle.semver_versions.specs.Readers.ReadingViews.{IsTest};
+ghost use Rattle.semver_versions.specs.Reading as Reading;
+ghost use Rattle.semver_versions.specs.Reading.{IsTest};
 
 /// Returns the longest prefix whose bytes all pass the test, and the rest.
 #[inline(always)]

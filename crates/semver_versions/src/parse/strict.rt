@@ -5,8 +5,8 @@ ghost use Rattle.std.specs.Prelude.{◌≡◌, ◌-◌, ◌≤◌, ◌==◌, ◌
 ghost use Rattle.std.specs.List.{list_all};
 ghost use Rattle.semver_versions.specs.Characters as Characters;
 ghost use Rattle.semver_versions.specs.Characters.{BeginsWithNo};
-ghost use Rattle.semver_versions.specs.Readers.StrictViews as StrictViews;
-ghost use Rattle.semver_versions.specs.Readers.StrictViews.{IsStrictUpTo, IsUnstrictFrom};
+ghost use Rattle.semver_versions.specs.Private.StrictViews as StrictViews;
+ghost use Rattle.semver_versions.specs.Private.StrictViews.{IsStrictUpTo, IsUnstrictFrom};
 ghost use Rattle.semver_versions.specs.StrictVersionText as StrictVersionText;
 ghost use Rattle.semver_versions.specs.StrictVersionText.{IsStrictlyWritten, IsUnstrictAt};
 

@@ -1,7 +1,7 @@
 //! Finding a version in a text: npm's `coerce`.
 ghost use Rattle.std.specs.Prelude.{◌≡◌, ℕ, Bool, List, IfNone, IfSome};
 ghost use Rattle.semver_versions.specs.Coerce.{IsChosen, IsCoerced, IsPiece};
-ghost use Rattle.semver_versions.specs.Readers.PieceViews.{numbers_of};
+ghost use Rattle.semver_versions.specs.Private.PieceViews.{numbers_of};
 ghost use Rattle.semver_versions.specs.Version.{VersionValue};
 
 mod first;

@@ -1,13 +1,13 @@
 ghost use Rattle.std.specs.Prelude.{◌≡◌, ◌⊎◌, ◌≤◌, [], IfOk, IfErr, IfSome, IsOk, length};
-ghost use Rattle.semver_versions.specs.Readers.ReadingViews.{IsBegun};
+ghost use Rattle.semver_versions.specs.Private.VersionReading.{IsBegun};
 ghost use Rattle.semver_versions.specs.Print.{version_text};
 ghost use Rattle.semver_versions.specs.declared.TheConstants.{MAX_LENGTH};
 ghost use Rattle.semver_versions.specs.Version.{VersionValue, release};
 ghost use Rattle.semver_versions.specs.VersionText.{IsVersionText};
 ghost use Rattle.semver_versions.specs.Error.{IsOutOfMemory};
 ghost use Rattle.semver_versions.specs.Fault.{IsFaultOf};
-ghost use Rattle.semver_versions.specs.Readers.FaultViews.{IsReadFault};
-ghost use Rattle.semver_versions.specs.Readers.ParsedViews.{IsParsed};
+ghost use Rattle.semver_versions.specs.Private.FaultViews.{IsReadFault};
+ghost use Rattle.semver_versions.specs.Private.ParsedViews.{IsParsed};
 ghost use Rattle.semver_versions.specs.ReadingBack.{HasText, VersionReadsBack};
 ghost use Rattle.semver_versions.specs.Error.{IsReadAs};
 
@@ -137,7 +137,7 @@ fn version_after_triple(
     ensures { IsParsed text.now result }
 {
     match read_rest(text, (major, minor, patch), rest) {
-        Ok(version) => match version.to_version_inline(alloc) {
+        Ok(version) => match version.to_version(alloc) {
             Ok(version) => Ok(version),
             Err(_) => Err(out_of_memory(alloc)),
         },

@@ -32,16 +32,9 @@ impl<'a> VersionRef<'a> {
     /// # Examples
     ///
     /// That of `v1.2.3` is `Version::new(alloc, 1, 2, 3)`.
-    pub fn to_version(&self, alloc: Global) -> Result<Version, AllocError>
-        ensures copy { IfOk result (λ v. v ≡ self.now) }
-        ensures plain { IsPlain self.now → IsOk result }
-    {
-        self.to_version_inline(alloc)
-    }
-
-    // The same. `inline(always)`: so `Version::parse` has the copy in its place, whoever else copies.
+    // `inline(always)`: so `Version::parse` has the copy in its place, whoever else copies.
     #[inline(always)]
-    pub(crate) fn to_version_inline(&self, alloc: Global) -> Result<Version, AllocError>
+    pub fn to_version(&self, alloc: Global) -> Result<Version, AllocError>
         ensures copy { IfOk result (λ v. v ≡ self.now) }
         ensures plain { IsPlain self.now → IsOk result }
     {

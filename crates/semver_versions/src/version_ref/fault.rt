@@ -6,8 +6,8 @@ ghost use Rattle.semver_versions.specs.Error.{IsOutOfMemory, IsRefusalAt, kind_o
 ghost use Rattle.semver_versions.specs.ErrorLocation.{column_at, lines_before};
 ghost use Rattle.semver_versions.specs.Fault as Told;
 ghost use Rattle.semver_versions.specs.NumberText.{number_of};
-ghost use Rattle.semver_versions.specs.Readers.FaultViews.{IsReadFault, kind_in};
-ghost use Rattle.semver_versions.specs.Readers.Reading as Reading;
+ghost use Rattle.semver_versions.specs.Private.FaultViews.{IsReadFault, kind_in};
+ghost use Rattle.semver_versions.specs.Reading as Reading;
 ghost use Rattle.semver_versions.specs.VersionFault.{IsVersionFault, fault_kind_of};
 ghost use Rattle.semver_versions.specs.declared.parse.fault.Fault.TheVariants.{TooLarge};
 

@@ -2,10 +2,10 @@
 //!
 //! `#[inline(always)]`: the readers hand numbers and slices on in registers.
 ghost use Rattle.std.specs.Prelude.{IfOk, IfErr};
-ghost use Rattle.semver_versions.specs.Readers.ReadingViews.{IsBegun};
+ghost use Rattle.semver_versions.specs.Private.VersionReading.{IsBegun};
 ghost use Rattle.semver_versions.specs.Version.{VersionValue};
 ghost use Rattle.semver_versions.specs.VersionText.{IsVersionText};
-ghost use Rattle.semver_versions.specs.Readers.FaultViews.{IsReadFault};
+ghost use Rattle.semver_versions.specs.Private.FaultViews.{IsReadFault};
 ghost use Rattle.semver_versions.specs.VersionFault.{IsBorrowedAs, IsVersionFault};
 
 use crate::identifier::borrowed::borrow_extras;

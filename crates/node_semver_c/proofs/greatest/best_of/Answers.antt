@@ -7,10 +7,11 @@ use Rattle.node_semver_c.proofs.greatest.best_of.Goals as goal
 use Rattle.semver_versions.specs.Version.{VersionValue}
 
 pub versions-preserved : goal.versions-preserved
-versions-preserved c =
+versions-preserved g c =
     let before = option_map (λ b. (b.0, b.1.now)) c.versions.best in
     let after = option_map (λ b. (b.0, b.1.now)) c.better-best.result in
-    taken-place c.args.upward c.args.range.now c.args.versions.now c.versions.place c.index-versions-place.result before
+    let wanted = g.A.Admits.admits c.args.asked.now in
+    taken-place c.args.upward wanted c.args.versions.now c.versions.place c.index-versions-place.result before
     after c.versions-test.true c.index-versions-place.is c.versions.invariant
-    (subst (λ (v : VersionValue). IsBetterAt (order_of c.args.upward) c.args.range.now before c.versions.place v after)
+    (subst (λ (v : VersionValue). IsBetterAt (order_of c.args.upward) wanted before c.versions.place v after)
     c.get.ensures c.better-best.ensures)

@@ -5,5 +5,5 @@ use Rattle.node_semver_c.specs.Greatest.{IsBestAtOrNone, values}
 use Rattle.node_semver_c.proofs.greatest.best_of.Given as goal
 
 abbrev pub invariant-versions : goal.invariant-versions
-invariant-versions l = IsBestAtOrNone (order_of l.upward) l.range (values (take l.place l.versions))
-    (option_map (λ b. (b.0, b.1.now)) l.best)
+invariant-versions g l = IsBestAtOrNone (order_of l.upward) (g.A.Admits.admits l.asked)
+    (values (take l.place l.versions)) (option_map (λ b. (b.0, b.1.now)) l.best)

@@ -11,8 +11,8 @@ abbrev pub invariant-loop-name : goal.invariant-loop-name
 invariant-loop-name l = record {
   sorted : IsStrictlySortedBy string_cmp (keys_of l.name-iterator);
   left : (name : List ℕ)
-      → option_or (asked_among (view l.asker) l.is_needed l.is_peer name (members_view l.name-iterator))
+      → option_or (asked_among (view l.asker) l.is_needed l.is_peer l.is_dev name (members_view l.name-iterator))
       (at_name l.all name)
-      ≡ option_or (asked_among (view l.asker) l.is_needed l.is_peer name (members_view l.initial.name-iterator))
+      ≡ option_or (asked_among (view l.asker) l.is_needed l.is_peer l.is_dev name (members_view l.initial.name-iterator))
       (at_name l.fn.all name);
 }

@@ -25,8 +25,8 @@ loop-name-preserved c =
     record {
       asked = asked.1;
       found = λ later new are adds. c.loop-name.invariant.found (_ ∷ later) new
-          (rw c.in-Some.ensures.steps (dependency _ _ _ asked.0 c.in_ok-problem.ensures, are))
-          (adds_both _ _ _ (_ ∷ []) later c.in_ok-add_dependency.ensures adds);
+          (rw c.in-Some.ensures.steps (dependency _ _ asked.0 c.in_ok-judgement.ensures, are))
+          (adds_both _ _ _ (_ ∷ []) later c.in_ok-add_judgement.ensures adds);
     }
 
 pub returns : goal.returns

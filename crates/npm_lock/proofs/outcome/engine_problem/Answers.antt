@@ -5,7 +5,7 @@ use Rattle.serde_json.specs.View.{view}
 use Rattle.npm_lock.specs.Findings.{IsNodeOutcome}
 use Rattle.npm_lock.specs.Outcomes.{admitted, engine, engine_of, unsaid}
 use Rattle.npm_lock.specs.declared.problem.Kind.TheVariants.{Engine}
-use Rattle.npm_lock.proofs.ProblemTexts.{with_texts}
+use Rattle.npm_lock.proofs.ProblemTexts.{moved}
 use Rattle.npm_lock.proofs.outcome.engine_problem.Goals as goal
 use Rattle.npm_lock.proofs.outcome.engine_problem.Goals.{in_default-via-in-Some+in_default, in_default-via-in_default}
 
@@ -31,8 +31,6 @@ returns c =
     let outcome = engine c.in-Some-Some.spec.now
     (sym c.engine_of.ensures ∙ ap (option_map (λ t. t.now)) c.in-Some-Some.is-1)
     (rw c.if-branch.false at c.in_ok-is_contained.ensures) in
-    with_texts (λ problem. IsNodeOutcome (option_map (λ version. version.now) c.args.lock.node) c.args.asker.folder.now
-    (view c.args.asker.member.now) (Some problem)) _ Engine c.in_ok-from_str.field-0 c.in_ok-from_str-2.field-0
-    c.in_ok-from_str-3.field-0 None (Some c.in_ok-to_string.field-0) _ _ _ None _ refl c.in_ok-from_str.ensures.ok
-    c.in_ok-from_str-2.ensures.ok c.in_ok-from_str-3.ensures.ok refl (ap Some c.in_ok-to_string.ensures.ok)
+    moved (λ problem. IsNodeOutcome (option_map (λ version. version.now) c.args.lock.node) c.args.asker.folder.now
+    (view c.args.asker.member.now) (Some problem)) Engine _ _ c.in_ok-dependency.ensures
     (rw c.in-Some-Some.is-0 outcome)

@@ -1,17 +1,21 @@
 use Rattle.std.proofs.Common.{◌≡◌, ◌↔◌, ℕ, List, Bool, IsTrue, true, false, refl}
-use Rattle.node_semver.specs.Ranges.{AreSetsOfText, RangeContains}
 use Rattle.node_semver.specs.Versions.{VersionValue}
-use Rattle.semver_cuts.specs.Ends.{Ends}
-use Rattle.npm_lock.specs.Verdict.{IsContained, inside, no_range, outside}
+use Rattle.npm_lock.specs.Verdict.{Admits, IsContained, IsNoRange, inside, of_engines, outside}
 use Rattle.npm_lock.proofs.verdict.is_contained.Goals as goal
 
-contained : (text : List ℕ) (v : VersionValue) (sets : List (Ends VersionValue)) (answer : Bool)
-    → AreSetsOfText text sets → (IsTrue answer ↔ RangeContains sets v) → IsContained text v answer
-contained text v sets true of_text means = inside sets of_text (means.0 refl)
-contained text v sets false of_text means = outside sets of_text (λ h. let no : false ≡ true = means.1 h in cc no)
+contained : (text : List ℕ) (v : VersionValue) (answer : Bool) → (IsTrue answer ↔ Admits of_engines text v)
+    → IsContained text v answer
+contained text v true means = inside (means.0 refl)
+contained text v false means = outside (λ h. let no : false ≡ true = means.1 h in cc no)
+
+no_range : (text : List ℕ) (v : VersionValue) → IsNoRange of_engines text → ¬ Admits of_engines text v
+no_range text v none admits = rw none at admits
 
 pub returns-in-Some : goal.returns-in-Some
-returns-in-Some c = contained _ _ _ _ (rw c.in-Some.is at c.in_ok-range.ensures.sets) c.contains.ensures
+returns-in-Some c =
+    let means = rw c.in-Some.is at c.in_ok-range.ensures.means in
+    let told = c.contains.ensures in
+    contained _ _ _ ((λ yes. (means c.args.version.now).0 (told.0 yes)), (λ admits. told.1 ((means c.args.version.now).1 admits)))
 
 pub returns-in-None : goal.returns-in-None
-returns-in-None c = no_range (rw c.in-None.is at c.in_ok-range.ensures.refused)
+returns-in-None c = outside (no_range _ _ (rw c.in-None.is at c.in_ok-range.ensures.refused))

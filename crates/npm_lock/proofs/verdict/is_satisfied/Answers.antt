@@ -1,23 +1,23 @@
 use Rattle.std.proofs.Common.{◌≡◌, ◌↔◌, ℕ, List, Bool, IsTrue, Option, Some, true, false, ap, if◌then◌else◌}
 use Rattle.std.proofs.Common.{Err, IfOk, Ok, Result, option_map, refl, rules}
-use Rattle.node_semver.specs.Ranges.{IsRefused, RangeAdmits, TextAdmits}
+use Rattle.node_semver.specs.Ranges.{RangeAdmits}
 use Rattle.node_semver.specs.Versions.{IsVersionText, VersionValue}
-use Rattle.npm_lock.specs.Verdict.{IsVerdictOfText, asks_for_any, no_version, satisfied, unsatisfied}
+use Rattle.npm_lock.specs.Verdict.{Admits, IsNoRange, IsVerdictOfText, asks_for_any, no_version, of_dependencies, satisfied, unsatisfied}
 use Rattle.npm_lock.specs.declared.verdict.Verdict.TheVariants.{Invalid, Valid}
 use Rattle.npm_lock.proofs.verdict.is_satisfied.Goals as goal
 
 decided : (version : Option (List ℕ)) (text written : List ℕ) (v : VersionValue) (answer : Bool)
-    → asks_for_any text ≡ false → ¬ IsRefused text → version ≡ Some written → IsVersionText written v
-    → (IsTrue answer ↔ TextAdmits text v) → IsVerdictOfText version text (if answer then Valid else Invalid)
+    → asks_for_any text ≡ false → ¬ IsNoRange of_dependencies text → version ≡ Some written → IsVersionText written v
+    → (IsTrue answer ↔ Admits of_dependencies text v) → IsVerdictOfText version text (if answer then Valid else Invalid)
 decided version text written v true some good is reads means = satisfied written v some good is reads (means.0 refl)
 decided version text written v false some good is reads means = unsatisfied written v some good is reads
     (λ h. let no : false ≡ true = means.1 h in cc no)
 
 judged : {E : Type 0} (version : Option (List ℕ)) (text written : List ℕ) (answer : Bool)
-    (parsed : Result VersionValue E) → asks_for_any text ≡ false → ¬ IsRefused text → version ≡ Some written
+    (parsed : Result VersionValue E) → asks_for_any text ≡ false → ¬ IsNoRange of_dependencies text → version ≡ Some written
     → IfOk parsed (λ v. IsVersionText written v)
     → ((e : E) → parsed ≡ Err e → (v : VersionValue) → ¬ IsVersionText written v)
-    → ((v : VersionValue) → parsed ≡ Ok v → IsTrue answer ↔ TextAdmits text v)
+    → ((v : VersionValue) → parsed ≡ Ok v → IsTrue answer ↔ Admits of_dependencies text v)
     → ((e : E) → parsed ≡ Err e → answer ≡ false)
     → IsVerdictOfText version text (if answer then Valid else Invalid)
 judged version text written answer (Ok v) some good is reads unread admits fails =

@@ -1,4 +1,4 @@
-use Rattle.semver_versions.specs.Readers.Reading.{rest_of}
+use Rattle.semver_versions.specs.Reading.{rest_of}
 use Rattle.npm_sets.specs.WordTexts.{is_solid}
 use Rattle.npm_sets.proofs.Chunks.ChunkLemmas.{after-shorter, both-shorter, left-solid, no-bytes_told, some-bytes_told, word-one}
 use Rattle.npm_sets.proofs.Chunks.ChunkLemmas.{word-two}

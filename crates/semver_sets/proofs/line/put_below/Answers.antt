@@ -1,6 +1,6 @@
 use Rattle.std.proofs.Common.{◌∙◌, ◌∷◌, ℕ, List, ap, arith}
 use Rattle.semver_versions.specs.Print.{version_text}
-use Rattle.semver_versions.specs.Lemmas.Texts.LineText.{whole_text}
+use Rattle.semver_versions.specs.Lemmas.Public.{whole_text}
 use Rattle.semver_sets.proofs.line.put_below.Goals as goal
 
 pub returns-clause-text : goal.returns-clause-text

@@ -3,10 +3,10 @@ use Rattle.std.specs.Prelude.{◌==◌}
 use Rattle.semver_versions.specs.Characters.{BeginsWithNo, is_blank}
 use Rattle.semver_sets.specs.Comparator.{Comparator}
 use Rattle.semver_sets.specs.Division.{IsAlternative}
-use Rattle.semver_versions.specs.Readers.Reading.{rest_of}
+use Rattle.semver_versions.specs.Reading.{rest_of}
 use Rattle.semver_sets.specs.Private.WordReading.{is_not_blank, read_word}
 use Rattle.semver_sets.proofs.Ranges.DivisionLemmas.{completes-more, completes-nothing, next-shorter}
-use Rattle.semver_versions.specs.Lemmas.Texts.Prefixes.{rest_of-no}
+use Rattle.semver_versions.specs.Lemmas.Public.{rest_of-no}
 use Rattle.semver_sets.proofs.Words.WordViews.{ignored}
 use Rattle.semver_sets.proofs.word.skip_ignored.Goals as goal
 

@@ -5,7 +5,7 @@ use Rattle.std.proofs.lemmas.Bool.{cases_Bool}
 use Rattle.memchr.specs.Find.{Nowhere, Passes, is_byte2}
 use Rattle.semver_versions.specs.Characters.{is_blank}
 use Rattle.semver_sets.specs.Private.WordReading.{is_not_blank}
-use Rattle.semver_versions.specs.Lemmas.Texts.Places.{rest_of-each, rest_of-first}
+use Rattle.semver_versions.specs.Lemmas.Public.{rest_of-each, rest_of-first}
 use Rattle.semver_sets.proofs.word.skip_to_blank.Goals as goal
 
 -- there is no blank before place n

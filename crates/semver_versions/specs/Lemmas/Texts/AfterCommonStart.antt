@@ -17,7 +17,7 @@ use Rattle.semver_versions.specs.Comparison.{identifier_cmp}
 use Rattle.semver_versions.specs.IdentifierText.{IsListed, identifier_of, parts_of, texts_of}
 use Rattle.semver_versions.specs.IdentifierValue.{IdentifierValue, alphanumeric, numeric}
 use Rattle.semver_versions.specs.NumberText.{number_of}
-use Rattle.semver_versions.specs.Readers.CommonStarts.{ends, first_byte}
+use Rattle.semver_versions.specs.Private.CommonStarts.{ends, first_byte}
 use Rattle.semver_versions.specs.Lemmas.Order.{cmp-after, ends-Less, identifier_total}
 use Rattle.semver_versions.specs.Lemmas.Texts.IdentifierReading.{parts-dot, parts-other, parts-shape}
 use Rattle.semver_versions.specs.Lemmas.Texts.IdentifierStarts.{after-start, last-start, parts-inner, texts_cmp}
@@ -76,15 +76,10 @@ parts-below : (t u f g : List ℕ) (fs gs : List (List ℕ)) → parts_of t ≡ 
     → identifier_cmp (identifier_of f) (identifier_of g) ≡ Less → texts_cmp t u ≡ Less
 parts-below [] u f g fs gs first second below =
     ap (λ (l : List (List ℕ)). slice_cmp identifier_cmp [] (map identifier_of l)) second
-parts-below (b ∷ t) u f g fs gs first second below =
-    (λ i. slice_cmp identifier_cmp (map identifier_of (first i)) (map identifier_of (second i)))
-    ∙ ap (λ (o : Ordering). ordering_then o (slice_cmp identifier_cmp (map identifier_of fs) (map identifier_of gs))) below
+parts-below (b ∷ t) u f g fs gs first second below = grind (arith, slice_cmp)
 
 not-dot : (d : ℕ) → 46 < d → (d == dot) ≡ false
-not-dot d h = elim (cases_Bool (d == dot)) [
-  | inl here ↦ (let is : d ≡ dot = eqb-true d dot here in absurd (omega arith))
-  | inr other ↦ other
-]
+not-dot d h = grind (arith, eqb-true)
 
 not-digit : (d : ℕ) → 57 < d → is_digit d ≡ false
 not-digit d h = grind (arith, nat_tests)

@@ -1,5 +1,5 @@
 -- A table of bytes is held against a test at each of the 256 bytes, by computing.
-use Rattle.std.proofs.Common.{◌≡◌, ℕ, zero, suc, ◌<◌, Bool, true, false, ◌&&◌, arith, inl, inr, refl}
+use Rattle.std.proofs.Common.{◌≡◌, ℕ, zero, suc, ◌<◌, Bool, true, false, ◌&&◌, arith, refl}
 use Rattle.std.specs.Bool.{beq}
 use Rattle.std.proofs.lemmas.Bool.{cases_eq}
 
@@ -17,6 +17,4 @@ both-of false false rest h = (refl, h)
 pub agree-at : (one other : ℕ → Bool) (n : ℕ) → agree one other n ≡ true → (b : ℕ) → b < n → one b ≡ other b
 unfolding agree
 agree-at one other zero h b below = absurd (omega arith)
-agree-at one other (suc n) h b below =
-    let both = both-of (one n) (other n) (agree one other n) h in
-    elim (cases_eq b n) [ inl same ↦ rw same both.0 | inr different ↦ agree-at one other n both.1 b (omega arith) ]
+agree-at one other (suc n) h b below = grind (arith, agree-at one other n, both-of, cases_eq)

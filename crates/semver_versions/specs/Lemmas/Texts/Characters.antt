@@ -1,9 +1,8 @@
 -- Characters: those of a class one by one, which classes have none in common, and which are ASCII.
-use Rattle.std.proofs.Common.{◌≡◌, ◌<◌, ℕ, Bool, true, false, List, [], ◌∷◌, zero, suc, arith, refl, sym, ap, ◌∙◌, inl}
-use Rattle.std.proofs.Common.{inr, subst}
-use Rattle.std.proofs.lemmas.Bool.{and_parts, cases_Bool, eqb-true, or_cases}
+use Rattle.std.proofs.Common.{◌≡◌, ◌<◌, ℕ, Bool, true, false, List, [], ◌∷◌, zero, suc, arith, refl, ap}
+use Rattle.std.proofs.lemmas.Bool.{and_parts, eqb-true, or_cases}
 use Rattle.std.proofs.lemmas.Bool.Decides.{nat_tests}
-use Rattle.std.specs.Prelude.{◌==◌, ◌||◌}
+use Rattle.std.specs.Prelude.{◌==◌}
 use Rattle.std.specs.List.{list_all}
 use Rattle.std.specs.Str.{IsAscii}
 use Rattle.semver_versions.specs.Characters.{AreAll, BeginsWith, BeginsWithNo, dot, hyphen, is_blank, is_digit}
@@ -13,36 +12,21 @@ use Rattle.semver_versions.specs.Characters.{is_identifier_character, is_partial
 
 -- what holds of a space and of a tab holds of a blank
 pub blank-cases : (P : ℕ → Type 0) (b : ℕ) → is_blank b ≡ true → P 32 → P 9 → P b
-blank-cases P b h space tab = elim (or_cases (b == 32) (b == 9) h) [
-  | inl e ↦ subst P (sym (eqb-true b 32 e)) space
-  | inr e ↦ subst P (sym (eqb-true b 9 e)) tab
-]
+blank-cases P b h space tab = grind (arith, or_cases, eqb-true)
 
 -- what holds of each x holds of any
 pub x-cases : (P : ℕ → Type 0) (b : ℕ) → is_x b ≡ true → P 120 → P 88 → P 42 → P b
-x-cases P b h small large star = elim (or_cases ((b == 120) || (b == 88)) (b == 42) h) [
-  | inr e ↦ subst P (sym (eqb-true b 42 e)) star
-  | inl letter ↦ elim (or_cases (b == 120) (b == 88) letter) [
-    | inl e ↦ subst P (sym (eqb-true b 120 e)) small
-    | inr e ↦ subst P (sym (eqb-true b 88 e)) large
-  ]
-]
+x-cases P b h small large star = grind (arith, or_cases, eqb-true)
 
 -- what holds of each mark of a version holds of any
 version_mark-cases : (P : ℕ → Type 0) (b : ℕ) → is_version_mark b ≡ true → P 118 → P 86 → P b
-version_mark-cases P b h small large = elim (or_cases (b == 118) (b == 86) h) [
-  | inl e ↦ subst P (sym (eqb-true b 118 e)) small
-  | inr e ↦ subst P (sym (eqb-true b 86 e)) large
-]
+version_mark-cases P b h small large = grind (arith, or_cases, eqb-true)
 
 -- ---- classes that have no character in common
 
 -- no character of one class is of another, where none of the other is of the first
 apart : (one other : ℕ → Bool) → ((b : ℕ) → other b ≡ true → one b ≡ false) → (b : ℕ) → one b ≡ true → other b ≡ false
-apart one other none b h = elim (cases_Bool (other b)) [
-  | inr fails ↦ fails
-  | inl passes ↦ cc (sym h ∙ none b passes)
-]
+apart one other none b h = grind arith
 
 pub x-no_digit : (b : ℕ) → is_x b ≡ true → is_digit b ≡ false
 x-no_digit b h = x-cases (λ (c : ℕ). is_digit c ≡ false) b h refl refl refl
@@ -69,10 +53,7 @@ character-no_dot =
 
 -- and a hyphen is one
 pub other-no_hyphen : (b : ℕ) → is_identifier_character b ≡ false → (b == hyphen) ≡ false
-other-no_hyphen b h = elim (cases_Bool (b == hyphen)) [
-  | inl here ↦ cc (rw (eqb-true b hyphen here) at h)
-  | inr other ↦ other
-]
+other-no_hyphen b h = grind (arith, eqb-true)
 
 -- a text that begins with a digit begins with no blank, and with no x
 pub digit-no_blank : (text : List ℕ) → BeginsWith is_digit text → BeginsWithNo is_blank text

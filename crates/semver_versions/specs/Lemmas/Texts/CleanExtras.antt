@@ -1,7 +1,7 @@
 -- A text that begins with a blank, or is empty, has no extras.
 use Rattle.std.proofs.Common.{◌≡◌, ℕ, true, List, [], ◌∷◌, refl}
 use Rattle.semver_versions.specs.Characters.{IsCleanEnd}
-use Rattle.semver_versions.specs.Readers.Reading.{is_clean_end, read_extras}
+use Rattle.semver_versions.specs.Reading.{is_clean_end, read_extras}
 use Rattle.semver_versions.specs.Lemmas.Texts.ExtrasReading.{extras-again}
 use Rattle.semver_versions.specs.Lemmas.Versions.VersionReading.{clean-ends_extras}
 

@@ -13,8 +13,8 @@ use Rattle.std.specs.declared.cmp.Ordering.{Ordering}
 use Rattle.std.specs.declared.cmp.Ordering.TheVariants.{Less, Equal, Greater}
 use Rattle.semver_versions.specs.Characters.{dot, is_digit}
 use Rattle.semver_versions.specs.IdentifierText.{IsListed, identifiers_of}
-use Rattle.semver_versions.specs.Readers.CommonStarts.{AreApart, IsCommon, IsStart, are_decided, ends}
-use Rattle.semver_versions.specs.Readers.CommonStarts.{first_byte, is_last_digit, is_letter}
+use Rattle.semver_versions.specs.Private.CommonStarts.{AreApart, IsCommon, IsStart, are_decided, ends}
+use Rattle.semver_versions.specs.Private.CommonStarts.{first_byte, is_last_digit, is_letter}
 use Rattle.semver_versions.specs.Lemmas.Order.{Greater-turned, identifier_total}
 use Rattle.semver_versions.specs.Lemmas.Texts.IdentifierStarts.{after-start, texts_cmp, texts-tied}
 use Rattle.semver_versions.specs.Lemmas.Texts.AfterCommonStart.{digits-order, end-below, letter-order}

@@ -30,9 +30,7 @@ module _ (n : ℕ) (small : n < 2 ^ 64) where
 
 pub characters-of_digits : (text : List ℕ) → AreAll is_digit text → AreAll is_identifier_character text
 characters-of_digits [] all = refl
-characters-of_digits (b ∷ text) all =
-    let both = and_parts (is_digit b) (list_all is_digit text) all in
-    and_from _ _ (digit-character b both.0) (characters-of_digits text both.1)
+characters-of_digits (b ∷ text) all = grind (arith, characters-of_digits text, and_parts, and_from, digit-character)
 
 -- they are an identifier text of the number
 pub decimal-identifier : (n : ℕ) → n < 2 ^ 64

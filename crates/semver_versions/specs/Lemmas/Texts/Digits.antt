@@ -1,17 +1,17 @@
 -- Numbers, as a loop goes over their digits.
-use Rattle.std.proofs.Common.{◌≡◌, ◌+◌, ◌-◌, ◌*◌, ◌<◌, ◌≤◌, ◌^◌, ℕ, true, false, List, [], ◌∷◌, length, Option}
-use Rattle.std.proofs.Common.{Some, None, refl, sym, ap, ◌∙◌, inl, inr, subst, arith, rules}
-use Rattle.std.proofs.lemmas.Bool.{and_from, and_right, cases_Bool, cond-false, cond-true, le-ltb, lt-leb, ltb-false}
+use Rattle.std.proofs.Common.{◌≡◌, ◌+◌, ◌-◌, ◌*◌, ◌<◌, ◌≤◌, ◌^◌, ℕ, true, List, [], ◌∷◌, length, Option}
+use Rattle.std.proofs.Common.{Some, None, arith, rules}
+use Rattle.std.proofs.lemmas.Bool.{and_from, and_right, cond-false, cond-true, le-ltb, lt-leb, ltb-false}
 use Rattle.std.proofs.lemmas.Str.Parse.{IsNumeralModel, numerals_by_value}
 use Rattle.std.proofs.lemmas.Bool.Decides.{nat_tests}
 use Rattle.std.specs.Char.{digit_value}
 use Rattle.std.specs.List.{list_all}
-use Rattle.std.specs.Prelude.{◌&&◌, nat_le, nat_lt, if◌then◌else◌}
+use Rattle.std.specs.Prelude.{◌&&◌, nat_lt, if◌then◌else◌}
 use Rattle.std.specs.Str.Parse.{digits_value_after}
 use Rattle.semver_versions.specs.declared.TheConstants.{MAX_SAFE_INTEGER}
 use Rattle.semver_versions.specs.Characters.{AreAll, BeginsWith, is_digit}
 use Rattle.semver_versions.specs.NumberText.{number_of}
-use Rattle.semver_versions.specs.Readers.Reading.{begins, prefix_of, read_number}
+use Rattle.semver_versions.specs.Reading.{prefix_of, read_number}
 use Rattle.semver_versions.specs.declared.parse.fault.Fault.TheVariants.{TooLarge}
 use Rattle.semver_versions.specs.Lemmas.Texts.Prefixes.{with-begins}
 use Rattle.semver_versions.specs.Lemmas.Texts.NumberReading.{refusal}
@@ -29,9 +29,7 @@ more-digits n (d ∷ ds) =
 
 -- a digit and more after those that write n
 one-digit : (n b : ℕ) (ds : List ℕ) → is_digit b ≡ true → n * 10 + (b - 48) ≤ digits_value_after 10 n (b ∷ ds)
-one-digit n b ds digit =
-    subst (λ (d : ℕ). n * 10 + d ≤ digits_value_after 10 n (b ∷ ds)) (digit-value b digit)
-    (more-digits (n * 10 + digit_value b) ds)
+one-digit n b ds digit = grind (arith, digit-value, more-digits)
 
 -- one digit more makes the number at the start too large
 pub read_number-large : (s : List ℕ) (n b : ℕ) (ds : List ℕ) → BeginsWith is_digit s → is_digit b ≡ true
@@ -39,14 +37,7 @@ pub read_number-large : (s : List ℕ) (n b : ℕ) (ds : List ℕ) → BeginsWit
     → digits_value_after 10 n (prefix_of is_digit (b ∷ ds)) ≡ number_of (prefix_of is_digit s)
     → refusal {A = ℕ × List ℕ} (TooLarge (length s)) ≡ read_number s
 unfolding read_number prefix_of
-read_number-large s n b ds some digit above value =
-    let begins_so : begins is_digit s ≡ true = with-begins is_digit s some in
-    let here : prefix_of is_digit (b ∷ ds) ≡ b ∷ prefix_of is_digit ds = rw digit refl in
-    let more : n * 10 + (b - 48) ≤ number_of (prefix_of is_digit s) =
-    subst (λ (m : ℕ). n * 10 + (b - 48) ≤ m) (ap (digits_value_after 10 n) (sym here)
-    ∙ value) (one-digit n b (prefix_of is_digit ds) digit) in
-    let over : nat_le (number_of (prefix_of is_digit s)) MAX_SAFE_INTEGER ≡ false = lt-leb _ _ (omega arith) in
-    rw (begins_so, over) refl
+read_number-large s n b ds some digit above value = grind (arith, with-begins, one-digit, lt-leb)
 
 -- digits as `parse` reads them
 pub digits-numerals : IsNumeralModel (AreAll is_digit) number_of
@@ -64,17 +55,4 @@ OneMore n b = if is_digit b && nat_lt (n * 10 + (b - 48)) (2 ^ 64) then Some (n 
 pub none-numeric : (s : List ℕ) (n b : ℕ) (ds : List ℕ) → None ≡ OneMore n b
     → list_all is_digit (b ∷ ds) ≡ list_all is_digit s → digits_value_after 10 n (b ∷ ds) ≡ number_of s
     → None ≡ Numeric s
-none-numeric s n b ds none all value = elim (cases_Bool (is_digit b)) [
-  | inr other ↦
-      let not_all : list_all is_digit s ≡ false = sym all ∙ rw other refl in
-      rw not_all refl
-  | inl digit ↦ elim (cases_Bool (nat_lt (n * 10 + (b - 48)) (2 ^ 64))) [
-    | inl fits ↦ cc (none ∙ cond-true _ (Some (n * 10 + (b - 48))) None (and_from _ _ digit fits))
-    | inr large ↦
-        let more : n * 10 + (b - 48) ≤ number_of s =
-        subst (λ (m : ℕ). n * 10 + (b - 48) ≤ m) value (one-digit n b ds digit) in
-        let bound : 2 ^ 64 ≤ n * 10 + (b - 48) = ltb-false _ _ large in
-        let above : nat_lt (number_of s) (2 ^ 64) ≡ false = le-ltb _ _ (omega arith) in
-        sym (cond-false _ (Some (number_of s)) None (and_right (list_all is_digit s) _ above))
-  ]
-]
+none-numeric s n b ds none all value = grind (arith, cond-true, and_from, one-digit, ltb-false, le-ltb, cond-false, and_right)

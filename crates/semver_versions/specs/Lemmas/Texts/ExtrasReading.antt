@@ -1,4 +1,5 @@
 -- Prereleases, builds and extras: the readers read exactly these texts.
+use Rattle.std.proofs.Common.{arith}
 use Rattle.std.proofs.Common.{◌≡◌, ◌⊎◌, ℕ, true, false, List, [], ◌∷◌, ◌++◌, refl, sym, ap, ◌∙◌, inl, inr, subst}
 use Rattle.std.proofs.Common.{append_assoc}
 use Rattle.std.proofs.lemmas.Bool.{cases_Bool, cond-false, cond-true, eqb-true, or_parts}
@@ -6,8 +7,8 @@ use Rattle.std.specs.Prelude.{◌==◌}
 use Rattle.semver_versions.specs.Characters.{BeginsWith, BeginsWithNo, hyphen, is_identifier_character, plus, dot}
 use Rattle.semver_versions.specs.IdentifierText.{IsBuildText, IsExtrasText, IsIdentifierList, IsPrereleaseText}
 use Rattle.semver_versions.specs.IdentifierValue.{IdentifierValue}
-use Rattle.semver_versions.specs.Readers.Reading.{skip_one, skip_plus, begins, read_build, read_extras, list_rest}
-use Rattle.semver_versions.specs.Readers.Reading.{list_prefix, read_list_or, list_values, read_prerelease}
+use Rattle.semver_versions.specs.Reading.{skip_one, skip_plus, begins, read_build, read_extras, list_rest}
+use Rattle.semver_versions.specs.Reading.{list_prefix, read_list_or, list_values, read_prerelease}
 use Rattle.semver_versions.specs.Lemmas.Texts.Prefixes.{begins-append, with-begins}
 use Rattle.semver_versions.specs.Lemmas.Texts.IdentifierReading.{EndsExtras, ends-list, ends-plus, first-stays}
 use Rattle.semver_versions.specs.Lemmas.Texts.IdentifierReading.{goes_on-character}
@@ -182,23 +183,14 @@ prerelease-alone (b ∷ rest) h some = read_prerelease-other b rest h ∙ read_l
 -- as a list after a hyphen is read
 prerelease-behind : (list rest : List ℕ) → begins is_identifier_character (list ++ rest) ≡ true
     → read_prerelease (hyphen ∷ (list ++ rest)) ≡ (list_values (list ++ rest), list_rest (list ++ rest))
-prerelease-behind list rest starts = read_prerelease-hyphen hyphen (list ++ rest) refl
-    ∙ read_list_or-some (hyphen ∷ (list ++ rest)) (list ++ rest) starts
+prerelease-behind list rest starts = grind (arith, read_prerelease-hyphen, read_list_or-some)
 
 -- a list after a hyphen or without one is read
 pub prerelease-listed : (text list rest : List ℕ)
     → (text ≡ hyphen ∷ list) ⊎ ((text ≡ list) × BeginsWithNo (λ b. b == hyphen) list)
     → BeginsWith is_identifier_character list
     → read_prerelease (text ++ rest) ≡ (list_values (list ++ rest), list_rest (list ++ rest))
-prerelease-listed text list rest how begin =
-    let starts : begins is_identifier_character (list ++ rest) ≡ true =
-    with-begins is_identifier_character (list ++ rest) (begins-append is_identifier_character list rest begin) in
-    elim how [
-      | inl behind ↦ rw behind (prerelease-behind list rest starts)
-      | inr alone ↦ rw alone.0
-          (prerelease-alone (list ++ rest)
-          (first-stays is_identifier_character (λ b. b == hyphen) list rest begin alone.1) starts)
-    ]
+prerelease-listed text list rest how begin = grind (arith, with-begins, begins-append, prerelease-behind, prerelease-alone, first-stays)
 
 -- a prerelease text is read
 pub prerelease-again : (text rest : List ℕ) (identifiers : List IdentifierValue) → IsPrereleaseText text identifiers

@@ -1,4 +1,5 @@
 -- Lists of identifiers: the reader reads exactly these texts.
+use Rattle.std.proofs.Common.{arith}
 use Rattle.std.proofs.Common.{◌≡◌, ◌⊎◌, ℕ, Bool, true, false, List, [], ◌∷◌, ◌++◌, refl, sym, ap, ◌∙◌, inl, inr, subst}
 use Rattle.std.proofs.Common.{append-nil}
 use Rattle.std.proofs.lemmas.Bool.{and_from, and_parts, cases_Bool, eqb-true, or_parts}
@@ -7,7 +8,7 @@ use Rattle.std.specs.List.{AllByRecursion, list_all}
 use Rattle.semver_versions.specs.Characters.{AreAll, BeginsWith, BeginsWithNo, is_identifier_character, plus, dot}
 use Rattle.semver_versions.specs.IdentifierText.{IsIdentifierList, IsIdentifierText, identifier_of, parts_of}
 use Rattle.semver_versions.specs.IdentifierValue.{IdentifierValue}
-use Rattle.semver_versions.specs.Readers.Reading.{begins, goes_on, list_rest, list_prefix, list_values}
+use Rattle.semver_versions.specs.Reading.{begins, goes_on, list_rest, list_prefix, list_values}
 use Rattle.semver_versions.specs.Lemmas.Texts.Prefixes.{begins-append, with-begins}
 use Rattle.semver_versions.specs.Lemmas.Texts.Characters.{character-no_dot}
 
@@ -49,22 +50,13 @@ goes_on-dot b rest here h = rw (eqb-true b dot here, h) refl
 -- and nowhere else
 goes_on-cases : (b : ℕ) (rest : List ℕ) → goes_on (b ∷ rest) ≡ true
     → (is_identifier_character b ≡ true) ⊎ (((b == dot) ≡ true) × (begins is_identifier_character rest ≡ true))
-goes_on-cases b rest h = elim (cases_Bool (is_identifier_character b)) [
-  | inl character ↦ inl character
-  | inr none ↦ elim (cases_Bool (b == dot)) [
-    | inl here ↦ inr (here, rw (none, here) at h)
-    | inr other ↦ cc (rw (none, other) at h)
-  ]
-]
+goes_on-cases b rest h = grind arith
 
 -- the two together are the text
 pub list-whole : (text : List ℕ) → list_prefix text ++ list_rest text ≡ text
 unfolding list_prefix list_rest
 list-whole [] = refl
-list-whole (b ∷ rest) = elim (cases_Bool (goes_on (b ∷ rest))) [
-  | inl goes ↦ rw goes (ap (λ (l : List ℕ). b ∷ l) (list-whole rest))
-  | inr stops ↦ rw stops refl
-]
+list-whole (b ∷ rest) = grind (arith, list-whole rest)
 
 -- the first character of the longest list
 list-begins : (text : List ℕ) → begins is_identifier_character text ≡ true
@@ -77,27 +69,50 @@ list-begins (b ∷ rest) h = rw (goes_on-character b rest h) h
 first-begins : (text first : List ℕ) (others : List (List ℕ)) → parts_of text ≡ first ∷ others
     → BeginsWith is_identifier_character text → BeginsWith is_identifier_character first
 first-begins [] first others shape h = absurd h
-first-begins (b ∷ rest) first others shape h =
-    let r = parts-shape rest in
-    let e : (b ∷ r.0) ∷ r.1 ≡ first ∷ others = sym (parts-other b rest r.0 r.1 (character-no_dot b h) r.2) ∙ shape in
-    let f : b ∷ r.0 ≡ first = cc e in
-    subst (λ (l : List ℕ). BeginsWith is_identifier_character l) f h
+first-begins (b ∷ rest) first others shape h = grind (arith, parts-shape, parts-other, character-no_dot)
 
 pub begins-first : (text first : List ℕ) (others : List (List ℕ)) → parts_of text ≡ first ∷ others
     → BeginsWith is_identifier_character first → BeginsWith is_identifier_character text
-begins-first [] first others shape h =
-    let e : [] ≡ first = cc shape in
-    absurd (subst (λ (l : List ℕ). BeginsWith is_identifier_character l) (sym e) h)
-begins-first (b ∷ rest) first others shape h = elim (cases_Bool (b == dot)) [
-  | inl here ↦
-      let e : [] ≡ first = cc (sym (parts-dot b rest here) ∙ shape) in
-      absurd (subst (λ (l : List ℕ). BeginsWith is_identifier_character l) (sym e) h)
-  | inr other ↦
-      let r = parts-shape rest in
-      let e : (b ∷ r.0) ∷ r.1 ≡ first ∷ others = sym (parts-other b rest r.0 r.1 other r.2) ∙ shape in
-      let f : b ∷ r.0 ≡ first = cc e in
-      subst (λ (l : List ℕ). BeginsWith is_identifier_character l) (sym f) h
-]
+begins-first [] first others shape h = grind arith
+begins-first (b ∷ rest) first others shape h = grind (arith, parts-dot, parts-shape, parts-other)
+
+-- the parts of a list of identifiers
+pub go-on : (text : List ℕ) → AllByRecursion IsIdentifierText (parts_of text) → GoOn (parts_of text)
+go-on text all =
+    let r = parts-shape text in
+    let these : AllByRecursion IsIdentifierText (r.0 ∷ r.1) =
+    subst (λ (l : List (List ℕ)). AllByRecursion IsIdentifierText l) r.2 all in
+    record { first = r.0; others = r.1; whole = r.2; characters = these.0.1; identifiers = these.1 }
+
+-- it begins with an identifier character
+pub all-begins : (text : List ℕ) → AllByRecursion IsIdentifierText (parts_of text)
+    → BeginsWith is_identifier_character text
+all-begins text all = grind (arith, parts-shape, begins-first)
+
+-- and a list that goes on and begins so is one of identifiers
+all-texts : (text : List ℕ) → GoOn (parts_of text) → BeginsWith is_identifier_character text
+    → AllByRecursion IsIdentifierText (parts_of text)
+all-texts text g begin = grind (arith, first-begins)
+
+-- a list that goes on, after its first character
+pub go-on-other : (b : ℕ) (text : List ℕ) → (b == dot) ≡ false → GoOn (parts_of (b ∷ text))
+    → (is_identifier_character b ≡ true) × GoOn (parts_of text)
+go-on-other b text other g =
+    let r = parts-shape text in
+    let e : (b ∷ r.0) ∷ r.1 ≡ g.first ∷ g.others = sym (parts-other b text r.0 r.1 other r.2) ∙ g.whole in
+    let f : g.first ≡ b ∷ r.0 = cc e in
+    let o : g.others ≡ r.1 = cc e in
+    let characters = and_parts (is_identifier_character b) (list_all is_identifier_character r.0)
+    (subst (λ (l : List ℕ). AreAll is_identifier_character l) f g.characters) in (
+      characters.0,
+      record {
+        first = r.0;
+        others = r.1;
+        whole = r.2;
+        characters = characters.1;
+        identifiers = subst (λ (l : List (List ℕ)). AllByRecursion IsIdentifierText l) o g.identifiers;
+      },
+    )
 
 -- the longest list goes on
 list-goes : (text : List ℕ) → GoOn (parts_of (list_prefix text))
@@ -120,10 +135,7 @@ list-goes (b ∷ rest) = elim (cases_Bool (goes_on (b ∷ rest))) [
           others = parts_of (list_prefix rest);
           whole = parts-dot b (list_prefix rest) w.0;
           characters = refl;
-          identifiers = subst (λ (l : List (List ℕ)). AllByRecursion IsIdentifierText l) (sym r.whole) (
-            (first-begins (list_prefix rest) r.first r.others r.whole (list-begins rest w.1), r.characters),
-            r.identifiers,
-          );
+          identifiers = all-texts (list_prefix rest) r (list-begins rest w.1);
         })
       ]
 ]
@@ -132,14 +144,7 @@ list-goes (b ∷ rest) = elim (cases_Bool (goes_on (b ∷ rest))) [
 pub list-takes : (text : List ℕ) → begins is_identifier_character text ≡ true
     → IsIdentifierList (list_prefix text) (list_values text)
 list-takes text h =
-    let r = list-goes text in
-    record {
-      parts = subst (λ (l : List (List ℕ)). AllByRecursion IsIdentifierText l) (sym r.whole) (
-        (first-begins (list_prefix text) r.first r.others r.whole (list-begins text h), r.characters),
-        r.identifiers,
-      );
-      values = refl;
-    }
+    record { parts = all-texts (list_prefix text) (list-goes text) (list-begins text h); values = refl }
 
 -- a list that goes on is passed, whatever follows it
 pub list-through : (list rest : List ℕ) → GoOn (parts_of list)
@@ -149,32 +154,15 @@ list-through [] rest g = (refl, refl)
 list-through (b ∷ list) rest g = elim (cases_Bool (b == dot)) [
   | inl here ↦
       let others : parts_of list ≡ g.others = cc (sym (parts-dot b list here) ∙ g.whole) in
-      let r = parts-shape list in
-      let all : AllByRecursion IsIdentifierText (r.0 ∷ r.1) =
-      subst (λ (l : List (List ℕ)). AllByRecursion IsIdentifierText l) (sym others ∙ r.2) g.identifiers in
-      let first : BeginsWith is_identifier_character list = begins-first list r.0 r.1 r.2 all.0.0 in
-      let goes : goes_on (b ∷ (list ++ rest)) ≡ true =
-      goes_on-dot b (list ++ rest) here (with-begins _ (list ++ rest) (begins-append _ list rest first)) in
-      let on = list-through list rest
-      (record { first = r.0; others = r.1; whole = r.2; characters = all.0.1; identifiers = all.1 }) in
+      let all = subst (λ (l : List (List ℕ)). AllByRecursion IsIdentifierText l) (sym others) g.identifiers in
+      let goes = goes_on-dot b (list ++ rest) here
+      (with-begins _ (list ++ rest) (begins-append _ list rest (all-begins list all))) in
+      let on = list-through list rest (go-on list all) in
       (rw goes (ap (λ (l : List ℕ). b ∷ l) on.0), rw goes on.1)
   | inr other ↦
-      let r = parts-shape list in
-      let e : (b ∷ r.0) ∷ r.1 ≡ g.first ∷ g.others = sym (parts-other b list r.0 r.1 other r.2) ∙ g.whole in
-      let f : g.first ≡ b ∷ r.0 = cc e in
-      let o : g.others ≡ r.1 = cc e in
-      let characters = and_parts (is_identifier_character b) (list_all is_identifier_character r.0)
-      (subst (λ (l : List ℕ). AreAll is_identifier_character l) f g.characters) in
-      let goes : goes_on (b ∷ (list ++ rest)) ≡ true = goes_on-character b (list ++ rest) characters.0 in
-      let on = list-through list rest
-      (record {
-        first = r.0;
-        others = r.1;
-        whole = r.2;
-        characters = characters.1;
-        identifiers =
-            subst (λ (l : List (List ℕ)). AllByRecursion IsIdentifierText l) o g.identifiers;
-      }) in
+      let after = go-on-other b list other g in
+      let goes = goes_on-character b (list ++ rest) after.0 in
+      let on = list-through list rest after.1 in
       (rw goes (ap (λ (l : List ℕ). b ∷ l) on.0), rw goes on.1)
 ]
 
@@ -201,16 +189,8 @@ pub record ReadsList (list rest : List ℕ) (identifiers : List IdentifierValue)
 pub list-again : (list rest : List ℕ) (identifiers : List IdentifierValue) → IsIdentifierList list identifiers
     → goes_on rest ≡ false → ReadsList list rest identifiers
 list-again list rest identifiers h stops =
-    let r = parts-shape list in
-    let all : AllByRecursion IsIdentifierText (r.0 ∷ r.1) =
-    subst (λ (l : List (List ℕ)). AllByRecursion IsIdentifierText l) r.2 h.parts in
-    let on = list-on list rest
-    (record { first = r.0; others = r.1; whole = r.2; characters = all.0.1; identifiers = all.1 }) stops in
-    record {
-      starts = begins-first list r.0 r.1 r.2 all.0.0;
-      values = rw on.0 (sym h.values);
-      behind = on.1;
-    }
+    let on = list-on list rest (go-on list h.parts) stops in
+    record { starts = all-begins list h.parts; values = rw on.0 (sym h.values); behind = on.1 }
 
 -- the first character of a text that has one is that of the text with more after it
 pub first-stays : (some none : ℕ → Bool) (text rest : List ℕ) → BeginsWith some text → BeginsWithNo none text
@@ -240,9 +220,7 @@ ends-plus (b ∷ rest) h = (or_parts (is_of_list b) (b == plus) h).1
 
 pub stops-list : (rest : List ℕ) → BeginsWithNo is_of_list rest → goes_on rest ≡ false
 stops-list [] h = refl
-stops-list (b ∷ rest) h =
-    let parts = or_parts (is_identifier_character b) (b == dot) h in
-    rw (parts.0, parts.1) refl
+stops-list (b ∷ rest) h = grind (arith, or_parts)
 
 -- the identifiers of a text that begins with one are some
 pub some-values : (text : List ℕ)

@@ -1,4 +1,5 @@
 -- Two texts of identifiers that are equal up to where an identifier starts: what follows decides their order.
+use Rattle.std.proofs.Common.{arith}
 use Rattle.std.proofs.Common.{◌≡◌, ℕ, true, false, List, [], ◌∷◌, ◌++◌, refl, sym, ap}
 use Rattle.std.proofs.Common.{◌∙◌, inl, inr, subst, append_assoc}
 use Rattle.std.proofs.lemmas.Bool.{and_from, and_parts, cases_Bool, eqb-true}
@@ -13,8 +14,8 @@ use Rattle.semver_versions.specs.Characters.{AreAll, dot}
 use Rattle.semver_versions.specs.Comparison.{identifier_cmp}
 use Rattle.semver_versions.specs.IdentifierText.{IsIdentifierText, IsListed, identifier_of, identifiers_of, parts_of}
 use Rattle.semver_versions.specs.IdentifierText.{texts_of}
-use Rattle.semver_versions.specs.Readers.CommonStarts.{IsStart, ends}
-use Rattle.semver_versions.specs.Readers.ListedViews.{is_inner}
+use Rattle.semver_versions.specs.Private.CommonStarts.{IsStart, ends}
+use Rattle.semver_versions.specs.Private.ListedViews.{is_inner}
 use Rattle.semver_versions.specs.Lemmas.Order.{cmp-after, identifier_total}
 use Rattle.semver_versions.specs.Lemmas.Texts.IdentifierReading.{parts-dot, parts-other, parts-shape}
 use Rattle.semver_versions.specs.Lemmas.Texts.ListedTexts.{parts-texts}
@@ -58,22 +59,14 @@ texts-sides q a = texts-some q a dot ∙ parts-sides q a
 
 -- what follows a dot is listed, if the whole is
 parts-listed : (q a : List ℕ) → IsListed (q ++ (dot ∷ a)) → AllByRecursion IsIdentifierText (parts_of a)
-parts-listed q a listed =
-    all-after IsIdentifierText (parts_of q) (parts_of a)
-    (subst (λ (l : List (List ℕ)). AllByRecursion IsIdentifierText l) (texts-sides q a) listed)
+parts-listed q a listed = grind (arith, all-after, texts-sides)
 
 listed-after : (q a : List ℕ) → IsListed (q ++ (dot ∷ a)) → IsListed a
-listed-after q a listed =
-    let all = parts-listed q a listed in
-    subst (λ (l : List (List ℕ)). AllByRecursion IsIdentifierText l) (sym (parts-texts a all)) all
+listed-after q a listed = grind (arith, parts-listed, parts-texts)
 
 values-sides : (q a : List ℕ) → IsListed (q ++ (dot ∷ a))
     → identifiers_of (q ++ (dot ∷ a)) ≡ map identifier_of (parts_of q) ++ identifiers_of a
-values-sides q a listed =
-    ap (λ (l : List (List ℕ)). map identifier_of l) (texts-sides q a)
-    ∙ map-append identifier_of (parts_of q) (parts_of a)
-    ∙ ap (λ (l : List (List ℕ)). map identifier_of (parts_of q) ++ map identifier_of l)
-    (sym (parts-texts a (parts-listed q a listed)))
+values-sides q a listed = grind (arith, texts-sides, map-append, parts-texts, parts-listed)
 
 -- Texts that are equal up to where an identifier starts: what follows decides.
 pub record After (q a b : List ℕ) : Type 0 where

@@ -1,7 +1,7 @@
 -- Identifier characters as the parts of a list.
+use Rattle.std.proofs.Common.{arith}
 use Rattle.std.proofs.Common.{◌≡◌, ℕ, List, [], ◌∷◌, ◌++◌, refl}
 use Rattle.std.proofs.lemmas.Bool.{and_parts}
-use Rattle.std.specs.List.{list_all}
 use Rattle.semver_versions.specs.Characters.{AreAll, is_identifier_character, dot}
 use Rattle.semver_versions.specs.IdentifierText.{parts_of}
 use Rattle.semver_versions.specs.Lemmas.Texts.IdentifierReading.{parts-dot, parts-other}
@@ -11,13 +11,8 @@ use Rattle.semver_versions.specs.Lemmas.Texts.Characters.{character-no_dot}
 pub parts-before : (text rest : List ℕ) → AreAll is_identifier_character text
     → parts_of (text ++ (dot ∷ rest)) ≡ text ∷ parts_of rest
 parts-before [] rest all = parts-dot dot rest refl
-parts-before (b ∷ text) rest all =
-    let both = and_parts (is_identifier_character b) (list_all is_identifier_character text) all in
-    parts-other b (text ++ (dot ∷ rest)) text (parts_of rest) (character-no_dot b both.0)
-    (parts-before text rest both.1)
+parts-before (b ∷ text) rest all = grind (arith, parts-before text rest, and_parts, parts-other, character-no_dot)
 
 pub parts-alone : (text : List ℕ) → AreAll is_identifier_character text → parts_of text ≡ text ∷ []
 parts-alone [] all = refl
-parts-alone (b ∷ text) all =
-    let both = and_parts (is_identifier_character b) (list_all is_identifier_character text) all in
-    parts-other b text text [] (character-no_dot b both.0) (parts-alone text both.1)
+parts-alone (b ∷ text) all = grind (arith, parts-alone text, and_parts, parts-other, character-no_dot)

@@ -1,22 +1,21 @@
 -- Texts of identifiers: their first identifier, and those after it.
-use Rattle.std.proofs.Common.{◌≡◌, ◌<◌, ◌-◌, ◌≤◌, ℕ, true, List, [], ◌∷◌, ◌++◌, refl, sym, ap, ◌∙◌, inl, inr}
+use Rattle.std.proofs.Common.{◌≡◌, ◌<◌, ◌-◌, ◌≤◌, ℕ, true, List, [], ◌∷◌, ◌++◌, refl, sym, ap, inl, inr}
 use Rattle.std.proofs.Common.{subst}
 use Rattle.std.proofs.Common.{arith, length, length-append, drop, take}
 use Rattle.std.proofs.lemmas.List.{take_rest}
-use Rattle.std.proofs.lemmas.Bool.{and_parts, cases_Bool, eqb-true}
+use Rattle.std.proofs.lemmas.Bool.{cases_Bool, eqb-true}
 use Rattle.std.proofs.Math.Seq.{take-append_seam}
-use Rattle.std.specs.Prelude.{◌==◌, map}
-use Rattle.std.specs.List.{AllByRecursion, list_all}
-use Rattle.semver_versions.specs.Characters.{AreAll, BeginsWithNo, is_identifier_character, dot}
-use Rattle.semver_versions.specs.IdentifierText.{IsIdentifierText, IsListed, identifier_of, identifiers_of, parts_of}
+use Rattle.std.specs.Prelude.{◌==◌}
+use Rattle.std.specs.List.{AllByRecursion}
+use Rattle.semver_versions.specs.Characters.{BeginsWithNo, is_identifier_character, dot}
+use Rattle.semver_versions.specs.IdentifierText.{IsIdentifierText, IsListed, parts_of}
 use Rattle.semver_versions.specs.IdentifierText.{texts_of}
-use Rattle.semver_versions.specs.IdentifierValue.{IdentifierValue}
-use Rattle.semver_versions.specs.Readers.ListedViews.{IsFirstSplit, IsListSplit, is_inner}
-use Rattle.semver_versions.specs.Readers.Reading.{begins, list_prefix, list_rest, prefix_of, read_list_or, rest_of}
+use Rattle.semver_versions.specs.Private.ListedViews.{IsFirstSplit, IsListSplit, is_inner}
+use Rattle.semver_versions.specs.Reading.{begins, list_prefix, list_rest, prefix_of, read_list_or, rest_of}
 use Rattle.semver_versions.specs.Lemmas.Texts.Characters.{character-no_dot}
 use Rattle.semver_versions.specs.Lemmas.Texts.Prefixes.{prefix_of-rest_of, rest-short}
 use Rattle.semver_versions.specs.Lemmas.Texts.ExtrasReading.{read_list_or-some}
-use Rattle.semver_versions.specs.Lemmas.Texts.IdentifierReading.{GoOn, list-takes, list-whole, parts-other, parts-shape}
+use Rattle.semver_versions.specs.Lemmas.Texts.IdentifierReading.{GoOn, go-on, go-on-other, list-takes, list-whole, parts-other}
 
 -- where the first part ends: at the end of the text, or at a dot
 pub data FirstPart (text : List ℕ) : Type 0 where
@@ -33,34 +32,15 @@ first-part (b ∷ rest) g = elim (cases_Bool (b == dot)) [
       let is : b ≡ dot = eqb-true b dot here in
       before rest (rw is refl) (rw is refl)
   | inr other ↦
-      let r = parts-shape rest in
-      let e : (b ∷ r.0) ∷ r.1 ≡ g.first ∷ g.others = sym (parts-other b rest r.0 r.1 other r.2) ∙ g.whole in
-      let f : g.first ≡ b ∷ r.0 = cc e in
-      let o : g.others ≡ r.1 = cc e in
-      let characters = and_parts (is_identifier_character b) (list_all is_identifier_character r.0)
-      (subst (λ (l : List ℕ). AreAll is_identifier_character l) f g.characters) in
-      let goes : GoOn (parts_of rest) = record {
-        first = r.0;
-        others = r.1;
-        whole = r.2;
-        characters = characters.1;
-        identifiers = subst (λ (l : List (List ℕ)). AllByRecursion IsIdentifierText l) o g.identifiers;
-      } in
-      elim (first-part rest goes) [
-        | alone end parts ↦ alone (rw characters.0 end)
-            (rw characters.0 (parts-other b rest (prefix_of is_identifier_character rest) [] other parts))
-        | before next end parts ↦ before next (rw characters.0 end)
-            (rw characters.0 (parts-other b rest (prefix_of is_identifier_character rest) (parts_of next) other parts))
+      let after = go-on-other b rest other g in
+      let characters = after.0 in
+      elim (first-part rest after.1) [
+        | alone end parts ↦ alone (rw characters end)
+            (rw characters (parts-other b rest (prefix_of is_identifier_character rest) [] other parts))
+        | before next end parts ↦ before next (rw characters end)
+            (rw characters (parts-other b rest (prefix_of is_identifier_character rest) (parts_of next) other parts))
       ]
 ]
-
--- the parts of a list of identifiers
-pub go-on : (text : List ℕ) → AllByRecursion IsIdentifierText (parts_of text) → GoOn (parts_of text)
-go-on text all =
-    let r = parts-shape text in
-    let these : AllByRecursion IsIdentifierText (r.0 ∷ r.1) =
-    subst (λ (l : List (List ℕ)). AllByRecursion IsIdentifierText l) r.2 all in
-    record { first = r.0; others = r.1; whole = r.2; characters = these.0.1; identifiers = these.1 }
 
 -- a text whose parts are identifiers is not empty
 pub parts-texts : (text : List ℕ) → AllByRecursion IsIdentifierText (parts_of text) → texts_of text ≡ parts_of text
@@ -71,41 +51,14 @@ parts-texts (b ∷ rest) all = refl
 pub first-alone : (text : List ℕ) → IsListed text → 0 < length text → rest_of is_identifier_character text ≡ []
     → IsFirstSplit text (prefix_of is_identifier_character text) []
 first-alone [] listed some end = absurd (omega arith)
-first-alone (b ∷ rest) listed some end = elim (first-part (b ∷ rest) (go-on (b ∷ rest) listed)) [
-  | before next there parts ↦ cc (sym end ∙ there)
-  | alone there parts ↦
-      let all : AllByRecursion IsIdentifierText (prefix_of is_identifier_character (b ∷ rest) ∷ []) =
-      subst (λ (l : List (List ℕ)). AllByRecursion IsIdentifierText l) parts listed in
-      record {
-        some = all.0.0;
-        characters = all.0.1;
-        values = ap (λ (l : List (List ℕ)). map identifier_of l) parts;
-        listed = tt;
-      }
-]
+first-alone (b ∷ rest) listed some end = grind (arith, first-part, go-on)
 
 -- the same, if others follow it after a dot
 pub first-before : (text rest : List ℕ) (d : ℕ) → IsListed text → 0 < length text
     → rest_of is_identifier_character text ≡ d ∷ rest
     → IsFirstSplit text (prefix_of is_identifier_character text) rest
 first-before [] rest d listed some end = absurd (omega arith)
-first-before (b ∷ text) rest d listed some end = elim (first-part (b ∷ text) (go-on (b ∷ text) listed)) [
-  | alone there parts ↦ cc (sym end ∙ there)
-  | before next there parts ↦
-      let same : next ≡ rest = cc (sym there ∙ end) in
-      let all : AllByRecursion IsIdentifierText (prefix_of is_identifier_character (b ∷ text) ∷ parts_of rest) =
-      subst (λ (l : List (List ℕ)). AllByRecursion IsIdentifierText l)
-      (parts ∙ ap (λ (l : List ℕ). prefix_of is_identifier_character (b ∷ text) ∷ parts_of l) same) listed in
-      let whole = parts-texts rest all.1 in
-      record {
-        some = all.0.0;
-        characters = all.0.1;
-        values = ap (λ (l : List (List ℕ)). map identifier_of l) (parts
-            ∙ ap (λ (l : List ℕ). prefix_of is_identifier_character (b ∷ text) ∷ parts_of l) same
-            ∙ ap (λ (l : List (List ℕ)). prefix_of is_identifier_character (b ∷ text) ∷ l) (sym whole));
-        listed = subst (λ (l : List (List ℕ)). AllByRecursion IsIdentifierText l) (sym whole) all.1;
-      }
-]
+first-before (b ∷ text) rest d listed some end = grind (arith, first-part, go-on, parts-texts)
 
 -- an identifier of a list ends where a dot does, or the text
 pub record EndsAtDot (text : List ℕ) : Type 0 where
@@ -115,15 +68,7 @@ pub record EndsAtDot (text : List ℕ) : Type 0 where
 ends-at_dot : (text : List ℕ) → BeginsWithNo is_inner (rest_of is_identifier_character text) → EndsAtDot text
 unfolding prefix_of rest_of
 ends-at_dot [] ends = record { prefix = refl; rest = refl }
-ends-at_dot (b ∷ text) ends = elim (cases_Bool (is_identifier_character b)) [
-  | inl some ↦
-      let e = ends-at_dot text (rw some at ends) in
-      record {
-        prefix = rw (character-no_dot b some, some, e.prefix) refl;
-        rest = rw (character-no_dot b some, some) e.rest;
-      }
-  | inr none ↦ (let here = rw none at ends in record { prefix = rw (here, none) refl; rest = rw (here, none) refl })
-]
+ends-at_dot (b ∷ text) ends = grind (arith, ends-at_dot text, character-no_dot)
 
 pub listed-ends : (text : List ℕ) → IsListed text → 0 < length text → EndsAtDot text
 listed-ends [] listed some = absurd (omega arith)
@@ -178,14 +123,4 @@ list-before text =
 -- the longest list at the start of a text that begins with an identifier character
 pub split-some : (otherwise text list rest : List ℕ) → begins is_identifier_character text ≡ true
     → list ≡ list_prefix text → rest ≡ list_rest text → IsListSplit (read_list_or otherwise text) list rest
-split-some otherwise text list rest some list_is rest_is =
-    let read = read_list_or-some otherwise text some in
-    let takes = list-takes text some in
-    let whole = parts-texts (list_prefix text) takes.parts in
-    record {
-      values = ap identifiers_of list_is ∙ ap (λ (l : List (List ℕ)). map identifier_of l) whole
-          ∙ sym (ap (λ (r : List IdentifierValue × List ℕ). r.0) read);
-      listed = subst IsListed (sym list_is)
-          (subst (λ (l : List (List ℕ)). AllByRecursion IsIdentifierText l) (sym whole) takes.parts);
-      rest_is = rest_is ∙ sym (ap (λ (r : List IdentifierValue × List ℕ). r.1) read);
-    }
+split-some otherwise text list rest some list_is rest_is = grind (arith, read_list_or-some, list-takes, parts-texts)

@@ -2,33 +2,31 @@
 use Rattle.std.proofs.Common.{◌≡◌, ◌≤◌, ℕ, Bool, true, List, [], ◌∷◌, ◌++◌, length, Ok, refl, sym, ap, ◌∙◌, inl, inr}
 use Rattle.std.proofs.Common.{arith, subst, append_assoc}
 use Rattle.std.proofs.lemmas.Bool.{cases_Bool}
-use Rattle.std.specs.Prelude.{◌==◌, nat_le}
-use Rattle.std.specs.List.{AllByRecursion}
-use Rattle.semver_versions.specs.declared.TheConstants.{MAX_SAFE_INTEGER}
+use Rattle.std.specs.Prelude.{◌==◌}
 use Rattle.semver_versions.specs.Characters.{AreAll, BeginsWith, BeginsWithNo, hyphen, is_blank, is_digit}
 use Rattle.semver_versions.specs.Characters.{is_identifier_character, is_version_mark, plus, dot}
-use Rattle.semver_versions.specs.IdentifierText.{IsBuildText, IsExtrasText, IsIdentifierList, IsIdentifierText}
+use Rattle.semver_versions.specs.IdentifierText.{IsBuildText, IsExtrasText, IsIdentifierList}
 use Rattle.semver_versions.specs.IdentifierText.{IsPrereleaseText, parts_of}
 use Rattle.semver_versions.specs.IdentifierValue.{IdentifierValue}
-use Rattle.semver_versions.specs.NumberText.{IsNumberText, number_of}
+use Rattle.semver_versions.specs.NumberText.{IsNumberText}
 use Rattle.semver_versions.specs.Version.{VersionValue}
 use Rattle.semver_versions.specs.VersionText.{IsMarked, IsUnmarkedVersion}
-use Rattle.semver_versions.specs.Readers.Reading.{rest_of, skip_one, skip_plus, begins, read_build, read_extras}
-use Rattle.semver_versions.specs.Readers.Reading.{prefix_of}
-use Rattle.semver_versions.specs.Readers.Reading.{goes_on, list_rest, read_list_or, read_version, read_number}
-use Rattle.semver_versions.specs.Readers.Reading.{read_triple}
-use Rattle.semver_versions.specs.Readers.Reading.{read_prerelease, read_unmarked, version_of}
-use Rattle.semver_versions.specs.Lemmas.Texts.Prefixes.{begins-append, prefix_of-rest_of, rest-short, rest_of-all}
+use Rattle.semver_versions.specs.Reading.{rest_of, skip_one, skip_plus, begins, read_build, read_extras}
+use Rattle.semver_versions.specs.Reading.{goes_on, list_rest, read_list_or, read_number}
+use Rattle.semver_versions.specs.Private.VersionReading.{read_version}
+use Rattle.semver_versions.specs.Private.VersionReading.{read_triple}
+use Rattle.semver_versions.specs.Reading.{read_prerelease}
+use Rattle.semver_versions.specs.Private.VersionReading.{read_unmarked, version_of}
+use Rattle.semver_versions.specs.Lemmas.Texts.Prefixes.{begins-append, prefix_of-rest_of, rest-short, rest_of-again, rest_of-all}
 use Rattle.semver_versions.specs.Lemmas.Texts.Prefixes.{with-begins}
 use Rattle.semver_versions.specs.Lemmas.Texts.ExtrasReading.{build-takes, read_build-other, read_build-plus}
 use Rattle.semver_versions.specs.Lemmas.Texts.ExtrasReading.{read_list_or-none}
 use Rattle.semver_versions.specs.Lemmas.Texts.ExtrasReading.{read_list_or-some, prerelease-again, prerelease-listed}
 use Rattle.semver_versions.specs.Lemmas.Texts.ExtrasReading.{prerelease-takes, read_prerelease-hyphen}
 use Rattle.semver_versions.specs.Lemmas.Texts.ExtrasReading.{read_prerelease-other}
-use Rattle.semver_versions.specs.Lemmas.Texts.IdentifierReading.{GoOn, begins-first, goes_on-character, list-through}
-use Rattle.semver_versions.specs.Lemmas.Texts.IdentifierReading.{parts-shape}
+use Rattle.semver_versions.specs.Lemmas.Texts.IdentifierReading.{GoOn, all-begins, go-on, goes_on-character, list-through}
 use Rattle.semver_versions.specs.Lemmas.Texts.ListedTexts.{list_rest-short}
-use Rattle.semver_versions.specs.Lemmas.Texts.NumberReading.{answer, bind-ok, number-again, ok-value, dot-again}
+use Rattle.semver_versions.specs.Lemmas.Texts.NumberReading.{bind-ok, number-again, number-takes, ok-value, dot-again}
 use Rattle.semver_versions.specs.Lemmas.Versions.VersionReading.{numbers-takes, regroup, version-follows}
 
 pub rest_of-short : (test : ℕ → Bool) (text : List ℕ) → length (rest_of test text) ≤ length text
@@ -46,20 +44,7 @@ pub record ReadsOn (list more : List ℕ) : Type 0 where
 listed-longest : (list more : List ℕ) (identifiers : List IdentifierValue) → IsIdentifierList list identifiers
     → ReadsOn list more
 listed-longest list more identifiers h =
-    let r = parts-shape list in
-    let all : AllByRecursion IsIdentifierText (r.0 ∷ r.1) =
-    subst (λ (l : List (List ℕ)). AllByRecursion IsIdentifierText l) r.2 h.parts in
-    record {
-      starts = begins-first list r.0 r.1 r.2 all.0.0;
-      longest = list-longest list more (record {
-        first = r.0;
-        others = r.1;
-        whole = r.2;
-        characters =
-            all.0.1;
-        identifiers = all.1;
-      });
-    }
+    record { starts = all-begins list h.parts; longest = list-longest list more (go-on list h.parts) }
 
 prerelease-short : (text : List ℕ) → length (read_prerelease text).1 ≤ length text
 prerelease-short text = let t = prerelease-takes text in rest-short text t.taken (read_prerelease text).1 t.whole
@@ -113,17 +98,9 @@ extras-short text =
 
 -- the rest after a number follows its digits
 number-rest_of : (text : List ℕ) (read : ℕ × List ℕ) → read_number text ≡ Ok read → read.1 ≡ rest_of is_digit text
-unfolding read_number
-number-rest_of text read h = elim (cases_Bool (begins is_digit text)) [
-  | inr none ↦ cc (rw none at h)
-  | inl some ↦ elim (cases_Bool (nat_le (number_of (prefix_of is_digit text)) MAX_SAFE_INTEGER)) [
-    | inr large ↦ cc (rw (some, large) at h)
-    | inl fits ↦
-        let told : answer (number_of (prefix_of is_digit text), rest_of is_digit text) ≡ answer read =
-        rw (some, fits) at h in
-        sym (ap (λ (p : ℕ × List ℕ). p.1) (ok-value _ _ told))
-  ]
-]
+number-rest_of text read h =
+    let t = number-takes text read.0 read.1 h in
+    sym (ap (rest_of is_digit) t.whole ∙ rest_of-again is_digit t.digits read.1 t.read.digits t.ends)
 
 -- the rest after three numbers follows the digits of the third
 numbers-rest_of : (major minor patch more : List ℕ) (a b : ℕ) (read : (ℕ × ℕ × ℕ) × List ℕ) → IsNumberText major a

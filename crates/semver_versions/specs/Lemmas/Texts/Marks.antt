@@ -4,7 +4,7 @@ use Rattle.std.proofs.Common.{append_assoc}
 use Rattle.std.proofs.lemmas.Bool.{cases_Bool}
 use Rattle.semver_versions.specs.Characters.{BeginsWithNo, is_blank, mark_of}
 use Rattle.semver_versions.specs.VersionText.{IsMarked}
-use Rattle.semver_versions.specs.Readers.Reading.{prefix_of, rest_of, skip_one}
+use Rattle.semver_versions.specs.Reading.{prefix_of, rest_of, skip_one}
 use Rattle.semver_versions.specs.Lemmas.Texts.Prefixes.{prefix_of-all, prefix_of-rest_of, rest_of-again}
 
 -- a text is its mark and the rest
@@ -18,14 +18,7 @@ pub skip_one-mark : (is_mark : ℕ → Bool) (text body : List ℕ) → text ≡
     → skip_one is_mark text ≡ body
 unfolding skip_one
 skip_one-mark is_mark [] body h = h
-skip_one-mark is_mark (b ∷ rest) body h = elim (cases_Bool (is_mark b)) [
-  | inl mark ↦
-      let same : b ∷ rest ≡ b ∷ body = rw mark at h in
-      rw mark (cc same)
-  | inr none ↦
-      let same : b ∷ rest ≡ body = rw none at h in
-      rw none same
-]
+skip_one-mark is_mark (b ∷ rest) body h = grind arith
 
 -- more after a text changes nothing of its mark
 pub mark_of-append : (is_mark : ℕ → Bool) (text rest : List ℕ) → 0 < length text

@@ -2,7 +2,7 @@
 use Rattle.std.proofs.Common.{◌≡◌, ◌+◌, ◌-◌, ◌<◌, ◌≤◌, ℕ, Bool, true, false, List, [], ◌∷◌, ◌++◌, length, get_or, take}
 use Rattle.std.proofs.Common.{drop, refl, sym, ap, ◌∙◌, append-nil, append_assoc, suc, zero, arith}
 use Rattle.std.proofs.lemmas.List.{drop_all, drop_more, take_more, take_rest}
-use Rattle.semver_versions.specs.Readers.Reading.{rest_of, prefix_of, skip_one}
+use Rattle.semver_versions.specs.Reading.{rest_of, prefix_of, skip_one}
 
 -- a character that passes is gone over
 pub rest_of-step : (test : ℕ → Bool) (s : List ℕ) (i : ℕ) → i < length s → test (get_or s i 0) ≡ true
@@ -90,11 +90,7 @@ over-end test s i h over = record {
 rest_of-far : (test : ℕ → Bool) (s : List ℕ) (n : ℕ) → n ≤ length s
     → ((k : ℕ) → k < n → test (get_or s k 0) ≡ true) → rest_of test s ≡ rest_of test (drop n s)
 rest_of-far test s zero h all = refl
-rest_of-far test s (suc n) h all =
-    let more : n + 1 ≡ suc n = omega arith in
-    rest_of-far test s n (omega arith) (λ k lt. all k (omega arith))
-    ∙ rest_of-step test s n (omega arith) (all n (omega arith))
-    ∙ ap (λ (m : ℕ). rest_of test (drop m s)) more
+rest_of-far test s (suc n) h all = grind (arith, rest_of-far test s n, rest_of-step)
 
 -- all before it pass, and it does not
 pub rest_of-first : (test : ℕ → Bool) (s : List ℕ) (n : ℕ) → n < length s

@@ -1,21 +1,18 @@
 -- The longest prefix of a text whose characters all pass, and the rest.
 use Rattle.std.proofs.Common.{◌≡◌, ◌≤◌, ℕ, Bool, true, false, List, [], ◌∷◌, ◌++◌, length, refl, ap}
-use Rattle.std.proofs.Common.{length-append, arith, inl, inr}
+use Rattle.std.proofs.Common.{length-append, arith}
 use Rattle.std.proofs.Math.Dec.{eqb-suc-zero}
-use Rattle.std.proofs.lemmas.Bool.{and_from, and_parts, cases_Bool}
+use Rattle.std.proofs.lemmas.Bool.{and_from, and_parts}
 use Rattle.std.specs.Prelude.{◌==◌}
 use Rattle.std.specs.List.{list_all}
 use Rattle.semver_versions.specs.Characters.{AreAll, BeginsWith, BeginsWithNo}
-use Rattle.semver_versions.specs.Readers.Reading.{rest_of, begins, prefix_of}
+use Rattle.semver_versions.specs.Reading.{rest_of, begins, prefix_of}
 
 -- the two together are the text
 pub prefix_of-rest_of : (test : ℕ → Bool) (text : List ℕ) → prefix_of test text ++ rest_of test text ≡ text
 unfolding prefix_of rest_of
 prefix_of-rest_of test [] = refl
-prefix_of-rest_of test (b ∷ rest) = elim (cases_Bool (test b)) [
-  | inl passes ↦ rw passes (ap (λ (l : List ℕ). b ∷ l) (prefix_of-rest_of test rest))
-  | inr stops ↦ rw stops refl
-]
+prefix_of-rest_of test (b ∷ rest) = grind (arith, prefix_of-rest_of test rest)
 
 -- a rest is no longer than the whole
 pub rest-short : (text taken rest : List ℕ) → text ≡ taken ++ rest → length rest ≤ length text
@@ -24,18 +21,12 @@ rest-short text taken rest e = omega (arith, ap length e, length-append taken re
 pub prefix_of-all : (test : ℕ → Bool) (text : List ℕ) → AreAll test (prefix_of test text)
 unfolding prefix_of
 prefix_of-all test [] = refl
-prefix_of-all test (b ∷ rest) = elim (cases_Bool (test b)) [
-  | inl passes ↦ rw passes (and_from (test b) _ passes (prefix_of-all test rest))
-  | inr stops ↦ rw stops refl
-]
+prefix_of-all test (b ∷ rest) = grind (arith, prefix_of-all test rest, and_from)
 
 pub rest_of-no : (test : ℕ → Bool) (text : List ℕ) → BeginsWithNo test (rest_of test text)
 unfolding rest_of
 rest_of-no test [] = tt
-rest_of-no test (b ∷ rest) = elim (cases_Bool (test b)) [
-  | inl passes ↦ rw passes (rest_of-no test rest)
-  | inr stops ↦ rw stops stops
-]
+rest_of-no test (b ∷ rest) = grind (arith, rest_of-no test rest)
 
 -- what passes, before what does not, is that prefix
 pub prefix_of-again : (test : ℕ → Bool) (text rest : List ℕ) → AreAll test text → BeginsWithNo test rest
@@ -43,9 +34,7 @@ pub prefix_of-again : (test : ℕ → Bool) (text rest : List ℕ) → AreAll te
 unfolding prefix_of
 prefix_of-again test [] [] all ends = refl
 prefix_of-again test [] (c ∷ rest) all ends = rw ends refl
-prefix_of-again test (b ∷ text) rest all ends =
-    let parts = and_parts (test b) (list_all test text) all in
-    rw parts.0 (ap (λ (l : List ℕ). b ∷ l) (prefix_of-again test text rest parts.1 ends))
+prefix_of-again test (b ∷ text) rest all ends = grind (arith, prefix_of-again test text rest, and_parts)
 
 -- and the rest follows it
 pub rest_of-again : (test : ℕ → Bool) (text rest : List ℕ) → AreAll test text → BeginsWithNo test rest
@@ -53,18 +42,14 @@ pub rest_of-again : (test : ℕ → Bool) (text rest : List ℕ) → AreAll test
 unfolding rest_of
 rest_of-again test [] [] all ends = refl
 rest_of-again test [] (c ∷ rest) all ends = rw ends refl
-rest_of-again test (b ∷ text) rest all ends =
-    let parts = and_parts (test b) (list_all test text) all in
-    rw parts.0 (rest_of-again test text rest parts.1 ends)
+rest_of-again test (b ∷ text) rest all ends = grind (arith, rest_of-again test text rest, and_parts)
 
 -- the characters that pass at the start are skipped, whatever follows them
 pub rest_of-all : (test : ℕ → Bool) (text more : List ℕ) → AreAll test text
     → rest_of test (text ++ more) ≡ rest_of test more
 unfolding rest_of
 rest_of-all test [] more all = refl
-rest_of-all test (b ∷ text) more all =
-    let parts = and_parts (test b) (list_all test text) all in
-    rw parts.0 (rest_of-all test text more parts.1)
+rest_of-all test (b ∷ text) more all = grind (arith, rest_of-all test text more, and_parts)
 
 -- nothing is skipped where nothing passes
 pub rest_of-none : (test : ℕ → Bool) (text : List ℕ) → BeginsWithNo test text → rest_of test text ≡ text
@@ -110,7 +95,4 @@ no-append test (b ∷ text) rest h g = h
 pub rest_of-empty : (test : ℕ → Bool) (text : List ℕ) → (length (rest_of test text) == 0) ≡ list_all test text
 unfolding rest_of
 rest_of-empty test [] = refl
-rest_of-empty test (b ∷ rest) = elim (cases_Bool (test b)) [
-  | inl passes ↦ rw passes (rest_of-empty test rest)
-  | inr stops ↦ rw stops (eqb-suc-zero (length rest))
-]
+rest_of-empty test (b ∷ rest) = grind (arith, rest_of-empty test rest, eqb-suc-zero)

@@ -30,15 +30,7 @@ patch≤ v w (inr s) e f = let a : v.patch ≡ w.patch = s.triple.patch in omega
 -- a version between two of one triple is of that triple
 pub triple-between : (u v w : VersionValue) → IsBelow u v ⊎ IsSame u v → IsBelow v w ⊎ IsSame v w → HasSameTriple u w
     → HasSameTriple v w
-triple-between u v w h k t =
-    let major : v.major ≡ w.major = let a = major≤ u v h in let b = major≤ v w k in let e = t.major in omega arith in
-    let major' : u.major ≡ v.major = t.major ∙ sym major in
-    let minor : v.minor ≡ w.minor =
-    let a = minor≤ u v h major' in let b = minor≤ v w k major in let e = t.minor in omega arith in
-    let minor' : u.minor ≡ v.minor = t.minor ∙ sym minor in
-    let patch : v.patch ≡ w.patch =
-    let a = patch≤ u v h major' minor' in let b = patch≤ v w k major minor in let e = t.patch in omega arith in
-    record { major = major; minor = minor; patch = patch }
+triple-between u v w h k t = grind (arith, major≤, minor≤, patch≤)
 
 -- a version of a prerelease's triple that is at most the prerelease is a prerelease too
 pub prerelease-below : (v w : VersionValue) → IsBelow v w ⊎ IsSame v w → HasSameTriple v w → IsPrerelease w

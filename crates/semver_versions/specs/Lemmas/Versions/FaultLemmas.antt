@@ -9,8 +9,10 @@ use Rattle.semver_versions.specs.Characters.{BeginsWithNo, dot, is_blank, is_dig
 use Rattle.semver_versions.specs.NumberText.{number_of}
 use Rattle.semver_versions.specs.Version.{VersionValue}
 use Rattle.semver_versions.specs.VersionText.{IsMarked, IsUnmarkedVersion, IsVersionText}
-use Rattle.semver_versions.specs.Readers.Reading.{rest_of, skip_one, begins, read_extras, prefix_of, read_version}
-use Rattle.semver_versions.specs.Readers.Reading.{read_number, read_triple, read_dot, read_unmarked, version_of}
+use Rattle.semver_versions.specs.Reading.{rest_of, skip_one, begins, read_extras, prefix_of}
+use Rattle.semver_versions.specs.Private.VersionReading.{read_version}
+use Rattle.semver_versions.specs.Reading.{read_number}
+use Rattle.semver_versions.specs.Private.VersionReading.{read_triple, read_dot, read_unmarked, version_of}
 use Rattle.semver_versions.specs.declared.parse.fault.Fault.{Fault}
 use Rattle.semver_versions.specs.declared.parse.fault.Fault.TheVariants.{TooLarge}
 use Rattle.semver_versions.specs.Lemmas.Texts.Prefixes.{begins-append, rest_of-again, prefix_of-again, no-append}
@@ -24,7 +26,7 @@ use Rattle.semver_versions.specs.Lemmas.Versions.VersionReading.{numbers-again, 
 use Rattle.semver_versions.specs.Error.{Kind, max_length, other}
 use Rattle.semver_versions.specs.Fault.{IsAllDigits, IsFault, HasPrefix, large_number, left_over, no_number, no_dot}
 use Rattle.semver_versions.specs.Fault.{too_large, too_long, with_dots}
-use Rattle.semver_versions.specs.Readers.FaultViews.{kind_in, left_of}
+use Rattle.semver_versions.specs.Private.FaultViews.{kind_in, left_of}
 use Rattle.semver_versions.specs.Lemmas.Versions.FaultReading.{AreNumbers, digits-there, fault-takes, prefix-length}
 use Rattle.semver_versions.specs.Lemmas.Versions.FaultReading.{left-takes}
 use Rattle.semver_versions.specs.Lemmas.Versions.FaultReading.{missing_at}

@@ -11,9 +11,10 @@ use Rattle.semver_versions.specs.Characters.{BeginsWithNo, dot, is_blank, is_dig
 use Rattle.semver_versions.specs.NumberText.{IsNumberText, number_of}
 use Rattle.semver_versions.specs.Version.{VersionValue}
 use Rattle.semver_versions.specs.VersionText.{IsVersionText}
-use Rattle.semver_versions.specs.Readers.Reading.{◌>>=◌, rest_of, skip_one, begins, prefix_of, read_version}
-use Rattle.semver_versions.specs.Readers.Reading.{read_number}
-use Rattle.semver_versions.specs.Readers.Reading.{read_triple, read_dot, read_unmarked}
+use Rattle.semver_versions.specs.Reading.{◌>>=◌, rest_of, skip_one, begins, prefix_of}
+use Rattle.semver_versions.specs.Private.VersionReading.{read_version}
+use Rattle.semver_versions.specs.Reading.{read_number}
+use Rattle.semver_versions.specs.Private.VersionReading.{read_triple, read_dot, read_unmarked}
 use Rattle.semver_versions.specs.declared.parse.fault.Fault.{Fault}
 use Rattle.semver_versions.specs.declared.parse.fault.Fault.TheVariants.{LeftOver, Missing, TooLarge}
 use Rattle.semver_versions.specs.Lemmas.Texts.Prefixes.{rest_of-no, begins-with, begins-with_no, prefix_of-rest_of}
@@ -22,10 +23,10 @@ use Rattle.semver_versions.specs.Lemmas.Texts.LongestReading.{version-longest, v
 use Rattle.semver_versions.specs.Lemmas.Texts.NumberReading.{number-takes, dot-takes, refusal}
 use Rattle.semver_versions.specs.Lemmas.Texts.Marks.{mark-skip}
 use Rattle.semver_versions.specs.Lemmas.Versions.VersionReading.{version-takes}
-use Rattle.semver_versions.specs.Error.{Kind, context, other}
+use Rattle.semver_versions.specs.Error.{context, other}
 use Rattle.semver_versions.specs.Fault.{IsAllDigits, IsFault, HasPrefix, large_number, left_over, no_number, no_dot}
 use Rattle.semver_versions.specs.Fault.{too_large, with_dots}
-use Rattle.semver_versions.specs.Readers.FaultViews.{IsReadFault, kind_in}
+use Rattle.semver_versions.specs.Private.FaultViews.{IsReadFault}
 
 -- a chain that gave a fault
 pub bind-err : {A B : Type 0} (r : Result A Fault) (f : A → Result B Fault) (e : Fault) → (r >>= f) ≡ Err e
@@ -82,12 +83,7 @@ dot-fails : (text : List ℕ) (f : Fault) → read_dot text ≡ Err f
     → BeginsWithNo (λ b. b == dot) text × (missing_at text ≡ f)
 unfolding read_dot
 dot-fails [] f h = (tt, fault-value {A = List ℕ} _ f h)
-dot-fails (b ∷ rest) f h = elim (cases_Bool (b == dot)) [
-  | inl here ↦ cc (rw here at h)
-  | inr none ↦
-      let told : refusal {A = List ℕ} (missing_at (b ∷ rest)) ≡ refusal f = rw none at h in
-      (none, fault-value (missing_at (b ∷ rest)) f told)
-]
+dot-fails (b ∷ rest) f h = grind (arith, refusal, fault-value)
 
 -- a prefix is as long as the text less the rest
 pub prefix-length : (text beginning rest : List ℕ) → text ≡ beginning ++ rest
@@ -97,16 +93,11 @@ prefix-length text beginning rest e = omega (arith, ap length e, length-append b
 -- a number or a dot is missing where the rest begins
 told-missing : (text beginning rest : List ℕ) (f : Fault) → text ≡ beginning ++ rest → missing_at rest ≡ f
     → IsFault text (context (codes "version")) (length beginning) → IsReadFault text f
-told-missing text beginning rest f whole told h =
-    subst (λ (g : Fault). IsReadFault text g) told (record {
-      within = rest-short text beginning rest whole;
-      fault = subst (λ (n : ℕ). IsFault text (context (codes "version")) n) (prefix-length text beginning rest whole) h;
-    })
+told-missing text beginning rest f whole told h = grind (arith, rest-short, prefix-length)
 
 -- what follows a prefix
 pub behind-there : (text beginning rest : List ℕ) → text ≡ beginning ++ rest → drop (length beginning) text ≡ rest
-behind-there text beginning rest whole = ap (λ (l : List ℕ). drop (length beginning) l) whole
-    ∙ drop-append_seam beginning rest
+behind-there text beginning rest whole = grind (arith, drop-append_seam)
 
 -- the digits at the place with so many bytes left
 pub digits-there : (text beginning digits rest : List ℕ) → text ≡ beginning ++ (digits ++ rest)
@@ -121,15 +112,7 @@ digits-there text beginning digits rest whole all =
 told-large : (text beginning digits rest : List ℕ) (f : Fault) → text ≡ beginning ++ (digits ++ rest)
     → IsAllDigits digits rest → TooLarge (length (digits ++ rest)) ≡ f
     → IsFault text (too_large (number_of digits)) (length beginning) → IsReadFault text f
-told-large text beginning digits rest f whole all told h =
-    let there : too_large (number_of digits) ≡ kind_in text (TooLarge (length (digits ++ rest))) =
-    ap (λ (l : List ℕ). too_large (number_of l)) (sym (digits-there text beginning digits rest whole all)) in
-    subst (λ (g : Fault). IsReadFault text g) told (record {
-      within = rest-short text beginning (digits ++ rest) whole;
-      fault = subst (λ (k : Kind). IsFault text k (length text - length (digits ++ rest))) there
-          (subst (λ (n : ℕ). IsFault text (too_large (number_of digits)) n)
-          (prefix-length text beginning (digits ++ rest) whole) h);
-    })
+told-large text beginning digits rest f whole all told h = grind (arith, digits-there, rest-short, prefix-length)
 
 -- if a number is expected after a prefix
 number-fault : (text before rest : List ℕ) (count : ℕ) (f : Fault) → length text ≤ MAX_LENGTH

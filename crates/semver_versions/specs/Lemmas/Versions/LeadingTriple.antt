@@ -1,24 +1,24 @@
 -- A triple that is read once, at the very start of a version text.
-use Rattle.std.proofs.Common.{◌≡◌, ℕ, List, [], ◌∷◌, Ok, Err, Option, inl, inr, refl, sym}
-use Rattle.std.proofs.lemmas.Bool.{cases_Bool}
+use Rattle.std.proofs.Common.{◌≡◌, ℕ, List, [], ◌∷◌, Ok, Err, Option, refl, sym, subst}
 use Rattle.std.specs.Borrow.{Bor}
 use Rattle.std.specs.Prelude.{IfSome, Result}
 use Rattle.std.specs.Result.{result_ok}
 use Rattle.semver_versions.specs.Characters.{BeginsWith, is_blank, is_digit, is_version_mark}
-use Rattle.semver_versions.specs.Readers.Reading.{begins, read_marked_triple, read_minor_and_patch, read_number}
-use Rattle.semver_versions.specs.Readers.Reading.{read_triple, rest_of, skip_one}
-use Rattle.semver_versions.specs.Readers.ReadingViews.{seen}
+use Rattle.semver_versions.specs.Reading.{read_number}
+use Rattle.semver_versions.specs.Private.VersionReading.{read_marked_triple, read_minor_and_patch}
+use Rattle.semver_versions.specs.Reading.{rest_of, skip_one}
+use Rattle.semver_versions.specs.Private.VersionReading.{read_triple}
+use Rattle.semver_versions.specs.Reading.{seen}
 use Rattle.semver_versions.specs.declared.parse.fault.Fault.{Fault}
 use Rattle.semver_versions.specs.Lemmas.Texts.Characters.{digit-no_blank, digit-no_version_mark}
-use Rattle.semver_versions.specs.Lemmas.Texts.Prefixes.{begins-with}
+use Rattle.semver_versions.specs.Lemmas.Texts.Prefixes.{begins-append}
+use Rattle.semver_versions.specs.Lemmas.Texts.NumberReading.{number-takes}
 
 -- a number begins with a digit
 pub number-digit : (text rest : List ℕ) (number : ℕ) → Ok (number, rest) ≡ read_number text → BeginsWith is_digit text
-unfolding read_number
-number-digit text rest number h = elim (cases_Bool (begins is_digit text)) [
-  | inl some ↦ begins-with is_digit text some
-  | inr none ↦ cc (rw none at h)
-]
+number-digit text rest number h =
+    let t = number-takes text number rest (sym h) in
+    subst (BeginsWith is_digit) (sym t.whole) (begins-append is_digit t.digits rest t.read.some)
 
 -- a text that begins with a digit begins with no mark and no blank
 pub version-begins : (text : List ℕ) → BeginsWith is_digit text

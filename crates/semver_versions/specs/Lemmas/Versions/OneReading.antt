@@ -1,7 +1,7 @@
 -- A version text has one reading, which the reader returns.
 use Rattle.std.proofs.Common.{◌≡◌, ◌≤◌, ℕ, List, [], length, Ok, sym, ap, ◌∙◌, subst, append-nil}
 use Rattle.semver_versions.specs.declared.TheConstants.{MAX_LENGTH}
-use Rattle.semver_versions.specs.Readers.Reading.{read_version}
+use Rattle.semver_versions.specs.Private.VersionReading.{read_version}
 use Rattle.semver_versions.specs.Version.{VersionValue}
 use Rattle.semver_versions.specs.Characters.{is_version_mark}
 use Rattle.semver_versions.specs.VersionText.{IsMarked, IsUnmarkedVersion, IsVersionText}

@@ -1,17 +1,16 @@
 -- The print of a version of which a text can write the numbers and the identifiers is such a text.
 use Rattle.std.proofs.Common.{◌≡◌, ◌<◌, ◌≤◌, ◌^◌, ◌∙◌, ℕ, Bool, true, false, List, [], ◌∷◌, ◌++◌, map, length}
-use Rattle.std.proofs.Common.{append_assoc, arith, refl, sym, ap, subst, inl, inr}
-use Rattle.std.proofs.lemmas.Bool.{and_parts, cases_Bool, ltb-true}
+use Rattle.std.proofs.Common.{append_assoc, arith, refl, sym, ap, subst, inl}
+use Rattle.std.proofs.lemmas.Bool.{and_parts, ltb-true}
 use Rattle.std.specs.Fmt.{decimal}
-use Rattle.std.specs.List.{AllByRecursion, join_with_byte, list_all}
-use Rattle.std.specs.Prelude.{◌&&◌, nat_lt}
+use Rattle.std.specs.List.{AllByRecursion, join_with_byte}
 use Rattle.semver_versions.specs.declared.TheConstants.{MAX_LENGTH, MAX_SAFE_INTEGER}
 use Rattle.semver_versions.specs.Characters.{BeginsWith, BeginsWithNo, dot, hyphen, is_digit}
 use Rattle.semver_versions.specs.Characters.{is_version_mark, mark_of, plus}
 use Rattle.semver_versions.specs.IdentifierText.{IsBuildText, IsIdentifierList, IsIdentifierText, IsPrereleaseText}
 use Rattle.semver_versions.specs.IdentifierText.{identifier_of, parts_of}
 use Rattle.semver_versions.specs.IdentifierValue.{IdentifierValue}
-use Rattle.semver_versions.specs.NumberText.{IsNumberText, number_of}
+use Rattle.semver_versions.specs.NumberText.{IsNumberText}
 use Rattle.semver_versions.specs.Print.{identifier_text, marked_text, version_text}
 use Rattle.semver_versions.specs.IdentifierText.{IsReadIdentifier}
 use Rattle.semver_versions.specs.Version.{VersionValue}
@@ -26,7 +25,7 @@ use Rattle.semver_versions.specs.ReadingBack.{HasText, HasTextNumbers, VersionRe
 -- ---- numbers
 
 -- the decimal digits of a number within the limit are a number text of it
-number-text : (n : ℕ) → n ≤ MAX_SAFE_INTEGER → IsNumberText (decimal n) n
+pub number-text : (n : ℕ) → n ≤ MAX_SAFE_INTEGER → IsNumberText (decimal n) n
 number-text n limit =
     let small : n < 2 ^ 64 = omega arith in
     record {
@@ -43,12 +42,7 @@ abbrev IsPrinted : IdentifierValue → Type 0
 IsPrinted i = IsIdentifierText (identifier_text i) × (identifier_of (identifier_text i) ≡ i)
 
 text-printed : (text : List ℕ) → IsIdentifierText text → IsPrinted (identifier_of text)
-text-printed text is = elim (cases_Bool (list_all is_digit text && nat_lt (number_of text) (2 ^ 64))) [
-  | inl number ↦
-      let fits = and_parts (list_all is_digit text) _ number in
-      rw number (decimal-identifier (number_of text) (ltb-true _ _ fits.1))
-  | inr other ↦ rw other (is, rw other refl)
-]
+text-printed text is = grind (arith, and_parts, decimal-identifier, ltb-true)
 
 identifier-printed : (i : IdentifierValue) → IsReadIdentifier i → IsPrinted i
 identifier-printed i read = subst IsPrinted read.2 (text-printed read.0 read.1)
@@ -57,10 +51,7 @@ identifier-printed i read = subst IsPrinted read.2 (text-printed read.0 read.1)
 parts-printed : (i : IdentifierValue) (is : List IdentifierValue) → AllByRecursion IsReadIdentifier (i ∷ is)
     → parts_of (join_with_byte dot (map identifier_text (i ∷ is))) ≡ map identifier_text (i ∷ is)
 parts-printed i [] read = parts-alone (identifier_text i) (identifier-printed i read.0).0.1
-parts-printed i (j ∷ is) read =
-    parts-before (identifier_text i) (join_with_byte dot (map identifier_text (j ∷ is)))
-    (identifier-printed i read.0).0.1
-    ∙ ap (λ (l : List (List ℕ)). identifier_text i ∷ l) (parts-printed j is read.1)
+parts-printed i (j ∷ is) read = grind (arith, parts-printed j is, parts-before, identifier-printed)
 
 identifiers-texts : (is : List IdentifierValue) → AllByRecursion IsReadIdentifier is
     → AllByRecursion IsIdentifierText (map identifier_text is)
@@ -70,9 +61,7 @@ identifiers-texts (i ∷ is) read = ((identifier-printed i read.0).0, identifier
 identifiers-values : (is : List IdentifierValue) → AllByRecursion IsReadIdentifier is
     → is ≡ map identifier_of (map identifier_text is)
 identifiers-values [] read = refl
-identifiers-values (i ∷ is) read =
-    ap (λ (j : IdentifierValue). j ∷ is) (sym (identifier-printed i read.0).1)
-    ∙ ap (λ (l : List IdentifierValue). identifier_of (identifier_text i) ∷ l) (identifiers-values is read.1)
+identifiers-values (i ∷ is) read = grind (arith, identifiers-values is, identifier-printed)
 
 list-printed : (i : IdentifierValue) (is : List IdentifierValue) → AllByRecursion IsReadIdentifier (i ∷ is)
     → IsIdentifierList (join_with_byte dot (map identifier_text (i ∷ is))) (i ∷ is)
@@ -99,10 +88,10 @@ build-printed (i ∷ is) read =
     (join_with_byte dot (map identifier_text (i ∷ is)), refl, list-printed i is read)
 
 -- after the triple
-abbrev extras_text : VersionValue → List ℕ
+abbrev pub extras_text : VersionValue → List ℕ
 extras_text v = marked_text hyphen v.pre_release ++ marked_text plus v.build
 
-extras_text-no_digit : (pre build : List IdentifierValue)
+pub extras_text-no_digit : (pre build : List IdentifierValue)
     → BeginsWithNo is_digit (marked_text hyphen pre ++ marked_text plus build)
 extras_text-no_digit [] [] = tt
 extras_text-no_digit [] (j ∷ build) = refl
@@ -125,11 +114,9 @@ parts-in_order first second third pre build =
     ∙ append_assoc (first ++ (dot ∷ second)) (dot ∷ third) (pre ++ build)
     ∙ append_assoc first (dot ∷ second) (dot ∷ (third ++ (pre ++ build)))
 
-print-whole : (v : VersionValue)
+pub print-whole : (v : VersionValue)
     → version_text v ≡ decimal v.major ++ (dot ∷ (decimal v.minor ++ (dot ∷ (decimal v.patch ++ extras_text v))))
-print-whole v =
-    parts-in_order (decimal v.major) (decimal v.minor) (decimal v.patch) (marked_text hyphen v.pre_release)
-    (marked_text plus v.build)
+print-whole v = grind (arith, parts-in_order)
 
 pub three-printed : (v : VersionValue) → IsTextVersion v → IsUnmarkedVersion v (version_text v)
 three-printed v is = record {
@@ -153,9 +140,7 @@ three-printed v is = record {
 
 -- the print begins with a digit
 pub print-begins : (v : VersionValue) → IsTextVersion v → BeginsWith is_digit (version_text v)
-print-begins v is =
-    subst (BeginsWith is_digit) (sym (print-whole v))
-    (begins-append is_digit (decimal v.major) _ (number-text v.major is.numbers.major).some)
+print-begins v is = grind (arith, print-whole, begins-append, number-text)
 
 -- so it has no mark
 no-mark : (is_mark : ℕ → Bool) (text : List ℕ) → ((b : ℕ) → is_digit b ≡ true → is_mark b ≡ false)
@@ -183,17 +168,7 @@ version-printed v is short = record {
 
 -- a version that was read is one that a text can write
 text-version : (text : List ℕ) (v : VersionValue) → IsVersionText text v → IsTextVersion v
-text-version text v is =
-    let three = is.fields.read in
-    record {
-      numbers = record {
-        major = three.major_text.limit;
-        minor = three.minor_text.limit;
-        patch = three.patch_text.limit;
-      };
-      pre_release = prerelease-read three.extras_text.prefix v.pre_release three.extras_text.first;
-      build = build-read three.extras_text.rest v.build three.extras_text.second;
-    }
+text-version text v is = grind (arith, prerelease-read, build-read)
 
 -- its print, where it is short enough, is read as that version
 pub version-reads_back : (text : List ℕ) (v : VersionValue) → IsVersionText text v → VersionReadsBack v
@@ -202,6 +177,4 @@ version-reads_back text v is = version-printed v (text-version text v is)
 -- so a text that is its print is that version
 pub version-print_read : (text : List ℕ) (v : VersionValue) → HasText v → version_text v ≡ text
     → length text ≤ MAX_LENGTH → IsVersionText text v
-version-print_read text v has print short =
-    subst (λ (l : List ℕ). IsVersionText l v) print
-    (version-reads_back has.0 v has.1 (subst (λ (l : List ℕ). length l ≤ MAX_LENGTH) (sym print) short))
+version-print_read text v has print short = grind (arith, version-reads_back)

@@ -8,8 +8,10 @@ use Rattle.semver_versions.specs.Characters.{IsCleanEnd}
 use Rattle.semver_versions.specs.NumberText.{IsNumberText}
 use Rattle.semver_versions.specs.Version.{VersionValue}
 use Rattle.semver_versions.specs.VersionText.{IsMarked, IsUnmarkedVersion}
-use Rattle.semver_versions.specs.Readers.Reading.{read_dot, read_extras, read_number, read_triple, read_unmarked}
-use Rattle.semver_versions.specs.Readers.Reading.{read_version, rest_of, skip_one, version_of}
+use Rattle.semver_versions.specs.Reading.{read_extras, read_number}
+use Rattle.semver_versions.specs.Private.VersionReading.{read_dot, read_triple, read_unmarked}
+use Rattle.semver_versions.specs.Reading.{rest_of, skip_one}
+use Rattle.semver_versions.specs.Private.VersionReading.{read_version, version_of}
 use Rattle.semver_versions.specs.Lemmas.Texts.Marks.{TakesMarked, marked-follows, marked-taken}
 use Rattle.semver_versions.specs.Lemmas.Texts.Prefixes.{begins-append, no-append}
 use Rattle.semver_versions.specs.Lemmas.Texts.ExtrasReading.{extras-again, extras-takes}
@@ -33,9 +35,7 @@ pub record TakesNumbers (text : List ℕ) (numbers : ℕ × ℕ × ℕ) (rest : 
 glue : (text a1 b1 a2 b2 rest major minor patch : List ℕ) → text ≡ major ++ a1 → a1 ≡ dot ∷ b1 → b1 ≡ minor ++ a2
     → a2 ≡ dot ∷ b2 → b2 ≡ patch ++ rest
     → text ≡ major ++ (dot ∷ (minor ++ (dot ∷ (patch ++ rest))))
-glue text a1 b1 a2 b2 rest major minor patch h1 h2 h3 h4 h5 =
-    h1 ∙ ap (λ (l : List ℕ). major ++ l) (h2
-    ∙ ap (λ (l : List ℕ). dot ∷ l) (h3 ∙ ap (λ (l : List ℕ). minor ++ l) (h4 ∙ ap (λ (l : List ℕ). dot ∷ l) h5)))
+glue text a1 b1 a2 b2 rest major minor patch h1 h2 h3 h4 h5 = grind arith
 
 pub numbers-takes : (text : List ℕ) (numbers : ℕ × ℕ × ℕ) (rest : List ℕ) → read_triple text ≡ Ok (numbers, rest)
     → TakesNumbers text numbers rest

@@ -1,8 +1,7 @@
 -- The least version, and from each version the next one, between which lies none.
-use Rattle.std.proofs.Common.{◌≡◌, ◌≢◌, ◌<◌, ◌⊎◌, ◌+◌, ◌^◌, ℕ, lit<, List, []}
-use Rattle.std.proofs.Common.{◌∷◌, ◌++◌, refl, sym, subst, ◌∙◌, inl, inr, arith, Ordering, Less, Equal, Greater}
+use Rattle.std.proofs.Common.{◌≡◌, ◌≢◌, ◌<◌, ◌+◌, ◌^◌, ℕ, lit<, List, []}
+use Rattle.std.proofs.Common.{◌∷◌, ◌++◌, refl, sym, subst, ◌∙◌, inl, inr, arith, Less}
 use Rattle.std.proofs.Math.Nat.{eq-or-lt_of_le}
-use Rattle.std.specs.Ordering.{ordering_then}
 use Rattle.std.specs.Cmp.Lexicographic.{slice_cmp}
 use Rattle.std.specs.List.{AllByRecursion}
 use Rattle.std.proofs.lemmas.Cmp.{ranked}
@@ -12,8 +11,8 @@ use Rattle.semver_versions.specs.IdentifierValue.{IdentifierValue, alphanumeric,
 use Rattle.semver_versions.specs.Order.{IsBelow, IsListBelow, IsIdentifierBelow, before_release, by_identifiers, by_major}
 use Rattle.semver_versions.specs.Order.{by_minor, by_patch}
 use Rattle.semver_versions.specs.Version.{HasSameTriple, IsPrerelease, VersionValue, least_of}
-use Rattle.semver_versions.specs.Lemmas.Order.{Greater-turned, Less-version, identifier-Less, identifier_total, list-Less}
-use Rattle.semver_versions.specs.Lemmas.Order.{ends-Less, version-Less}
+use Rattle.semver_versions.specs.Lemmas.Order.{Less-version, identifier-Less, identifier_total, list-Less}
+use Rattle.semver_versions.specs.Lemmas.Order.{ends-Less, then-cases, version-Less}
 use Rattle.semver_versions.specs.Lemmas.Versions.Between.{major≤, minor≤, patch≤, prerelease-below, triple-between}
 use Rattle.semver_versions.specs.VersionSteps.{IsIdentifier, IsVersion, next_by, next_version, with_zero}
 
@@ -24,23 +23,17 @@ none-below_zero : (a : IdentifierValue) → ¬ (identifier_cmp a (numeric 0) ≡
 none-below_zero (numeric n) e = let h : n < 0 = ranked n 0 Less (sym e) in omega arith
 none-below_zero (alphanumeric t) e = cc e
 
-first-equal : (r s : Ordering) → ordering_then r s ≡ Less → ¬ (r ≡ Less) → (r ≡ Equal) × (s ≡ Less)
-first-equal Less s e n = absurd (n refl)
-first-equal Equal s e n = (refl, e)
-first-equal Greater s e n = cc e
-
-first-at_most : (r s : Ordering) → ordering_then r s ≡ Less → (r ≡ Less) ⊎ ((r ≡ Equal) × (s ≡ Less))
-first-at_most Less s e = inl refl
-first-at_most Equal s e = inr (refl, e)
-first-at_most Greater s e = cc e
-
 -- no list with an identifier is below that of 0 alone
 pub none-below_zeros : (x : IdentifierValue) (xs : List IdentifierValue)
     → ¬ (slice_cmp identifier_cmp (x ∷ xs) (numeric 0 ∷ []) ≡ Less)
-none-below_zeros x [] e =
-    let h = first-equal (identifier_cmp x (numeric 0)) Equal e (none-below_zero x) in cc (h.1)
-none-below_zeros x (y ∷ ys) e =
-    let h = first-equal (identifier_cmp x (numeric 0)) Greater e (none-below_zero x) in cc (h.1)
+none-below_zeros x xs e = elim (then-cases (identifier_cmp x (numeric 0)) (slice_cmp identifier_cmp xs []) e) [
+  | inl less ↦ none-below_zero x less
+  | inr tied ↦ none-below_nothing xs tied.1
+]
+  where
+    none-below_nothing : (xs : List IdentifierValue) → ¬ (slice_cmp identifier_cmp xs [] ≡ Less)
+    none-below_nothing [] e = cc e
+    none-below_nothing (x ∷ xs) e = cc e
 
 -- a list is below itself with a 0 more
 pub zero-above : (xs : List IdentifierValue) → slice_cmp identifier_cmp xs (xs ++ numeric 0 ∷ []) ≡ Less
@@ -52,17 +45,7 @@ pub none-before_zero : (xs ys : List IdentifierValue) → slice_cmp identifier_c
 none-before_zero [] [] e f = cc e
 none-before_zero [] (y ∷ ys) e f = none-below_zeros y ys f
 none-before_zero (x ∷ xs) [] e f = cc e
-none-before_zero (x ∷ xs) (y ∷ ys) e f =
-    elim (first-at_most (identifier_cmp x y) (slice_cmp identifier_cmp xs ys) e) [
-      | inl less ↦ elim (first-at_most (identifier_cmp y x) (slice_cmp identifier_cmp ys (xs ++ numeric 0 ∷ [])) f) [
-        | inl back ↦ cc ((Greater-turned identifier_total y x).1 less, back)
-        | inr tied ↦ cc ((Greater-turned identifier_total y x).1 less, tied.0)
-      ]
-      | inr tied ↦ elim (first-at_most (identifier_cmp y x) (slice_cmp identifier_cmp ys (xs ++ numeric 0 ∷ [])) f) [
-        | inl back ↦ cc ((Greater-turned identifier_total x y).1 back, tied.0)
-        | inr both ↦ none-before_zero xs ys tied.1 both.1
-      ]
-    ]
+none-before_zero (x ∷ xs) (y ∷ ys) e f = grind (arith, none-before_zero xs ys, then-cases, slice_cmp, identifier_total)
 
 -- ---- versions of one triple
 
@@ -144,9 +127,7 @@ with_zero-prerelease v = longer v.pre_release
     longer (x ∷ xs) e = cc e
 
 pub with_zero-above : (v : VersionValue) → IsPrerelease v → IsBelow v (with_zero v)
-with_zero-above v pre = by_identifiers (record { major = refl; minor = refl; patch = refl }) pre
-    (with_zero-prerelease v)
-    (inl (record { next = numeric 0; rest = []; goes_on = refl }))
+with_zero-above v pre = grind (arith, with_zero-prerelease)
 
 pub none-between_zeros : (v w : VersionValue) → IsPrerelease v → IsBelow v w → ¬ IsBelow w (with_zero v)
 none-between_zeros v w pre above below =

@@ -1,7 +1,7 @@
 //! The piece that starts first.
 ghost use Rattle.std.specs.Prelude.{ℕ, List, IfNone, IfSome};
 ghost use Rattle.semver_versions.specs.Coerce.{IsFirstPiece, IsNumberAt, IsPiece};
-ghost use Rattle.semver_versions.specs.Readers.PieceViews.{IsFirstNumber, IsLongestFrom, numbers_of};
+ghost use Rattle.semver_versions.specs.Private.PieceViews.{IsFirstNumber, IsLongestFrom, numbers_of};
 
 use super::number::{digits_end, is_number, next_number};
 use super::piece::Piece;

@@ -1,7 +1,7 @@
 //! The piece that ends last.
 ghost use Rattle.std.specs.Prelude.{ℕ, List, IfNone, IfSome};
 ghost use Rattle.semver_versions.specs.Coerce.{IsLastPiece, IsNumberAt, IsPiece};
-ghost use Rattle.semver_versions.specs.Readers.PieceViews.{IsLastNumber, IsLongestTo, numbers_of};
+ghost use Rattle.semver_versions.specs.Private.PieceViews.{IsLastNumber, IsLongestTo, numbers_of};
 
 use super::number::{digits_start, is_number, previous_number};
 use super::piece::Piece;

@@ -2,7 +2,7 @@
 ghost use Rattle.std.specs.Prelude.{◌≡◌, ◌+◌, ◌<◌, ◌≤◌, ◌↔◌, ℕ, true, false, IfNone, IfSome, IsTrue, length, slice_index};
 ghost use Rattle.semver_versions.specs.Characters.{dot};
 ghost use Rattle.semver_versions.specs.Coerce.{IsNumberAt, is_digit_at};
-ghost use Rattle.semver_versions.specs.Readers.PieceViews.{HasNoNext, HasNoPrevious};
+ghost use Rattle.semver_versions.specs.Private.PieceViews.{HasNoNext, HasNoPrevious};
 
 use crate::parse::number::is_digit;
 

@@ -1,7 +1,7 @@
 //! A piece of a text that looks like a version.
 ghost use Rattle.std.specs.Prelude.{ℕ, IfNone, IfSome};
 ghost use Rattle.semver_versions.specs.Coerce.{IsReleaseOf, IsStrictNumber};
-ghost use Rattle.semver_versions.specs.Readers.PieceViews.{numbers_of};
+ghost use Rattle.semver_versions.specs.Private.PieceViews.{numbers_of};
 ghost use Rattle.semver_versions.specs.Version.{VersionValue};
 
 use crate::Version;

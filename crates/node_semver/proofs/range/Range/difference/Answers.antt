@@ -4,7 +4,7 @@ use Rattle.semver_cuts.specs.Difference.{AreDifference}
 use Rattle.semver_cuts.specs.Lemmas.Difference.{common_difference-disjoint, common_difference-together}
 use Rattle.semver_cuts.specs.Lemmas.Difference.{difference-covered, difference-cuts}
 use Rattle.semver_versions.specs.Comparison.{version_cmp}
-use Rattle.semver_versions.specs.Lemmas.Order.{version_total}
+use Rattle.semver_versions.specs.Lemmas.Public.{version_total}
 use Rattle.semver_sets.specs.RangeSets.{IsRangeValue}
 use Rattle.node_semver.proofs.Sets.AlgebraBounds.{difference-bounded, none-exactly, none-listed}
 use Rattle.node_semver.proofs.Sets.RangeAlgebra.{difference-releases}

@@ -2,39 +2,15 @@ use Rattle.std.proofs.Common.{List, ℕ, subst}
 use Rattle.semver_sets.specs.Meaning.{IsRefused}
 use Rattle.semver_sets.specs.Merging.{AreSetsOfText}
 use Rattle.semver_sets.specs.RangeSets.{sets_seen}
-use Rattle.semver_sets.specs.declared.read.full.FullLead.TheVariants.{Caret, Nothing, Tilde}
 use Rattle.node_semver.proofs.Ranges.RangeAnswers.{full-read, range-read, range-refused}
 use Rattle.node_semver.proofs.range.Range.parse.Goals as goal
 
 -- `^1.2.3`
-pub returns-in-Some-Caret-default-default-default : goal.returns-in-Some-Caret-default-default-default
-returns-in-Some-Caret-default-default-default c =
-    let full = rw c.in-Some-Caret-default-default-default.field-0-0-is at
-    c.in-Some-Caret-default-default-default.ensures in
-    full-read c.a_text_means_its_sets.ensures c.prints_are_read_back.ensures c.args.text.now _ Caret _ _ _
-    c.caret_set.result c.of_set.result
-    c.as_bytes-bytes.ensures.value full c.caret_set.ensures
+pub returns-in-Some : goal.returns-in-Some
+returns-in-Some c =
+    full-read c.a_text_means_its_sets.ensures c.prints_are_read_back.ensures c.args.text.now _ _ _ _ _
+    c.full_set.result c.of_set.result c.as_bytes-bytes.ensures.value c.in-Some.ensures c.full_set.ensures
     c.of_set.ensures
-
--- `~1.2.3`
-pub returns-in-Some-Tilde-default-default-default : goal.returns-in-Some-Tilde-default-default-default
-returns-in-Some-Tilde-default-default-default c =
-    let full = rw c.in-Some-Tilde-default-default-default.field-0-0-is at
-    c.in-Some-Tilde-default-default-default.ensures in
-    full-read c.a_text_means_its_sets.ensures c.prints_are_read_back.ensures c.args.text.now _ Tilde _ _ _
-    c.tilde_set.result c.of_set-in-Some-Tilde-default-default-default.result
-    c.as_bytes-bytes.ensures.value full c.tilde_set.ensures
-    c.of_set-in-Some-Tilde-default-default-default.ensures
-
--- `1.2.3`
-pub returns-in-Some-Nothing-default-default-default : goal.returns-in-Some-Nothing-default-default-default
-returns-in-Some-Nothing-default-default-default c =
-    let full = rw c.in-Some-Nothing-default-default-default.field-0-0-is at
-    c.in-Some-Nothing-default-default-default.ensures in
-    full-read c.a_text_means_its_sets.ensures c.prints_are_read_back.ensures c.args.text.now _ Nothing _ _ _
-    c.exact_set.result c.of_set-in-Some-Nothing-default-default-default.result
-    c.as_bytes-bytes.ensures.value full c.exact_set.ensures
-    c.of_set-in-Some-Nothing-default-default-default.ensures
 
 -- any other text
 pub returns-in-Ok : goal.returns-in-Ok

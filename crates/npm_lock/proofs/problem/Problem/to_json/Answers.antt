@@ -1,20 +1,9 @@
--- The members are put in the order of their names, and the last two where they are there.
+-- One member is put beside those of the dependency.
 use Rattle.std.proofs.Common.{rules}
 use Rattle.serde_json.proofs.OnLiterals.{serde_json_on_literals}
 use Rattle.serde_json.proofs.Views.{view-Object}
 use Rattle.npm_lock.proofs.problem.Problem.to_json.Goals as goal
-use Rattle.npm_lock.proofs.problem.Problem.to_json.Goals.{in-Some+in_ok-put_text-5, in_default}
-use Rattle.npm_lock.proofs.problem.Problem.to_json.Goals.{in-Some-version+in_ok-put_text-6, in_default-version}
 
 pub returns : goal.returns
 unfolding serde_json_on_literals
-returns c = elim c.match-self.branch [
-  | in-Some+in_ok-put_text-5 w ↦ elim c.match-self-2.branch [
-    | in-Some-version+in_ok-put_text-6 v ↦ search (rules, view-Object)
-    | in_default-version v ↦ search (rules, view-Object)
-  ]
-  | in_default w ↦ elim c.match-self-2.branch [
-    | in-Some-version+in_ok-put_text-6 v ↦ search (rules, view-Object)
-    | in_default-version v ↦ search (rules, view-Object)
-  ]
-]
+returns c = search (rules, view-Object)

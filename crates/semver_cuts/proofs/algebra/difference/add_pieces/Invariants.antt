@@ -1,12 +1,12 @@
-use Rattle.std.proofs.Common.{◌≡◌, ◌++◌, drop}
-use Rattle.semver_cuts.specs.Ends.{IsCutBelow}
-use Rattle.semver_cuts.specs.Private.Difference.{pieces_between, pieces_of}
+use Rattle.std.proofs.Common.{◌≡◌, ◌++◌, List, drop}
+use Rattle.semver_cuts.specs.Ends.{Ends, span_between}
+use Rattle.semver_cuts.proofs.Differences.PiecesAlong.{IsWalked}
 use Rattle.semver_cuts.proofs.algebra.difference.add_pieces.Given as goal
 
 abbrev pub invariant-loop-number : goal.invariant-loop-number
 invariant-loop-number g l = record {
-  below : IsCutBelow g.T.Ord.cmp l.low l.high;
-  parts : g.S.Gather.gathered l.into
-      ++ pieces_between g.T.Ord.cmp l.low l.high (drop l.number l.others.merged)
-      ≡ g.S.Gather.gathered l.initial.into ++ pieces_of g.T.Ord.cmp l.one l.others.merged;
+  done : List (Ends g.row.T.Denot);
+  gathered : g.S.Gather.gathered l.into ≡ g.S.Gather.gathered l.initial.into ++ done;
+  walked : IsWalked g.met.T.Ord.total l.others.list (span_between l.initial.low l.high) l.low
+      (drop l.number l.others.merged) done;
 }

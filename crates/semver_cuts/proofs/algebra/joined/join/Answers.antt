@@ -1,10 +1,9 @@
-use Rattle.std.proofs.Common.{◌≡◌, ◌==◌, [], ap, length, subst, sym, ◌∙◌}
+use Rattle.std.proofs.Common.{◌≡◌, ◌==◌, [], ap, length, subst, sym, true, ◌∙◌}
 use mathlib.Core.Bool.{true≢false}
-use Rattle.std.proofs.lemmas.Bool.{eqb-true}
 use Rattle.std.proofs.lemmas.Result.{IfOk-weaker}
 use Rattle.semver_cuts.specs.Joined.{AreJoined}
 use Rattle.semver_cuts.specs.Places.{IsPlacesOf, merged_spans}
-use Rattle.semver_cuts.proofs.Joining.JoinedPlaces.{none-merged}
+use Rattle.semver_cuts.proofs.Joining.JoinedPlaces.{merged-by}
 use Rattle.semver_cuts.proofs.algebra.joined.join.Goals as goal
 
 pub returns-then-is_empty : goal.returns-then-is_empty
@@ -12,9 +11,8 @@ returns-then-is_empty g c =
     let spans = c.args.spans.items in
     let places = c.in_ok-places.places in
     subst (AreJoined g.T.Ord.cmp spans)
-    (none-merged g.T.Ord.cmp spans places
-    (ap length (sym c.as_slice.ensures)
-    ∙ eqb-true (length c.as_slice.result.now) 0 (sym c.is_empty.ensures ∙ c.if-is_empty.true)))
+    (merged-by g.T.Ord.cmp spans places true
+    (ap (λ l. length l == 0) (sym c.as_slice.ensures) ∙ sym c.is_empty.ensures ∙ c.if-is_empty.true))
     (subst (λ l. IsPlacesOf g.T.Ord.cmp l places) c.deref.ensures.value c.in_ok-places.ensures).joined
 
 pub taken_at-requires-clause-places : goal.taken_at-requires-clause-places

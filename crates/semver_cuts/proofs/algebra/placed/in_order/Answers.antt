@@ -24,15 +24,12 @@ loop-place-preserved g c =
           c.ends-ends.ensures.rising h);
     }
 
-pub returns-clause-same : goal.returns-clause-same
-returns-clause-same g c =
-    placed-moved g.T.Ord.cmp c.args.spans.now c.loop-place.place c.loop-place.order.items c.sort_unstable.new.self.items
-    c.loop-place-test.false c.loop-place.invariant.placed c.sort_unstable.ensures.permutation
-
-pub returns-clause-sorted : goal.returns-clause-sorted
-returns-clause-sorted g c = c.sort_unstable.ensures.sorted
-
-pub returns-clause-rising : goal.returns-clause-rising
-returns-clause-rising g c =
-    c.loop-place.invariant.rising
-    (subst (AreRising g.T.Ord.cmp) (sym (drop_all c.loop-place.place c.args.spans.now c.loop-place-test.false)) tt)
+pub returns : goal.returns
+returns g c = record {
+  rising = c.loop-place.invariant.rising
+      (subst (AreRising g.T.Ord.cmp) (sym (drop_all c.loop-place.place c.args.spans.now c.loop-place-test.false)) tt);
+  same = placed-moved g.T.Ord.cmp c.args.spans.now c.loop-place.place c.loop-place.order.items
+      c.sort_unstable.new.self.items c.loop-place-test.false c.loop-place.invariant.placed
+      c.sort_unstable.ensures.permutation;
+  sorted = c.sort_unstable.ensures.sorted;
+}

@@ -1,48 +1,81 @@
-use Rattle.std.proofs.Common.{sym, ◌∙◌}
-use Rattle.semver_cuts.proofs.Joining.PlacesLoop.{places-begun, places-longer, places-next, places-none, places-over}
-use Rattle.semver_cuts.proofs.Joining.PlacesLoop.{places-same}
+use Rattle.std.proofs.Common.{◌≡◌, ◌+◌, ℕ, ap, List, [], ◌∷◌, ◌++◌, drop, length, refl, subst, sym, ◌∙◌}
+use Rattle.std.proofs.lemmas.List.{drop_all}
+use Rattle.std.specs.Ordering.{is_lt, nat_cmp, ordering_then}
+use Rattle.semver_cuts.specs.Cut.{cut_cmp}
+use Rattle.semver_cuts.specs.Ends.{Ends}
+use Rattle.semver_cuts.specs.Private.Placed.{AreJoinedAt}
+use Rattle.semver_cuts.specs.Lemmas.Ends.{at_most-from_not_lt, below-from_lt}
+use Rattle.semver_cuts.proofs.Joining.JoinedPlaces.{running-first, running-longer, running-moved, running-next}
+use Rattle.semver_cuts.proofs.Joining.JoinedPlaces.{running-over, running-same}
+use Rattle.semver_cuts.proofs.Joining.JoinedSpans.{none-joined}
+use Rattle.semver_cuts.proofs.Joining.PlacedOrder.{later-tested}
+use Rattle.semver_cuts.proofs.LoopSteps.{here}
 use Rattle.semver_cuts.proofs.algebra.places.places_in_order.Goals as goal
 use Rattle.semver_cuts.proofs.algebra.places.places_in_order.Goals.{then-lt+in_ok-push, else-lt+then-ends_later}
 use Rattle.semver_cuts.proofs.algebra.places.places_in_order.Goals.{else-lt+else-ends_later}
 
+none : {X : Type 0} (xs : List X) → length xs ≡ 0 → xs ≡ []
+none [] e = refl
+none (x ∷ xs) e = cc
+
 pub returns-in_default : goal.returns-in_default
-returns-in_default g c =
-    places-none g.T.Ord.cmp c.args.order.now c.new.result.items c.in_default.ensures.cases c.new.ensures.items
+returns-in_default g c = λ spans s.
+    subst (AreJoinedAt g.T.Ord.cmp spans) (sym c.new.ensures.items) (record {
+      within = tt;
+      joined = none-joined g.met.T.Ord.total spans c.args.order.now s
+          (none c.args.order.now c.in_default.ensures.cases);
+    })
 
 pub loop-next-init : goal.loop-next-init
-loop-next-init g c =
-    places-begun g.T.Ord.cmp c.args.order.now c.in-Some.later.now c.in-Some.first.now c.in_ok-pairs.pairs.items
-    c.place-begun.result c.place-begun.result c.ends.result.0.now c.ends.result.1.now c.in-Some.ensures.cases.0
-    c.in_ok-pairs.ensures.items c.place-begun.ensures c.place-begun.ensures c.ends.ensures.ends
+loop-next-init g c = λ spans s.
+    let first = c.in-Some.first.now in
+    running-moved g.met.T.Ord.total spans c.args.order.now s [] _ first.place _ first.place _ first.span.upper _ _ _
+    (sym c.in_ok-pairs.ensures.items) (sym c.place-begun.ensures) (sym c.place-begun.ensures)
+    (λ i. (c.ends.ensures.ends i).upper) refl
+    (running-first g.met.T.Ord.total spans c.args.order.now s first c.in-Some.later.now c.in-Some.ensures.cases.0)
 
 pub loop-next-preserved : goal.loop-next-preserved
-loop-next-preserved g c =
+loop-next-preserved g c = λ spans s.
+    let o = g.met.T.Ord.total in
     let loop = c.loop-next in
+    let order = c.args.order.now in
     let next = c.next-item.result in
-    let lower = c.ends-ends.result.0.now in
-    let upper = c.ends-ends.result.1.now in
+    let rest = drop (loop.next-index + 1) c.in-Some.later.now in
+    let is = running-moved o spans order s loop.pairs.items _ loop.begun _ loop.place _ loop.upper.now _ _
+    (next ∷ rest) refl refl refl refl
+    (here c.in-Some.later.now loop.next-index next c.loop-next-test.true c.next-item.is) (loop.invariant spans s) in
+    let begins = ap (λ (span : Ends g.row.T.Denot). is_lt (cut_cmp g.T.Ord.cmp loop.upper.now span.lower))
+    c.ends-ends.ensures.ends in
+    let ends = ap (λ (span : Ends g.row.T.Denot). is_lt (ordering_then (cut_cmp g.T.Ord.cmp loop.upper.now span.upper)
+    (nat_cmp next.place loop.place))) c.ends-ends.ensures.ends
+    ∙ ap (λ (n : ℕ). is_lt (ordering_then (cut_cmp g.T.Ord.cmp loop.upper.now c.ends-ends.result.1.now)
+    (nat_cmp n loop.place))) (sym c.place-found.ensures) in
     elim c.if-lt.branch [
-      | then-lt+in_ok-push w ↦ places-next g.T.Ord.cmp c.in-Some.later.now loop.next-index loop.pairs.items _ loop.begun
-          loop.place loop.upper.now loop.invariant next c.loop-next-test.true c.next-item.is lower upper
-          c.ends-ends.ensures.ends c.if-lt.pairs.items c.if-lt.begun c.if-lt.place c.if-lt.upper.now
-          (sym c.lt.ensures ∙ w.if-lt.true) ((λ i. (w.pairs-is i).items) ∙ w.in_ok-push.ensures.items)
-          (w.begun-is ∙ c.place-found.ensures) (w.place-is ∙ c.place-found.ensures) (λ i. (w.upper-is i).now)
-      | else-lt+then-ends_later w ↦ places-longer g.T.Ord.cmp c.in-Some.later.now loop.next-index loop.pairs.items _
-          loop.begun loop.place loop.upper.now loop.invariant next c.loop-next-test.true c.next-item.is lower upper
-          c.ends-ends.ensures.ends c.if-lt.pairs.items c.if-lt.begun c.if-lt.place c.if-lt.upper.now
-          (sym c.lt.ensures ∙ w.if-lt.false) c.place-found.result c.place-found.ensures
-          (sym w.ends_later.ensures ∙ w.if-ends_later.true)
-          (λ i. (w.pairs-is i).items) w.begun-is w.place-is (λ i. (w.upper-is i).now)
-      | else-lt+else-ends_later w ↦ places-same g.T.Ord.cmp c.in-Some.later.now loop.next-index loop.pairs.items _
-          loop.begun loop.place loop.upper.now loop.invariant next c.loop-next-test.true c.next-item.is lower upper
-          c.ends-ends.ensures.ends c.if-lt.pairs.items c.if-lt.begun c.if-lt.place c.if-lt.upper.now
-          (sym c.lt.ensures ∙ w.if-lt.false) c.place-found.result c.place-found.ensures
-          (sym w.ends_later.ensures ∙ w.if-ends_later.false)
-          (λ i. (w.pairs-is i).items) w.begun-is w.place-is (λ i. (w.upper-is i).now)
+      | then-lt+in_ok-push w ↦ running-moved o spans order s (loop.pairs.items ++ (loop.begun, loop.place) ∷ []) _
+          next.place _ next.place _ next.span.upper _ rest _
+          (sym ((λ i. (w.pairs-is i).items) ∙ w.in_ok-push.ensures.items)) (sym (w.begun-is ∙ c.place-found.ensures))
+          (sym (w.place-is ∙ c.place-found.ensures)) ((λ i. (c.ends-ends.ensures.ends i).upper) ∙ sym (λ i. (w.upper-is i).now))
+          refl (running-next o spans order s loop.pairs.items loop.begun loop.place loop.upper.now next rest is
+          (below-from_lt g.T.Ord.cmp loop.upper.now next.span.lower (begins ∙ sym c.lt.ensures ∙ w.if-lt.true)))
+      | else-lt+then-ends_later w ↦ running-moved o spans order s loop.pairs.items _ loop.begun _ next.place _
+          next.span.upper _ rest _ (sym (λ i. (w.pairs-is i).items)) (sym w.begun-is)
+          (sym (w.place-is ∙ c.place-found.ensures)) ((λ i. (c.ends-ends.ensures.ends i).upper) ∙ sym (λ i. (w.upper-is i).now))
+          refl (running-longer o spans order s loop.pairs.items loop.begun loop.place loop.upper.now next rest is
+          (at_most-from_not_lt o loop.upper.now next.span.lower (begins ∙ sym c.lt.ensures ∙ w.if-lt.false))
+          (later-tested o loop.upper.now loop.place next _ (ends ∙ sym w.ends_later.ensures ∙ w.if-ends_later.true)))
+      | else-lt+else-ends_later w ↦ running-moved o spans order s loop.pairs.items _ loop.begun _ loop.place _
+          loop.upper.now _ rest _ (sym (λ i. (w.pairs-is i).items)) (sym w.begun-is) (sym w.place-is)
+          (sym (λ i. (w.upper-is i).now)) refl
+          (running-same o spans order s loop.pairs.items loop.begun loop.place loop.upper.now next rest is
+          (at_most-from_not_lt o loop.upper.now next.span.lower (begins ∙ sym c.lt.ensures ∙ w.if-lt.false))
+          (later-tested o loop.upper.now loop.place next _ (ends ∙ sym w.ends_later.ensures ∙ w.if-ends_later.false)))
     ]
 
 pub returns : goal.returns
-returns g c =
-    c.shrink.ensures ∙ c.in_ok-push-2.ensures.items
-    ∙ places-over g.T.Ord.cmp c.in-Some.later.now c.loop-next.next-index c.loop-next.pairs.items _ c.loop-next.begun
-    c.loop-next.place c.loop-next.upper.now c.loop-next.invariant c.loop-next-test.false
+returns g c = λ spans s.
+    let o = g.met.T.Ord.total in
+    let loop = c.loop-next in
+    subst (AreJoinedAt g.T.Ord.cmp spans) (sym (c.shrink.ensures ∙ c.in_ok-push-2.ensures.items))
+    (running-over o spans c.args.order.now s loop.pairs.items loop.begun loop.place loop.upper.now
+    (running-moved o spans c.args.order.now s loop.pairs.items _ loop.begun _ loop.place _ loop.upper.now _ _ []
+    refl refl refl refl (drop_all loop.next-index c.in-Some.later.now c.loop-next-test.false) (loop.invariant spans s)))

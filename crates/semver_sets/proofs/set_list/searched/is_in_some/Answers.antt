@@ -5,7 +5,7 @@ use Rattle.std.proofs.lemmas.List.{drop_all}
 use Rattle.semver_cuts.specs.declared.cut.Cut.TheVariants.{Before}
 use Rattle.semver_cuts.specs.Ends.{Ends, IsCutAtMost, IsCutBelow, span_between}
 use Rattle.semver_versions.specs.Comparison.{version_cmp}
-use Rattle.semver_versions.specs.Lemmas.Order.{version_total}
+use Rattle.semver_versions.specs.Lemmas.Public.{version_total}
 use Rattle.semver_versions.specs.Version.{VersionValue}
 use Rattle.semver_sets.proofs.Sets.Searching.{IsLeft, begun_above, begun_below, begun_last, last_begun, left-first}
 use Rattle.semver_sets.proofs.Sets.Searching.{left-step, none-begun, not-begun}

@@ -2,7 +2,7 @@ use Rattle.std.proofs.Common.{◌≡◌, ◌∙◌, drop, sym, subst, true}
 use Rattle.std.proofs.lemmas.List.{take_rest}
 use Rattle.std.specs.Ordering.{nat_cmp}
 use Rattle.semver_versions.specs.IdentifierText.{IsListed}
-use Rattle.semver_versions.specs.Readers.CommonStarts.{are_decided, first_byte}
+use Rattle.semver_versions.specs.Private.CommonStarts.{are_decided, first_byte}
 use Rattle.semver_versions.specs.Lemmas.Texts.CommonStarts.{decided-after, from-start}
 use Rattle.semver_versions.specs.Lemmas.Texts.IdentifierStarts.{texts_cmp}
 use Rattle.semver_versions.proofs.identifier.borrowed.cmp_texts.Goals as goal

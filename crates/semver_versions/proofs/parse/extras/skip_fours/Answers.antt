@@ -1,6 +1,6 @@
 use Rattle.std.proofs.Common.{◌≡◌, ◌<◌, ◌≤◌, ◌+◌, ℕ, List, [], ◌∷◌, true, arith, get_or, length, drop, sym, ap, refl, ◌∙◌}
 use Rattle.std.proofs.lemmas.List.{drop_more, take_rest}
-use Rattle.semver_versions.specs.Readers.Reading.{goes_on, list_rest}
+use Rattle.semver_versions.specs.Reading.{goes_on, list_rest}
 use Rattle.semver_versions.proofs.parse.extras.skip_fours.Goals as goal
 
 step : (b : ℕ) (rest : List ℕ) → goes_on (b ∷ rest) ≡ true → list_rest (b ∷ rest) ≡ list_rest rest

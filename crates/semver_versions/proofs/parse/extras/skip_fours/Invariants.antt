@@ -1,5 +1,5 @@
 use Rattle.std.proofs.Common.{◌≡◌, length}
-use Rattle.semver_versions.specs.Readers.Reading.{list_rest}
+use Rattle.semver_versions.specs.Reading.{list_rest}
 use Rattle.semver_versions.proofs.parse.extras.skip_fours.Given as goal
 
 -- the rest of the list from here on is that of the text

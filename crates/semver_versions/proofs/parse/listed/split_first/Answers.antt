@@ -1,5 +1,5 @@
 use Rattle.std.proofs.Common.{◌∙◌, rules}
-use Rattle.semver_versions.specs.Readers.ListedViews.{is_inner}
+use Rattle.semver_versions.specs.Private.ListedViews.{is_inner}
 use Rattle.semver_versions.specs.Lemmas.Texts.ListedTexts.{listed-ends, split-alone, split-before, split-shorter}
 use Rattle.semver_versions.proofs.parse.listed.split_first.Goals as goal
 

@@ -3,7 +3,7 @@ use Rattle.std.specs.Str.Parse.{digits_value_after}
 use Rattle.semver_versions.specs.declared.TheConstants.{MAX_SAFE_INTEGER}
 use Rattle.semver_versions.specs.Characters.{BeginsWith, is_digit}
 use Rattle.semver_versions.specs.NumberText.{number_of}
-use Rattle.semver_versions.specs.Readers.Reading.{rest_of, prefix_of}
+use Rattle.semver_versions.specs.Reading.{rest_of, prefix_of}
 use Rattle.semver_versions.proofs.parse.number.read_number.Given as goal
 
 -- the digits so far and those of the rest write the number of the text

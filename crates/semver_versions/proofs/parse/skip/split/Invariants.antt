@@ -1,5 +1,5 @@
 use Rattle.std.proofs.Common.{ℕ, Bool}
-use Rattle.semver_versions.specs.Readers.ReadingViews.{IsTest}
+use Rattle.semver_versions.specs.Reading.{IsTest}
 use Rattle.semver_versions.specs.Lemmas.Texts.Places.{Over}
 use Rattle.semver_versions.proofs.parse.skip.split.Given as goal
 

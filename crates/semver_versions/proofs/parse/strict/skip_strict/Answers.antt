@@ -1,5 +1,5 @@
 use Rattle.std.proofs.Common.{rules}
-use Rattle.semver_versions.specs.Readers.StrictViews.{is_inner}
+use Rattle.semver_versions.specs.Private.StrictViews.{is_inner}
 use Rattle.semver_versions.proofs.Versions.StrictParts.{reached-end, reached-next, reached-start, reached-unstrict}
 use Rattle.semver_versions.proofs.Versions.StrictParts.{shorter-next}
 use Rattle.semver_versions.proofs.parse.strict.skip_strict.Goals as goal

@@ -1,6 +1,5 @@
-use Rattle.std.proofs.Common.{◌∙◌, rules}
+use Rattle.std.proofs.Common.{rules}
 use Rattle.semver_versions.specs.Lemmas.Order.{triples_decide, version_order}
-use Rattle.semver_versions.specs.Triple.{triple_cmp}
 use Rattle.semver_versions.proofs.version.Version.cmp_ref.Goals as goal
 
 pub returns-in-Equal-clause-order : goal.returns-in-Equal-clause-order
@@ -8,6 +7,5 @@ returns-in-Equal-clause-order c = version_order _ _ _ (search rules)
 
 pub returns-in_default : goal.returns-in_default
 returns-in_default c =
-    let e = triples_decide c.args.self.now c.args.other.now c.cmp.result
-    (c.cmp.ensures ∙ (λ i. triple_cmp (c.triple.ensures i) (c.triple-2.ensures i))) c.in_default.not-Equal in
+    let e = triples_decide c.args.self.now c.args.other.now c.cmp.result (search rules) c.in_default.not-Equal in
     record { answer = e; order = version_order _ _ _ e }

@@ -1,6 +1,6 @@
 use Rattle.std.proofs.Common.{List, subst, ℕ}
 use Rattle.semver_versions.specs.Coerce.{IsChosen}
-use Rattle.semver_versions.specs.Readers.PieceViews.{numbers_of}
+use Rattle.semver_versions.specs.Private.PieceViews.{numbers_of}
 use Rattle.semver_versions.proofs.Versions.ChosenPieces.{not_coerced}
 use Rattle.semver_versions.proofs.version.Version.coerce.Goals as goal
 

@@ -1,7 +1,7 @@
 use Rattle.std.proofs.Common.{◌≡◌, ◌∙◌}
 use Rattle.std.proofs.lemmas.Str.{IsUtf8-from_ascii}
 use Rattle.semver_versions.specs.Characters.{is_digit}
-use Rattle.semver_versions.specs.Readers.Reading.{prefix_of}
+use Rattle.semver_versions.specs.Reading.{prefix_of}
 use Rattle.semver_versions.specs.Lemmas.Texts.Characters.{ascii-digits}
 use Rattle.semver_versions.specs.Lemmas.Texts.Prefixes.{prefix_of-all, prefix_of-begins}
 use Rattle.semver_versions.specs.Lemmas.Versions.LargeNumbers.{large-err, large-ok}

@@ -2,7 +2,7 @@ use Rattle.std.proofs.Common.{◌≡◌, Ordering, Less, Equal, Greater, List, a
 use Rattle.semver_versions.specs.Comparison.{prerelease_cmp}
 use Rattle.semver_versions.specs.IdentifierValue.{IdentifierValue}
 use Rattle.semver_versions.specs.Version.{VersionValue}
-use Rattle.semver_versions.specs.Lemmas.Order.{Greater-turned, prerelease_total}
+use Rattle.semver_versions.specs.Lemmas.Public.{Greater-turned, prerelease_total}
 use Rattle.node_semver.proofs.range.least.candidates.cmp_with_end.Goals as goal
 
 pub returns-then-is_prerelease_below-2 : goal.returns-then-is_prerelease_below-2

@@ -1,16 +1,15 @@
-use Rattle.std.proofs.Common.{◌≡◌, arith, get_or, length, subst}
+use Rattle.std.proofs.Common.{arith, sym, ◌∙◌}
 use Rattle.std.proofs.lemmas.Bool.{ltb-false, ltb-true}
-use Rattle.semver_cuts.proofs.Walks.{shares-lone}
+use Rattle.semver_cuts.proofs.Walks.{shares-one, one-list}
 use Rattle.semver_cuts.proofs.algebra.merged.MergedSpans.shares_cut.Goals as goal
 
 pub returns-in-len1-len1 : goal.returns-in-len1-len1
 returns-in-len1-len1 g c =
     let this = c.this-item.result in
     let that = c.that-item.result in
-    let one : length c.spans.result.now ≡ 1 = omega (arith, ltb-true, ltb-false) in
-    let other : length c.spans-2.result.now ≡ 1 = omega (arith, ltb-true, ltb-false) in
-    shares-lone g.T.Ord.cmp c.args.self.now.list c.args.other.now.list this that c.shares_cut.result
-    (subst (λ l. length l ≡ 1) c.spans.ensures.list one)
-    (subst (λ l. this ≡ get_or l 0 this) c.spans.ensures.list c.this-item.is)
-    (subst (λ l. length l ≡ 1) c.spans-2.ensures.list other)
-    (subst (λ l. that ≡ get_or l 0 that) c.spans-2.ensures.list c.that-item.is) c.shares_cut.ensures
+    let law = shares-one g.T.Ord.cmp this that in
+    rw (sym c.spans.ensures.list
+    ∙ one-list c.spans.result.now this (omega (arith, ltb-true, ltb-false)) c.this-item.is)
+    (rw (sym c.spans-2.ensures.list
+    ∙ one-list c.spans-2.result.now that (omega (arith, ltb-true, ltb-false)) c.that-item.is)
+    (λ true. law.0 (c.shares_cut.ensures.0 true), λ is. c.shares_cut.ensures.1 (law.1 is)))

@@ -1,0 +1,10 @@
+pub mod Results
+pub mod Releases
+pub mod SpanLists
+pub mod Offering
+pub mod Indexing
+pub mod Installing
+pub mod Reading
+pub mod Keeping
+pub mod Auditing
+pub mod Listing

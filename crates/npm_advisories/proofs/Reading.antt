@@ -1,0 +1,47 @@
+-- The fault of an advisory at its place, and lists of advisories of which some are read.
+use Rattle.std.proofs.Common.{◌≡◌, ◌∙◌, ◌++◌, ◌<◌, ◌+◌, ◌≤◌, ℕ, List, [], ◌∷◌, Option, None, add-one, ap, drop, drop-cons, get_or, length, option_map, refl, sym}
+use Rattle.std.proofs.lemmas.List.{append_assoc, drop_all}
+use Rattle.std.specs.Option.{option_or}
+use Rattle.serde_json.specs.Data.{item, no_items}
+use Rattle.serde_json.specs.View.{items_view, view}
+use Rattle.serde_json.specs.declared.value.Value.{Value}
+use Rattle.npm_advisories.specs.Advisories.{AdvisoryValue, npm_advisory, npm_list}
+use Rattle.npm_advisories.specs.Faults.{FaultValue, IsErrorOf, list_fault, npm_fault}
+use Rattle.npm_advisories.specs.Private.Reading.{IsErrorAt, IsUnreadAs}
+use Rattle.npm_advisories.specs.declared.fault.AuditError.{AuditError}
+use Rattle.npm_advisories.specs.declared.fault.FaultKind.{FaultKind}
+use Rattle.npm_advisories.specs.declared.fault.Unread.{Unread}
+use Rattle.npm_advisories.specs.declared.fault.Unread.TheVariants.{Memory, Refused}
+
+-- the error of the first advisory that is not read is that of the list
+pub error-of : (unread : Unread) (name : List ℕ) (place : ℕ) (error : AuditError) (fault : Option FaultKind)
+    (rest : Option FaultValue) → IsUnreadAs fault unread → IsErrorAt unread name place error
+    → IsErrorOf (option_or (option_map (λ kind. record { kind = kind; name = name; place = place }) fault) rest) error
+error-of (Refused kind) name place error fault rest is at = rw is at.0
+error-of Memory name place error fault rest is at = rw at tt
+
+-- the list of an advisory and others
+module _ (name : List ℕ) (entries : List Value) (i : ℕ) (one : Value) (lt : i < length entries)
+    (is : one ≡ get_or entries i one) where
+  pub left : items_view (drop i entries) ≡ item (view one) (items_view (drop (i + 1) entries))
+  left = rw (add-one, drop-cons entries i one lt, ← is) refl
+
+  -- the fault of those from a place on
+  pub fault-next : list_fault name i (items_view (drop i entries))
+      ≡ option_or (option_map (λ kind. record { kind = kind; name = name; place = i }) (npm_fault (view one)))
+      (list_fault name (i + 1) (items_view (drop (i + 1) entries)))
+  fault-next = rw left refl
+
+  pub fault-none : npm_fault (view one) ≡ None
+      → list_fault name i (items_view (drop i entries)) ≡ list_fault name (i + 1) (items_view (drop (i + 1) entries))
+  fault-none none = fault-next ∙ (rw none refl)
+
+  pub read-next : (front : List AdvisoryValue) → front ++ npm_list name (items_view (drop i entries))
+      ≡ (front ++ npm_advisory name (view one) ∷ []) ++ npm_list name (items_view (drop (i + 1) entries))
+  read-next front =
+      ap (λ items. front ++ npm_list name items) left
+      ∙ sym (append_assoc front (npm_advisory name (view one) ∷ []) (npm_list name (items_view (drop (i + 1) entries))))
+
+-- nothing is left
+pub left-none : (entries : List Value) (i : ℕ) → length entries ≤ i → items_view (drop i entries) ≡ no_items
+left-none entries i done = rw (drop_all i entries done) refl

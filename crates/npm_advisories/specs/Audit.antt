@@ -1,0 +1,76 @@
+-- What an audit finds: npm's "npm audit".
+use Rattle.std.specs.Prelude.{◌≡◌, ◌≢◌, ℕ, List, [], ◌∷◌, Option, map, option_map}
+use Rattle.node_semver.specs.Versions.{IsVersionText, VersionValue}
+use Rattle.npm_advisories.specs.Advisories.{AboutValue, AdvisoryValue, about_name, about_value}
+use Rattle.npm_advisories.specs.Hits.{AreHits}
+use Rattle.npm_advisories.specs.Offers.{IsAdmitted, IsLeastOrNone, IsUnhit}
+use Rattle.npm_advisories.specs.declared.found.Found.{Found}
+use Rattle.npm_advisories.specs.declared.found.Installed.{Installed}
+use Rattle.npm_advisories.specs.declared.severity.Severity.{Severity}
+
+-- an installed package: the text of its version, and the range texts by which other packages ask for it
+pub record InstalledValue : Type 0 where
+  pub folder : List ℕ
+  pub name : List ℕ
+  pub version : List ℕ
+  pub asked : List (List ℕ)
+
+-- an installed package that is hit: the advisories that hit it, and the versions that are offered
+pub record FoundValue : Type 0 where
+  pub folder : List ℕ
+  pub name : List ℕ
+  pub version : List ℕ
+  pub hits : List AboutValue
+  pub least : Option VersionValue
+  pub admitted : Option VersionValue
+
+-- both as a contract sees them
+abbrev pub installed_value : Installed → InstalledValue
+installed_value installed = record {
+  folder = installed.folder.now;
+  name = installed.name.now;
+  version = installed.version.now;
+  asked = map (λ text. text.now) installed.asked.items;
+}
+
+abbrev pub found_value : Found → FoundValue
+found_value found = record {
+  folder = found.folder.now;
+  name = found.name.now;
+  version = found.version.now;
+  hits = map about_value found.hits.items;
+  least = found.least;
+  admitted = found.admitted;
+}
+
+-- ---- one package
+
+-- what is found of the package, whose version this is, among the advisories about its name
+pub record IsFound (level : Severity) (advisories : List AdvisoryValue) (installed : InstalledValue) (v : VersionValue)
+    (found : FoundValue) : Type 0 where
+  pub folder : found.folder ≡ installed.folder
+  pub name : found.name ≡ installed.name
+  pub version : found.version ≡ installed.version
+  pub read : IsVersionText installed.version v
+  pub hits : AreHits level v advisories found.hits
+  pub some : found.hits ≢ []
+  pub least : IsLeastOrNone (IsUnhit advisories v) found.least
+  pub admitted : IsLeastOrNone (IsAdmitted advisories installed.asked v) found.admitted
+
+-- no advisory about its name hits the package. A text that is no version is not hit
+abbrev pub IsSpared : Severity → List AdvisoryValue → InstalledValue → Type 0
+IsSpared level advisories installed =
+    (v : VersionValue) → IsVersionText installed.version v → AreHits level v advisories []
+
+-- ---- all packages
+
+-- what is found of the installed packages, in their order
+pub data IsAudit (level : Severity) (advisories : List AdvisoryValue)
+    : List InstalledValue → List FoundValue → Type 0 where
+  none : IsAudit level advisories [] []
+  spared : (one : InstalledValue) (others : List InstalledValue) (found : List FoundValue)
+      → IsSpared level (about_name one.name advisories) one → IsAudit level advisories others found
+      → IsAudit level advisories (one ∷ others) found
+  hit : (one : InstalledValue) (v : VersionValue) (here : FoundValue) (others : List InstalledValue)
+      (found : List FoundValue) → IsFound level (about_name one.name advisories) one v here
+      → IsAudit level advisories others found → IsAudit level advisories (one ∷ others) (here ∷ found)

@@ -1,0 +1,92 @@
+-- Which values are no advisories that are read: npm's "npm audit", "Bulk Advisory Endpoint".
+use Rattle.std.specs.Prelude.{◌≡◌, ◌||◌, ◌+◌, ℕ, List, [], ◌∷◌, Bool, true, false, if◌then◌else◌, Option, Some, None, is_some}
+use Rattle.std.specs.Prelude.{option_and_then, option_map, codes}
+use Rattle.std.specs.Option.{option_map_or, option_or}
+use Rattle.serde_json.specs.Data.{Data, Items, Members, item, member, no_items, no_members}
+use Rattle.serde_json.specs.Find.{as_array, as_null, as_number, as_object, as_str, get}
+use Rattle.node_semver.specs.NpmRanges.{alternatives_of, with_plain_spaces}
+use Rattle.npm_advisories.specs.Advisories.{advisory_options, text_of}
+use Rattle.npm_advisories.specs.declared.fault.AuditError.{AuditError}
+use Rattle.npm_advisories.specs.declared.fault.AuditError.TheVariants as Errors
+use Rattle.npm_advisories.specs.declared.fault.Fault.{Fault}
+use Rattle.npm_advisories.specs.declared.fault.FaultKind.{FaultKind}
+use Rattle.npm_advisories.specs.declared.fault.FaultKind.TheVariants as Faults
+
+-- what is wrong, and with which advisory: the name that it stands under, and its place in the list there, from 0
+pub record FaultValue : Type 0 where
+  pub kind : FaultKind
+  pub name : List ℕ
+  pub place : ℕ
+
+-- ---- one advisory
+
+-- `id` is a number or a string
+abbrev pub is_id : Data → Bool
+is_id value = is_some (as_number value) || is_some (as_str value)
+
+abbrev pub id_fault : (entry : Data) → Option FaultKind
+id_fault entry = if option_map_or is_id (get (codes "id") entry) false then None else Some Faults.Id
+
+-- a member that is there is a string or `null`; otherwise it has this fault
+abbrev pub text_fault : (key : List ℕ) → FaultKind → (entry : Data) → Option FaultKind
+text_fault key kind entry = option_and_then
+    (λ value. if is_some (as_null value) || is_some (as_str value) then None else Some kind) (get key entry)
+
+-- the fault of the members that say what the advisory is
+abbrev pub about_fault : (entry : Data) → Option FaultKind
+about_fault entry = option_or (id_fault entry) (option_or (text_fault (codes "severity") Faults.Severity entry)
+    (option_or (text_fault (codes "title") Faults.Title entry) (text_fault (codes "url") Faults.Url entry)))
+
+-- the list has nothing
+abbrev pub is_nothing : {A : Type 0} → List A → Bool
+is_nothing [] = true
+is_nothing (x ∷ xs) = false
+
+-- npm refuses the text as a range
+abbrev pub is_no_range : (text : List ℕ) → Bool
+is_no_range text = is_nothing (alternatives_of advisory_options (with_plain_spaces text))
+
+-- `vulnerable_versions` is a string, and a range
+abbrev pub range_fault : (entry : Data) → Option FaultKind
+range_fault entry = option_map_or (λ text. if is_no_range text then Some Faults.Range else None)
+    (text_of (codes "vulnerable_versions") entry) (Some Faults.RangeText)
+
+-- the fault of an advisory, if it has one
+abbrev pub npm_fault : (entry : Data) → Option FaultKind
+npm_fault entry = if is_some (as_object entry) then option_or (about_fault entry) (range_fault entry)
+    else Some Faults.Advisory
+
+-- ---- a file
+
+-- the first fault of a list, from this place on
+abbrev pub list_fault : (name : List ℕ) → (place : ℕ) → Items → Option FaultValue
+list_fault name place no_items = None
+list_fault name place (item entry others) = option_or
+    (option_map (λ kind. record { kind = kind; name = name; place = place }) (npm_fault entry))
+    (list_fault name (place + 1) others)
+
+-- the first fault of what stands under a name
+abbrev pub member_fault : (name : List ℕ) → (list : Data) → Option FaultValue
+member_fault name list =
+    option_map_or (list_fault name 0) (as_array list) (Some (record { kind = Faults.List; name = name; place = 0 }))
+
+-- the first fault of an object that has a list for each name
+abbrev pub members_fault : Members → Option FaultValue
+members_fault no_members = None
+members_fault (member name list others) = option_or (member_fault name list) (members_fault others)
+
+-- the fault of a file, if it has one: this is what `audit` refuses
+abbrev pub file_fault : (file : Data) → Option FaultValue
+file_fault file = option_map_or members_fault (as_object file)
+    (Some (record { kind = Faults.File; name = []; place = 0 }))
+
+-- ---- as a contract sees it
+
+-- what is wrong with which advisory
+abbrev pub fault_value : Fault → FaultValue
+fault_value fault = record { kind = fault.kind; name = fault.name.now; place = fault.place }
+
+-- there is no audit because of this fault, or because an allocation failed
+abbrev pub IsErrorOf : Option FaultValue → AuditError → Type 0
+IsErrorOf fault (Errors.Refused at) = fault ≡ Some (fault_value at)
+IsErrorOf fault Errors.Memory = Unit {0}

@@ -1,0 +1,19 @@
+-- What the contracts of this crate say: all of it that is trusted, in reading order.
+-- `IsAudit` of Audit is the claim of `audit`, `file_fault` of Faults says what it refuses, and `found_data` of FoundJson is
+-- what is written for a package. All other words are there for these three.
+
+-- ---- the advisories of a file
+pub mod Severities  -- how severe an advisory is
+pub mod Advisories  -- what an advisory says, and which versions it is about
+pub mod Faults  -- which values are no advisories
+-- ---- one installed package
+pub mod Hits  -- the advisories that hit a version
+pub mod Offers  -- the versions that are offered in place of one that is hit
+-- ---- all installed packages
+pub mod Audit  -- what is found of them, in their order
+pub mod FoundJson  -- a package that is hit as a JSON object
+-- ---- a lock file
+pub mod LockFile  -- its installed packages
+pub mod LockFaults  -- why there is no audit of it
+-- ---- not part of any public contract: what private functions compute
+pub mod Private

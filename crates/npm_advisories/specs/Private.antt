@@ -1,0 +1,5 @@
+pub mod Reading  -- what is read of an advisory
+pub mod Index  -- the advisories by name
+pub mod Spans  -- spans of versions that are not offered
+pub mod Offering  -- the versions that are offered
+pub mod Auditing  -- what is seen of an installed package

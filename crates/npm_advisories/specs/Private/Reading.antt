@@ -1,0 +1,35 @@
+-- What is read of an advisory.
+use Rattle.std.specs.Prelude.{◌≡◌, ◌≢◌, ◌↔◌, ℕ, List, Option, Some}
+use Rattle.semver_cuts.specs.Ends.{Ends}
+use Rattle.node_semver.specs.Ranges.{IsRangeValue, RangeContains}
+use Rattle.node_semver.specs.Versions.{VersionValue}
+use Rattle.npm_advisories.specs.Advisories.{AdvisoryValue, Affected, Affects, about_value}
+use Rattle.npm_advisories.specs.Faults.{IsErrorOf}
+use Rattle.npm_advisories.specs.declared.advisory.Advisory.{Advisory}
+use Rattle.npm_advisories.specs.declared.fault.AuditError.{AuditError}
+use Rattle.npm_advisories.specs.declared.fault.AuditError.TheVariants as Errors
+use Rattle.npm_advisories.specs.declared.fault.FaultKind.{FaultKind}
+use Rattle.npm_advisories.specs.declared.fault.Unread.{Unread}
+use Rattle.npm_advisories.specs.declared.fault.Unread.TheVariants.{Memory, Refused}
+
+-- the range contains the versions that are affected
+pub record IsRangeOf (affected : Affected) (range : List (Ends VersionValue)) : Type 0 where
+  pub means : (v : VersionValue) → RangeContains range v ↔ Affects affected v
+  pub holds : IsRangeValue range
+
+-- the advisory was read
+pub record IsAdvisory (value : AdvisoryValue) (advisory : Advisory) : Type 0 where
+  pub name : advisory.name.now ≡ value.name
+  pub about : about_value advisory.about ≡ value.about
+  pub range : IsRangeOf value.affected advisory.range
+
+-- it was not read because of this fault, or an allocation failed
+abbrev pub IsUnreadAs : Option FaultKind → Unread → Type 0
+IsUnreadAs fault (Refused kind) = fault ≡ Some kind
+IsUnreadAs fault Memory = Unit {0}
+
+-- the error of an advisory at a place
+abbrev pub IsErrorAt : Unread → (name : List ℕ) → (place : ℕ) → AuditError → Type 0
+IsErrorAt (Refused kind) name place error =
+    IsErrorOf (Some (record { kind = kind; name = name; place = place })) error × (error ≢ Errors.Memory)
+IsErrorAt Memory name place error = error ≡ Errors.Memory

@@ -1,0 +1,36 @@
+//! Which advisories hit a version.
+ghost use Rattle.std.specs.Prelude.{◌↔◌, IfOk, IsTrue, map};
+ghost use Rattle.npm_advisories.specs.Hits.{AreKept};
+ghost use Rattle.npm_advisories.specs.Advisories.{about_value};
+ghost use Rattle.npm_advisories.specs.Private.Spans.{IsHitBy};
+
+use crate::Result;
+use crate::advisory::{About, Advisory};
+use crate::severity::Severity;
+use node_semver::VersionRef;
+use std::alloc::Global;
+
+/// What the advisories of a list that hit a version say of themselves.
+pub(crate) fn hits_of<'v>(
+    alloc: Global,
+    advisories: &[Advisory<'v>],
+    level: Severity,
+    version: &VersionRef<'_>,
+) -> Result<Vec<About<'v>>>
+    ensures { IfOk result (λ hits. AreKept (IsHitBy level version.now) (λ advisory. about_value advisory.about)
+        advisories.now (map about_value hits.items)) }
+{
+    let mut hits = Vec::new(alloc);
+    for advisory in advisories {
+        if is_hit(advisory, level, version) {
+            hits.push(advisory.about)?;
+        }
+    }
+    Ok(hits)
+}
+
+fn is_hit(advisory: &Advisory<'_>, level: Severity, version: &VersionRef<'_>) -> bool
+    ensures { IsTrue result ↔ IsHitBy level version.now advisory.now }
+{
+    advisory.about.severity.is_at_least(level) && advisory.range.contains(version)
+}

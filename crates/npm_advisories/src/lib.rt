@@ -1,0 +1,25 @@
+//! Which installed packages security advisories hit, and the least version that they do not hit.
+#![tactic(auto)]
+
+mod advisory;
+mod fault;
+mod found;
+mod hits;
+mod index;
+mod json;
+mod lock;
+mod offer;
+mod read;
+mod severity;
+mod spans;
+#[cfg(test)]
+mod tests;
+
+pub use advisory::About;
+pub use fault::{AuditError, Fault, FaultKind};
+pub use found::{Found, Installed, audit};
+pub use lock::{LockError, audit_lock};
+pub use severity::Severity;
+
+/// The result of what fails by memory alone, if no other error is named.
+type Result<T, E = std::alloc::AllocError> = std::result::Result<T, E>;

@@ -1,0 +1,176 @@
+//! The audit of a lock file.
+ghost use Rattle.std.specs.Prelude.{◌≡◌, ℕ, List, None, IfErr, IfOk, OnOk, codes, map, option_map};
+ghost use Rattle.std.specs.Option.{MatchOption};
+ghost use Rattle.std.specs.Str.Pattern.{RFindsText, SplitsAroundMatch};
+ghost use Rattle.serde_json.specs.Data.{Data};
+ghost use Rattle.serde_json.specs.View.{members_view, view};
+ghost use Rattle.npm_lock.specs.Dependents.{texts_at};
+ghost use Rattle.npm_lock.specs.Faults.{lock_fault};
+ghost use Rattle.npm_lock.specs.Packages.{is_link};
+ghost use Rattle.npm_advisories.specs.Advisories.{advisories_of, text_of as text_in};
+ghost use Rattle.npm_advisories.specs.Audit.{InstalledValue, IsAudit, found_value, installed_value};
+ghost use Rattle.npm_advisories.specs.Faults.{file_fault};
+ghost use Rattle.npm_advisories.specs.LockFaults.{IsLockError};
+ghost use Rattle.npm_advisories.specs.LockFile.{AreInstalled, AreInstalledOf, IsInstalledAs, IsName, IsOther};
+
+use crate::Result;
+use crate::fault::{AuditError, Fault};
+use crate::found::{Found, Installed, audit};
+use crate::severity::Severity;
+use npm_lock::{CheckError, Dependents};
+use serde_json::{Map, Value};
+use std::alloc::Global;
+
+/// Why there is no audit of a lock file.
+#[derive(Debug, Drop, PartialEq, Eq)]
+pub enum LockError<'v> {
+    /// The value is no lock file that is read.
+    Lock(npm_lock::Fault),
+    /// The value is no advisories that are read.
+    Advisories(Fault<'v>),
+    /// An allocation failed.
+    Memory,
+}
+
+/// Returns the installed packages of a lock file that an advisory hits, in the order of their folders' bytes.
+///
+/// Each member of `packages` counts that is neither the root nor a link, and has a name and a version. The name is
+/// `name`, which an alias has, or what follows the last `node_modules/` of the folder. [`audit`] says what is found.
+///
+/// # Errors
+///
+/// - `Lock`: the value is no lock file of version 2 or 3, or a member that counts has the wrong type.
+/// - `Advisories`: the value is no advisories in npm's form, with the first fault and its place.
+/// - `Memory`: an allocation failed.
+pub fn audit_lock<'v>(
+    alloc: Global,
+    file: &'v Value,
+    level: Severity,
+    lock: &'v Value,
+) -> Result<Vec<Found<'v>>, LockError<'v>>
+    ensures found { IfOk result (λ found. (installed : List InstalledValue)
+        × AreInstalledOf (view lock.now) installed
+        × IsAudit level (advisories_of (view file.now)) installed (map found_value found.items)) }
+    ensures lock_sound { OnOk result (lock_fault (view lock.now) ≡ None) }
+    ensures file_sound { OnOk result (file_fault (view file.now) ≡ None) }
+    ensures refused { IfErr result (IsLockError (view lock.now) (view file.now)) }
+{
+    let installed = match installed_in(alloc, lock) {
+        Ok(installed) => installed,
+        Err(error) => return Err(error),
+    };
+    match audit(alloc, file, level, &installed) {
+        Ok(found) => Ok(found),
+        Err(AuditError::Refused(fault)) => Err(LockError::Advisories(fault)),
+        Err(AuditError::Memory) => Err(LockError::Memory),
+    }
+}
+
+/// The installed packages of a lock file.
+fn installed_in<'v>(alloc: Global, lock: &'v Value) -> Result<Vec<Installed<'v>>, LockError<'v>>
+    ensures found { IfOk result (λ installed. AreInstalledOf (view lock.now) (map installed_value installed.items)) }
+    ensures sound { OnOk result (lock_fault (view lock.now) ≡ None) }
+    ensures refused { IfErr result (λ error. (file : Data) → IsLockError (view lock.now) file error) }
+{
+    let dependents = match Dependents::of_lock(alloc, lock) {
+        Ok(dependents) => dependents,
+        Err(CheckError::Refused(fault)) => return Err(LockError::Lock(fault)),
+        Err(CheckError::Memory) => return Err(LockError::Memory),
+    };
+    let members = lock.get("packages").and_then(Value::as_object).unwrap();
+    match installed_of(alloc, members, &dependents) {
+        Ok(installed) => Ok(installed),
+        Err(_) => Err(LockError::Memory),
+    }
+}
+
+/// The installed packages among the members of `packages`.
+fn installed_of<'v>(
+    alloc: Global,
+    members: &'v Map<String, Value>,
+    dependents: &Dependents<'v>,
+) -> Result<Vec<Installed<'v>>>
+    ensures { IfOk result (λ installed. AreInstalled (texts_at dependents.now) (members_view members.now.entries)
+        (map installed_value installed.items)) }
+{
+    let mut all = Vec::new(alloc);
+    for (folder, entry) in members.iter() {
+        if let Some(installed) = installed_as(alloc, folder.as_str(), entry, dependents)? {
+            all.push(installed)?;
+        }
+    }
+    Ok(all)
+}
+
+/// The package of a member, if it is one that counts.
+fn installed_as<'v>(
+    alloc: Global,
+    folder: &'v str,
+    entry: &'v Value,
+    dependents: &Dependents<'v>,
+) -> Result<Option<Installed<'v>>>
+    ensures { IfOk result (λ one. MatchOption one (IsOther folder.now (view entry.now))
+        (λ one. IsInstalledAs (texts_at dependents.now) folder.now (view entry.now) (installed_value one))) }
+{
+    if folder.is_empty() || is_link(entry) {
+        return Ok(None);
+    }
+    let Some(name) = name_of(folder, entry) else {
+        return Ok(None);
+    };
+    let Some(version) = text_at(entry, "version") else {
+        return Ok(None);
+    };
+    let asked = asked_at(alloc, dependents, folder)?;
+    Ok(Some(Installed {
+        folder,
+        name,
+        version,
+        asked,
+    }))
+}
+
+/// The range texts by which the package in a folder is asked for.
+fn asked_at<'v>(alloc: Global, dependents: &Dependents<'v>, folder: &'v str) -> Result<Vec<&'v str>>
+    ensures { IfOk result (λ asked. map (λ text. text.now) asked.items ≡ texts_at dependents.now folder.now) }
+{
+    match dependents.texts(folder) {
+        Some(texts) => Vec::from_slice(alloc, texts),
+        None => Ok(Vec::new(alloc)),
+    }
+}
+
+/// The name of a package.
+fn name_of<'v>(folder: &'v str, entry: &'v Value) -> Option<&'v str>
+    ensures { IsName folder.now (view entry.now) (option_map (λ name. name.now) result) }
+{
+    match text_at(entry, "name") {
+        Some(name) => Some(name),
+        None => placed_name(folder),
+    }
+}
+
+/// What follows the last `node_modules/` of a folder.
+fn placed_name(folder: &str) -> Option<&str>
+    ensures { MatchOption result (RFindsText (codes "node_modules/") folder.now None)
+        (λ name. (front : List ℕ) × SplitsAroundMatch (RFindsText (codes "node_modules/")) folder.now front name.now) }
+{
+    match folder.rsplit_once("node_modules/") {
+        Some((_, name)) => Some(name),
+        None => None,
+    }
+}
+
+/// Returns `true` if a member of `packages` is a link.
+fn is_link(entry: &Value) -> bool
+    ensures { result ≡ is_link (view entry.now) }
+{
+    entry.get("link").and_then(Value::as_bool).unwrap_or(false)
+}
+
+/// A member that is a string.
+fn text_at<'v>(entry: &'v Value, key: &str) -> Option<&'v str>
+    ensures { option_map (λ text. text.now) result ≡ text_in key.now (view entry.now) }
+{
+    entry.get(key)?.as_str()
+}

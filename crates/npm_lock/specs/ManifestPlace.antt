@@ -1,0 +1,34 @@
+-- A manifest in the place of a package of the lock file: npm's "npm ls" and "npm ci" read the root and each workspace from
+-- their manifests.
+use Rattle.std.specs.Prelude.{ℕ, List, false, if◌then◌else◌, bytes_eq, codes}
+use Rattle.serde_json.specs.Data.{Data, Members, array, boolean, member, no_members, null, number, object, put, string}
+
+-- an object with this member, in the place of one of that name if there is one; another value stays
+abbrev pub with_member : (name : List ℕ) → (value : Data) → Data → Data
+with_member name value null = null
+with_member name value (boolean b) = boolean b
+with_member name value (number n) = number n
+with_member name value (string text) = string text
+with_member name value (array items) = array items
+with_member name value (object members) = object (put name value members)
+
+-- A manifest as a package of the lock file. `link` and `optional` are of lock files alone, and mean nothing in a manifest.
+abbrev pub as_package : (manifest : Data) → Data
+as_package manifest = with_member (codes "optional") (boolean false) (with_member (codes "link") (boolean false) manifest)
+
+-- the value of a name, changed so
+abbrev pub changed_at : (name : List ℕ) → (change : Data → Data) → Members → Members
+changed_at name change no_members = no_members
+changed_at name change (member key value others) = if bytes_eq name key
+    then member key (change value) others
+    else member key value (changed_at name change others)
+
+-- the lock file with a manifest in the place of the package in this folder
+abbrev pub with_manifest : (folder : List ℕ) → (manifest lock : Data) → Data
+with_manifest folder manifest null = null
+with_manifest folder manifest (boolean b) = boolean b
+with_manifest folder manifest (number n) = number n
+with_manifest folder manifest (string text) = string text
+with_manifest folder manifest (array items) = array items
+with_manifest folder manifest (object members) =
+    object (changed_at (codes "packages") (with_member folder (as_package manifest)) members)

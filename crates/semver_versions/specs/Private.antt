@@ -1,0 +1,8 @@
+-- What private functions compute, and how their contracts see it. No other crate names these, and nobody has to trust them.
+pub mod VersionReading
+pub mod ListedViews
+pub mod CommonStarts
+pub mod FaultViews
+pub mod ParsedViews
+pub mod StrictViews
+pub mod PieceViews

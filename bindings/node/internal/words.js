@@ -47,8 +47,8 @@ function comparatorsOf([lower, from, upper, to], options) {
     return found.length > 0 ? found : [comparatorOf('', ANY, options)];
 }
 
-// What npm does not take for the least version, as `>=0.0.0+b`.
-const ODD_ZERO = /^[^~^]*0+\.0+\.0+\+|(?:^|\D)00/;
+// What npm does not take for the least version, as `>=0.0.0+b`: it looks at the text of the numbers before an x.
+const ODD_ZERO = /^[^~^]*0+\.0+\.0+\+|^[^\dxX*]*(?:(?:0+\.){0,2}00|0+\.0+\.0+-00)/;
 
 // The words of an alternative. The two sides of a hyphen range are words, each with a star on its other side.
 function wordsOf(alternative, flags) {

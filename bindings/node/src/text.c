@@ -30,25 +30,8 @@ bool get_arguments(napi_env env, napi_callback_info info, size_t wanted, napi_va
     return false;
 }
 
-/* Gets a short string of ASCII characters, which V8 copies in less time than it writes UTF-8. False for any other. */
-static bool get_short(napi_env env, napi_value value, struct text *text) {
-    char16_t characters[sizeof text->room], all = 0;
-    const size_t size = sizeof text->room;
-    if (napi_get_value_string_utf16(env, value, characters, size, &text->length) != napi_ok || text->length + 1 == size) {
-        return false;
-    }
-    for (size_t i = 0; i < text->length; i++) {
-        all |= characters[i];
-        text->room[i] = (char)characters[i];
-    }
-    return all < 128;
-}
-
 node_semver_status get_text(napi_env env, napi_value value, struct text *text) {
     text->bytes = text->room;
-    if (get_short(env, value, text)) {
-        return NODE_SEMVER_OK;
-    }
     if (napi_get_value_string_utf8(env, value, text->room, sizeof text->room, &text->length) != napi_ok) {
         return NODE_SEMVER_REFUSED;
     }

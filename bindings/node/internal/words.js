@@ -14,23 +14,8 @@ const { withoutBuild } = require('./texts.js');
 // The kinds of cuts, by their numbers in node_semver.h.
 const [BEFORE, AFTER] = [1, 2];
 
-// Repeated parts have limits, as in npm, so that the time is linear in the text.
-const MARKS = '[v=\\s]*';
-const DIGITS = '\\d{1,256}';
-const NUMBER = `(?:${DIGITS}|[xX*])`;
-const IDENTIFIER = `(?:${DIGITS}|\\d{0,256}[a-zA-Z-][a-zA-Z0-9-]{0,250})`;
-const BUILD = '[a-zA-Z0-9-]{1,250}';
-const MORE = `(?:-?${IDENTIFIER}(?:\\.${IDENTIFIER})*)?(?:\\+${BUILD}(?:\\.${BUILD})*)?`;
-const PARTIAL = `${MARKS}${NUMBER}(?:\\.${NUMBER}(?:\\.${NUMBER}${MORE})?)?`;
-const HYPHEN = new RegExp(`^(${PARTIAL})\\s+-\\s+(${PARTIAL})$`);
-
-// Blanks between an operator and what it stands before, which npm takes out. Marks are looked at from the first of them
-// alone: if no number follows from there, none follows from a later one.
-const OPERATOR = new RegExp(`(\\s?)(?:([<>]=?)|(?<![v=]\\s?)(=?))\\s?(${MARKS}${DIGITS}\\.${DIGITS}\\.${DIGITS}${MORE}|${PARTIAL})`,
-    'g');
-const TILDE = /~>?\s+/g;
-const CARET = /\^\s+/g;
-const glued = (text) => text.replace(OPERATOR, '$1$2$3$4').replace(TILDE, '~').replace(CARET, '^');
+// The leads of a comparator. One that stands alone takes the next text between blanks.
+const LEAD = /^(?:[<>]=?|=|~>?|\^)$/;
 
 // The comparators of a set, of which the native part gives the kinds of its two cuts and the keys of their versions.
 function comparatorsOf([lower, from, upper, to], options) {
@@ -48,15 +33,23 @@ function comparatorsOf([lower, from, upper, to], options) {
 }
 
 // What npm does not take for the least version, as `>=0.0.0+b`: it looks at the text of the numbers before an x.
-const ODD_ZERO = /^[^~^]*0+\.0+\.0+\+|^[^\dxX*]*(?:(?:0+\.){0,2}00|0+\.0+\.0+-00)/;
+const ODD_ZERO = /^[^~^]*0+\.0+\.0+(?:-0+)?\+|^[^\dxX*]*(?:(?:0+\.){0,2}00|0+\.0+\.0+-00)/;
 
-// The words of an alternative. The two sides of a hyphen range are words, each with a star on its other side.
+// Whether the library reads a text as a partial.
+const isPartial = (text, flags) => native.sets(textKey(`^${text}`, flags)) !== null;
+
+// The words of an alternative, as the library divides it. The two sides of a hyphen range are words, each with a star on
+// its other side.
 function wordsOf(alternative, flags) {
-    const sides = HYPHEN.exec(alternative);
-    if (sides !== null && native.sets(textKey(alternative, flags)) !== null) {
-        return [`${sides[1]} - *`, `* - ${sides[2]}`];
+    const texts = alternative.split(/\s+/);
+    if (texts.length === 3 && texts[1] === '-' && isPartial(texts[0], flags) && isPartial(texts[2], flags)) {
+        return [`${texts[0]} - *`, `* - ${texts[2]}`];
     }
-    return glued(alternative).split(' ');
+    const words = [];
+    for (let i = 0; i < texts.length; i++) {
+        words.push(LEAD.test(texts[i]) && i + 1 < texts.length ? `${texts[i]} ${texts[++i]}` : texts[i]);
+    }
+    return words;
 }
 
 // The comparators of an alternative; none if the library refuses it.
@@ -134,6 +127,25 @@ function setOf(key, options) {
         comparatorsOf(cuts.slice(4 * i, 4 * i + 4), options));
 }
 
+// ---- what npm says of a text that is refused ----
+
+// Repeated parts have limits, as in npm, so that the time is linear in the text.
+const MARKS = '[v=\\s]*';
+const DIGITS = '\\d{1,256}';
+const NUMBER = `(?:${DIGITS}|[xX*])`;
+const IDENTIFIER = `(?:${DIGITS}|\\d{0,256}[a-zA-Z-][a-zA-Z0-9-]{0,250})`;
+const BUILD = '[a-zA-Z0-9-]{1,250}';
+const MORE = `(?:-?${IDENTIFIER}(?:\\.${IDENTIFIER})*)?(?:\\+${BUILD}(?:\\.${BUILD})*)?`;
+const PARTIAL = `${MARKS}${NUMBER}(?:\\.${NUMBER}(?:\\.${NUMBER}${MORE})?)?`;
+
+// Blanks between an operator and what it stands before, which npm takes out before it divides a text. Marks are looked at
+// from the first of them alone: if no number follows from there, none follows from a later one.
+const OPERATOR = new RegExp(`(\\s?)(?:([<>]=?)|(?<![v=]\\s?)(=?))\\s?(${MARKS}${DIGITS}\\.${DIGITS}\\.${DIGITS}${MORE}|${PARTIAL})`,
+    'g');
+const TILDE = /~>?\s+/g;
+const CARET = /\^\s+/g;
+const glued = (text) => text.replace(OPERATOR, '$1$2$3$4').replace(TILDE, '~').replace(CARET, '^');
+
 // What npm takes out of a word before it is refused.
 const STAR = /[<>]?=?\s*\*/;
 
@@ -141,7 +153,7 @@ const STAR = /[<>]?=?\s*\*/;
 function refusedWord(text, flags) {
     const alternative = text.split('||').map((one) => one.trim())
         .find((one) => native.sets(textKey(one, flags)) === null);
-    return wordsOf(alternative ?? text, flags).find((word) => native.sets(textKey(word, flags)) === null);
+    return glued(alternative ?? text).split(' ').find((word) => native.sets(textKey(word, flags)) === null);
 }
 
 // What npm says of a range text that is refused.

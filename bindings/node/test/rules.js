@@ -17,6 +17,9 @@ const BUILDS = ['compareBuild', 'SemVer.compareBuild', 'sort', 'rsort'];
 // A word that is any version, or nothing.
 const STAR = /(^|[\s<>=~^v|])([xX*]|>=\s*0|$|\|)/;
 
+// A text between blanks that ends like an operator, and is none.
+const LONG_OPERATOR = /(?<![^\s|])(?!(?:[<>]=?|=|~>?|\^)(?![^\s|]))[^\s|]*[<>=~^](?![^\s|])/;
+
 // A partial that begins with 0.0.0.
 const ZERO = /(^|[\s>=~^v|])0(\.[0xX*]){0,2}(\.\d+)?(?![\w.-])/;
 
@@ -56,8 +59,7 @@ const rules = [
         here: null,
         why: 'an operator has no blank inside. npm joins each operator with what follows, also after other characters: '
             + 'it refuses `foo> 1`, which is `1` here in loose mode',
-        range: has(/[<>=~^]\s+[<>=~^]/, /[^\s<>=~^|][<>=~^]+(\s|$|\|)/, /(?<!\|)\|[<>=~^]+(\s|$)/, /[<>=~^]{3,}\s/,
-            /<<|>>|[~^][<>=~^]*=\s|\^[<>=~^]+\s|[<>=][~^]\s|~[<~^]\s/),
+        range: has(/[<>=~^]\s+[<>=~^]/, /<<|>>/, /(?<!\|)\|[<>=~^]+(\s|$)/, LONG_OPERATOR),
     },
     {
         name: 'a star beside other characters',

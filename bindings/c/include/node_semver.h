@@ -78,7 +78,7 @@ typedef uint32_t node_semver_status;
 #define NODE_SEMVER_PARSE_INT 3u        /* a number of a version text above UINT64_MAX, at its first digit */
 #define NODE_SEMVER_MAX_INT 4u          /* a number that is too large and fits a uint64_t, at its first digit */
 #define NODE_SEMVER_CONTEXT 5u          /* a number or a dot that is missing from a version text, at that place */
-#define NODE_SEMVER_NO_VALID_RANGES 6u  /* a range text of which no alternative gives a set, at 0 */
+#define NODE_SEMVER_NO_VALID_RANGES 6u  /* a range text of which no alternative gives a set */
 #define NODE_SEMVER_OTHER 7u            /* a version text that goes on after the version, at the first byte left; see also
                                            node_semver_version_parse_strict */
 #define NODE_SEMVER_NO_MEMORY 8u        /* with NODE_SEMVER_OUT_OF_MEMORY alone */
@@ -195,9 +195,10 @@ node_semver_status node_semver_range_parse(const char *text, size_t length, node
 /* Parses a range as npm itself reads it. node_semver_range_parse reads a text as the Rust crate `node-semver` does: `<=20`
  * is `<21.0.0-0` here and `<=20.0.0-0` there, and the empty text is refused there alone. `loose` and `include_prerelease`
  * are npm's options. Ask a range that was parsed with prereleases included by node_semver_range_contains, and any other
- * by node_semver_satisfies. A text is refused with NODE_SEMVER_NO_VALID_RANGES at 0: without `loose` if one of its words
- * is no comparator, with `loose` if none is, and always if a number is above 9007199254740991 or a version has more than
- * 256 bytes. `>4 <3` is not refused: it is `<0.0.0-0`, which no version satisfies. */
+ * by node_semver_satisfies. A text is refused with NODE_SEMVER_NO_VALID_RANGES: without `loose` if one of its words is no
+ * comparator, with `loose` if none is, and always if a number is above 9007199254740991 or a version has more than 256
+ * bytes. The offset is that of the first word that is no comparator, 3 for `^1 foo`, and 0 with `loose`. `>4 <3` is not
+ * refused: it is `<0.0.0-0`, which no version satisfies. */
 #define NODE_SEMVER_HAS_PARSE_NPM 1
 node_semver_status node_semver_range_parse_npm(const char *text, size_t length, bool loose, bool include_prerelease,
                                                node_semver_range *range, node_semver_fault *fault);

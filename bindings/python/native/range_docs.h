@@ -98,16 +98,16 @@ PyDoc_STRVAR(parse_npm_doc,
 ">>> wanted.contains('18.0.0-rc.1'), '18.0.0-rc.1' in wanted, wanted.contains('17.9.0')\n"
 "(True, True, False)\n"
 "\n"
-"A text with a word that is no comparator raises SemverError; in loose form, one without any comparator.\n"
+"A text with a word that is no comparator raises SemverError, at that word; in loose form, one without any comparator.\n"
 "\n"
 ">>> Range.parse_npm('^1 next', loose=True)\n"
 "Range('>=1.0.0 <2.0.0-0')\n"
 ">>> Range.parse_npm('^1 next')\n"
 "Traceback (most recent call last):\n"
 "    ...\n"
-"node_semver.SemverError: NoValidRanges at byte 0: no alternative is a range that a version can be in\n"
+"node_semver.SemverError: NoValidRanges at byte 3: what begins here is no comparator\n"
 "    ^1 next\n"
-"    ^");
+"       ^");
 
 PyDoc_STRVAR(contains_doc,
 "contains($self, version, /)\n"

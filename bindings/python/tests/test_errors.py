@@ -48,6 +48,7 @@ class Errors(unittest.TestCase):
             (Version, "1.9007199254740992.", "MaxIntError at byte 2: a number is above 9007199254740991"),
             (Version, "18446744073709551616", "ParseIntError at byte 0: a number is above 18446744073709551615"),
             (Range, "latest next", "NoValidRanges at byte 0: no alternative is a range that a version can be in"),
+            (Range.parse_npm, "^1 next", "NoValidRanges at byte 3: what begins here is no comparator"),
         ]:
             self.assertEqual(str(error_of(read, text)).split("\n")[0], line)
 

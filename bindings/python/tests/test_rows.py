@@ -297,10 +297,16 @@ class Rows(unittest.TestCase):
             with self.subTest(text, **options):
                 wanted = Range.parse_npm(text, **options)
                 self.assertEqual([v for v in inside + outside if wanted.contains(v)], inside)
-        for text, loose in [("^1 next", False), ("latest", True), ("9007199254740992", True), ("1.2.3.4", False)]:
+        for text, loose, offset in [
+            ("^1 next", False, 3),
+            ("1\u3000|| >= \xe9 2", False, 7),
+            ("1.2.3.4", False, 0),
+            ("latest", True, 0),
+            ("1 9007199254740992", True, 0),
+        ]:
             with self.assertRaises(SemverError) as caught:
                 Range.parse_npm(text, loose=loose)
-            self.assertEqual((caught.exception.text, fault(caught.exception)), (text, ("NoValidRanges", 0, None)))
+            self.assertEqual((caught.exception.text, fault(caught.exception)), (text, ("NoValidRanges", offset, None)))
         with self.assertRaises(UnicodeEncodeError):
             Range.parse_npm("\ud800")
 

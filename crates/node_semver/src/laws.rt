@@ -8,6 +8,7 @@ ghost use Rattle.semver_versions.specs.Version.{VersionValue};
 ghost use Rattle.node_semver.specs.SetTree.{AdmitInPairs, Formula, HasOneListOfSets};
 
 pub use crate::range::ranges_are_equal_where_their_cuts_are;
+pub use npm_sets::refused::a_refused_text_has_one_place;
 pub use semver_sets::laws::{
     a_text_is_at_most_one_partial, a_text_means_its_sets, a_text_writes_one_list_of_sets,
     comparators_have_one_set, every_range_text_is_written_one_way, joined_texts_write_all_sets,

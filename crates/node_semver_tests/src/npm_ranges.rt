@@ -88,45 +88,65 @@ const LOOSE: [&str; 10] = [
     "01 - 02; 1.0.0 2.9.9; 3.0.0",
 ];
 
-const REFUSED_STRICT: [&str; 28] = [
-    "foo",
-    "1\u{85}2",
-    "1\u{200b}",
-    "1 foo",
-    "foo || 1",
-    "1 || foo",
-    "|",
-    "1 ||| 2",
-    ">=",
-    ">= <2",
-    "1.2.3.4",
-    "01.2.3",
-    "1.02",
-    "1.2.03",
-    "1.2.3beta",
-    "1.2.3-01",
-    "1.2.3-a.00",
-    "1.2.3-",
-    "1.2.3+",
-    "1.2.3-a..b",
-    "V1.2.3",
-    "1 -",
-    "- 1",
-    "1 -2",
-    "1 - 2 3",
-    ">1.2.3<2",
-    "9007199254740992",
-    "1.9007199254740992.0",
+// Before `; ` is the part of a text that is read, and after it the rest, from its first word on that is no comparator. The
+// error of `1 foo` is at 2.
+const REFUSED_STRICT: [&str; 44] = [
+    "; foo",
+    "  ; foo",
+    "; 1\u{85}2",
+    "; 1\u{200b}",
+    "1 ; foo",
+    ">=1.2.3 ; foo",
+    "1 ; foo bar",
+    "; foo || 1",
+    "1 || ; foo",
+    "1||; foo||bar",
+    "||||\t; foo",
+    ">=1 <2 || ; >= x.y.z",
+    "1 - 2 || 3 - 4 ||; foo - 5",
+    "; |",
+    "1 ||; | 2",
+    "; >=",
+    "1 ; >= ",
+    "1 || ; >= || 2",
+    "; >= <2",
+    "1 ; ~ ^2",
+    "; 1.2.3.4",
+    "; 01.2.3",
+    "; 1.02",
+    "; 1.2.03",
+    "; 1.2.3beta",
+    "; 1.2.3-01",
+    "; 1.2.3-a.00",
+    "; 1.2.3-",
+    "; 1.2.3+",
+    "; 1.2.3-a..b",
+    "; V1.2.3",
+    "1 ; -",
+    "; - 1",
+    "1 ; -2",
+    "1 ; - 2 3",
+    "1 ; - 2 foo",
+    "1 ; - foo",
+    "; >1.2.3<2",
+    "; 9007199254740992",
+    "; 1.9007199254740992.0",
+    "^1 ; 9007199254740992.0.0",
+    "1\u{a0}; foo",
+    "\u{feff}1\u{3000}||\u{a0}; >=\u{2003}foo 2",
+    "1\u{3000}; \u{e9} 2",
 ];
 
-const REFUSED_LOOSE: [&str; 7] = [
-    "foo",
-    "foo || bar",
-    "|",
-    ">=",
-    "1 9007199254740992",
-    "9007199254740992.0.0 || 1",
-    "1 || 2 01.9007199254740992",
+const REFUSED_LOOSE: [&str; 9] = [
+    "; foo",
+    "; foo || bar",
+    "; |",
+    "; >=",
+    "; 1 9007199254740992",
+    "; 9007199254740992.0.0 || 1",
+    "; 1 || 2 01.9007199254740992",
+    "; ^1 9007199254740992.0.0",
+    "; \u{a0}foo\u{3000}",
 ];
 
 // `{3*ab}` is short for `ababab`.
@@ -142,13 +162,17 @@ const LONG: [&str; 9] = [
     "{10000*>4 <3 ||}5; 5.0.0; 3.5.0",
 ];
 
-const LONG_REFUSED: [&str; 6] = [
-    "{1000000*a}",
-    "{200000*1}",
-    "{50000*1.2.3.}",
-    ">=1.2.3-a{126*.b}",
-    "{50000*- }",
-    "{10000*1 foo||}",
+const LONG_REFUSED: [&str; 10] = [
+    "; {1000000*a}",
+    "; {200000*1}",
+    "; {50000*1.2.3.}",
+    "; >=1.2.3-a{126*.b}",
+    "; {50000*- }",
+    "1 ; foo||{9999*1 foo||}",
+    "{50000*>=1.0.0 }; foo {50000*1 }",
+    "{20000*1||}; foo||1",
+    "{50000* }; foo{50000* }",
+    "1{20000*\u{3000}}; >={20000*\u{a0}}foo",
 ];
 
 fn options(loose: bool, include_prerelease: bool) -> NpmOptions {
@@ -203,23 +227,33 @@ fn each_holds(rt: &(impl Abort + AllocGlobal), options: NpmOptions, rows: &[&str
     }
 }
 
-// Returns `true` if the text is refused, with its kind at 0 and a copy of the text.
-fn is_refused(alloc: Global, options: NpmOptions, text: &str) -> bool {
-    let Some(text) = &spread(alloc, text) else {
+// Returns `true` if the text is refused where the row says, with a copy of the text.
+fn is_refused_at(alloc: Global, options: NpmOptions, read: &str, rest: &str) -> bool {
+    let Ok(text) = &format!(in alloc; "{read}{rest}") else {
         return false;
     };
     match &Range::parse_npm(alloc, text, options) {
         Ok(_) => false,
         Err(error) => {
             let kind = error.kind() == &SemverErrorKind::NoValidRanges;
-            kind && error.offset() == 0 && error.input() == text.as_str()
+            kind && error.offset() == read.len() && error.input() == text.as_str()
         }
     }
 }
 
-fn each_is_refused(rt: &(impl Abort + AllocGlobal), options: NpmOptions, texts: &[&str]) {
-    for text in texts {
-        assert!(rt; is_refused(rt.alloc(), options, text), "{text}");
+fn is_refused(alloc: Global, options: NpmOptions, row: &str) -> bool {
+    let Some(row) = &spread(alloc, row) else {
+        return false;
+    };
+    match row.split_once("; ") {
+        Some((read, rest)) => is_refused_at(alloc, options, read, rest),
+        None => false,
+    }
+}
+
+fn each_is_refused(rt: &(impl Abort + AllocGlobal), options: NpmOptions, rows: &[&str]) {
+    for row in rows {
+        assert!(rt; is_refused(rt.alloc(), options, row), "{row}");
     }
 }
 

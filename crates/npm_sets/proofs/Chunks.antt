@@ -1,2 +1,4 @@
 pub mod ChunkLemmas
 pub mod SideLemmas
+pub mod Borders
+pub mod WordParts

@@ -1,2 +1,3 @@
 pub mod NpmExamples
 pub mod SpaceExamples
+pub mod PlaceExamples

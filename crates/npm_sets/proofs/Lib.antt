@@ -3,5 +3,6 @@ pub mod Chunks
 pub mod Pieces
 pub mod PlainSpaces
 pub mod Full
+pub mod Places
 -- ---- worked examples, which compute
 pub mod Examples

@@ -7,7 +7,7 @@ use Rattle.npm_sets.specs.Spaces.{plain, with_plain_spaces}
 plain-ascii : (c : ℕ) → c < 128 → plain c ≡ c
 plain-ascii c h = grind (arith)
 
-map-ascii : (text : List ℕ) → IsAscii text → map plain text ≡ text
+pub map-ascii : (text : List ℕ) → IsAscii text → map plain text ≡ text
 map-ascii [] ascii = refl
 map-ascii (b ∷ text) ascii = λ i. plain-ascii b (ascii 0) i ∷ map-ascii text (λ n. ascii (suc n)) i
 

@@ -10,6 +10,8 @@ pub mod PartialTexts
 pub mod Rows
 -- ---- the alternatives of a text, and which versions it admits
 pub mod NpmMeaning
+-- ---- where a text is refused
+pub mod RefusedPlace
 pub mod NpmAnswer
 pub mod FullTexts
 -- ---- not part of any public contract of `node_semver`: what private functions compute

@@ -1,2 +1,3 @@
 -- What private functions compute.
 pub mod ReadViews
+pub mod RefusedViews

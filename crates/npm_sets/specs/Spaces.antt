@@ -11,6 +11,10 @@ is_wide_space c =
 abbrev pub plain : ℕ → ℕ
 plain c = if is_wide_space c then 32 else c
 
+-- the text of these characters, with a space for each white space character outside ASCII
+abbrev pub plain_text : List ℕ → List ℕ
+plain_text characters = encode_utf8_all (map plain characters)
+
 -- the text with a space for each white space character outside ASCII
 abbrev pub with_plain_spaces : List ℕ → List ℕ
-with_plain_spaces text = encode_utf8_all (map plain (chars text))
+with_plain_spaces text = plain_text (chars text)

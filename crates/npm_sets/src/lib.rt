@@ -15,6 +15,7 @@ mod options;
 mod partial;
 mod piece;
 pub mod read;
+pub mod refused;
 mod rows;
 pub mod spaces;
 mod words;

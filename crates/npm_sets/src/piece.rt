@@ -106,7 +106,7 @@ fn split_sides(text: &[u8]) -> Option<(&[u8], &[u8])>
 }
 
 // The ends of a piece that is a hyphen range of two partials.
-fn read_hyphen(text: &[u8], options: NpmOptions) -> Option<WordEnds>
+pub(crate) fn read_hyphen(text: &[u8], options: NpmOptions) -> Option<WordEnds>
     requires { BeginsWith Texts.is_solid text.now }
     ensures read { hyphen_seen result
         ≡ Meaning.hyphen_range options (Texts.sides_of (Texts.chunks_of text.now)) }

@@ -3,6 +3,7 @@ ghost use Rattle.std.specs.Prelude.{◌≡◌, IfOk, string_bytes};
 ghost use Rattle.npm_sets.specs.NpmAnswer.{IsNpmAnswer};
 ghost use Rattle.npm_sets.specs.Spaces.{with_plain_spaces};
 ghost use Rattle.npm_sets.specs.Spaces as Spaces;
+ghost use Rattle.npm_sets.specs.Private.RefusedViews.{IsLengthBefore};
 
 use crate::NpmOptions;
 use crate::read::read_npm;
@@ -38,7 +39,7 @@ fn read_wide(alloc: Global, text: &str, options: NpmOptions) -> Result<Sets, Unr
 }
 
 // The text with a space in place of each white space character outside ASCII.
-fn with_plain_spaces(alloc: Global, text: &str) -> Result<String, AllocError>
+pub(crate) fn with_plain_spaces(alloc: Global, text: &str) -> Result<String, AllocError>
     ensures { IfOk result (λ plain. string_bytes plain ≡ with_plain_spaces text.now) }
 {
     text.chars().map(plain).collect(alloc)
@@ -54,4 +55,19 @@ fn plain(c: char) -> char
         '\u{205f}' | '\u{3000}' | '\u{feff}' => ' ',
         _ => c,
     }
+}
+
+// How many bytes of a text come before a place of its text with plain spaces: 3 for 2 in `\u{a0}1 2`.
+pub(crate) fn length_before(text: &str, place: usize) -> usize
+    ensures { IsLengthBefore text.now place result }
+{
+    let mut rest = text.chars();
+    let mut left = place;
+    while left > 0 {
+        match rest.next() {
+            Some(c) => left = left.saturating_sub(plain(c).len_utf8()),
+            None => return text.len(),
+        }
+    }
+    text.len() - rest.as_str().len()
 }

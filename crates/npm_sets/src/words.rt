@@ -4,6 +4,7 @@ ghost use Rattle.semver_versions.specs.Characters.{BeginsWith, BeginsWithNo};
 ghost use Rattle.semver_versions.specs.Reading.{prefix_of, rest_of};
 ghost use Rattle.npm_sets.specs.WordTexts as Texts;
 ghost use Rattle.npm_sets.specs.WordTexts.{chunks_of, words_of};
+ghost use Rattle.npm_sets.specs.Private.RefusedViews.{IsReadWord};
 
 use semver_versions::parse::skip::split;
 
@@ -84,6 +85,7 @@ fn split_lead(chunk: &[u8]) -> (Lead, &[u8])
 pub(crate) fn read_word(text: &[u8]) -> (Lead, &[u8], &[u8])
     requires { BeginsWith Texts.is_solid text.now }
     ensures word { words_of (chunks_of text.now) ≡ (result.0, result.1.now) ∷ words_of (chunks_of result.2.now) }
+    ensures part { IsReadWord text.now (result.0, result.1.now) result.2.now }
     ensures rest { BeginsWithNo Texts.is_space result.2.now }
     ensures shorter { length result.2.now < length text.now }
 {

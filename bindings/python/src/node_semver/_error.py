@@ -16,6 +16,9 @@ _REASONS = {
     "Other": "what begins here is no part of a version",
 }
 
+# Of a NoValidRanges past the start of the text, which only `Range.parse_npm` raises: it is at a word.
+_NO_COMPARATOR = "what begins here is no comparator"
+
 BumpFault = Literal["InvalidIdentifier", "NoIdentifier", "SameIdentifier", "NumberTooLarge"]
 
 _BUMP_REASONS = {
@@ -66,7 +69,8 @@ class SemverError(ValueError):
         start = max(0, place - _SHOWN)
         before = ("..." if start > 0 else "") + _visible(self.text[start:place])
         after = _visible(self.text[place : place + _SHOWN]) + ("..." if place + _SHOWN < len(self.text) else "")
-        reason = _REASONS.get(self.kind, "the text is refused")
+        at_word = self.kind == "NoValidRanges" and self.offset > 0
+        reason = _NO_COMPARATOR if at_word else _REASONS.get(self.kind, "the text is refused")
         return f"{self.kind} at byte {self.offset}: {reason}\n    {before}{after}\n    {' ' * len(before)}^"
 
 

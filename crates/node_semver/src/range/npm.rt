@@ -1,16 +1,17 @@
 //! Ranges as npm itself reads them.
 //!
-//! See docs/DECISIONS.md, "Every refusal of npm's reading is `NoValidRanges` at 0".
+//! See docs/DECISIONS.md, "In strict form npm's reading names the first word that it refuses".
 ghost use Rattle.std.specs.Prelude.{◌≡◌, ◌⊎◌};
 ghost use Rattle.semver_sets.specs.declared.read.Unread.TheVariants.{Refused};
-ghost use Rattle.semver_versions.specs.Error.{IsOutOfMemory, IsRefusalAt, no_valid_ranges};
+ghost use Rattle.semver_versions.specs.Error.{IsOutOfMemory};
 ghost use Rattle.npm_sets.specs.NpmMeaning.{IsNpmRefused};
 ghost use Rattle.npm_sets.specs.Spaces.{with_plain_spaces};
 ghost use Rattle.npm_sets.specs.declared.options.NpmOptions.{NpmOptions};
-ghost use Rattle.node_semver.specs.NpmRangeAnswer.{IsNpmRangeAnswer};
+ghost use Rattle.node_semver.specs.NpmRangeAnswer.{IsNpmRangeAnswer, IsNpmRefusal};
 
 use crate::{NpmOptions, Range, SemverError, SemverErrorKind};
 use npm_sets::read::full::read_full;
+use npm_sets::refused::refused_offset;
 use npm_sets::spaces::read_npm_text;
 use semver_sets::read::Unread;
 use semver_sets::read::full::full_set;
@@ -29,13 +30,15 @@ impl Range {
     ///
     /// # Errors
     ///
-    /// Returns the kind of the fault and its byte offset, which is always 0:
+    /// Returns the kind of the fault and its byte offset. In strict form this is the offset of the first word that is no
+    /// comparator, and in loose form it is always 0:
     ///
-    /// - `foo`, `1.2.3.4`, `>=1.2.3 foo`: `NoValidRanges` at 0, in strict form a word is no comparator.
+    /// - `foo`, `1.2.3.4`: `NoValidRanges` at 0, in strict form a word is no comparator. `>=1.2.3 foo`: at 8.
+    /// - `1 - 2 foo`: `NoValidRanges` at 2, only a whole piece is a hyphen range, and `-` is no comparator.
     /// - `01.2.3`, `1.2.3beta`, `1.2.3-01`: `NoValidRanges` at 0, in strict form no partial is written so.
     /// - `foo`, `foo || bar`: `NoValidRanges` at 0, in loose form no word is a comparator.
-    /// - `9007199254740992.0.0`: `NoValidRanges` at 0, in both forms a number is above `MAX_SAFE_INTEGER`. So is a word
-    ///   whose operand has more than 256 bytes.
+    /// - `^1 9007199254740992.0.0`: `NoValidRanges` at 3 in strict form and at 0 in loose form, a number is above
+    ///   `MAX_SAFE_INTEGER`. So is a word whose operand has more than 256 bytes.
     /// - any text: `OutOfMemory` at 0, with an empty text, if an allocation fails.
     ///
     /// Comparators that never hold together are no fault: `>4 <3` is `<0.0.0-0`, which no version satisfies.
@@ -43,7 +46,8 @@ impl Range {
     /// # Memory
     ///
     /// Allocates the prereleases that the text writes at ends, and a list if there are several sets. An error holds a
-    /// copy of the text. A text that is not in ASCII is copied for the time of the call.
+    /// copy of the text. A text that is not in ASCII is copied for the time of the call, and once more if it is refused
+    /// in strict form.
     ///
     /// # Examples
     ///
@@ -76,7 +80,7 @@ impl Range {
 fn unread_error(alloc: Global, text: &str, options: NpmOptions, unread: Unread) -> SemverError
     requires { unread ≡ Refused → IsNpmRefused options (with_plain_spaces text.now) }
     ensures { IsOutOfMemory result
-        ⊎ (IsRefusalAt text.now no_valid_ranges 0 result × IsNpmRefused options (with_plain_spaces text.now)) }
+        ⊎ (IsNpmRefusal options text.now result × IsNpmRefused options (with_plain_spaces text.now)) }
 {
     npm_error(alloc, text, options, unread)
 }
@@ -86,11 +90,21 @@ fn unread_error(alloc: Global, text: &str, options: NpmOptions, unread: Unread) 
 fn npm_error(alloc: Global, text: &str, options: NpmOptions, unread: Unread) -> SemverError
     requires { unread ≡ Refused → IsNpmRefused options (with_plain_spaces text.now) }
     ensures { IsOutOfMemory result
-        ⊎ (IsRefusalAt text.now no_valid_ranges 0 result × IsNpmRefused options (with_plain_spaces text.now)) }
+        ⊎ (IsNpmRefusal options text.now result × IsNpmRefused options (with_plain_spaces text.now)) }
 {
-    let _options = options;
     match unread {
-        Unread::Refused => SemverError::new(alloc, text, 0, SemverErrorKind::NoValidRanges),
+        Unread::Refused => refusal(alloc, text, options),
         Unread::OutOfMemory => SemverError::out_of_memory(alloc),
+    }
+}
+
+// The error for a text that is refused.
+fn refusal(alloc: Global, text: &str, options: NpmOptions) -> SemverError
+    requires { IsNpmRefused options (with_plain_spaces text.now) }
+    ensures { IsOutOfMemory result ⊎ IsNpmRefusal options text.now result }
+{
+    match refused_offset(alloc, text, options) {
+        Ok(offset) => SemverError::new(alloc, text, offset, SemverErrorKind::NoValidRanges),
+        Err(_) => SemverError::out_of_memory(alloc),
     }
 }

@@ -12,7 +12,7 @@ use Rattle.npm_sets.specs.declared.words.Lead.{Lead}
 
 -- ---- one character
 
-not-true : (x : Bool) → not x ≡ true → x ≡ false
+pub not-true : (x : Bool) → not x ≡ true → x ≡ false
 not-true true h = cc h
 not-true false h = refl
 
@@ -37,11 +37,11 @@ rest-step : (test : ℕ → Bool) (b : ℕ) (rest : List ℕ) → test b ≡ tru
 unfolding rest_of
 rest-step test b rest h = rw h refl
 
-chunks-step : (b : ℕ) (rest : List ℕ) → is_space b ≡ false → chunks_of (b ∷ rest) ≡ joined b rest (chunks_of rest)
+pub chunks-step : (b : ℕ) (rest : List ℕ) → is_space b ≡ false → chunks_of (b ∷ rest) ≡ joined b rest (chunks_of rest)
 unfolding chunks_of
 chunks-step b rest h = rw h refl
 
-chunks-space : (b : ℕ) (rest : List ℕ) → is_space b ≡ true → chunks_of (b ∷ rest) ≡ chunks_of rest
+pub chunks-space : (b : ℕ) (rest : List ℕ) → is_space b ≡ true → chunks_of (b ∷ rest) ≡ chunks_of rest
 unfolding chunks_of
 chunks-space b rest h = rw h refl
 
@@ -64,11 +64,11 @@ chunks-skip (b ∷ rest) = elim (cases_Bool (is_space b)) [
 ]
 
 -- a character before a chunk, or alone
-joined-solid : (b c : ℕ) (rest : List ℕ) (chunks : List (List ℕ)) → is_space c ≡ false
+pub joined-solid : (b c : ℕ) (rest : List ℕ) (chunks : List (List ℕ)) → is_space c ≡ false
     → joined b (c ∷ rest) chunks ≡ before_first b chunks
 joined-solid b c rest chunks h = rw h refl
 
-joined-space : (b c : ℕ) (rest : List ℕ) (chunks : List (List ℕ)) → is_space c ≡ true
+pub joined-space : (b c : ℕ) (rest : List ℕ) (chunks : List (List ℕ)) → is_space c ≡ true
     → joined b (c ∷ rest) chunks ≡ (b ∷ []) ∷ chunks
 joined-space b c rest chunks h = rw h refl
 
@@ -77,7 +77,7 @@ unfolding prefix_of rest_of
 last-chunk b = refl
 
 -- the first chunk, and those after it
-chunk-solid : (b : ℕ) (rest : List ℕ) → is_space b ≡ false
+pub chunk-solid : (b : ℕ) (rest : List ℕ) → is_space b ≡ false
     → chunks_of (b ∷ rest) ≡ (b ∷ prefix_of is_solid rest) ∷ chunks_of (rest_of is_solid rest)
 chunk-solid b [] h = chunks-step b [] h ∙ last-chunk b
 chunk-solid b (c ∷ rest) h = elim (cases_Bool (is_space c)) [
@@ -148,14 +148,14 @@ some-is [] h = absurd (h refl)
 some-is (b ∷ text) h = refl
 
 -- a word whose lead has its operand
-word-led : (chunk : List ℕ) (chunks : List (List ℕ)) → is_empty (lead_of chunk).1 ≡ false
+pub word-led : (chunk : List ℕ) (chunks : List (List ℕ)) → is_empty (lead_of chunk).1 ≡ false
     → words_of (chunk ∷ chunks) ≡ lead_of chunk ∷ words_of chunks
 unfolding words_of
 word-led chunk [] h = refl
 word-led chunk (next ∷ rest) h = rw h refl
 
 -- a lead alone, and the next chunk
-word-next : (chunk next : List ℕ) (chunks : List (List ℕ)) → is_empty (lead_of chunk).1 ≡ true
+pub word-next : (chunk next : List ℕ) (chunks : List (List ℕ)) → is_empty (lead_of chunk).1 ≡ true
     → words_of (chunk ∷ next ∷ chunks) ≡ ((lead_of chunk).0, next) ∷ words_of chunks
 unfolding words_of
 word-next chunk next chunks h = rw h refl

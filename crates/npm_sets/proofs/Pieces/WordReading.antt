@@ -79,7 +79,7 @@ with-ignored loose fault None h = refl
 with-ignored loose fault (Some more) h = rw h refl
 
 -- with a word that refuses the text
-with-refused : (loose : Bool) (fault : Fault) (more : Option (List Comparator)) → (loose && is_unknown fault) ≡ false
+pub with-refused : (loose : Bool) (fault : Fault) (more : Option (List Comparator)) → (loose && is_unknown fault) ≡ false
     → with_word loose (Err fault) more ≡ None
 with-refused loose fault None h = refl
 with-refused loose fault (Some more) h = rw h refl

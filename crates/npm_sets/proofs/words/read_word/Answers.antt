@@ -2,6 +2,7 @@ use Rattle.semver_versions.specs.Reading.{rest_of}
 use Rattle.npm_sets.specs.WordTexts.{is_solid}
 use Rattle.npm_sets.proofs.Chunks.ChunkLemmas.{after-shorter, both-shorter, left-solid, no-bytes_told, some-bytes_told, word-one}
 use Rattle.npm_sets.proofs.Chunks.ChunkLemmas.{word-two}
+use Rattle.npm_sets.proofs.Chunks.WordParts.{part-one, part-two}
 use Rattle.npm_sets.proofs.words.read_word.Goals as goal
 
 pub returns-then-is_empty-clause-word : goal.returns-then-is_empty-clause-word
@@ -9,6 +10,15 @@ returns-then-is_empty-clause-word c =
     let operand = c.split_lead-lead.result.1.now in
     let none = no-bytes_told operand c.is_empty.result c.is_empty.ensures c.if-is_empty.true in
     word-two c.args.text.now c.split_chunk.result.0.now c.split_chunk.result.1.now
+    c.split_chunk-then-is_empty.result.0.now c.split_chunk-then-is_empty.result.1.now c.split_lead-lead.result.0 operand
+    c.requires c.split_chunk.ensures.chunk c.split_chunk.ensures.rest c.split_lead-lead.ensures none
+    c.split_chunk-then-is_empty.ensures.chunk c.split_chunk-then-is_empty.ensures.rest
+
+pub returns-then-is_empty-clause-part : goal.returns-then-is_empty-clause-part
+returns-then-is_empty-clause-part c =
+    let operand = c.split_lead-lead.result.1.now in
+    let none = no-bytes_told operand c.is_empty.result c.is_empty.ensures c.if-is_empty.true in
+    part-two c.args.text.now c.split_chunk.result.0.now c.split_chunk.result.1.now
     c.split_chunk-then-is_empty.result.0.now c.split_chunk-then-is_empty.result.1.now c.split_lead-lead.result.0 operand
     c.requires c.split_chunk.ensures.chunk c.split_chunk.ensures.rest c.split_lead-lead.ensures none
     c.split_chunk-then-is_empty.ensures.chunk c.split_chunk-then-is_empty.ensures.rest
@@ -29,6 +39,12 @@ returns-clause-word c =
     let some = some-bytes_told operand c.is_empty.result c.is_empty.ensures c.if-is_empty.false in
     word-one c.args.text.now c.split_chunk.result.0.now c.split_chunk.result.1.now c.split_lead-lead.result.0 operand
     c.requires c.split_chunk.ensures.chunk c.split_chunk.ensures.rest c.split_lead-lead.ensures some
+
+pub returns-clause-part : goal.returns-clause-part
+returns-clause-part c =
+    part-one c.args.text.now c.split_chunk.result.0.now c.split_chunk.result.1.now
+    (c.split_lead-lead.result.0, c.split_lead-lead.result.1.now) c.requires c.split_chunk.ensures.chunk
+    c.split_chunk.ensures.rest c.split_lead-lead.ensures
 
 pub returns-clause-rest : goal.returns-clause-rest
 returns-clause-rest c =

@@ -1,0 +1,5 @@
+pub mod RefusedWords
+pub mod RefusedPieces
+pub mod RefusedTexts
+pub mod PlainPlaces
+pub mod OnePlace

@@ -1,0 +1,222 @@
+-- The words of a piece up to the first that is no comparator.
+use Rattle.std.proofs.Common.{◌≡◌, ◌∙◌, ℕ, Bool, true, false, List, [], ◌∷◌, ◌++◌, Option, Some, None, Result, Ok, Err, ap, refl}
+use Rattle.std.proofs.Common.{IsOk, IsErr, sym, subst, inl, inr}
+use Rattle.std.specs.Prelude.{◌&&◌, is_ok}
+use Rattle.std.specs.List.{AllByRecursion}
+use Rattle.std.proofs.lemmas.Bool.{cases_Bool}
+use Rattle.std.proofs.lemmas.List.{append-nil, append_assoc}
+use Rattle.semver_versions.specs.Characters.{BeginsWith, BeginsWithNo}
+use Rattle.semver_versions.specs.Reading.{prefix_of, rest_of}
+use Rattle.semver_versions.specs.Lemmas.Public.{prefix_of-all, prefix_of-rest_of, rest_of-no}
+use Rattle.semver_versions.specs.declared.parse.fault.Fault.{Fault}
+use Rattle.semver_sets.specs.Comparator.{Comparator}
+use Rattle.npm_sets.specs.NpmMeaning.{comparators_of, is_unknown, with_word, word_comparator}
+use Rattle.npm_sets.specs.PartialTexts.{partial_of}
+use Rattle.npm_sets.specs.Private.RefusedViews.{AreComparators, IsBorder, IsEndOf, IsReadWord}
+use Rattle.npm_sets.specs.RefusedPlace.{IsFirstRefused, ends_in_space}
+use Rattle.npm_sets.specs.WordTexts.{Word, chunks_of, is_empty, is_solid, is_space, lead_of, words_of}
+use Rattle.npm_sets.specs.declared.options.NpmOptions.{NpmOptions}
+use Rattle.npm_sets.specs.declared.words.Lead.{Lead}
+use Rattle.npm_sets.proofs.Chunks.Borders.{border-append, border-less, chunks-none, chunks-split, ends-all}
+use Rattle.npm_sets.proofs.Chunks.ChunkLemmas.{word-last, word-led, word-next}
+use Rattle.npm_sets.proofs.Pieces.WordReading.{comparators-end, comparators-step, with-refused, words-end}
+
+-- ---- lists
+
+pub all-append : {X : Type 0} (P : X → Type 0) (xs ys : List X) → AllByRecursion P xs → AllByRecursion P ys
+    → AllByRecursion P (xs ++ ys)
+all-append P [] ys all more = more
+all-append P (x ∷ xs) ys all more = (all.0, all-append P xs ys all.1 more)
+
+pub all-last_part : {X : Type 0} (P : X → Type 0) (xs ys : List X) → AllByRecursion P (xs ++ ys) → AllByRecursion P ys
+all-last_part P [] ys all = all
+all-last_part P (x ∷ xs) ys all = all-last_part P xs ys all.1
+
+-- ---- comparators have an operand
+
+no-operand : (options : NpmOptions) (lead : Lead) → IsOk (word_comparator options (lead, [])) → ⊥
+unfolding partial_of rest_of
+no-operand options lead ok = cc ok
+
+-- a word that is a comparator has its operand
+pub has-operand : (options : NpmOptions) (word : Word) → IsOk (word_comparator options word) → is_empty word.1 ≡ false
+has-operand options (lead, []) ok = absurd (no-operand options lead ok)
+has-operand options (lead, b ∷ operand) ok = refl
+
+-- so no word goes on behind them
+pub words-append : (options : NpmOptions) (chunks more : List (List ℕ)) → AreComparators options (words_of chunks)
+    → words_of (chunks ++ more) ≡ words_of chunks ++ words_of more
+words-append options [] more all = ap (λ (l : List Word). l ++ words_of more) (sym words-end)
+words-append options (chunk ∷ []) more all =
+    let here : AreComparators options (lead_of chunk ∷ words_of []) = subst (AreComparators options) (word-last chunk) all in
+    word-led chunk more (has-operand options (lead_of chunk) here.0)
+    ∙ ap (λ (l : List Word). lead_of chunk ∷ l ++ words_of more) (sym words-end)
+    ∙ ap (λ (l : List Word). l ++ words_of more) (sym (word-last chunk))
+words-append options (chunk ∷ next ∷ rest) more all = elim (cases_Bool (is_empty (lead_of chunk).1)) [
+  | inl alone ↦
+      let step = word-next chunk next rest alone in
+      let parts : AreComparators options (((lead_of chunk).0, next) ∷ words_of rest) =
+      subst (AreComparators options) step all in
+      word-next chunk next (rest ++ more) alone
+      ∙ ap (λ (l : List Word). ((lead_of chunk).0, next) ∷ l) (words-append options rest more parts.1)
+      ∙ ap (λ (l : List Word). l ++ words_of more) (sym step)
+  | inr led ↦
+      let step = word-led chunk (next ∷ rest) led in
+      let parts : AreComparators options (lead_of chunk ∷ words_of (next ∷ rest)) =
+      subst (AreComparators options) step all in
+      word-led chunk (next ∷ (rest ++ more)) led
+      ∙ ap (λ (l : List Word). lead_of chunk ∷ l) (words-append options (next ∷ rest) more parts.1)
+      ∙ ap (λ (l : List Word). l ++ words_of more) (sym step)
+]
+
+-- ---- the words so far
+
+-- the words before the rest of a piece are comparators
+pub record WordsPassed (options : NpmOptions) (piece rest : List ℕ) : Type 0 where
+  pub start : List ℕ
+  pub whole : piece ≡ start ++ rest
+  pub comparators : AreComparators options (words_of (chunks_of start))
+  pub border : IsBorder start rest
+  pub solid : BeginsWithNo is_space rest
+
+pub passed-none : (options : NpmOptions) (piece rest : List ℕ) → rest ≡ rest_of is_space piece
+    → WordsPassed options piece rest
+passed-none options piece rest after =
+    let blanks = prefix_of is_space piece in
+    let all = prefix_of-all is_space piece in
+    record {
+      start = blanks;
+      whole = sym (prefix_of-rest_of is_space piece) ∙ ap (λ (l : List ℕ). blanks ++ l) (sym after);
+      comparators = subst (AreComparators options) (sym (ap words_of (chunks-none blanks all) ∙ words-end)) tt;
+      border = inl (ends-all blanks all);
+      solid = subst (BeginsWithNo is_space) (sym after) (rest_of-no is_space piece);
+    }
+
+-- with one more comparator
+pub passed-more : (options : NpmOptions) (piece rest others : List ℕ) (word : Word) → WordsPassed options piece rest
+    → IsReadWord rest word others → IsOk (word_comparator options word) → BeginsWithNo is_space others
+    → WordsPassed options piece others
+passed-more options piece rest others word so read ok solid =
+    let border : IsBorder so.start (read.part ++ others) = subst (IsBorder so.start) read.whole so.border in
+    let chunks = chunks-split so.start read.part (border-less so.start read.part others border) in
+    let words : words_of (chunks_of (so.start ++ read.part)) ≡ words_of (chunks_of so.start) ++ (word ∷ []) =
+    ap words_of chunks ∙ words-append options (chunks_of so.start) (chunks_of read.part) so.comparators
+    ∙ ap (λ (l : List Word). words_of (chunks_of so.start) ++ l) read.words in
+    record {
+      start = so.start ++ read.part;
+      whole =
+          so.whole ∙ ap (λ (l : List ℕ). so.start ++ l) read.whole
+          ∙ sym (append_assoc so.start read.part others);
+      comparators = subst (AreComparators options) (sym words)
+          (all-append (λ (w : Word). IsOk (word_comparator options w)) (words_of (chunks_of so.start)) (word ∷ [])
+          so.comparators (ok, tt));
+      border = border-append so.start read.part others border read.border;
+      solid = solid;
+    }
+
+-- where nothing is left
+pub passed-all : (options : NpmOptions) (piece rest : List ℕ) → WordsPassed options piece rest → rest ≡ []
+    → AreComparators options (words_of (chunks_of piece))
+passed-all options piece rest so none =
+    subst (λ (l : List ℕ). AreComparators options (words_of (chunks_of l)))
+    (sym (so.whole ∙ ap (λ (l : List ℕ). so.start ++ l) none ∙ append-nil so.start)) so.comparators
+
+-- before more there is white space
+space-before : (start rest : List ℕ) → IsBorder start rest → BeginsWith is_solid rest → ends_in_space start ≡ true
+space-before start rest (inl space) solid = space
+space-before start [] (inr ends) solid = absurd solid
+space-before start (b ∷ rest) (inr ends) solid = cc (ends, solid)
+
+-- at a word that is no comparator
+pub passed-refused : (options : NpmOptions) (piece rest : List ℕ) (word : Word) (others : List Word)
+    → WordsPassed options piece rest → BeginsWith is_solid rest → words_of (chunks_of rest) ≡ word ∷ others
+    → IsErr (word_comparator options word) → IsEndOf options piece rest
+passed-refused options piece rest word others so solid words refused = record {
+  start = so.start;
+  whole = so.whole;
+  first = record {
+    comparators = so.comparators;
+    border = space-before so.start rest so.border solid;
+    solid = solid;
+    word = word;
+    others = others;
+    words = words;
+    refused = refused;
+  };
+}
+
+-- ---- what the test of a word returns
+
+pub ok-told : (options : NpmOptions) (word : Word) (r : Bool) → r ≡ is_ok (word_comparator options word) → r ≡ true
+    → IsOk (word_comparator options word)
+ok-told options word r told is = sym told ∙ is
+
+pub err-told : (options : NpmOptions) (word : Word) (r : Bool) → r ≡ is_ok (word_comparator options word) → r ≡ false
+    → IsErr (word_comparator options word)
+err-told options word r told is = err-of (word_comparator options word) (sym told ∙ is)
+  where
+    err-of : (value : Result Comparator Fault) → is_ok value ≡ false → IsErr value
+    err-of (Ok c) failed = cc failed
+    err-of (Err fault) failed = refl
+
+-- ---- the comparators of the words
+
+ok-value : (r : Result Comparator Fault) → IsOk r → (c : Comparator) × (r ≡ Ok c)
+ok-value (Ok c) ok = (c, refl)
+ok-value (Err fault) ok = absurd (cc ok)
+
+-- words that are comparators are read
+pub words-read : (options : NpmOptions) (words : List Word) → AreComparators options words
+    → (comparators : List Comparator) × (comparators_of options words ≡ Some comparators)
+words-read options [] all = ([], comparators-end options)
+words-read options (word ∷ words) all =
+    let more = words-read options words all.1 in
+    let here = ok-value (word_comparator options word) all.0 in (
+      here.0 ∷ more.0,
+      comparators-step options word words
+          ∙ ap (λ (l : Option (List Comparator)). with_word options.loose (word_comparator options word) l) more.1
+          ∙ ap (λ (r : Result Comparator Fault). with_word options.loose r (Some more.0)) here.1,
+    )
+
+pub some-read : (options : NpmOptions) (word : Word) (words : List Word) → AreComparators options (word ∷ words)
+    → (c : Comparator) × (others : List Comparator) × (comparators_of options (word ∷ words) ≡ Some (c ∷ others))
+some-read options word words all =
+    let more = words-read options words all.1 in
+    let here = ok-value (word_comparator options word) all.0 in (
+      here.0,
+      more.0,
+      comparators-step options word words
+          ∙ ap (λ (l : Option (List Comparator)). with_word options.loose (word_comparator options word) l) more.1
+          ∙ ap (λ (r : Result Comparator Fault). with_word options.loose r (Some more.0)) here.1,
+    )
+
+none-with : (loose : Bool) (r : Result Comparator Fault) → with_word loose r None ≡ None
+none-with loose (Ok c) = refl
+none-with loose (Err fault) = refl
+
+refused-word : (options : NpmOptions) (r : Result Comparator Fault) (more : Option (List Comparator))
+    → options.loose ≡ false → IsErr r → with_word options.loose r more ≡ None
+refused-word options (Ok c) more strict refused = absurd (cc refused)
+refused-word options (Err fault) more strict refused =
+    let known : (options.loose && is_unknown fault) ≡ false = rw strict refl in
+    with-refused options.loose fault more known
+
+-- words with one that is no comparator are refused in strict form
+pub words-refused : (options : NpmOptions) (done : List Word) (word : Word) (others : List Word)
+    → options.loose ≡ false → IsErr (word_comparator options word)
+    → comparators_of options (done ++ (word ∷ others)) ≡ None
+words-refused options [] word others strict refused =
+    comparators-step options word others
+    ∙ refused-word options (word_comparator options word) (comparators_of options others) strict refused
+words-refused options (d ∷ done) word others strict refused =
+    comparators-step options d (done ++ (word ∷ others))
+    ∙ ap (λ (l : Option (List Comparator)). with_word options.loose (word_comparator options d) l)
+    (words-refused options done word others strict refused)
+    ∙ none-with options.loose (word_comparator options d)
+
+-- the words on both sides of the place
+pub place-words : (options : NpmOptions) (start end : List ℕ) → IsFirstRefused options start end
+    → words_of (chunks_of (start ++ end)) ≡ words_of (chunks_of start) ++ words_of (chunks_of end)
+place-words options start end first =
+    ap words_of (chunks-split start end (inl first.border))
+    ∙ words-append options (chunks_of start) (chunks_of end) first.comparators

@@ -1,7 +1,7 @@
 -- The least version that one range has and another has not, from the best of the candidates; and that a range has a version
 -- or has it not.
-use Rattle.std.proofs.Common.{◌≡◌, ◌↔◌, ◌⊎◌, Bool, true, false, List, [], ◌∷◌, Option, Some, inl, inr, subst}
-use Rattle.std.proofs.lemmas.Bool.{cases_Bool}
+use native.Mathlib.Omega.{arith}
+use Rattle.std.proofs.Common.{◌≡◌, ◌↔◌, ◌⊎◌, Bool, true, false, List, [], ◌∷◌, Option, Some}
 use Rattle.std.specs.List.{list_any}
 use Rattle.semver_cuts.specs.declared.cut.Cut.TheVariants.{Before}
 use Rattle.semver_cuts.specs.Ends.{Ends}
@@ -20,14 +20,7 @@ abbrev pub set_admits : VersionValue → Ends VersionValue → Bool
 set_admits v set = admit (set ∷ []) v
 
 set_admits-iff : (v : VersionValue) (set : Ends VersionValue) → (set_admits v set ≡ true) ↔ SetAdmits set v
-set_admits-iff v set = (
-  λ h. let admits = (admit-iff (set ∷ []) v).0 h in record {
-    inside = admits.inside.0;
-    opened = λ pre. elim (admits.opened pre) [ inl here ↦ here | inr nowhere ↦ absurd nowhere ];
-  },
-  λ admits. (admit-iff (set ∷ []) v).1
-      (record { inside = (admits.inside, tt); opened = λ pre. inl (admits.opened pre) }),
-)
+set_admits-iff v set = grind (arith, admit-iff (set ∷ []) v)
 
 abbrev pub range_admits : List (Ends VersionValue) → VersionValue → Bool
 range_admits sets v = list_any (set_admits v) sets
@@ -37,10 +30,7 @@ pub range_admits-iff : (sets : List (Ends VersionValue)) (v : VersionValue)
 range_admits-iff sets v = any-iff (λ (set : Ends VersionValue). SetAdmits set v) (set_admits v) (set_admits-iff v) sets
 
 admitted-or_not : (sets : List (Ends VersionValue)) (v : VersionValue) → RangeAdmits sets v ⊎ (¬ RangeAdmits sets v)
-admitted-or_not sets v = elim (cases_Bool (range_admits sets v)) [
-  | inl passes ↦ inl ((range_admits-iff sets v).0 passes)
-  | inr fails ↦ inr (λ admits. cc ((range_admits-iff sets v).1 admits, fails))
-]
+admitted-or_not sets v = grind (arith, range_admits-iff sets v)
 
 abbrev pub range_contains : List (Ends VersionValue) → VersionValue → Bool
 range_contains sets v = list_any (holds (Before v)) sets
@@ -50,10 +40,7 @@ pub range_contains-iff : (sets : List (Ends VersionValue)) (v : VersionValue)
 range_contains-iff sets v = any-iff (λ (set : Ends VersionValue). IsInside v set) (holds (Before v)) (holds-iff (Before v)) sets
 
 contained-or_not : (sets : List (Ends VersionValue)) (v : VersionValue) → RangeContains sets v ⊎ (¬ RangeContains sets v)
-contained-or_not sets v = elim (cases_Bool (range_contains sets v)) [
-  | inl passes ↦ inl ((range_contains-iff sets v).0 passes)
-  | inr fails ↦ inr (λ is. cc ((range_contains-iff sets v).1 is, fails))
-]
+contained-or_not sets v = grind (arith, range_contains-iff sets v)
 
 -- prereleases included or not
 in-or_not : (included : Bool) (sets : List (Ends VersionValue)) (v : VersionValue)
@@ -79,22 +66,14 @@ module _ (included : Bool) (sets others : List (Ends VersionValue)) where
   -- none, where there is none: the other has each version of the one
   pub none-beyond : IsNoneOf (AreWantedBeyond included sets others)
       ↔ ((v : VersionValue) → IsInRange included sets v → IsInRange included others v)
-  none-beyond = (
-    λ none v is. elim (in-or_not included others v) [
-      | inl there ↦ there
-      | inr not_there ↦ absurd (none v (record { admitted = is; turned_away = not_there }))
-    ],
-    λ each v beyond. beyond.turned_away (each v beyond.admitted),
-  )
+  none-beyond = grind (arith, in-or_not)
 
 -- the same of a list that is seen as another
 pub beyond-seen : (included : Bool) (inside sets others : List (Ends VersionValue)) → inside ≡ sets
     → (best : Option VersionValue)
     → AreEndsTried included (AreWantedBeyond included inside others) (λ set. set.upper) inside others best
     → IsLeastOrNone (AreWantedBeyond included sets others) best
-beyond-seen included inside sets others same best tried =
-    subst (λ (l : List (Ends VersionValue)). IsLeastOrNone (AreWantedBeyond included l others) best) same
-    (beyond-least included inside others best tried)
+beyond-seen included inside sets others same best tried = grind (arith, beyond-least)
 
 -- ---- the program's result
 

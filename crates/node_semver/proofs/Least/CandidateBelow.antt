@@ -1,5 +1,7 @@
 -- The least version that is wanted, of those that one list of sets admits: for each wanted version some candidate that is
 -- wanted is not above it.
+use native.Mathlib.Omega.{arith}
+use Rattle.std.proofs.lemmas.Grind.{common_steps}
 use Rattle.std.proofs.Common.{◌≡◌, Bool, true, false, List, [], ◌∷◌, Option, Some, None, refl, inl, inr, subst, Less}
 use Rattle.std.specs.List.{AllByRecursion}
 use Rattle.semver_cuts.specs.declared.cut.Cut.{Cut}
@@ -128,9 +130,7 @@ module _ (included : Bool) (P Wanted : VersionValue → Type 0) (sets others : L
       let found = floor-candidate P c w last.below
       (subst (λ (b : Bool). AllByRecursion P (candidates_at b c)) e all) in
       between c last found.version found.is (inl e) found.first.at (found.first.none_below w last.below)
-  at-cut c last all set candidates is lower false e =
-      by-cut c last (subst (λ (b : Bool). AllByRecursion P (candidates_at b c)) e all) set candidates
-      (subst (λ (b : Bool). IsIn b set w) e is) lower w.pre_release refl
+  at-cut c last all set candidates is lower false e = grind (arith, by-cut c last (subst (λ (b : Bool). AllByRecursion P (candidates_at b c)) e all) set candidates (subst (λ (b : Bool). IsIn b set w) e is) lower w.pre_release refl)
 
   pub candidate-below : AllByRecursion (IsCandidateSet included P) sets
       → AllByRecursion (λ (other : Ends VersionValue). AllByRecursion P (candidates_at included (end other))) others
@@ -166,8 +166,7 @@ module _ (included : Bool) (P Wanted : VersionValue → Type 0) (sets others : L
 -- a version at least one that is not below the best is not below it
 not-below-best : (best : Option VersionValue) (v w : VersionValue) → ¬ (version_cmp w v ≡ Less) → IsNotBelow best v
     → IsNotBelow best w
-not-below-best None v w above not = not
-not-below-best (Some b) v w above not = not-below w v b not above
+not-below-best best v w h1 h2 = grind (arith, common_steps, not-below)
 
 module _ (included : Bool) (Wanted : VersionValue → Type 0) (sets others : List (Ends VersionValue))
     (end : Ends VersionValue → Cut VersionValue) (question : IsQuestion included sets others end Wanted) where

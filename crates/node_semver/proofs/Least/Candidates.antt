@@ -1,4 +1,6 @@
 -- The candidates at a cut: the least release that can be after it, and the least version if that is a prerelease.
+use native.Mathlib.Omega.{arith}
+use Rattle.std.proofs.lemmas.Grind.{common_steps}
 use Rattle.std.proofs.Common.{◌≡◌, ◌≢◌, ◌⊎◌, ◌+◌, true, false, List, [], ◌∷◌, ◌++◌, refl, inl, inr, Ordering, Less, Equal, Greater}
 use Rattle.std.specs.List.{AllByRecursion}
 use Rattle.std.specs.Ordering.{ordering_then}
@@ -12,12 +14,12 @@ use Rattle.semver_sets.specs.Meaning.{Opens}
 use Rattle.semver_versions.specs.Version.{HasSameTriple, IsPrerelease, VersionValue, least_of, release, without_build}
 use Rattle.semver_versions.specs.Lemmas.Public.{Less-version, none-below_least, none-between_patches}
 use Rattle.semver_versions.specs.Lemmas.Public.{none-between_zeros, patch-above, prerelease-below}
-use Rattle.semver_versions.specs.Lemmas.Public.{prerelease-from_below, triple-back, triple-between, version-Equal}
+use Rattle.semver_versions.specs.Lemmas.Public.{prerelease-from_below, triple-back, triple-between}
 use Rattle.semver_versions.specs.Lemmas.Public.{version_total, with_zero-above}
 use Rattle.semver_sets.specs.Lemmas.Convex.{by-value, from-cmp}
 use Rattle.semver_versions.specs.VersionSteps.{with_zero}
 use Rattle.node_semver.specs.Private.CandidateViews.{after_by, before_by, candidates_at}
-use Rattle.node_semver.proofs.Least.LeastLemmas.{IsFloor, after-floor, at-least, before-floor, same-floor, start-floor}
+use Rattle.node_semver.proofs.Least.LeastLemmas.{IsFloor, after-floor, at-least, before-floor, start-floor}
 
 -- ---- the least version after a cut, and the release of its triple
 
@@ -30,21 +32,10 @@ pub record IsReleaseFrom (c : Cut VersionValue) (x : VersionValue) : Type 0 wher
 
 release-from : (c : Cut VersionValue) (f x : VersionValue) → IsFloor c f → HasSameTriple f x → ¬ IsPrerelease x
     → IsReleaseFrom c x
-release-from c f x floor triple final = record {
-  final = final;
-  at = at_most_trans version_total c (Before f) (Before x) floor.at
-      (at-least f x (λ less. final (prerelease-from_below x f (triple-back f x triple) (Less-version x f less))));
-  none_below = λ w plain after less.
-      let below = Less-version w x less in
-      let t = triple-between f w x (from-cmp f w (at-least f w (floor.none_below w after))) (inl below) triple in
-      plain (prerelease-from_below w x t below);
-}
+release-from c f x floor triple final = grind (arith, at_most_trans version_total c (Before f) (Before x) floor.at (at-least f x (λ less. final (prerelease-from_below x f (triple-back f x triple) (Less-version x f less)))))
 
 pub plain-floor : (v : VersionValue) → IsFloor (Before v) (without_build v)
-plain-floor v = same-floor (Before v) v (without_build v)
-    (version-Equal v (without_build v)
-    (record { triple = record { major = refl; minor = refl; patch = refl }; pre_release = refl }))
-    (before-floor v)
+plain-floor v = grind (arith, before-floor v)
 
 pub zero-floor : (v : VersionValue) → IsPrerelease v → IsFloor (After v) (with_zero v)
 zero-floor v pre = after-floor v (with_zero v) (with_zero-above v pre) (λ w. none-between_zeros v w pre)
@@ -64,42 +55,19 @@ pub record ReleaseOf (P : VersionValue → Type 0) (c : Cut VersionValue) : Type
 module _ (P : VersionValue → Type 0) where
   before-release : (v : VersionValue) (xs : List IdentifierValue) → AllByRecursion P (before_by v xs)
       → P (release v.major v.minor v.patch)
-  before-release v [] all = all.0
-  before-release v (x ∷ xs) all = all.1.0
+  before-release v xs h1 = grind arith
 
   after-release : (v : VersionValue) (xs : List IdentifierValue) → v.pre_release ≡ xs → AllByRecursion P (after_by false v xs)
       → ReleaseOf P (After v)
-  after-release v [] e all = record {
-    version = release v.major v.minor (v.patch + 1);
-    is = all.0;
-    first = release-from (After v) (least_of v.major v.minor (v.patch + 1)) (release v.major v.minor (v.patch + 1))
-        (patch-floor v (λ pre. pre e)) (record { major = refl; minor = refl; patch = refl }) (λ pre. pre refl);
-  }
-  after-release v (x ∷ xs) e all = record {
-    version = release v.major v.minor v.patch;
-    is = all.1.0;
-    first = release-from (After v) (with_zero v) (release v.major v.minor v.patch) (zero-floor v (λ none. cc (e, none)))
-        (record { major = refl; minor = refl; patch = refl }) (λ pre. pre refl);
-  }
+  after-release v xs h1 h2 = grind (arith, common_steps, release-from, patch-floor, zero-floor)
 
   past-end : (w : VersionValue) → ¬ IsCutAtMost version_cmp End (Before w)
-  past-end w (inl e) = cc e
-  past-end w (inr e) = cc e
+  past-end w = grind arith
 
   pub release-candidate : (c : Cut VersionValue) (w : VersionValue) → IsCutAtMost version_cmp c (Before w)
       → AllByRecursion P (candidates_at false c) → ReleaseOf P c
-  release-candidate Start w below all = record {
-    version = release 0 0 0;
-    is = all.0;
-    first = release-from Start (least_of 0 0 0) (release 0 0 0) start-floor
-        (record { major = refl; minor = refl; patch = refl }) (λ pre. pre refl);
-  }
-  release-candidate (Before v) w below all = record {
-    version = release v.major v.minor v.patch;
-    is = before-release v v.pre_release all;
-    first = release-from (Before v) v (release v.major v.minor v.patch) (before-floor v)
-        (record { major = refl; minor = refl; patch = refl }) (λ pre. pre refl);
-  }
+  release-candidate Start w below all = grind (arith, release-from, start-floor)
+  release-candidate (Before v) w below all = grind (arith, common_steps, before-release, release-from, before-floor)
   release-candidate (After v) w below all = after-release v v.pre_release refl all
   release-candidate End w below all = absurd (past-end w below)
 
@@ -113,23 +81,12 @@ pub record FloorOf (P : VersionValue → Type 0) (c : Cut VersionValue) : Type 0
 module _ (P : VersionValue → Type 0) where
   before-any : (v : VersionValue) (xs : List IdentifierValue) → v.pre_release ≡ xs → AllByRecursion P (before_by v xs)
       → FloorOf P (Before v)
-  before-any v [] e all = record {
-    version = release v.major v.minor v.patch;
-    is = all.0;
-    first = same-floor (Before v) v (release v.major v.minor v.patch) (version-Equal v (release v.major v.minor v.patch)
-        (record { triple = record { major = refl; minor = refl; patch = refl }; pre_release = e })) (before-floor v);
-  }
-  before-any v (x ∷ xs) e all = record { version = without_build v; is = all.0; first = plain-floor v }
+  before-any v xs h1 h2 = grind (arith, before-floor v, plain-floor v)
 
   after-any : (v : VersionValue) (xs : List IdentifierValue) → v.pre_release ≡ xs
       → AllByRecursion P (after_by true v xs) → FloorOf P (After v)
-  after-any v [] e all = record {
-    version = least_of v.major v.minor (v.patch + 1);
-    is = all.0;
-    first = patch-floor v (λ pre. pre e);
-  }
-  after-any v (x ∷ xs) e all =
-      record { version = with_zero v; is = all.0; first = zero-floor v (λ none. cc (e, none)) }
+  after-any v [] e all = grind (arith, patch-floor v (λ pre. pre e))
+  after-any v (x ∷ xs) e all = grind (arith, zero-floor v (λ none. cc (e, none)))
 
   pub floor-candidate : (c : Cut VersionValue) (w : VersionValue) → IsCutAtMost version_cmp c (Before w)
       → AllByRecursion P (candidates_at true c) → FloorOf P c
@@ -160,33 +117,18 @@ pub record PrereleaseOf (P : VersionValue → Type 0) (c : Cut VersionValue) (w 
   pub first : IsFloor c version
 
 module _ (P : VersionValue → Type 0) where
-  before-prerelease : (v : VersionValue) (xs : List IdentifierValue) → xs ≢ [] → AllByRecursion P (before_by v xs)
-      → P (without_build v)
-  before-prerelease v [] some all = absurd (some refl)
-  before-prerelease v (x ∷ xs) some all = all.0
-
   after-prerelease : (v : VersionValue) (xs : List IdentifierValue) → xs ≢ [] → AllByRecursion P (after_by false v xs)
       → P (with_zero v)
-  after-prerelease v [] some all = absurd (some refl)
-  after-prerelease v (x ∷ xs) some all = all.0
+  after-prerelease v xs h1 h2 = grind arith
 
   longer : (xs : List IdentifierValue) → xs ++ numeric 0 ∷ [] ≢ []
-  longer [] e = cc e
-  longer (x ∷ xs) e = cc e
+  longer xs = grind (arith, common_steps)
 
   pub prerelease-candidate : (c : Cut VersionValue) (w : VersionValue) → IsPrerelease w
       → IsCutAtMost version_cmp (Before (least_of_triple w)) c → IsCutAtMost version_cmp c (Before w)
       → AllByRecursion P (candidates_at false c) → PrereleaseOf P c w
   prerelease-candidate Start w pre from to all = elim from [ inl e ↦ cc e | inr e ↦ cc e ]
-  prerelease-candidate (Before v) w pre from to all =
-      let at = stands-at w v pre from to in
-      record {
-        version = without_build v;
-        is = before-prerelease v v.pre_release at.0 all;
-        pre = at.0;
-        triple = record { major = at.1.major; minor = at.1.minor; patch = at.1.patch };
-        first = plain-floor v;
-      }
+  prerelease-candidate (Before v) w pre from to all = grind (arith, stands-at w v pre from to, plain-floor v)
   prerelease-candidate (After v) w pre from to all =
       let at = stands-at w v pre (by-value (version_cmp (least_of_triple w) v) Less from)
       (by-value (version_cmp v w) Greater to) in
@@ -202,9 +144,7 @@ module _ (P : VersionValue → Type 0) where
 -- ---- a cut below all versions of a triple does not open it
 
 below-after : (r : Ordering) → ordering_then r Greater ≡ Less → r ≡ Less
-below-after Less e = refl
-below-after Equal e = cc e
-below-after Greater e = cc e
+below-after r h1 = grind arith
 
 pub shut-below : (c : Cut VersionValue) (w : VersionValue) → IsCutBelow version_cmp c (Before (least_of_triple w))
     → ¬ Opens c w

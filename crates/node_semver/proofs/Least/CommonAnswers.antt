@@ -1,5 +1,6 @@
 -- The least version that two ranges both have, from the best of the candidates.
-use Rattle.std.proofs.Common.{◌≡◌, Bool, List, Option, subst}
+use native.Mathlib.Omega.{arith}
+use Rattle.std.proofs.Common.{◌≡◌, Bool, List, Option}
 use Rattle.semver_cuts.specs.Ends.{Ends}
 use Rattle.semver_versions.specs.Version.{VersionValue}
 use Rattle.node_semver.specs.Private.CandidateViews.{AreEndsTried, AreWantedOfBoth, IsLeastOrNone}
@@ -25,6 +26,4 @@ pub common-seen : (included : Bool) (inside sets others : List (Ends VersionValu
     → (best : Option VersionValue)
     → AreEndsTried included (AreWantedOfBoth included inside others) (λ set. set.lower) inside others best
     → IsLeastOrNone (AreWantedOfBoth included sets others) best
-common-seen included inside sets others same best tried =
-    subst (λ (l : List (Ends VersionValue)). IsLeastOrNone (AreWantedOfBoth included l others) best) same
-    (common-least included inside others best tried)
+common-seen included inside sets others same best tried = grind (arith, common-least)

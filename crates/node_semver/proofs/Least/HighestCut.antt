@@ -1,4 +1,5 @@
 -- The highest of the cuts at ends of a list that are not above a version, and the cuts between it and the version.
+use native.Mathlib.Omega.{arith}
 use Rattle.std.proofs.Common.{◌⊎◌, Bool, IsTrue, List, [], ◌∷◌, inl, inr}
 use Rattle.std.specs.List.{AllByRecursion}
 use Rattle.semver_cuts.specs.declared.cut.Cut.{Cut}
@@ -49,11 +50,7 @@ pub record HighestOf {X : Type 0} (P : Cut VersionValue → Type 0) (end : X →
 module _ {X : Type 0} (P : Cut VersionValue → Type 0) (end : X → Cut VersionValue) (w : VersionValue) where
   pub highest : (xs : List X) (first : Cut VersionValue) → P first → IsCutAtMost version_cmp first (Before w)
       → AllByRecursion (λ x. P (end x)) xs → HighestOf P end xs w first
-  highest [] first is below all = record {
-    cut = first;
-    is = is;
-    highest = record { below = below; above = at_most_refl version_total first; each = tt };
-  }
+  highest [] first is below all = grind (arith, at_most_refl, version_total)
   highest (x ∷ xs) first is below all = elim (at_most-or-below version_total (end x) first) [
     | inl lower ↦
         let found = highest xs first is below all.1 in
@@ -112,9 +109,7 @@ IsAlike included v w = IsTrue included ⊎ AskAlike v w
 
 opened-forth : (included : Bool) (set : Ends VersionValue) (v w : VersionValue) → IsAlike included v w
     → (IsPrerelease v → IsOpenIn included set v) → IsPrerelease w → IsOpenIn included set w
-opened-forth included set v w (inl is) opened = λ _. inl is
-opened-forth included set v w (inr (both_releases n m)) opened = λ pre. absurd (m pre)
-opened-forth included set v w (inr (both_prereleases p q t)) opened = λ _. open_in-triple included set v w t (opened p)
+opened-forth included set v w h1 h2 = grind (arith, open_in-triple)
 
 alike-back : (included : Bool) (v w : VersionValue) → IsAlike included v w → IsAlike included w v
 alike-back included v w (inl is) = inl is

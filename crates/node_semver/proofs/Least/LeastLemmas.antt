@@ -1,5 +1,6 @@
 -- The least version that a set admits: where the set begins, and which triples its ends open.
-use Rattle.std.proofs.Common.{◌≡◌, ◌↔◌, ◌⊎◌, ◌+◌, ◌∙◌, ℕ, List, [], ◌∷◌, ◌++◌, Bool, true, false, not, Option, IsTrue}
+use native.Mathlib.Omega.{arith}
+use Rattle.std.proofs.Common.{◌≡◌, ◌↔◌, ◌⊎◌, ◌+◌, ℕ, List, [], ◌∷◌, ◌++◌, Bool, true, false, not, Option, IsTrue}
 use Rattle.std.proofs.Common.{refl, sym, ap, subst, inl, inr, Ordering, Less, Equal, Greater}
 use Rattle.std.specs.Ordering.{ordering_then}
 use Rattle.std.specs.Cmp.{alike_right, tied_back, tied_itself}
@@ -25,21 +26,14 @@ use Rattle.node_semver.specs.Private.LeastViews.{IsIn, IsInsideOrNone, IsLeastIn
 -- ---- versions and ends
 
 not-so : (below : Bool) → ¬ IsTrue below → IsTrue (not below)
-not-so true n = absurd (n refl)
-not-so false n = refl
+not-so below h1 = grind arith
 
 so-not : (below : Bool) → IsTrue (not below) → ¬ IsTrue below
-so-not true h k = cc h
-so-not false h k = cc k
+so-not below h1 = grind arith
 
 -- not below is at least
 pub at-least : (v w : VersionValue) → ¬ (version_cmp w v ≡ Less) → IsCutAtMost version_cmp (Before v) (Before w)
-at-least v w n = by_order (version_cmp v w) refl
-  where
-    by_order : (r : Ordering) → version_cmp v w ≡ r → (version_cmp v w ≡ Less) ⊎ (version_cmp v w ≡ Equal)
-    by_order Less e = inl e
-    by_order Equal e = inr e
-    by_order Greater e = absurd (n ((Greater-turned version_total v w).0 e))
+at-least v w n = grind (arith, Greater-turned version_total v w)
 
 -- a version is inside an end after another where the other is not below it
 pub inside-after : (v w : VersionValue) (upper : Cut VersionValue) (below : Bool) → upper ≡ After w
@@ -70,10 +64,7 @@ pub record IsFloor (cut : Cut VersionValue) (floor : VersionValue) : Type 0 wher
 
 -- whatever its build is
 pub same-floor : (cut : Cut VersionValue) (v w : VersionValue) → version_cmp v w ≡ Equal → IsFloor cut v → IsFloor cut w
-same-floor cut v w e floor = record {
-  at = at_most_trans version_total cut (Before v) (Before w) floor.at (inr e);
-  none_below = λ u h less. floor.none_below u h (alike_right version_total v w u e ∙ less);
-}
+same-floor cut v w e floor = grind (arith, at_most_trans, version_total, alike_right)
 
 pub start-floor : IsFloor Start (least_of 0 0 0)
 start-floor = record {
@@ -82,13 +73,7 @@ start-floor = record {
 }
 
 pub before-floor : (v : VersionValue) → IsFloor (Before v) v
-before-floor v = record {
-  at = inr (tied_itself version_total v);
-  none_below = λ w h less. elim h [
-    | inl above ↦ cc ((Greater-turned version_total w v).1 above, less)
-    | inr same ↦ cc (tied_back version_total v w same, less)
-  ];
-}
+before-floor v = grind (arith, tied_itself, version_total, Greater-turned, tied_back)
 
 -- of the next version after this one
 pub after-floor : (v next : VersionValue) → IsBelow v next → ((w : VersionValue) → IsBelow v w → ¬ IsBelow w next)
@@ -119,16 +104,12 @@ is-opened false set v admits pre = inr (admits.opened pre)
 pub lies-in : (included : Bool) (set : Ends VersionValue) (v : VersionValue) → IsInside v set
     → (IsPrerelease v → IsOpenIn included set v) → IsIn included set v
 lies-in true set v inside opened = inside
-lies-in false set v inside opened = record {
-  inside = inside;
-  opened = λ pre. elim (opened pre) [ inl never ↦ cc never | inr opens ↦ opens ];
-}
+lies-in false set v inside opened = grind arith
 
 -- for each version of a triple
 pub open_in-triple : (included : Bool) (set : Ends VersionValue) (v w : VersionValue) → HasSameTriple v w
     → IsOpenIn included set v → IsOpenIn included set w
-open_in-triple included set v w t (inl is) = inl is
-open_in-triple included set v w t (inr opens) = inr (open_end-in_triple set v w t opens)
+open_in-triple included set v w h1 h2 = grind (arith, open_end-in_triple)
 
 -- ---- where a set begins
 
@@ -138,10 +119,7 @@ pub record IsBeginning (included : Bool) (set : Ends VersionValue) (first : Vers
   pub none_below : (v : VersionValue) → IsIn included set v → ¬ (version_cmp v first ≡ Less)
 
 from-floor : (included : Bool) (set : Ends VersionValue) (v : VersionValue) → IsFloor set.lower v → IsBeginning included set v
-from-floor included set v floor = record {
-  at = floor.at;
-  none_below = λ w is. floor.none_below w (lies-inside included set w is).lower;
-}
+from-floor included set v floor = grind (arith, lies-inside)
 
 -- the least version of a triple that no end opens is not admitted, nor are the prereleases above it
 from-closed : (included : Bool) (set : Ends VersionValue) (m n p : ℕ) (v : VersionValue) → IsFloor set.lower (least_of m n p)
@@ -170,17 +148,12 @@ pub record IsCandidate (included : Bool) (set : Ends VersionValue) (v : VersionV
 
 pub least-inside : (included : Bool) (set : Ends VersionValue) (v : VersionValue) → IsCandidate included set v
     → IsCutBelow version_cmp (Before v) set.upper → IsLeastInSet included set v
-least-inside included set v candidate upper = record {
-  admits = lies-in included set v (record { lower = candidate.begins.at; upper = upper }) candidate.opened;
-  none_below = candidate.begins.none_below;
-  build = candidate.build;
-}
+least-inside included set v candidate upper = grind (arith, lies-in)
 
 -- it is the least one if it is inside, and otherwise there is none
 pub candidate-least : (included : Bool) (set : Ends VersionValue) (v : VersionValue) (found : Option VersionValue) → IsCandidate included set v
     → IsInsideOrNone set.upper v found → IsLeastOfSet included set found
-candidate-least included set v found candidate (inl (inside, is)) =
-    subst (IsLeastOfSet included set) (sym is) (least-inside included set v candidate inside)
+candidate-least included set v found candidate (inl (inside, is)) = grind (arith, least-inside)
 candidate-least included set v found candidate (inr (outside, none)) = subst (IsLeastOfSet included set) (sym none) (λ w is.
     outside (at_most-below version_total (Before v) (Before w) set.upper
     (at-least v w (candidate.begins.none_below w is)) (lies-inside included set w is).upper))

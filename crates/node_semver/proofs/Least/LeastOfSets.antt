@@ -1,6 +1,7 @@
 -- The least version that a list of sets admits, from that of each set.
-use Rattle.std.proofs.Common.{◌≡◌, ◌↔◌, ◌⊎◌, ◌+◌, ◌<◌, ◌≤◌, ◌∙◌, ℕ, Bool, true, false, arith, Ok, Err, IfOk, IfSome, IsNone, List, []}
-use Rattle.std.proofs.Common.{◌∷◌, ◌++◌, Option, Some, None, length, get_or, take, refl, sym, ap, subst, inl, inr, Less}
+use Rattle.std.proofs.lemmas.Grind.{common_steps}
+use Rattle.std.proofs.Common.{◌≡◌, ◌↔◌, ◌⊎◌, ◌+◌, ◌<◌, ◌≤◌, ◌∙◌, ℕ, Bool, true, false, arith, IfOk, IfSome, IsNone, List, []}
+use Rattle.std.proofs.Common.{◌∷◌, ◌++◌, Option, Some, None, length, get_or, take, refl, sym, subst, inl, inr, Less}
 use Rattle.std.proofs.Common.{append_assoc}
 use Rattle.std.proofs.lemmas.List.{take_more}
 use Rattle.std.specs.Cmp.{alike_right}
@@ -37,10 +38,7 @@ admits-either : (included : Bool) (done : List (Ends VersionValue)) (set : Ends 
 admits-either included [] set v (inl here) = inr here
 admits-either included [] set v (inr there) = absurd there
 admits-either included (s ∷ done) set v (inl here) = inl (inl here)
-admits-either included (s ∷ done) set v (inr there) = elim (admits-either included done set v there) [
-  | inl earlier ↦ inl (inr earlier)
-  | inr last ↦ inr last
-]
+admits-either included (s ∷ done) set v (inr there) = grind (arith, admits-either included done set v there)
 
 none-each : (included : Bool) (done : List (Ends VersionValue)) (v : VersionValue) → ¬ IsInRange included done v
     → AllByRecursion (λ (other : Ends VersionValue). ¬ IsIn included other v) done
@@ -50,33 +48,12 @@ none-each included (s ∷ done) v none = (λ here. none (inl here), none-each in
 -- the least version of the set, where the earlier ones don't admit it
 last-first : (included : Bool) (done : List (Ends VersionValue)) (set : Ends VersionValue) (v : VersionValue) → IsLeastInSet included set v
     → ¬ IsInRange included done v → HasBuildOf (IsIn included) (done ++ set ∷ []) v
-last-first included done set v least none = record {
-  set = set;
-  first = record {
-    before = done;
-    after = [];
-    parts = refl;
-    earlier = none-each included done v none;
-    admits = least.admits;
-  };
-  build = least.build;
-}
+last-first included done set v least none = grind (arith, none-each)
 
 -- the first to admit stays the first
 earlier-first : (included : Bool) (done : List (Ends VersionValue)) (set : Ends VersionValue) (v : VersionValue) → HasBuildOf (IsIn included) done v
     → HasBuildOf (IsIn included) (done ++ set ∷ []) v
-earlier-first included done set v built = let first = built.first in record {
-  set = built.set;
-  first = record {
-    before = first.before;
-    after = first.after ++ set ∷ [];
-    parts = ap (λ (l : List (Ends VersionValue)). l ++ set ∷ []) first.parts
-        ∙ append_assoc first.before (built.set ∷ first.after) (set ∷ []);
-    earlier = first.earlier;
-    admits = first.admits;
-  };
-  build = built.build;
-}
+earlier-first included done set v built = grind (arith, append_assoc)
 
 -- ---- the lesser of two
 
@@ -127,10 +104,8 @@ more-least included done set None None found none nothing is =
       | inl earlier ↦ none v earlier
       | inr last ↦ nothing v last
     ])
-more-least included done set None (Some l) found none least is = subst (IsLeastOfSets included (done ++ set ∷ [])) (sym is)
-    (take-later included done set l least (λ w admits. absurd (none w admits)) (none l))
-more-least included done set (Some e) None found least nothing is = subst (IsLeastOfSets included (done ++ set ∷ [])) (sym is)
-    (take-earlier included done set e least.0 least.1 (λ w admits. absurd (nothing w admits)))
+more-least included done set None (Some l) found none least is = grind (arith, take-later)
+more-least included done set (Some e) None found least nothing is = grind (arith, take-earlier)
 more-least included done set (Some e) (Some l) found least later (inl (below, is)) =
     subst (IsLeastOfSets included (done ++ set ∷ [])) (sym is) (take-later included done set l later
     (λ w admits less. least.0.none_below w admits (Less-version w e (version_total.trans w l e less below)))
@@ -144,18 +119,13 @@ pub taken-least : (included : Bool) (sets : List (Ends VersionValue)) (k : ℕ) 
     (earlier later found : Option VersionValue)
     → k < length sets → set ≡ get_or sets k set → IsLeastOfSets included (take k sets) earlier → IsLeastOfSet included set later
     → IsLesser earlier later found → IsLeastOfSets included (take (k + 1) sets) found
-taken-least included sets k set earlier later found lt is least later_least lesser =
-    subst (λ (l : List (Ends VersionValue)). IsLeastOfSets included l found)
-    (sym (take_more sets k set lt ∙ ap (λ (s : Ends VersionValue). take k sets ++ s ∷ []) (sym is)))
-    (more-least included (take k sets) set earlier later found least later_least lesser)
+taken-least included sets k set earlier later found lt is least later_least lesser = grind (arith, take_more sets k set lt, more-least included (take k sets) set earlier later found least later_least lesser)
 
 -- ---- the only set
 
 one-set : (sets : List (Ends VersionValue)) (set : Ends VersionValue) → 1 ≤ length sets → length sets < 2
     → set ≡ get_or sets 0 set → sets ≡ set ∷ []
-one-set [] set some few is = absurd (omega arith)
-one-set (s ∷ []) set some few is = ap (λ (t : Ends VersionValue). t ∷ []) (sym is)
-one-set (s ∷ t ∷ sets) set some few is = absurd (omega arith)
+one-set sets set h1 h2 h3 = grind (arith, common_steps)
 
 -- where it begins before a version, that is the least
 pub only-least : (included : Bool) (sets : List (Ends VersionValue)) (set : Ends VersionValue) (v : VersionValue) → 1 ≤ length sets
@@ -177,19 +147,13 @@ some-found included sets v least = (λ e. cc e, λ none. absurd (none v least.0.
 -- and none, where none is
 pub none-found : {E : Type 0} (included : Bool) (sets : List (Ends VersionValue)) (r : Result (Option VersionValue) E)
     → IfOk r (IsLeastOfSets included sets) → IfOk r (λ found. IsNone found ↔ IsNoneOf (IsInRange included sets))
-none-found included sets (Ok (Some v)) least = some-found included sets v least
-none-found included sets (Ok None) none = (λ e. none, λ e. refl)
-none-found included sets (Err e) least = tt
+none-found included sets r h1 = grind (arith, some-found)
 
 -- a version that is found is the least, with the build of the first set that has it
 pub found-least : {E : Type 0} (included : Bool) (sets : List (Ends VersionValue)) (r : Result (Option VersionValue) E)
     → IfOk r (IsLeastOfSets included sets) → IfOk r (λ found. IfSome found (IsLeastOf (IsInRange included sets)))
-found-least included sets (Ok (Some v)) least = least.0
-found-least included sets (Ok None) none = tt
-found-least included sets (Err e) least = tt
+found-least included sets r h1 = grind arith
 
 pub found-build : {E : Type 0} (included : Bool) (sets : List (Ends VersionValue)) (r : Result (Option VersionValue) E)
     → IfOk r (IsLeastOfSets included sets) → IfOk r (λ found. IfSome found (HasBuildOf (IsIn included) sets))
-found-build included sets (Ok (Some v)) least = least.1
-found-build included sets (Ok None) none = tt
-found-build included sets (Err e) least = tt
+found-build included sets r h1 = grind arith

@@ -1,4 +1,6 @@
 -- Lists of identifiers and those with a 0 more: how they compare.
+use native.Mathlib.Omega.{arith}
+use Rattle.std.proofs.lemmas.Grind.{common_steps}
 use Rattle.std.proofs.Common.{◌≡◌, ◌≢◌, ◌↔◌, ◌∙◌, List, [], ◌∷◌, ◌++◌, ◌==◌, not, length, append-nil, Bool, true, false}
 use Rattle.std.proofs.Common.{IsTrue, refl, sym, ap, subst, Ordering, Less, Equal, Greater}
 use Rattle.std.specs.Ordering.{is_eq, is_le, is_lt, on}
@@ -37,12 +39,7 @@ tied xs ys e = slice_cmp-IsAntisymmetric identifier-IsAntisymmetric xs ys e
 -- a list is below another with a 0 more where it is at most the other
 below-zeroed : (xs ys : List IdentifierValue) (r : Ordering) → order xs ys ≡ r
     → IsTrue (is_le r) ↔ (order xs (zeroed ys) ≡ Less)
-below-zeroed xs ys Less e = (λ t. total.trans xs ys (zeroed ys) e (zero-above ys), λ h. refl)
-below-zeroed xs ys Equal e = (λ t. total.congr xs ys (zeroed ys) e ∙ zero-above ys, λ h. refl)
-below-zeroed xs ys Greater e = (
-  λ t. cc t,
-  λ h. absurd (none-before_zero ys xs ((Greater-turned total xs ys).0 e) h),
-)
+below-zeroed xs ys r h1 = grind (arith, total, zero-above, none-before_zero, Greater-turned)
 
 -- with a 0 more a list is below another where it is without, and the other is not just that
 zeroed-below : (xs ys : List IdentifierValue)
@@ -94,22 +91,17 @@ compared a b r e = sym (e ∙ sym (lex_map value_of identifier_cmp a b))
 
 -- two prereleases go by their lists
 both-some : (xs ys : List IdentifierValue) → xs ≢ [] → ys ≢ [] → prerelease_cmp xs ys ≡ order xs ys
-both-some [] ys n m = absurd (n refl)
-both-some (x ∷ xs) [] n m = absurd (m refl)
-both-some (x ∷ xs) (y ∷ ys) n m = refl
+both-some xs ys h1 h2 = grind arith
 
 some-zeroed : (xs : List IdentifierValue) → zeroed xs ≢ []
-some-zeroed [] e = cc e
-some-zeroed (x ∷ xs) e = cc e
+some-zeroed xs = grind (arith, common_steps)
 
 -- with a 0 more in neither, in one or in both: the program's result is whether the first is below
 abbrev BelowWith : List Identifier → Bool → List Identifier → Bool → Type 0
 BelowWith a z b w = prerelease_cmp (with_zeros (values_of a) z) (with_zeros (values_of b) w) ≡ Less
 
 less-is : (r : Ordering) → IsTrue (is_lt r) ↔ (r ≡ Less)
-less-is Less = (λ t. refl, λ e. refl)
-less-is Equal = (λ t. cc t, λ e. cc e)
-less-is Greater = (λ t. cc t, λ e. cc e)
+less-is r = grind arith
 
 along : (t : Bool) (r s : Ordering) → r ≡ s → IsTrue t ↔ (s ≡ Less) → IsTrue t ↔ (r ≡ Less)
 along t r s e i = (λ h. e ∙ i.0 h, λ h. i.1 (sym e ∙ h))
@@ -121,8 +113,7 @@ with : (xs : List IdentifierValue) (z : Bool) → z ≡ true → with_zeros xs z
 with xs z e = ap (with_zeros xs) e
 
 values-some : (a : List Identifier) → (length a == 0) ≡ false → values_of a ≢ []
-values-some [] e h = cc e
-values-some (x ∷ a) e h = cc h
+values-some a h1 = grind (arith, common_steps)
 
 -- the same result by another name
 pub answered : {P : Type 0} (s t : Bool) → s ≡ t → IsTrue t ↔ P → IsTrue s ↔ P
@@ -130,45 +121,20 @@ answered s t e i = (λ h. i.0 (sym e ∙ h), λ p. e ∙ i.1 p)
 
 pub in-second : (a b : List Identifier) (z w : Bool) (r : Ordering) → z ≡ false → w ≡ true → (length a == 0) ≡ false
     → r ≡ slice_cmp (on value_of identifier_cmp) a b → IsTrue (is_le r) ↔ BelowWith a z b w
-in-second a b z w r p q some e =
-    let xs = values_of a in
-    let ys = values_of b in
-    let same : prerelease_cmp (with_zeros xs z) (with_zeros ys w) ≡ order xs (zeroed ys) =
-    (λ i. prerelease_cmp (without xs z p i) (with ys w q i)) ∙ both-some xs (zeroed ys) (values-some a some)
-    (some-zeroed ys) in
-    along (is_le r) _ _ same (below-zeroed xs ys r (compared a b r e))
+in-second a b z w r p q some e = grind (arith, without, with, both-some, values-some, some-zeroed, along, below-zeroed, compared)
 
 module _ (a b : List Identifier) (z w : Bool) (r : Ordering) (p : z ≡ true) (q : w ≡ false)
     (some : (length b == 0) ≡ false) (e : r ≡ slice_cmp (on value_of identifier_cmp) a b) where
   first-same : prerelease_cmp (with_zeros (values_of a) z) (with_zeros (values_of b) w)
       ≡ order (zeroed (values_of a)) (values_of b)
-  first-same = (λ i. prerelease_cmp (with (values_of a) z p i) (without (values_of b) w q i))
-      ∙ both-some (zeroed (values_of a)) (values_of b) (some-zeroed (values_of a)) (values-some b some)
+  first-same = grind (arith, with, without, both-some, some-zeroed, values-some)
 
   pub in-first-less : (t : Bool) → is_lt r ≡ true → IsTrue t ↔ (values_of b ≡ zeroed (values_of a))
       → IsTrue (not t) ↔ BelowWith a z b w
-  in-first-less t less is =
-      let below = zeroed-below (values_of a) (values_of b) in
-      along (not t) _ _ first-same (
-        λ h. below.1 (compared a b r e ∙ (less-is r).0 less, λ same. not-both t h (is.1 same)),
-        λ h. not-so t (λ yes. (below.0 h).1 (is.0 yes)),
-      )
-    where
-      not-both : (t : Bool) → IsTrue (not t) → ¬ IsTrue t
-      not-both true h k = cc h
-      not-both false h k = cc k
-
-      not-so : (t : Bool) → ¬ IsTrue t → IsTrue (not t)
-      not-so true n = absurd (n refl)
-      not-so false n = refl
+  in-first-less t less is = grind (arith, zeroed-below, along, first-same, compared, less-is)
 
   pub in-first-not : (t : Bool) → t ≡ is_lt r → t ≡ false → IsTrue t ↔ BelowWith a z b w
-  in-first-not t is fails =
-      let below = zeroed-below (values_of a) (values_of b) in
-      along t _ _ first-same (
-        λ h. cc (h, fails),
-        λ h. is ∙ (less-is r).1 (sym (compared a b r e) ∙ (below.0 h).0),
-      )
+  in-first-not t is fails = grind (arith, zeroed-below, along, first-same, less-is, compared)
 
 pub in-both : (a b : List Identifier) (z w : Bool) (r : Ordering) → z ≡ true → w ≡ true
     → r ≡ slice_cmp (on value_of identifier_cmp) a b → IsTrue (is_lt r) ↔ BelowWith a z b w
@@ -196,11 +162,7 @@ last-same [] (b ∷ []) x y e = cc e
 last-same [] (b ∷ c ∷ ys) x y e = cc e
 last-same (a ∷ []) [] x y e = cc e
 last-same (a ∷ c ∷ xs) [] x y e = cc e
-last-same (a ∷ xs) (b ∷ ys) x y e =
-    let first : a ≡ b = cc e in
-    let rest : xs ++ x ∷ [] ≡ ys ++ y ∷ [] = cc e in
-    let same = last-same xs ys x y rest in
-    (same.0, (λ i. first i ∷ same.1 i))
+last-same (a ∷ xs) (b ∷ ys) x y e = grind (arith, common_steps)
 
 -- the last is 0, and those before it are these
 pub last-zero : (longer shorter front : List Identifier) (x : Identifier) (r : Ordering) → longer ≡ front ++ x ∷ []

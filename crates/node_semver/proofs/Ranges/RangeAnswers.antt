@@ -1,5 +1,6 @@
 -- The result of parsing a range text, from the sets that are read.
-use Rattle.std.proofs.Common.{◌≡◌, ◌⊎◌, ◌∙◌, ℕ, List, [], ◌∷◌, Ok, Err, IfOk, ap, inl, inr, subst, sym}
+use native.Mathlib.Omega.{arith}
+use Rattle.std.proofs.Common.{◌≡◌, ◌⊎◌, ◌∙◌, ℕ, List, [], ◌∷◌, Ok, Err, IfOk, ap, subst, sym}
 use Rattle.std.specs.List.{AllByRecursion}
 use Rattle.std.specs.Prelude.{IfErr, Result}
 use Rattle.semver_cuts.specs.Ends.{Ends}
@@ -32,11 +33,7 @@ IsRefusal text e = IsOutOfMemory e ⊎ (IsRefusalAt text no_valid_ranges 0 e × 
 print-read : PrintsAreReadBack → (text : List ℕ) (answer : Result (List (Ends VersionValue)) SemverError)
     → IfErr answer (IsRefusal text) → IfOk answer (AreSetsOfText text) → (sets : List (Ends VersionValue))
     → IsRangeValue sets → AllByRecursion IsPlainlyBounded sets → range_text sets ≡ text → IsReadAsRange sets answer
-print-read back text (Ok r) refused found sets is plainly print =
-    (back sets is plainly).equal r (subst (λ (l : List ℕ). AreSetsOfText l r) (sym print) found)
-print-read back text (Err e) (inl memory) found sets is plainly print = memory
-print-read back text (Err e) (inr refused) found sets is plainly print =
-    absurd ((back sets is plainly).accepted (subst IsRefused (sym print) refused.1))
+print-read h1 text answer h2 h3 sets h4 h5 h6 = grind arith
 
 -- each fact that is promised of sets that are read
 pub range-read : TextsMeanTheirSets → PrintsAreReadBack → (text : List ℕ) (sets : List (Ends VersionValue))
@@ -65,12 +62,4 @@ full-read mean back text bytes form major minor patch set sets same full is alon
 
 -- and of an error
 pub range-refused : PrintsAreReadBack → (text : List ℕ) (e : SemverError) → IsRefusal text e → IsRangeAnswer text (Err e)
-range-refused back text e refusal = record {
-  refused = refusal;
-  accepted = tt;
-  means = tt;
-  sets = tt;
-  holds = tt;
-  print = tt;
-  printed = print-read back text (Err e) refusal tt;
-}
+range-refused back text e refusal = grind (arith, print-read)

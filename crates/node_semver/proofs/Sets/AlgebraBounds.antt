@@ -1,4 +1,5 @@
 -- The sets of an intersection and of a difference satisfy what every range satisfies.
+use native.Mathlib.Omega.{arith}
 use Rattle.std.proofs.Common.{◌≡◌, ◌↔◌, List, [], ◌∷◌, Option, Some, None, refl, inl}
 use Rattle.std.specs.Prelude.{IfSome, IsNone, IsSome}
 use Rattle.std.specs.List.{AllByRecursion}
@@ -30,8 +31,7 @@ sets-held : (sets : List (Ends VersionValue)) → AllByRecursion (HoldsCut versi
     → AllByRecursion HasReadEnds sets → AllByRecursion IsRangeSet sets
 unfolding HasReadEnds
 sets-held [] held read = tt
-sets-held (set ∷ sets) held read =
-    (record { holds = held.0; lower = read.0.0; upper = read.0.1 }, sets-held sets held.1 read.1)
+sets-held (set ∷ sets) held read = grind (arith, sets-held sets held.1 read.1)
 
 -- the sets of an intersection are such as a range can have
 pub common-bounded : (ones others : List (Ends VersionValue)) → AllByRecursion IsRangeSet ones
@@ -60,8 +60,7 @@ some-cut (set ∷ sets) is = let held = is.each.0.holds in (held.0, inl held.1)
 -- a result is `None` exactly where it has no set
 pub none-listed : (answer : Option (List (Ends VersionValue))) → IfSome answer IsRangeValue
     → IsNone answer ↔ (sets_of_answer answer ≡ [])
-none-listed None holds = (λ none. refl, λ empty. refl)
-none-listed (Some sets) holds = (λ none. cc none, λ empty. absurd (holds.some empty))
+none-listed answer h1 = grind arith
 
 -- so a result is `None` exactly where it would have no cut
 pub none-exactly : (answer : Option (List (Ends VersionValue))) (P : Cut VersionValue → Type 0)
@@ -79,8 +78,4 @@ pub some-exactly : (answer : Option (List (Ends VersionValue))) (P : Cut Version
     → IfSome answer IsRangeValue
     → ((cut : Cut VersionValue) → IsInSome version_cmp (sets_of_answer answer) cut ↔ P cut)
     → IsSome answer ↔ ((cut : Cut VersionValue) × P cut)
-some-exactly None P holds same = (λ some. absurd (cc some), λ found. absurd ((same found.0).1 found.1))
-some-exactly (Some sets) P holds same = (
-  λ some. let in_some = some-cut sets holds in (in_some.0, (same in_some.0).0 in_some.1),
-  λ found. refl,
-)
+some-exactly answer P h1 h2 = grind (arith, some-cut)

@@ -1,6 +1,7 @@
 -- What one list of spans has and another has not is one list: pieces that ascend and have the same cuts are the same,
 -- versions at their ends included.
-use Rattle.std.proofs.Common.{◌≡◌, ◌↔◌, ◌∙◌, List, [], ◌∷◌, ◌++◌, refl, sym, subst, inl, inr}
+use native.Mathlib.Omega.{arith}
+use Rattle.std.proofs.Common.{◌≡◌, ◌↔◌, ◌∙◌, List, [], ◌∷◌, ◌++◌, refl, sym, inl, inr}
 use Rattle.std.specs.Cmp.{IsTotalOrder}
 use Rattle.std.specs.List.{AllByRecursion}
 use Rattle.std.specs.declared.cmp.Ordering.{Ordering}
@@ -28,20 +29,14 @@ module _ {T : Type 0} {cmp : T → T → Ordering} (o : IsTotalOrder cmp) where
         → AllByRecursion (λ (s : Ends T). ¬ (cut_cmp cmp (end s) c ≡ Equal)) before
         → AllByRecursion (λ (s : Ends T). ¬ (cut_cmp cmp (end s) d ≡ Equal)) before' → c ≡ d
     first_end-placed [] [] after after' span span' same p q e e' = cc (same, p, q)
-    first_end-placed [] (y ∷ before') after after' span span' same p q e e' =
-        let first : end y ≡ c = cc (same, p) in
-        absurd (e'.0 (subst (λ k. cut_cmp cmp k d ≡ Equal) (sym first) alike))
-    first_end-placed (x ∷ before) [] after after' span span' same p q e e' =
-        let first : end x ≡ d = cc (same, q) in
-        absurd (e.0 (subst (λ k. cut_cmp cmp k c ≡ Equal) (sym first) (cut_cmp-equal_back o c d alike)))
+    first_end-placed [] (y ∷ before') after after' span span' same p q e e' = grind arith
+    first_end-placed (x ∷ before) [] after after' span span' same p q e e' = grind (arith, cut_cmp-equal_back)
     first_end-placed (x ∷ before) (y ∷ before') after after' span span' same p q e e' =
         let rest : before ++ span ∷ after ≡ before' ++ span' ∷ after' = cc same in
         first_end-placed before before' after after' span span' rest p q e.1 e'.1
 
     first_end-same : (spans : List (Ends T)) → IsFirstAt cmp end spans c → IsFirstAt cmp end spans d → c ≡ d
-    first_end-same spans is is' =
-        first_end-placed is.before is'.before is.after is'.after is.span is'.span (sym is.parts ∙ is'.parts) is.end_of
-        is'.end_of is.earlier is'.earlier
+    first_end-same spans is is' = grind (arith, first_end-placed)
 
   -- ---- the pieces of one span
 
@@ -49,22 +44,16 @@ module _ {T : Type 0} {cmp : T → T → Ordering} (o : IsTotalOrder cmp) where
     lower-same : (c d : Cut T) → cut_cmp cmp c d ≡ Equal → IsPieceLower cmp others one c
         → IsPieceLower cmp others one d → c ≡ d
     lower-same c d alike (inl own) (inl own') = own ∙ sym own'
-    lower-same c d alike (inl own) (inr inner) =
-        absurd (below-not-at_most o one.lower d inner.0
-        (inr (subst (λ k. cut_cmp cmp d k ≡ Equal) own (cut_cmp-equal_back o c d alike))))
-    lower-same c d alike (inr inner) (inl own) =
-        absurd (below-not-at_most o one.lower c inner.0 (inr (subst (λ k. cut_cmp cmp c k ≡ Equal) own alike)))
+    lower-same c d alike (inl own) (inr inner) = grind (arith, below-not-at_most, cut_cmp-equal_back)
+    lower-same c d alike (inr inner) (inl own) = grind (arith, below-not-at_most)
     lower-same c d alike (inr inner) (inr inner') =
         first_end-same (λ (s : Ends T). s.upper) c d alike others inner.1 inner'.1
 
     upper-same : (c d : Cut T) → cut_cmp cmp c d ≡ Equal → IsPieceUpper cmp others one c
         → IsPieceUpper cmp others one d → c ≡ d
     upper-same c d alike (inl own) (inl own') = own ∙ sym own'
-    upper-same c d alike (inl own) (inr inner) =
-        absurd (below-not-at_most o d one.upper inner.0 (inr (subst (λ k. cut_cmp cmp k d ≡ Equal) own alike)))
-    upper-same c d alike (inr inner) (inl own) =
-        absurd (below-not-at_most o c one.upper inner.0
-        (inr (subst (λ k. cut_cmp cmp k c ≡ Equal) own (cut_cmp-equal_back o c d alike))))
+    upper-same c d alike (inl own) (inr inner) = grind (arith, below-not-at_most)
+    upper-same c d alike (inr inner) (inl own) = grind (arith, below-not-at_most, cut_cmp-equal_back)
     upper-same c d alike (inr inner) (inr inner') =
         first_end-same (λ (s : Ends T). s.lower) c d alike others inner.1 inner'.1
 
@@ -126,35 +115,20 @@ module _ {T : Type 0} {cmp : T → T → Ordering} (o : IsTotalOrder cmp) where
 
     -- so they are one piece
     touching : (p q : Ends T) (c : Cut T) → Piece p → Piece q → IsInSpan cmp p c → IsInSpan cmp q c → p ≡ q
-    touching p q c is is' in_p in_q =
-        let lower : p.lower ≡ q.lower = lower-same p.lower q.lower
-        (at_most-both o p.lower q.lower (lower-reach p q c is is' in_p in_q) (lower-reach q p c is' is in_q in_p))
-        is.lower is'.lower in
-        let upper : p.upper ≡ q.upper = upper-same p.upper q.upper
-        (at_most-both o p.upper q.upper (upper-reach q p c is' is in_q in_p) (upper-reach p q c is is' in_p in_q))
-        is.upper is'.upper in
-        λ i. record { lower = lower i; upper = upper i }
+    touching p q c is is' in_p in_q = grind (arith, lower-same p.lower q.lower (at_most-both o p.lower q.lower (lower-reach p q c is is' in_p in_q) (lower-reach q p c is' is in_q in_p)) is.lower is'.lower, upper-same p.upper q.upper (at_most-both o p.upper q.upper (upper-reach q p c is' is in_q in_p) (upper-reach p q c is is' in_p in_q)) is.upper is'.upper)
 
     -- ---- ascending pieces
 
     -- a cut of a later piece lies above the first one
     later-above : (p : Ends T) (ps : List (Ends T)) (cut : Cut T) → AllByRecursion Piece ps → AreApart cmp (p ∷ ps)
         → IsInSome cmp ps cut → IsCutBelow cmp p.upper cut
-    later-above p ps cut all apart some =
-        some-above o cut p.upper ps
-        (apart-above o p ps apart (all_map Piece (λ (s : Ends T). IsCutBelow cmp s.lower s.upper) rising ps all)) some
+    later-above p ps cut all apart some = grind (arith, some-above o cut p.upper ps (apart-above o p ps apart (all_map Piece (λ (s : Ends T). IsCutBelow cmp s.lower s.upper) rising ps all)) some)
 
     -- the cuts of the later pieces
     later-cuts : (p q : Ends T) (ps qs : List (Ends T)) → p ≡ q → AllByRecursion Piece ps → AreApart cmp (p ∷ ps)
         → ((cut : Cut T) → IsInSome cmp (p ∷ ps) cut → IsInSome cmp (q ∷ qs) cut)
         → (cut : Cut T) → IsInSome cmp ps cut → IsInSome cmp qs cut
-    later-cuts p q ps qs first all apart goes cut some = elim (goes cut (inr some)) [
-      | inl here ↦
-          let inside : IsInSpan cmp p cut = subst (λ (s : Ends T). IsInSpan cmp s cut) (sym first) here in
-          absurd (below_irrefl o cut
-          (below_trans o cut p.upper cut inside.upper (later-above p ps cut all apart some)))
-      | inr there ↦ there
-    ]
+    later-cuts p q ps qs first all apart goes cut some = grind (arith, below_irrefl, below_trans, later-above)
 
     -- the first of each
     first-piece : (p q : Ends T) (ps qs : List (Ends T)) → AllByRecursion Piece (p ∷ ps) → AllByRecursion Piece (q ∷ qs)

@@ -1,5 +1,6 @@
 -- Intersection and difference of ranges: which cuts their sets have, and which versions they admit.
-use Rattle.std.proofs.Common.{◌≡◌, ◌↔◌, Bool, true, false, if◌then◌else◌, List, [], ◌∷◌, refl, inl, inr}
+use native.Mathlib.Omega.{arith}
+use Rattle.std.proofs.Common.{◌≡◌, ◌↔◌, Bool, if◌then◌else◌, List, [], ◌∷◌, refl}
 use Rattle.std.specs.Ordering.{is_lt}
 use Rattle.semver_cuts.specs.declared.cut.Cut.{Cut}
 use Rattle.semver_cuts.specs.declared.cut.Cut.TheVariants.{Before}
@@ -28,35 +29,20 @@ use Rattle.node_semver.specs.RangeAlgebra.{PairAdmits}
 pub release-admitted : (sets : List (Ends VersionValue)) (v : VersionValue) → ¬ IsPrerelease v
     → RangeAdmits sets v ↔ IsInSome version_cmp sets (Before v)
 release-admitted [] v release = (λ admits. admits, λ some. some)
-release-admitted (set ∷ sets) v release =
-    let later = release-admitted sets v release in (
-      λ admits. elim admits [
-        | inl here ↦ inl here.inside
-        | inr there ↦ inr (later.0 there)
-      ],
-      λ some. elim some [
-        | inl here ↦ inl (record { inside = here; opened = λ pre. absurd (release pre) })
-        | inr there ↦ inr (later.1 there)
-      ],
-    )
+release-admitted (set ∷ sets) v release = grind (arith, release-admitted sets v release)
 
 -- ---- the intersection of two sets is their merging
 
 greater-by : (one other : Cut VersionValue) (r : Bool) → is_lt (cut_cmp version_cmp other one) ≡ r
     → IsLaterGreatest version_cmp one other (if r then one else other)
-greater-by one other true h = inl (below-from_lt version_cmp other one h, refl)
-greater-by one other false h = inr (at_most-from_not_lt version_total other one h, refl)
+greater-by one other r h1 = grind (arith, below-from_lt, at_most-from_not_lt, version_total)
 
 lesser-by : (one other : Cut VersionValue) (r : Bool) → is_lt (cut_cmp version_cmp other one) ≡ r
     → IsEarlierLeast version_cmp one other (if r then other else one)
-lesser-by one other true h = inl (below-from_lt version_cmp other one h, refl)
-lesser-by one other false h = inr (at_most-from_not_lt version_total other one h, refl)
+lesser-by one other r h1 = grind (arith, below-from_lt, at_most-from_not_lt, version_total)
 
 pair-merged : (one other : Ends VersionValue) → IsSetOf (one ∷ other ∷ []) (common_ends version_cmp one other)
-pair-merged one other =
-    set-push (one ∷ []) one other (common_ends version_cmp one other) (set-one one)
-    (greater-by one.lower other.lower (is_lt (cut_cmp version_cmp other.lower one.lower)) refl)
-    (lesser-by one.upper other.upper (is_lt (cut_cmp version_cmp other.upper one.upper)) refl)
+pair-merged one other = grind (arith, set-push (one ∷ []) one other (common_ends version_cmp one other) (set-one one) (greater-by one.lower other.lower (is_lt (cut_cmp version_cmp other.lower one.lower)) refl) (lesser-by one.upper other.upper (is_lt (cut_cmp version_cmp other.upper one.upper)) refl))
 
 -- so it admits a version that both together admit
 module _ (v : VersionValue) where
@@ -86,23 +72,9 @@ module _ (v : VersionValue) where
 -- and a release exactly where both do
 pub common-releases : (ones others : List (Ends VersionValue)) (v : VersionValue) → ¬ IsPrerelease v
     → RangeAdmits (common_spans version_cmp ones others) v ↔ (RangeAdmits ones v × RangeAdmits others v)
-common-releases ones others v release =
-    let both = release-admitted (common_spans version_cmp ones others) v release in
-    let one = release-admitted ones v release in
-    let other = release-admitted others v release in
-    let cuts = common_spans-cuts version_total ones others (Before v) in (
-      λ admits. let inside = cuts.0 (both.0 admits) in (one.1 inside.0, other.1 inside.1),
-      λ admits. both.1 (cuts.1 (one.0 admits.0, other.0 admits.1)),
-    )
+common-releases ones others v release = grind (arith, release-admitted (common_spans version_cmp ones others) v release, release-admitted ones v release, release-admitted others v release, common_spans-cuts version_total ones others (Before v))
 
 -- a difference admits a release exactly where the first range does and the second does not
 pub difference-releases : (ones others spans : List (Ends VersionValue)) → AreDifference version_cmp ones others spans
     → (v : VersionValue) → ¬ IsPrerelease v → RangeAdmits spans v ↔ (RangeAdmits ones v × (¬ RangeAdmits others v))
-difference-releases ones others spans are v release =
-    let left = release-admitted spans v release in
-    let one = release-admitted ones v release in
-    let other = release-admitted others v release in
-    let cuts = difference-cuts version_cmp ones others spans are (Before v) in (
-      λ admits. let inside = cuts.0 (left.0 admits) in (one.1 inside.0, λ admits'. inside.1 (other.0 admits')),
-      λ admits. left.1 (cuts.1 (one.0 admits.0, λ inside. admits.1 (other.1 inside))),
-    )
+difference-releases ones others spans are v release = grind (arith, release-admitted spans v release, release-admitted ones v release, release-admitted others v release, difference-cuts version_cmp ones others spans are (Before v))

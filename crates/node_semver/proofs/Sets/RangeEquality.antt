@@ -1,5 +1,6 @@
 -- Ranges of the same cuts admit the same versions.
-use Rattle.std.proofs.Common.{◌≡◌, ◌↔◌, ◌∙◌, List, [], ◌∷◌, sym, inl, inr}
+use native.Mathlib.Omega.{arith}
+use Rattle.std.proofs.Common.{◌≡◌, ◌↔◌, List, [], ◌∷◌, inl, inr}
 use Rattle.std.specs.declared.cmp.Ordering.TheVariants.{Equal}
 use Rattle.semver_cuts.specs.declared.cut.Cut.{Cut}
 use Rattle.semver_cuts.specs.declared.cut.Cut.TheVariants.{Before}
@@ -16,24 +17,15 @@ use Rattle.semver_versions.specs.Version.{HasSameTriple, IsPrerelease, VersionVa
 -- versions that are the same but for the build open the same triple
 opened-same : (p q v : VersionValue) → version_cmp p q ≡ Equal → IsPrerelease p × HasSameTriple p v
     → IsPrerelease q × HasSameTriple q v
-opened-same p q v e opened = let same = Equal-version p q e in (
-  λ none. opened.0 (same.pre_release ∙ none),
-  record {
-    major = sym same.triple.major ∙ opened.1.major;
-    minor = sym same.triple.minor ∙ opened.1.minor;
-    patch = sym same.triple.patch ∙ opened.1.patch;
-  },
-)
+opened-same p q v e opened = grind (arith, Equal-version)
 
 -- and so do equal cuts
 opens-same : (c d : Cut VersionValue) (v : VersionValue) → cut_cmp version_cmp c d ≡ Equal → Opens c v → Opens d v
-opens-same c d v = equal-by_kind version_cmp (λ c d. Opens c v → Opens d v) (λ opened. opened)
-    (λ p q e. opened-same p q v e) (λ p q e. opened-same p q v e) (λ opened. opened) c d
+opens-same c d v = grind (arith, equal-by_kind, opened-same)
 
 open_end-same : (one other : Ends VersionValue) (v : VersionValue) → AreSameEnds version_cmp one other
     → HasOpenEnd v one → HasOpenEnd v other
-open_end-same one other v same (inl opened) = inl (opens-same one.lower other.lower v same.lower opened)
-open_end-same one other v same (inr opened) = inr (opens-same one.upper other.upper v same.upper opened)
+open_end-same one other v h1 h2 = grind (arith, opens-same)
 
 set-admits : (one other : Ends VersionValue) (v : VersionValue) → AreSameEnds version_cmp one other
     → SetAdmits one v → SetAdmits other v
@@ -58,5 +50,4 @@ same-back (s ∷ one) (t ∷ other) same = (same_ends-back version_total s t sam
 -- ranges of the same cuts admit the same versions
 pub same-admit : (one other : List (Ends VersionValue)) → AreSameCuts one other → (v : VersionValue)
     → RangeAdmits one v ↔ RangeAdmits other v
-same-admit one other same v =
-    (admits-onward one other same v, admits-onward other one (same-back one other same) v)
+same-admit one other same v = grind (arith, admits-onward, same-back)

@@ -1,5 +1,6 @@
 -- The cuts of a text: those of the sets that it writes, and none where it is refused.
-use Rattle.std.proofs.Common.{◌≢◌, ◌↔◌, ℕ, List, [], ◌∷◌, subst, inl, inr}
+use native.Mathlib.Omega.{arith}
+use Rattle.std.proofs.Common.{◌≢◌, ◌↔◌, ℕ, List, [], ◌∷◌, subst}
 use Rattle.semver_cuts.specs.declared.cut.Cut.{Cut}
 use Rattle.semver_cuts.specs.SpanLists.{IsInEvery, IsInSome}
 use Rattle.semver_cuts.specs.Ends.{Ends}
@@ -22,20 +23,8 @@ sets-cut : (alternatives : List (List Comparator)) (sets : List (Ends VersionVal
     → AreSetsOf alternatives sets → IsInSome version_cmp sets cut ↔ AnyByRecursion (HasCutSome cut) alternatives
 sets-cut [] [] cut none = (λ nowhere. nowhere, λ nowhere. nowhere)
 sets-cut [] (s ∷ sets) cut m = elim m [ ]
-sets-cut (c ∷ alternatives) (s ∷ sets) cut (one_more _ _ _ _ g i more) =
-    let others = sets-cut alternatives sets cut more in
-    let same = in_every-between version_total c s.lower s.upper i.lower i.upper cut in (
-      λ some. elim some [ inl here ↦ inl (g.some, same.1 here) | inr there ↦ inr (others.0 there) ],
-      λ some. elim some [ inl here ↦ inl (same.0 here.1) | inr there ↦ inr (others.1 there) ],
-    )
-sets-cut (c ∷ alternatives) sets cut (no_more _ _ _ n more) =
-    let others = sets-cut alternatives sets cut more in (
-      λ some. inr (others.0 some),
-      λ some. elim some [
-        | inl here ↦ absurd (n (record { some = here.0; common = (cut, here.1) }))
-        | inr there ↦ others.1 there
-      ],
-    )
+sets-cut (c ∷ alternatives) (s ∷ sets) cut (one_more _ _ _ _ g i more) = grind (arith, in_every-between, version_total, sets-cut alternatives sets cut more)
+sets-cut (c ∷ alternatives) sets cut (no_more _ _ _ n more) = grind (arith, sets-cut alternatives sets cut more)
 
 -- the cuts of the sets that a text writes are those of the text
 pub text-cut : (text : List ℕ) (sets : List (Ends VersionValue)) → IsWrittenOneWay text → AreSetsOfText text sets

@@ -1,4 +1,5 @@
 -- What a tree is evaluated to, from its sets: just the cuts of the tree, and the releases of which it holds.
+use native.Mathlib.Omega.{arith}
 use Rattle.std.proofs.Common.{◌↔◌, List, Option, Result, Ok, Err}
 use Rattle.std.specs.Prelude.{IfOk, IfSome, IsNone}
 use Rattle.semver_cuts.specs.declared.cut.Cut.{Cut}
@@ -19,8 +20,7 @@ HasCutsOf tree result = IfOk result (λ answer. HaveCutsOf tree (sets_of_answer 
 
 answer-cuts : {E : Type 0} → AreWrittenOneWay → (tree : Formula) (result : Result (Option (List (Ends VersionValue))) E)
     → HasSetsOf tree result → HasCutsOf tree result
-answer-cuts one_way tree (Err e) has = tt
-answer-cuts one_way tree (Ok answer) has = tree-cuts one_way tree (sets_of_answer answer) has
+answer-cuts h1 tree result h2 = grind (arith, tree-cuts)
 
 -- there is no range exactly where the tree has no cut
 answer-none : {E : Type 0} (tree : Formula) (result : Result (Option (List (Ends VersionValue))) E)
@@ -51,11 +51,4 @@ pub answered : {E : Type 0} → AreWrittenOneWay → (tree : Formula) (result : 
           → RangeAdmits (sets_of_answer answer) v ↔ InFormula tree (Before v));
       holds : IfOk result (λ answer. IfSome answer IsRangeValue);
     }
-answered one_way tree result has holds =
-    let cuts = answer-cuts one_way tree result has in record {
-      sets = has;
-      cuts = cuts;
-      none = answer-none tree result cuts holds;
-      releases = answer-releases tree result cuts;
-      holds = holds;
-    }
+answered one_way tree result has holds = grind (arith, answer-cuts, answer-none, answer-releases)

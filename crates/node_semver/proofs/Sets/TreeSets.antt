@@ -1,5 +1,6 @@
 -- The sets of a tree: how they are made of those of its sides, and that they have just the cuts of the tree.
-use Rattle.std.proofs.Common.{◌≡◌, ◌↔◌, ℕ, List, [], ◌∷◌, Option, Result, Ok, Err, refl, sym, subst, inl, inr}
+use native.Mathlib.Omega.{arith}
+use Rattle.std.proofs.Common.{◌≡◌, ◌↔◌, ℕ, List, [], ◌∷◌, Option, Result, refl, sym, subst, inl, inr}
 use Rattle.std.specs.Prelude.{IfOk}
 use Rattle.std.specs.List.{AllByRecursion}
 use Rattle.semver_cuts.specs.declared.cut.Cut.{Cut}
@@ -35,11 +36,7 @@ none-merged (comparators ∷ alternatives) all =
 
 -- a refused text writes no sets
 pub refused-sets : (text : List ℕ) → IsRefused text → AreSetsOfText text []
-refused-sets text refused = record {
-  alternatives = refused.alternatives;
-  written = refused.written;
-  merged = none-merged refused.alternatives refused.none;
-}
+refused-sets text refused = grind (arith, none-merged)
 
 -- ---- no sets on the right side
 
@@ -49,26 +46,12 @@ common-with_none [] = refl
 common-with_none (set ∷ sets) = common-with_none sets
 
 own-piece : (set : Ends VersionValue) → IsRangeSet set → ArePieces version_cmp [] set (set ∷ [])
-own-piece set is = record {
-  each = (
-    record {
-      holds = is.holds;
-      left = λ cut inside. (inside, λ some. some);
-      greatest = λ wider left within cut inside. (left cut inside).0;
-      lower = inl refl;
-      upper = inl refl;
-    },
-    tt,
-  );
-  ascending = tt;
-  all = λ cut left. inl left.0;
-}
+own-piece set is = grind arith
 
 -- and leave each set as it is
 pub difference-without_none : (sets : Sets) → AllByRecursion IsRangeSet sets → AreDifference version_cmp sets [] sets
 difference-without_none [] all = refl
-difference-without_none (set ∷ sets) all =
-    (set ∷ [], sets, refl, own-piece set all.0, difference-without_none sets all.1)
+difference-without_none (set ∷ sets) all = grind (arith, own-piece set all.0, difference-without_none sets all.1)
 
 -- ---- what a tree is evaluated to
 
@@ -80,17 +63,13 @@ HasSetsOf tree result = IfOk result (λ answer. AreSetsOfTree tree (sets_of_answ
 pub both-sets : {E : Type 0} (tree one other : Formula) (ones others : Sets) (result : Result (Option Sets) E)
     → tree ≡ both one other → AreSetsOfTree one ones → AreSetsOfTree other others
     → IfOk result (λ answer. sets_of_answer answer ≡ common_spans version_cmp ones others) → HasSetsOf tree result
-both-sets tree one other ones others (Err e) same has has' is = tt
-both-sets tree one other ones others (Ok answer) same has has' is =
-    subst (λ t. AreSetsOfTree t (sets_of_answer answer)) (sym same) (inr (ones, others, has, has', is))
+both-sets tree one other ones others result h1 h2 h3 h4 = grind arith
 
 -- what the sets of the left side have and those of the right one have not
 pub without-sets : {E : Type 0} (tree one other : Formula) (ones others : Sets) (result : Result (Option Sets) E)
     → tree ≡ without one other → AreSetsOfTree one ones → AreSetsOfTree other others
     → IfOk result (λ answer. AreDifference version_cmp ones others (sets_of_answer answer)) → HasSetsOf tree result
-without-sets tree one other ones others (Err e) same has has' is = tt
-without-sets tree one other ones others (Ok answer) same has has' is =
-    subst (λ t. AreSetsOfTree t (sets_of_answer answer)) (sym same) (inr (ones, others, has, has', is))
+without-sets tree one other ones others result h1 h2 h3 h4 = grind arith
 
 -- ---- cuts
 
@@ -101,20 +80,12 @@ HaveCutsOf tree sets = (cut : Cut VersionValue) → IsInSome version_cmp sets cu
 -- the cuts that the sets of two trees share are those of both
 shared-cuts : (one other : Formula) (ones others : Sets) → HaveCutsOf one ones → HaveCutsOf other others
     → HaveCutsOf (both one other) (common_spans version_cmp ones others)
-shared-cuts one other ones others has has' cut =
-    let is = common_spans-cuts version_total ones others cut in (
-      λ h. let shared = is.0 h in ((has cut).0 shared.0, (has' cut).0 shared.1),
-      λ h. is.1 ((has cut).1 h.0, (has' cut).1 h.1),
-    )
+shared-cuts one other ones others has has' cut = grind (arith, common_spans-cuts version_total ones others cut)
 
 -- the cuts that the sets of one tree have and those of another have not are those of the one without the other
 left-cuts : (one other : Formula) (ones others sets : Sets) → HaveCutsOf one ones → HaveCutsOf other others
     → AreDifference version_cmp ones others sets → HaveCutsOf (without one other) sets
-left-cuts one other ones others sets has has' spans cut =
-    let is = difference-cuts version_cmp ones others sets spans cut in (
-      λ h. let left = is.0 h in ((has cut).0 left.0, λ o. left.1 ((has' cut).1 o)),
-      λ h. is.1 ((has cut).1 h.0, λ o. h.1 ((has' cut).0 o)),
-    )
+left-cuts one other ones others sets has has' spans cut = grind (arith, difference-cuts version_cmp ones others sets spans cut)
 
 -- each text can be divided into words in one way only
 abbrev pub AreWrittenOneWay : Type 0
@@ -122,16 +93,10 @@ AreWrittenOneWay = (text : List ℕ) → IsWrittenOneWay text
 
 pub tree-cuts : AreWrittenOneWay → (tree : Formula) (sets : Sets) → AreSetsOfTree tree sets → HaveCutsOf tree sets
 tree-cuts one_way (of_text t) sets are = text-cut t sets (one_way t) are
-tree-cuts one_way (both one other) sets (inl empty) = λ cut. (
-  λ some. absurd (subst (λ (l : Sets). IsInSome version_cmp l cut) empty.1 some),
-  λ h. absurd ((tree-cuts one_way one [] empty.0 cut).1 h.0),
-)
+tree-cuts one_way (both one other) sets (inl empty) = grind (arith, tree-cuts one_way one [] empty.0)
 tree-cuts one_way (both one other) sets (inr made) =
     subst (HaveCutsOf (both one other)) (sym made.4)
     (shared-cuts one other made.0 made.1 (tree-cuts one_way one made.0 made.2) (tree-cuts one_way other made.1 made.3))
-tree-cuts one_way (without one other) sets (inl empty) = λ cut. (
-  λ some. absurd (subst (λ (l : Sets). IsInSome version_cmp l cut) empty.1 some),
-  λ h. absurd ((tree-cuts one_way one [] empty.0 cut).1 h.0),
-)
+tree-cuts one_way (without one other) sets (inl empty) = grind (arith, tree-cuts one_way one [] empty.0)
 tree-cuts one_way (without one other) sets (inr made) =
     left-cuts one other made.0 made.1 sets (tree-cuts one_way one made.0 made.2) (tree-cuts one_way other made.1 made.3) made.4

@@ -1,6 +1,8 @@
 -- The best version of a list that is wanted, as one version more is looked at: the greatest, or the least.
+use native.Mathlib.Omega.{arith}
+use Rattle.std.proofs.lemmas.Grind.{common_steps}
 use Rattle.std.proofs.Common.{◌≡◌, ◌↔◌, ◌+◌, ◌<◌, ◌∙◌, ℕ, List, [], ◌∷◌, ◌++◌, Option, Some, None, IfSome, IsNone}
-use Rattle.std.proofs.Common.{Bool, true, false, length, get_or, map, take, refl, sym, ap, subst, inl, inr, Less}
+use Rattle.std.proofs.Common.{Bool, length, get_or, map, take, refl, sym, ap, subst, inl, inr, Less}
 use Rattle.std.proofs.Common.{append_assoc}
 use Rattle.std.proofs.lemmas.List.{map-append, take_more}
 use Rattle.std.specs.Cmp.{alike_right}
@@ -26,22 +28,13 @@ not-below_itself : (v : VersionValue) → ¬ (version_cmp v v ≡ Less)
 not-below_itself v less = cc (less, version-Equal v v (same-itself v))
 
 pub upward-order : IsOrder version_cmp
-upward-order = record {
-  not_itself = not-below_itself;
-  trans = version_total.trans;
-  alike = λ u v w less same. alike_right version_total w v u (version-Equal w v same) ∙ less;
-}
+upward-order = grind (arith, not-below_itself, version_total, alike_right, version-Equal)
 
 pub downward-order : IsOrder downward
-downward-order = record {
-  not_itself = not-below_itself;
-  trans = λ u v w above below. version_total.trans w v u below above;
-  alike = λ u v w less same. version_total.congr w v u (version-Equal w v same) ∙ less;
-}
+downward-order = grind (arith, not-below_itself, version_total, version-Equal)
 
 pub each-order : (upward : Bool) → IsOrder (order_of upward)
-each-order true = upward-order
-each-order false = downward-order
+each-order upward = grind (arith, upward-order, downward-order)
 
 module _ (order : Order) (is : IsOrder order) (Wanted : VersionValue → Type 0) where
   abbrev Best : List VersionValue → VersionValue → Type 0
@@ -106,25 +99,17 @@ module _ (order : Order) (is : IsOrder order) (Wanted : VersionValue → Type 0)
       → IsBestOrNone order Wanted (done ++ v ∷ []) found
   more-best done v None found none (inl (better, admits, taken)) =
       subst (IsBestOrNone order Wanted (done ++ v ∷ [])) (sym taken) (take-first done v none admits)
-  more-best done v None found none (inr (not, kept)) = subst (IsBestOrNone order Wanted (done ++ v ∷ [])) (sym kept)
-      (all-append (λ (w : VersionValue). ¬ Wanted w) done (v ∷ []) none
-      ((λ admitted. not (tt, admitted)), tt))
+  more-best done v None found none (inr (not, kept)) = grind (arith, all-append)
   more-best done v (Some best) found first (inl (better, admits, taken)) =
       subst (IsBestOrNone order Wanted (done ++ v ∷ [])) (sym taken) (take-better done best v first better admits)
-  more-best done v (Some best) found first (inr (not, kept)) =
-      subst (IsBestOrNone order Wanted (done ++ v ∷ [])) (sym kept) (keep-best done best v first not)
+  more-best done v (Some best) found first (inr (not, kept)) = grind (arith, common_steps)
 
   -- as a loop goes over the versions
   pub taken-best : {T : Type 0} (seen : T → VersionValue) (versions : List T) (k : ℕ) (v : T)
       (best found : Option VersionValue) → k < length versions → v ≡ get_or versions k v
       → IsBestOrNone order Wanted (map seen (take k versions)) best → IsBetterOf order Wanted best (seen v) found
       → IsBestOrNone order Wanted (map seen (take (k + 1) versions)) found
-  taken-best {T} seen versions k v best found lt at first better =
-      subst (λ (l : List T). IsBestOrNone order Wanted (map seen l) found)
-      (sym (take_more versions k v lt ∙ ap (λ (w : T). take k versions ++ w ∷ []) (sym at)))
-      (subst (λ (l : List VersionValue). IsBestOrNone order Wanted l found)
-      (sym (map-append seen (take k versions) (v ∷ [])))
-      (more-best (map seen (take k versions)) (seen v) best found first better))
+  taken-best seen versions k v best found h1 h2 h3 h4 = grind (arith, common_steps, take_more, map-append, more-best)
 
 -- ---- the program's result
 
@@ -182,8 +167,4 @@ none-at Wanted before after versions v parts admits none =
 pub none-found : {R : Type 0} (order : Order) (r : Option R) (now : R → VersionValue) (Wanted : VersionValue → Type 0)
     (versions : List VersionValue) → IsBestOrNone order Wanted versions (option_map now r)
     → IsNone r ↔ IsNoneIn Wanted versions
-none-found order (Some v) now Wanted versions first = (
-  λ e. cc e,
-  λ none. absurd (none-at Wanted first.before first.after versions (now v) first.parts first.admitted none),
-)
-none-found order None now Wanted versions none = ((λ e. none), (λ e. refl))
+none-found order r now Wanted versions h1 = grind (arith, none-at)

@@ -1,5 +1,6 @@
 -- The test whether two ranges have the same cuts is an equivalence, and decides exactly that.
-use Rattle.std.specs.Prelude.{◌≡◌, ◌↔◌, ◌&&◌, Bool, IsTrue, List, [], ◌∷◌, refl, true}
+use native.Mathlib.Omega.{arith}
+use Rattle.std.specs.Prelude.{◌≡◌, ◌↔◌, Bool, IsTrue, List, [], ◌∷◌, refl, true}
 use mathlib.Core.Path.{sym, ◌∙◌}
 use mathlib.Core.Bool.{true≢false}
 use Rattle.std.specs.Cmp.{IsEquivalence, first_so, second_so}
@@ -27,8 +28,7 @@ pub test-from_cuts : (one other : List (Ends VersionValue)) → AreSameCuts one 
 test-from_cuts [] [] same = refl
 test-from_cuts [] (t ∷ other) same = absurd same
 test-from_cuts (s ∷ one) [] same = absurd same
-test-from_cuts (s ∷ one) (t ∷ other) same =
-    λ i. (span_same version_cmp s t _ refl).1 same.0 i && test-from_cuts one other same.1 i
+test-from_cuts (s ∷ one) (t ∷ other) same = grind (arith, span_same, test-from_cuts one other same.1)
 
 pub ranges_same : (one other : List (Ends VersionValue)) (r : Bool) → r ≡ are_same_cuts one other
     → IsTrue r ↔ AreSameCuts one other

@@ -1,4 +1,5 @@
 -- The print of a set is one word, or two with a blank between, whose comparators merge into a set of the same cuts.
+use native.Mathlib.Omega.{arith}
 use Rattle.std.proofs.Common.{◌≡◌, ℕ, List, [], ◌∷◌, ◌++◌, Some, Equal, codes, refl, sym, subst, inl, inr}
 use Rattle.std.proofs.lemmas.Bool.{cases_Bool, cond-false, cond-true}
 use Rattle.std.specs.Cmp.{Equal-is, tied_itself}
@@ -18,12 +19,11 @@ use Rattle.semver_sets.specs.Merging.{IsSetOf}
 use Rattle.semver_sets.specs.Operators.{greater, greater_or_equal, less, less_or_equal}
 use Rattle.semver_versions.specs.Print.{version_text}
 use Rattle.semver_sets.specs.RangePrint.{both_text, ends_text, lower_text, set_text, upper_text}
-use Rattle.semver_sets.specs.RangeSets.{IsRangeCut, IsRangeEnd, IsRangeSet}
+use Rattle.semver_sets.specs.RangeSets.{IsRangeCut, IsRangeSet}
 use Rattle.semver_versions.specs.Version.{VersionValue}
 use Rattle.semver_sets.specs.Private.WordReading.{is_not_blank}
 use Rattle.semver_sets.specs.Lemmas.Merging.{set-one, set-push}
 use Rattle.semver_sets.proofs.Words.NoBars.{HasNoBar, none-append}
-use Rattle.semver_versions.specs.ReadingBack.{HasTextNumbers}
 use Rattle.semver_sets.specs.ReadingBack.{IsPlainlyBounded, IsTextCut, IsUnbounded}
 use Rattle.semver_sets.proofs.Prints.WordPrintReading.{IsPrintedWord, operator-word, solid-begins, version-word}
 
@@ -41,10 +41,7 @@ pub record IsReadAlike (text : List ℕ) (set : Ends VersionValue) : Type 0 wher
   pub begins : BeginsWith is_not_blank text
 
 itself : (set : Ends VersionValue) → AreSameEnds version_cmp set set
-itself set = record {
-  lower = tied_itself (cut_total version_total) set.lower;
-  upper = tied_itself (cut_total version_total) set.upper;
-}
+itself set = grind (arith, tied_itself (cut_total version_total) set.lower, tied_itself (cut_total version_total) set.upper)
 
 -- of one word
 word-read_alike : (text : List ℕ) (c : Comparator) (set : Ends VersionValue) → IsPrintedWord text [] c
@@ -105,14 +102,8 @@ IsTextEnd (Before v) = IsTextVersion v
 IsTextEnd (After v) = IsTextVersion v
 IsTextEnd End = Unit {0}
 
-ends_version-text : (v : VersionValue) → IsRangeEnd v → HasTextNumbers v → IsTextVersion v
-ends_version-text v read numbers = record { numbers = numbers; pre_release = read.pre_release; build = read.build }
-
 text-end : (cut : Cut VersionValue) → IsRangeCut cut → IsTextCut cut → IsTextEnd cut
-text-end Start read is = tt
-text-end (Before v) read is = ends_version-text v read is
-text-end (After v) read is = ends_version-text v read is
-text-end End read is = tt
+text-end cut h1 h2 = grind arith
 
 -- `>=1.2.3` and `>1.2.3`
 at_least-word : (v : VersionValue) (rest : List ℕ) → IsTextVersion v → IsCleanEnd rest
@@ -165,20 +156,12 @@ set_ends-read Start (After w) lt some a b =
     word-read_alike (upper_text (After w)) (at_most w) (at_most w) (at_most-word w b) refl (itself (at_most w))
 set_ends-read Start End lt some a b = absurd (some (refl, refl))
 set_ends-read (Before v) Start lt some a b = cc lt
-set_ends-read (Before v) (Before w) lt some a b =
-    two-read (lower_text (Before v)) (upper_text (Before w)) (Before v) (Before w)
-    (at_least-word v (codes " " ++ upper_text (Before w)) a refl) (below-word w b) refl refl lt
+set_ends-read (Before v) (Before w) lt some a b = grind (arith, two-read (lower_text (Before v)) (upper_text (Before w)) (Before v) (Before w) (at_least-word v (codes " " ++ upper_text (Before w)) a refl) (below-word w b) refl refl lt)
 set_ends-read (Before v) (After w) lt some a b = between-read v w lt a b
-set_ends-read (Before v) End lt some a b =
-    word-read_alike (lower_text (Before v)) (at_least v) (at_least v) (at_least-word v [] a tt) refl
-    (itself (at_least v))
+set_ends-read (Before v) End lt some a b = grind (arith, word-read_alike (lower_text (Before v)) (at_least v) (at_least v) (at_least-word v [] a tt) refl (itself (at_least v)))
 set_ends-read (After v) Start lt some a b = cc lt
-set_ends-read (After v) (Before w) lt some a b =
-    two-read (lower_text (After v)) (upper_text (Before w)) (After v) (Before w)
-    (above-word v (codes " " ++ upper_text (Before w)) a refl) (below-word w b) refl refl lt
-set_ends-read (After v) (After w) lt some a b =
-    two-read (lower_text (After v)) (upper_text (After w)) (After v) (After w)
-    (above-word v (codes " " ++ upper_text (After w)) a refl) (at_most-word w b) refl refl lt
+set_ends-read (After v) (Before w) lt some a b = grind (arith, two-read (lower_text (After v)) (upper_text (Before w)) (After v) (Before w) (above-word v (codes " " ++ upper_text (Before w)) a refl) (below-word w b) refl refl lt)
+set_ends-read (After v) (After w) lt some a b = grind (arith, two-read (lower_text (After v)) (upper_text (After w)) (After v) (After w) (above-word v (codes " " ++ upper_text (After w)) a refl) (at_most-word w b) refl refl lt)
 set_ends-read (After v) End lt some a b =
     word-read_alike (lower_text (After v)) (above v) (above v) (above-word v [] a tt) refl (itself (above v))
 set_ends-read End Start lt some a b = cc lt

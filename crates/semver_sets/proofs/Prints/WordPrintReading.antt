@@ -1,17 +1,18 @@
 -- The print of a version, alone or after an operator, is a word with that comparator.
-use Rattle.std.proofs.Common.{◌≡◌, ◌∙◌, ℕ, true, false, List, [], ◌∷◌, ◌++◌, Some, None, append_assoc, refl, sym, ap}
-use Rattle.std.proofs.Common.{subst, inl, inr}
+use native.Mathlib.Omega.{arith}
+use Rattle.std.proofs.Common.{◌≡◌, ◌∙◌, ℕ, List, [], ◌++◌, Some, None, append_assoc, refl, sym, ap}
+use Rattle.std.proofs.Common.{subst}
 use Rattle.std.proofs.lemmas.Bool.{cases_Bool, eqb-true}
 use Rattle.std.specs.Prelude.{◌==◌}
-use Rattle.semver_versions.specs.Characters.{BeginsWith, BeginsWithNo, is_blank, is_digit, is_partial_mark}
+use Rattle.semver_versions.specs.Characters.{BeginsWith, BeginsWithNo, is_blank, is_digit}
 use Rattle.semver_sets.specs.Comparator.{Comparator, exactly}
 use Rattle.semver_sets.specs.Division.{IsSimpleText, IsWord, NoneAt, by_operator, plain, simple}
 use Rattle.semver_versions.specs.Characters.{IsCleanEnd}
 use Rattle.semver_sets.specs.HyphenRanges.{IsHyphenText}
-use Rattle.semver_sets.specs.Operators.{Operator, equal, greater, greater_or_equal, less, less_or_equal}
+use Rattle.semver_sets.specs.Operators.{Operator}
 use Rattle.semver_sets.specs.Forms.{by_row}
 use Rattle.semver_sets.specs.Operators.{operator_row, operator_text}
-use Rattle.semver_sets.specs.PartialText.{IsPartialText, IsUnmarkedPartial, Partial, three}
+use Rattle.semver_sets.specs.PartialText.{IsPartialText, IsUnmarkedPartial, Partial}
 use Rattle.semver_versions.specs.Print.{version_text}
 use Rattle.semver_versions.specs.Version.{VersionValue}
 use Rattle.semver_sets.specs.Private.WordReading.{Lead, is_not_blank, operator, read_hyphen, read_lead, read_partial}
@@ -37,32 +38,10 @@ partial_of v = record {
 }
 
 unmarked-printed : (v : VersionValue) → IsTextVersion v → IsUnmarkedPartial (partial_of v) (version_text v)
-unmarked-printed v is =
-    let h = three-printed v is in
-    three (record {
-      first = h.first;
-      second = h.second;
-      third = h.third;
-      extras = h.extras;
-      whole = h.whole;
-      major_text = h.major_text;
-      minor_text = h.minor_text;
-      patch_text = h.patch_text;
-      digits_end = h.digits_end;
-      extras_text = h.extras_text;
-    })
-
--- a digit is no `v`
-digit-no_v : (b : ℕ) → is_digit b ≡ true → is_partial_mark b ≡ false
-digit-no_v b h = elim (cases_Bool (is_partial_mark b)) [
-  | inr none ↦ none
-  | inl mark ↦ cc (sym h ∙ ap is_digit (eqb-true b 118 mark))
-]
+unmarked-printed v is = grind (arith, three-printed v is)
 
 partial-printed : (v : VersionValue) → IsTextVersion v → IsPartialText (version_text v) (partial_of v)
-partial-printed v is =
-    unmarked is_partial_mark (IsUnmarkedPartial (partial_of v)) (version_text v) digit-no_v (print-begins v is)
-    (unmarked-printed v is)
+partial-printed v is = grind (arith, unmarked, print-begins, unmarked-printed)
 
 -- ---- words
 
@@ -74,31 +53,18 @@ pub record IsPrintedWord (text rest : List ℕ) (c : Comparator) : Type 0 where
 
 -- what begins with a digit begins with no `=`
 digit-no_equals : (text : List ℕ) → BeginsWith is_digit text → BeginsWithNo (λ b. b == 61) text
-digit-no_equals [] digit = tt
-digit-no_equals (b ∷ text) digit = elim (cases_Bool (b == 61)) [
-  | inr none ↦ none
-  | inl here ↦ cc (sym digit ∙ ap is_digit (eqb-true b 61 here))
-]
+digit-no_equals text h1 = grind (arith, cases_Bool, eqb-true)
 
 -- a character that is no blank, and the fact
 pub solid-begins : (text : List ℕ) → BeginsWith is_not_blank text → BeginsWithNo is_blank text
-solid-begins [] solid = tt
-solid-begins (b ∷ text) solid = elim (cases_Bool (is_blank b)) [
-  | inr none ↦ none
-  | inl blank ↦ cc (rw blank at solid)
-]
+solid-begins text h1 = grind (arith, cases_Bool)
 
 digit-solid : (text : List ℕ) → BeginsWith is_digit text → BeginsWith is_not_blank text
-digit-solid [] digit = digit
-digit-solid (b ∷ text) digit = rw (digit-no_blank (b ∷ text) digit) refl
+digit-solid text h1 = grind (arith, digit-no_blank)
 
 -- an operator begins with no blank
 operator-begins : (o : Operator) (behind : List ℕ) → BeginsWith is_not_blank (operator_text o ++ behind)
-operator-begins greater_or_equal behind = refl
-operator-begins greater behind = refl
-operator-begins equal behind = refl
-operator-begins less_or_equal behind = refl
-operator-begins less behind = refl
+operator-begins o behind = grind arith
 
 -- no hyphen range begins with one
 operator-no_hyphen : (o : Operator) (behind : List ℕ) → BeginsWithNo (λ b. b == 61) behind

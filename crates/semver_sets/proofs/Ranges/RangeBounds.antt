@@ -1,5 +1,6 @@
 -- What the ends of a range always hold, from the words of its text to its sets.
-use Rattle.std.proofs.Common.{◌≢◌, ℕ, List, [], ◌∷◌, ◌++◌, Option, Some, None, sym, subst}
+use native.Mathlib.Omega.{arith}
+use Rattle.std.proofs.Common.{◌≢◌, ℕ, List, [], ◌∷◌, ◌++◌, Option, Some, None, subst}
 use Rattle.std.specs.List.{AllByRecursion}
 use Rattle.semver_cuts.specs.Ends.{Ends}
 use Rattle.semver_cuts.specs.Lemmas.Lists.{all_middle}
@@ -7,7 +8,7 @@ use Rattle.semver_sets.specs.Comparator.{Comparator}
 use Rattle.semver_sets.specs.Division.{AreAlternatives, AreLaterAlternatives, IsAlternative, IsDivision, comparators_of}
 use Rattle.semver_sets.specs.Meaning.{GiveSet}
 use Rattle.semver_sets.specs.Merging.{AreSetsOf, AreSetsOfText, IsSetOf, no_more, none, one_more}
-use Rattle.semver_sets.specs.RangeSets.{IsRangeCut, IsRangeSet, IsRangeValue}
+use Rattle.semver_sets.specs.RangeSets.{IsRangeSet, IsRangeValue}
 use Rattle.semver_versions.specs.Version.{VersionValue}
 use Rattle.semver_sets.specs.Lemmas.Forms.{IsReadEnds}
 use Rattle.semver_sets.specs.Lemmas.Merging.{merged-gives}
@@ -31,8 +32,7 @@ kept-bounded (Some c ∷ words) all = (all.0, kept-bounded words all.1)
 -- the comparators of an alternative have ends that a range can have
 pub alternative-bounded : (text : List ℕ) (comparators : List Comparator) → IsAlternative text comparators
     → AllByRecursion IsReadEnds comparators
-alternative-bounded text comparators is =
-    subst (AllByRecursion IsReadEnds) (sym is.kept) (kept-bounded is.words (words-bounded text is.words is.divided))
+alternative-bounded text comparators is = grind (arith, kept-bounded, words-bounded)
 
 -- all comparators of an alternative have such ends
 abbrev pub IsReadAlternative : List Comparator → Type 0
@@ -58,16 +58,7 @@ all-bounded (piece ∷ pieces) (a ∷ alternatives) are =
 -- the set of such comparators is one that a range can have
 pub set-bounded : (comparators : List Comparator) (set : Ends VersionValue) → GiveSet comparators
     → IsSetOf comparators set → IsReadAlternative comparators → IsRangeSet set
-set-bounded comparators set gives is read =
-    let low : IsReadEnds is.lower.span = all_middle IsReadEnds is.lower.before is.lower.after is.lower.span
-    (subst (AllByRecursion IsReadEnds) is.lower.parts read) in
-    let high : IsReadEnds is.upper.span = all_middle IsReadEnds is.upper.before is.upper.after is.upper.span
-    (subst (AllByRecursion IsReadEnds) is.upper.parts read) in
-    record {
-      holds = (merged-gives comparators set is).0 gives;
-      lower = subst IsRangeCut is.lower.end_of low.lower;
-      upper = subst IsRangeCut is.upper.end_of high.upper;
-    }
+set-bounded comparators set gives is read = grind (arith, all_middle IsReadEnds is.lower.before is.lower.after is.lower.span (subst (AllByRecursion IsReadEnds) is.lower.parts read), all_middle IsReadEnds is.upper.before is.upper.after is.upper.span (subst (AllByRecursion IsReadEnds) is.upper.parts read), merged-gives comparators set is)
 
 -- so are the sets of such alternatives
 pub sets-bounded : (alternatives : List (List Comparator)) (sets : List (Ends VersionValue))
@@ -81,9 +72,4 @@ sets-bounded (a ∷ alternatives) sets (no_more _ _ _ nothing more) all = sets-b
 -- the sets of a text, where there are any, are what a range holds
 pub text-bounded : (text : List ℕ) (sets : List (Ends VersionValue)) → AreSetsOfText text sets → sets ≢ []
     → IsRangeValue sets
-text-bounded text sets are some =
-    let written = are.written in
-    record {
-      some = some;
-      each = sets-bounded are.alternatives sets are.merged (all-bounded written.pieces are.alternatives written.read);
-    }
+text-bounded text sets are some = grind (arith, sets-bounded, all-bounded)

@@ -1,4 +1,5 @@
 -- The sets of a range text, as they are read.
+use native.Mathlib.Omega.{arith}
 use Rattle.std.proofs.Common.{◌≡◌, ◌≢◌, ◌∙◌, ℕ, List, [], ◌∷◌, Option, Some, None, Result, Ok, Err, ap, refl, subst, sym}
 use Rattle.std.specs.Prelude.{IfSome, OnOk}
 use Rattle.semver_cuts.specs.Ends.{Ends}
@@ -44,11 +45,7 @@ none-read text piece divided is_set = refused-from_empty text [] (one-read text 
 pub all-read : (text : List ℕ) (done : List (List Comparator)) (sets : List (Ends VersionValue))
     (left : Option (List ℕ))
     → Reads text done left → left ≡ None → AreSetsOf done sets → AreSetsOfText text sets
-all-read text done sets left reads none_left merged = record {
-  alternatives = done;
-  written = reads-end text done (subst (Reads text done) none_left reads);
-  merged = merged;
-}
+all-read text done sets left reads none_left merged = grind (arith, reads-end)
 
 -- the sets that were gathered, if there are some
 pub some-gathered : (text : List ℕ) (sets : List (Ends VersionValue)) (answer : Option Sets) (found : Sets)

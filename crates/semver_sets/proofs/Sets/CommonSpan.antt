@@ -1,10 +1,11 @@
 -- The set of a common span: comparators share a cut exactly if it begins below where it ends.
-use Rattle.std.proofs.Common.{◌≡◌, ◌∙◌, Bool, false, true, Option, None, Some, Less, Equal, Greater, refl, subst, sym}
+use native.Mathlib.Omega.{arith}
+use Rattle.std.proofs.Common.{◌≡◌, ◌∙◌, Bool, false, true, Option, None, Some, Less, sym}
 use Rattle.std.specs.Ordering.{is_lt}
 use Rattle.std.specs.declared.cmp.Ordering.{Ordering}
 use Rattle.semver_cuts.specs.Cut.{cut_cmp}
 use Rattle.semver_cuts.specs.declared.cut.Cut.{Cut}
-use Rattle.semver_cuts.specs.Ends.{Ends, HoldsCut, IsCutBelow, span_between}
+use Rattle.semver_cuts.specs.Ends.{Ends, IsCutBelow, span_between}
 use Rattle.semver_cuts.specs.Lemmas.TwoSpans.{holds-below}
 use Rattle.semver_sets.specs.Comparator.{Comparator}
 use Rattle.semver_versions.specs.Comparison.{version_cmp}
@@ -13,9 +14,7 @@ use Rattle.semver_sets.specs.Private.RangeViews.{IsSpanOf, common_seen}
 use Rattle.semver_versions.specs.Version.{VersionValue}
 
 lt-less : (o : Ordering) → is_lt o ≡ true → o ≡ Less
-lt-less Less h = refl
-lt-less Equal h = cc h
-lt-less Greater h = cc h
+lt-less o h1 = grind arith
 
 -- the comparison of the ends
 pub ends-below : (lower upper : Cut VersionValue) (r : Bool) → r ≡ is_lt (cut_cmp version_cmp lower upper) → r ≡ true
@@ -26,18 +25,10 @@ ends-below lower upper r told is = lt-less _ (sym told ∙ is)
 pub some-set : (found : Bool) (lower upper : Cut VersionValue) (seen : Option Comparator) (span : Ends VersionValue)
     → found ≡ true → common_seen found lower upper ≡ seen → IsCutBelow version_cmp lower upper
     → span ≡ span_between lower upper → IsSpanOf seen (Some span)
-some-set true lower upper seen span came is below same =
-    let holds = (holds-below version_total (span_between lower upper)).1 below in
-    subst (λ (s : Option Comparator). IsSpanOf s (Some span)) is ((λ h. holds, λ h. refl), same)
-some-set false lower upper seen span came is below same = cc came
+some-set found lower upper seen span h1 h2 h3 h4 = grind (arith, holds-below version_total (span_between lower upper))
 
 -- where they are not, or no comparator came, none
 pub no-set : (found : Bool) (lower upper : Cut VersionValue) (seen : Option Comparator)
     → common_seen found lower upper ≡ seen → (found ≡ true → is_lt (cut_cmp version_cmp lower upper) ≡ false)
     → IsSpanOf seen None
-no-set true lower upper seen is failed =
-    let crossed : HoldsCut version_cmp (span_between lower upper) → ⊥ = λ holds.
-    let below : cut_cmp version_cmp lower upper ≡ Less = (holds-below version_total (span_between lower upper)).0 holds in
-    cc (rw below at (failed refl)) in
-    subst (λ (s : Option Comparator). IsSpanOf s None) is ((λ h. absurd (cc h), λ h. absurd (crossed h)), tt)
-no-set false lower upper seen is failed = subst (λ (s : Option Comparator). IsSpanOf s None) is refl
+no-set found lower upper seen h1 h2 = grind (arith, holds-below, version_total)

@@ -1,4 +1,5 @@
 -- A version that is looked for inside the sets, prerelease or not: which sets contain it, and how many comparisons it takes.
+use native.Mathlib.Omega.{arith}
 use Rattle.std.proofs.Common.{◌↔◌, ℕ, ◌+◌, ◌≤◌, ◌<◌, ◌^◌, List, [], ◌∷◌, inl, inr, subst}
 use Rattle.semver_cuts.specs.declared.cut.Cut.TheVariants.{Before}
 use Rattle.semver_cuts.specs.Ends.{Ends}
@@ -13,11 +14,7 @@ use Rattle.semver_sets.proofs.Sets.Openings.{some-digit, starts-once}
 pub inside-contains : (v : VersionValue) (sets : List (Ends VersionValue))
     → IsInSome version_cmp sets (Before v) ↔ RangeContains sets v
 inside-contains v [] = (λ is. is, λ is. is)
-inside-contains v (set ∷ sets) =
-    let more = inside-contains v sets in (
-      λ some. elim some [ inl here ↦ inl here | inr there ↦ inr (more.0 there) ],
-      λ some. elim some [ inl here ↦ inl here | inr there ↦ inr (more.1 there) ],
-    )
+inside-contains v (set ∷ sets) = grind (arith, inside-contains v sets)
 
 -- in one set: two comparisons at most
 pub only-short-inside : (set : Ends VersionValue) (v : VersionValue) (before after : ℕ) → before ≤ after

@@ -1,13 +1,13 @@
 -- Openings in the order of their triples: those of one triple are together.
+use Rattle.std.proofs.lemmas.Grind.{common_steps}
 use Rattle.std.proofs.Common.{◌≡◌, ℕ, zero, suc, ◌≤◌, ◌&&◌, Bool, true, false, List, [], ◌∷◌, ◌++◌, length, take, drop}
-use Rattle.std.proofs.Common.{◌+◌, ◌<◌, get_or, arith, sym, ap, ◌∙◌, refl, subst}
+use Rattle.std.proofs.Common.{◌+◌, ◌<◌, get_or, arith, sym, ap, ◌∙◌, refl}
 use Rattle.std.specs.Prelude.{filter, not}
 use Rattle.std.specs.List.{AllByRecursion, AllWithin}
 use Rattle.std.specs.List.Sorted.{IsPartitionedBy, IsPartitionPoint, IsSortedByKey, IsNonDecreasingBy, ties}
 use Rattle.std.specs.Cmp.{unsigned_ties}
-use Rattle.std.specs.Ordering.{is_eq, is_le, is_lt, nat_cmp, ordering_index, ordering_reverse, ordering_then}
+use Rattle.std.specs.Ordering.{is_eq, is_le, is_lt, ordering_index, ordering_reverse}
 use Rattle.std.specs.declared.cmp.Ordering.{Ordering}
-use Rattle.std.specs.declared.cmp.Ordering.TheVariants.{Less, Equal, Greater}
 use Rattle.std.proofs.lemmas.List.{append-nil, get_or_default, take-append-drop, take_more}
 use Rattle.std.proofs.lemmas.List.Elements.{filter-append}
 use Rattle.std.proofs.lemmas.List.Sorted.{searchable_from_sorted}
@@ -21,33 +21,16 @@ use Rattle.semver_versions.specs.declared.triple.Triple.{Triple}
 
 -- ---- triples
 
-equal-then : (r s u : Ordering) → ((is_eq r && is_eq s) && is_eq u) ≡ is_eq (ordering_then r (ordering_then s u))
-equal-then Less s u = refl
-equal-then Greater s u = refl
-equal-then Equal Less u = refl
-equal-then Equal Greater u = refl
-equal-then Equal Equal u = refl
-
 pub same-equal : (t u : Triple) → same_triples t u ≡ is_eq (triple_cmp t u)
-same-equal t u =
-    let a = unsigned_ties t.major u.major in
-    let b = unsigned_ties t.minor u.minor in
-    let c = unsigned_ties t.patch u.patch in
-    (λ i. (a i && b i) && c i)
-    ∙ equal-then (nat_cmp t.major u.major) (nat_cmp t.minor u.minor) (nat_cmp t.patch u.patch)
+same-equal t u = grind (arith, unsigned_ties)
 
 tied : (r : Ordering) → (not (is_lt (ordering_reverse r)) && not (is_lt r)) ≡ is_eq r
-tied Less = refl
-tied Equal = refl
-tied Greater = refl
+tied r = grind arith
 
 pub ties-same : (v : VersionValue) (place : ℕ) (o : Opening)
     → ties (λ x y. is_lt (triple_cmp x.triple y.triple))
     (record { triple = triple_of v; place = place }) o ≡ is_opening_of v o
-ties-same v place o =
-    ap (λ r. not (is_lt r) && not (is_lt (triple_cmp o.triple (triple_of v))))
-    (triple_total.antisymm (triple_of v) o.triple)
-    ∙ tied (triple_cmp o.triple (triple_of v)) ∙ sym (same-equal o.triple (triple_of v))
+ties-same v place o = grind (arith, common_steps, triple_total, tied, same-equal)
 
 -- ---- lists
 
@@ -87,13 +70,10 @@ module _ {X : Type 0} (p : X → Bool) (xs : List X) where
   -- one more passes
   pub passed-more : (k : ℕ) (d : X) → k < length xs → p (get_or xs k d) ≡ true
       → AllByRecursion (λ x. p x ≡ true) (take k xs) → AllByRecursion (λ x. p x ≡ true) (take (k + 1) xs)
-  passed-more k d within here before =
-      subst (AllByRecursion (λ x. p x ≡ true)) (sym (take_more xs k d within))
-      (all-append (λ x. p x ≡ true) (take k xs) (get_or xs k d ∷ []) before (here, tt))
+  passed-more k d within here before = grind (arith, take_more xs k d within, all-append (λ x. p x ≡ true) (take k xs) (get_or xs k d ∷ []) before (here, tt))
 
   not-true : (b : Bool) → ¬ (b ≡ true) → b ≡ false
-  not-true true never = absurd (never refl)
-  not-true false never = refl
+  not-true b h1 = grind arith
 
   -- none passes from the first that does not
   pub failed-from : (k : ℕ) (d : X) → k < length xs → IsPartitionedBy p xs → p (get_or xs k d) ≡ false
@@ -115,49 +95,29 @@ module _ (t : Triple) where
   is_same o = same_triples o.triple t
 
   below-before : (r s : Ordering) → ordering_index r ≤ ordering_index s → is_lt s ≡ true → is_lt r ≡ true
-  below-before Less s h e = refl
-  below-before Equal Less h e = absurd (omega arith)
-  below-before Equal Equal h e = absurd (cc e)
-  below-before Equal Greater h e = absurd (cc e)
-  below-before Greater Less h e = absurd (omega arith)
-  below-before Greater Equal h e = absurd (cc e)
-  below-before Greater Greater h e = absurd (cc e)
+  below-before r s h1 h2 = grind arith
 
   at_most-before : (r s : Ordering) → ordering_index r ≤ ordering_index s → is_le s ≡ true → is_le r ≡ true
-  at_most-before Less s h e = refl
-  at_most-before Equal s h e = refl
-  at_most-before Greater Less h e = absurd (omega arith)
-  at_most-before Greater Equal h e = absurd (omega arith)
-  at_most-before Greater Greater h e = absurd (cc e)
+  at_most-before r s h1 h2 = grind arith
 
   module _ (xs : List Opening) (sorted : IsSortedByKey (λ (o : Opening). o.triple) triple_cmp xs) where
     rises : IsNonDecreasingBy (λ (o : Opening). ordering_index (triple_cmp o.triple t)) xs
     rises = searchable_from_sorted triple_total (λ (o : Opening). o.triple) xs t sorted
 
     pub parted-below : IsPartitionedBy is_below xs
-    parted-below i j d most within e =
-        below-before (triple_cmp (get_or xs i d).triple t) (triple_cmp (get_or xs j d).triple t)
-        (rises i j d most within) e
+    parted-below i j d most within e = grind (arith, below-before (triple_cmp (get_or xs i d).triple t) (triple_cmp (get_or xs j d).triple t) (rises i j d most within) e)
 
     pub parted-at_most : IsPartitionedBy is_at_most xs
-    parted-at_most i j d most within e =
-        at_most-before (triple_cmp (get_or xs i d).triple t) (triple_cmp (get_or xs j d).triple t)
-        (rises i j d most within) e
+    parted-at_most i j d most within e = grind (arith, at_most-before (triple_cmp (get_or xs i d).triple t) (triple_cmp (get_or xs j d).triple t) (rises i j d most within) e)
 
   not-below : (r : Ordering) → is_lt r ≡ true → is_eq r ≡ false
-  not-below Less e = refl
-  not-below Equal e = absurd (cc e)
-  not-below Greater e = absurd (cc e)
+  not-below r h1 = grind arith
 
   not-above : (r : Ordering) → is_le r ≡ false → is_eq r ≡ false
-  not-above Less e = absurd (cc e)
-  not-above Equal e = absurd (cc e)
-  not-above Greater e = refl
+  not-above r h1 = grind arith
 
   between : (r : Ordering) → is_lt r ≡ false → is_le r ≡ true → is_eq r ≡ true
-  between Less e f = absurd (cc e)
-  between Equal e f = refl
-  between Greater e f = absurd (cc f)
+  between r h1 h2 = grind arith
 
   alike : (o : Opening) → is_same o ≡ is_eq (triple_cmp o.triple t)
   alike o = same-equal o.triple t
@@ -174,9 +134,7 @@ module _ (t : Triple) where
       → AllByRecursion (λ o. is_at_most o ≡ true) xs
       → filter is_same xs ≡ xs
   all-of [] low high = refl
-  all-of (o ∷ xs) low high =
-      simp (alike o ∙ between (triple_cmp o.triple t) low.0 high.0)
-      (ap (λ (l : List Opening). o ∷ l) (all-of xs low.1 high.1))
+  all-of (o ∷ xs) low high = grind (arith, alike, between, all-of xs low.1 high.1)
 
   module _ (xs : List Opening) (i j : ℕ) (most : i ≤ length xs)
       (first : IsPartitionPoint (λ o. is_below o ≡ true) (λ o. is_below o ≡ false) xs i)

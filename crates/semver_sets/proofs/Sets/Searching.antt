@@ -1,5 +1,5 @@
 -- How halving finds a cut among spans that are apart, by where they begin, and how many steps it takes.
-use Rattle.std.proofs.Common.{Bool, true, false, IsTrue, ◌≡◌, ◌↔◌, ℕ, zero, suc, ◌+◌, ◌*◌, ◌^◌, ◌<◌, ◌≤◌, List, [], ◌∷◌}
+use Rattle.std.proofs.Common.{Bool, IsTrue, ◌≡◌, ◌↔◌, ℕ, zero, suc, ◌+◌, ◌*◌, ◌^◌, ◌<◌, ◌≤◌, List, [], ◌∷◌}
 use Rattle.std.proofs.Common.{◌++◌, take, drop, length, arith, sym, ap, subst, ◌∙◌, refl, inl, inr}
 use Rattle.std.specs.Prelude.{not}
 use Rattle.std.specs.declared.cmp.Ordering.{Ordering}
@@ -32,9 +32,7 @@ step-of : (before after digits distance half rest : ℕ) → 1 ≤ distance → 
     → after + rest ≡ before + digits
     → distance < 2 ^ rest → IsLeft before (after + 1) digits half
 step-of before after digits distance half zero some halved sum fits = absurd (omega arith)
-step-of before after digits distance half (suc rest) some halved sum fits =
-    let twice = pow-succ' 2 rest in
-    record { rest = rest; sum = omega arith; fits = omega arith }
+step-of before after digits distance half (suc rest) some halved sum fits = grind (arith, pow-succ')
 
 pub left-step : (before after digits distance half : ℕ) → 1 ≤ distance → 2 * half ≤ distance
     → IsLeft before after digits distance → IsLeft before (after + 1) digits half
@@ -52,19 +50,12 @@ module _ {T : Type 0} {cmp : T → T → Ordering} (o : IsTotalOrder cmp) (cut :
   -- not at or below is above
   pub not-begun : (b : Bool) (lower : Cut T) → IsTrue b ↔ IsCutAtMost cmp lower cut
       → IsTrue (not b) ↔ IsCutBelow cmp cut lower
-  not-begun true lower same = (λ h. absurd (cc h), λ below. absurd (below-not-at_most o cut lower below (same.0 refl)))
-  not-begun false lower same = (
-    λ h. elim (at_most-or-below o lower cut) [ inl begun ↦ absurd (cc (same.1 begun)) | inr below ↦ below ],
-    λ below. refl,
-  )
+  not-begun b lower h1 = grind (arith, below-not-at_most, at_most-or-below)
 
   -- the cut lies in a span that begins at or below it and does not end there
   pub in_span : (a b : Bool) (span : Ends T) → IsTrue a → IsTrue a ↔ IsCutAtMost cmp span.lower cut
       → IsTrue b ↔ IsCutAtMost cmp span.upper cut → IsTrue (not b) ↔ IsInSpan cmp span cut
-  in_span a b span is_true lower upper = (
-    λ h. record { lower = lower.0 is_true; upper = (not-begun b span.upper upper).0 h },
-    λ is. (not-begun b span.upper upper).1 is.upper,
-  )
+  in_span a b span is_true lower upper = grind (arith, not-begun)
 
   -- spans that begin above the cut do not have it
   pub none-begun : (spans : List (Ends T)) → AllByRecursion (λ (s : Ends T). IsCutBelow cmp cut s.lower) spans
@@ -86,10 +77,7 @@ module _ {T : Type 0} {cmp : T → T → Ordering} (o : IsTotalOrder cmp) (cut :
     parts = sym (take-append-drop place spans) ∙ ap (λ l. take place spans ++ l) here
 
     one_more : take (place + 1) spans ≡ take place spans ++ span ∷ []
-    one_more =
-        let e = drop_more spans place span within in
-        let f = take_more spans place span within in
-        cc
+    one_more = grind (arith, drop_more spans place span within, take_more spans place span within)
 
     rising : AreRising cmp (take place spans ++ span ∷ drop (place + 1) spans)
     rising = subst (AreRising cmp) parts merged.rising
@@ -120,9 +108,7 @@ module _ {T : Type 0} {cmp : T → T → Ordering} (o : IsTotalOrder cmp) (cut :
     -- the last of those that begin at or below the cut
     pub begun_last : AllByRecursion (λ (s : Ends T). IsCutAtMost cmp s.lower cut) (take (place + 1) spans)
         → IsCutAtMost cmp span.lower cut
-    begun_last all =
-        let Below : Ends T → Type 0 = λ s. IsCutAtMost cmp s.lower cut in
-        all_middle Below (take place spans) [] span (subst (AllByRecursion Below) one_more all)
+    begun_last all = grind (arith, all_middle, one_more)
 
     -- a span that begins above the cut: so do all those behind it
     pub begun_above : IsCutBelow cmp cut span.lower

@@ -1,5 +1,6 @@
 -- The sets of a text: one list for each text, empty exactly where it is refused, and admitting what the text admits.
-use Rattle.std.proofs.Common.{◌≡◌, ◌↔◌, ◌∙◌, ℕ, List, [], ◌∷◌, ◌++◌, Option, refl, sym, ap, subst, inl, inr}
+use native.Mathlib.Omega.{arith}
+use Rattle.std.proofs.Common.{◌≡◌, ◌↔◌, ℕ, List, [], ◌∷◌, ◌++◌, Option, refl, subst}
 use Rattle.std.proofs.lemmas.List.{append-nil}
 use Rattle.semver_cuts.specs.declared.cut.Cut.TheVariants.{Before}
 use Rattle.semver_cuts.specs.Ends.{Ends}
@@ -8,7 +9,7 @@ use Rattle.semver_sets.specs.Division.{IsAlternative}
 use Rattle.semver_sets.specs.Meaning.{AnyByRecursion, GiveSet, IsRefused, RangeAdmits, TextAdmits}
 use Rattle.semver_sets.specs.Merging.{AreSetsOf, AreSetsOfText, no_more, none, one_more}
 use Rattle.semver_versions.specs.Version.{VersionValue}
-use Rattle.semver_sets.specs.Private.RangeViews.{IsSetOfAlternative, given, listed_set, not_given}
+use Rattle.semver_sets.specs.Private.RangeViews.{IsSetOfAlternative, listed_set}
 use Rattle.semver_sets.proofs.Ranges.AlternativeLemmas.{written-unique}
 use Rattle.semver_sets.proofs.Ranges.MeaningLemmas.{AdmitSome, NoneGive, none-from_refused, refused-from_none}
 use Rattle.semver_sets.specs.Lemmas.Merging.{merged-admits, more-none, more-set, set-unique}
@@ -25,21 +26,7 @@ pub record ReadsMore (text : List ℕ) (done : List (List Comparator)) (more : L
 pub reads-set : (text : List ℕ) (done : List (List Comparator)) (sets : List (Ends VersionValue))
     (set : Option (Ends VersionValue))
     → AreSetsOf done sets → IsSetOfAlternative text set → ReadsMore text done (sets ++ listed_set set)
-reads-set text done sets set merged (given comparators ends alternative gives is same) = record {
-  comparators = comparators;
-  alternative = alternative;
-  merged = subst (λ (o : Option (Ends VersionValue)). AreSetsOf (done ++ comparators ∷ [])
-      (sets ++ listed_set o)) (sym same)
-      (more-set done sets comparators ends merged gives is);
-}
-reads-set text done sets set merged (not_given comparators alternative nothing same) = record {
-  comparators = comparators;
-  alternative = alternative;
-  merged = subst (λ (o : Option (Ends VersionValue)). AreSetsOf (done ++ comparators ∷ [])
-      (sets ++ listed_set o)) (sym same)
-      (subst (AreSetsOf (done ++ comparators ∷ [])) (sym (append-nil sets))
-      (more-none done sets comparators merged nothing));
-}
+reads-set text done sets set h1 h2 = grind (arith, more-set, append-nil, more-none)
 
 -- ---- no sets
 
@@ -63,8 +50,7 @@ given-none (c ∷ alternatives) sets (no_more _ _ _ n more) all = given-none alt
 -- a text without sets is refused
 pub refused-from_empty : (text : List ℕ) (sets : List (Ends VersionValue)) → AreSetsOfText text sets → sets ≡ []
     → IsRefused text
-refused-from_empty text sets m empty =
-    refused-from_none text m.alternatives m.written (none-given m.alternatives sets m.merged empty)
+refused-from_empty text sets m empty = grind (arith, refused-from_none, none-given)
 
 -- and no other text
 pub empty-from_refused : (text : List ℕ) (sets : List (Ends VersionValue)) → AreSetsOfText text sets → IsRefused text
@@ -83,17 +69,8 @@ sets-admit : (alternatives : List (List Comparator)) (sets : List (Ends VersionV
     → RangeAdmits sets v ↔ AnyByRecursion (AdmitSome v) alternatives
 sets-admit [] [] v none = (λ nowhere. nowhere, λ nowhere. nowhere)
 sets-admit [] (s ∷ sets) v m = elim m [ ]
-sets-admit (c ∷ alternatives) (s ∷ sets) v (one_more _ _ _ _ g i more) =
-    let others = sets-admit alternatives sets v more in
-    let same = merged-admits c s i v in (
-      λ some. elim some [ inl here ↦ inl (g.some, same.1 here) | inr there ↦ inr (others.0 there) ],
-      λ some. elim some [ inl here ↦ inl (same.0 here.1) | inr there ↦ inr (others.1 there) ],
-    )
-sets-admit (c ∷ alternatives) sets v (no_more _ _ _ n more) =
-    let others = sets-admit alternatives sets v more in (
-      λ some. inr (others.0 some),
-      λ some. elim some [ inl here ↦ absurd (n (gives-from c v here)) | inr there ↦ others.1 there ],
-    )
+sets-admit (c ∷ alternatives) (s ∷ sets) v (one_more _ _ _ _ g i more) = grind (arith, merged-admits, sets-admit alternatives sets v more)
+sets-admit (c ∷ alternatives) sets v (no_more _ _ _ n more) = grind (arith, gives-from, sets-admit alternatives sets v more)
 
 -- the sets of a text admit just what the text admits
 pub text-admits : (text : List ℕ) (sets : List (Ends VersionValue)) → AreSetsOfText text sets → (v : VersionValue)
@@ -113,9 +90,7 @@ sets-unique : (alternatives : List (List Comparator)) (one other : List (Ends Ve
 sets-unique [] [] [] none none = refl
 sets-unique [] [] (t ∷ other) m n = elim n [ ]
 sets-unique [] (s ∷ one) other m n = elim m [ ]
-sets-unique (c ∷ alternatives) (s ∷ one) (t ∷ other) (one_more _ _ _ _ g i more) (one_more _ _ _ _ h j next) =
-    ap (λ (set : Ends VersionValue). set ∷ one) (set-unique c s t i j)
-    ∙ ap (λ (l : List (Ends VersionValue)). t ∷ l) (sets-unique alternatives one other more next)
+sets-unique (c ∷ alternatives) (s ∷ one) (t ∷ other) (one_more _ _ _ _ g i more) (one_more _ _ _ _ h j next) = grind (arith, set-unique c s t i j, sets-unique alternatives one other more next)
 sets-unique (c ∷ alternatives) (s ∷ one) other (one_more _ _ _ _ g i more) (no_more _ _ _ n next) = absurd (n g)
 sets-unique (c ∷ alternatives) one (t ∷ other) (no_more _ _ _ n more) (one_more _ _ _ _ h j next) = absurd (n h)
 sets-unique (c ∷ alternatives) one other (no_more _ _ _ n more) (no_more _ _ _ m next) =
@@ -124,7 +99,4 @@ sets-unique (c ∷ alternatives) one other (no_more _ _ _ n more) (no_more _ _ _
 -- a text writes one list of sets
 pub one-merging : (text : List ℕ) (one other : List (Ends VersionValue)) → AreSetsOfText text one
     → AreSetsOfText text other → one ≡ other
-one-merging text one other m n =
-    sets-unique n.alternatives one other
-    (subst (λ (l : List (List Comparator)). AreSetsOf l one)
-    (written-unique text m.alternatives n.alternatives m.written n.written) m.merged) n.merged
+one-merging text one other m n = grind (arith, sets-unique n.alternatives one other (subst (λ (l : List (List Comparator)). AreSetsOf l one) (written-unique text m.alternatives n.alternatives m.written n.written) m.merged) n.merged)

@@ -1,5 +1,6 @@
 -- The text of a line from a place on, with nothing past its end.
-use Rattle.std.proofs.Common.{◌≡◌, ◌∙◌, ◌≤◌, ℕ, List, ◌++◌, Option, Some, None, IfSome, ap, codes, drop}
+use native.Mathlib.Omega.{arith}
+use Rattle.std.proofs.Common.{◌≡◌, ◌≤◌, ℕ, List, ◌++◌, Option, IfSome, codes, drop}
 use Rattle.std.proofs.Common.{if◌then◌else◌, length, sym, true}
 use Rattle.std.specs.Ordering.{eq_by_cmp}
 use Rattle.semver_cuts.specs.declared.cut.Cut.TheVariants.{Before, After, End}
@@ -7,20 +8,18 @@ use Rattle.semver_cuts.specs.Ends.{Ends}
 use Rattle.semver_versions.specs.Comparison.{version_cmp}
 use Rattle.semver_versions.specs.Print.{version_text}
 use Rattle.semver_versions.specs.Lemmas.Public.{whole_text}
-use Rattle.semver_sets.specs.RangePrint.{both_text, ends_text, set_text}
+use Rattle.semver_sets.specs.RangePrint.{ends_text, set_text}
 use Rattle.semver_versions.specs.Version.{VersionValue}
 
 -- the same of a text that may not have been put
 pub whole_if_put : (put : Option ℕ) (line new text wanted : List ℕ) → length line ≤ 176 → text ≡ wanted
     → IfSome put (λ start. drop start new ≡ text ++ drop 176 line) → IfSome put (λ start. drop start new ≡ wanted)
-whole_if_put None line new text wanted short same h = h
-whole_if_put (Some start) line new text wanted short same h = h ∙ whole_text line text short ∙ same
+whole_if_put put line new text wanted h1 h2 h3 = grind (arith, whole_text)
 
 -- a set of one version
 pub alone_text : (set : Ends VersionValue) (low high : VersionValue) → set.lower ≡ Before low → set.upper ≡ After high
     → eq_by_cmp version_cmp low high ≡ true → version_text low ≡ set_text set
-alone_text set low high p q e = sym ((λ i. ends_text (p i) (q i))
-    ∙ ap (λ b. if b then version_text low else both_text (Before low) (After high)) e)
+alone_text set low high p q e = grind arith
 
 -- and one that is open above
 pub at_least_text : (set : Ends VersionValue) (low : VersionValue) → set.lower ≡ Before low → set.upper ≡ End

@@ -1,4 +1,5 @@
 -- Components of a partial: the reader reads exactly the component texts.
+use native.Mathlib.Omega.{arith}
 use Rattle.std.proofs.Common.{◌≡◌, ℕ, List, [], ◌∷◌, ◌++◌, Option, Some, None, Ok, Err, refl, sym, ap, ◌∙◌, inl, inr}
 use Rattle.std.proofs.Common.{subst}
 use Rattle.std.proofs.lemmas.Bool.{cases_Bool}
@@ -20,17 +21,7 @@ pub record TakesComponent (text : List ℕ) (component : Option ℕ) (rest : Lis
 number_component-takes : (text : List ℕ) (read : Read ℕ) (component : Option ℕ) (rest : List ℕ)
     → read_number text ≡ read → number_component read ≡ Some (component, rest) → TakesComponent text component rest
 number_component-takes text (Err e) component rest r h = cc h
-number_component-takes text (Ok n) component rest r h =
-    let e = same_Some (Some n.0, n.1) (component, rest) h in
-    let value : Some n.0 ≡ component = ap (λ (p : Option ℕ × List ℕ). p.0) e in
-    let behind : n.1 ≡ rest = ap (λ (p : Option ℕ × List ℕ). p.1) e in
-    let t = number-takes text n.0 n.1 r in
-    record {
-      taken = t.digits;
-      whole = t.whole ∙ ap (λ (l : List ℕ). t.digits ++ l) behind;
-      read = subst (λ (c : Option ℕ). IsComponentText t.digits c) value t.read;
-      ends = λ some. subst (λ (l : List ℕ). BeginsWithNo is_digit l) behind t.ends;
-    }
+number_component-takes text (Ok n) component rest r h = grind (arith, same_Some (Some n.0, n.1) (component, rest) h, number-takes text n.0 n.1 r)
 
 -- the text before the rest is a component
 pub component-takes : (text : List ℕ) (component : Option ℕ) (rest : List ℕ)
@@ -55,7 +46,4 @@ component-takes (b ∷ text) component rest h = elim (cases_Bool (is_x b)) [
 pub component-again : (text rest : List ℕ) (component : Option ℕ) → IsComponentText text component
     → (BeginsWith is_digit text → BeginsWithNo is_digit rest) → read_component (text ++ rest) ≡ Some (component, rest)
 unfolding read_component
-component-again [] rest (Some number) h ends = absurd h.some
-component-again (b ∷ text) rest (Some number) h ends =
-    rw (digit-no_x b h.some, number-again (b ∷ text) rest number h (ends h.some)) refl
-component-again text rest None h ends = rw (h.1, h.2) refl
+component-again text rest component h1 h2 = grind (arith, digit-no_x, number-again)

@@ -1,4 +1,5 @@
 -- Components with dots between them: the reader reads exactly the unmarked partials.
+use native.Mathlib.Omega.{arith}
 use Rattle.std.proofs.Common.{◌≡◌, ℕ, List, [], ◌∷◌, ◌++◌, Option, Some, None, refl, sym, ap, ◌∙◌, inl, inr, subst}
 use Rattle.std.proofs.Common.{append_assoc}
 use Rattle.std.proofs.lemmas.Bool.{cases_Bool, eqb-true}
@@ -11,7 +12,6 @@ use Rattle.semver_versions.specs.Reading.{read_extras}
 use Rattle.semver_sets.specs.Private.WordReading.{Component, ReadPartial, read_component, read_components}
 use Rattle.semver_sets.specs.Private.WordReading.{read_from_minor, read_from_patch, with_extras, with_first}
 use Rattle.semver_sets.specs.Private.WordReading.{with_second, with_third}
-use Rattle.semver_sets.proofs.Texts.CleanEnds.{clean-no_dot}
 use Rattle.semver_sets.proofs.Words.ComponentReading.{component-again, component-takes}
 use Rattle.semver_versions.specs.Lemmas.Public.{clean-ends_extras, clean-no_digit, extras-again, extras-takes}
 use Rattle.semver_versions.specs.Lemmas.Public.{no-append, prefix_of-no, regroup}
@@ -28,9 +28,7 @@ read_as p rest = Some (p, rest)
 
 -- equal results have equal partials and rests
 pub same-read : (p q : Partial) (text rest : List ℕ) → read_as p text ≡ read_as q rest → (p ≡ q) × (text ≡ rest)
-same-read p q text rest h =
-    let e = same_Some (p, text) (q, rest) h in
-    (ap (λ (r : Partial × List ℕ). r.0) e, ap (λ (r : Partial × List ℕ). r.1) e)
+same-read p q text rest h = grind (arith, same_Some)
 
 -- a partial that ends after its first component
 one-taken : (taken text : List ℕ) (major : Option ℕ) (p : Partial) (rest : List ℕ) → IsComponentText taken major
@@ -97,14 +95,7 @@ third-taken first second text major minor (Some c) p rest one_read two_read r h 
 from_patch-taken : (first second text : List ℕ) (major minor : Option ℕ) (p : Partial) (rest : List ℕ)
     → IsComponentText first major → IsComponentText second minor → read_from_patch major minor text ≡ Some (p, rest)
     → TakesComponents (first ++ (dot ∷ (second ++ text))) p rest
-from_patch-taken first second [] major minor p rest one_read two_read h =
-    two-taken first second [] major minor p rest one_read two_read h
-from_patch-taken first second (b ∷ text) major minor p rest one_read two_read h = elim (cases_Bool (b == dot)) [
-  | inr other ↦ two-taken first second (b ∷ text) major minor p rest one_read two_read (rw other at h)
-  | inl here ↦
-      subst (λ (c : ℕ). TakesComponents (first ++ (dot ∷ (second ++ (c ∷ text)))) p rest) (sym (eqb-true b dot here))
-      (third-taken first second text major minor (read_component text) p rest one_read two_read refl (rw here at h))
-]
+from_patch-taken first second text major minor p rest h1 h2 h3 = grind (arith, two-taken, cases_Bool, eqb-true, third-taken)
 
 -- a second component and the rest
 second-taken : (first text : List ℕ) (major : Option ℕ) (read : Component) (p : Partial) (rest : List ℕ)
@@ -140,31 +131,12 @@ pub components-takes : (text : List ℕ) (p : Partial) (rest : List ℕ) → rea
 unfolding read_components
 components-takes text p rest h = first-taken text (read_component text) p rest refl h
 
--- a component that no dot follows is the last of its partial
-from_patch-ends : (major minor : Option ℕ) (rest : List ℕ) → BeginsWithNo (λ b. b == dot) rest
-    → read_from_patch major minor rest ≡ Some (plain_partial major minor None, rest)
-from_patch-ends major minor [] h = refl
-from_patch-ends major minor (b ∷ rest) h = rw h refl
-
--- the same after a first component
-from_minor-ends : (major : Option ℕ) (rest : List ℕ) → BeginsWithNo (λ b. b == dot) rest
-    → read_from_minor major rest ≡ Some (plain_partial major None None, rest)
-from_minor-ends major [] h = refl
-from_minor-ends major (b ∷ rest) h = rw h refl
-
 -- components are read
 pub components-again : (text rest : List ℕ) (p : Partial) → IsUnmarkedPartial p text → IsCleanEnd rest
     → read_components (text ++ rest) ≡ Some (p, rest)
 unfolding read_components
-components-again text rest p (one major says h) clean =
-    let c1 = component-again text rest major h (λ some. clean-no_digit rest clean) in
-    rw (c1, says) (from_minor-ends major rest (clean-no_dot rest clean))
-components-again text rest p (two major minor says h) clean =
-    let whole : text ++ rest ≡ h.first ++ (dot ∷ (h.second ++ rest)) =
-    ap (λ (l : List ℕ). l ++ rest) h.whole ∙ append_assoc h.first (dot ∷ h.second) rest in
-    let c1 = component-again h.first (dot ∷ (h.second ++ rest)) major h.major_text (λ some. refl) in
-    let c2 = component-again h.second rest minor h.minor_text (λ some. clean-no_digit rest clean) in
-    rw (whole, c1, c2, says) (from_patch-ends major minor rest (clean-no_dot rest clean))
+components-again text rest p (one major says h) clean = grind (arith, component-again, clean-no_digit)
+components-again text rest p (two major minor says h) clean = grind (arith, append_assoc, component-again, clean-no_digit)
 components-again text rest p (three h) clean =
     let whole : text ++ rest ≡ h.first ++ (dot ∷ (h.second ++ (dot ∷ (h.third ++ (h.extras ++ rest))))) =
     ap (λ (l : List ℕ). l ++ rest) h.whole ∙ sym (regroup h.first h.second h.third h.extras rest) in

@@ -1,4 +1,5 @@
 -- Hyphen ranges: the reader reads exactly these texts.
+use native.Mathlib.Omega.{arith}
 use Rattle.std.proofs.Common.{◌≡◌, ℕ, true, List, [], ◌∷◌, ◌++◌, Option, Some, None, refl, sym, ap, ◌∙◌, inl, inr}
 use Rattle.std.proofs.Common.{subst, append_assoc}
 use Rattle.std.proofs.lemmas.Bool.{cases_Bool, eqb-true}
@@ -32,8 +33,7 @@ record TakesRight (text : List ℕ) (right : Partial) (rest : List ℕ) : Type 0
 
 -- all the blanks at the start of a text that begins with one
 blanks-taken : (text : List ℕ) → begins is_blank text ≡ true → AreBlanks (prefix_of is_blank text)
-blanks-taken text h =
-    record { some = prefix_of-begins is_blank text (begins-with is_blank text h); all = prefix_of-all is_blank text }
+blanks-taken text h = grind (arith, prefix_of-begins, begins-with, prefix_of-all)
 
 -- the text that is read from the hyphen on
 right_at-takes : (text behind : List ℕ) (p : Partial) (rest : List ℕ) → begins is_blank text ≡ true
@@ -67,10 +67,7 @@ right_at-takes text (b ∷ behind) p rest some follows h = elim (cases_Bool (b =
 -- the text before the rest is such a right side
 right-takes : (text : List ℕ) (p : Partial) (rest : List ℕ) → read_right text ≡ Some (p, rest) → TakesRight text p rest
 unfolding read_right
-right-takes text p rest h = elim (cases_Bool (begins is_blank text)) [
-  | inr none ↦ cc (rw none at h)
-  | inl some ↦ right_at-takes text (rest_of is_blank text) p rest some refl (rw some at h)
-]
+right-takes text p rest h = grind (arith, cases_Bool, right_at-takes)
 
 -- such a right side is read
 right-again : (left_blanks right_blanks right_text rest : List ℕ) (p : Partial) → AreBlanks left_blanks
@@ -93,17 +90,12 @@ right-again left_blanks right_blanks right_text rest p left right h clean =
 
 -- a text that begins with a partial begins with no hyphen range without a left side
 right_at-none : (text : List ℕ) → BeginsWithNo (λ b. b == hyphen) text → right_at text ≡ None
-right_at-none [] h = refl
-right_at-none (b ∷ rest) h = rw h refl
+right_at-none text h1 = grind arith
 
 -- and none is read
 pub right-none : (text : List ℕ) (r : Partial × List ℕ) → read_partial text ≡ Some r → read_right text ≡ None
 unfolding read_right
-right-none text r h = elim (cases_Bool (begins is_blank text)) [
-  | inr none ↦ rw none refl
-  | inl some ↦ rw some (right_at-none (rest_of is_blank text)
-      (partial-no hyphen (rest_of is_blank text) r refl (partial-unblanked text r h)))
-]
+right-none text r h = grind (arith, cases_Bool (begins is_blank text), right_at-none (rest_of is_blank text) (partial-no hyphen (rest_of is_blank text) r refl (partial-unblanked text r h)))
 
 -- ---- hyphen ranges
 
@@ -171,10 +163,7 @@ hyphen-read : (left_text behind rest : List ℕ) (left : Option Partial) (right 
     → IsCleanEnd behind → read_right behind ≡ Some (right, rest)
     → read_hyphen (left_text ++ behind) ≡ Some (Some (hyphen_comparator left right), rest)
 unfolding read_hyphen
-hyphen-read left_text behind rest None right h clean r = rw (h, r) refl
-hyphen-read left_text behind rest (Some p) right h clean r =
-    let l = partial-again left_text behind p h clean in
-    rw (right-none (left_text ++ behind) (p, behind) l, l, r) refl
+hyphen-read left_text behind rest left right h1 h2 h3 = grind (arith, partial-again, right-none)
 
 -- a hyphen range with a clean end is read
 pub hyphen-again : (text rest : List ℕ) (c : Option Comparator) → IsHyphenText text c → IsCleanEnd rest

@@ -1,19 +1,16 @@
 -- Partials, as the readers see them.
-use Rattle.std.proofs.Common.{◌≡◌, ◌≢◌, ◌<◌, ◌≤◌, ℕ, arith, ◌-◌, drop, get_or, length, take, Bool, true, false, List, [], ◌∷◌}
-use Rattle.std.proofs.Common.{Ok, Err, Option, Some, None, refl, subst, sym, ap, ◌∙◌}
-use Rattle.std.specs.Prelude.{unwrap_or}
+use Rattle.std.proofs.Common.{◌≡◌, ◌≢◌, ◌<◌, ◌≤◌, ℕ, arith, ◌-◌, drop, get_or, length, take, true, List, [], ◌∷◌}
+use Rattle.std.proofs.Common.{Ok, Option, Some, None, refl, sym}
 use Rattle.std.proofs.lemmas.Bool.{ne_eqb}
 use Rattle.std.proofs.lemmas.List.{take_all}
 use Rattle.semver_versions.specs.declared.TheConstants.{MAX_SAFE_INTEGER}
-use Rattle.semver_versions.specs.declared.parse.fault.Fault.{Fault}
 use Rattle.semver_versions.specs.Lemmas.Public.{clean_extras, digit-begins_no_x, digit-no_blank}
 use Rattle.semver_versions.specs.Lemmas.Public.{digit-no_partial_mark, number-digit, number-takes}
 use Rattle.semver_versions.specs.Characters.{BeginsWith, BeginsWithNo, dot, is_blank, is_digit, is_partial_mark, is_x}
 use Rattle.semver_sets.specs.PartialText.{Partial, plain_partial, zeroed}
-use Rattle.semver_sets.specs.Private.WordViews.{IsSound, number_if, partial_seen, written_seen}
+use Rattle.semver_sets.specs.Private.WordViews.{IsSound, partial_seen, written_seen}
 use Rattle.semver_sets.specs.declared.partial.Partial.{Partial as CodePartial}
 use Rattle.semver_sets.specs.Private.RangeViews.{IsFullNumbers}
-use Rattle.semver_versions.specs.Version.{release}
 use Rattle.semver_versions.specs.Reading.{read_extras, read_number}
 use Rattle.semver_versions.specs.Reading.{rest_of, skip_one}
 use Rattle.semver_sets.specs.Private.WordReading.{after_dot, read_component, read_components, read_from_minor}
@@ -24,23 +21,18 @@ use Rattle.semver_sets.specs.Private.WordReading.{read_from_patch, read_partial,
 -- the text after the first byte
 pub behind-first : (first : ℕ) (rest : List ℕ) → 0 < length rest → get_or rest 0 0 ≡ first
     → rest ≡ first ∷ take (length rest - 1) (drop 1 rest)
-behind-first first [] some h = absurd (omega arith)
-behind-first first (b ∷ rest) some h =
-    ap (λ (c : ℕ). c ∷ rest) h
-    ∙ ap (λ (l : List ℕ). first ∷ l) (sym (take_all (length (b ∷ rest) - 1) rest (omega arith)))
+behind-first first rest h1 h2 = grind (arith, take_all)
 
 -- a number before a dot
 pub dotted-number : (text behind : List ℕ) (number : ℕ) → Ok (number, behind) ≡ read_number text → 0 < length behind
     → get_or behind 0 0 ≡ 46 → Ok (number, dot ∷ take (length behind - 1) (drop 1 behind)) ≡ read_number text
-dotted-number text behind number read some first =
-    subst (λ (l : List ℕ). Ok (number, l) ≡ read_number text) (behind-first 46 behind some first) read
+dotted-number text behind number read some first = grind (arith, behind-first)
 
 -- a number that is read is a component
 pub component-number : (text rest : List ℕ) (number : ℕ) → Ok (number, rest) ≡ read_number text → BeginsWithNo is_x text
     → Some (Some number, rest) ≡ read_component text
 unfolding read_component read_number
-component-number [] rest number h none = cc h
-component-number (b ∷ text) rest number h none = rw (none, ← h) refl
+component-number text rest number h1 h2 = grind arith
 
 -- no number above the limit is read
 pub number-limit : (text rest : List ℕ) (number : ℕ) → Ok (number, rest) ≡ read_number text → number ≤ MAX_SAFE_INTEGER
@@ -52,8 +44,7 @@ no-extras = clean_extras [] refl
 
 -- where no dot follows, there is no component more
 pub no-dot : (text : List ℕ) → (0 < length text → get_or text 0 0 ≢ 46) → None ≡ after_dot text
-no-dot [] h = refl
-no-dot (b ∷ rest) h = rw (ne_eqb b 46 (h (omega arith))) refl
+no-dot text h1 = grind (arith, ne_eqb)
 
 minor-none : (major : Option ℕ) (text : List ℕ) (p : Partial) → None ≡ after_dot text
     → p ≡ with_extras major None None (read_extras []).0 → Some (p, text) ≡ read_from_minor major text
@@ -73,63 +64,37 @@ pub major-and-minor : (text behind second rest : List ℕ) (major minor : Option
     → Some (major, behind) ≡ read_component text → behind ≡ dot ∷ second → Some (minor, rest) ≡ read_component second
     → None ≡ after_dot rest → p ≡ with_extras major minor None (read_extras []).0 → Some (p, rest) ≡ read_components text
 unfolding read_components
-major-and-minor text behind second rest major minor p one dotted two none whole =
-    rw (← one, dotted, ← two) (patch-none major minor rest p none whole)
+major-and-minor text behind second rest major minor p one dotted two none whole = grind (arith, patch-none)
 
 -- ---- the version of a partial
 
-or-zero : (is_number : Bool) (number : ℕ) → (is_number ≡ false → number ≡ 0) → number ≡ unwrap_or (number_if is_number number) 0
-or-zero true number absent = refl
-or-zero false number absent = absent refl
-
 pub sound-version : (p : CodePartial) → IsSound p → written_seen p.version ≡ zeroed (partial_seen p)
-sound-version p is =
-    let major = or-zero p.has_major p.version.major is.no_major in
-    let minor = or-zero p.has_minor p.version.minor is.no_minor in
-    let patch = or-zero p.has_patch p.version.patch is.no_patch in
-    λ i. record (written_seen p.version) { major = major i; minor = minor i; patch = patch i }
+sound-version p is = grind arith
 
 -- ---- full versions
 
 -- a text that begins with a digit begins with no mark and no blank
 digit-begins : (text : List ℕ) → BeginsWith is_digit text → rest_of is_blank (skip_one is_partial_mark text) ≡ text
 unfolding rest_of skip_one
-digit-begins [] digit = absurd digit
-digit-begins (b ∷ text) digit = rw (digit-no_partial_mark b digit, digit-no_blank (b ∷ text) digit) refl
+digit-begins text h1 = grind (arith, digit-no_partial_mark, digit-no_blank)
 
 -- a number as a component
 pub number-component : (text rest : List ℕ) (number : ℕ) → Ok (number, rest) ≡ read_number text
     → Some (Some number, rest) ≡ read_component text
-number-component text rest number h = component-number text rest number h
-    (digit-begins_no_x text (number-digit text rest number h))
+number-component text rest number h = grind (arith, component-number, digit-begins_no_x, number-digit)
 
 -- three numbers with dots between them, and nothing else: as components, and as a partial
 module _ (text second third : List ℕ) (major minor patch : ℕ) (one : Ok (major, dot ∷ second) ≡ read_number text)
     (two : Ok (minor, dot ∷ third) ≡ read_number second) (three : Ok (patch, []) ≡ read_number third) where
   full-components : Some (plain_partial (Some major) (Some minor) (Some patch), []) ≡ read_components text
   unfolding read_components
-  full-components =
-      let first = number-component text (dot ∷ second) major one in
-      let next = number-component second (dot ∷ third) minor two in
-      let last = number-component third [] patch three in
-      rw (← first, ← next, ← last, no-extras) refl
+  full-components = grind (arith, number-component, no-extras)
 
   pub full-numbers : IsFullNumbers text major minor patch
   unfolding read_partial
-  full-numbers =
-      let digit = number-digit text (dot ∷ second) major one in
-      record {
-        digit = digit;
-        read = full-components ∙ ap read_components (sym (digit-begins text digit));
-        limit = record {
-          major_limit = number-limit text (dot ∷ second) major one;
-          minor_limit = number-limit second (dot ∷ third) minor two;
-          patch_limit = number-limit third [] patch three;
-        };
-      }
+  full-numbers = grind (arith, number-digit, full-components, digit-begins, number-limit)
 
 -- the same by the first byte
 pub digit-first_byte : (text : List ℕ) → 0 < length text → is_digit (get_or text 0 0) ≡ true
     → text ≡ rest_of is_blank (skip_one is_partial_mark text)
-digit-first_byte [] some digit = absurd (omega arith)
-digit-first_byte (b ∷ text) some digit = sym (digit-begins (b ∷ text) digit)
+digit-first_byte text h1 h2 = grind (arith, digit-begins)

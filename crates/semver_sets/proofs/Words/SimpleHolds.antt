@@ -1,5 +1,6 @@
 -- A word that is no hyphen range writes a comparator of some form: its lower end is less than its upper.
-use Rattle.std.proofs.Common.{◌≡◌, List, ℕ, Option, Some, None, subst, sym}
+use native.Mathlib.Omega.{arith}
+use Rattle.std.proofs.Common.{◌≡◌, List, ℕ, Option, Some}
 use Rattle.std.proofs.lemmas.Option.{same_Some}
 use Rattle.semver_cuts.specs.Ends.{IsCutBelow}
 use Rattle.semver_versions.specs.Comparison.{version_cmp}
@@ -7,10 +8,10 @@ use Rattle.semver_versions.specs.Version.{VersionValue}
 use Rattle.semver_sets.specs.Comparator.{Comparator}
 use Rattle.semver_sets.specs.Division.{IsSimpleText, by_caret, by_operator, by_tilde, plain}
 use Rattle.semver_sets.specs.CaretRanges.{caret_row}
-use Rattle.semver_sets.specs.Forms.{by_row, comparator_of, ends_of}
+use Rattle.semver_sets.specs.Forms.{by_row, comparator_of}
 use Rattle.semver_sets.specs.Operators.{operator_row, plain_row}
 use Rattle.semver_sets.specs.Lemmas.Forms.{IsReadVersion, form-below}
-use Rattle.semver_sets.specs.PartialText.{Partial, zeroed}
+use Rattle.semver_sets.specs.PartialText.{Partial}
 use Rattle.semver_sets.specs.TildeRanges.{tilde_greater_row, tilde_row, with_tilde, with_tilde_greater}
 use Rattle.semver_sets.specs.declared.word.form.Form.{Form}
 use Rattle.semver_sets.proofs.Words.PartialBounds.{IsReadPartial, led-read, partial-read, zeroed-read}
@@ -24,8 +25,7 @@ pub record HasForm (comparator : Option Comparator) : Type 0 where
 
 by-row : (row : (major minor patch : Option ℕ) → Option Form) (p : Partial) (c : Option Comparator) → IsReadPartial p
     → c ≡ by_row row p → HasForm c
-by-row row p c is says =
-    record { form = row p.major p.minor p.patch; version = zeroed p; read = zeroed-read p is; same = says }
+by-row row p c is says = grind (arith, zeroed-read)
 
 pub simple-form : (text : List ℕ) (c : Option Comparator) → IsSimpleText text c → HasForm c
 simple-form text c (by_operator w) =
@@ -38,9 +38,7 @@ simple-form text c (by_caret w) = by-row caret_row w.partial c (led-read _ text 
 
 some-below : (form : Option Form) (v : VersionValue) (c : Comparator) → Some c ≡ comparator_of form v
     → IsCutBelow version_cmp c.lower c.upper
-some-below None v c same = cc same
-some-below (Some form) v c same = subst (λ (d : Comparator). IsCutBelow version_cmp d.lower d.upper)
-    (sym (same_Some c (ends_of form v) same)) (form-below form v)
+some-below form v c h1 = grind (arith, same_Some, form-below)
 
 -- the comparator of a word that is no hyphen range holds a cut
 pub simple-below : (text : List ℕ) (c : Comparator) → IsSimpleText text (Some c)

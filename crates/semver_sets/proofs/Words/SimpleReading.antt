@@ -1,9 +1,9 @@
 -- Words of every kind but the hyphen: the reader reads exactly these texts.
-use Rattle.std.proofs.Common.{◌≡◌, ℕ, false, List, [], ◌∷◌, ◌++◌, Option, Some, None, refl, sym, ap, ◌∙◌, subst}
+use native.Mathlib.Omega.{arith}
+use Rattle.std.proofs.Common.{◌≡◌, ℕ, List, [], ◌∷◌, ◌++◌, Option, Some, None, refl, sym, ap, ◌∙◌, subst}
 use Rattle.std.proofs.Common.{append_assoc}
 use Rattle.std.proofs.lemmas.Bool.{and_parts}
 use Rattle.std.proofs.lemmas.Option.{same_Some}
-use Rattle.std.specs.List.{list_all}
 use Rattle.std.specs.Prelude.{◌==◌}
 use Rattle.semver_versions.specs.Characters.{AreAll, BeginsWithNo, caret, greater_sign, is_blank, tilde}
 use Rattle.semver_sets.specs.Comparator.{Comparator}
@@ -16,7 +16,7 @@ use Rattle.semver_versions.specs.Reading.{rest_of}
 use Rattle.semver_sets.specs.Private.WordReading.{Lead, ReadPartial, Word, caret_lead, lead_comparator, no_lead}
 use Rattle.semver_sets.specs.Private.WordReading.{operator, read_lead, read_partial, read_simple, said}
 use Rattle.semver_sets.specs.Private.WordReading.{tilde_greater_lead, tilde_lead, up_to_clean}
-use Rattle.semver_sets.proofs.Texts.CleanEnds.{up_to_clean-again, up_to_clean-takes}
+use Rattle.semver_sets.proofs.Texts.CleanEnds.{up_to_clean-takes}
 use Rattle.semver_sets.proofs.Words.LeadReading.{IsFollowed, StandsBefore, lead-caret, lead-none, lead-operator}
 use Rattle.semver_sets.proofs.Words.LeadReading.{lead-takes, lead-tilde, lead-tilde_greater}
 use Rattle.semver_sets.proofs.Words.PartialReading.{partial-again, partial-no, partial-takes, partial-unblanked}
@@ -41,26 +41,15 @@ led-taken lead text operand rest p f h = (
 -- a lead and a partial are such a text
 simple-taken : (lead : Lead) (text operand rest : List ℕ) (p : Partial) → StandsBefore lead text (operand ++ rest)
     → IsPartialText operand p → IsCleanEnd rest → TakesSimple text (lead_comparator lead p) rest
-simple-taken no_lead text operand rest p f h clean = record {
-  taken = operand;
-  whole = f;
-  read = plain (record { partial = p; written = h; says = refl });
-  clean = clean;
-}
-simple-taken (operator o) text operand rest p f h clean =
-    let t = led-taken (operator_text o) text operand rest p f h in
-    let read = by_operator (record { operator = o; partial = p; written = t.2; says = refl }) in
-    record { taken = t.0; whole = t.1; read = read; clean = clean }
+simple-taken no_lead text operand rest p f h clean = grind arith
+simple-taken (operator o) text operand rest p f h clean = grind (arith, led-taken (operator_text o) text operand rest p f h)
 simple-taken tilde_lead text operand rest p f h clean =
     let t = led-taken (tilde ∷ []) text operand rest p f h in
     record { taken = t.0; whole = t.1; read = by_tilde (with_tilde p t.2 refl); clean = clean }
 simple-taken tilde_greater_lead text operand rest p f h clean =
     let t = led-taken (tilde ∷ (f.0 ++ (greater_sign ∷ []))) text operand rest p f.2 h in
     record { taken = t.0; whole = t.1; read = by_tilde (with_tilde_greater f.0 p f.1 t.2 refl); clean = clean }
-simple-taken caret_lead text operand rest p f h clean =
-    let t = led-taken (caret ∷ []) text operand rest p f h in
-    let read = by_caret (record { partial = p; written = t.2; says = refl }) in
-    record { taken = t.0; whole = t.1; read = read; clean = clean }
+simple-taken caret_lead text operand rest p f h clean = grind (arith, led-taken (caret ∷ []) text operand rest p f h)
 
 -- so is what they are read as
 said-taken : (lead : Lead) (text behind : List ℕ) (read : ReadPartial) (c : Option Comparator) (rest : List ℕ)
@@ -87,9 +76,7 @@ simple-takes text c rest h =
 
 -- no blank is a `=`
 blanks-no_equals : (blanks : List ℕ) → AreAll is_blank blanks → BeginsWithNo (λ b. b == 61) blanks
-blanks-no_equals [] all = tt
-blanks-no_equals (b ∷ blanks) all =
-    blank-cases (λ (c : ℕ). (c == 61) ≡ false) b (and_parts (is_blank b) (list_all is_blank blanks) all).0 refl refl
+blanks-no_equals blanks h1 = grind (arith, blank-cases, and_parts)
 
 -- after a lead and its blanks the partial is read
 record ReadsLed (lead text rest : List ℕ) (p : Partial) : Type 0 where
@@ -115,9 +102,7 @@ led-reads lead text rest p h clean =
 simple-read : (text : List ℕ) (lead : Lead) (operand rest : List ℕ) (p : Partial) → read_lead text ≡ (lead, operand)
     → read_partial operand ≡ Some (p, rest) → IsCleanEnd rest → read_simple text ≡ Some (lead_comparator lead p, rest)
 unfolding read_simple
-simple-read text lead operand rest p l r clean =
-    ap (λ (f : Lead × List ℕ). said f.0 (up_to_clean (read_partial f.1))) l
-    ∙ ap (λ (q : ReadPartial). said lead (up_to_clean q)) r ∙ ap (said lead) (up_to_clean-again p rest clean)
+simple-read text lead operand rest p l r clean = grind arith
 
 -- such a text with a clean end is read
 pub simple-again : (text rest : List ℕ) (c : Option Comparator) → IsSimpleText text c → IsCleanEnd rest

@@ -1,4 +1,5 @@
 -- What a word of a range text writes: a comparator with ends that a range can have, or none.
+use native.Mathlib.Omega.{arith}
 use Rattle.std.proofs.Common.{List, ℕ, Option, Some, None, sym, subst}
 use Rattle.semver_versions.specs.Version.{VersionValue}
 use Rattle.semver_sets.specs.Comparator.{Comparator}
@@ -19,12 +20,10 @@ IsReadWord None = Unit {0}
 IsReadWord (Some c) = IsReadEnds c
 
 form-word : (form : Option Form) (v : VersionValue) → IsReadVersion v → IsReadWord (comparator_of form v)
-form-word None v is = tt
-form-word (Some form) v is = form-read form v is
+form-word form v h1 = grind (arith, form-read)
 
 left-read : (text : List ℕ) (left : Option Partial) → IsLeftText text left → IsRangeCut (left_cut left)
-left-read text None is = tt
-left-read text (Some p) is = (form-read Forms.AtLeast (zeroed p) (zeroed-read p (partial-read text p is))).lower
+left-read text left h1 = grind (arith, form-read, zeroed-read, partial-read)
 
 hyphen-word : (text : List ℕ) (c : Option Comparator) → IsHyphenText text c → IsReadWord c
 hyphen-word text c is =

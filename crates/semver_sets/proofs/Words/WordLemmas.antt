@@ -1,8 +1,7 @@
 -- The word with which a text begins: the reader reads exactly these words.
-use Rattle.std.proofs.Common.{◌≡◌, ◌⊎◌, ℕ, true, List, [], ◌∷◌, ◌++◌, Option, Some, None, refl, sym, ap, subst, ◌∙◌}
-use Rattle.std.proofs.Common.{inl, inr}
+use native.Mathlib.Omega.{arith}
+use Rattle.std.proofs.Common.{◌≡◌, ◌⊎◌, ℕ, true, List, ◌∷◌, ◌++◌, Option, Some, None, refl, sym, subst}
 use Rattle.std.proofs.lemmas.Bool.{cases_Bool, eqb-true, or_cases}
-use Rattle.std.specs.Prelude.{◌==◌}
 use Rattle.semver_versions.specs.Characters.{BeginsWithNo, is_blank}
 use Rattle.semver_sets.specs.Comparator.{Comparator}
 use Rattle.semver_sets.specs.Division.{IsSimpleText, IsWord, NoneAt, hyphen_range, ignored, simple}
@@ -22,15 +21,10 @@ use Rattle.semver_sets.proofs.Words.SimpleReading.{simple-again, simple-takes}
 
 -- what begins with no solid character is the end or begins with a blank
 clean-from_no_solid : (text : List ℕ) → BeginsWithNo is_not_blank text → IsCleanEnd text
-clean-from_no_solid [] h = tt
-clean-from_no_solid (b ∷ rest) h = elim (cases_Bool (is_blank b)) [
-  | inl blank ↦ blank
-  | inr solid ↦ cc (rw solid at h)
-]
+clean-from_no_solid text h1 = grind (arith, cases_Bool)
 
 no_solid-from_clean : (text : List ℕ) → IsCleanEnd text → BeginsWithNo is_not_blank text
-no_solid-from_clean [] h = tt
-no_solid-from_clean (b ∷ rest) h = rw h refl
+no_solid-from_clean text h1 = grind arith
 
 -- ---- no prefix is a word of a kind exactly where none is read
 
@@ -66,9 +60,7 @@ word-takes : (text : List ℕ) (hyphen simple_word : Option Word) → read_hyphe
     → read_simple text ≡ simple_word
     → HasWord text (or_ignored (or_else hyphen simple_word) text).0
     (or_ignored (or_else hyphen simple_word) text).1
-word-takes text (Some w) s r q =
-    let t = hyphen-takes text w.0 w.1 r in
-    record { word = t.taken; whole = t.whole; is_word = hyphen_range t.read t.clean; clean = t.clean }
+word-takes text (Some w) s r q = grind (arith, hyphen-takes text w.0 w.1 r)
 word-takes text None (Some w) r q =
     let t = simple-takes text w.0 w.1 q in
     record {
@@ -99,18 +91,8 @@ pub word-again : (word rest : List ℕ) (comparator : Option Comparator) → IsW
     → read_word (word ++ rest) ≡ (comparator, rest)
 unfolding read_word
 word-again word rest comparator (hyphen_range read clean) = rw (hyphen-again word rest comparator read clean) refl
-word-again word rest comparator (simple none read clean) =
-    rw (
-      hyphen-none (word ++ rest) (read_hyphen (word ++ rest)) refl none,
-      simple-again word rest comparator read clean,
-    ) refl
-word-again word rest comparator (ignored none nothing solid clean nil) =
-    rw (
-      hyphen-none (word ++ rest) (read_hyphen (word ++ rest)) refl none,
-      simple-unread (word ++ rest) (read_simple (word ++ rest)) refl nothing,
-      rest_of-again is_not_blank word rest solid (no_solid-from_clean rest clean),
-      nil,
-    ) refl
+word-again word rest comparator (simple none read clean) = grind (arith, hyphen-none (word ++ rest) (read_hyphen (word ++ rest)) refl none, simple-again word rest comparator read clean)
+word-again word rest comparator (ignored none nothing solid clean nil) = grind (arith, hyphen-none (word ++ rest) (read_hyphen (word ++ rest)) refl none, simple-unread (word ++ rest) (read_simple (word ++ rest)) refl nothing, rest_of-again is_not_blank word rest solid (no_solid-from_clean rest clean))
 
 -- a word that was read
 pub has-word : (text : List ℕ) (c : Option Comparator) (rest : List ℕ) → read_word text ≡ (c, rest)
@@ -136,10 +118,7 @@ simple-of_partial text r lead read = rw (lead, read) refl
 -- a blank leads nothing
 pub blank-lead : (b : ℕ) (rest : List ℕ) → is_blank b ≡ true → read_lead (b ∷ rest) ≡ (no_lead, b ∷ rest)
 unfolding read_lead read_operator
-blank-lead b rest blank = elim (or_cases (b == 32) (b == 9) blank) [
-  | inl space ↦ rw (eqb-true b 32 space) refl
-  | inr tab ↦ rw (eqb-true b 9 tab) refl
-]
+blank-lead b rest blank = grind (arith, or_cases, eqb-true)
 
 blank-ignored : (b : ℕ) (rest : List ℕ) → is_blank b ≡ true → rest_of is_not_blank (b ∷ rest) ≡ b ∷ rest
 unfolding rest_of
@@ -155,28 +134,14 @@ word-from text hyphen simple_word h g = rw (h, g) refl
 word-of_partial : (text : List ℕ) (p : ReadPartial) (found : Option Word) → read_right text ≡ None
     → read_lead text ≡ (no_lead, text) → read_partial text ≡ p
     → or_else (with_left p) (said no_lead (up_to_clean p)) ≡ found → read_word text ≡ or_ignored found text
-word-of_partial text p found right lead read is =
-    let hyphen : read_hyphen text ≡ with_left p = hyphen-with_left text right ∙ ap with_left read in
-    word-from text (with_left p) (said no_lead (up_to_clean p)) hyphen (simple-of_partial text p lead read)
-    ∙ ap (λ (w : Option Word). or_ignored w text) is
+word-of_partial text p found right lead read is = grind (arith, hyphen-with_left, word-from, simple-of_partial)
 
 -- if a word that begins with a blank is read, it is the one after its blanks; else the empty word is ignored
 blank-word : (b : ℕ) (rest : List ℕ) (p : ReadPartial) (found : Option Word) → is_blank b ≡ true
     → read_right (b ∷ rest) ≡ None → read_partial (b ∷ rest) ≡ p
     → or_else (with_left p) (said no_lead (up_to_clean p)) ≡ found
     → (read_word (b ∷ rest) ≡ (None, b ∷ rest)) ⊎ (read_word (b ∷ rest) ≡ read_word (rest_of is_blank (b ∷ rest)))
-blank-word b rest p None blank right read is =
-    inl (word-of_partial (b ∷ rest) p None right (blank-lead b rest blank) read is
-    ∙ ap (λ (l : List ℕ). (None, l)) (blank-ignored b rest blank))
-blank-word b rest None (Some w) blank right read is = cc is
-blank-word b rest (Some r) (Some w) blank right read is =
-    let others = rest_of is_blank (b ∷ rest) in
-    let there : read_partial others ≡ Some r = partial-unblanked (b ∷ rest) r read in
-    let none : read_right others ≡ None = right-no_blank others (rest_of-no is_blank (b ∷ rest)) in
-    inr (
-    word-of_partial (b ∷ rest) (Some r) (Some w) right (blank-lead b rest blank) read is
-    ∙ sym (word-of_partial others (Some r) (Some w) none (lead-none others r there) there is)
-    )
+blank-word b rest p found h1 h2 h3 h4 = grind (arith, word-of_partial, blank-lead, blank-ignored, partial-unblanked, right-no_blank, rest_of-no, lead-none)
 
 pub word-after_blanks : (b : ℕ) (rest : List ℕ) → is_blank b ≡ true → read_right (b ∷ rest) ≡ None
     → (read_word (b ∷ rest) ≡ (None, b ∷ rest)) ⊎ (read_word (b ∷ rest) ≡ read_word (rest_of is_blank (b ∷ rest)))

@@ -1,21 +1,20 @@
 -- Words, as the readers see them.
-use Rattle.std.proofs.Common.{◌≡◌, ◌≢◌, ◌⊎◌, ◌<◌, ◌≤◌, ℕ, arith, get_or, length, false, List, [], ◌∷◌, Option}
-use Rattle.std.proofs.Common.{Some, None, refl, sym, ap, ◌∙◌, inl, inr}
+use Rattle.std.proofs.lemmas.Grind.{common_steps}
+use Rattle.std.proofs.Common.{◌≡◌, ◌≢◌, ◌⊎◌, ◌<◌, ℕ, arith, get_or, length, false, List, [], ◌∷◌, Option}
+use Rattle.std.proofs.Common.{Some, None, refl, ap, inl, inr}
 use Rattle.std.proofs.lemmas.Bool.{and_parts, cases_Bool, leb-true, ne_eqb}
 use Rattle.std.proofs.lemmas.Option.{same_Some}
 use Rattle.semver_versions.specs.Characters.{BeginsWithNo, is_blank, is_digit}
 use Rattle.semver_sets.specs.PartialText.{Partial}
 use Rattle.semver_versions.specs.Reading.{begins, read_number, rest_of, skip_one}
-use Rattle.semver_sets.specs.Private.WordReading.{Lead, ReadPartial, Word, caret_lead, lead_comparator, no_lead, operator}
-use Rattle.semver_versions.specs.Reading.{is_clean_end}
+use Rattle.semver_sets.specs.Private.WordReading.{Lead, ReadPartial, Word, lead_comparator, no_lead, operator}
 use Rattle.semver_sets.specs.Private.WordReading.{is_not_blank, or_else, or_ignored, read_component}
 use Rattle.semver_sets.specs.Private.WordReading.{read_components, read_hyphen, read_lead, read_word}
 use Rattle.semver_sets.specs.Private.WordReading.{read_operator, read_partial, read_right, read_simple, said}
-use Rattle.semver_sets.specs.Private.WordReading.{said_hyphen, tilde_greater_lead, tilde_lead, up_to_clean, with_left}
+use Rattle.semver_sets.specs.Private.WordReading.{said_hyphen, up_to_clean, with_left}
 use Rattle.semver_sets.specs.Private.WordViews.{lead_seen, sides_comparator}
 use Rattle.semver_sets.specs.declared.word.Lead.{Lead as CodeLead}
-use Rattle.semver_sets.specs.declared.word.Lead.TheVariants.{Above, AtLeast, AtMost, Below, Caret, Equal, Plain}
-use Rattle.semver_sets.specs.declared.word.Lead.TheVariants.{Tilde, TildeGreater}
+use Rattle.semver_sets.specs.declared.word.Lead.TheVariants.{Plain}
 use Rattle.semver_sets.specs.declared.word.ends.Sides.{Sides}
 use Rattle.semver_sets.specs.declared.word.ends.Sides.TheVariants as AllSides
 use Rattle.semver_versions.specs.Version.{VersionValue}
@@ -26,40 +25,17 @@ use Rattle.semver_versions.specs.Lemmas.Public.{with_no-begins}
 
 -- a lead, or none
 pub lead-cases : (l : Lead) → (l ≡ no_lead) ⊎ (l ≡ no_lead → ⊥)
-lead-cases no_lead = inl refl
-lead-cases (operator o) = inr (λ h. cc h)
-lead-cases tilde_lead = inr (λ h. cc h)
-lead-cases tilde_greater_lead = inr (λ h. cc h)
-lead-cases caret_lead = inr (λ h. cc h)
+lead-cases l = grind arith
 
 -- the plain one of the code
 pub plain-seen : (l : CodeLead) → lead_seen l ≡ no_lead → l ≡ Plain
-plain-seen Plain h = refl
-plain-seen AtLeast h = cc h
-plain-seen Above h = cc h
-plain-seen Equal h = cc h
-plain-seen AtMost h = cc h
-plain-seen Below h = cc h
-plain-seen Tilde h = cc h
-plain-seen TildeGreater h = cc h
-plain-seen Caret h = cc h
+plain-seen l h1 = grind arith
 
 -- ---- ends
 
 -- all sides but one have a comparator
 pub some-comparator : (s : Sides) (v w : VersionValue) → (s ≡ AllSides.Nothing → ⊥) → sides_comparator s v w ≡ None → ⊥
-some-comparator AllSides.Nothing v w other none = other refl
-some-comparator AllSides.AtLeast v w other none = cc none
-some-comparator AllSides.Above v w other none = cc none
-some-comparator AllSides.Below v w other none = cc none
-some-comparator AllSides.BelowLeast v w other none = cc none
-some-comparator AllSides.AtMost v w other none = cc none
-some-comparator AllSides.AtMostLeast v w other none = cc none
-some-comparator AllSides.Exactly v w other none = cc none
-some-comparator AllSides.ExactlyBare v w other none = cc none
-some-comparator AllSides.UpTo v w other none = cc none
-some-comparator AllSides.BareUpTo v w other none = cc none
-some-comparator AllSides.Through v w other none = cc none
+some-comparator s v w h1 h2 = grind arith
 
 -- ---- hyphens
 
@@ -73,17 +49,11 @@ hyphen-left : (text : List ℕ) → BeginsWithNo is_blank text → read_hyphen t
 unfolding read_hyphen
 hyphen-left text h = rw (right-none text (with_no-begins is_blank text h)) refl
 
--- a text at no clean end begins with no blank
-unclean-blank : (text : List ℕ) → is_clean_end text ≡ false → begins is_blank text ≡ false
-unclean-blank [] h = refl
-unclean-blank (b ∷ rest) h = h
-
 -- ---- words
 
 -- a text without a first byte
 pub no-bytes : (text : List ℕ) → length text < 1 → text ≡ []
-no-bytes [] h = refl
-no-bytes (b ∷ rest) h = absurd (omega arith)
+no-bytes text h1 = grind (arith, common_steps)
 
 -- a hyphen range, or else a lead and a partial
 abbrev pub comparator_at : List ℕ → Option Word
@@ -94,35 +64,20 @@ at-plain : (text operand : List ℕ) → BeginsWithNo is_blank text → (no_lead
     → comparator_at text
     ≡ or_else (with_left (read_partial operand)) (said no_lead (up_to_clean (read_partial operand)))
 unfolding read_simple
-at-plain text operand solid led =
-    let plain : (read_lead text).0 ≡ no_lead = ap (λ (x : Lead × List ℕ). x.0) (sym led) in
-    let same : operand ≡ text = ap (λ (x : Lead × List ℕ). x.1) led ∙ lead-plain text plain in
-    rw (hyphen-left text solid, ← led, same) refl
+at-plain text operand solid led = grind (arith, lead-plain, hyphen-left)
 
 at-led : (text operand : List ℕ) (l : Lead) → BeginsWithNo is_blank text → (l, operand) ≡ read_lead text
     → (l ≡ no_lead → ⊥) → comparator_at text ≡ said l (up_to_clean (read_partial operand))
 unfolding read_simple
-at-led text operand l solid led some =
-    let lead : (read_lead text).0 ≡ l = ap (λ (x : Lead × List ℕ). x.0) (sym led) in
-    rw (hyphen-left text solid, lead-not_partial text (λ none. some (sym lead ∙ none)), ← led) refl
+at-led text operand l solid led some = grind (arith, hyphen-left, lead-not_partial)
 
 -- a left side ends at a clean end
 left-none : (read : ReadPartial) → None ≡ up_to_clean read → with_left read ≡ None
-left-none None h = refl
-left-none (Some r) h = elim (cases_Bool (is_clean_end r.1)) [
-  | inl clean ↦ cc (rw clean at h)
-  | inr unclean ↦ rw (right-none r.1 (unclean-blank r.1 unclean)) refl
-]
+left-none read h1 = grind (arith, cases_Bool, right-none)
 
 left-some : (read : ReadPartial) (p : Partial) (rest : List ℕ) → Some (p, rest) ≡ up_to_clean read
     → with_left read ≡ said_hyphen (Some p) (read_right rest)
-left-some None p rest h = cc h
-left-some (Some r) p rest h = elim (cases_Bool (is_clean_end r.1)) [
-  | inl clean ↦
-      let same = same_Some (p, rest) r (rw clean at h) in
-      ap (λ (x : Partial × List ℕ). said_hyphen (Some x.0) (read_right x.1)) (sym same)
-  | inr unclean ↦ cc (rw unclean at h)
-]
+left-some read p rest h1 = grind (arith, cases_Bool, same_Some)
 
 -- where no partial follows up to a clean end
 pub none-missing : (text operand : List ℕ) (l : Lead) → BeginsWithNo is_blank text → (l, operand) ≡ read_lead text
@@ -172,38 +127,21 @@ pub record BeginsNone (b : ℕ) : Type 0 where
   pub partial : (b ≢ 118) × (b ≢ 120) × (b ≢ 88) × (b ≢ 42)
 
 not-digit : (b : ℕ) → (b < 48) ⊎ (57 < b) → is_digit b ≡ false
-not-digit b out = elim (cases_Bool (is_digit b)) [
-  | inr none ↦ none
-  | inl digit ↦
-      let parts = and_parts _ _ digit in
-      let low : 48 ≤ b = leb-true 48 b parts.0 in
-      let high : b ≤ 57 = leb-true b 57 parts.1 in
-      absurd (elim out [ inl less ↦ omega arith | inr more ↦ omega arith ])
-]
+not-digit b out = grind (arith, cases_Bool, and_parts, leb-true)
 
 -- there is no lead
 none-led : (b : ℕ) (text : List ℕ) → BeginsNone b → (no_lead, b ∷ text) ≡ read_lead (b ∷ text)
 unfolding read_lead read_operator
-none-led b text none =
-    let less : b ≢ 60 = elim none.operator [ inl l ↦ omega arith | inr g ↦ omega arith ] in
-    let equals : b ≢ 61 = elim none.operator [ inl l ↦ omega arith | inr g ↦ omega arith ] in
-    let greater : b ≢ 62 = elim none.operator [ inl l ↦ omega arith | inr g ↦ omega arith ] in
-    rw (ne_eqb b 94 none.lead.0, ne_eqb b 126 none.lead.1, ne_eqb b 62 greater, ne_eqb b 61 equals, ne_eqb b 60 less) refl
+none-led b text none = grind (arith, ne_eqb)
 
 -- and no partial
 none-partial : (b : ℕ) (text : List ℕ) → is_blank b ≡ false → BeginsNone b → None ≡ read_partial (b ∷ text)
 unfolding read_partial read_components read_component read_number rest_of skip_one
-none-partial b text solid none =
-    let x = none.partial in
-    rw (ne_eqb b 118 x.0, solid, ne_eqb b 120 x.1, ne_eqb b 88 x.2, ne_eqb b 42 x.3, not-digit b none.digit) refl
+none-partial b text solid none = grind (arith, ne_eqb, not-digit)
 
 -- so there is no comparator
 pub none-begins : (text : List ℕ) → BeginsWithNo is_blank text → (0 < length text → BeginsNone (get_or text 0 0))
     → None ≡ comparator_at text
 unfolding read_hyphen read_simple read_lead read_partial read_right read_components read_component
     read_number rest_of skip_one
-none-begins [] solid none = refl
-none-begins (b ∷ text) solid none =
-    let begins = none (omega arith) in
-    none-missing (b ∷ text) (b ∷ text) no_lead solid (none-led b text begins)
-    (ap up_to_clean (none-partial b text solid begins))
+none-begins text h1 h2 = grind (arith, none-missing, none-led, none-partial)

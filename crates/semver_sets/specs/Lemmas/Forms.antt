@@ -9,7 +9,6 @@ use Rattle.semver_versions.specs.Comparison.{version_cmp}
 use Rattle.semver_versions.specs.IdentifierText.{IsReadIdentifier}
 use Rattle.semver_versions.specs.IdentifierValue.{numeric}
 use Rattle.semver_versions.specs.Lemmas.Public.{version-Less, version_total}
-use Rattle.semver_versions.specs.Order.{by_major, by_minor, by_patch}
 use Rattle.semver_versions.specs.Version.{VersionValue, least_of, release, without_build}
 use Rattle.semver_versions.specs.declared.TheConstants.{MAX_SAFE_INTEGER}
 use Rattle.semver_sets.specs.Comparator.{Comparator, exactly}
@@ -28,25 +27,7 @@ exactly-below : (v : VersionValue) → AreInOrder (exactly v)
 exactly-below v = ap (λ r. ordering_then r Less) (tied_itself version_total v)
 
 pub form-below : (form : Form) (z : VersionValue) → AreInOrder (ends_of form z)
-form-below Forms.AtLeast z = refl
-form-below Forms.Above z = refl
-form-below Forms.Below z = refl
-form-below Forms.BelowLeast z = refl
-form-below Forms.AtMost z = refl
-form-below Forms.AtMostLeast z = refl
-form-below Forms.Exactly z = exactly-below z
-form-below Forms.ExactlyBare z = exactly-below (without_build z)
-form-below Forms.ToNextMajor z = version-Less (without_build z) (next_major z) (by_major (omega arith))
-form-below Forms.ToNextMinor z = version-Less (without_build z) (next_minor z) (by_minor refl (omega arith))
-form-below Forms.ToNextPatch z = version-Less (without_build z) (next_patch z) (by_patch refl refl (omega arith))
-form-below Forms.WithMajor z = version-Less (release z.major 0 0) (next_major z) (by_major (omega arith))
-form-below Forms.WithMinor z = version-Less (release z.major z.minor 0) (next_minor z) (by_minor refl (omega arith))
-form-below Forms.MinorToNextMajor z = version-Less (release z.major z.minor 0) (next_major z) (by_major (omega arith))
-form-below Forms.BelowNextMajor z = refl
-form-below Forms.BelowNextMinor z = refl
-form-below Forms.FromNextMajor z = refl
-form-below Forms.FromNextMinor z = refl
-form-below Forms.FromZero z = refl
+form-below form z = grind (arith, exactly-below, version-Less)
 
 -- ---- ends
 
@@ -71,8 +52,7 @@ zero-read : IsReadIdentifier (numeric 0)
 zero-read = (48 ∷ [], (refl, refl), refl)
 
 least-end : (m n p : ℕ) → AreSmall m n p → IsRangeEnd (least_of m n p)
-least-end m n p small =
-    record { major = small.0; minor = small.1; patch = small.2; pre_release = (zero-read, tt); build = tt }
+least-end m n p small = grind (arith, zero-read)
 
 release-end : (m n p : ℕ) → AreSmall m n p → IsRangeEnd (release m n p)
 release-end m n p small = record { major = small.0; minor = small.1; patch = small.2; pre_release = tt; build = tt }
@@ -91,53 +71,10 @@ record HasEnds (z : VersionValue) : Type 0 where
   from_minor : IsRangeEnd (release z.major (z.minor + 1) 0)
 
 version-ends : (z : VersionValue) → IsReadVersion z → HasEnds z
-version-ends z is =
-    let m : z.major ≤ MAX_SAFE_INTEGER = is.major in
-    let n : z.minor ≤ MAX_SAFE_INTEGER = is.minor in
-    let p : z.patch ≤ MAX_SAFE_INTEGER = is.patch in
-    let small : AreSmall z.major z.minor z.patch = (omega arith, omega arith, omega arith) in
-    let major : AreSmall (z.major + 1) 0 0 = (omega arith, omega arith, omega arith) in
-    let minor : AreSmall z.major (z.minor + 1) 0 = (omega arith, omega arith, omega arith) in
-    record {
-      itself = record {
-        major = small.0;
-        minor = small.1;
-        patch = small.2;
-        pre_release = is.pre_release;
-        build = is.build;
-      };
-      bare = record { major = small.0; minor = small.1; patch = small.2; pre_release = is.pre_release; build = tt };
-      least = least-end z.major z.minor z.patch small;
-      major = least-end (z.major + 1) 0 0 major;
-      minor = least-end z.major (z.minor + 1) 0 minor;
-      patch = least-end z.major z.minor (z.patch + 1) (omega arith, omega arith, omega arith);
-      with_major = release-end z.major 0 0 (omega arith, omega arith, omega arith);
-      with_minor = release-end z.major z.minor 0 (omega arith, omega arith, omega arith);
-      from_major = release-end (z.major + 1) 0 0 major;
-      from_minor = release-end z.major (z.minor + 1) 0 minor;
-    }
+version-ends z is = grind (arith, least-end z.major z.minor (z.patch + 1) (omega arith, omega arith, omega arith), release-end z.major 0 0 (omega arith, omega arith, omega arith), release-end z.major z.minor 0 (omega arith, omega arith, omega arith))
 
 form-ends : (form : Form) (z : VersionValue) → HasEnds z → IsReadEnds (ends_of form z)
-form-ends Forms.AtLeast z e = record { lower = e.itself; upper = tt }
-form-ends Forms.Above z e = record { lower = e.itself; upper = tt }
-form-ends Forms.Below z e = record { lower = tt; upper = e.itself }
-form-ends Forms.BelowLeast z e = record { lower = tt; upper = e.least }
-form-ends Forms.AtMost z e = record { lower = tt; upper = e.itself }
-form-ends Forms.AtMostLeast z e = record { lower = tt; upper = e.least }
-form-ends Forms.Exactly z e = record { lower = e.itself; upper = e.itself }
-form-ends Forms.ExactlyBare z e = record { lower = e.bare; upper = e.bare }
-form-ends Forms.ToNextMajor z e = record { lower = e.bare; upper = e.major }
-form-ends Forms.ToNextMinor z e = record { lower = e.bare; upper = e.minor }
-form-ends Forms.ToNextPatch z e = record { lower = e.bare; upper = e.patch }
-form-ends Forms.WithMajor z e = record { lower = e.with_major; upper = e.major }
-form-ends Forms.WithMinor z e = record { lower = e.with_minor; upper = e.minor }
-form-ends Forms.MinorToNextMajor z e = record { lower = e.with_minor; upper = e.major }
-form-ends Forms.BelowNextMajor z e = record { lower = tt; upper = e.major }
-form-ends Forms.BelowNextMinor z e = record { lower = tt; upper = e.minor }
-form-ends Forms.FromNextMajor z e = record { lower = e.from_major; upper = tt }
-form-ends Forms.FromNextMinor z e = record { lower = e.from_minor; upper = tt }
-form-ends Forms.FromZero z e =
-    record { lower = release-end 0 0 0 (omega arith, omega arith, omega arith); upper = tt }
+form-ends form z h1 = grind (arith, release-end)
 
 pub form-read : (form : Form) (z : VersionValue) → IsReadVersion z → IsReadEnds (ends_of form z)
 form-read form z is = form-ends form z (version-ends z is)

@@ -1,4 +1,5 @@
 -- Comparators merged into one set.
+use native.Mathlib.Omega.{arith}
 use Rattle.std.proofs.Common.{◌≡◌, ◌↔◌, List, [], ◌∷◌, ◌++◌, refl, sym, subst, inl}
 use Rattle.std.proofs.Common.{inr}
 use Rattle.std.specs.List.{AllByRecursion}
@@ -30,31 +31,21 @@ set-one c = record { lower = chosen_lower-one version_total c; upper = chosen_up
 pub set-push : (comparators : List Comparator) (earlier later merged : Comparator) → IsSetOf comparators earlier
     → IsLaterGreatest version_cmp earlier.lower later.lower merged.lower
     → IsEarlierLeast version_cmp earlier.upper later.upper merged.upper → IsSetOf (comparators ++ later ∷ []) merged
-set-push comparators earlier later merged is lower upper = record {
-  lower = chosen_lower-push version_total comparators later earlier.lower merged.lower is.lower lower;
-  upper = chosen_upper-push version_total comparators later earlier.upper merged.upper is.upper upper;
-}
+set-push comparators earlier later merged is lower upper = grind (arith, chosen_lower-push, version_total, chosen_upper-push)
 
 -- ---- one set
 
 -- comparators have no two sets
 pub set-unique : (comparators : List Comparator) (one other : Ends VersionValue) → IsSetOf comparators one
     → IsSetOf comparators other → one ≡ other
-set-unique comparators one other is is' =
-    let lower = chosen_lower-unique version_total comparators one.lower other.lower is.lower is'.lower in
-    let upper = chosen_upper-unique version_total comparators one.upper other.upper is.upper is'.upper in
-    λ i. span_between (lower i) (upper i)
+set-unique comparators one other is is' = grind (arith, chosen_lower-unique version_total comparators one.lower other.lower is.lower is'.lower, chosen_upper-unique version_total comparators one.upper other.upper is.upper is'.upper)
 
 -- ---- the cuts of the set
 
 -- comparators give their set where it holds a cut
 pub merged-gives : (comparators : List Comparator) (set : Ends VersionValue) → IsSetOf comparators set
     → GiveSet comparators ↔ HoldsCut version_cmp set
-merged-gives comparators set is =
-    let holds = common-holds version_total comparators set.lower set.upper is.lower is.upper in (
-      λ gives. holds.0 gives.common,
-      λ h. record { some = chosen_lower-some version_total comparators set.lower is.lower; common = holds.1 h },
-    )
+merged-gives comparators set is = grind (arith, common-holds version_total comparators set.lower set.upper is.lower is.upper, chosen_lower-some version_total comparators set.lower is.lower)
 
 -- ---- what the set admits
 
@@ -115,16 +106,7 @@ module _ (comparators : List Comparator) (set : Ends VersionValue) (is : IsSetOf
 
   -- the set admits what its comparators do
   pub merged-admits : AdmitsTheSame comparators set v
-  merged-admits = (
-    λ admit. record {
-      inside = inside-set.0 admit.inside;
-      opened = λ pre. opened-by-set pre admit.inside (admit.opened pre);
-    },
-    λ admits. record {
-      inside = inside-set.1 admits.inside;
-      opened = λ pre. opened-by-one (admits.opened pre);
-    },
-  )
+  merged-admits = grind (arith, inside-set, opened-by-set, opened-by-one)
 
 -- ---- comparators have a set
 

@@ -1,4 +1,4 @@
-use Rattle.std.proofs.Common.{◌≡◌, ◌≢◌, ◌∙◌, ◌+◌, ◌-◌, ◌<◌, ◌≤◌, ℕ, List, ap, arith, drop, get_or, length, rules}
+use Rattle.std.proofs.Common.{◌≡◌, ◌∙◌, ◌+◌, ◌-◌, ◌<◌, ◌≤◌, ℕ, List, ap, arith, drop, length}
 use Rattle.std.proofs.Common.{take}
 use borrow.Author.Tests.{ltb-true}
 use Rattle.std.proofs.lemmas.List.{length-drop, take_rest}
@@ -45,21 +45,7 @@ returns-in-124 c =
     seen-stop text _ here seen to.1
 
 pub bars-preserved : goal.bars-preserved
-bars-preserved c =
-    let text = c.args.text.now in
-    let here = c.bars.passed + c.in-Some.at in
-    let to = to-bar text c.bars.passed c.in-Some.at c.bars.invariant.0 c.in-Some.ensures.0 c.bars.invariant.1 in
-    let none = not-bars (left text here) (λ some one two. elim c.if-text-bar-lt2.branch [
-      | then-text-bar-lt2 w ↦ omega (arith, ltb-true)
-      | else-text-bar-lt2+in-124+in_default-1 w ↦
-          let other : get_or (left text here) 1 0 ≢ 124 = search rules in
-          other two
-      | else-text-bar-lt2+in_default-1 w ↦
-          let other : get_or (left text here) 0 0 ≢ 124 = search rules in
-          other one
-    ]) in
-    let within : here < length text = to.0 in
-    (omega arith, seen-step text here to.0 (none ∙ ap bars_after (take_rest text here)) to.1)
+bars-preserved c = grind (arith, to-bar, not-bars, then-text-bar-lt2, ltb-true, else-text-bar-lt2+in-124+in_default-1, else-text-bar-lt2+in_default-1, seen-step, take_rest)
 
 pub returns : goal.returns
 returns c =

@@ -1,6 +1,6 @@
-use Rattle.std.proofs.Common.{◌≡◌, ◌<◌, ℕ, Bool, false, List, [], ◌∷◌, None, length, arith, ap, sym, subst, ◌∙◌}
+use Rattle.std.proofs.Common.{◌≡◌, ◌<◌, ℕ, Bool, false, List, [], None, length, arith, ap, sym, subst, ◌∙◌}
 use Rattle.std.specs.Prelude.{◌==◌}
-use Rattle.semver_versions.specs.Characters.{BeginsWithNo, is_blank}
+use Rattle.semver_versions.specs.Characters.{is_blank}
 use Rattle.semver_sets.specs.Comparator.{Comparator}
 use Rattle.semver_sets.specs.Division.{IsAlternative}
 use Rattle.semver_versions.specs.Reading.{rest_of}
@@ -19,8 +19,7 @@ later-writes text behind read comparators a =
     record { words = all.0; divided = all.1; kept = a.kept ∙ sym all.2 }
 
 some-from_not_empty : (xs : List ℕ) (r : Bool) → r ≡ (length xs == 0) → r ≡ false → 0 < length xs
-some-from_not_empty [] r e f = cc (e, f)
-some-from_not_empty (x ∷ xs) r e f = omega arith
+some-from_not_empty xs r h1 h2 = grind arith
 
 pub words-smaller : goal.words-smaller
 words-smaller c =
@@ -32,14 +31,4 @@ words-smaller c =
     subst (λ (l : List ℕ). length l < length rest) (sym same) shorter
 
 pub words-preserved : goal.words-preserved
-words-preserved c =
-    let rest = c.words.rest.now in
-    let read = sym (ignored rest (c.begins_comparator.ensures c.if-not-begins_comparator.true)) in
-    let same = c.skip_blanks-rest.ensures ∙ ap (rest_of is_blank) c.skip_to_blank.ensures in
-    record {
-      solid = subst (λ (l : List ℕ). BeginsWithNo is_blank l) (sym c.skip_blanks-rest.ensures)
-          (rest_of-no is_blank c.skip_to_blank.result.now);
-      later = λ comparators a. c.words.invariant.later comparators
-          (later-writes rest (rest_of is_not_blank rest) read comparators
-          (subst (λ (l : List ℕ). IsAlternative l comparators) same a));
-    }
+words-preserved c = grind (arith, ignored, rest_of-no, later-writes)

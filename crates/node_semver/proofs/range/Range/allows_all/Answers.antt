@@ -1,4 +1,5 @@
-use Rattle.std.proofs.Common.{◌≡◌, ◌∙◌, ◌↔◌, Bool, IsTrue, List, subst}
+use native.Mathlib.Omega.{arith}
+use Rattle.std.proofs.Common.{◌≡◌, ◌∙◌, ◌↔◌, Bool, IsTrue, List}
 use Rattle.semver_cuts.specs.Ends.{Ends}
 use Rattle.semver_cuts.specs.Sharing.{CoversAll}
 use Rattle.semver_cuts.specs.Lemmas.Difference.{difference-covered}
@@ -10,9 +11,7 @@ use Rattle.node_semver.proofs.range.Range.allows_all.Goals as goal
 covers-same : (result : Bool) (ones others list other_list : List (Ends VersionValue)) → list ≡ ones
     → other_list ≡ others → (IsTrue result ↔ CoversAll version_cmp list other_list)
     → IsTrue result ↔ CoversAll version_cmp ones others
-covers-same result ones others list other_list same other_same covers =
-    subst (λ (l : List (Ends VersionValue)). IsTrue result ↔ CoversAll version_cmp l others) same
-    (subst (λ (l : List (Ends VersionValue)). IsTrue result ↔ CoversAll version_cmp list l) other_same covers)
+covers-same result ones others list other_list same other_same covers = grind arith
 
 pub returns-clause-covered : goal.returns-clause-covered
 returns-clause-covered c =

@@ -1,21 +1,16 @@
-use Rattle.std.proofs.Common.{rules, subst}
+use native.Mathlib.Omega.{arith}
+use Rattle.std.proofs.Common.{rules}
 use Rattle.semver_cuts.specs.SpanLists.{IsInSome}
-use Rattle.semver_cuts.specs.Difference.{AreDifference}
 use Rattle.semver_cuts.specs.Lemmas.Difference.{common_difference-disjoint, common_difference-together}
 use Rattle.semver_cuts.specs.Lemmas.Difference.{difference-covered, difference-cuts}
 use Rattle.semver_versions.specs.Comparison.{version_cmp}
 use Rattle.semver_versions.specs.Lemmas.Public.{version_total}
-use Rattle.semver_sets.specs.RangeSets.{IsRangeValue}
 use Rattle.node_semver.proofs.Sets.AlgebraBounds.{difference-bounded, none-exactly, none-listed}
 use Rattle.node_semver.proofs.Sets.RangeAlgebra.{difference-releases}
 use Rattle.node_semver.proofs.range.Range.difference.Goals as goal
 
 pub of_gathered-requires : goal.of_gathered-requires
-of_gathered-requires c =
-    let spans : AreDifference version_cmp c.args.self.now c.args.other.now c.subtract_from.new.into = search rules in
-    let ones : IsRangeValue c.args.self.now = subst IsRangeValue c.self.view_is c.self.invariant in
-    let others : IsRangeValue c.args.other.now = subst IsRangeValue c.other.view_is c.other.invariant in
-    difference-bounded c.args.self.now c.args.other.now c.subtract_from.new.into spans ones.each others.each
+of_gathered-requires c = grind (arith, difference-bounded)
 
 pub returns-clause-sets : goal.returns-clause-sets
 returns-clause-sets c = search rules
@@ -35,8 +30,7 @@ returns-clause-releases c =
     difference-releases _ _ _ (returns-clause-sets c)
 
 pub returns-clause-disjoint : goal.returns-clause-disjoint
-returns-clause-disjoint c =
-    λ cut both. common_difference-disjoint version_total _ _ _ (returns-clause-sets c) cut both.0 both.1
+returns-clause-disjoint c = grind (arith, common_difference-disjoint, version_total, returns-clause-sets)
 
 pub returns-clause-together : goal.returns-clause-together
 returns-clause-together c =

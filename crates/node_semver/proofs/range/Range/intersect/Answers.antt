@@ -1,23 +1,16 @@
-use Rattle.std.proofs.Common.{rules, ◌≡◌, sym, subst}
-use Rattle.std.specs.List.{AllByRecursion}
+use native.Mathlib.Omega.{arith}
+use Rattle.std.proofs.Common.{rules}
 use Rattle.semver_cuts.specs.SpanLists.{IsInSome}
-use Rattle.semver_cuts.specs.CommonSpans.{common_spans}
 use Rattle.semver_cuts.specs.Lemmas.CommonSpans.{common_spans-cuts}
 use Rattle.semver_cuts.specs.Lemmas.Difference.{common_difference-disjoint, common_difference-together}
 use Rattle.semver_versions.specs.Lemmas.Public.{version_total}
 use Rattle.semver_versions.specs.Comparison.{version_cmp}
-use Rattle.semver_sets.specs.RangeSets.{IsRangeSet, IsRangeValue}
 use Rattle.node_semver.proofs.Sets.AlgebraBounds.{common-bounded, none-exactly, some-exactly}
 use Rattle.node_semver.proofs.Sets.RangeAlgebra.{common-admits, common-releases}
 use Rattle.node_semver.proofs.range.Range.intersect.Goals as goal
 
 pub of_gathered-requires : goal.of_gathered-requires
-of_gathered-requires c =
-    let common : c.common_with.new.into ≡ common_spans version_cmp c.args.self.now c.args.other.now = search rules in
-    let ones : IsRangeValue c.args.self.now = subst IsRangeValue c.self.view_is c.self.invariant in
-    let others : IsRangeValue c.args.other.now = subst IsRangeValue c.other.view_is c.other.invariant in
-    subst (AllByRecursion IsRangeSet) (sym common)
-    (common-bounded c.args.self.now c.args.other.now ones.each others.each)
+of_gathered-requires c = grind (arith, common-bounded)
 
 pub returns-clause-sets : goal.returns-clause-sets
 returns-clause-sets c = search rules
@@ -50,14 +43,10 @@ returns-clause-releases c =
     rw (returns-clause-sets c) (common-releases c.args.self.now c.args.other.now v release)
 
 pub returns-clause-prereleases : goal.returns-clause-prereleases
-returns-clause-prereleases c =
-    λ v pre. rw (returns-clause-sets c) (common-admits v c.args.self.now c.args.other.now)
+returns-clause-prereleases c = grind (arith, returns-clause-sets, common-admits)
 
 pub returns-clause-disjoint : goal.returns-clause-disjoint
-returns-clause-disjoint c =
-    λ spans are cut.
-    rw (returns-clause-sets c)
-    (λ both. common_difference-disjoint version_total c.args.self.now c.args.other.now spans are cut both.0 both.1)
+returns-clause-disjoint c = grind (arith, returns-clause-sets, common_difference-disjoint, version_total)
 
 pub returns-clause-together : goal.returns-clause-together
 returns-clause-together c =

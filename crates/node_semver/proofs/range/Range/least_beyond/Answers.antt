@@ -1,3 +1,4 @@
+use native.Mathlib.Omega.{arith}
 use Rattle.std.proofs.Common.{rules, Some, None, false, refl}
 use Rattle.node_semver.specs.Least.{AdmitsBeyond}
 use Rattle.node_semver.proofs.Least.BeyondAnswers.{beyond-least, none-beyond, some-wanted}
@@ -19,8 +20,7 @@ returns-in_ok-built-in-Some-clause-admitted c =
     (λ e. cc e, λ each. some.1 ((none-beyond false c.args.self.now c.args.other.now).1 each))
 
 pub returns-in_ok-built-in-Some-clause-build : goal.returns-in_ok-built-in-Some-clause-build
-returns-in_ok-built-in-Some-clause-build c =
-    let least = beyond-least false c.args.self.now c.args.other.now (Some c.in-Some.least) c.in-Some.ensures in search rules
+returns-in_ok-built-in-Some-clause-build c = grind (arith, beyond-least)
 
 pub returns-in-None-clause-none : goal.returns-in-None-clause-none
 returns-in-None-clause-none c =

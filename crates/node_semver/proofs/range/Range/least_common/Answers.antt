@@ -1,3 +1,4 @@
+use native.Mathlib.Omega.{arith}
 use Rattle.std.proofs.Common.{rules, Some, None, false, refl}
 use Rattle.node_semver.specs.Least.{BothAdmit}
 use Rattle.node_semver.proofs.Least.BeyondAnswers.{some-wanted}
@@ -14,8 +15,7 @@ returns-in_ok-built-in-Some-clause-none c =
     (common-least false c.args.self.now c.args.other.now (Some c.in-Some.least) c.in-Some.ensures)
 
 pub returns-in_ok-built-in-Some-clause-build : goal.returns-in_ok-built-in-Some-clause-build
-returns-in_ok-built-in-Some-clause-build c =
-    let least = common-least false c.args.self.now c.args.other.now (Some c.in-Some.least) c.in-Some.ensures in search rules
+returns-in_ok-built-in-Some-clause-build c = grind (arith, common-least)
 
 pub returns-in-None-clause-none : goal.returns-in-None-clause-none
 returns-in-None-clause-none c =

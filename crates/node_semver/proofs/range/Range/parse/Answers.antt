@@ -1,3 +1,4 @@
+use native.Mathlib.Omega.{arith}
 use Rattle.std.proofs.Common.{List, ℕ, subst}
 use Rattle.semver_sets.specs.Meaning.{IsRefused}
 use Rattle.semver_sets.specs.Merging.{AreSetsOfText}
@@ -24,5 +25,4 @@ pub unread_error-requires : goal.unread_error-requires
 unread_error-requires c = λ is. subst IsRefused c.as_bytes-bytes.ensures.value (c.in-Err.ensures.refused is)
 
 pub returns-in-Err : goal.returns-in-Err
-returns-in-Err c =
-    range-refused c.prints_are_read_back.ensures c.args.text.now c.unread_error.result c.unread_error.ensures
+returns-in-Err c = grind (arith, range-refused)

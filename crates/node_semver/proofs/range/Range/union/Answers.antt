@@ -1,7 +1,7 @@
+use native.Mathlib.Omega.{arith}
 use Rattle.std.proofs.Common.{rules, inl, inr}
 use Rattle.semver_cuts.specs.Lemmas.InSome.{in_some-either, in_some-left, in_some-right}
 use Rattle.semver_cuts.specs.Lemmas.Lists.{any-either, any-left, any-right}
-use Rattle.semver_versions.specs.Comparison.{version_cmp}
 use Rattle.semver_sets.specs.Meaning.{SetAdmits}
 use Rattle.semver_versions.specs.Version.{VersionValue}
 use Rattle.semver_cuts.specs.Ends.{Ends}
@@ -11,16 +11,7 @@ pub returns-clause-sets : goal.returns-clause-sets
 returns-clause-sets c = search rules
 
 pub returns-clause-cuts : goal.returns-clause-cuts
-returns-clause-cuts c =
-    let ones = c.args.self.now in
-    let others = c.args.other.now in
-    λ cut. rw (returns-clause-sets c) (
-      in_some-either version_cmp cut ones others,
-      λ either. elim either [
-        | inl one ↦ in_some-left version_cmp cut ones others one
-        | inr other ↦ in_some-right version_cmp cut ones others other
-      ],
-    )
+returns-clause-cuts c = grind (arith, returns-clause-sets, in_some-either, in_some-left, in_some-right)
 
 pub returns-clause-admitted : goal.returns-clause-admitted
 returns-clause-admitted c =
@@ -35,6 +26,4 @@ returns-clause-admitted c =
     )
 
 pub returns-clause-text : goal.returns-clause-text
-returns-clause-text c =
-    λ one another joinable first second.
-    rw (returns-clause-sets c) (c.joined_texts_write_all_sets.ensures one another c.args.self.now c.args.other.now joinable first second)
+returns-clause-text c = grind (arith, returns-clause-sets)

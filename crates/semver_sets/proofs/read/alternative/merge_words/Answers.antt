@@ -1,4 +1,5 @@
-use Rattle.std.proofs.Common.{◌≡◌, ◌≢◌, ◌<◌, ℕ, Bool, true, false, List, [], ◌∷◌, ◌++◌, Option, Some, None, length, arith}
+use Rattle.std.proofs.lemmas.Grind.{common_steps}
+use Rattle.std.proofs.Common.{◌≡◌, ◌≢◌, ◌<◌, ℕ, Bool, true, false, List, [], ◌++◌, Option, None, length, arith}
 use Rattle.std.proofs.Common.{ap, get_or, refl, rules, sym, subst, ◌∙◌}
 use Rattle.std.specs.Prelude.{◌==◌}
 use Rattle.std.proofs.lemmas.Bool.{eqb-true, ne_eqb}
@@ -19,8 +20,7 @@ use Rattle.semver_sets.proofs.read.alternative.merge_words.Goals.{in-32+in_ok-re
 -- the remaining text after its blanks
 left-is : (text rest left : List ℕ) (done : List Comparator) → Completes text done rest → left ≡ rest
     → Completes text done left
-left-is text rest left done completes skipped =
-    subst (λ (l : List ℕ). Completes text done l) (sym skipped) completes
+left-is text rest left done completes skipped = grind arith
 
 -- begins with no blank
 no-blank : (rest left : List ℕ) → left ≡ rest_of is_blank rest → BeginsWithNo is_blank left
@@ -28,8 +28,7 @@ no-blank rest left skipped = subst (λ (l : List ℕ). BeginsWithNo is_blank l) 
 
 -- none of no comparators
 none-common : (common : Option Comparator) → common ≡ None → IsCommonSpan [] common
-none-common None none = refl
-none-common (Some common) none = absurd (cc none)
+none-common common h1 = grind arith
 
 -- a text that begins with no blank begins with no hyphen without a left side
 no-leading : (text : List ℕ) → begins is_blank text ≡ false → leading_or_none (read_right text) text ≡ (None, text)
@@ -39,22 +38,14 @@ no-leading text none = rw none refl
 -- by its first byte
 not-blank : (text : List ℕ) → (0 < length text → (get_or text 0 0 ≢ 32) × (get_or text 0 0 ≢ 9))
     → begins is_blank text ≡ false
-not-blank [] other = refl
-not-blank (b ∷ rest) other =
-    let n = other (omega arith) in
-    rw (ne_eqb b 32 n.0, ne_eqb b 9 n.1) refl
+not-blank text h1 = grind (arith, ne_eqb)
 
 -- so nothing is passed over there
 solid-start : (text : List ℕ) (common : Option Comparator)
     → (0 < length text → (get_or text 0 0 ≢ 32) × (get_or text 0 0 ≢ 9))
     → (text ≡ rest_of is_blank (leading_or_none (read_right text) text).1)
     × IsNarrowed common (leading_or_none (read_right text) text).0 common
-solid-start text common other =
-    let none : begins is_blank text ≡ false = not-blank text other in
-    rw (no-leading text none) (
-      sym (rest_of-none is_blank text (begins-with_no is_blank text none)),
-      λ comparators merged. merged-none comparators common merged,
-    )
+solid-start text common other = grind (arith, not-blank, no-leading, rest_of-none, begins-with_no, merged-none)
 
 pub loop-rest-init : goal.loop-rest-init
 loop-rest-init c =
@@ -79,14 +70,10 @@ loop-rest-init c =
     }
 
 some-from_not_empty : (xs : List ℕ) (r : Bool) → r ≡ (length xs == 0) → r ≡ false → 0 < length xs
-some-from_not_empty [] r e f = cc (e, f)
-some-from_not_empty (x ∷ xs) r e f = omega arith
+some-from_not_empty xs r h1 h2 = grind arith
 
 none-from_empty : (xs : List ℕ) (r : Bool) → r ≡ (length xs == 0) → r ≡ true → xs ≡ []
-none-from_empty [] r e f = refl
-none-from_empty (x ∷ xs) r e f =
-    let none : length (x ∷ xs) ≡ 0 = eqb-true (length (x ∷ xs)) 0 (sym e ∙ f) in
-    absurd (omega arith)
+none-from_empty xs r h1 h2 = grind (arith, common_steps, eqb-true)
 
 pub begins_comparator-requires : goal.begins_comparator-requires
 begins_comparator-requires c = c.loop-rest.invariant.solid
@@ -144,12 +131,4 @@ loop-rest-preserved c =
     }
 
 pub returns : goal.returns
-returns c =
-    let none : c.loop-rest.rest.now ≡ [] =
-    none-from_empty c.loop-rest.rest.now c.is_empty.result c.is_empty.ensures c.loop-rest-test.false in
-    let done = c.loop-rest.invariant.done in (
-      done,
-      completes-end c.args.text.now done
-          (subst (λ (l : List ℕ). Completes c.args.text.now done l) none c.loop-rest.invariant.read),
-      c.loop-rest.invariant.is_common,
-    )
+returns c = grind (arith, none-from_empty, completes-end)

@@ -1,4 +1,5 @@
-use Rattle.std.proofs.Common.{◌≡◌, ◌∙◌, ℕ, Bool, true, List, [], ◌∷◌, Option, None, Some, arith, length, refl, subst, sym}
+use Rattle.std.proofs.lemmas.Grind.{common_steps}
+use Rattle.std.proofs.Common.{◌≡◌, ℕ, Bool, true, List, [], ◌∷◌, Option, None, Some, arith, length, refl, subst, sym}
 use Rattle.std.proofs.lemmas.Bool.{eqb-true}
 use Rattle.std.specs.Borrow.{Bor}
 use Rattle.std.specs.Prelude.{◌==◌}
@@ -15,10 +16,7 @@ use Rattle.semver_sets.proofs.set_list.Sets.read.Goals as goal
 
 -- no words are left
 words-none : (words : List ℕ) (r : Bool) → r ≡ (length words == 0) → r ≡ true → words ≡ []
-words-none [] r is none = refl
-words-none (b ∷ words) r is none =
-    let none : length (b ∷ words) ≡ 0 = eqb-true (length (b ∷ words)) 0 (sym is ∙ none) in
-    absurd (omega arith)
+words-none words r h1 h2 = grind (arith, common_steps, eqb-true)
 
 -- then there is no set
 nothing-given : IsSetOfAlternative [] None
@@ -27,8 +25,7 @@ nothing-given = common-set [] None None ([], completes-end [] [] (completes-noth
 -- what is left after the first piece
 divided-as : (text piece : List ℕ) (left left' : Option (Bor (List ℕ))) → left ≡ left'
     → (piece, some_seen left) ≡ piece_at text → (piece, some_seen left') ≡ piece_at text
-divided-as text piece left left' same is =
-    subst (λ (l : Option (Bor (List ℕ))). (piece, some_seen l) ≡ piece_at text) same is
+divided-as text piece left left' same is = grind arith
 
 -- the only piece, and its set
 only-piece : (text piece words : List ℕ) (left : Option (Bor (List ℕ))) (set : Option (Ends VersionValue))
@@ -39,11 +36,7 @@ only-piece text piece words left set none is later of =
     (divided-as text piece left None none is, later-set piece words set later of)
 
 pub returns-in-Some-clause-accepted : goal.returns-in-Some-clause-accepted
-returns-in-Some-clause-accepted c =
-    let text = c.args.text.now in
-    let piece = c.next_piece.result.0.now in
-    let divided = divided-as text piece c.next_piece.result.1 _ c.in-Some.is c.next_piece.ensures in
-    accepted text c.read_pieces.result (c.read_pieces.ensures text divided)
+returns-in-Some-clause-accepted c = grind (arith, divided-as, accepted)
 
 pub returns-then-is_empty-clause-refused : goal.returns-then-is_empty-clause-refused
 returns-then-is_empty-clause-refused c = λ is.

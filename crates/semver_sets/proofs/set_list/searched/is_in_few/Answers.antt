@@ -1,19 +1,14 @@
 -- Each set is asked in turn.
-use Rattle.std.proofs.Common.{◌+◌, List, arith, refl, subst}
+use Rattle.std.proofs.lemmas.Grind.{common_steps}
+use Rattle.std.proofs.Common.{◌+◌, arith}
 use Rattle.std.proofs.lemmas.List.{take_all}
-use Rattle.semver_cuts.specs.Ends.{Ends}
 use Rattle.semver_cuts.specs.Lemmas.Lists.{any-at, none-more}
-use Rattle.semver_sets.specs.Meaning.{RangeAdmits, SetAdmits}
-use Rattle.semver_versions.specs.Version.{VersionValue}
+use Rattle.semver_sets.specs.Meaning.{SetAdmits}
 use Rattle.semver_sets.proofs.Sets.FewSets.{first-count, more-comparisons}
 use Rattle.semver_sets.proofs.set_list.searched.is_in_few.Goals as goal
 
 pub returns-then-admits_opened-clause-answer : goal.returns-then-admits_opened-clause-answer
-returns-then-admits_opened-clause-answer g c = (
-  λ h. any-at (λ set. SetAdmits set (g.V.AsVersion.seen c.args.version.now)) c.args.sets.now c.sets.set-index
-      c.set-item.result c.sets-test.true c.set-item.is (c.admits_opened.ensures.answer.0 c.if-admits_opened.true),
-  λ some. refl,
-)
+returns-then-admits_opened-clause-answer g c = grind (arith, any-at)
 
 pub returns-then-admits_opened-clause-short : goal.returns-then-admits_opened-clause-short
 returns-then-admits_opened-clause-short g c =
@@ -38,14 +33,7 @@ sets-preserved g c = record {
 }
 
 pub returns-clause-answer : goal.returns-clause-answer
-returns-clause-answer g c =
-    let v : VersionValue = g.V.AsVersion.seen c.args.version.now in
-    let whole = take_all c.sets.set-index c.args.sets.now c.sets-test.false in
-    let none = subst (λ (l : List (Ends VersionValue)). ¬ RangeAdmits l v) whole c.sets.invariant.none in
-    (λ h. absurd (cc h), λ some. absurd (none some))
+returns-clause-answer g c = grind (arith, take_all)
 
 pub returns-clause-short : goal.returns-clause-short
-returns-clause-short g c =
-    let first = first-count (g.V.AsVersion.seen c.args.version.now) c.sets.set-index c.args.sets.now in
-    let short = c.sets.invariant.short in
-    omega (arith, first, short)
+returns-clause-short g c = grind (arith, common_steps, first-count)

@@ -1,31 +1,17 @@
-use Rattle.std.proofs.Common.{◌≡◌, ℕ, ◌+◌, ◌-◌, ◌/◌, ◌<◌, List, drop, take, length, sym, ap, subst, arith}
+use Rattle.std.proofs.Common.{◌≡◌, ℕ, ◌+◌, ◌-◌, ◌/◌, ◌<◌, drop, take, length, sym, ap, subst, arith}
 use Rattle.std.specs.Prelude.{not}
 use Rattle.std.specs.List.{AllByRecursion}
 use Rattle.std.proofs.lemmas.List.{drop_all}
 use Rattle.semver_cuts.specs.declared.cut.Cut.TheVariants.{Before}
-use Rattle.semver_cuts.specs.Ends.{Ends, IsCutAtMost, IsCutBelow, span_between}
+use Rattle.semver_cuts.specs.Ends.{IsCutAtMost, IsCutBelow, span_between}
 use Rattle.semver_versions.specs.Comparison.{version_cmp}
 use Rattle.semver_versions.specs.Lemmas.Public.{version_total}
-use Rattle.semver_versions.specs.Version.{VersionValue}
 use Rattle.semver_sets.proofs.Sets.Searching.{IsLeft, begun_above, begun_below, begun_last, last_begun, left-first}
 use Rattle.semver_sets.proofs.Sets.Searching.{left-step, none-begun, not-begun}
 use Rattle.semver_sets.proofs.set_list.searched.is_in_some.Goals as goal
 
 pub loop-low-init : goal.loop-low-init
-loop-low-init g c =
-    let spans = c.args.spans.now.merged in
-    let Above : List (Ends VersionValue) → Type 0 =
-    AllByRecursion (λ s. IsCutBelow version_cmp (Before (g.V.AsVersion.seen c.args.version.now)) s.lower) in
-    record {
-      ordered = omega arith;
-      within = omega arith;
-      below = tt;
-      above = subst Above (sym (drop_all c.len-high.result spans (omega arith))) tt;
-      steps = λ digits fits. left-first (g.C.Counts.count c.args.comparisons.now) digits (c.len-high.result - 0)
-          (omega arith);
-      adds = omega arith;
-      begun = λ some. absurd (omega arith);
-    }
+loop-low-init g c = grind (arith, drop_all, left-first)
 
 pub loop-low-preserved-then-is_at_or_before : goal.loop-low-preserved-then-is_at_or_before
 loop-low-preserved-then-is_at_or_before g c =

@@ -1,9 +1,9 @@
-use Rattle.std.proofs.Common.{List, subst}
+use native.Mathlib.Omega.{arith}
+use Rattle.std.proofs.Common.{subst}
 use Rattle.std.proofs.lemmas.List.{take_all}
 use Rattle.semver_cuts.specs.declared.cut.Cut.{Cut}
-use Rattle.semver_cuts.specs.Ends.{Ends}
 use Rattle.semver_versions.specs.Version.{VersionValue}
-use Rattle.node_semver.specs.Private.CandidateViews.{AreEndsTried, IsCutTrial}
+use Rattle.node_semver.specs.Private.CandidateViews.{IsCutTrial}
 use Rattle.node_semver.proofs.Least.CandidateSteps.{ends-more}
 use Rattle.node_semver.proofs.range.least.search.least_with_others.Goals as goal
 
@@ -19,7 +19,4 @@ sets-preserved g c =
     c.end_of.ensures.end c.try_cut.ensures)
 
 pub returns : goal.returns
-returns g c =
-    subst (λ (l : List (Ends VersionValue)).
-    AreEndsTried g.I.Inclusion.included (g.Q.Question.wanted g.I.Inclusion.included c.args.range.now c.args.other.now) g.Q.Question.end c.args.range.now l c.sets.best)
-    (take_all c.sets.set-index c.args.sets.now c.sets-test.false) c.sets.invariant
+returns g c = grind (arith, take_all)

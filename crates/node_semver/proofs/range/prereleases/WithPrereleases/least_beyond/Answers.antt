@@ -1,3 +1,4 @@
+use native.Mathlib.Omega.{arith}
 use Rattle.std.proofs.Common.{rules, Some, None, true, refl}
 use Rattle.node_semver.specs.Least.{ContainsBeyond}
 use Rattle.node_semver.proofs.Least.BeyondAnswers.{beyond-seen, none-beyond, some-wanted}
@@ -22,9 +23,7 @@ returns-in_ok-built-in-Some-clause-contained c =
     (λ e. cc e, λ each. some.1 ((none-beyond true c.args.self.now c.args.other.now).1 each))
 
 pub returns-in_ok-built-in-Some-clause-build : goal.returns-in_ok-built-in-Some-clause-build
-returns-in_ok-built-in-Some-clause-build c =
-    let least = beyond-seen true c.self.inside.range.now c.args.self.now c.args.other.now c.self.view_is
-    (Some c.in-Some.least) c.in-Some.ensures in search rules
+returns-in_ok-built-in-Some-clause-build c = grind (arith, beyond-seen)
 
 pub returns-in-None-clause-none : goal.returns-in-None-clause-none
 returns-in-None-clause-none c =

@@ -1,3 +1,4 @@
+use native.Mathlib.Omega.{arith}
 use Rattle.std.proofs.Common.{IfOk, List, ◌∙◌, true, subst}
 use Rattle.semver_cuts.specs.Ends.{Ends}
 use Rattle.semver_versions.specs.Version.{VersionValue}
@@ -16,6 +17,4 @@ returns-clause-none c = none-found true c.args.self.now c.least_version.result
     (c.as_slice.ensures ∙ c.range.view_is ∙ c.self.view_is) c.least_version.ensures)
 
 pub returns-clause-build : goal.returns-clause-build
-returns-clause-build c = found-build true c.args.self.now c.least_version.result
-    (subst (λ (l : List (Ends VersionValue)). IfOk c.least_version.result (IsLeastOfSets true l))
-    (c.as_slice.ensures ∙ c.range.view_is ∙ c.self.view_is) c.least_version.ensures)
+returns-clause-build c = grind (arith, found-build)

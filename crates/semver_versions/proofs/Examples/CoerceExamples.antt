@@ -9,7 +9,7 @@ use Rattle.semver_versions.proofs.Versions.Pieces.{below_or_not, first_of, one_f
 
 -- ---- numbers of one digit
 
-none_before : (text : List ℕ) (place : ℕ) → place + 1 ≡ 0 → is_digit_at text place ≡ false
+pub none_before : (text : List ℕ) (place : ℕ) → place + 1 ≡ 0 → is_digit_at text place ≡ false
 none_before text place e = absurd (omega (arith, e))
 
 after_other : (text : List ℕ) (start : ℕ) → is_digit_at text start ≡ false → (place : ℕ) → place + 1 ≡ start + 1
@@ -18,7 +18,7 @@ after_other text start h place e =
     let same : start ≡ place = omega (arith, e) in
     subst (λ (n : ℕ). is_digit_at text n ≡ false) same h
 
-one_digit : (text : List ℕ) (start : ℕ) → start + 1 ≤ length text → is_digit_at text start ≡ true
+pub one_digit : (text : List ℕ) (start : ℕ) → start + 1 ≤ length text → is_digit_at text start ≡ true
     → ((place : ℕ) → place + 1 ≡ start → is_digit_at text place ≡ false) → is_digit_at text (start + 1) ≡ false
     → IsNumberAt text start (start + 1)
 one_digit text start within here before after = record {
@@ -52,7 +52,7 @@ two_digits text start within here next before after = record {
   after = after;
 }
 
-one_there : IsStrictNumber (codes "1") 1
+pub one_there : IsStrictNumber (codes "1") 1
 one_there = record { read = record { some = refl; digits = refl; value = refl; limit = lit≤ tt }; strict = refl }
 
 two_there : IsStrictNumber (codes "2") 2

@@ -18,14 +18,14 @@ use Rattle.semver_versions.proofs.Versions.Extras.{AreCharactersAt, identifier_c
 
 -- ---- slices
 
-slice_length : (text : List ℕ) (start end : ℕ) → start ≤ end → end ≤ length text
+pub slice_length : (text : List ℕ) (start end : ℕ) → start ≤ end → end ≤ length text
     → length (slice_range text start end) ≡ end - start
 slice_length text start end to within =
     length-take (end - start) (drop start text)
     ∙ ap (min (end - start)) (length-drop start text)
     ∙ omega (arith, to, within)
 
-slice_at : (text : List ℕ) (start end i : ℕ) → i < end - start
+pub slice_at : (text : List ℕ) (start end i : ℕ) → i < end - start
     → get_or (slice_range text start end) i 0 ≡ slice_index text (start + i)
 slice_at text start end i below =
     get_or-take (end - start) (drop start text) i 0 below ∙ get_or-drop start text i 0

@@ -43,7 +43,8 @@ fn is_marked(extra: Extra, text: &[u8], place: usize) -> bool
     }
 }
 
-// Returns where the identifier characters end that start at this place, or a place that is more than one after the limit.
+// Returns where the identifier characters end that start at this place, or a place that is more than one after the
+// limit.
 fn characters_end(text: &[u8], start: usize, limit: usize) -> usize
     requires within { start ≤ length text.now }
     requires before { start ≤ limit + 1 }
@@ -143,8 +144,8 @@ fn list_end(extra: Extra, text: &[u8], start: usize, limit: usize) -> Ending
     }
 }
 
-// Returns where the longest list ends that follows its mark at this place, or the place if there is none. Returns `None` if
-// it ends after the limit.
+// Returns where the longest list ends that follows its mark at this place, or the place if there is none. Returns `None`
+// if it ends after the limit.
 pub(super) fn extra_end(extra: Extra, text: &[u8], place: usize, limit: usize) -> Option<usize>
     requires within { place ≤ length text.now }
     requires before { place ≤ limit }

@@ -21,8 +21,8 @@ pub(super) struct FullPiece<'a> {
     pub(super) end: usize,
 }
 
-// Returns the longest piece that starts with this number, with its prerelease and its build. Returns `None` if it is longer
-// than a version can be.
+// Returns the longest piece that starts with this number, with its prerelease and its build. Returns `None` if it is
+// longer than a version can be.
 pub(super) fn full_from(text: &[u8], start: usize, first: usize) -> Option<FullPiece<'_>>
     requires { IsNumberAt text.now start first }
     ensures full { IfSome result (IsFullAt text.now) }

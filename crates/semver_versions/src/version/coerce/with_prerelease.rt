@@ -20,16 +20,17 @@ impl Version {
     /// Returns the version that is found in the text with its prerelease and its build: npm's `coerce` with
     /// `includePrerelease`.
     ///
-    /// The piece is the one that [`Version::coerce`] takes. A prerelease that follows it, and a build after that, are read in
-    /// the form of SemVer 2.0.0, each as long as it can be. What does not have that form is left out. As in npm, an
+    /// The piece is the one that [`Version::coerce`] takes. A prerelease that follows it, and a build after that, are read
+    /// in the form of SemVer 2.0.0, each as long as it can be. What does not have that form is left out. As in npm, an
     /// identifier of a prerelease that begins with digits without a zero in front ends with them: `1.2.3-4f` is `1.2.3-4`.
     ///
-    /// With `rtl`, each piece is taken with its prerelease and its build. The version is that of the first one that ends where
-    /// the text ends, or one character before. If there is none, it is that of the piece that starts last, or of the longest
-    /// one that ends there too, with none between them that ends elsewhere.
+    /// With `rtl`, each piece is taken with its prerelease and its build. The version is that of the first one that ends
+    /// where the text ends, or one byte before. If there is none, it is that of the first one after whose start all others
+    /// end where it does.
     ///
     /// Returns `None` if there is no piece, if a number of the piece has a zero in front or is greater than
-    /// `MAX_SAFE_INTEGER`, or if the version would have more than `MAX_LENGTH` bytes. With `rtl`, a longer one is passed over.
+    /// `MAX_SAFE_INTEGER`, or if the version would have more than `MAX_LENGTH` bytes. With `rtl`, a piece that is longer
+    /// with its prerelease and its build is passed over.
     ///
     /// # Errors
     ///
@@ -38,7 +39,8 @@ impl Version {
     /// # Memory
     ///
     /// Does not allocate for a version without prerelease and build. Otherwise allocates lists of identifiers, and the
-    /// text of each identifier that is no number. Takes a number of steps that is linear in the length of the text.
+    /// text of each identifier that is no number. Takes a number of steps that is linear in the length of the text: at most
+    /// some hundreds for each number in it.
     ///
     /// # Examples
     ///

@@ -41,7 +41,9 @@ function coerce(version, options) {
     }
     const { rtl, includePrerelease } = options || {};
     if (!parseOptions(options).loose) {
-        const found = native.coerce(text, !!rtl, !!includePrerelease);
+        // From the right it counts where a text ends: the library counts bytes, and npm characters.
+        const counted = rtl ? text.replace(/[^\x00-\x7f]$/, ' ') : text;
+        const found = native.coerce(counted, !!rtl, !!includePrerelease);
         return found === null ? null : parse(found, options);
     }
     const source = NUMBERS + (includePrerelease ? MORE : '') + END;

@@ -75,6 +75,7 @@ describe('worked rows', () => {
         [() => String(semver.coerce('v1.2-rc.1 x', { includePrerelease: true })), '1.2.0-rc.1'],
         [() => String(semver.coerce('1.2.3.4-a+b', { includePrerelease: true, rtl: true })), '2.3.4-a'],
         [() => semver.coerce('01.2-a', { includePrerelease: true }), null],
+        [() => String(semver.coerce('1-2.3.4.5é', { includePrerelease: true, rtl: true })), '1.0.0-2.3.4.5'],
         [() => semver.gtr('2.0.0', '^1.2'), true],
         [() => semver.ltr('1.1.0', '^1.2'), true],
         [() => semver.outside('1.3.0', '^1.2', '<'), false],

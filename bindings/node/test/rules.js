@@ -103,15 +103,6 @@ const rules = [
         range: (text, isLoose) => ((isLoose || text.includes('||')) && STAR.test(text))
             || (ZERO.test(text) && text.includes('0.0.0-')),
     },
-    {
-        name: 'a last character outside ASCII',
-        example: ['coerce', '1-2.3.4.5é', { rtl: true, includePrerelease: true }],
-        npm: '1.0.0-2.3.4.5',
-        here: '3.4.5',
-        why: 'from the right npm prefers a version that one character follows at most; here that character is ASCII',
-        calls: ['coerce'],
-        version: has(/[^\x00-\x7f]$/),
-    },
 ];
 
 module.exports = { rules };

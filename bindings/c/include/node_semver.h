@@ -166,6 +166,13 @@ node_semver_status node_semver_version_bump(const node_semver_version *version, 
 #define NODE_SEMVER_HAS_COERCE 1
 node_semver_status node_semver_version_coerce(const char *text, size_t length, bool rtl, node_semver_version *answer);
 
+/* Makes the same version with the prerelease and the build that follow, as npm's `coerce` does with `includePrerelease`:
+ * `1.2.0-rc.1` of `v1.2-rc.1`. What does not have the form of SemVer 2.0.0 is left out: `-01`, and `f` of `-4f`. Returns
+ * NODE_SEMVER_NONE also if the version would have more than 256 bytes. */
+#define NODE_SEMVER_HAS_COERCE_WITH_PRERELEASE 1
+node_semver_status node_semver_version_coerce_with_prerelease(const char *text, size_t length, bool rtl,
+                                                              node_semver_version *answer);
+
 /* Returns a hash. Versions for which node_semver_version_compare returns 0 have the same hash. */
 uint64_t node_semver_version_hash(const node_semver_version *version);
 

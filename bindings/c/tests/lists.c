@@ -209,6 +209,9 @@ static void texts_are_read(void) {
     if (done(node_semver_version_coerce(text, 4 * MANY, true, &held.found), "nothing is found at the end")) {
         finds("17.0.0");
     }
+    if (done(node_semver_version_coerce_with_prerelease(text, 4 * MANY, true, &held.found), "nothing is found there")) {
+        finds("17.0.0");
+    }
 }
 
 /* 1,000 versions that differ in the build alone. */

@@ -86,7 +86,9 @@ static void run(const struct row *row, struct answer *answer) {
     } else if (strcmp(row->call, "least_common_with") == 0) {
         run_search(node_semver_range_least_common_with_prereleases, &read, answer);
     } else if (strcmp(row->call, "coerce") == 0) {
-        run_coerce(row->texts[0], strcmp(row->texts[1], "rtl") == 0, answer);
+        run_coerce(node_semver_version_coerce, row->texts[0], strcmp(row->texts[1], "rtl") == 0, answer);
+    } else if (strcmp(row->call, "coerce_with") == 0) {
+        run_coerce(node_semver_version_coerce_with_prerelease, row->texts[0], strcmp(row->texts[1], "rtl") == 0, answer);
     } else if (strcmp(row->call, "satisfies_strict") == 0) {
         run_question(node_semver_satisfies_strict, &r[0], row->texts[1], answer);
     } else if (strcmp(row->call, "contains_strict") == 0) {

@@ -254,6 +254,16 @@ static const struct row rows[] = {
     {"coerce", "", {"latest", "rtl"}, "none"},
     {"coerce", "", {"", ""}, "none"},
     {"coerce", "", {"\xff" "1", ""}, "not UTF-8"},
+    /* The same with prerelease and build. */
+    {"coerce_with", "", {"v1.2-rc.1", ""}, "1.2.0-rc.1"},
+    {"coerce_with", "", {"1.2.3-rc.1+5", ""}, "1.2.3-rc.1+5"},
+    {"coerce_with", "", {"1.2.3.4-rc.1+rev.2", ""}, "1.2.3"},
+    {"coerce_with", "", {"1.2.3.4-rc.1+rev.2", "rtl"}, "2.3.4-rc.1+rev.2"},
+    {"coerce_with", "", {"1.2.3-4f", ""}, "1.2.3-4"},
+    {"coerce_with", "", {"1.2.3-01", ""}, "1.2.3"},
+    {"coerce_with", "", {"01.2.3-a", ""}, "none"},
+    {"coerce_with", "", {"", "rtl"}, "none"},
+    {"coerce_with", "", {"\xff" "1-a", ""}, "not UTF-8"},
     /* A range and the text of a version. */
     {"satisfies_strict", "r", {"^1.2.3-rc.4", "1.2.3-rc.5"}, "true"},
     {"satisfies_strict", "r", {"^1.2.3-rc.4", "1.2.4-rc.6"}, "false"},

@@ -2,9 +2,11 @@
 /* The calls of the rows that read a text themselves: the version that is found in it, and whether it satisfies a range. */
 #include "answers.h"
 
-static void run_coerce(const char *text, bool rtl, struct answer *answer) {
+typedef node_semver_status coercion(const char *, size_t, bool, node_semver_version *);
+
+static void run_coerce(coercion call, const char *text, bool rtl, struct answer *answer) {
     node_semver_version found = NODE_SEMVER_EMPTY;
-    node_semver_status status = node_semver_version_coerce(text, strlen(text), rtl, &found);
+    node_semver_status status = call(text, strlen(text), rtl, &found);
     if (status == NODE_SEMVER_OK) {
         tell_version(answer, &found);
     } else {

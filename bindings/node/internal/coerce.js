@@ -1,6 +1,6 @@
 // SPDX-License-Identifier: Apache-2.0
-// The version that a text holds somewhere: `1.2.0` of `release 1.2, of May`. The library finds it. What the library does not
-// have, a prerelease, a build or a number with zeros in front, is searched here.
+// The version that a text holds somewhere: `1.2.0` of `release 1.2, of May`. The library finds it. With `loose` a number may
+// have zeros in front, which the library does not have: then it is searched here.
 'use strict';
 
 const native = require('./native.js');
@@ -40,8 +40,10 @@ function coerce(version, options) {
         return null;
     }
     const { rtl, includePrerelease } = options || {};
-    if (!includePrerelease && !parseOptions(options).loose) {
-        const found = native.coerce(text, !!rtl);
+    if (!parseOptions(options).loose) {
+        // From the right it counts where a text ends: the library counts bytes, and npm characters.
+        const counted = rtl ? text.replace(/[^\x00-\x7f]$/, ' ') : text;
+        const found = native.coerce(counted, !!rtl, !!includePrerelease);
         return found === null ? null : parse(found, options);
     }
     const source = NUMBERS + (includePrerelease ? MORE : '') + END;

@@ -93,19 +93,23 @@ static napi_value bump(napi_env env, napi_callback_info info) {
     return result;
 }
 
-/* coerce(text, rtl): the print of the version that is found in the text, or null. */
+/* coerce(text, rtl, full): the print of the version that is found in the text, or null. If full, it has the prerelease
+ * and the build that follow. */
 static napi_value coerce(napi_env env, napi_callback_info info) {
-    napi_value arguments[2];
+    napi_value arguments[3];
     struct text text;
     node_semver_version made = NODE_SEMVER_EMPTY;
     bool rtl = false;
-    if (!get_arguments(env, info, 2, arguments)) {
+    bool full = false;
+    if (!get_arguments(env, info, 3, arguments)) {
         return NULL;
     }
     napi_get_value_bool(env, arguments[1], &rtl);
+    napi_get_value_bool(env, arguments[2], &full);
     node_semver_status status = get_text(env, arguments[0], &text);
     if (status == NODE_SEMVER_OK) {
-        status = node_semver_version_coerce(text.bytes, text.length, rtl, &made);
+        status = full ? node_semver_version_coerce_with_prerelease(text.bytes, text.length, rtl, &made)
+                      : node_semver_version_coerce(text.bytes, text.length, rtl, &made);
         free_text(&text);
     }
     if (status != NODE_SEMVER_OK) {

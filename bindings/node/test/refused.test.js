@@ -74,6 +74,7 @@ const calls = {
     diff: () => semver.diff('1.2.3-rc.1.a', '1.2.3'),
     inc: () => semver.inc('1.2.3-rc.1.a', 'prerelease'),
     coerce: () => String(semver.coerce('a 1.2.3.4 b')),
+    'coerce, with prerelease': () => String(semver.coerce('a 1.2.3-rc.1.a b', { includePrerelease: true })),
     gtr: () => semver.gtr('9.0.0', ranges[0]),
     simplifyRange: () => semver.simplifyRange(['1.2.3', '1.3.0', '2.0.0'], '^1.2.3-rc.1.a || ^1.3.0 || ^1.4'),
     sets: () => JSON.stringify(ranges[0].sets),

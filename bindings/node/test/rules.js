@@ -30,7 +30,8 @@ const rules = [
         npm: null,
         here: '>=9007199254740991.0.0 <9007199254740992.0.0-0',
         why: 'npm refuses an end that it makes itself, and does not read a number after an x; it compares digits of '
-            + 'prereleases as doubles, and in loose mode ignores a word above 250 characters',
+            + 'prereleases as doubles, and in loose mode ignores a word above 250 characters; `coerce` with '
+            + '`includePrerelease` cuts an identifier above 250',
         version: hasLarge,
         range: (text) => hasLarge(text) || /[^\s|]{250,}/.test(text),
     },
@@ -39,8 +40,9 @@ const rules = [
         example: ['compareBuild', '1.0.0+01.b', '1.0.0+1.a'],
         npm: 0,
         here: 1,
-        why: 'an identifier of digits is a number: `01` is 1, and the next identifiers decide',
-        calls: BUILDS,
+        why: 'an identifier of digits is a number: `01` is 1, and the next identifiers decide; `coerce` with '
+            + '`includePrerelease` drops the zeros',
+        calls: [...BUILDS, 'coerce'],
         version: has(/\+.*(?<![0-9A-Za-z-])0\d+(?![0-9A-Za-z-])/),
     },
     {

@@ -50,16 +50,19 @@ PyDoc_STRVAR(compare_build_doc,
 "[Version('1.0.0'), Version('1.0.0+2'), Version('1.0.0+10')]");
 
 PyDoc_STRVAR(coerce_doc,
-"coerce($type, text, /, *, rtl=False)\n"
+"coerce($type, text, /, *, rtl=False, include_prerelease=False)\n"
 "--\n"
 "\n"
 "The version that is found in a text, as npm's `coerce` finds it, or None: the first one, two or three numbers with\n"
-"dots between them. With `rtl` the last. Missing numbers are 0. A prerelease and a build are not read.\n"
+"dots between them. With `rtl` the last. Missing numbers are 0. A prerelease and a build are read with\n"
+"`include_prerelease` alone.\n"
 "\n"
 ">>> Version.coerce('release node-14.2, of May')\n"
 "Version('14.2.0')\n"
 ">>> Version.coerce('1.2.3.4'), Version.coerce('1.2.3.4', rtl=True)\n"
 "(Version('1.2.3'), Version('2.3.4'))\n"
+">>> Version.coerce('v1.2-rc.1'), Version.coerce('v1.2-rc.1', include_prerelease=True)\n"
+"(Version('1.2.0'), Version('1.2.0-rc.1'))\n"
 ">>> print(Version.coerce('latest'))\n"
 "None");
 

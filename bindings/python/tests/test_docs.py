@@ -64,7 +64,7 @@ class Docs(unittest.TestCase):
             (Range.contains, "(self, version, /)"),
             (Range.from_sets, "(sets, /)"),
             (Range.parse_npm, "(text, /, *, loose=False, include_prerelease=False)"),
-            (Version.coerce, "(text, /, *, rtl=False)"),
+            (Version.coerce, "(text, /, *, rtl=False, include_prerelease=False)"),
             (Version.compare_build, "(self, other, /)"),
             (Version.diff, "(self, other, /)"),
             (Version.bump, "(self, release, /, *, identifier=None, base=0)"),

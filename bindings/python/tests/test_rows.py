@@ -395,6 +395,17 @@ class Rows(unittest.TestCase):
             with self.subTest(text=text):
                 self.assertEqual(str(Version.coerce(text)), first)
                 self.assertEqual(str(Version.coerce(text, rtl=True)), last)
+        full = [
+            ("v1.2-rc.1", "1.2.0-rc.1", "1.2.0-rc.1"),
+            ("1.2.3.4-rc.1+rev.2", "1.2.3", "2.3.4-rc.1+rev.2"),
+            ("1.2.3-01", "1.2.3", "None"),
+            ("1.2.3-4f", "1.2.3-4", "1.2.3-4"),
+            ("latest", "None", "None"),
+        ]
+        for text, first, last in full:
+            with self.subTest(text=text):
+                self.assertEqual(str(Version.coerce(text, include_prerelease=True)), first)
+                self.assertEqual(str(Version.coerce(text, rtl=True, include_prerelease=True)), last)
         with self.assertRaises(UnicodeEncodeError):
             Version.coerce("\ud800")
 

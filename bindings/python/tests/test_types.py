@@ -135,6 +135,8 @@ class Types(unittest.TestCase):
         undecided: Any = Undecided()
         with self.assertRaises(ZeroDivisionError):
             Version.coerce("1", rtl=undecided)
+        with self.assertRaises(ZeroDivisionError):
+            Version.coerce("1", include_prerelease=undecided)
 
     def test_sets(self) -> None:
         for wrong in [None, 1, True, object(), "1.2.3", VERSION, RANGE, len]:

@@ -16,6 +16,7 @@ pub use Rattle.semver_versions.specs.BuildOrder.{BuildOrderMeans, IsBelowWithBui
 pub use Rattle.semver_versions.specs.Bump.{IsBumped, IsUpward, identifier_seen}
 pub use Rattle.semver_versions.specs.BumpBetween.{bump_between}
 pub use Rattle.semver_versions.specs.Coerce.{IsCoerced}
+pub use Rattle.semver_versions.specs.CoerceWithPrerelease.{IsCoercedWithPrerelease}
 pub use Rattle.semver_versions.specs.declared.version.bump.BumpError.TheVariants.{OutOfMemory}
 pub use Rattle.semver_versions.specs.Hash.{identifier_writes, version_writes}
 pub use Rattle.semver_versions.specs.Print.{identifier_text, version_text}

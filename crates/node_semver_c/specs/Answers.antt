@@ -17,6 +17,7 @@ use Rattle.semver_sets.specs.Merging.{AreSetsOfText}
 use Rattle.semver_sets.specs.RangeSets.{IsRangeValue}
 use Rattle.semver_sets.specs.Union.{AreJoinable, joined_text}
 use Rattle.semver_versions.specs.Coerce.{IsCoerced}
+use Rattle.semver_versions.specs.CoerceWithPrerelease.{IsCoercedWithPrerelease}
 use Rattle.semver_versions.specs.Version.{IsPrerelease, VersionValue}
 use Rattle.semver_versions.specs.declared.error.SemverError.{SemverError}
 use Rattle.semver_versions.specs.Error.{IsOutOfMemory, IsReadAs, refusal_of}
@@ -140,6 +141,11 @@ pub record IsCommonLeast (one other : List (Ends VersionValue)) (answer : Option
 pub record IsCoercion (rtl : Bool) (text : List ℕ) (answer : Option VersionValue) : Type 0 where
   pub found : IfSome answer (IsCoerced rtl text)
   pub none : IfNone answer ((v : VersionValue) → ¬ IsCoerced rtl text v)
+
+-- the result of `Version::coerce_with_prerelease` for a text
+pub record IsFullCoercion (rtl : Bool) (text : List ℕ) (answer : Option VersionValue) : Type 0 where
+  pub found : IfSome answer (IsCoercedWithPrerelease rtl text)
+  pub none : IfNone answer ((v : VersionValue) → ¬ IsCoercedWithPrerelease rtl text v)
 
 -- ---- the same calls with prereleases included
 

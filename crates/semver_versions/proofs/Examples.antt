@@ -3,4 +3,5 @@ mod PrintExamples
 pub mod ErrorExamples
 pub mod FaultExamples
 mod StrictExamples
-mod CoerceExamples
+pub mod CoerceExamples
+mod PrereleaseExamples

@@ -9,6 +9,11 @@ pub mod Pieces
 pub mod LastPieces
 pub mod NumberPlaces
 pub mod ChosenPieces
+pub mod Extras
+pub mod FullPieces
+pub mod LastFull
+pub mod ListedSlices
+pub mod ChosenFull
 pub mod StrictNumbers
 pub mod NumberTexts
 pub mod PrintCoerced

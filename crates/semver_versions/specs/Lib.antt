@@ -26,6 +26,7 @@ pub mod VersionSteps
 pub mod Bump
 pub mod BumpBetween
 pub mod Coerce
+pub mod CoerceWithPrerelease
 -- ---- prints that are read again
 pub mod ReadingBack
 -- ---- JSON strings

@@ -6,3 +6,4 @@ pub mod FaultViews
 pub mod ParsedViews
 pub mod StrictViews
 pub mod PieceViews
+pub mod ExtraViews

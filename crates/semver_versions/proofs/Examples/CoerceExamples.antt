@@ -9,7 +9,7 @@ use Rattle.semver_versions.proofs.Versions.Pieces.{below_or_not, first_of, one_f
 
 -- ---- numbers of one digit
 
-none_before : (text : List ℕ) (place : ℕ) → place + 1 ≡ 0 → is_digit_at text place ≡ false
+pub none_before : (text : List ℕ) (place : ℕ) → place + 1 ≡ 0 → is_digit_at text place ≡ false
 none_before text place e = absurd (omega (arith, e))
 
 after_other : (text : List ℕ) (start : ℕ) → is_digit_at text start ≡ false → (place : ℕ) → place + 1 ≡ start + 1
@@ -18,7 +18,7 @@ after_other text start h place e =
     let same : start ≡ place = omega (arith, e) in
     subst (λ (n : ℕ). is_digit_at text n ≡ false) same h
 
-one_digit : (text : List ℕ) (start : ℕ) → start + 1 ≤ length text → is_digit_at text start ≡ true
+pub one_digit : (text : List ℕ) (start : ℕ) → start + 1 ≤ length text → is_digit_at text start ≡ true
     → ((place : ℕ) → place + 1 ≡ start → is_digit_at text place ≡ false) → is_digit_at text (start + 1) ≡ false
     → IsNumberAt text start (start + 1)
 one_digit text start within here before after = record {
@@ -52,7 +52,7 @@ two_digits text start within here next before after = record {
   after = after;
 }
 
-one_there : IsStrictNumber (codes "1") 1
+pub one_there : IsStrictNumber (codes "1") 1
 one_there = record { read = record { some = refl; digits = refl; value = refl; limit = lit≤ tt }; strict = refl }
 
 two_there : IsStrictNumber (codes "2") 2
@@ -80,8 +80,8 @@ fourth_at = one_digit (codes "1.2.3.4") 6 (lit≤ tt) refl (after_other (codes "
 
 from_left : IsCoerced false (codes "1.2.3.4") (release 1 2 3)
 from_left =
-    let found = first_found (codes "1.2.3.4") 0 1 (codes "1" ∷ codes "2" ∷ codes "3" ∷ [])
-    (record { number = first_at; first = λ start end h. omega arith })
+    let found = first_found (codes "1.2.3.4") 0 1 5 (codes "1" ∷ codes "2" ∷ codes "3" ∷ [])
+    (record { number = first_at; after = omega arith; first = λ start end from h. omega arith })
     (three_from (codes "1.2.3.4") 0 1 3 5 first_at refl second_at refl third_at) in
     record {
       start = found.0;
@@ -128,7 +128,7 @@ zero_at = two_digits (codes "01") 0 (lit≤ tt) refl refl (none_before (codes "0
 
 zero_none : (v : VersionValue) → ¬ IsCoerced false (codes "01") v
 zero_none =
-    let found = first_found (codes "01") 0 2 (codes "01" ∷ [])
-    (record { number = zero_at; first = λ start end h. omega arith })
+    let found = first_found (codes "01") 0 2 2 (codes "01" ∷ [])
+    (record { number = zero_at; after = omega arith; first = λ start end from h. omega arith })
     (one_from (codes "01") 0 2 zero_at (λ end point h. cc point)) in
     not_coerced false (codes "01") found.0 found.1 (codes "01" ∷ []) None found.2 (λ v h. zero_strict h.0 h.1)

@@ -10,16 +10,16 @@ use Rattle.semver_versions.proofs.Versions.Pieces.{first_of, last_of, next_end, 
 
 -- ---- from a number at its end
 
-pub first_found : (text : List ℕ) (start end : ℕ) (numbers : List (List ℕ)) → IsFirstNumber text start end
-    → IsLongestFrom text start numbers → (from to : ℕ) × IsFirstPiece text from to numbers
-first_found text start end numbers number piece = (
+pub first_found : (text : List ℕ) (start first end : ℕ) (numbers : List (List ℕ)) → IsFirstNumber text 0 start first
+    → IsLongestFrom text start end numbers → (from to : ℕ) × IsFirstPiece text from to numbers
+first_found text start first end numbers number piece = (
   start,
-  piece.end,
+  end,
   record {
     piece = piece.piece;
     first = λ from to others h.
         let other = first_of text from to others h in
-        number.first from other.0 other.1;
+        number.first from other.0 (omega arith) other.1;
     longest = piece.longest;
   },
 )
@@ -41,7 +41,7 @@ last_found text start end numbers number piece = (
 -- ---- there is only one
 
 -- the ends decide the numbers
-same_numbers : (text : List ℕ) (start end : ℕ) (numbers others : List (List ℕ)) → IsPiece text start end numbers
+pub same_numbers : (text : List ℕ) (start end : ℕ) (numbers others : List (List ℕ)) → IsPiece text start end numbers
     → IsPiece text start end others → others ≡ numbers
 same_numbers text start end _ _ (one _ _ h) (one _ _ k) = refl
 same_numbers text start end _ _ (one _ _ h) (two _ other _ k point m) =

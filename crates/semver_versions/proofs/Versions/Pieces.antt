@@ -86,9 +86,9 @@ one_longest text start first h none end _ (three _ other second _ k point m dash
     absurd (none_after text start first other second h k none point m)
 
 pub one_from : (text : List ℕ) (start first : ℕ) → IsNumberAt text start first → HasNoNext text first
-    → IsLongestFrom text start (slice_range text start first ∷ [])
+    → IsLongestFrom text start first (slice_range text start first ∷ [])
 one_from text start first h none =
-    record { end = first; piece = one start first h; longest = one_longest text start first h none }
+    record { piece = one start first h; longest = one_longest text start first h none }
 
 two_longest : (text : List ℕ) (start first second : ℕ) → IsNumberAt text start first
     → IsNumberAt text (first + 1) second → HasNoNext text second → (end : ℕ) (numbers : List (List ℕ))
@@ -102,9 +102,8 @@ two_longest text start first second h g none end _ (three _ other next _ k point
 
 pub two_from : (text : List ℕ) (start first second : ℕ) → IsNumberAt text start first
     → slice_index text first ≡ dot → IsNumberAt text (first + 1) second → HasNoNext text second
-    → IsLongestFrom text start (slice_range text start first ∷ slice_range text (first + 1) second ∷ [])
+    → IsLongestFrom text start second (slice_range text start first ∷ slice_range text (first + 1) second ∷ [])
 two_from text start first second h point g none = record {
-  end = second;
   piece = two start first second h point g;
   longest = two_longest text start first second h g none;
 }
@@ -122,12 +121,11 @@ three_longest text start first second third h g f end _ (three _ other next _ k 
 pub three_from : (text : List ℕ) (start first second third : ℕ) → IsNumberAt text start first
     → slice_index text first ≡ dot → IsNumberAt text (first + 1) second → slice_index text second ≡ dot
     → IsNumberAt text (second + 1) third
-    → IsLongestFrom text start (slice_range text start first
+    → IsLongestFrom text start third (slice_range text start first
     ∷ slice_range text (first + 1) second
     ∷ slice_range text (second + 1) third
     ∷ [])
 three_from text start first second third h point g dash f = record {
-  end = third;
   piece = three start first second third h point g dash f;
   longest = three_longest text start first second third h g f;
 }

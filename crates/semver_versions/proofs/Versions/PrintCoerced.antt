@@ -148,9 +148,10 @@ module _ (a b c : ℕ) (rest : List ℕ) where
       let first = first_there f in
       let second = second_there g in
       let third = third_there h ends in
-      let found = first_found text 0 first_place _ (record {
+      let found = first_found text 0 first_place third_place _ (record {
         number = first.number;
-        first = λ start end other. omega arith;
+        after = omega arith;
+        first = λ start end from other. omega arith;
       }) (three_from text 0 first_place second_place third_place first.number first_dot second.number second_dot
       third.number) in
       record {

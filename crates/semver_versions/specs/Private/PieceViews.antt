@@ -12,8 +12,7 @@ numbers_of (Two a b) = a.now ∷ b.now ∷ []
 numbers_of (Three a b c) = a.now ∷ b.now ∷ c.now ∷ []
 
 -- the longest piece that starts here
-pub record IsLongestFrom (text : List ℕ) (start : ℕ) (numbers : List (List ℕ)) : Type 0 where
-  pub end : ℕ
+pub record IsLongestFrom (text : List ℕ) (start end : ℕ) (numbers : List (List ℕ)) : Type 0 where
   pub piece : IsPiece text start end numbers
   pub longest : (other_end : ℕ) (others : List (List ℕ)) → IsPiece text start other_end others → other_end ≤ end
 
@@ -23,10 +22,12 @@ pub record IsLongestTo (text : List ℕ) (end : ℕ) (numbers : List (List ℕ))
   pub piece : IsPiece text start end numbers
   pub longest : (other_start : ℕ) (others : List (List ℕ)) → IsPiece text other_start end others → start ≤ other_start
 
--- the number that starts first
-pub record IsFirstNumber (text : List ℕ) (start end : ℕ) : Type 0 where
+-- the number that starts first from a place on
+pub record IsFirstNumber (text : List ℕ) (from start end : ℕ) : Type 0 where
   pub number : IsNumberAt text start end
-  pub first : (other_start other_end : ℕ) → IsNumberAt text other_start other_end → start ≤ other_start
+  pub after : from ≤ start
+  pub first : (other_start other_end : ℕ) → from ≤ other_start → IsNumberAt text other_start other_end
+      → start ≤ other_start
 
 -- the number that ends last
 pub record IsLastNumber (text : List ℕ) (start end : ℕ) : Type 0 where

@@ -4,10 +4,14 @@ ghost use Rattle.semver_versions.specs.Coerce.{IsChosen, IsCoerced, IsPiece};
 ghost use Rattle.semver_versions.specs.Private.PieceViews.{numbers_of};
 ghost use Rattle.semver_versions.specs.Version.{VersionValue};
 
+mod extras;
 mod first;
+mod full;
 mod last;
+mod last_full;
 mod number;
 mod piece;
+mod with_prerelease;
 
 use crate::Version;
 use first::first_piece;

@@ -1,12 +1,14 @@
+use Rattle.std.proofs.Common.{arith}
 use Rattle.semver_versions.proofs.Versions.ChosenPieces.{first_found}
 use Rattle.semver_versions.proofs.Versions.Pieces.{first_of}
 use Rattle.semver_versions.proofs.version.coerce.first.first_piece.Goals as goal
 
 pub returns-in-Some-clause-some : goal.returns-in-Some-clause-some
 returns-in-Some-clause-some c =
-    first_found c.args.text.now c.in-Some.start c.in-Some.end _ c.in-Some.ensures.some c.piece_from.ensures
+    first_found c.args.text.now c.in-Some.start c.in-Some.first _ _ c.in-Some.ensures.some
+    c.piece_from.ensures.longest
 
 pub returns-in-None-clause-none : goal.returns-in-None-clause-none
 returns-in-None-clause-none c = λ start end numbers h.
     let first = first_of c.args.text.now start end numbers h in
-    c.in-None.ensures.none start first.0 first.1
+    c.in-None.ensures.none start first.0 (omega arith) first.1

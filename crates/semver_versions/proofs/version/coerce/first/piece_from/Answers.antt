@@ -1,18 +1,18 @@
 use Rattle.semver_versions.proofs.Versions.Pieces.{one_from, three_from, two_from}
 use Rattle.semver_versions.proofs.version.coerce.first.piece_from.Goals as goal
 
-pub returns-in_default : goal.returns-in_default
-returns-in_default c =
+pub returns-in_default-clause-longest : goal.returns-in_default-clause-longest
+returns-in_default-clause-longest c =
     one_from c.args.text.now c.args.start c.args.first c.requires c.in_default.ensures.none
 
-pub returns-in-None : goal.returns-in-None
-returns-in-None c =
+pub returns-in-None-clause-longest : goal.returns-in-None-clause-longest
+returns-in-None-clause-longest c =
     let second = c.in-Some.ensures.some in
     two_from c.args.text.now c.args.start c.args.first c.in-Some.second c.requires second.0 second.1
     c.in-None.ensures.none
 
-pub returns-in-Some-next_number : goal.returns-in-Some-next_number
-returns-in-Some-next_number c =
+pub returns-in-Some-next_number-clause-longest : goal.returns-in-Some-next_number-clause-longest
+returns-in-Some-next_number-clause-longest c =
     let second = c.in-Some.ensures.some in
     let third = c.in-Some-next_number.ensures.some in
     three_from c.args.text.now c.args.start c.args.first c.in-Some.second c.in-Some-next_number.third c.requires

@@ -5,6 +5,8 @@
 // node lock_files.js PROGRAM file FILE PACKAGES: on this lock file, of so many packages.
 // node lock_files.js PROGRAM made-old COUNT: on COUNT lock files of version 1 that are made here, each with a manifest.
 // node lock_files.js PROGRAM rows-old: on the rows of version 1.
+// node lock_files.js PROGRAM made-manifest COUNT: on COUNT lock files of version 3 that are made here, each with a manifest.
+// node lock_files.js PROGRAM rows-manifest: on the rows with a manifest; also whether the two ask for the same.
 const { spawnSync } = require('node:child_process')
 const fs = require('node:fs')
 const os = require('node:os')
@@ -191,6 +193,28 @@ const oldRows = [
     [asks('^1'), { a: at(version, { from: 'github:b/b' }) }])
 ]
 
+// Rows with a manifest: the manifest, and the members of `packages`.
+const installed = { 'node_modules/a': at('1.0.0'), 'node_modules/b': at('1.0.0') }
+const manifestRows = [
+  [asks('^1'), { '': asks('^1'), ...installed }],
+  [asks('^1.0.0'), { '': asks('^1'), ...installed }],
+  [asks('^2'), { '': asks('^1'), ...installed }],
+  [asks('1'), { '': {}, ...installed }],
+  [{}, { '': asks('1'), ...installed }],
+  [{ dependencies: { a: '1', b: '2', c: '1' } }, { '': asks('1'), ...installed }],
+  // Another group for the same name, and one name in two groups.
+  ...['devDependencies', 'optionalDependencies', 'peerDependencies'].flatMap(name => [
+    [{ [name]: { a: '2' } }, { '': asks('2'), ...installed }], [asks('2'), { '': { [name]: { a: '2' } }, ...installed }],
+    [{ [name]: { a: '1' } }, { '': { [name]: { a: '1' } }, ...installed }],
+    [{ [name]: { a: '1', c: '1' } }, { '': { [name]: { a: '1' } }, ...installed }]
+  ]),
+  [{ dependencies: { a: '1' }, optionalDependencies: { a: '2' } }, { '': { optionalDependencies: { a: '2' } }, ...installed }],
+  [{ dependencies: { a: '1' }, optionalDependencies: { a: '2' } }, { '': { optionalDependencies: { a: '1' } }, ...installed }],
+  // What other packages ask for stays.
+  [asks('2'), { '': asks('2'), 'node_modules/a': at('1.0.0', asks('3')), 'node_modules/a/node_modules/a': at('2.0.0') }],
+  [{ dependencies: { a: '^2' }, acceptDependencies: { a: '^1' } }, { '': asks('^2'), ...installed }]
+]
+
 // The member of a lock file for the package in this folder. In version 1 the root has none.
 const marksOf = (file, folder) => {
   if (file.packages) return file.packages[folder]
@@ -200,7 +224,8 @@ const marksOf = (file, folder) => {
 
 // npm's problems: those of each edge. A workspace of the root is an edge of its own, which hides that of a group.
 const npmProblems = async (folder, file) => {
-  const tree = await new Arborist({ path: folder }).loadVirtual()
+  const arborist = new Arborist({ path: folder })
+  const tree = await arborist.loadVirtual()
   const found = []
   let count = 0
   for (const node of tree.inventory.values()) {
@@ -224,7 +249,8 @@ const npmProblems = async (folder, file) => {
       found.push(told(problem))
     }
   }
-  return { found, count }
+  // Whether npm finds that the root's manifest and the lock file do not ask for the same.
+  return { found, count, isSuspect: !!arborist[Symbol.for('flagsSuspect')] }
 }
 
 // npm reads the folders of workspaces, and not the lock file, for their names.
@@ -239,6 +265,18 @@ const writeFolders = (root, packages) => {
 const oldRowFiles = () => oldRows.map(([manifest, dependencies]) => ({
   manifest: { name: 'root', ...manifest },
   file: { name: 'root', version: '1.0.0', lockfileVersion: 1, requires: true, dependencies }
+}))
+
+// A lock file of version 3 with a manifest, which has no marks.
+const withManifest = () => {
+  const { dev, optional, devOptional, peer, ...manifest } = member()
+  return { file: lockFile(), manifest: { ...manifest, name: 'root' } }
+}
+
+const manifestRowFiles = () => manifestRows.map(([manifest, packages]) => ({
+  manifest: { name: 'root', ...manifest },
+  file: { name: 'root', version: '1.0.0', lockfileVersion: 3, requires: true, packages },
+  isCompared: true
 }))
 
 const rowFiles = () => rows.map(packages => ({
@@ -296,6 +334,8 @@ const wanted = () => {
   if (kind === 'rows') return { files: alone(rowFiles()) }
   if (kind === 'installed') return { files: alone([installedFile()]) }
   if (kind === 'rows-old') return { files: oldRowFiles() }
+  if (kind === 'rows-manifest') return { files: manifestRowFiles() }
+  if (kind === 'made-manifest') return { files: Array.from({ length: Number(text) }, withManifest) }
   if (kind === 'made-old') return { files: Array.from({ length: Number(text) }, oldFile) }
   if (kind === 'file') {
     return { files: alone([spoiled(JSON.parse(fs.readFileSync(text, 'utf8')))]), packages: Number(packages) }
@@ -307,7 +347,7 @@ const main = async () => {
   const program = process.argv[2]
   const { files, packages } = wanted()
   let differ = 0, dependencies = 0, problems = 0
-  for (const [i, { file, manifest }] of files.entries()) {
+  for (const [i, { file, manifest, isCompared }] of files.entries()) {
     const room = fs.mkdtempSync(path.join(os.tmpdir(), 'lock_files-'))
     const folder = path.join(room, 'above', 'root')
     fs.mkdirSync(folder, { recursive: true })
@@ -317,11 +357,15 @@ const main = async () => {
     const beside = path.join(folder, 'package.json')
     if (manifest) fs.writeFileSync(beside, JSON.stringify(manifest))
     const version = file.packages && nodes[i % nodes.length]
-    const npm = await npmProblems(folder, file)
-    if (version) npm.found.push(...engineProblems(file, version))
+    // npm reads the root from its manifest.
+    const seen = manifest && file.packages ? { ...file, packages: { ...file.packages, '': manifest } } : file
+    const npm = await npmProblems(folder, seen)
+    if (version) npm.found.push(...engineProblems(seen, version))
     npm.found.sort()
-    const ran = spawnSync(program, [...(version ? ['--node', version] : []), ...(manifest ? ['--manifest', beside] : [])],
+    const run = more => spawnSync(program, [...(version ? ['--node', version] : []), ...(manifest ? ['--manifest', beside] : []), ...more],
       { input: text, encoding: 'utf8', maxBuffer: 1 << 28 })
+    const ran = run(['--ignore', 'group'])
+    const isMismatched = isCompared && / [1-9]\d* mismatches/.test(run([]).stderr)
     fs.rmSync(room, { recursive: true })
     const sorted = ran.stdout.split('\n').filter(line => line).sort()
     const counts = /^(\d+) packages, (\d+) dependencies/.exec(ran.stderr)
@@ -331,6 +375,10 @@ const main = async () => {
     if (packages !== undefined && Number(counts?.[1]) !== packages) {
       differ++
       console.log(`WRONG: ${counts?.[1]} packages, and not ${packages}: ${ran.stderr}`)
+    }
+    if (isCompared && isMismatched !== npm.isSuspect) {
+      differ++
+      console.log(`WRONG: row ${i}: npm says ${npm.isSuspect ? 'not ' : ''}the same, and this ${isMismatched ? 'not ' : ''}the same`)
     }
     if (counted !== npm.count || JSON.stringify(sorted) !== JSON.stringify(npm.found)) {
       differ++

@@ -5,9 +5,11 @@ use Rattle.std.proofs.lemmas.List.{drop_more}
 use Rattle.serde_json.proofs.OnLiterals.{serde_json_on_literals}
 use Rattle.serde_json.specs.Data.{no_members, put, string}
 use Rattle.serde_json.specs.Written.{has_float, members_have_float}
+use Rattle.npm_lock.specs.MismatchJson.{mismatch_data}
+use Rattle.npm_lock.specs.Mismatches.{MismatchValue}
 use Rattle.npm_lock.specs.Outcomes.{ProblemValue, UncheckedValue}
 use Rattle.npm_lock.specs.ProblemJson.{problem_data, reason_text, unchecked_data, with_text}
-use Rattle.npm_lock_check.specs.Output.{lines}
+use Rattle.npm_lock_check.specs.Report.{lines}
 
 last_members : (to version : Option (List ℕ))
     → members_have_float (with_text (codes "to") to (with_text (codes "version") version no_members)) ≡ false
@@ -48,3 +50,21 @@ line_more value line done more whole all i item small is is_more held =
     ap (λ text. text ++ lines line (map value (drop (i + 1) all))) is_more
     ∙ regroup done (line (value item)) (lines line (map value (drop (i + 1) all)))
     ∙ ap (λ rest. done ++ lines line (map value rest)) (sym here) ∙ held
+
+-- ---- mismatches
+
+spec_members : (spec : Option (List ℕ)) → members_have_float (with_text (codes "spec") spec no_members) ≡ false
+unfolding serde_json_on_literals
+spec_members None = refl
+spec_members (Some spec) = refl
+
+locked_members : (locked spec : Option (List ℕ)) (name : List ℕ)
+    → members_have_float (with_text (codes "locked") locked (with_text (codes "name") (Some name)
+    (with_text (codes "problem") (Some (codes "group")) (with_text (codes "spec") spec no_members)))) ≡ false
+unfolding serde_json_on_literals
+locked_members None spec name = spec_members spec
+locked_members (Some locked) spec name = spec_members spec
+
+pub no_float_mismatch : (mismatch : MismatchValue) → has_float (mismatch_data mismatch) ≡ false
+unfolding serde_json_on_literals
+no_float_mismatch mismatch = locked_members mismatch.locked mismatch.spec mismatch.name

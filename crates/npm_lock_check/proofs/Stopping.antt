@@ -5,7 +5,9 @@ use Rattle.serde_json.proofs.OnLiterals.{serde_json_on_literals}
 use Rattle.serde_json.specs.Data.{Data}
 use Rattle.serde_json.specs.Read.{read}
 use Rattle.npm_lock_check.specs.GaugeValue.{GaugeValue}
-use Rattle.npm_lock_check.specs.Output.{IsInput, IsRefused, IsStopped}
+use Rattle.npm_lock_check.specs.Output.{IsInput, IsStopped}
+use Rattle.npm_lock_check.specs.Private.Refusals.{IsRefused}
+use Rattle.npm_lock_check.specs.Report.{WantedValue, placed}
 use Rattle.npm_lock_check.specs.declared.run_error.RunError.{RunError}
 use Rattle.npm_lock_check.specs.declared.run_error.RunError.TheVariants.{Memory, Write}
 
@@ -14,9 +16,9 @@ unfolding serde_json_on_literals
 no_value lock is = cc is
 
 -- memory ran out after the input was read
-pub later : {R : Type 0} (remaining : R → Option (List ℕ)) (manifest : Option Data) (old new : GaugeValue R) (lock : Data)
-    → IsInput remaining old new lock → IsStopped remaining manifest old new Memory
-later remaining manifest old new lock input = inr (record {
+pub later : {R : Type 0} (remaining : R → Option (List ℕ)) (wanted : WantedValue) (old new : GaugeValue R) (lock : Data)
+    → IsInput remaining old new lock → IsStopped remaining wanted old new Memory
+later remaining wanted old new lock input = inr (record {
   bytes = input.bytes;
   taken = input.taken;
   ended = input.ended;
@@ -24,19 +26,21 @@ later remaining manifest old new lock input = inr (record {
   such = (input.such.0, λ empty. no_value lock (rw empty at input.such.1));
 })
 
--- the value was refused, or memory ran out in the check
-pub refused : {R : Type 0} (remaining : R → Option (List ℕ)) (manifest : Option Data) (old new : GaugeValue R)
-    (lock : Data) (error : RunError)
-    → IsInput remaining old new lock → IsRefused lock manifest error → IsStopped remaining manifest old new error
-refused remaining manifest old new lock error input (inl told) =
-    rw told.1 (lock, input, told.2)
-refused remaining manifest old new lock error input (inr memory) =
-    rw memory (later remaining manifest old new lock input)
+-- a value was refused, or memory ran out in the check
+pub refused : {R : Type 0} (remaining : R → Option (List ℕ)) (wanted : WantedValue) (old new : GaugeValue R)
+    (lock : Data) (error : RunError) → IsInput remaining old new lock
+    → IsRefused lock (placed lock wanted.manifest) wanted error → IsStopped remaining wanted old new error
+refused remaining wanted old new lock error input (inl (inl (fault, is, told))) = rw is (lock, input, told)
+refused remaining wanted old new lock error input (inl (inr is)) = rw is (later remaining wanted old new lock input)
+refused remaining wanted old new lock error input (inr (inl (fault, is, told))) = rw is (lock, input, told)
+refused remaining wanted old new lock error input (inr (inr is)) = rw is (later remaining wanted old new lock input)
 
 -- the check writes nothing, so no write of it fails
-pub unwritten : (lock : Data) (manifest : Option Data) → ¬ IsRefused lock manifest Write
-unwritten lock manifest (inl told) = cc told.1
-unwritten lock manifest (inr memory) = cc memory
+pub unwritten : (lock placed : Data) (wanted : WantedValue) → ¬ IsRefused lock placed wanted Write
+unwritten lock placed wanted (inl (inl told)) = cc told.1
+unwritten lock placed wanted (inl (inr is)) = cc is
+unwritten lock placed wanted (inr (inl told)) = cc told.1
+unwritten lock placed wanted (inr (inr is)) = cc is
 
 module _ {T E F : Type 0} (Q : E → F → Type 0) where
   -- the error before its type changed

@@ -4,8 +4,7 @@ use Rattle.std.specs.Prelude.{Option, Some, None, is_some, option_map, Result, O
 use Rattle.std.specs.List.{starts_with}
 use Rattle.std.specs.Result.{result_map_both}
 use Rattle.std.specs.Str.{bytes_eq}
-use Rattle.npm_lock.specs.declared.problem.Kind.{Kind}
-use Rattle.npm_lock_check.specs.Kinds.{kind_of, no_kinds, with_kind}
+use Rattle.npm_lock_check.specs.Kinds.{named_by, no_kinds, with_named}
 use Rattle.npm_lock_check.specs.declared.arguments.TheConstants.{MAX_WORDS}
 use Rattle.npm_lock_check.specs.declared.arguments.Argument.{Argument}
 use Rattle.npm_lock_check.specs.declared.arguments.Asked.{Asked}
@@ -17,6 +16,7 @@ use Rattle.npm_lock_check.specs.declared.arguments.Setting.{Setting}
 use Rattle.npm_lock_check.specs.declared.arguments.Setting.TheVariants as Settings
 use Rattle.npm_lock_check.specs.declared.arguments.Shown.{Shown}
 use Rattle.npm_lock_check.specs.declared.arguments.Shown.TheVariants as Shows
+use Rattle.npm_lock_check.specs.declared.kinds.Ignorable.{Ignorable}
 use Rattle.npm_lock_check.specs.declared.kinds.Kinds.{Kinds}
 use Rattle.npm_lock_check.specs.declared.run_error.RunError.{RunError}
 use Rattle.npm_lock_check.specs.declared.run_error.RunError.TheVariants as Errors
@@ -98,15 +98,15 @@ abbrev pub with_format : AskedValue → Option Format → Result AskedValue RunE
 with_format asked None = Err Errors.Format
 with_format asked (Some format) = Ok (record asked { format = Some format })
 
-abbrev pub with_ignored : AskedValue → Option Kind → Result AskedValue RunError
+abbrev pub with_ignored : AskedValue → Option Ignorable → Result AskedValue RunError
 with_ignored asked None = Err Errors.Kind
-with_ignored asked (Some kind) = Ok (record asked { ignored = with_kind asked.ignored kind })
+with_ignored asked (Some named) = Ok (record asked { ignored = with_named asked.ignored named })
 
 -- with one more option that has a value
 abbrev pub with_value : AskedValue → Setting → (text : List ℕ) → Result AskedValue RunError
 with_value asked Settings.Node text = Ok (record asked { node = Some text })
 with_value asked Settings.Format text = with_format asked (format_of text)
-with_value asked Settings.Ignore text = with_ignored asked (kind_of text)
+with_value asked Settings.Ignore text = with_ignored asked (named_by text)
 with_value asked Settings.Manifest text = Ok (record asked { manifest = Some text })
 
 -- with one more word that is no option, which is the file; `-` is one too

@@ -2,10 +2,11 @@
 //!
 //! See docs/DECISIONS.md, "The arguments of `npm_lock_check` are read by hand".
 ghost use Rattle.std.specs.Prelude.{◌≡◌, ◌<◌, [], ◌∷◌, length, map, option_map, string_bytes, MatchOption};
+ghost use Rattle.npm_lock_check.specs.Kinds as KindSets;
 ghost use Rattle.npm_lock_check.specs.Arguments as Arguments;
 ghost use Rattle.npm_lock_check.specs.Arguments.{argument_value, arguments_of, asked_by, asked_result, asked_value};
 
-use crate::kinds::{Kinds, kind_of};
+use crate::kinds::{Kinds, named_by};
 use crate::run_error::RunError;
 
 /// How problems are written.
@@ -190,24 +191,38 @@ fn with_value<'a>(asked: Asked<'a>, setting: Setting, text: &'a str) -> Result<A
             node: Some(text),
             ..asked
         }),
-        Setting::Format => match format_of(text) {
-            Some(format) => Ok(Asked {
-                format: Some(format),
-                ..asked
-            }),
-            None => Err(RunError::Format),
-        },
-        Setting::Ignore => match kind_of(text) {
-            Some(kind) => Ok(Asked {
-                ignored: asked.ignored.with(kind),
-                ..asked
-            }),
-            None => Err(RunError::Kind),
-        },
         Setting::Manifest => Ok(Asked {
             manifest: Some(text),
             ..asked
         }),
+        Setting::Format => with_format(asked, format_of(text)),
+        Setting::Ignore => with_ignored(asked, text),
+    }
+}
+
+/// What is asked for with one more format.
+fn with_format<'a>(asked: Asked<'a>, format: Option<Format>) -> Result<Asked<'a>, RunError>
+    ensures { asked_result result ≡ Arguments.with_format (asked_value asked.entry) format }
+{
+    match format {
+        Some(format) => Ok(Asked {
+            format: Some(format),
+            ..asked
+        }),
+        None => Err(RunError::Format),
+    }
+}
+
+/// What is asked for with one more kind that is left out.
+fn with_ignored<'a>(asked: Asked<'a>, text: &str) -> Result<Asked<'a>, RunError>
+    ensures { asked_result result ≡ Arguments.with_ignored (asked_value asked.entry) (KindSets.named_by text.now) }
+{
+    match named_by(text) {
+        Some(named) => Ok(Asked {
+            ignored: asked.ignored.with(named),
+            ..asked
+        }),
+        None => Err(RunError::Kind),
     }
 }
 

@@ -15,20 +15,21 @@ Options:
   --node VERSION     Also check engines.node of each package against this version of Node.
                      20 means 20.0.0, and v20.11 means 20.11.0.
                      Example: npm_lock_check --node 20 package-lock.json
-  --manifest FILE    What the root asks for, if the lock file is of version 1: its package.json.
+  --manifest FILE    The package.json of the root: write where it and the lock file do not ask for the
+                     same, and check the lock file for what the package.json asks for.
                      Example: npm_lock_check --manifest package.json package-lock.json
   --unchecked        Also list each dependency that is not checked, and why.
                      Example: npm_lock_check --unchecked package-lock.json
   --format FORMAT    text: write each problem as a sentence. json: write it as a JSON object.
                      The default is text if standard output is a terminal, and json if not.
                      Example: npm_lock_check --format text package-lock.json > problems.txt
-  --ignore KIND      Leave out problems of this kind: missing, invalid, peer-local or engine.
-                     May be given several times.
+  --ignore KIND      Leave out problems of this kind: group (package.json and the lock file do not ask
+                     for the same), missing, invalid, peer-local or engine. May be given several times.
                      Example: npm_lock_check --ignore peer-local --ignore engine package-lock.json
   -h, --help         Write this text.
                      Example: npm_lock_check --help
   -V, --version      Write the version of this program.
                      Example: npm_lock_check --version
 
-The exit status is 0 if no problem was written, 1 if one was, and 2 if the file was not checked.
+The exit status is 0 if nothing was found, 1 if something was, and 2 if the file was not checked.
 ";

@@ -4,9 +4,17 @@ ghost use Rattle.npm_lock_check.specs.Kinds as KindSets;
 
 use npm_lock::Kind;
 
+/// What `--ignore` names: a kind of problem of the lock file, or what a manifest and the lock file do not ask alike.
+#[derive(Clone, Copy, Drop)]
+pub enum Ignorable {
+    Group,
+    Problem(Kind),
+}
+
 /// A set of kinds of problems.
 #[derive(Clone, Copy, Drop)]
 pub struct Kinds {
+    pub group: bool,
     pub missing: bool,
     pub invalid: bool,
     pub peer_local: bool,
@@ -19,6 +27,7 @@ impl Kinds {
         ensures { result ≡ KindSets.no_kinds }
     {
         Kinds {
+            group: false,
             missing: false,
             invalid: false,
             peer_local: false,
@@ -39,7 +48,20 @@ impl Kinds {
     }
 
     /// Returns the set with this kind too.
-    pub fn with(self, kind: Kind) -> Kinds
+    pub fn with(self, named: Ignorable) -> Kinds
+        ensures { result ≡ KindSets.with_named self named }
+    {
+        match named {
+            Ignorable::Group => Kinds {
+                group: true,
+                ..self
+            },
+            Ignorable::Problem(kind) => self.with_kind(kind),
+        }
+    }
+
+    /// The set with this kind of problem too.
+    fn with_kind(self, kind: Kind) -> Kinds
         ensures { result ≡ KindSets.with_kind self kind }
     {
         match kind {
@@ -64,17 +86,19 @@ impl Kinds {
 }
 
 /// Returns the kind that the text names: `peer-local` has a `-`, so that no shell divides it.
-pub fn kind_of(text: &str) -> Option<Kind>
-    ensures { result ≡ KindSets.kind_of text.now }
+pub fn named_by(text: &str) -> Option<Ignorable>
+    ensures { result ≡ KindSets.named_by text.now }
 {
-    if text == "missing" {
-        Some(Kind::Missing)
+    if text == "group" {
+        Some(Ignorable::Group)
+    } else if text == "missing" {
+        Some(Ignorable::Problem(Kind::Missing))
     } else if text == "invalid" {
-        Some(Kind::Invalid)
+        Some(Ignorable::Problem(Kind::Invalid))
     } else if text == "peer-local" {
-        Some(Kind::PeerLocal)
+        Some(Ignorable::Problem(Kind::PeerLocal))
     } else if text == "engine" {
-        Some(Kind::Engine)
+        Some(Ignorable::Problem(Kind::Engine))
     } else {
         None
     }

@@ -1,67 +1,69 @@
 //! Reads a `package-lock.json`, and writes each dependency that is missing or has a version that its spec does not admit.
-//! With `--node VERSION` also each package whose `engines.node` does not admit it.
+//! With `--node VERSION` also each package whose `engines.node` does not admit it, and with `--manifest FILE` also where the
+//! root's manifest and the lock file do not ask for the same.
 //!
-//! The exit status is 0 if no problem was written, 1 if one was, and 2 if the file was not checked. Nothing is then
+//! The exit status is 0 if nothing was found, 1 if something was, and 2 if the file was not checked. Nothing is then
 //! written but one line on standard error, which says why.
 #![tactic(auto)]
 
-ghost use Rattle.std.specs.Prelude.{◌≡◌, ◌↔◌, [], IfErr, IfOk, IsErr, None, Some};
-ghost use Rattle.std.specs.declared.option.Option.{Option};
+ghost use Rattle.std.specs.Prelude.{◌≡◌, ◌↔◌, IfErr, None, Some};
+ghost use Rattle.npm_lock_check.specs.Report.{IsClean};
 
 mod arguments;
 mod gauge;
 mod help;
 mod kinds;
+mod lines;
 mod node;
 mod output;
+mod report;
 mod run_error;
 mod sentence;
+mod sync;
+mod wanted;
 
 use arguments::{Asked, Format, Shown, asked_of};
 use gauge::Gauge;
 use help::{HELP, VERSION};
 use node::node_of;
-use npm_lock::Problems;
-use output::{Wanted, read_json, run};
-use run_error::{RunError, open_error, read_error};
+use output::{read_json, run};
+use report::Report;
+use run_error::{RunError, StopError, open_error, read_error};
 use serde_json::Value;
 use std::env;
 use std::fs::File;
 use std::io::{IsTerminal, Read};
 use std::process::ExitCode;
+use wanted::Wanted;
 
 /// Ends with the status of `status_of`. A line on standard error that cannot be written is dropped.
 fn main(rt: HostRuntime) -> ExitCode {
     let outcome = answered(&rt);
     let _ = match &outcome {
-        Ok(Some(problems)) => eprintln!(rt;
-            "{} packages, {} dependencies, {} problems, {} not checked",
-            problems.packages,
-            problems.dependencies,
-            problems.list.len(),
-            problems.unchecked.len()
-        ),
+        Ok(Some(report)) => eprintln!(rt; "{report}"),
         Ok(None) => Ok(()),
         Err(error) => eprintln!(rt; "npm_lock_check: {error}"),
     };
     ExitCode::from(status_of(&outcome))
 }
 
-/// Does what the arguments ask for. Returns the problems that were written, or `None` if a text was shown in place of a
-/// check.
-fn answered(rt: &HostRuntime) -> Result<Option<Problems>, RunError> {
+/// Does what the arguments ask for. Returns what was written, or `None` if a text was shown in place of a check.
+fn answered(rt: &HostRuntime) -> Result<Option<Report>, StopError> {
     // The first word is the program's name.
-    let words = env::args(rt).map_err(read_error)?.skip(1);
-    let words: Vec<String> = words.collect(rt.alloc()).map_err(|_| RunError::Memory)?;
-    let asked = asked_of(&words)?;
+    let words = env::args(rt).map_err(|error| StopError::Check(read_error(error)))?;
+    let words: Vec<String> = words
+        .skip(1)
+        .collect(rt.alloc())
+        .map_err(|_| StopError::Check(RunError::Memory))?;
+    let asked = asked_of(&words).map_err(StopError::Check)?;
     if let Some(shown) = asked.shown {
-        show(rt, shown)?;
+        show(rt, shown).map_err(StopError::Check)?;
         return Ok(None);
     }
     match asked.file {
         None | Some("-") => checked(rt, rt.stdin(), asked).map(Some),
         Some(path) => {
-            let file = File::open(rt, path).map_err(open_error)?;
+            let file = File::open(rt, path).map_err(|error| StopError::Check(open_error(error)))?;
             checked(rt, file, asked).map(Some)
         }
     }
@@ -81,11 +83,12 @@ fn checked<R: Read + Drop>(
     rt: &HostRuntime,
     reader: R,
     asked: Asked<'_>,
-) -> Result<Problems, RunError> {
+) -> Result<Report, StopError> {
     let node = match asked.node {
-        Some(text) => Some(node_of(rt.alloc(), text)?),
+        Some(text) => Some(node_of(rt.alloc(), text).map_err(StopError::Check)?),
         None => None,
     };
+    let manifest = value_at(rt, asked.manifest).map_err(StopError::Manifest)?;
     let stdout = rt.stdout();
     let format = match asked.format {
         Some(format) => format,
@@ -94,10 +97,6 @@ fn checked<R: Read + Drop>(
     };
     let mut reader = Gauge::new(reader);
     let mut writer = Gauge::new(stdout);
-    let manifest = match asked.manifest {
-        Some(path) => Some(manifest_of(rt, path)?),
-        None => None,
-    };
     let wanted = Wanted {
         manifest: manifest.as_ref(),
         node: node.as_ref(),
@@ -105,24 +104,27 @@ fn checked<R: Read + Drop>(
         unchecked: asked.unchecked,
         format,
     };
-    run(rt.alloc(), &mut reader, &mut writer, wanted)
+    run(rt.alloc(), &mut reader, &mut writer, wanted).map_err(StopError::Check)
 }
 
-/// Reads a manifest.
-fn manifest_of(rt: &HostRuntime, path: &str) -> Result<Value, RunError> {
+/// Reads the JSON value of a file, if there is one.
+fn value_at(rt: &HostRuntime, path: Option<&str>) -> Result<Option<Value>, RunError> {
+    let Some(path) = path else {
+        return Ok(None);
+    };
     let file = File::open(rt, path).map_err(open_error)?;
-    read_json(rt.alloc(), &mut Gauge::new(file))
+    read_json(rt.alloc(), &mut Gauge::new(file)).map(Some)
 }
 
-/// Returns the exit status: 0 if no problem was written, 1 if one was, and 2 if the file was not checked.
-fn status_of(outcome: &Result<Option<Problems>, RunError>) -> u8
+/// Returns the exit status: 0 if nothing was found, 1 if something was, and 2 if the file was not checked.
+fn status_of(outcome: &Result<Option<Report>, StopError>) -> u8
     ensures shown { outcome.now ≡ Ok None → result ≡ 0 }
-    ensures checked { (problems : Problems) → outcome.now ≡ Ok (Some problems)
-        → (result ≡ 0 ↔ problems.list.items ≡ []) × (result ≡ 1 ↔ ¬ (problems.list.items ≡ [])) }
+    ensures checked { (report : Report) → outcome.now ≡ Ok (Some report)
+        → (result ≡ 0 ↔ IsClean report) × (result ≡ 1 ↔ ¬ IsClean report) }
     ensures stopped { IfErr outcome.now (λ _. result ≡ 2) }
 {
     match outcome {
-        Ok(Some(problems)) if !problems.list.is_empty() => 1,
+        Ok(Some(report)) if !report.is_clean() => 1,
         Ok(_) => 0,
         Err(_) => 2,
     }

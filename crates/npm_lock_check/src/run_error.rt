@@ -28,7 +28,7 @@ pub enum RunError {
     #[error("--format takes text or json; --help lists the options")]
     Format,
     /// What follows `--ignore` is no kind of problem.
-    #[error("--ignore takes missing, invalid, peer-local or engine; --help lists the options")]
+    #[error("--ignore takes group, missing, invalid, peer-local or engine; --help lists the options")]
     Kind,
     /// What follows `--node` is no version.
     #[error("--node takes a version, as 20 or 20.11.1; --help lists the options")]
@@ -60,6 +60,20 @@ pub enum RunError {
     /// What was read is no lock file.
     #[error("the input is no lock file that is read here: {0}")]
     NoLockFile(Fault),
+    /// The manifest has a fault.
+    #[error("the manifest is not read: {0}")]
+    NoManifest(Fault),
+}
+
+/// Why the program stopped.
+#[derive(Debug, PartialEq, Eq, Drop, Error)]
+pub enum StopError {
+    /// An argument, or the lock file, or what is written.
+    #[error("{0}")]
+    Check(RunError),
+    /// The file after `--manifest` was not read.
+    #[error("--manifest: {0}")]
+    Manifest(RunError),
 }
 
 /// Why a read failed: `Memory` if the buffer could not grow.

@@ -1,12 +1,15 @@
-//! A problem, or a dependency that is not checked, as a sentence for a person.
+//! A problem, a dependency that is not checked, or a mismatch, as a sentence for a person.
 //!
 //! See docs/DECISIONS.md, "A sentence has printable ASCII alone".
-ghost use Rattle.std.specs.Prelude.{◌≡◌, ◌<◌, ◌++◌, codes, OnOk, option_map, string_bytes};
+ghost use Rattle.std.specs.Prelude.{◌≡◌, ◌<◌, ◌++◌, ℕ, List, None, Some, codes, OnOk, option_map, string_bytes};
 ghost use Rattle.std.specs.List.{flat_map};
+ghost use Rattle.std.specs.Option.{MatchOption};
+ghost use Rattle.std.specs.Str.Pattern.{RFindsText, SplitsAroundMatch};
+ghost use Rattle.npm_lock.specs.Mismatches.{mismatch_value};
 ghost use Rattle.npm_lock.specs.Outcomes.{dependency_value, problem_value, unchecked_value};
 ghost use Rattle.npm_lock_check.specs.Sentence as Sentence;
 
-use npm_lock::{Dependency, Kind, Problem, Reason, Unchecked};
+use npm_lock::{Dependency, Kind, Mismatch, Problem, Reason, Unchecked};
 use std::alloc::AllocError;
 
 /// Adds the sentence of a problem.
@@ -23,6 +26,36 @@ pub fn push_unchecked_sentence(line: &mut Vec<u8>, unchecked: &Unchecked) -> Res
 {
     push_said(line, b" is not checked against ", &unchecked.dependency)?;
     line.extend_from_slice(reason(unchecked.reason))
+}
+
+/// Adds the sentence of a mismatch.
+pub fn push_mismatch_sentence(line: &mut Vec<u8>, mismatch: &Mismatch) -> Result<(), AllocError>
+    ensures { OnOk result (line.new.items
+        ≡ line.old.items ++ Sentence.mismatch_sentence (mismatch_value mismatch.now)) }
+{
+    push_shown(line, mismatch.name.as_str())?;
+    line.extend_from_slice(b" in ")?;
+    line.extend_from_slice(mismatch.group.as_str().as_bytes())?;
+    line.extend_from_slice(b" is ")?;
+    push_side(line, mismatch.spec.as_ref())?;
+    line.extend_from_slice(b" in package.json, and ")?;
+    push_side(line, mismatch.locked.as_ref())?;
+    line.extend_from_slice(b" in the lock file")
+}
+
+/// Adds the spec of one side, or that there is none.
+fn push_side(line: &mut Vec<u8>, spec: Option<&String>) -> Result<(), AllocError>
+    ensures { OnOk result (line.new.items ≡ line.old.items
+        ++ Sentence.spec_words (option_map (λ text. string_bytes text.now) spec.entry)) }
+{
+    match spec {
+        Some(spec) => {
+            line.extend_from_slice(b"\"")?;
+            push_shown(line, spec.as_str())?;
+            line.extend_from_slice(b"\"")
+        }
+        None => line.extend_from_slice(b"absent"),
+    }
 }
 
 /// Adds a dependency, with this verdict on what was found for it.
@@ -75,7 +108,7 @@ fn push_spec(line: &mut Vec<u8>, spec: &str) -> Result<(), AllocError>
     }
 }
 
-/// Adds the folder and the version of the package that asks.
+/// Adds the package that asks: its name, its version and its folder.
 fn push_asker(line: &mut Vec<u8>, folder: &str, version: Option<&String>) -> Result<(), AllocError>
     ensures { OnOk result (line.new.items ≡ line.old.items
         ++ Sentence.asker folder.now (option_map (λ text. string_bytes text.now) version.entry)) }
@@ -83,9 +116,61 @@ fn push_asker(line: &mut Vec<u8>, folder: &str, version: Option<&String>) -> Res
     if folder.is_empty() {
         return line.extend_from_slice(b"the root asks for");
     }
+    push_named_asker(line, last_name(folder), folder, version)
+}
+
+/// Adds the package of this name, or of this folder alone.
+fn push_named_asker(
+    line: &mut Vec<u8>,
+    name: Option<&str>,
+    folder: &str,
+    version: Option<&String>,
+) -> Result<(), AllocError>
+    ensures { OnOk result (line.new.items ≡ line.old.items
+        ++ Sentence.named_asker (option_map (λ name. name.now) name.entry) folder.now
+        (option_map (λ text. string_bytes text.now) version.entry)) }
+{
+    if let Some(name) = name {
+        return push_package(line, name, folder, version);
+    }
     push_shown(line, folder)?;
     push_after(line, b" ", version)?;
     line.extend_from_slice(b" asks for")
+}
+
+/// Adds the package of this name.
+fn push_package(
+    line: &mut Vec<u8>,
+    name: &str,
+    folder: &str,
+    version: Option<&String>,
+) -> Result<(), AllocError>
+    ensures { OnOk result (line.new.items ≡ line.old.items
+        ++ Sentence.named_asker (Some name.now) folder.now (option_map (λ text. string_bytes text.now) version.entry)) }
+{
+    push_shown(line, name)?;
+    push_after(line, b" ", version)?;
+    line.extend_from_slice(b" asks for (")?;
+    push_shown(line, folder)?;
+    line.extend_from_slice(b")")
+}
+
+/// What follows the last `node_modules/` of a folder.
+fn last_name(folder: &str) -> Option<&str>
+    ensures { option_map (λ name. name.now) result ≡ Sentence.last_name folder.now }
+{
+    after_modules(folder)
+}
+
+/// The same, as `rsplit_once` finds it.
+fn after_modules(folder: &str) -> Option<&str>
+    ensures { MatchOption result (RFindsText (codes "node_modules/") folder.now None)
+        (λ name. (front : List ℕ) × SplitsAroundMatch (RFindsText (codes "node_modules/")) folder.now front name.now) }
+{
+    match folder.rsplit_once("node_modules/") {
+        Some((_, name)) => Some(name),
+        None => None,
+    }
 }
 
 /// Adds a text after this start, if there is one.
@@ -103,7 +188,7 @@ fn push_after(line: &mut Vec<u8>, start: &[u8], text: Option<&String>) -> Result
 }
 
 /// Adds a text of the file, in printable ASCII alone.
-fn push_shown(line: &mut Vec<u8>, text: &str) -> Result<(), AllocError>
+pub fn push_shown(line: &mut Vec<u8>, text: &str) -> Result<(), AllocError>
     ensures { OnOk result (line.new.items ≡ line.old.items ++ flat_map Sentence.shown_byte text.now) }
 {
     for byte in text.as_bytes() {
@@ -126,7 +211,7 @@ fn push_byte(line: &mut Vec<u8>, byte: u8) -> Result<(), AllocError>
 }
 
 /// The hexadecimal digit of a number.
-fn digit(number: u8) -> u8
+pub fn digit(number: u8) -> u8
     requires { number < 16 }
     ensures { result ≡ Sentence.digit number }
 {

@@ -2,9 +2,10 @@
 use Rattle.std.proofs.Common.{◌≡◌, ◌∷◌, [], Err, None, Ok, Some, codes, refl, true}
 use Rattle.npm_lock.specs.declared.problem.Kind.TheVariants.{Engine, Missing, PeerLocal}
 use Rattle.npm_lock_check.specs.Arguments.{asked_of, nothing_asked}
-use Rattle.npm_lock_check.specs.Kinds.{kind_of, no_kinds, with_kind}
+use Rattle.npm_lock_check.specs.Kinds.{named_by, no_kinds, with_kind}
 use Rattle.npm_lock_check.specs.declared.arguments.Format.TheVariants.{Json}
 use Rattle.npm_lock_check.specs.declared.arguments.Shown.TheVariants.{Help}
+use Rattle.npm_lock_check.specs.declared.kinds.Ignorable.TheVariants.{Problem}
 use Rattle.npm_lock_check.specs.declared.run_error.RunError.TheVariants.{Kind, NoValue, SecondFile, UnknownOption}
 
 pub no_word : asked_of [] ≡ Ok nothing_asked
@@ -47,7 +48,7 @@ the_first_error_counts = refl
 pub no_kind : asked_of (codes "--ignore" ∷ codes "peer local" ∷ []) ≡ Err Kind
 no_kind = refl
 
-pub a_kind_is_not_left_out_by_another : kind_of (codes "engine") ≡ Some Engine
+pub a_kind_is_not_left_out_by_another : named_by (codes "engine") ≡ Some (Problem Engine)
 a_kind_is_not_left_out_by_another = refl
 
 -- `--unchecked` has no value, so the word after it is the file

@@ -3,7 +3,7 @@ use Rattle.std.proofs.Common.{◌≡◌, ◌∷◌, ◌++◌, ℕ, List, [], Non
 use Rattle.npm_lock.specs.Outcomes.{DependencyValue}
 use Rattle.npm_lock.specs.declared.problem.Kind.TheVariants.{Engine, Invalid, Missing, PeerLocal}
 use Rattle.npm_lock.specs.declared.problem.Reason.TheVariants.{Location, Tag}
-use Rattle.npm_lock_check.specs.Sentence.{sentence, shown, unchecked_sentence}
+use Rattle.npm_lock_check.specs.Sentence.{asker, last_name, sentence, shown, unchecked_sentence}
 
 -- of the package in this folder, of this version, on `a`: this spec, and the version that was found
 abbrev on_a : (from : List ℕ) (from_version : Option (List ℕ)) (spec : List ℕ) (version : Option (List ℕ))
@@ -28,7 +28,7 @@ a_missing_dependency = refl
 pub another_version : sentence (record {
   kind = Invalid;
   dependency = on_a (codes "node_modules/b") (Some (codes "3.0.0")) (codes "^2") (Some (codes "1.0.0"));
-}) ≡ codes "a 1.0.0 does not satisfy ^2, which node_modules/b 3.0.0 asks for"
+}) ≡ codes "a 1.0.0 does not satisfy ^2, which b 3.0.0 asks for (node_modules/b)"
 another_version = refl
 
 -- packages without a version, and the empty spec
@@ -49,7 +49,7 @@ a_tag = refl
 pub a_repository : unchecked_sentence (record {
   reason = Location;
   dependency = on_a (codes "node_modules/b") None (codes "github:a/a") None;
-}) ≡ codes "a is not checked against github:a/a, which node_modules/b asks for: a URL, a repository, a file or a folder"
+}) ≡ codes "a is not checked against github:a/a, which b asks for (node_modules/b): a URL, a repository, a file or a folder"
 a_repository = refl
 
 -- an escape sequence, a newline and U+009B do not reach a terminal
@@ -62,3 +62,19 @@ a_backslash = refl
 
 pub printable : shown (codes " ~@^") ≡ codes " ~@^"
 printable = refl
+
+-- ---- the package that asks
+
+pub a_package_inside_another : asker (codes "node_modules/a/node_modules/@s/b") None
+    ≡ codes "@s/b asks for (node_modules/a/node_modules/@s/b)"
+a_package_inside_another = refl
+
+-- a workspace has its folder alone
+pub a_workspace : asker (codes "packages/quay") (Some (codes "0.3.0")) ≡ codes "packages/quay 0.3.0 asks for"
+a_workspace = refl
+
+pub a_package_of_a_workspace : last_name (codes "w/node_modules/b") ≡ Some (codes "b")
+a_package_of_a_workspace = refl
+
+pub no_folder_of_packages : last_name (codes "node_modules") ≡ None
+no_folder_of_packages = refl

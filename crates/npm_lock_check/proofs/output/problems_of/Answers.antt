@@ -2,7 +2,7 @@
 use Rattle.std.proofs.Common.{◌≡◌, ◌∙◌, Some, ap, Err, inl, refl}
 use Rattle.serde_json.specs.View.{view}
 use Rattle.npm_lock.specs.VersionOne.{any_fault}
-use Rattle.npm_lock_check.specs.Output.{wanted_value}
+use Rattle.npm_lock_check.specs.Report.{wanted_value}
 use Rattle.npm_lock_check.proofs.output.problems_of.Goals as goal
 
 pub returns-in-Err-Refused-clause-refused : goal.returns-in-Err-Refused-clause-refused

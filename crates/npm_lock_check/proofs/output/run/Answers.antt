@@ -1,10 +1,11 @@
--- The input was read, and the check refuses its value, or memory ran out, or the lines were not written.
+-- The input was read, and a value was refused, or memory ran out, or the lines were not written.
 use Rattle.std.proofs.Common.{IsSome, None, Option, Some, refl, rules}
 use Rattle.std.specs.Option.{option_or}
 use Rattle.serde_json.specs.View.{view}
-use Rattle.npm_lock.specs.declared.problem.Problems.{Problems}
-use Rattle.npm_lock_check.specs.Output.{IsReported, IsStopped, wanted_value}
+use Rattle.npm_lock_check.specs.Output.{IsReported, IsStopped}
+use Rattle.npm_lock_check.specs.Report.{wanted_value}
 use Rattle.npm_lock_check.specs.declared.run_error.RunError.TheVariants.{Memory}
+use Rattle.npm_lock_check.specs.declared.report.Report.{Report}
 use Rattle.npm_lock_check.proofs.Stopping.{later, refused, was_err}
 use Rattle.npm_lock_check.proofs.output.run.Goals as goal
 
@@ -14,33 +15,34 @@ some_of (Some first) second = refl
 
 pub returns-in_err-lock-clause-refused : goal.returns-in_err-lock-clause-refused
 returns-in_err-lock-clause-refused g c =
-    let stopped = c.in_err-lock.ensures.refused (wanted_value c.args.wanted).manifest in
+    let stopped = c.in_err-lock.ensures.refused (wanted_value c.args.wanted) in
     search (rules, stopped)
 
 pub returns-in_err-lock-clause-write : goal.returns-in_err-lock-clause-write
 returns-in_err-lock-clause-write g c =
-    let stopped = c.in_err-lock.ensures.refused (wanted_value c.args.wanted).manifest in
+    let stopped = c.in_err-lock.ensures.refused (wanted_value c.args.wanted) in
     search (rules, stopped)
 
-pub returns-in_err-problems-clause-refused : goal.returns-in_err-problems-clause-refused
-returns-in_err-problems-clause-refused g c =
-    let stopped = refused _ (wanted_value c.args.wanted).manifest _ _ (view c.in_ok-lock.lock) _ c.in_ok-lock.ensures.value c.in_err-problems.ensures.refused in
+pub returns-in_err-report-clause-refused : goal.returns-in_err-report-clause-refused
+returns-in_err-report-clause-refused g c =
+    let stopped = refused _ (wanted_value c.args.wanted) _ _ (view c.in_ok-lock.lock) _ c.in_ok-lock.ensures.value
+    c.in_err-report.ensures.refused in
     search (rules, stopped)
 
 pub returns-in_err-lines-clause-refused : goal.returns-in_err-lines-clause-refused
 returns-in_err-lines-clause-refused g c =
-    let stopped : IsStopped g.R.Read.remaining (wanted_value c.args.wanted).manifest c.args.reader.now c.read_json.new.reader Memory =
-    later _ (wanted_value c.args.wanted).manifest _ _ (view c.in_ok-lock.lock) c.in_ok-lock.ensures.value in
+    let stopped : IsStopped g.R.Read.remaining (wanted_value c.args.wanted) c.args.reader.now c.read_json.new.reader Memory =
+    later _ (wanted_value c.args.wanted) _ _ (view c.in_ok-lock.lock) c.in_ok-lock.ensures.value in
     search (rules, stopped)
 
 pub returns-in_err-map_err-clause-write : goal.returns-in_err-map_err-clause-write
 returns-in_err-map_err-clause-write g c = λ told.
     let error = was_err _ c.write_all.result c.map_err-2.result _ c.map_err-2.ensures.cases c.in_err-map_err.was in
     let failed : IsSome c.write_all.new.self.failure = rw (c.write_all.ensures.failure, error.1) (some_of c.args.writer.now.failure _) in
-    let reported : IsReported g.R.Read.remaining c.args.reader.now c.read_json.new.reader (wanted_value c.args.wanted) c.in_ok-problems.problems = record {
+    let reported : IsReported g.R.Read.remaining c.args.reader.now c.read_json.new.reader (wanted_value c.args.wanted) c.in_ok-report.report = record {
       lock = view c.in_ok-lock.lock;
       input = c.in_ok-lock.ensures.value;
-      left = c.in_ok-problems.ensures.found;
+      report_of = c.in_ok-report.ensures.found;
     } in
-    let both : (problems : Problems) × IsReported g.R.Read.remaining c.args.reader.now c.read_json.new.reader (wanted_value c.args.wanted) problems = (c.in_ok-problems.problems, reported) in
+    let both : (report : Report) × IsReported g.R.Read.remaining c.args.reader.now c.read_json.new.reader (wanted_value c.args.wanted) report = (c.in_ok-report.report, reported) in
     (failed, both)

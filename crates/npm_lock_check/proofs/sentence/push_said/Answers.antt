@@ -1,26 +1,13 @@
 -- Six parts, one after the other.
-use Rattle.std.proofs.Common.{◌≡◌, ◌∙◌, ◌++◌, ℕ, List, Option, Some, None, Result, Ok, Err, OnOk}
-use Rattle.std.proofs.Common.{String, Global, append_assoc, codes, option_map, refl, string_bytes, ap}
-use Rattle.std.specs.Option.{option_copied}
-use denote.Ref.{Bor}
+use Rattle.std.proofs.Common.{◌≡◌, ◌∙◌, ◌++◌, ℕ, List, append_assoc, codes, option_map, refl, string_bytes}
 use Rattle.npm_lock.specs.Outcomes.{dependency_value}
 use Rattle.npm_lock_check.specs.Sentence.{after, asker, said, shown, shown_spec}
+use Rattle.npm_lock_check.proofs.Parts.{seen, then_same}
 use Rattle.npm_lock_check.proofs.sentence.push_said.Goals as goal
-
--- what a reference points to
-seen : (text : Option (Bor (String Global))) (whole : Option (String Global)) → option_copied text ≡ whole
-    → option_map (λ t. string_bytes t.now) text ≡ option_map string_bytes whole
-seen None whole is = ap (option_map string_bytes) is
-seen (Some t) whole is = ap (option_map string_bytes) is
 
 regroup : (old a b d e f g : List ℕ)
     → (((((old ++ a) ++ b) ++ d) ++ e) ++ f) ++ g ≡ old ++ (((((a ++ b) ++ d) ++ e) ++ f) ++ g)
 regroup old a b d e f g = simp append_assoc
-
-then_same : {T E : Type 0} (r : Result T E) (new made whole : List ℕ) → OnOk r (new ≡ made) → made ≡ whole
-    → OnOk r (new ≡ whole)
-then_same (Ok x) new made whole is same = is ∙ same
-then_same (Err e) new made whole is same = tt
 
 pub returns : goal.returns
 returns c =

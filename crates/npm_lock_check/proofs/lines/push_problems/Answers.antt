@@ -1,8 +1,8 @@
 use Rattle.std.proofs.Common.{◌≡◌, ◌++◌, [], ◌∷◌}
 use Rattle.npm_lock.specs.Outcomes.{problem_value}
-use Rattle.npm_lock_check.specs.Output.{line_text}
+use Rattle.npm_lock_check.specs.Report.{line_text}
 use Rattle.npm_lock_check.proofs.OutputLines.{line_more}
-use Rattle.npm_lock_check.proofs.output.push_problems.Goals as goal
+use Rattle.npm_lock_check.proofs.lines.push_problems.Goals as goal
 
 pub loop-problem-preserved : goal.loop-problem-preserved
 loop-problem-preserved c =

@@ -5,7 +5,7 @@ use Rattle.serde_json.specs.Written.{compact_text}
 use Rattle.npm_lock.specs.Outcomes.{unchecked_value}
 use Rattle.npm_lock.specs.ProblemJson.{unchecked_data}
 use Rattle.npm_lock_check.proofs.OutputLines.{no_float_unchecked}
-use Rattle.npm_lock_check.proofs.output.push_unchecked.Goals as goal
+use Rattle.npm_lock_check.proofs.lines.push_unchecked.Goals as goal
 
 pub returns-in_ok-text-in-Json : goal.returns-in_ok-text-in-Json
 returns-in_ok-text-in-Json c =

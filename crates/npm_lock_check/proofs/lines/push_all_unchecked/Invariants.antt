@@ -1,8 +1,8 @@
 -- The lines so far, and those that are left, are all lines.
 use Rattle.std.proofs.Common.{◌≡◌, ◌++◌, drop, map}
 use Rattle.npm_lock.specs.Outcomes.{unchecked_value}
-use Rattle.npm_lock_check.specs.Output.{unchecked_text, lines}
-use Rattle.npm_lock_check.proofs.output.push_all_unchecked.Given as goal
+use Rattle.npm_lock_check.specs.Report.{unchecked_text, lines}
+use Rattle.npm_lock_check.proofs.lines.push_all_unchecked.Given as goal
 
 abbrev pub invariant-loop-unchecked : goal.invariant-loop-unchecked
 invariant-loop-unchecked l =

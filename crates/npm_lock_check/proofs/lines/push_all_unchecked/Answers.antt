@@ -1,8 +1,8 @@
 use Rattle.std.proofs.Common.{◌≡◌, ◌++◌, [], ◌∷◌}
 use Rattle.npm_lock.specs.Outcomes.{unchecked_value}
-use Rattle.npm_lock_check.specs.Output.{unchecked_text}
+use Rattle.npm_lock_check.specs.Report.{unchecked_text}
 use Rattle.npm_lock_check.proofs.OutputLines.{line_more}
-use Rattle.npm_lock_check.proofs.output.push_all_unchecked.Goals as goal
+use Rattle.npm_lock_check.proofs.lines.push_all_unchecked.Goals as goal
 
 pub loop-unchecked-preserved : goal.loop-unchecked-preserved
 loop-unchecked-preserved c =

@@ -1,8 +1,8 @@
 -- The lines so far, and those that are left, are all lines.
 use Rattle.std.proofs.Common.{◌≡◌, ◌++◌, drop, map}
 use Rattle.npm_lock.specs.Outcomes.{problem_value}
-use Rattle.npm_lock_check.specs.Output.{line_text, lines}
-use Rattle.npm_lock_check.proofs.output.push_problems.Given as goal
+use Rattle.npm_lock_check.specs.Report.{line_text, lines}
+use Rattle.npm_lock_check.proofs.lines.push_problems.Given as goal
 
 abbrev pub invariant-loop-problem : goal.invariant-loop-problem
 invariant-loop-problem l =

@@ -1,0 +1,133 @@
+//! The lines that are written about a lock file.
+ghost use Rattle.std.specs.Prelude.{◌≡◌, ◌++◌, IfOk, OnOk, map};
+ghost use Rattle.npm_lock.specs.Mismatches.{mismatch_value};
+ghost use Rattle.npm_lock.specs.Outcomes.{problem_value, unchecked_value};
+ghost use Rattle.npm_lock_check.specs.Report as Reports;
+ghost use Rattle.npm_lock_check.specs.Report.{line_text, mismatch_text, report_text, unchecked_text, wanted_value};
+
+use crate::arguments::Format;
+use crate::report::Report;
+use crate::sentence::{push_mismatch_sentence, push_sentence, push_unchecked_sentence};
+use crate::wanted::Wanted;
+use npm_lock::{Mismatch, Problem, Unchecked};
+use serde_json::Value;
+use std::alloc::{AllocError, Global};
+
+/// The lines of a report.
+pub fn lines_of(alloc: Global, report: &Report, wanted: Wanted<'_>) -> Result<Vec<u8>, AllocError>
+    ensures { IfOk result (λ text. text.items ≡ report_text (wanted_value wanted.entry) report.now) }
+{
+    let mut lines = Vec::new(alloc);
+    push_mismatches(alloc, &mut lines, &report.mismatches, wanted.format)?;
+    push_problems(alloc, &mut lines, &report.problems.list, wanted.format)?;
+    if wanted.unchecked {
+        push_all_unchecked(alloc, &mut lines, &report.problems.unchecked, wanted.format)?;
+    }
+    Ok(lines)
+}
+
+/// Adds a line for each mismatch.
+fn push_mismatches(
+    alloc: Global,
+    lines: &mut Vec<u8>,
+    mismatches: &[Mismatch],
+    format: Format,
+) -> Result<(), AllocError>
+    ensures { OnOk result (lines.new.items
+        ≡ lines.old.items ++ Reports.lines (mismatch_text format) (map mismatch_value mismatches.now)) }
+{
+    for mismatch in mismatches {
+        push_mismatch(alloc, lines, mismatch, format)?;
+        lines.extend_from_slice(b"\n")?;
+    }
+    Ok(())
+}
+
+/// Adds a line for each problem.
+fn push_problems(
+    alloc: Global,
+    lines: &mut Vec<u8>,
+    problems: &[Problem],
+    format: Format,
+) -> Result<(), AllocError>
+    ensures { OnOk result (lines.new.items
+        ≡ lines.old.items ++ Reports.lines (line_text format) (map problem_value problems.now)) }
+{
+    for problem in problems {
+        push_problem(alloc, lines, problem, format)?;
+        lines.extend_from_slice(b"\n")?;
+    }
+    Ok(())
+}
+
+/// Adds a line for each dependency that is not checked.
+fn push_all_unchecked(
+    alloc: Global,
+    lines: &mut Vec<u8>,
+    all: &[Unchecked],
+    format: Format,
+) -> Result<(), AllocError>
+    ensures { OnOk result (lines.new.items
+        ≡ lines.old.items ++ Reports.lines (unchecked_text format) (map unchecked_value all.now)) }
+{
+    for unchecked in all {
+        push_unchecked(alloc, lines, unchecked, format)?;
+        lines.extend_from_slice(b"\n")?;
+    }
+    Ok(())
+}
+
+/// Adds a mismatch.
+fn push_mismatch(
+    alloc: Global,
+    line: &mut Vec<u8>,
+    mismatch: &Mismatch,
+    format: Format,
+) -> Result<(), AllocError>
+    ensures { OnOk result (line.new.items ≡ line.old.items ++ mismatch_text format (mismatch_value mismatch.now)) }
+{
+    match format {
+        Format::Text => push_mismatch_sentence(line, mismatch),
+        Format::Json => {
+            let text = mismatch.to_json(alloc)?.to_string(alloc)?;
+            line.extend_from_slice(text.as_bytes())
+        }
+    }
+}
+
+/// Adds a problem.
+fn push_problem(
+    alloc: Global,
+    line: &mut Vec<u8>,
+    problem: &Problem,
+    format: Format,
+) -> Result<(), AllocError>
+    ensures { OnOk result (line.new.items ≡ line.old.items ++ line_text format (problem_value problem.now)) }
+{
+    match format {
+        Format::Text => push_sentence(line, problem),
+        Format::Json => {
+            let text = problem.to_json(alloc)?.to_string(alloc)?;
+            line.extend_from_slice(text.as_bytes())
+        }
+    }
+}
+
+/// Adds a dependency that is not checked.
+fn push_unchecked(
+    alloc: Global,
+    line: &mut Vec<u8>,
+    unchecked: &Unchecked,
+    format: Format,
+) -> Result<(), AllocError>
+    ensures { OnOk result (line.new.items
+        ≡ line.old.items ++ unchecked_text format (unchecked_value unchecked.now)) }
+{
+    match format {
+        Format::Text => push_unchecked_sentence(line, unchecked),
+        Format::Json => {
+            let text = unchecked.to_json(alloc)?.to_string(alloc)?;
+            line.extend_from_slice(text.as_bytes())
+        }
+    }
+}

@@ -1,0 +1,50 @@
+//! What was written about a lock file, and the line that counts it.
+ghost use Rattle.std.specs.Prelude.{◌≡◌, ◌↔◌, IsTrue};
+ghost use Rattle.npm_lock_check.specs.Report.{IsClean};
+
+use npm_lock::{Mismatch, Problems};
+use std::fmt;
+
+/// What was written about a lock file.
+#[derive(Debug, PartialEq, Eq, Drop)]
+pub struct Report {
+    /// The manifest and the lock file were compared.
+    pub compared: bool,
+    /// The manifest has `overrides`, which are not looked at.
+    pub overrides: bool,
+    /// The mismatches of the manifest, but not if their kind is left out.
+    pub mismatches: Vec<Mismatch>,
+    /// The problems of the lock file but those of kinds that are left out, with the counts of all.
+    pub problems: Problems,
+}
+
+impl Report {
+    /// Returns `true` if there is nothing to report.
+    pub fn is_clean(&self) -> bool
+        ensures { IsTrue result ↔ IsClean self.now }
+    {
+        self.mismatches.is_empty() && self.problems.list.is_empty()
+    }
+}
+
+/// Prints the counts. That of mismatches is left out if nothing was compared.
+impl fmt::Display for Report {
+    fn fmt<W: fmt::Write>(&self, f: &mut fmt::Formatter<W>) -> fmt::Result {
+        let problems = &self.problems;
+        write!(
+            f,
+            "{} packages, {} dependencies, {} problems, {} not checked",
+            problems.packages,
+            problems.dependencies,
+            problems.list.len(),
+            problems.unchecked.len()
+        )?;
+        if self.compared {
+            write!(f, ", {} mismatches", self.mismatches.len())?;
+        }
+        if self.overrides {
+            f.write_str(", overrides not looked at")?;
+        }
+        Ok(())
+    }
+}

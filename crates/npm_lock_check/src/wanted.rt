@@ -1,0 +1,19 @@
+//! What a check is asked for.
+use crate::arguments::Format;
+use crate::kinds::Kinds;
+use node_semver::Version;
+use serde_json::Value;
+
+/// What a check is asked for.
+#[derive(Clone, Copy, Drop)]
+pub struct Wanted<'a> {
+    /// The manifest of the root.
+    pub manifest: Option<&'a Value>,
+    /// The version of Node that each package is checked with.
+    pub node: Option<&'a Version>,
+    /// The kinds of problems that are left out.
+    pub ignored: Kinds,
+    /// Dependencies that are not checked are listed too.
+    pub unchecked: bool,
+    pub format: Format,
+}

@@ -105,7 +105,9 @@ fn split_sides(text: &[u8]) -> Option<(&[u8], &[u8])>
     Some((left, right))
 }
 
-// The ends of a piece that is a hyphen range of two partials.
+// The ends of a piece that is a hyphen range of two partials. `inline(always)`: it has two callers, and only the one for
+// texts that are read has to be fast.
+#[inline(always)]
 pub(crate) fn read_hyphen(text: &[u8], options: NpmOptions) -> Option<WordEnds>
     requires { BeginsWith Texts.is_solid text.now }
     ensures read { hyphen_seen result

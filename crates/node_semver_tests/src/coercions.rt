@@ -3,11 +3,22 @@ use crate::questions::{Question, each};
 use node_semver::{CoerceOptions, Version};
 use std::alloc::Global;
 
-// The print of the version that is found in the text, or `none`.
-fn coerced(alloc: Global, text: &str, options: CoerceOptions) -> Option<String> {
-    match Version::coerce(alloc, text, options) {
+// The print of the version, or `none`.
+fn print_of(alloc: Global, found: Option<Version>) -> Option<String> {
+    match found {
         Some(version) => version.to_string(alloc).ok(),
         None => String::from_str(alloc, "none").ok(),
+    }
+}
+
+fn coerced(alloc: Global, text: &str, rtl: bool) -> Option<String> {
+    print_of(alloc, Version::coerce(alloc, text, CoerceOptions { rtl }))
+}
+
+fn fully_coerced(alloc: Global, text: &str, rtl: bool) -> Option<String> {
+    match Version::coerce_with_prerelease(alloc, text, CoerceOptions { rtl }) {
+        Ok(found) => print_of(alloc, found),
+        Err(_) => None,
     }
 }
 
@@ -19,8 +30,19 @@ pub(crate) fn coerces(alloc: Global, row: &str) -> bool {
     let Some((left, right)) = wanted.split_once("; ") else {
         return false;
     };
-    is_print(coerced(alloc, text, CoerceOptions { rtl: false }), left)
-        && is_print(coerced(alloc, text, CoerceOptions { rtl: true }), right)
+    is_print(coerced(alloc, text, false), left) && is_print(coerced(alloc, text, true), right)
+}
+
+// The same with prerelease and build.
+pub(crate) fn coerces_fully(alloc: Global, row: &str) -> bool {
+    let Some((text, wanted)) = row.split_once("; ") else {
+        return false;
+    };
+    let Some((left, right)) = wanted.split_once("; ") else {
+        return false;
+    };
+    is_print(fully_coerced(alloc, text, false), left)
+        && is_print(fully_coerced(alloc, text, true), right)
 }
 
 // npm's `semver` 7.6.2, `coerce`, without `rtl` and with it.
@@ -71,4 +93,54 @@ const COERCIONS: [&str; 41] = [
 #[test]
 fn finds_the_version_in_a_text(rt: HostRuntime) {
     each(&rt, Question::Coerces, &COERCIONS);
+}
+
+// The same with `includePrerelease`.
+const FULL_COERCIONS: [&str; 41] = [
+    "1.2.3-rc.1; 1.2.3-rc.1; 1.2.3-rc.1",
+    "v1.2-rc.1; 1.2.0-rc.1; 1.2.0-rc.1",
+    "1-rc; 1.0.0-rc; 1.0.0-rc",
+    "1+b; 1.0.0+b; 1.0.0+b",
+    "1.2.3-rc.1+rev.2; 1.2.3-rc.1+rev.2; 1.2.3-rc.1+rev.2",
+    "1.2.3.4-rc.1+rev.2; 1.2.3; 2.3.4-rc.1+rev.2",
+    "1.2.3-01; 1.2.3; none",
+    "1.2.3-a.01; 1.2.3-a; none",
+    "1.2.3-a.01b; 1.2.3-a.01b; 1.2.3-a.01b",
+    "1.2.3-4f; 1.2.3-4; 1.2.3-4",
+    "1.2.3-a.4f.5; 1.2.3-a.4; 5.0.0",
+    "1.2.3-0; 1.2.3-0; 1.2.3-0",
+    "1.2.3-; 1.2.3; 1.2.3",
+    "1.2.3-+b; 1.2.3; 1.2.3",
+    "1.2.3+; 1.2.3; 1.2.3",
+    "1.2.3--; 1.2.3--; 1.2.3--",
+    "1.2.3-a..b; 1.2.3-a; 1.2.3-a",
+    "1.2.3-a.; 1.2.3-a; 1.2.3-a",
+    "1.2.3-é; 1.2.3; 1.2.3",
+    "a 1.2.3-rc b; 1.2.3-rc; 1.2.3-rc",
+    "1-2-3; 1.0.0-2; 2.0.0-3",
+    "1-2-a; 1.0.0-2; 2.0.0-a",
+    "1.2.3 4.5.6-a; 1.2.3; 4.5.6-a",
+    "1.2.3-rc1b x; 1.2.3-rc1b; 1.0.0",
+    "1.2.3-rc1b; 1.2.3-rc1b; 1.2.3-rc1b",
+    "1-2.3.4.5; 1.0.0-2.3.4.5; 1.0.0-2.3.4.5",
+    "1-2.3.4.5,; 1.0.0-2.3.4.5; 1.0.0-2.3.4.5",
+    "1-2.3.4.5, x; 1.0.0-2.3.4.5; 3.4.5",
+    "01.2.3-a; none; none",
+    "1.2.3-9007199254740992; 1.2.3-9007199254740992; 1.2.3-9007199254740992",
+    "1.2.3-99999999999999999999; 1.2.3-99999999999999999999; 1.2.3-99999999999999999999",
+    "9007199254740992-a; none; none",
+    "latest-a; none; none",
+    "; none; none",
+    "1.2.12345678901234567-a; 1.2.0; 1.2.0",
+    "1.2.3+a+b; 1.2.3+a; 1.2.3+a",
+    "1.2.3+a-b.c; 1.2.3+a-b.c; 1.2.3+a-b.c",
+    "1.2.3-{250*a}; 1.2.3-{250*a}; 1.2.3-{250*a}",
+    "1.2.3-{251*a}; none; none",
+    "1-{246*a}; 1.0.0-{246*a}; 1.0.0-{246*a}",
+    "1-{251*a}; none; none",
+];
+
+#[test]
+fn finds_the_version_with_its_prerelease(rt: HostRuntime) {
+    each(&rt, Question::CoercesFully, &FULL_COERCIONS);
 }

@@ -2,7 +2,7 @@ use crate::build_order::{builds_compare, is_below_by_build, is_same_build};
 use crate::bumps::{bumps, differ_by};
 use crate::checks::{NO_RANGE, admits, is_print};
 use crate::clones::copies_version;
-use crate::coercions::coerces;
+use crate::coercions::{coerces, coerces_fully};
 use crate::contained::contains;
 use crate::errors::{copies_error, names_compare, rows_compare};
 use crate::limits::least_print;
@@ -64,6 +64,8 @@ pub(crate) enum Question {
     DifferBy,
     // A text, and the print of the version that is found in it from the left and from the right, or `none`.
     Coerces,
+    // The same with its prerelease and its build.
+    CoercesFully,
 }
 
 // What is tested for each two rows of a table.
@@ -116,6 +118,7 @@ fn is_answered(alloc: Global, question: Question, row: &str) -> bool {
         Question::Bumps => bumps(alloc, row),
         Question::DifferBy => differ_by(alloc, row),
         Question::Coerces => coerces(alloc, row),
+        Question::CoercesFully => coerces_fully(alloc, row),
         _ => prints(alloc, question, row),
     }
 }

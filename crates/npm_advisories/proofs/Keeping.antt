@@ -1,5 +1,5 @@
 -- Elements that are kept, one after another, and advisories that were read in place of those of a file.
-use Rattle.std.proofs.Common.{◌≡◌, ◌↔◌, ◌∙◌, ◌++◌, ◌<◌, ◌+◌, ℕ, List, [], ◌∷◌, ap, get_or, inl, inr, length, map, refl, rules, sym, subst, take, true}
+use Rattle.std.proofs.Common.{◌≡◌, ◌↔◌, ◌++◌, ◌<◌, ◌+◌, ℕ, List, [], ◌∷◌, ap, get_or, inl, inr, length, map, sym, subst, take, true}
 use Rattle.std.proofs.lemmas.List.{map-append, take_more}
 use Rattle.std.specs.List.{AllZip}
 use Rattle.node_semver.specs.Versions.{VersionValue}

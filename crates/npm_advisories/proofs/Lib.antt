@@ -1,3 +1,4 @@
+pub mod Examples
 pub mod Results
 pub mod Releases
 pub mod SpanLists
@@ -8,3 +9,7 @@ pub mod Reading
 pub mod Keeping
 pub mod Auditing
 pub mod Listing
+pub mod VersionTests
+pub mod Walking
+pub mod OsvSpans
+pub mod OsvMarks

@@ -6,10 +6,10 @@ use Rattle.std.specs.List.{AllByRecursion}
 use Rattle.semver_cuts.specs.Ends.{Ends}
 use Rattle.semver_cuts.specs.Lemmas.Lists.{all_push}
 use Rattle.node_semver.specs.Ranges.{RangeContains}
-use Rattle.node_semver.specs.Versions.{IsBelow, IsPrerelease, VersionValue}
+use Rattle.node_semver.specs.Versions.{IsPrerelease, VersionValue}
 use Rattle.npm_advisories.specs.Offers.{IsAskedFor, IsLeastOrNone}
 use Rattle.npm_advisories.specs.Private.Offering.{IsAdmittedBy, IsAdmittedOutside, IsUnhitBy}
-use Rattle.npm_advisories.specs.Private.Spans.{Contain, IsInRange, IsOutside}
+use Rattle.npm_advisories.specs.Private.Spans.{Contain, IsOutside}
 use Rattle.npm_advisories.specs.declared.advisory.Advisory.{Advisory}
 use Rattle.npm_advisories.proofs.Releases.{below-or_not}
 use Rattle.npm_advisories.proofs.SpanLists.{Had}

@@ -6,8 +6,8 @@ use Rattle.serde_json.specs.Data.{item, no_items}
 use Rattle.serde_json.specs.View.{items_view, view}
 use Rattle.serde_json.specs.declared.value.Value.{Value}
 use Rattle.npm_advisories.specs.Advisories.{AdvisoryValue, npm_advisory, npm_list}
-use Rattle.npm_advisories.specs.Faults.{FaultValue, IsErrorOf, list_fault, npm_fault}
-use Rattle.npm_advisories.specs.Private.Reading.{IsErrorAt, IsUnreadAs}
+use Rattle.npm_advisories.specs.Faults.{FaultValue, list_fault, npm_fault}
+use Rattle.npm_advisories.specs.Private.Reading.{IsErrorAt, IsErrorOf, IsUnreadAs}
 use Rattle.npm_advisories.specs.declared.fault.AuditError.{AuditError}
 use Rattle.npm_advisories.specs.declared.fault.FaultKind.{FaultKind}
 use Rattle.npm_advisories.specs.declared.fault.Unread.{Unread}

@@ -1,6 +1,6 @@
 -- Releases: a range admits one if it contains it.
 use Rattle.std.proofs.Common.{◌≡◌, ◌↔◌, ℕ, List, [], ◌∷◌, Option, inl, inr, refl, sym, subst}
-use Rattle.std.specs.Prelude.{◌⊎◌, ◌≤◌, ◌+◌}
+use Rattle.std.specs.Prelude.{◌⊎◌}
 use Rattle.std.specs.declared.cmp.Ordering.{Ordering}
 use Rattle.std.specs.declared.cmp.Ordering.TheVariants.{Less, Equal, Greater}
 use Rattle.std.specs.Ordering.{ordering_then}

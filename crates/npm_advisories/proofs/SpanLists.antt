@@ -1,11 +1,12 @@
 -- The spans of versions that are not offered, one advisory after another.
-use Rattle.std.proofs.Common.{◌≡◌, ◌↔◌, ◌<◌, ◌+◌, ◌≤◌, ℕ, List, [], ◌∷◌, ◌++◌, get_or, inl, inr, length, refl, rules, sym, subst, take}
+use Rattle.std.proofs.Common.{◌≡◌, ◌↔◌, ◌<◌, ◌+◌, ◌≤◌, ℕ, List, [], ◌∷◌, ◌++◌, get_or, inl, inr, length, refl, sym, subst, take}
 use Rattle.std.proofs.lemmas.List.{take_all, take_more}
 use Rattle.std.specs.List.{AllByRecursion}
 use Rattle.std.specs.Prelude.{◌≢◌, ◌⊎◌}
 use Rattle.semver_cuts.specs.Ends.{Ends, span_between}
 use Rattle.semver_cuts.specs.Lemmas.Lists.{all-append, any-either, any-left, any-right}
 use Rattle.semver_cuts.specs.declared.cut.Cut.TheVariants.{After, Start}
+use Rattle.node_semver.specs.RangeAlgebra.{sets_of_answer}
 use Rattle.node_semver.specs.Ranges.{IsInside, IsRangeEnd, IsRangeSet, IsRangeValue, RangeAdmits, RangeContains}
 use Rattle.node_semver.specs.Versions.{IsBelow, IsPrerelease, VersionValue}
 use Rattle.npm_advisories.specs.Private.Spans.{Contain, IsInRange}
@@ -51,23 +52,23 @@ module _ (version : VersionValue) where
 
   -- one advisory more
   pub more-spans : (advisories : List Advisory) (i : ℕ) (one : Advisory) (old sets new : List (Ends VersionValue))
-      → i < length advisories → one ≡ get_or advisories i one → new ≡ old ++ sets → sets ≡ one.range
-      → IsRangeValue sets → Contain old (Had (take i advisories)) → Contain new (Had (take (i + 1) advisories))
+      → i < length advisories → one ≡ get_or advisories i one → new ≡ old ++ sets → sets ≡ sets_of_answer one.range
+      → AllByRecursion IsRangeSet sets → Contain old (Had (take i advisories)) → Contain new (Had (take (i + 1) advisories))
   more-spans advisories i one old sets new lt is e same holds contain =
       rw (e, take_more advisories i one lt, ← is) (record {
-        holds = value-more old sets contain.holds holds.each;
+        holds = value-more old sets contain.holds holds;
         exact = λ v. (
           λ contains. elim (any-either (IsInside v) old sets contains) [
             | inl before ↦ elim ((contain.exact v).0 before) [
               | inl not ↦ inl not
-              | inr some ↦ inr (any-left (λ a. RangeContains a.range v) (take i advisories) (one ∷ []) some)
+              | inr some ↦ inr (any-left (λ a. RangeContains (sets_of_answer a.range) v) (take i advisories) (one ∷ []) some)
             ]
-            | inr here ↦ inr (any-right (λ a. RangeContains a.range v) (take i advisories) (one ∷ [])
+            | inr here ↦ inr (any-right (λ a. RangeContains (sets_of_answer a.range) v) (take i advisories) (one ∷ [])
                 (inl (subst (λ r. RangeContains r v) same here)))
           ],
           λ has. elim has [
             | inl not ↦ any-left (IsInside v) old sets ((contain.exact v).1 (inl not))
-            | inr some ↦ elim (any-either (λ a. RangeContains a.range v) (take i advisories) (one ∷ []) some) [
+            | inr some ↦ elim (any-either (λ a. RangeContains (sets_of_answer a.range) v) (take i advisories) (one ∷ []) some) [
               | inl before ↦ any-left (IsInside v) old sets ((contain.exact v).1 (inr before))
               | inr here ↦ elim here [
                 | inl inside ↦ any-right (IsInside v) old sets (subst (λ r. RangeContains r v) (sym same) inside)

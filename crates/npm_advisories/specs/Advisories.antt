@@ -1,12 +1,13 @@
--- The advisories of a file: npm's "npm audit", "Bulk Advisory Endpoint".
-use Rattle.std.specs.Prelude.{ℕ, List, [], ◌∷◌, ◌++◌, Bool, Option, Some, None, option_and_then, option_map, unwrap_or, codes, bytes_eq}
+-- Advisories, and how npm's form writes them: npm's "npm audit", "Bulk Advisory Endpoint".
+use Rattle.std.specs.Prelude.{ℕ, List, [], ◌∷◌, ◌++◌, Option, option_and_then, option_map, unwrap_or, codes, bytes_eq}
 use Rattle.std.specs.Prelude.{filter, true}
 use Rattle.std.specs.Option.{option_map_or}
 use Rattle.serde_json.specs.Data.{Data, Items, Members, item, member, no_items, no_members, null}
 use Rattle.serde_json.specs.View.{view}
-use Rattle.serde_json.specs.Find.{as_array, as_object, as_str, get}
+use Rattle.serde_json.specs.Find.{as_array, as_str, get}
 use Rattle.node_semver.specs.NpmRanges.{NpmOptions, NpmTextAdmits, with_plain_spaces}
 use Rattle.node_semver.specs.Versions.{VersionValue}
+use Rattle.npm_advisories.specs.OsvRanges.{EventValue, IsInOsv}
 use Rattle.npm_advisories.specs.Severities.{severity_of_text}
 use Rattle.npm_advisories.specs.declared.advisory.About.{About}
 use Rattle.npm_advisories.specs.declared.severity.Severity.{Severity}
@@ -28,9 +29,10 @@ about_value about = record {
   url = option_map (λ text. text.now) about.url;
 }
 
--- the versions that an advisory is about: a range text
+-- the versions that an advisory is about: a range text in npm's form; the events of ranges, and versions, in OSV's
 pub data Affected : Type 0 where
   range_text : (text : List ℕ) → Affected
+  in_osv : (ranges : List (List EventValue)) (versions : List (List ℕ)) → Affected
 
 -- an advisory about some versions of the package with this name
 pub record AdvisoryValue : Type 0 where
@@ -40,13 +42,14 @@ pub record AdvisoryValue : Type 0 where
 
 -- ---- which versions an advisory affects
 
--- npm reads the range of an advisory in loose form, and asks it with prereleases included
+-- npm reads the range text of an advisory in loose form, and asks it with prereleases included
 abbrev pub advisory_options : NpmOptions
 advisory_options = record { loose = true; include_prerelease = true }
 
 -- the version is one that the advisory is about: `<4.17.21` affects 4.17.20 and 4.17.21-rc.1
 abbrev pub Affects : Affected → VersionValue → Type 0
 Affects (range_text text) v = NpmTextAdmits advisory_options (with_plain_spaces text) v
+Affects (in_osv ranges versions) v = IsInOsv ranges versions v
 
 -- ---- the members of an advisory
 
@@ -90,10 +93,6 @@ npm_list name (item entry others) = npm_advisory name entry ∷ npm_list name ot
 abbrev pub npm_members : Members → List AdvisoryValue
 npm_members no_members = []
 npm_members (member name list others) = option_map_or (npm_list name) (as_array list) [] ++ npm_members others
-
--- the advisories of a file, the names in the order of their bytes
-abbrev pub advisories_of : (file : Data) → List AdvisoryValue
-advisories_of file = option_map_or npm_members (as_object file) []
 
 -- those about the package with this name
 abbrev pub about_name : (name : List ℕ) → List AdvisoryValue → List AdvisoryValue

@@ -1,18 +1,17 @@
--- Which values are no advisories that are read: npm's "npm audit", "Bulk Advisory Endpoint".
-use Rattle.std.specs.Prelude.{◌≡◌, ◌||◌, ◌+◌, ℕ, List, [], ◌∷◌, Bool, true, false, if◌then◌else◌, Option, Some, None, is_some}
+-- Which values are no advisories in npm's form that are read: npm's "npm audit", "Bulk Advisory Endpoint".
+use Rattle.std.specs.Prelude.{◌||◌, ◌+◌, ℕ, List, [], ◌∷◌, Bool, true, false, if◌then◌else◌, Option, Some, None, is_some}
 use Rattle.std.specs.Prelude.{option_and_then, option_map, codes}
 use Rattle.std.specs.Option.{option_map_or, option_or}
 use Rattle.serde_json.specs.Data.{Data, Items, Members, item, member, no_items, no_members}
 use Rattle.serde_json.specs.Find.{as_array, as_null, as_number, as_object, as_str, get}
 use Rattle.node_semver.specs.NpmRanges.{alternatives_of, with_plain_spaces}
 use Rattle.npm_advisories.specs.Advisories.{advisory_options, text_of}
-use Rattle.npm_advisories.specs.declared.fault.AuditError.{AuditError}
-use Rattle.npm_advisories.specs.declared.fault.AuditError.TheVariants as Errors
 use Rattle.npm_advisories.specs.declared.fault.Fault.{Fault}
 use Rattle.npm_advisories.specs.declared.fault.FaultKind.{FaultKind}
 use Rattle.npm_advisories.specs.declared.fault.FaultKind.TheVariants as Faults
 
--- what is wrong, and with which advisory: the name that it stands under, and its place in the list there, from 0
+-- What is wrong, and with which advisory. In npm's form this is the name that it stands under, and its place in the list
+-- there, from 0; in OSV's form the empty name, and its place in the list
 pub record FaultValue : Type 0 where
   pub kind : FaultKind
   pub name : List ℕ
@@ -56,7 +55,7 @@ abbrev pub npm_fault : (entry : Data) → Option FaultKind
 npm_fault entry = if is_some (as_object entry) then option_or (about_fault entry) (range_fault entry)
     else Some Faults.Advisory
 
--- ---- a file
+-- ---- a file in npm's form
 
 -- the first fault of a list, from this place on
 abbrev pub list_fault : (name : List ℕ) → (place : ℕ) → Items → Option FaultValue
@@ -75,9 +74,9 @@ abbrev pub members_fault : Members → Option FaultValue
 members_fault no_members = None
 members_fault (member name list others) = option_or (member_fault name list) (members_fault others)
 
--- the fault of a file, if it has one: this is what `audit` refuses
-abbrev pub file_fault : (file : Data) → Option FaultValue
-file_fault file = option_map_or members_fault (as_object file)
+-- the fault of a file in npm's form, if it has one
+abbrev pub npm_file_fault : (file : Data) → Option FaultValue
+npm_file_fault file = option_map_or members_fault (as_object file)
     (Some (record { kind = Faults.File; name = []; place = 0 }))
 
 -- ---- as a contract sees it
@@ -85,8 +84,3 @@ file_fault file = option_map_or members_fault (as_object file)
 -- what is wrong with which advisory
 abbrev pub fault_value : Fault → FaultValue
 fault_value fault = record { kind = fault.kind; name = fault.name.now; place = fault.place }
-
--- there is no audit because of this fault, or because an allocation failed
-abbrev pub IsErrorOf : Option FaultValue → AuditError → Type 0
-IsErrorOf fault (Errors.Refused at) = fault ≡ Some (fault_value at)
-IsErrorOf fault Errors.Memory = Unit {0}

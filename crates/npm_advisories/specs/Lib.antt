@@ -1,11 +1,15 @@
 -- What the contracts of this crate say: all of it that is trusted, in reading order.
--- `IsAudit` of Audit is the claim of `audit`, `file_fault` of Faults says what it refuses, and `found_data` of FoundJson is
+-- `IsAudit` of Audit is the claim of `audit`, `file_fault` of Files says what it refuses, and `found_data` of FoundJson is
 -- what is written for a package. All other words are there for these three.
 
 -- ---- the advisories of a file
 pub mod Severities  -- how severe an advisory is
-pub mod Advisories  -- what an advisory says, and which versions it is about
-pub mod Faults  -- which values are no advisories
+pub mod OsvRanges  -- which versions the ranges of OSV's form have
+pub mod Advisories  -- what an advisory says, and which versions it is about; npm's form
+pub mod Faults  -- which values are no advisories in npm's form
+pub mod OsvForm  -- OSV's form
+pub mod OsvFaults  -- which values are no advisories in OSV's form
+pub mod Files  -- which form a file has
 -- ---- one installed package
 pub mod Hits  -- the advisories that hit a version
 pub mod Offers  -- the versions that are offered in place of one that is hit

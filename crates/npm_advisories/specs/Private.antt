@@ -1,4 +1,6 @@
 pub mod Reading  -- what is read of an advisory
+pub mod VersionTest  -- the test for version texts
+pub mod OsvReading  -- what is read of an element of OSV's `affected`
 pub mod Index  -- the advisories by name
 pub mod Spans  -- spans of versions that are not offered
 pub mod Offering  -- the versions that are offered

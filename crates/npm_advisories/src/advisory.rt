@@ -1,9 +1,12 @@
 //! One advisory, and how it is read.
-ghost use Rattle.std.specs.Prelude.{◌≡◌, IfErr, IfOk, None, OnOk, Some, codes, option_map, unwrap_or};
+ghost use Rattle.std.specs.Prelude.{◌≡◌, ◌↔◌, IfErr, IfOk, IsTrue, None, OnOk, Some, codes, option_map, unwrap_or};
+ghost use Rattle.std.specs.List.{AllByRecursion};
 ghost use Rattle.std.specs.Result.{result_err};
 ghost use Rattle.serde_json.specs.Data.{null};
 ghost use Rattle.serde_json.specs.Find.{get};
 ghost use Rattle.serde_json.specs.View.{view};
+ghost use Rattle.node_semver.specs.RangeAlgebra.{sets_of_answer};
+ghost use Rattle.node_semver.specs.Ranges.{IsRangeSet, RangeContains};
 ghost use Rattle.npm_advisories.specs.Advisories as Advisories;
 ghost use Rattle.npm_advisories.specs.Faults as Faults;
 ghost use Rattle.npm_advisories.specs.Advisories.{about_value};
@@ -12,7 +15,8 @@ ghost use Rattle.npm_advisories.specs.Private.Reading.{IsAdvisory, IsRangeOf, Is
 use crate::Result;
 use crate::fault::{FaultKind, Unread};
 use crate::severity::Severity;
-use node_semver::{NpmOptions, Range};
+use node_semver::{NpmOptions, Range, Version, VersionRef};
+use semver_cuts::Span;
 use serde_json::Value;
 use std::alloc::Global;
 
@@ -32,8 +36,31 @@ pub(crate) struct Advisory<'v> {
     /// The name of the package.
     pub(crate) name: &'v str,
     pub(crate) about: About<'v>,
-    /// The versions that it is about, prereleases included.
-    pub(crate) range: Range,
+    /// The versions that it is about, prereleases included; `None` if it is about none.
+    pub(crate) range: Option<Range>,
+}
+
+impl<'v> Advisory<'v> {
+    /// Returns `true` if the advisory is about the version.
+    pub(crate) fn is_about(&self, version: &VersionRef<'_>) -> bool
+        ensures { IsTrue result ↔ RangeContains (sets_of_answer self.now.range) version.now }
+    {
+        match &self.range {
+            Some(range) => range.contains(version),
+            None => false,
+        }
+    }
+
+    /// The sets of its range.
+    pub(crate) fn sets(&self, alloc: Global) -> Result<Vec<Span<Version>>>
+        ensures sets { IfOk result (λ sets. sets.items ≡ sets_of_answer self.now.range) }
+        ensures holds { IfOk result (λ sets. AllByRecursion IsRangeSet sets.items) }
+    {
+        match &self.range {
+            Some(range) => range.sets(alloc),
+            None => Ok(Vec::new(alloc)),
+        }
+    }
 }
 
 /// npm reads the range of an advisory so.
@@ -57,7 +84,11 @@ pub(crate) fn npm_advisory<'v>(
         .ok_or(Unread::Refused(FaultKind::Advisory))?;
     let about = npm_about(entry)?;
     let range = range_of(alloc, entry)?;
-    Ok(Advisory { name, about, range })
+    Ok(Advisory {
+        name,
+        about,
+        range: Some(range),
+    })
 }
 
 /// The members that say what the advisory is.
@@ -77,7 +108,7 @@ fn npm_about(entry: &Value) -> Result<About<'_>, FaultKind>
     })
 }
 
-fn severity_of(text: Option<&str>) -> Severity
+pub(crate) fn severity_of(text: Option<&str>) -> Severity
     ensures { result ≡ Advisories.severity_of_option (option_map (λ text. text.now) text.entry) }
 {
     text.map_or(Severity::Unknown, Severity::of_text)
@@ -95,7 +126,11 @@ fn id_of(entry: &Value) -> Result<&Value, FaultKind>
 }
 
 /// A member that is a string. `null` counts as none, and any other value has this fault.
-fn text_of<'v>(entry: &'v Value, key: &str, kind: FaultKind) -> Result<Option<&'v str>, FaultKind>
+pub(crate) fn text_of<'v>(
+    entry: &'v Value,
+    key: &str,
+    kind: FaultKind,
+) -> Result<Option<&'v str>, FaultKind>
     ensures text { IfOk result (λ text. option_map (λ text. text.now) text
         ≡ Advisories.text_of key.now (view entry.now)) }
     ensures fault { result_err result ≡ Faults.text_fault key.now kind (view entry.now) }
@@ -114,7 +149,7 @@ fn text_of<'v>(entry: &'v Value, key: &str, kind: FaultKind) -> Result<Option<&'
 
 /// The range that `vulnerable_versions` writes.
 fn range_of(alloc: Global, entry: &Value) -> Result<Range, Unread>
-    ensures range { IfOk result (IsRangeOf (Advisories.npm_affected (view entry.now))) }
+    ensures range { IfOk result (λ range. IsRangeOf (Advisories.npm_affected (view entry.now)) (Some range)) }
     ensures sound { OnOk result (Faults.range_fault (view entry.now) ≡ None) }
     ensures refused { IfErr result (IsUnreadAs (Faults.range_fault (view entry.now))) }
 {

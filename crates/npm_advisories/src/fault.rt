@@ -6,11 +6,11 @@ ghost use Rattle.npm_advisories.specs.declared.fault.Unread.TheVariants as Unrea
 use std::alloc::AllocError;
 use thiserror::Error;
 
-/// What is wrong with a value that is to be advisories.
+/// What is wrong with a value that is to be advisories, in npm's form or in OSV's.
 #[derive(Clone, Copy, Debug, PartialEq, Eq, Drop, Error)]
 pub enum FaultKind {
-    /// The value is no object.
-    #[error("the advisories are no object")]
+    /// The value is neither an object nor a list.
+    #[error("the advisories are neither an object nor a list")]
     File,
     /// What stands under a name is no list.
     #[error("the advisories of a name are no list")]
@@ -36,15 +36,42 @@ pub enum FaultKind {
     /// `vulnerable_versions` is no range.
     #[error("`vulnerable_versions` is no range")]
     Range,
+    /// OSV: `id` is missing, or no string.
+    #[error("`id` is no string")]
+    OsvId,
+    /// OSV: `withdrawn` is no string.
+    #[error("`withdrawn` is no string")]
+    Withdrawn,
+    /// OSV: `affected` is no list.
+    #[error("`affected` is no list")]
+    Affected,
+    /// OSV: an element of `affected` is no object, or its `package` has no `ecosystem` and `name` that are strings.
+    #[error("an element of `affected` has no `package` with `ecosystem` and `name`")]
+    Package,
+    /// OSV: `ranges` is no list.
+    #[error("`ranges` is no list")]
+    Ranges,
+    /// OSV: `type` of a range is missing, or no string.
+    #[error("`type` of a range is no string")]
+    Type,
+    /// OSV: `events` of a range is no list.
+    #[error("`events` of a range is no list")]
+    Events,
+    /// OSV: an event has not exactly one of `introduced`, `fixed` and `last_affected`, or its text is no version.
+    #[error("an event is no version that is `introduced`, `fixed` or `last_affected`")]
+    Event,
+    /// OSV: `versions` is no list.
+    #[error("`versions` is no list")]
+    Versions,
 }
 
 /// What is wrong, and with which advisory.
 #[derive(Clone, Copy, Debug, PartialEq, Eq, Drop)]
 pub struct Fault<'v> {
     pub kind: FaultKind,
-    /// The name of the package that the advisory stands under.
+    /// The name of the package that the advisory stands under. Empty in OSV's form.
     pub name: &'v str,
-    /// The place of the advisory in the list under that name, from 0.
+    /// The place of the advisory in the list under that name, or in the list of OSV objects, from 0.
     pub place: usize,
 }
 
@@ -70,6 +97,14 @@ impl<'v> From<AllocError> for AuditError<'v> {
 pub(crate) enum Unread {
     Refused(FaultKind),
     Memory,
+}
+
+impl From<AllocError> for Unread {
+    ghost from_gives = { λ _ unread. unread ≡ Unreads.Memory };
+
+    fn from(_error: AllocError) -> Unread {
+        Unread::Memory
+    }
 }
 
 impl From<FaultKind> for Unread {

@@ -2,9 +2,9 @@
 ghost use Rattle.std.specs.Prelude.{◌≡◌, List, IfErr, IfOk, None, OnOk, map};
 ghost use Rattle.std.specs.Option.{MatchOption};
 ghost use Rattle.serde_json.specs.View.{view};
-ghost use Rattle.npm_advisories.specs.Advisories.{AdvisoryValue, about_name, advisories_of};
+ghost use Rattle.npm_advisories.specs.Advisories.{AdvisoryValue, about_name};
 ghost use Rattle.npm_advisories.specs.Audit.{IsAudit, IsSpared, found_value, installed_value};
-ghost use Rattle.npm_advisories.specs.Faults.{IsErrorOf, file_fault};
+ghost use Rattle.npm_advisories.specs.Files.{IsAuditError, IsFileFault, advisories_of};
 ghost use Rattle.npm_advisories.specs.Private.Auditing.{IsFoundOf};
 ghost use Rattle.npm_advisories.specs.Private.Index.{IsIndex};
 
@@ -31,14 +31,14 @@ pub struct Installed<'v> {
     pub asked: Vec<&'v str>,
 }
 
-/// An installed package that is hit.
+/// An installed package that is hit: what is borrowed of the advisories, and of the installed package.
 #[derive(Drop)]
-pub struct Found<'v> {
+pub struct Found<'f, 'v> {
     pub folder: &'v str,
     pub name: &'v str,
     pub version: &'v str,
     /// The advisories that hit it, in the order of the file.
-    pub hits: Vec<About<'v>>,
+    pub hits: Vec<About<'f>>,
     /// The least release above its version that no advisory about its name hits.
     pub least: Option<Version>,
     /// The least such release that each of the range texts admits.
@@ -47,43 +47,44 @@ pub struct Found<'v> {
 
 /// Returns the installed packages that an advisory hits, in their order.
 ///
-/// An advisory is about the package of its name. It hits a version that lies inside its range, prerelease or not, as npm
-/// does. Those that are less severe than the level are left out of the hits. An advisory whose severity is unknown is
-/// never left out. The offered versions are hit by none of them, whatever the severity.
+/// The advisories are in npm's form or in OSV's: a list, or an object whose `id` is a string, is in OSV's form. An advisory is
+/// about the package of its name. It hits a version that lies inside its range, prerelease or not, as npm does. Those that
+/// are less severe than the level are left out of the hits. An advisory whose severity is unknown is never left out. The
+/// offered versions are hit by none of them, whatever the severity.
 ///
 /// A package whose version is no version is not hit.
 ///
 /// # Errors
 ///
-/// - `Refused`: the value is no advisories in npm's form, with the first fault and its place.
+/// - `Refused`: the value is no advisories in either form, with the first fault and its place.
 /// - `Memory`: an allocation failed.
 ///
 /// # Memory
 ///
 /// Allocates an index of all advisories with their ranges. Of a package that is hit, allocates its hits and, for the time of
 /// the call, the sets of all advisories about its name and of the range texts.
-pub fn audit<'v>(
+pub fn audit<'f, 'v>(
     alloc: Global,
-    file: &'v Value,
+    file: &'f Value,
     level: Severity,
     installed: &[Installed<'v>],
-) -> Result<Vec<Found<'v>>, AuditError<'v>>
+) -> Result<Vec<Found<'f, 'v>>, AuditError<'f>>
     ensures found { IfOk result (λ found. IsAudit level (advisories_of (view file.now))
         (map installed_value installed.now) (map found_value found.items)) }
-    ensures sound { OnOk result (file_fault (view file.now) ≡ None) }
-    ensures refused { IfErr result (IsErrorOf (file_fault (view file.now))) }
+    ensures sound { OnOk result (IsFileFault (view file.now) None) }
+    ensures refused { IfErr result (IsAuditError (view file.now)) }
 {
     let index = read_file(alloc, file)?;
     Ok(found_in(alloc, &index, level, installed)?)
 }
 
 /// The installed packages that an advisory of the index hits.
-fn found_in<'v>(
+fn found_in<'f, 'v>(
     alloc: Global,
-    index: &Index<'v>,
+    index: &Index<'f>,
     level: Severity,
     installed: &[Installed<'v>],
-) -> Result<Vec<Found<'v>>>
+) -> Result<Vec<Found<'f, 'v>>>
     ensures { IfOk result (λ found. (values : List AdvisoryValue) → IsIndex values index.now
         → IsAudit level values (map installed_value installed.now) (map found_value found.items)) }
 {
@@ -97,12 +98,12 @@ fn found_in<'v>(
 }
 
 /// What is found of an installed package, if an advisory of the index hits it.
-fn found_of<'v>(
+fn found_of<'f, 'v>(
     alloc: Global,
-    index: &Index<'v>,
+    index: &Index<'f>,
     level: Severity,
     installed: &Installed<'v>,
-) -> Result<Option<Found<'v>>>
+) -> Result<Option<Found<'f, 'v>>>
     ensures { IfOk result (λ found. (values : List AdvisoryValue) → IsIndex values index.now
         → MatchOption found
         (IsSpared level (about_name installed.now.name.now values) (installed_value installed.now))

@@ -32,5 +32,5 @@ pub(crate) fn hits_of<'v>(
 fn is_hit(advisory: &Advisory<'_>, level: Severity, version: &VersionRef<'_>) -> bool
     ensures { IsTrue result ↔ IsHitBy level version.now advisory.now }
 {
-    advisory.about.severity.is_at_least(level) && advisory.range.contains(version)
+    advisory.about.severity.is_at_least(level) && advisory.is_about(version)
 }

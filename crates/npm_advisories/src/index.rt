@@ -39,9 +39,9 @@ impl<'v> Index<'v> {
     }
 
     /// The advisories about the package with this name, if there are any.
-    pub(crate) fn at(&self, name: &'v str) -> Option<&[Advisory<'v>]>
+    pub(crate) fn at(&self, name: &str) -> Option<&[Advisory<'v>]>
         ensures { option_map_or (λ list. list.now) result [] ≡ at_name self.now name.now }
     {
-        Some(self.by_name.get(&name)?.as_slice())
+        Some(self.by_name.get(name)?.as_slice())
     }
 }

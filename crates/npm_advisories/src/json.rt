@@ -12,7 +12,7 @@ use node_semver::Version;
 use serde_json::{Map, Value, put};
 use std::alloc::Global;
 
-impl<'v> Found<'v> {
+impl<'f, 'v> Found<'f, 'v> {
     /// The package as a JSON object, whose members are in the order of their names.
     pub fn to_json(&self, alloc: Global) -> Result<Value>
         ensures { IfOk result (λ value. view value ≡ found_data (found_value self.now)) }

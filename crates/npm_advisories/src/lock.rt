@@ -7,15 +7,15 @@ ghost use Rattle.serde_json.specs.View.{members_view, view};
 ghost use Rattle.npm_lock.specs.Dependents.{texts_at};
 ghost use Rattle.npm_lock.specs.Faults.{lock_fault};
 ghost use Rattle.npm_lock.specs.Packages.{is_link};
-ghost use Rattle.npm_advisories.specs.Advisories.{advisories_of, text_of as text_in};
 ghost use Rattle.npm_advisories.specs.Audit.{InstalledValue, IsAudit, found_value, installed_value};
-ghost use Rattle.npm_advisories.specs.Faults.{file_fault};
+ghost use Rattle.npm_advisories.specs.Files.{IsFileFault, advisories_of};
 ghost use Rattle.npm_advisories.specs.LockFaults.{IsLockError};
 ghost use Rattle.npm_advisories.specs.LockFile.{AreInstalled, AreInstalledOf, IsInstalledAs, IsName, IsOther};
 
 use crate::Result;
 use crate::fault::{AuditError, Fault};
 use crate::found::{Found, Installed, audit};
+use crate::member::text_at;
 use crate::severity::Severity;
 use npm_lock::{CheckError, Dependents};
 use serde_json::{Map, Value};
@@ -23,11 +23,11 @@ use std::alloc::Global;
 
 /// Why there is no audit of a lock file.
 #[derive(Debug, Drop, PartialEq, Eq)]
-pub enum LockError<'v> {
+pub enum LockError<'f> {
     /// The value is no lock file that is read.
     Lock(npm_lock::Fault),
     /// The value is no advisories that are read.
-    Advisories(Fault<'v>),
+    Advisories(Fault<'f>),
     /// An allocation failed.
     Memory,
 }
@@ -40,19 +40,19 @@ pub enum LockError<'v> {
 /// # Errors
 ///
 /// - `Lock`: the value is no lock file of version 2 or 3, or a member that counts has the wrong type.
-/// - `Advisories`: the value is no advisories in npm's form, with the first fault and its place.
+/// - `Advisories`: the value is no advisories in npm's form or in OSV's, with the first fault and its place.
 /// - `Memory`: an allocation failed.
-pub fn audit_lock<'v>(
+pub fn audit_lock<'f, 'v>(
     alloc: Global,
-    file: &'v Value,
+    file: &'f Value,
     level: Severity,
     lock: &'v Value,
-) -> Result<Vec<Found<'v>>, LockError<'v>>
+) -> Result<Vec<Found<'f, 'v>>, LockError<'f>>
     ensures found { IfOk result (λ found. (installed : List InstalledValue)
         × AreInstalledOf (view lock.now) installed
         × IsAudit level (advisories_of (view file.now)) installed (map found_value found.items)) }
     ensures lock_sound { OnOk result (lock_fault (view lock.now) ≡ None) }
-    ensures file_sound { OnOk result (file_fault (view file.now) ≡ None) }
+    ensures file_sound { OnOk result (IsFileFault (view file.now) None) }
     ensures refused { IfErr result (IsLockError (view lock.now) (view file.now)) }
 {
     let installed = match installed_in(alloc, lock) {
@@ -67,7 +67,7 @@ pub fn audit_lock<'v>(
 }
 
 /// The installed packages of a lock file.
-fn installed_in<'v>(alloc: Global, lock: &'v Value) -> Result<Vec<Installed<'v>>, LockError<'v>>
+fn installed_in<'f, 'v>(alloc: Global, lock: &'v Value) -> Result<Vec<Installed<'v>>, LockError<'f>>
     ensures found { IfOk result (λ installed. AreInstalledOf (view lock.now) (map installed_value installed.items)) }
     ensures sound { OnOk result (lock_fault (view lock.now) ≡ None) }
     ensures refused { IfErr result (λ error. (file : Data) → IsLockError (view lock.now) file error) }
@@ -166,11 +166,4 @@ fn is_link(entry: &Value) -> bool
     ensures { result ≡ is_link (view entry.now) }
 {
     entry.get("link").and_then(Value::as_bool).unwrap_or(false)
-}
-
-/// A member that is a string.
-fn text_at<'v>(entry: &'v Value, key: &str) -> Option<&'v str>
-    ensures { option_map (λ text. text.now) result ≡ text_in key.now (view entry.now) }
-{
-    entry.get(key)?.as_str()
 }

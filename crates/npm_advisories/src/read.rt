@@ -1,34 +1,98 @@
 //! How the advisories of a file are read.
-ghost use Rattle.std.specs.Prelude.{◌≡◌, [], IfErr, IfOk, None, OnOk, Some};
+ghost use Rattle.std.specs.Prelude.{◌≡◌, [], IfErr, IfOk, None, OnOk, Some, option_map};
 ghost use Rattle.std.specs.Option.{option_map_or};
-ghost use Rattle.serde_json.specs.Find.{as_array};
+ghost use Rattle.serde_json.specs.Find.{as_array, as_object};
 ghost use Rattle.serde_json.specs.View.{items_view, view};
-ghost use Rattle.npm_advisories.specs.Advisories.{advisories_of, npm_list};
-ghost use Rattle.npm_advisories.specs.Faults.{IsErrorOf, file_fault, list_fault, member_fault};
+ghost use Rattle.npm_advisories.specs.Advisories.{npm_list, npm_members};
+ghost use Rattle.npm_advisories.specs.Faults.{list_fault, member_fault, npm_file_fault};
+ghost use Rattle.npm_advisories.specs.Files.{IsAuditError, IsFileFault, advisories_of, file_fault};
+ghost use Rattle.npm_advisories.specs.OsvFaults.{osv_fault, osv_list_fault};
+ghost use Rattle.npm_advisories.specs.OsvForm.{osv_advisories, osv_list};
 ghost use Rattle.npm_advisories.specs.Private.Index.{Adds, IsIndex};
-ghost use Rattle.npm_advisories.specs.Private.Reading.{IsErrorAt};
+ghost use Rattle.npm_advisories.specs.Private.Reading.{IsErrorAt, IsErrorOf, at_place};
+ghost use Rattle.npm_advisories.specs.Private.VersionTest.{is_version};
 
 use crate::Result;
 use crate::advisory::npm_advisory;
 use crate::fault::{AuditError, Fault, FaultKind, Unread};
 use crate::index::Index;
+use crate::member::text_at;
+use crate::osv::add_osv;
 use serde_json::Value;
 use std::alloc::Global;
 
 /// Reads the advisories of a file.
 pub(crate) fn read_file<'v>(alloc: Global, file: &'v Value) -> Result<Index<'v>, AuditError<'v>>
     ensures read { IfOk result (IsIndex (advisories_of (view file.now))) }
-    ensures sound { OnOk result (file_fault (view file.now) ≡ None) }
-    ensures refused { IfErr result (IsErrorOf (file_fault (view file.now))) }
+    ensures sound { OnOk result (IsFileFault (view file.now) None) }
+    ensures refused { IfErr result (IsAuditError (view file.now)) }
+{
+    let mut index = Index::new(alloc);
+    add_file(alloc, &mut index, file)?;
+    Ok(index)
+}
+
+/// Adds the advisories of a file in either form.
+fn add_file<'v>(alloc: Global, index: &mut Index<'v>, file: &'v Value) -> Result<(), AuditError<'v>>
+    ensures read { OnOk result (Adds index.old index.new (advisories_of (view file.now))) }
+    ensures sound { OnOk result (file_fault is_version (view file.now) ≡ None) }
+    ensures refused { IfErr result (IsErrorOf (file_fault is_version (view file.now))) }
+{
+    if let Some(entries) = file.as_array() {
+        return add_osv_list(alloc, index, entries.as_slice());
+    }
+    if text_at(file, "id").is_some() {
+        return add_osv_at(alloc, index, file, 0);
+    }
+    add_npm(alloc, index, file)
+}
+
+/// Adds the advisories of a list of OSV objects.
+fn add_osv_list<'v>(
+    alloc: Global,
+    index: &mut Index<'v>,
+    entries: &'v [Value],
+) -> Result<(), AuditError<'v>>
+    ensures read { OnOk result (Adds index.old index.new (osv_list (items_view entries.now))) }
+    ensures sound { OnOk result (osv_list_fault is_version 0 (items_view entries.now) ≡ None) }
+    ensures refused { IfErr result (IsErrorOf (osv_list_fault is_version 0 (items_view entries.now))) }
+{
+    for place in 0..entries.len() {
+        add_osv_at(alloc, index, &entries[place], place)?;
+    }
+    Ok(())
+}
+
+/// Adds the advisories of an OSV object at a place.
+fn add_osv_at<'v>(
+    alloc: Global,
+    index: &mut Index<'v>,
+    entry: &'v Value,
+    place: usize,
+) -> Result<(), AuditError<'v>>
+    ensures read { OnOk result (Adds index.old index.new (osv_advisories (view entry.now))) }
+    ensures sound { OnOk result (osv_fault is_version (view entry.now) ≡ None) }
+    ensures refused { IfErr result (IsErrorOf (at_place [] place (osv_fault is_version (view entry.now)))) }
+{
+    match add_osv(alloc, index, entry) {
+        Ok(()) => Ok(()),
+        Err(unread) => Err(error_at(unread, "", place)),
+    }
+}
+
+/// Adds the advisories of a file in npm's form.
+fn add_npm<'v>(alloc: Global, index: &mut Index<'v>, file: &'v Value) -> Result<(), AuditError<'v>>
+    ensures read { OnOk result (Adds index.old index.new (option_map_or npm_members (as_object (view file.now)) [])) }
+    ensures sound { OnOk result (npm_file_fault (view file.now) ≡ None) }
+    ensures refused { IfErr result (IsErrorOf (npm_file_fault (view file.now))) }
 {
     let Some(members) = file.as_object() else {
         return Err(error_at(Unread::Refused(FaultKind::File), "", 0));
     };
-    let mut index = Index::new(alloc);
     for (name, list) in members.iter() {
-        read_member(alloc, &mut index, name.as_str(), list)?;
+        read_member(alloc, index, name.as_str(), list)?;
     }
-    Ok(index)
+    Ok(())
 }
 
 /// Adds the advisories that stand under a name.

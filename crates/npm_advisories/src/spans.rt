@@ -34,7 +34,7 @@ pub(crate) fn spans_of(
     let mut spans = Vec::new(alloc);
     spans.push(up_to(version.to_version(alloc)?))?;
     for advisory in advisories {
-        let mut sets = advisory.range.sets(alloc)?;
+        let mut sets = advisory.sets(alloc)?;
         spans.append(&mut sets)?;
     }
     Ok(spans)

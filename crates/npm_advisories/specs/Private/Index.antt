@@ -1,5 +1,5 @@
 -- What the index of advisories has.
-use Rattle.std.specs.Prelude.{◌≡◌, ◌++◌, ℕ, List, [], Option, bytes_eq, filter}
+use Rattle.std.specs.Prelude.{◌≡◌, ◌++◌, ℕ, List, [], bytes_eq, filter}
 use Rattle.std.specs.BTreeMap.{get_by}
 use Rattle.std.specs.Cmp.Lexicographic.{slice_cmp}
 use Rattle.std.specs.List.{AllZip}

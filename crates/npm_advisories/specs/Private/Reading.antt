@@ -1,10 +1,11 @@
 -- What is read of an advisory.
-use Rattle.std.specs.Prelude.{◌≡◌, ◌≢◌, ◌↔◌, ℕ, List, Option, Some}
+use Rattle.std.specs.Prelude.{◌≡◌, ◌≢◌, ◌↔◌, ℕ, List, Option, Some, IfSome, option_map}
 use Rattle.semver_cuts.specs.Ends.{Ends}
+use Rattle.node_semver.specs.RangeAlgebra.{sets_of_answer}
 use Rattle.node_semver.specs.Ranges.{IsRangeValue, RangeContains}
 use Rattle.node_semver.specs.Versions.{VersionValue}
 use Rattle.npm_advisories.specs.Advisories.{AdvisoryValue, Affected, Affects, about_value}
-use Rattle.npm_advisories.specs.Faults.{IsErrorOf}
+use Rattle.npm_advisories.specs.Faults.{FaultValue, fault_value}
 use Rattle.npm_advisories.specs.declared.advisory.Advisory.{Advisory}
 use Rattle.npm_advisories.specs.declared.fault.AuditError.{AuditError}
 use Rattle.npm_advisories.specs.declared.fault.AuditError.TheVariants as Errors
@@ -12,10 +13,10 @@ use Rattle.npm_advisories.specs.declared.fault.FaultKind.{FaultKind}
 use Rattle.npm_advisories.specs.declared.fault.Unread.{Unread}
 use Rattle.npm_advisories.specs.declared.fault.Unread.TheVariants.{Memory, Refused}
 
--- the range contains the versions that are affected
-pub record IsRangeOf (affected : Affected) (range : List (Ends VersionValue)) : Type 0 where
-  pub means : (v : VersionValue) → RangeContains range v ↔ Affects affected v
-  pub holds : IsRangeValue range
+-- the range contains the versions that are affected; there is none if no version is
+pub record IsRangeOf (affected : Affected) (range : Option (List (Ends VersionValue))) : Type 0 where
+  pub means : (v : VersionValue) → RangeContains (sets_of_answer range) v ↔ Affects affected v
+  pub holds : IfSome range IsRangeValue
 
 -- the advisory was read
 pub record IsAdvisory (value : AdvisoryValue) (advisory : Advisory) : Type 0 where
@@ -27,6 +28,15 @@ pub record IsAdvisory (value : AdvisoryValue) (advisory : Advisory) : Type 0 whe
 abbrev pub IsUnreadAs : Option FaultKind → Unread → Type 0
 IsUnreadAs fault (Refused kind) = fault ≡ Some kind
 IsUnreadAs fault Memory = Unit {0}
+
+-- there is no index because of this fault, or because an allocation failed
+abbrev pub IsErrorOf : Option FaultValue → AuditError → Type 0
+IsErrorOf fault (Errors.Refused at) = fault ≡ Some (fault_value at)
+IsErrorOf fault Errors.Memory = Unit {0}
+
+-- the fault with this name and place
+abbrev pub at_place : (name : List ℕ) → (place : ℕ) → Option FaultKind → Option FaultValue
+at_place name place fault = option_map (λ kind. record { kind = kind; name = name; place = place }) fault
 
 -- the error of an advisory at a place
 abbrev pub IsErrorAt : Unread → (name : List ℕ) → (place : ℕ) → AuditError → Type 0

@@ -1,9 +1,9 @@
 -- Advisories that were read: which of them hit a version, and spans of versions that are not offered.
-use Rattle.std.specs.Prelude.{◌≡◌, ◌↔◌, ◌⊎◌, ℕ, List, true}
-use Rattle.std.specs.List.{AllByRecursion}
+use Rattle.std.specs.Prelude.{◌≡◌, ◌↔◌, List, true}
 use Rattle.semver_cuts.specs.Ends.{Ends}
+use Rattle.node_semver.specs.RangeAlgebra.{sets_of_answer}
 use Rattle.node_semver.specs.Ranges.{AnyByRecursion, IsRangeValue, RangeContains}
-use Rattle.node_semver.specs.Versions.{IsBelow, IsPrerelease, VersionValue}
+use Rattle.node_semver.specs.Versions.{IsPrerelease, VersionValue}
 use Rattle.npm_advisories.specs.Severities.{is_at_least}
 use Rattle.npm_advisories.specs.declared.advisory.Advisory.{Advisory}
 use Rattle.npm_advisories.specs.declared.severity.Severity.{Severity}
@@ -11,11 +11,11 @@ use Rattle.npm_advisories.specs.declared.severity.Severity.{Severity}
 -- the advisory hits the version
 pub record IsHitBy (level : Severity) (v : VersionValue) (advisory : Advisory) : Type 0 where
   pub severe : is_at_least level advisory.about.severity ≡ true
-  pub contained : RangeContains advisory.range v
+  pub contained : RangeContains (sets_of_answer advisory.range) v
 
 -- one of the advisories is about the version
 abbrev pub IsInRange : List Advisory → VersionValue → Type 0
-IsInRange advisories v = AnyByRecursion (λ advisory. RangeContains advisory.range v) advisories
+IsInRange advisories v = AnyByRecursion (λ advisory. RangeContains (sets_of_answer advisory.range) v) advisories
 
 -- the spans can be those of a range, and contain these versions
 pub record Contain (spans : List (Ends VersionValue)) (Has : VersionValue → Type 0) : Type 0 where

@@ -1,5 +1,5 @@
 -- One hit more is one value more.
-use Rattle.std.proofs.Common.{◌∙◌, map, rules}
+use Rattle.std.proofs.Common.{◌∙◌}
 use Rattle.std.proofs.lemmas.List.{take_all}
 use Rattle.npm_advisories.specs.Advisories.{about_value}
 use Rattle.npm_advisories.specs.FoundJson.{about_data}

@@ -1,7 +1,6 @@
 -- The name that the member says, or else that of its place.
-use Rattle.std.proofs.Common.{◌≡◌, ◌∙◌, ap, codes, option_map, sym}
+use Rattle.std.proofs.Common.{◌∙◌, ap, option_map, sym}
 use Rattle.serde_json.specs.View.{view}
-use Rattle.npm_advisories.specs.Advisories.{text_of}
 use Rattle.npm_advisories.specs.LockFile.{said}
 use Rattle.npm_advisories.proofs.Installing.{by-place}
 use Rattle.npm_advisories.proofs.lock.name_of.Goals as goal

@@ -1,0 +1,106 @@
+-- What is read of some files in npm's form and in OSV's, and what is refused.
+use Rattle.std.proofs.Common.{◌≡◌, ◌∷◌, [], List, ℕ, Some, None, codes, refl}
+use Rattle.serde_json.specs.Data.{Data, Items, array, item, member, no_items, no_members, null, object, string}
+use Rattle.node_semver.specs.Versions.{release}
+use Rattle.npm_advisories.specs.Advisories.{AboutValue, in_osv, range_text}
+use Rattle.npm_advisories.specs.Files.{IsFileFault, advisories_of}
+use Rattle.npm_advisories.specs.OsvRanges.{fixed, introduced}
+use Rattle.npm_advisories.specs.declared.fault.FaultKind.TheVariants as Faults
+use Rattle.npm_advisories.specs.declared.severity.Severity.TheVariants.{High, Unknown}
+use Rattle.npm_advisories.proofs.Examples.OsvExamples.{two}
+
+-- an object with one member
+abbrev only : (key : List ℕ) → Data → Data
+only key value = object (member key value no_members)
+
+-- ---- npm's form
+
+abbrev in_npm : Data
+in_npm = only (codes "a") (array (item (object (member (codes "id") (string (codes "N"))
+    (member (codes "vulnerable_versions") (string (codes "<2")) no_members))) no_items))
+
+abbrev unsaid : (id : List ℕ) → AboutValue
+unsaid id = record { id = string id; severity = Unknown; title = None; url = None }
+
+pub an_object_with_lists_is_npms_form : advisories_of in_npm
+    ≡ record { name = codes "a"; about = unsaid (codes "N"); affected = range_text (codes "<2") } ∷ []
+an_object_with_lists_is_npms_form = refl
+
+-- a package may be called `id`
+pub a_list_under_id_is_npms_form : advisories_of (only (codes "id") (array no_items)) ≡ []
+a_list_under_id_is_npms_form = refl
+
+-- ---- OSV's form
+
+-- an element of `affected` about a package of this ecosystem
+abbrev element : (ecosystem : List ℕ) → (ranges : Items) → Data
+element ecosystem ranges = object (member (codes "package") (object (member (codes "ecosystem") (string ecosystem)
+    (member (codes "name") (string (codes "a")) no_members))) (member (codes "ranges") (array ranges) no_members))
+
+-- a range of this type, from the start up to this text
+abbrev up_to : (type : List ℕ) → (text : List ℕ) → Data
+up_to type text = object (member (codes "type") (string type) (member (codes "events") (array
+    (item (only (codes "introduced") (string (codes "0"))) (item (only (codes "fixed") (string text)) no_items)))
+    no_members))
+
+abbrev osv_of : Items → Data
+osv_of affected = object (member (codes "affected") (array affected) (member (codes "id") (string (codes "O"))
+    no_members))
+
+abbrev in_osvs : Data
+in_osvs = osv_of (item (element (codes "npm") (item (up_to (codes "SEMVER") (codes "2.0.0")) no_items)) no_items)
+
+pub an_object_with_an_id_is_osvs_form : advisories_of in_osvs ≡ record {
+  name = codes "a";
+  about = unsaid (codes "O");
+  affected = in_osv ((introduced (codes "0") ∷ fixed (codes "2.0.0") ∷ []) ∷ []) [];
+} ∷ []
+an_object_with_an_id_is_osvs_form = refl
+
+pub a_list_is_osvs_form : advisories_of (array (item in_osvs no_items)) ≡ advisories_of in_osvs
+a_list_is_osvs_form = refl
+
+pub the_database_gives_the_severity : advisories_of (object (member (codes "affected") (array
+    (item (element (codes "npm") no_items) no_items)) (member (codes "database_specific")
+    (only (codes "severity") (string (codes "HIGH"))) (member (codes "id") (string (codes "O")) no_members)))) ≡ record {
+      name = codes "a";
+      about = record { id = string (codes "O"); severity = High; title = None; url = None };
+      affected = in_osv [] [];
+    } ∷ []
+the_database_gives_the_severity = refl
+
+-- ---- what is passed over
+
+pub another_ecosystem_is_passed_over : advisories_of (osv_of (item (element (codes "PyPI") no_items) no_items)) ≡ []
+another_ecosystem_is_passed_over = refl
+
+pub a_git_range_is_passed_over : advisories_of (osv_of (item (element (codes "npm")
+    (item (up_to (codes "GIT") (codes "2.0.0")) no_items)) no_items))
+    ≡ record { name = codes "a"; about = unsaid (codes "O"); affected = in_osv [] [] } ∷ []
+a_git_range_is_passed_over = refl
+
+pub a_withdrawn_advisory_is_none : advisories_of (object (member (codes "affected") (array
+    (item (element (codes "npm") (item (up_to (codes "SEMVER") (codes "2.0.0")) no_items)) no_items))
+    (member (codes "id") (string (codes "O")) (member (codes "withdrawn") (string (codes "2022-01-01T00:00:00Z"))
+    no_members)))) ≡ []
+a_withdrawn_advisory_is_none = refl
+
+-- ---- faults
+
+pub a_version_has_no_fault : IsFileFault in_osvs None
+a_version_has_no_fault is_version told = rw (told.passes (codes "2.0.0") (release 2 0 0) two) refl
+
+pub a_string_is_no_file : IsFileFault (string []) (Some (record { kind = Faults.File; name = []; place = 0 }))
+a_string_is_no_file is_version told = refl
+
+-- the second of a list has no `id`
+pub a_fault_has_its_place : IsFileFault (array (item in_osvs (item (only (codes "affected") null) no_items)))
+    (Some (record { kind = Faults.OsvId; name = []; place = 1 }))
+a_fault_has_its_place is_version told = rw (told.passes (codes "2.0.0") (release 2 0 0) two) refl
+
+-- an event with two members is none, whatever their texts
+pub two_members_are_no_event : IsFileFault (osv_of (item (element (codes "npm") (item (object
+    (member (codes "type") (string (codes "SEMVER")) (member (codes "events") (array (item (object
+    (member (codes "fixed") (string (codes "2.0.0")) (member (codes "introduced") (string (codes "0")) no_members)))
+    no_items)) no_members))) no_items)) no_items)) (Some (record { kind = Faults.Event; name = []; place = 0 }))
+two_members_are_no_event is_version told = refl

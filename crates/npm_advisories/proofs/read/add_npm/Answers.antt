@@ -1,0 +1,23 @@
+-- The advisories of one name more are read.
+use Rattle.std.proofs.Common.{◌∙◌, ◌++◌, [], refl, string_bytes, sym}
+use Rattle.std.proofs.lemmas.List.{append_assoc}
+use Rattle.std.specs.Option.{option_map_or}
+use Rattle.serde_json.specs.Find.{as_array}
+use Rattle.serde_json.specs.View.{members_view, view}
+use Rattle.npm_advisories.specs.Advisories.{npm_list, npm_members}
+use Rattle.npm_advisories.proofs.Indexing.{adds-both}
+use Rattle.npm_advisories.proofs.read.add_npm.Goals as goal
+
+pub loop-name-preserved : goal.loop-name-preserved
+loop-name-preserved c =
+    let here = option_map_or (npm_list (string_bytes c.in-Some-2.name.now)) (as_array (view c.in-Some-2.list.now)) [] in
+    let rest = rw c.in-Some-2.ensures.steps at c.loop-name.invariant.rest in
+    let fault = rw c.in-Some-2.ensures.steps at c.loop-name.invariant.fault in
+    let sound = rw c.as_str.ensures.value at c.in_ok-read_member.ensures.sound in
+    record {
+      front = c.loop-name.invariant.front ++ here;
+      adds = adds-both _ _ _ c.loop-name.invariant.front here c.loop-name.invariant.adds
+          (rw c.as_str.ensures.value at c.in_ok-read_member.ensures.read);
+      rest = rest ∙ sym (append_assoc c.loop-name.invariant.front here (npm_members (members_view c.next.new.self)));
+      fault = fault ∙ (rw sound refl);
+    }

@@ -1,0 +1,36 @@
+-- A file of advisories, in npm's form or in OSV's: what its advisories are, and which value is no such file.
+use Rattle.std.specs.Prelude.{◌≡◌, ℕ, List, [], Bool, if◌then◌else◌, Option, Some, codes, is_some, option_map}
+use Rattle.std.specs.Option.{option_map_or}
+use Rattle.serde_json.specs.Data.{Data}
+use Rattle.serde_json.specs.Find.{as_array, as_object}
+use Rattle.npm_advisories.specs.Advisories.{AdvisoryValue, npm_members, text_of}
+use Rattle.npm_advisories.specs.Faults.{FaultValue, fault_value, npm_file_fault}
+use Rattle.npm_advisories.specs.OsvFaults.{IsVersionTest, osv_fault, osv_list_fault}
+use Rattle.npm_advisories.specs.OsvForm.{osv_advisories, osv_list}
+use Rattle.npm_advisories.specs.declared.fault.AuditError.{AuditError}
+use Rattle.npm_advisories.specs.declared.fault.AuditError.TheVariants as Errors
+
+-- A list is OSV's form, and so is an object whose `id` is a string. In npm's form each member is a list, also that of a
+-- package whose name is `id`
+abbrev pub is_osv : (file : Data) → Bool
+is_osv file = is_some (text_of (codes "id") file)
+
+-- The advisories of a file, in its order: in npm's form in the order of the names' bytes
+abbrev pub advisories_of : (file : Data) → List AdvisoryValue
+advisories_of file = option_map_or osv_list (as_array file)
+    (if is_osv file then osv_advisories file else option_map_or npm_members (as_object file) [])
+
+-- The fault of a file, if it has one. That of a list has the place in it, that of one OSV object the place 0
+abbrev pub file_fault : (is_version : List ℕ → Bool) → (file : Data) → Option FaultValue
+file_fault is_version file = option_map_or (osv_list_fault is_version 0) (as_array file)
+    (if is_osv file then option_map (λ kind. record { kind = kind; name = []; place = 0 }) (osv_fault is_version file)
+    else npm_file_fault file)
+
+-- this is the fault of the file, or it has none
+abbrev pub IsFileFault : (file : Data) → Option FaultValue → Type 0
+IsFileFault file fault = (is_version : List ℕ → Bool) → IsVersionTest is_version → file_fault is_version file ≡ fault
+
+-- there is no audit because of this fault, or because an allocation failed
+abbrev pub IsAuditError : (file : Data) → AuditError → Type 0
+IsAuditError file (Errors.Refused at) = IsFileFault file (Some (fault_value at))
+IsAuditError file Errors.Memory = Unit {0}

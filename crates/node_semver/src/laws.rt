@@ -1,5 +1,5 @@
 //! The laws of versions and ranges. The functions here do nothing: the contract of each is a law. Those of versions are
-//! in `semver_versions`, those of range texts in `semver_sets`.
+//! in `semver_versions`, those of range texts in `semver_sets`, and that of npm's refusals in `npm_sets`.
 //!
 //! See docs/DECISIONS.md, "The limits are pinned by a law".
 ghost use Rattle.std.specs.Prelude.{◌≡◌, ℕ, List};

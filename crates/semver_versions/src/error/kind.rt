@@ -29,7 +29,8 @@ pub enum SemverErrorKind {
     MaxIntError(u64),
     /// A number or a dot is missing from a version text at the offset. The word is `version`.
     Context(&'static str),
-    /// No alternative of a range text gives a set. The offset is 0.
+    /// No alternative of a range text gives a set: the offset is 0. Or a word is no comparator in npm's strict form: the
+    /// offset is that of the first such word.
     NoValidRanges,
     /// A version text goes on after the version: the offset is that of the first byte after it. Or `parse_strict` was
     /// given a version text that is not strict: the offset is that of the first number or identifier that is not

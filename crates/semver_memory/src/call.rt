@@ -223,6 +223,7 @@ fn call_of_value(alloc: Global, name: &str, one: &str, other: &str) -> Result<Ca
         | "SemverError::new"
         | "Version::bump"
         | "Version::coerce"
+        | "Version::coerce_with_prerelease"
         | "npm_lock::check"
         | "npm_lock::check_any"
         | "npm_lock::mismatches_of"

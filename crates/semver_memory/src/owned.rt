@@ -20,6 +20,8 @@ pub(crate) enum Making {
     Identifiers(String),
     /// The version that is found in a text.
     Coerced(String),
+    /// The version that is found in a text, with its prerelease and its build.
+    FullyCoerced(String),
     /// An error for a text.
     Error(String),
     /// The problems of a lock file.
@@ -49,6 +51,7 @@ impl Making {
             Making::Version(text) => version_of(alloc, text),
             Making::Identifiers(text) => identifiers_of(alloc, text),
             Making::Coerced(text) => coerced(alloc, text),
+            Making::FullyCoerced(text) => fully_coerced(alloc, text),
             Making::Error(text) => {
                 answer::refusal(SemverError::new(alloc, text, 1, SemverErrorKind::Other))
             }
@@ -76,6 +79,7 @@ impl Making {
             Making::Version(text)
             | Making::Identifiers(text)
             | Making::Coerced(text)
+            | Making::FullyCoerced(text)
             | Making::Error(text) => text.clone(),
             Making::Problems(value)
             | Making::AnyProblems(value)
@@ -111,6 +115,14 @@ fn coerced(alloc: Global, text: &str) -> Answer {
     }
 }
 
+fn fully_coerced(alloc: Global, text: &str) -> Answer {
+    match Version::coerce_with_prerelease(alloc, text, CoerceOptions { rtl: false }) {
+        Ok(Some(version)) => answer::version(Ok(version)),
+        Ok(None) => Answer::Nothing,
+        Err(_) => Answer::OutOfMemory,
+    }
+}
+
 fn audited(alloc: Global, input: &Value) -> Answer {
     let (Some(lock), Some(advisories)) = (input.get("lock"), input.get("advisories")) else {
         return Answer::Nothing;
@@ -140,6 +152,9 @@ pub(crate) fn making_of(alloc: Global, name: &str, text: &str) -> Result<Making,
         "SemverError::new" => Ok(Making::Error(String::from_str(alloc, text)?)),
         "Identifiers::to_vec" => Ok(Making::Identifiers(String::from_str(alloc, text)?)),
         "Version::coerce" => Ok(Making::Coerced(String::from_str(alloc, text)?)),
+        "Version::coerce_with_prerelease" => {
+            Ok(Making::FullyCoerced(String::from_str(alloc, text)?))
+        }
         _ => Ok(Making::Version(String::from_str(alloc, text)?)),
     }
 }

@@ -217,6 +217,13 @@ fn call_of_value(alloc: Global, name: &str, one: &str, other: &str) -> Result<Ca
         | "Range::least_beyond"
         | "Range::least_common" => call_of_ranges(alloc, name, one, other),
         "Version::from_json" | "Range::from_json" => call_of_json(alloc, name, one),
+        _ => call_of_made(alloc, name, one, other),
+    }
+}
+
+/// The same for calls on what is made of a text, and for questions.
+fn call_of_made(alloc: Global, name: &str, one: &str, other: &str) -> Result<Call, Fault> {
+    match name {
         "VersionRef::to_version"
         | "VersionFault::into_error"
         | "Identifiers::to_vec"

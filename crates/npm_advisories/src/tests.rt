@@ -1,6 +1,7 @@
 //! Advisories in npm's form, installed packages, and what is found.
 
 mod large;
+mod lifetimes;
 mod osv;
 
 use crate::{AuditError, FaultKind, Installed, LockError, Severity, audit, audit_lock};

@@ -13,3 +13,4 @@ pub mod VersionTests
 pub mod Walking
 pub mod OsvSpans
 pub mod OsvMarks
+pub mod OsvEnds

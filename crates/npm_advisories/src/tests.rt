@@ -1,5 +1,9 @@
 //! Advisories in npm's form, installed packages, and what is found.
 
+mod large;
+mod lifetimes;
+mod osv;
+
 use crate::{AuditError, FaultKind, Installed, LockError, Severity, audit, audit_lock};
 use serde_json::Value;
 use std::alloc::Global;

@@ -4,7 +4,7 @@ use Rattle.semver_cuts.specs.Ends.{IsCutBelow}
 use Rattle.semver_cuts.specs.Lemmas.Ends.{at_most-from_not_lt, below-from_lt, below-not-at_most}
 use Rattle.semver_versions.specs.Lemmas.Public.{version_total}
 use Rattle.node_semver.specs.Versions.{version_cmp}
-use Rattle.npm_advisories.proofs.OsvMarks.{next-kept, next-nearer}
+use Rattle.npm_advisories.proofs.OsvEnds.{next-kept, next-nearer}
 use Rattle.npm_advisories.proofs.osv.between.nearer.Goals as goal
 
 pub returns-in_default : goal.returns-in_default

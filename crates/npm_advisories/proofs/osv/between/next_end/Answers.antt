@@ -1,7 +1,7 @@
 -- Mark after mark.
 use Rattle.std.proofs.lemmas.List.{take_all, take_more}
 use Rattle.std.proofs.lemmas.Result.{IfOk-weaker}
-use Rattle.npm_advisories.proofs.OsvMarks.{next-first}
+use Rattle.npm_advisories.proofs.OsvEnds.{next-first}
 use Rattle.npm_advisories.proofs.osv.between.next_end.Goals as goal
 
 pub loop-mark-init : goal.loop-mark-init

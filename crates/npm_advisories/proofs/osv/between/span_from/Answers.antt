@@ -1,5 +1,5 @@
 -- The span ends at the next end.
-use Rattle.npm_advisories.proofs.OsvMarks.{have-from}
+use Rattle.npm_advisories.proofs.OsvEnds.{have-from}
 use Rattle.npm_advisories.proofs.osv.between.span_from.Goals as goal
 
 pub returns : goal.returns

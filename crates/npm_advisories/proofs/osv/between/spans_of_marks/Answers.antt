@@ -2,7 +2,7 @@
 use Rattle.std.proofs.Common.{◌∙◌, ◌∷◌, [], ap, append-nil, sym, take}
 use Rattle.std.proofs.lemmas.List.{take_all, take_more}
 use Rattle.npm_advisories.specs.Private.OsvReading.{IsFromMark}
-use Rattle.npm_advisories.proofs.OsvMarks.{have-ended, have-mark}
+use Rattle.npm_advisories.proofs.OsvEnds.{have-ended, have-mark}
 use Rattle.npm_advisories.proofs.OsvSpans.{have-more, have-none}
 use Rattle.npm_advisories.proofs.osv.between.spans_of_marks.Goals as goal
 use Rattle.npm_advisories.proofs.osv.between.spans_of_marks.Goals.{in-Introduced+in_ok-span_from+in_ok-push, in_default}

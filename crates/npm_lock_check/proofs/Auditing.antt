@@ -1,20 +1,12 @@
 -- Why advisories are not looked up, and what is counted.
-use Rattle.std.proofs.Common.{◌≡◌, List, None, Option, Some, inl, inr, is_some, length, map, option_map, refl, true}
+use Rattle.std.proofs.Common.{◌≡◌, List, None, Option, Some, inl, inr, is_some, length, map, option_map, refl}
 use Rattle.std.proofs.lemmas.List.{length-map}
 use Rattle.serde_json.specs.Data.{Data}
-use Rattle.npm_lock.specs.Faults.{lock_fault}
-use Rattle.npm_lock.specs.VersionOne.{any_fault}
-use Rattle.npm_lock.specs.declared.fault.Fault.{Fault}
 use Rattle.npm_advisories.specs.Faults.{FaultValue}
 use Rattle.npm_advisories.specs.Files.{IsFileFault}
 use Rattle.npm_lock_check.specs.Private.Refusals.{AreRefusedAs, IsAuditRefused, IsLockRefused, IsRefused}
-use Rattle.npm_lock_check.specs.Report.{WantedValue, has_packages}
+use Rattle.npm_lock_check.specs.Report.{WantedValue}
 use Rattle.npm_lock_check.specs.declared.run_error.RunError.{RunError}
-
--- a lock file with `packages` has this fault
-pub fault_of_any : (lock : Data) (manifest : Option Data) (fault : Fault) → has_packages lock ≡ true
-    → lock_fault lock ≡ Some fault → any_fault lock manifest ≡ Some fault
-fault_of_any lock manifest fault has is = rw has is
 
 -- the advisories have this fault
 pub refused_as : (placed file : Data) (wanted : WantedValue) (fault : FaultValue) (error : RunError)

@@ -1,6 +1,6 @@
 -- Lines, one more at a time.
 use Rattle.std.proofs.Common.{◌≡◌, ◌∙◌, ℕ, ◌+◌, ◌<◌, List, [], ◌∷◌, ◌++◌, length, get_or, drop, map, refl, sym, ap}
-use Rattle.std.proofs.Common.{false, if◌then◌else◌, is_ok, Option, Some, None, Result, Ok, Err, OnOk, append_assoc, codes}
+use Rattle.std.proofs.Common.{false, Option, Some, None, append_assoc, codes}
 use Rattle.std.proofs.lemmas.List.{drop_more}
 use Rattle.serde_json.proofs.OnLiterals.{serde_json_on_literals}
 use Rattle.serde_json.specs.Data.{no_members, put, string}
@@ -66,18 +66,6 @@ lines_more value IsLine done more start line all i item small is is_line is_more
     rw here (one_more (value item) line (map value (drop (i + 1) all)) rest is_line later) in
     let made = held (line ++ (10 ∷ rest)) whole in
     (made.0, made.1, ap (λ text. text ++ rest) is_more ∙ regroup done line rest ∙ made.2)
-
--- a line that such a relation allows was added
-pub line_added : {T E : Type 0} (r : Result T E) (IsLine : List ℕ → Type 0) (new old line : List ℕ) → IsLine line
-    → new ≡ (if is_ok r then old ++ line else old) → OnOk r ((text : List ℕ) × IsLine text × (new ≡ old ++ text))
-line_added (Ok x) IsLine new old line is made = (line, is, made)
-line_added (Err e) IsLine new old line is made = tt
-
--- the same of a line that has one form
-pub line_of_form : {T E : Type 0} (r : Result T E) (new old line : List ℕ) → OnOk r (new ≡ old ++ line)
-    → OnOk r ((text : List ℕ) × (text ≡ line) × (new ≡ old ++ text))
-line_of_form (Ok x) new old line made = (line, refl, made)
-line_of_form (Err e) new old line made = tt
 
 -- ---- mismatches
 

@@ -1,4 +1,5 @@
 pub mod ArgumentExamples
+pub mod HitExamples
 pub mod InputExamples
 pub mod MismatchExamples
 pub mod NodeExamples

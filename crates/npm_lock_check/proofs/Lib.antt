@@ -1,4 +1,5 @@
 pub mod ArgumentLists
+pub mod Auditing
 pub mod Examples
 pub mod LastNames
 pub mod OutputLines

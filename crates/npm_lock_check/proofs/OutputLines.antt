@@ -9,7 +9,7 @@ use Rattle.npm_lock.specs.MismatchJson.{mismatch_data}
 use Rattle.npm_lock.specs.Mismatches.{MismatchValue}
 use Rattle.npm_lock.specs.Outcomes.{ProblemValue, UncheckedValue}
 use Rattle.npm_lock.specs.ProblemJson.{problem_data, reason_text, unchecked_data, with_text}
-use Rattle.npm_lock_check.specs.Report.{lines}
+use Rattle.npm_lock_check.specs.Report.{AreLines, lines, one_more}
 
 last_members : (to version : Option (List ℕ))
     → members_have_float (with_text (codes "to") to (with_text (codes "version") version no_members)) ≡ false
@@ -50,6 +50,22 @@ line_more value line done more whole all i item small is is_more held =
     ap (λ text. text ++ lines line (map value (drop (i + 1) all))) is_more
     ∙ regroup done (line (value item)) (lines line (map value (drop (i + 1) all)))
     ∙ ap (λ rest. done ++ lines line (map value rest)) (sym here) ∙ held
+
+-- the same of lines that a relation allows
+pub lines_more : {T V : Type 0} (value : T → V) (IsLine : V → List ℕ → Type 0) (done more start line : List ℕ)
+    (all : List T) (i : ℕ) (item : T) → i < length all → item ≡ get_or all i item → IsLine (value item) line
+    → more ≡ (done ++ line) ++ (10 ∷ [])
+    → ((rest : List ℕ) → AreLines IsLine (map value (drop i all)) rest
+    → (text : List ℕ) × AreLines IsLine (map value all) text × (done ++ rest ≡ start ++ text))
+    → (rest : List ℕ) → AreLines IsLine (map value (drop (i + 1) all)) rest
+    → (text : List ℕ) × AreLines IsLine (map value all) text × (more ++ rest ≡ start ++ text)
+lines_more value IsLine done more start line all i item small is is_line is_more held rest later =
+    let cut : drop i all ≡ get_or all i item ∷ drop (i + 1) all = drop_more all i item small in
+    let here : drop i all ≡ item ∷ drop (i + 1) all = cut ∙ ap (λ x. x ∷ drop (i + 1) all) (sym is) in
+    let whole : AreLines IsLine (map value (drop i all)) (line ++ (10 ∷ rest)) =
+    rw here (one_more (value item) line (map value (drop (i + 1) all)) rest is_line later) in
+    let made = held (line ++ (10 ∷ rest)) whole in
+    (made.0, made.1, ap (λ text. text ++ rest) is_more ∙ regroup done line rest ∙ made.2)
 
 -- ---- mismatches
 

@@ -21,3 +21,9 @@ pub then_same : {T E : Type 0} (r : Result T E) (new made whole : List ℕ) → 
     → OnOk r (new ≡ whole)
 then_same (Ok x) new made whole is same = is ∙ same
 then_same (Err e) new made whole is same = tt
+
+-- what references to versions point to
+pub seen_values : {V : Type 0} (value : Option (Bor V)) (whole : Option V) → option_copied value ≡ whole
+    → option_map (λ v. v.now) value ≡ whole
+seen_values None whole is = is
+seen_values (Some v) whole is = is

@@ -4,6 +4,9 @@ use Rattle.std.specs.Prelude.{Option, Some, None, is_some, option_map, Result, O
 use Rattle.std.specs.List.{starts_with}
 use Rattle.std.specs.Result.{result_map_both}
 use Rattle.std.specs.Str.{bytes_eq}
+use Rattle.npm_advisories.specs.Severities.{severity_of_text}
+use Rattle.npm_advisories.specs.declared.severity.Severity.{Severity}
+use Rattle.npm_advisories.specs.declared.severity.Severity.TheVariants.{Critical, High, Info, Low, Moderate, Unknown}
 use Rattle.npm_lock_check.specs.Kinds.{named_by, no_kinds, with_named}
 use Rattle.npm_lock_check.specs.declared.arguments.TheConstants.{MAX_WORDS}
 use Rattle.npm_lock_check.specs.declared.arguments.Argument.{Argument}
@@ -32,6 +35,8 @@ pub record ArgumentValue : Type 0 where
 abbrev pub input_name_of : (word : List ℕ) → Option Name
 input_name_of word = if bytes_eq word (codes "--unchecked") then Some Names.Unchecked
     else if bytes_eq word (codes "--manifest") then Some (Names.Valued Settings.Manifest)
+    else if bytes_eq word (codes "--advisories") then Some (Names.Valued Settings.Advisories)
+    else if bytes_eq word (codes "--severity") then Some (Names.Valued Settings.Severity)
     else None
 
 -- the option that a word names
@@ -65,7 +70,8 @@ arguments_of (word ∷ text ∷ rest) = if takes_value word
 -- ---- what they ask for
 
 -- What is shown in place of a check, the text after `--node`, the format, the kinds after `--ignore`, whether dependencies
--- that are not checked are listed, the text after `--manifest`, and the file.
+-- that are not checked are listed, the texts after `--manifest` and `--advisories`, the least severity of advisories, and the
+-- file.
 pub record AskedValue : Type 0 where
   pub shown : Option Shown
   pub node : Option (List ℕ)
@@ -73,9 +79,11 @@ pub record AskedValue : Type 0 where
   pub ignored : Kinds
   pub unchecked : Bool
   pub manifest : Option (List ℕ)
+  pub advisories : Option (List ℕ)
+  pub level : Severity
   pub file : Option (List ℕ)
 
--- what no argument asks for
+-- what no argument asks for: `info` is the least severity, so all advisories count
 abbrev pub nothing_asked : AskedValue
 nothing_asked = record {
   shown = None;
@@ -84,6 +92,8 @@ nothing_asked = record {
   ignored = no_kinds;
   unchecked = false;
   manifest = None;
+  advisories = None;
+  level = Info;
   file = None;
 }
 
@@ -93,7 +103,7 @@ format_of text = if bytes_eq text (codes "text") then Some Formats.Text
     else if bytes_eq text (codes "json") then Some Formats.Json
     else None
 
--- with one more format, or kind to be left out
+-- with one more format, with one more kind that is left out, and with another least severity
 abbrev pub with_format : AskedValue → Option Format → Result AskedValue RunError
 with_format asked None = Err Errors.Format
 with_format asked (Some format) = Ok (record asked { format = Some format })
@@ -102,12 +112,22 @@ abbrev pub with_ignored : AskedValue → Option Ignorable → Result AskedValue 
 with_ignored asked None = Err Errors.Kind
 with_ignored asked (Some named) = Ok (record asked { ignored = with_named asked.ignored named })
 
+abbrev pub with_level : AskedValue → Severity → Result AskedValue RunError
+with_level asked Unknown = Err Errors.Severity
+with_level asked Info = Ok (record asked { level = Info })
+with_level asked Low = Ok (record asked { level = Low })
+with_level asked Moderate = Ok (record asked { level = Moderate })
+with_level asked High = Ok (record asked { level = High })
+with_level asked Critical = Ok (record asked { level = Critical })
+
 -- with one more option that has a value
 abbrev pub with_value : AskedValue → Setting → (text : List ℕ) → Result AskedValue RunError
 with_value asked Settings.Node text = Ok (record asked { node = Some text })
 with_value asked Settings.Format text = with_format asked (format_of text)
 with_value asked Settings.Ignore text = with_ignored asked (named_by text)
 with_value asked Settings.Manifest text = Ok (record asked { manifest = Some text })
+with_value asked Settings.Advisories text = Ok (record asked { advisories = Some text })
+with_value asked Settings.Severity text = with_level asked (severity_of_text text)
 
 -- with one more word that is no option, which is the file; `-` is one too
 abbrev pub with_file : AskedValue → (word : List ℕ) → Result AskedValue RunError
@@ -152,6 +172,8 @@ asked_value asked = record {
   ignored = asked.ignored;
   unchecked = asked.unchecked;
   manifest = option_map (λ text. text.now) asked.manifest;
+  advisories = option_map (λ text. text.now) asked.advisories;
+  level = asked.level;
   file = option_map (λ word. word.now) asked.file;
 }
 

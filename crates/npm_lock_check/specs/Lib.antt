@@ -5,6 +5,7 @@ pub mod Arguments  -- what the arguments ask for
 pub mod NodeVersion  -- the version of Node that an argument names
 pub mod GaugeValue  -- readers and writers that remember that a call failed
 pub mod Sentence  -- a problem, or a mismatch, as a sentence
+pub mod HitSentence  -- a package that is hit as a sentence
 pub mod Report  -- what is found out about a lock file, and the lines of it
 pub mod Output  -- what is read, and why nothing is written for it
 -- ---- not part of any public contract: what private functions compute

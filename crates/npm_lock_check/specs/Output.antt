@@ -1,6 +1,6 @@
 -- What the program reads, and what it writes for it.
 use Rattle.std.specs.Prelude.{◌≡◌, ◌≢◌, ◌⊎◌, ℕ, List, [], ◌∷◌, Bool, true, false, IsSome, IsUtf8, Option, None, Some}
-use Rattle.std.specs.Prelude.{nat_eq, option_and_then}
+use Rattle.std.specs.Prelude.{nat_eq, option_and_then, string_bytes}
 use Rattle.std.specs.List.{starts_with}
 use Rattle.std.specs.Io.KnownBytes.{Consumes, IsAtEnd}
 use Rattle.std.specs.declared.io.ErrorKind.TheVariants.{OutOfMemory}
@@ -9,14 +9,18 @@ use Rattle.serde_json.specs.Read.{read}
 use Rattle.npm_lock.specs.Mismatches.{manifest_fault}
 use Rattle.npm_lock.specs.VersionOne.{any_fault}
 use Rattle.npm_lock.specs.declared.fault.Fault.{Fault}
+use Rattle.npm_advisories.specs.Audit.{FoundValue}
+use Rattle.npm_advisories.specs.Files.{IsFileFault}
+use Rattle.npm_advisories.specs.declared.fault.FaultKind.{FaultKind}
 use Rattle.npm_lock_check.specs.GaugeValue.{GaugeValue}
 use Rattle.npm_lock_check.specs.Report.{IsReportOf, WantedValue, has_packages, placed}
+use Rattle.npm_lock_check.specs.declared.list_name.ListName.{ListName}
 use Rattle.npm_lock_check.specs.declared.report.Report.{Report}
 use Rattle.npm_lock_check.specs.declared.run_error.RunError.{RunError}
 use Rattle.npm_lock_check.specs.declared.run_error.RunError.TheVariants as Errors
-use Rattle.npm_lock_check.specs.declared.run_error.RunError.TheVariants.{ByteOrderMark, Memory, NodeVersion}
+use Rattle.npm_lock_check.specs.declared.run_error.RunError.TheVariants.{ByteOrderMark, Memory, NoAdvisories, NodeVersion}
 use Rattle.npm_lock_check.specs.declared.run_error.RunError.TheVariants.{NoFile, NoJson, NoLockFile, NoManifest, NoUtf8, NoValue}
-use Rattle.npm_lock_check.specs.declared.run_error.RunError.TheVariants.{Open, Read, SecondFile, TooManyWords}
+use Rattle.npm_lock_check.specs.declared.run_error.RunError.TheVariants.{OldLockFile, Open, Read, SecondFile, TooManyWords}
 use Rattle.npm_lock_check.specs.declared.run_error.RunError.TheVariants.{UnknownOption, Write}
 
 -- the JSON text of this value, in UTF-8
@@ -42,10 +46,10 @@ IsInput remaining old new value = IsReadAs remaining old new (λ bytes. IsTextOf
 
 -- a lock file was read, and this is the report of it
 pub record IsReported {R : Type 0} (remaining : R → Option (List ℕ)) (old new : GaugeValue R)
-    (wanted : WantedValue) (report : Report) : Type 0 where
+    (wanted : WantedValue) (report : Report) (found : List FoundValue) : Type 0 where
   pub lock : Data
   pub input : IsInput remaining old new lock
-  pub report_of : IsReportOf lock wanted report
+  pub report_of : IsReportOf lock wanted report found
 
 -- ---- why nothing was written
 
@@ -58,8 +62,17 @@ IsNoManifest lock manifest fault =
 abbrev pub IsNoLockFile : (placed : Data) → (manifest : Option Data) → Fault → Type 0
 IsNoLockFile placed manifest fault = any_fault placed manifest ≡ Some fault
 
+-- there are advisories, and the lock file has no `packages`: it is of version 1, which is not audited
+abbrev pub IsOldLockFile : (placed : Data) → (advisories : Option Data) → Type 0
+IsOldLockFile placed advisories = IsSome advisories × (has_packages placed ≡ false)
+
+-- the value of the advisories has a fault, at this place in the list under this name
+abbrev pub AreNoAdvisories : (advisories : Option Data) → FaultKind → ListName → (place : ℕ) → Type 0
+AreNoAdvisories advisories kind name place = (file : Data) × (advisories ≡ Some file)
+    × IsFileFault file (Some (record { kind = kind; name = string_bytes name.text; place = place }))
+
 -- Why a lock file was not checked: what was read begins with a byte order mark, or is not in UTF-8, or is no JSON text,
--- or its value or the manifest has a fault, or a read failed, or memory ran out. It ran out in a read whose
+-- or its value, the manifest or the advisories have a fault, or a read failed, or memory ran out. It ran out in a read whose
 -- error says so, or later: then all was read, and it is in UTF-8 and not empty.
 abbrev pub IsStopped : {R : Type 0} → (remaining : R → Option (List ℕ)) → (wanted : WantedValue)
     → (old new : GaugeValue R) → RunError → Type 0
@@ -72,6 +85,10 @@ IsStopped remaining wanted old new (NoLockFile fault) =
     (lock : Data) × IsInput remaining old new lock × IsNoLockFile (placed lock wanted.manifest) wanted.manifest fault
 IsStopped remaining wanted old new (NoManifest fault) =
     (lock : Data) × IsInput remaining old new lock × IsNoManifest lock wanted.manifest fault
+IsStopped remaining wanted old new OldLockFile =
+    (lock : Data) × IsInput remaining old new lock × IsOldLockFile (placed lock wanted.manifest) wanted.advisories
+IsStopped remaining wanted old new (NoAdvisories kind name place) =
+    (lock : Data) × IsInput remaining old new lock × AreNoAdvisories wanted.advisories kind name place
 IsStopped remaining wanted old new Read = IsSome new.failure × (new.failure ≢ Some OutOfMemory)
 IsStopped remaining wanted old new Memory = (new.failure ≡ Some OutOfMemory)
     ⊎ IsReadAs remaining old new (λ bytes. IsUtf8 bytes × (bytes ≢ []))
@@ -82,6 +99,7 @@ IsStopped remaining wanted old new SecondFile = ⊥
 IsStopped remaining wanted old new NoValue = ⊥
 IsStopped remaining wanted old new Errors.Format = ⊥
 IsStopped remaining wanted old new Errors.Kind = ⊥
+IsStopped remaining wanted old new Errors.Severity = ⊥
 IsStopped remaining wanted old new NodeVersion = ⊥
 IsStopped remaining wanted old new NoFile = ⊥
 IsStopped remaining wanted old new Open = ⊥

@@ -1,11 +1,12 @@
 -- What is found out about a lock file, and what is written about it.
-use Rattle.std.specs.Prelude.{◌≡◌, ◌&&◌, ℕ, List, [], ◌∷◌, ◌++◌, Bool, false, true, Option, Some, None, filter, if◌then◌else◌}
-use Rattle.std.specs.Prelude.{codes, is_some, map, not, option_and_then, option_map}
+use Rattle.std.specs.Prelude.{◌≡◌, ◌≤◌, ◌&&◌, ℕ, List, [], ◌∷◌, ◌++◌, Bool, false, Option, Some, None, filter, if◌then◌else◌}
+use Rattle.std.specs.Prelude.{codes, is_some, length, map, not, option_and_then, option_map}
 use Rattle.std.specs.Bool.{MatchBool}
-use Rattle.serde_json.specs.Data.{Data}
+use Rattle.serde_json.specs.Data.{Data, depth}
 use Rattle.serde_json.specs.Find.{get}
+use Rattle.serde_json.specs.Read.{max_depth, read}
 use Rattle.serde_json.specs.View.{view}
-use Rattle.serde_json.specs.Written.{compact_text}
+use Rattle.serde_json.specs.Written.{compact_text, has_float}
 use Rattle.node_semver.specs.Versions.{VersionValue}
 use Rattle.npm_lock.specs.Findings as Findings
 use Rattle.npm_lock.specs.ManifestPlace.{with_manifest}
@@ -16,6 +17,12 @@ use Rattle.npm_lock.specs.ProblemJson.{problem_data, unchecked_data}
 use Rattle.npm_lock.specs.VersionOne.{converted}
 use Rattle.npm_lock.specs.declared.mismatch.Mismatch.{Mismatch}
 use Rattle.npm_lock.specs.declared.problem.Problems.{Problems}
+use Rattle.npm_advisories.specs.Files.{advisories_of}
+use Rattle.npm_advisories.specs.Audit.{FoundValue, InstalledValue, IsAudit}
+use Rattle.npm_advisories.specs.FoundJson.{found_data}
+use Rattle.npm_advisories.specs.LockFile.{AreInstalledOf}
+use Rattle.npm_advisories.specs.declared.severity.Severity.{Severity}
+use Rattle.npm_lock_check.specs.HitSentence.{hit_sentence}
 use Rattle.npm_lock_check.specs.Kinds.{has}
 use Rattle.npm_lock_check.specs.Sentence.{mismatch_sentence, sentence, unchecked_sentence}
 use Rattle.npm_lock_check.specs.declared.arguments.Format.{Format}
@@ -24,10 +31,13 @@ use Rattle.npm_lock_check.specs.declared.kinds.Kinds.{Kinds}
 use Rattle.npm_lock_check.specs.declared.report.Report.{Report}
 use Rattle.npm_lock_check.specs.declared.wanted.Wanted.{Wanted}
 
--- what a check is asked for: the manifest of the root, the version of Node that each package is checked with, the kinds of
--- problems that are left out, whether dependencies that are not checked are listed, and the format
+-- what a check is asked for: the manifest of the root, the advisories, and the least severity of those that count; the
+-- version of Node that each package is checked with, the kinds of problems that are left out, whether dependencies that are
+-- not checked are listed, and the format
 pub record WantedValue : Type 0 where
   pub manifest : Option Data
+  pub advisories : Option Data
+  pub level : Severity
   pub node : Option VersionValue
   pub ignored : Kinds
   pub unchecked : Bool
@@ -37,6 +47,8 @@ pub record WantedValue : Type 0 where
 abbrev pub wanted_value : Wanted → WantedValue
 wanted_value wanted = record {
   manifest = option_map (λ manifest. view manifest.now) wanted.manifest;
+  advisories = option_map (λ file. view file.now) wanted.advisories;
+  level = wanted.level;
   node = option_map (λ version. version.now) wanted.node;
   ignored = wanted.ignored;
   unchecked = wanted.unchecked;
@@ -70,7 +82,7 @@ AreLeftMismatches lock (Some manifest) is_ignored list = MatchBool (has_packages
     ((all : List Mismatch) × AreMismatches lock [] manifest all × (list ≡ (if is_ignored then [] else all)))
     (list ≡ [])
 
--- ---- the problems
+-- ---- the problems and the advisories
 
 -- the problems of the lock file without those of ignored kinds, in their order, and the counts of all of it
 pub record AreLeft (lock : Data) (wanted : WantedValue) (problems : Problems) : Type 0 where
@@ -81,19 +93,30 @@ pub record AreLeft (lock : Data) (wanted : WantedValue) (problems : Problems) : 
   pub dependencies : problems.dependencies ≡ all.dependencies
   pub unchecked : problems.unchecked ≡ all.unchecked
 
+-- the installed packages that an advisory hits which is not less severe than the level: what `audit_lock` finds
+abbrev pub AreHit : (lock : Data) → (advisories : Option Data) → (level : Severity) → List FoundValue → Type 0
+AreHit lock None level found = found ≡ []
+AreHit lock (Some file) level found = (installed : List InstalledValue) × AreInstalledOf lock installed
+    × IsAudit level (advisories_of file) installed found
+
 -- ---- all of it
 
--- the mismatches of the manifest, and the problems of the lock file with that manifest in the root's place
-pub record IsReportOf (lock : Data) (wanted : WantedValue) (report : Report) : Type 0 where
+-- the mismatches of the manifest, the problems of the lock file with that manifest in the root's place, and the packages of
+-- it that are hit
+pub record IsReportOf (lock : Data) (wanted : WantedValue) (report : Report) (found : List FoundValue) : Type 0 where
   pub compared : report.compared ≡ is_compared lock wanted.manifest
   pub overrides : report.overrides ≡ has_overrides wanted.manifest
   pub mismatches : AreLeftMismatches lock wanted.manifest wanted.ignored.group report.mismatches.items
   pub problems : AreLeft (placed lock wanted.manifest) wanted report.problems
+  pub hit : AreHit (placed lock wanted.manifest) wanted.advisories wanted.level found
+  pub audited : report.audited ≡ is_some wanted.advisories
+  pub hits : report.hits ≡ length found
 
 -- a report of nothing
 pub record IsClean (report : Report) : Type 0 where
   pub mismatches : report.mismatches.items ≡ []
   pub problems : report.problems.list.items ≡ []
+  pub hits : report.hits ≡ 0
 
 -- ---- the lines
 
@@ -112,15 +135,36 @@ abbrev pub unchecked_text : Format → UncheckedValue → List ℕ
 unchecked_text Text unchecked = unchecked_sentence unchecked
 unchecked_text Json unchecked = compact_text (unchecked_data unchecked)
 
+-- The line of a package that is hit. An advisory may have a number with a fraction as its `id`: then the JSON text is not
+-- fixed here, but it reads back as the object.
+pub record IsJsonLine (value : Data) (line : List ℕ) : Type 0 where
+  pub compact : has_float value ≡ false → line ≡ compact_text value
+  pub reads : depth value ≤ max_depth → read line ≡ Some value
+
+abbrev pub IsHitLine : Format → FoundValue → (line : List ℕ) → Type 0
+IsHitLine Text found line = line ≡ hit_sentence found
+IsHitLine Json found line = IsJsonLine (found_data found) line
+
 -- a line for each of these, and a newline byte after it
 abbrev pub lines : {V : Type 0} → (line : V → List ℕ) → List V → List ℕ
 lines line [] = []
 lines line (one ∷ others) = line one ++ (10 ∷ lines line others)
 
--- all that is written: a line for each mismatch, for each problem and, if that is asked for, for each dependency that is not
--- checked
-abbrev pub report_text : WantedValue → Report → List ℕ
-report_text wanted report = lines (mismatch_text wanted.format) (map mismatch_value report.mismatches.items)
+-- the same of lines that such a relation allows
+pub data AreLines {V : Type 0} (IsLine : V → List ℕ → Type 0) : List V → (text : List ℕ) → Type 0 where
+  none : AreLines IsLine [] []
+  one_more : (one : V) (line : List ℕ) (others : List V) (text : List ℕ) → IsLine one line → AreLines IsLine others text
+      → AreLines IsLine (one ∷ others) (line ++ (10 ∷ text))
+
+-- All that is written: a line for each mismatch, for each problem, for each package that is hit and, if that is asked for,
+-- for each dependency that is not checked.
+abbrev pub report_text : WantedValue → Report → (hit_lines : List ℕ) → List ℕ
+report_text wanted report hit_lines = lines (mismatch_text wanted.format) (map mismatch_value report.mismatches.items)
     ++ (lines (line_text wanted.format) (map problem_value report.problems.list.items)
-    ++ (if wanted.unchecked
-    then lines (unchecked_text wanted.format) (map unchecked_value report.problems.unchecked.items) else []))
+    ++ (hit_lines ++ (if wanted.unchecked
+    then lines (unchecked_text wanted.format) (map unchecked_value report.problems.unchecked.items) else [])))
+
+-- the text of a report, with the lines of what is hit
+abbrev pub IsReportText : WantedValue → Report → List FoundValue → (text : List ℕ) → Type 0
+IsReportText wanted report found text = (hit_lines : List ℕ) × AreLines (IsHitLine wanted.format) found hit_lines
+    × (text ≡ report_text wanted report hit_lines)

@@ -8,6 +8,7 @@ ghost use Rattle.npm_lock_check.specs.Arguments.{argument_value, arguments_of, a
 
 use crate::kinds::{Kinds, named_by};
 use crate::run_error::RunError;
+use npm_advisories::Severity;
 
 /// How problems are written.
 #[derive(Clone, Copy, Drop)]
@@ -38,6 +39,10 @@ pub struct Asked<'a> {
     pub unchecked: bool,
     /// The text after `--manifest`.
     pub manifest: Option<&'a str>,
+    /// The text after `--advisories`.
+    pub advisories: Option<&'a str>,
+    /// Advisories that are less severe are left out.
+    pub level: Severity,
     pub file: Option<&'a str>,
 }
 
@@ -55,6 +60,8 @@ enum Setting {
     Format,
     Ignore,
     Manifest,
+    Advisories,
+    Severity,
 }
 
 /// The options.
@@ -100,6 +107,8 @@ fn nothing_asked<'a>() -> Asked<'a>
         ignored: Kinds::none(),
         unchecked: false,
         manifest: None,
+        advisories: None,
+        level: Severity::Info,
         file: None,
     }
 }
@@ -155,6 +164,10 @@ fn input_name_of(word: &str) -> Option<Name>
         Some(Name::Unchecked)
     } else if word == "--manifest" {
         Some(Name::Valued(Setting::Manifest))
+    } else if word == "--advisories" {
+        Some(Name::Valued(Setting::Advisories))
+    } else if word == "--severity" {
+        Some(Name::Valued(Setting::Severity))
     } else {
         None
     }
@@ -195,8 +208,13 @@ fn with_value<'a>(asked: Asked<'a>, setting: Setting, text: &'a str) -> Result<A
             manifest: Some(text),
             ..asked
         }),
+        Setting::Advisories => Ok(Asked {
+            advisories: Some(text),
+            ..asked
+        }),
         Setting::Format => with_format(asked, format_of(text)),
         Setting::Ignore => with_ignored(asked, text),
+        Setting::Severity => with_level(asked, Severity::of_text(text)),
     }
 }
 
@@ -223,6 +241,16 @@ fn with_ignored<'a>(asked: Asked<'a>, text: &str) -> Result<Asked<'a>, RunError>
             ..asked
         }),
         None => Err(RunError::Kind),
+    }
+}
+
+/// What is asked for with another least severity.
+fn with_level<'a>(asked: Asked<'a>, level: Severity) -> Result<Asked<'a>, RunError>
+    ensures { asked_result result ≡ Arguments.with_level (asked_value asked.entry) level }
+{
+    match level {
+        Severity::Unknown => Err(RunError::Severity),
+        _ => Ok(Asked { level, ..asked }),
     }
 }
 

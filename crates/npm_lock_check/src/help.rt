@@ -18,6 +18,12 @@ Options:
   --manifest FILE    The package.json of the root: write where it and the lock file do not ask for the
                      same, and check the lock file for what the package.json asks for.
                      Example: npm_lock_check --manifest package.json package-lock.json
+  --advisories FILE  Also write each installed package that a security advisory of this file hits, and
+                     a version that none hits. The file is in OSV's form, or in that of npm's bulk endpoint.
+                     Example: npm_lock_check --advisories advisories.json package-lock.json
+  --severity LEVEL   Leave out advisories that are less severe: info, low, moderate, high or critical.
+                     The default is info, which leaves none out.
+                     Example: npm_lock_check --advisories advisories.json --severity high package-lock.json
   --unchecked        Also list each dependency that is not checked, and why.
                      Example: npm_lock_check --unchecked package-lock.json
   --format FORMAT    text: write each problem as a sentence. json: write it as a JSON object.

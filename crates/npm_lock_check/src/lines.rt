@@ -1,25 +1,35 @@
 //! The lines that are written about a lock file.
-ghost use Rattle.std.specs.Prelude.{◌≡◌, ◌++◌, IfOk, OnOk, map};
+ghost use Rattle.std.specs.Prelude.{◌≡◌, ◌++◌, List, ℕ, IfOk, OnOk, map};
+ghost use Rattle.npm_advisories.specs.Audit.{found_value};
 ghost use Rattle.npm_lock.specs.Mismatches.{mismatch_value};
 ghost use Rattle.npm_lock.specs.Outcomes.{problem_value, unchecked_value};
 ghost use Rattle.npm_lock_check.specs.Report as Reports;
-ghost use Rattle.npm_lock_check.specs.Report.{line_text, mismatch_text, report_text, unchecked_text, wanted_value};
+ghost use Rattle.npm_lock_check.specs.Report.{AreLines, IsHitLine, IsReportText, line_text, mismatch_text, unchecked_text, wanted_value};
 
 use crate::arguments::Format;
+use crate::hit_sentence::push_hit_sentence;
 use crate::report::Report;
 use crate::sentence::{push_mismatch_sentence, push_sentence, push_unchecked_sentence};
 use crate::wanted::Wanted;
+use npm_advisories::Found;
 use npm_lock::{Mismatch, Problem, Unchecked};
 use serde_json::Value;
 use std::alloc::{AllocError, Global};
 
-/// The lines of a report.
-pub fn lines_of(alloc: Global, report: &Report, wanted: Wanted<'_>) -> Result<Vec<u8>, AllocError>
-    ensures { IfOk result (λ text. text.items ≡ report_text (wanted_value wanted.entry) report.now) }
+/// The lines of a report, and of the packages that are hit.
+pub fn lines_of(
+    alloc: Global,
+    report: &Report,
+    found: &[Found<'_, '_>],
+    wanted: Wanted<'_>,
+) -> Result<Vec<u8>, AllocError>
+    ensures { IfOk result (λ text. IsReportText (wanted_value wanted.entry) report.now (map found_value found.now)
+        text.items) }
 {
     let mut lines = Vec::new(alloc);
     push_mismatches(alloc, &mut lines, &report.mismatches, wanted.format)?;
     push_problems(alloc, &mut lines, &report.problems.list, wanted.format)?;
+    push_hits(alloc, &mut lines, found, wanted.format)?;
     if wanted.unchecked {
         push_all_unchecked(alloc, &mut lines, &report.problems.unchecked, wanted.format)?;
     }
@@ -55,6 +65,23 @@ fn push_problems(
 {
     for problem in problems {
         push_problem(alloc, lines, problem, format)?;
+        lines.extend_from_slice(b"\n")?;
+    }
+    Ok(())
+}
+
+/// Adds a line for each package that is hit.
+fn push_hits(
+    alloc: Global,
+    lines: &mut Vec<u8>,
+    found: &[Found<'_, '_>],
+    format: Format,
+) -> Result<(), AllocError>
+    ensures { OnOk result ((text : List ℕ) × AreLines (IsHitLine format) (map found_value found.now) text
+        × (lines.new.items ≡ lines.old.items ++ text)) }
+{
+    for one in found {
+        push_hit(alloc, lines, one, format)?;
         lines.extend_from_slice(b"\n")?;
     }
     Ok(())
@@ -108,6 +135,25 @@ fn push_problem(
         Format::Text => push_sentence(line, problem),
         Format::Json => {
             let text = problem.to_json(alloc)?.to_string(alloc)?;
+            line.extend_from_slice(text.as_bytes())
+        }
+    }
+}
+
+/// Adds a package that is hit.
+fn push_hit(
+    alloc: Global,
+    line: &mut Vec<u8>,
+    found: &Found<'_, '_>,
+    format: Format,
+) -> Result<(), AllocError>
+    ensures { OnOk result ((text : List ℕ) × IsHitLine format (found_value found.now) text
+        × (line.new.items ≡ line.old.items ++ text)) }
+{
+    match format {
+        Format::Text => push_hit_sentence(alloc, line, found),
+        Format::Json => {
+            let text = found.to_json(alloc)?.to_string(alloc)?;
             line.extend_from_slice(text.as_bytes())
         }
     }

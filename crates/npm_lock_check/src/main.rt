@@ -1,6 +1,6 @@
 //! Reads a `package-lock.json`, and writes each dependency that is missing or has a version that its spec does not admit.
-//! With `--node VERSION` also each package whose `engines.node` does not admit it, and with `--manifest FILE` also where the
-//! root's manifest and the lock file do not ask for the same.
+//! With `--node VERSION` also each package whose `engines.node` does not admit it, with `--manifest FILE` also where the root's
+//! manifest and the lock file do not ask for the same, and with `--advisories FILE` each package that an advisory hits.
 //!
 //! The exit status is 0 if nothing was found, 1 if something was, and 2 if the file was not checked. Nothing is then
 //! written but one line on standard error, which says why.
@@ -12,8 +12,11 @@ ghost use Rattle.npm_lock_check.specs.Report.{IsClean};
 mod arguments;
 mod gauge;
 mod help;
+mod hit_sentence;
+mod hits;
 mod kinds;
 mod lines;
+mod list_name;
 mod node;
 mod output;
 mod report;
@@ -89,6 +92,7 @@ fn checked<R: Read + Drop>(
         None => None,
     };
     let manifest = value_at(rt, asked.manifest).map_err(StopError::Manifest)?;
+    let advisories = value_at(rt, asked.advisories).map_err(StopError::Advisories)?;
     let stdout = rt.stdout();
     let format = match asked.format {
         Some(format) => format,
@@ -99,6 +103,8 @@ fn checked<R: Read + Drop>(
     let mut writer = Gauge::new(stdout);
     let wanted = Wanted {
         manifest: manifest.as_ref(),
+        advisories: advisories.as_ref(),
+        level: asked.level,
         node: node.as_ref(),
         ignored: asked.ignored,
         unchecked: asked.unchecked,

@@ -1,14 +1,16 @@
 //! What the program reads, and what it writes for it.
-ghost use Rattle.std.specs.Prelude.{◌≡◌, ◌≢◌, IfErr, IfOk, IsErrOf, IsSome, filter, map, not};
+ghost use Rattle.std.specs.Prelude.{◌≡◌, ◌≢◌, List, ℕ, IfErr, IfOk, IsErrOf, IsSome, filter, map, not};
 ghost use Rattle.std.specs.Io.KnownBytes.{Appends};
 ghost use Rattle.serde_json.specs.View.{view};
+ghost use Rattle.npm_advisories.specs.Audit.{FoundValue};
 ghost use Rattle.npm_lock_check.specs.Kinds.{has};
 ghost use Rattle.npm_lock_check.specs.Output.{IsInput, IsReported, IsStopped};
 ghost use Rattle.npm_lock_check.specs.Private.Refusals.{IsLockRefused, IsRefused};
-ghost use Rattle.npm_lock_check.specs.Report.{AreLeft, IsReportOf, WantedValue, placed, report_text, wanted_value};
+ghost use Rattle.npm_lock_check.specs.Report.{AreLeft, IsReportOf, IsReportText, WantedValue, placed, wanted_value};
 ghost use Rattle.npm_lock_check.specs.declared.report.Report.{Report};
 
 use crate::gauge::Gauge;
+use crate::hits::hits_of;
 use crate::kinds::Kinds;
 use crate::lines::lines_of;
 use crate::report::Report;
@@ -22,8 +24,8 @@ use std::io::{Read, Write};
 use std::str;
 
 /// Reads a lock file to the end, and writes what is found out about it, a line each: the mismatches of the manifest, the
-/// problems but those of ignored kinds, and the dependencies that are not checked if they are asked for. Returns what was
-/// written, with the counts of all.
+/// problems but those of ignored kinds, the packages that an advisory hits, and the dependencies that are not checked if they
+/// are asked for. Returns what was written, with the counts of all.
 ///
 /// # Errors
 ///
@@ -34,27 +36,30 @@ pub fn run<R: Read, W: Write>(
     writer: &mut Gauge<W>,
     wanted: Wanted<'_>,
 ) -> Result<Report, RunError>
-    ensures found { IfOk result (IsReported R.remaining reader.old reader.new (wanted_value wanted.entry)) }
-    ensures written { IfOk result (λ report. Appends (W.contents writer.old.inner) (W.contents writer.new.inner)
-        (report_text (wanted_value wanted.entry) report)) }
+    ensures written { IfOk result (λ report. (found : List FoundValue) × (text : List ℕ)
+        × IsReported R.remaining reader.old reader.new (wanted_value wanted.entry) report found
+        × IsReportText (wanted_value wanted.entry) report found text
+        × Appends (W.contents writer.old.inner) (W.contents writer.new.inner) text) }
     ensures refused { IfErr result (λ error. error ≢ RunError.Write
         → IsStopped R.remaining (wanted_value wanted.entry) reader.old reader.new error) }
     ensures unwritten { IfErr result (λ error. error ≢ RunError.Write → writer.new ≡ writer.old) }
     ensures write { IsErrOf result RunError.Write → IsSome writer.new.failure
-        × ((report : Report) × IsReported R.remaining reader.old reader.new (wanted_value wanted.entry) report) }
+        × ((report : Report) × (found : List FoundValue)
+        × IsReported R.remaining reader.old reader.new (wanted_value wanted.entry) report found) }
 {
     let lock = read_json(alloc, reader)?;
-    let report = report_of(alloc, lock, wanted)?;
-    let lines = lines_of(alloc, &report, wanted).map_err(|_| RunError::Memory)?;
+    let (report, lines) = report_of(alloc, lock, wanted)?;
     writer
         .write_all(lines.as_slice())
         .map_err(|_| RunError::Write)?;
     Ok(report)
 }
 
-/// The report of a lock file.
-fn report_of(alloc: Global, lock: Value, wanted: Wanted<'_>) -> Result<Report, RunError>
-    ensures found { IfOk result (IsReportOf (view lock) (wanted_value wanted.entry)) }
+/// The report of a lock file, and its lines.
+fn report_of(alloc: Global, lock: Value, wanted: Wanted<'_>) -> Result<(Report, Vec<u8>), RunError>
+    ensures found { IfOk result (λ made. (found : List FoundValue)
+        × IsReportOf (view lock) (wanted_value wanted.entry) made.0 found
+        × IsReportText (wanted_value wanted.entry) made.0 found made.1.items) }
     ensures refused { IfErr result (IsRefused (view lock)
         (placed (view lock) (wanted_value wanted.entry).manifest) (wanted_value wanted.entry)) }
 {
@@ -62,12 +67,22 @@ fn report_of(alloc: Global, lock: Value, wanted: Wanted<'_>) -> Result<Report, R
     let mut lock = lock;
     let mismatches = compare(alloc, &mut lock, wanted)?;
     let problems = problems_of(alloc, &lock, wanted)?;
-    Ok(Report {
+    let found = match hits_of(alloc, &lock, wanted) {
+        Ok(found) => found,
+        Err(error) => return Err(error),
+    };
+    let report = Report {
         compared,
         overrides: has_overrides(wanted.manifest),
         mismatches,
         problems,
-    })
+        audited: wanted.advisories.is_some(),
+        hits: found.len(),
+    };
+    match lines_of(alloc, &report, &found, wanted) {
+        Ok(lines) => Ok((report, lines)),
+        Err(_) => Err(RunError::Memory),
+    }
 }
 
 /// The problems of a lock file but those of ignored kinds.

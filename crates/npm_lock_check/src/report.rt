@@ -16,6 +16,10 @@ pub struct Report {
     pub mismatches: Vec<Mismatch>,
     /// The problems of the lock file but those of kinds that are left out, with the counts of all.
     pub problems: Problems,
+    /// Advisories were looked up.
+    pub audited: bool,
+    /// How many installed packages an advisory hits.
+    pub hits: usize,
 }
 
 impl Report {
@@ -23,11 +27,11 @@ impl Report {
     pub fn is_clean(&self) -> bool
         ensures { IsTrue result ↔ IsClean self.now }
     {
-        self.mismatches.is_empty() && self.problems.list.is_empty()
+        self.mismatches.is_empty() && self.problems.list.is_empty() && self.hits == 0
     }
 }
 
-/// Prints the counts. That of mismatches is left out if nothing was compared.
+/// Prints the counts. Those of mismatches and of packages that are hit are left out if nothing was looked for.
 impl fmt::Display for Report {
     fn fmt<W: fmt::Write>(&self, f: &mut fmt::Formatter<W>) -> fmt::Result {
         let problems = &self.problems;
@@ -41,6 +45,9 @@ impl fmt::Display for Report {
         )?;
         if self.compared {
             write!(f, ", {} mismatches", self.mismatches.len())?;
+        }
+        if self.audited {
+            write!(f, ", {} hit", self.hits)?;
         }
         if self.overrides {
             f.write_str(", overrides not looked at")?;

@@ -4,6 +4,8 @@ ghost use Rattle.std.specs.IoError.{error_kind};
 ghost use Rattle.std.specs.declared.io.ErrorKind.{ErrorKind};
 ghost use Rattle.serde_json.specs.Errors.{IsMemory};
 
+use crate::list_name::ListName;
+use npm_advisories::FaultKind;
 use npm_lock::Fault;
 use std::io;
 use std::io::ErrorKind;
@@ -30,6 +32,9 @@ pub enum RunError {
     /// What follows `--ignore` is no kind of problem.
     #[error("--ignore takes group, missing, invalid, peer-local or engine; --help lists the options")]
     Kind,
+    /// What follows `--severity` is no severity.
+    #[error("--severity takes info, low, moderate, high or critical; --help lists the options")]
+    Severity,
     /// What follows `--node` is no version.
     #[error("--node takes a version, as 20 or 20.11.1; --help lists the options")]
     NodeVersion,
@@ -63,6 +68,12 @@ pub enum RunError {
     /// The manifest has a fault.
     #[error("the manifest is not read: {0}")]
     NoManifest(Fault),
+    /// There are advisories, and a lock file of version 1.
+    #[error("advisories are looked up for lock files of version 2 or 3, and the input is of version 1")]
+    OldLockFile,
+    /// The advisories have a fault: its kind, the name that the advisory stands under, and its place in the list there.
+    #[error("the advisories are not read: {0}; advisory {2}, counted from 0{1}")]
+    NoAdvisories(FaultKind, ListName, usize),
 }
 
 /// Why the program stopped.
@@ -74,6 +85,9 @@ pub enum StopError {
     /// The file after `--manifest` was not read.
     #[error("--manifest: {0}")]
     Manifest(RunError),
+    /// The file after `--advisories` was not read.
+    #[error("--advisories: {0}")]
+    Advisories(RunError),
 }
 
 /// Why a read failed: `Memory` if the buffer could not grow.

@@ -2,6 +2,7 @@
 use crate::arguments::Format;
 use crate::kinds::Kinds;
 use node_semver::Version;
+use npm_advisories::Severity;
 use serde_json::Value;
 
 /// What a check is asked for.
@@ -9,6 +10,10 @@ use serde_json::Value;
 pub struct Wanted<'a> {
     /// The manifest of the root.
     pub manifest: Option<&'a Value>,
+    /// Security advisories, as `npm_advisories` reads them.
+    pub advisories: Option<&'a Value>,
+    /// Advisories that are less severe are left out.
+    pub level: Severity,
     /// The version of Node that each package is checked with.
     pub node: Option<&'a Version>,
     /// The kinds of problems that are left out.

@@ -1,5 +1,5 @@
 -- What the definitions say of some arguments.
-use Rattle.std.proofs.Common.{◌≡◌, ◌∷◌, [], Err, None, Ok, Some, codes, refl, true}
+use Rattle.std.proofs.Common.{◌≡◌, ◌∷◌, [], Err, Ok, Some, codes, refl, true}
 use Rattle.npm_lock.specs.declared.problem.Kind.TheVariants.{Engine, Missing, PeerLocal}
 use Rattle.npm_lock_check.specs.Arguments.{asked_of, nothing_asked}
 use Rattle.npm_lock_check.specs.Kinds.{named_by, no_kinds, with_kind}

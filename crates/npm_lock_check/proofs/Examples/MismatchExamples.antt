@@ -5,7 +5,7 @@ use Rattle.serde_json.specs.Data.{Data, member, no_members, number, object, stri
 use Rattle.npm_lock.specs.ManifestPlace.{as_package}
 use Rattle.npm_lock.specs.Mismatches.{AreMismatches, MismatchValue, mismatch_of}
 use Rattle.npm_lock.specs.declared.group.Group.TheVariants.{Dependencies, DevDependencies}
-use Rattle.npm_lock_check.specs.Report.{AreLeftMismatches, is_compared, placed}
+use Rattle.npm_lock_check.specs.Report.{is_compared, placed}
 use Rattle.npm_lock_check.specs.Sentence.{mismatch_sentence}
 
 -- an object with one member, a package that asks for `a`, and a lock file whose root asks for it

@@ -1,12 +1,16 @@
--- Why the values of a lock file and of a manifest are refused: one of them has a fault, or memory ran out.
-use Rattle.std.specs.Prelude.{◌≡◌, ◌⊎◌, Option, Some}
+-- Why the values of a lock file, of a manifest and of advisories are refused: one of them has a fault, or memory ran out.
+use Rattle.std.specs.Prelude.{◌≡◌, ◌⊎◌, ℕ, Option, Some, string_bytes}
 use Rattle.serde_json.specs.Data.{Data}
 use Rattle.npm_lock.specs.Mismatches.{manifest_fault}
 use Rattle.npm_lock.specs.declared.fault.Fault.{Fault}
-use Rattle.npm_lock_check.specs.Output.{IsNoLockFile, IsNoManifest}
+use Rattle.npm_advisories.specs.Faults.{FaultValue}
+use Rattle.npm_advisories.specs.declared.fault.FaultKind.{FaultKind}
+use Rattle.npm_lock_check.specs.Output.{AreNoAdvisories, IsNoLockFile, IsNoManifest, IsOldLockFile}
 use Rattle.npm_lock_check.specs.Report.{WantedValue}
+use Rattle.npm_lock_check.specs.declared.list_name.ListName.{ListName}
 use Rattle.npm_lock_check.specs.declared.run_error.RunError.{RunError}
-use Rattle.npm_lock_check.specs.declared.run_error.RunError.TheVariants.{Memory, NoLockFile, NoManifest}
+use Rattle.npm_lock_check.specs.declared.run_error.RunError.TheVariants.{Memory, NoAdvisories, NoLockFile, NoManifest}
+use Rattle.npm_lock_check.specs.declared.run_error.RunError.TheVariants.{OldLockFile}
 
 -- the manifest
 abbrev pub IsManifestRefused : (manifest : Data) → RunError → Type 0
@@ -23,7 +27,18 @@ abbrev pub IsLockRefused : (placed : Data) → (manifest : Option Data) → RunE
 IsLockRefused placed manifest error =
     ((fault : Fault) × (error ≡ NoLockFile fault) × IsNoLockFile placed manifest fault) ⊎ (error ≡ Memory)
 
--- one of the two
+-- the advisories, with this fault
+abbrev pub AreRefusedAs : FaultValue → RunError → Type 0
+AreRefusedAs fault error = ((name : ListName) × (error ≡ NoAdvisories fault.kind name fault.place)
+    × (string_bytes name.text ≡ fault.name)) ⊎ (error ≡ Memory)
+
+-- the advisories, or the lock file for them
+abbrev pub IsAuditRefused : (placed : Data) → WantedValue → RunError → Type 0
+IsAuditRefused placed wanted error = ((error ≡ OldLockFile) × IsOldLockFile placed wanted.advisories)
+    ⊎ ((kind : FaultKind) × (name : ListName) × (place : ℕ) × (error ≡ NoAdvisories kind name place)
+    × AreNoAdvisories wanted.advisories kind name place) ⊎ IsLockRefused placed wanted.manifest error
+
+-- any of them
 abbrev pub IsRefused : (lock placed : Data) → WantedValue → RunError → Type 0
 IsRefused lock placed wanted error =
-    IsCompareRefused lock wanted.manifest error ⊎ IsLockRefused placed wanted.manifest error
+    IsCompareRefused lock wanted.manifest error ⊎ IsAuditRefused placed wanted error

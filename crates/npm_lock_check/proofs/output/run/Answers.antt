@@ -2,11 +2,9 @@
 use Rattle.std.proofs.Common.{IsSome, None, Option, Some, refl, rules}
 use Rattle.std.specs.Option.{option_or}
 use Rattle.serde_json.specs.View.{view}
-use Rattle.npm_lock_check.specs.Output.{IsReported, IsStopped}
+use Rattle.npm_lock_check.specs.Output.{IsReported}
 use Rattle.npm_lock_check.specs.Report.{wanted_value}
-use Rattle.npm_lock_check.specs.declared.run_error.RunError.TheVariants.{Memory}
-use Rattle.npm_lock_check.specs.declared.report.Report.{Report}
-use Rattle.npm_lock_check.proofs.Stopping.{later, refused, was_err}
+use Rattle.npm_lock_check.proofs.Stopping.{refused, was_err}
 use Rattle.npm_lock_check.proofs.output.run.Goals as goal
 
 some_of : {X : Type 0} (first : Option X) (second : X) → IsSome (option_or first (Some second))
@@ -29,20 +27,15 @@ returns-in_err-report-clause-refused g c =
     c.in_err-report.ensures.refused in
     search (rules, stopped)
 
-pub returns-in_err-lines-clause-refused : goal.returns-in_err-lines-clause-refused
-returns-in_err-lines-clause-refused g c =
-    let stopped : IsStopped g.R.Read.remaining (wanted_value c.args.wanted) c.args.reader.now c.read_json.new.reader Memory =
-    later _ (wanted_value c.args.wanted) _ _ (view c.in_ok-lock.lock) c.in_ok-lock.ensures.value in
-    search (rules, stopped)
-
 pub returns-in_err-map_err-clause-write : goal.returns-in_err-map_err-clause-write
 returns-in_err-map_err-clause-write g c = λ told.
-    let error = was_err _ c.write_all.result c.map_err-2.result _ c.map_err-2.ensures.cases c.in_err-map_err.was in
+    let error = was_err _ c.write_all.result c.map_err.result _ c.map_err.ensures.cases c.in_err-map_err.was in
     let failed : IsSome c.write_all.new.self.failure = rw (c.write_all.ensures.failure, error.1) (some_of c.args.writer.now.failure _) in
-    let reported : IsReported g.R.Read.remaining c.args.reader.now c.read_json.new.reader (wanted_value c.args.wanted) c.in_ok-report.report = record {
+    let made = c.in_ok-report.ensures.found in
+    let reported : IsReported g.R.Read.remaining c.args.reader.now c.read_json.new.reader (wanted_value c.args.wanted)
+    c.in_ok-report.report made.0 = record {
       lock = view c.in_ok-lock.lock;
       input = c.in_ok-lock.ensures.value;
-      report_of = c.in_ok-report.ensures.found;
+      report_of = made.1;
     } in
-    let both : (report : Report) × IsReported g.R.Read.remaining c.args.reader.now c.read_json.new.reader (wanted_value c.args.wanted) report = (c.in_ok-report.report, reported) in
-    (failed, both)
+    (failed, (c.in_ok-report.report, made.0, reported))

@@ -32,7 +32,7 @@ static const struct row rows[] = {
     {"print", "s", {"\xff"}, "not UTF-8"},
     /* npm's reading. */
     {"print", "n", {"<=20"}, "<21.0.0-0"},
-    {"print", "n", {">=1.2.3 foo"}, "refused 6 0 0"},
+    {"print", "n", {">=1.2.3 foo"}, "refused 6 8 0"},
     {"print", "l", {">=1.2.3 foo"}, ">=1.2.3"},
     {"print", "n", {"01.2.3"}, "refused 6 0 0"},
     {"print", "l", {"01.2.3"}, "1.2.3"},
@@ -47,7 +47,7 @@ static const struct row rows[] = {
     {"contains", "pv", {"", "1.2.3-rc.1"}, "true"},
     {"contains", "pv", {">=18", "18.0.0-rc.1"}, "true"},
     {"contains", "nv", {">=18", "18.0.0-rc.1"}, "false"},
-    {"contains", "pv", {">=1.2.3 foo", "1.2.3"}, "refused 6 0 0"},
+    {"contains", "pv", {">=1.2.3 foo", "1.2.3"}, "refused 6 8 0"},
     {"contains", "bv", {">=01.2.3 foo", "1.3.0-0"}, "true"},
     {"print", "r", {"^1.2.3-rc.4 || >=3"}, ">=1.2.3-rc.4 <2.0.0-0||>=3.0.0"},
     {"print", "r", {"^1.2.3-rc.4 || 1 - 2 || foo"}, ">=1.2.3-rc.4 <2.0.0-0||>=1.0.0 <3.0.0-0"},

@@ -41,7 +41,7 @@ class Errors(unittest.TestCase):
                 self.assertEqual(message[1:], ["    " + shown, "    " + " " * column + "^"])
 
     def test_the_first_line_tells_kind_and_offset(self) -> None:
-        for read, text, line in [
+        rows: list[tuple[Callable[[str], object], str, str]] = [
             (Version, "1" * 257, "MaxLengthError at byte 256: a version has at most 256 bytes"),
             (Version, "1.2", "Context at byte 3: a number or a dot is missing"),
             (Version, "1.2.3 ", "Other at byte 5: what begins here is no part of a version"),
@@ -49,7 +49,8 @@ class Errors(unittest.TestCase):
             (Version, "18446744073709551616", "ParseIntError at byte 0: a number is above 18446744073709551615"),
             (Range, "latest next", "NoValidRanges at byte 0: no alternative is a range that a version can be in"),
             (Range.parse_npm, "^1 next", "NoValidRanges at byte 3: what begins here is no comparator"),
-        ]:
+        ]
+        for read, text, line in rows:
             self.assertEqual(str(error_of(read, text)).split("\n")[0], line)
 
     def test_a_version_that_is_not_raised(self) -> None:

@@ -14,7 +14,7 @@ const { isMainThread, parentPort, Worker, workerData } = require('node:worker_th
 const here = require('..');
 const { OPTIONS, calls, takes, result, npm } = require('./calls.js');
 const { Edited } = require('./edited.js');
-const { rules } = require('./rules.js');
+const { coversRange, rules } = require('./rules.js');
 const { shrunk } = require('./shrunk.js');
 const { Texts } = require('./texts.js');
 
@@ -39,15 +39,13 @@ const row = (rule) => `| ${rule.name} | \`${escaped(codeOf(rule))}\` | ${value(r
 
 const trimmed = (range) => range.trim().split(/\s+/).join(' ');
 
-const isLoose = (options) => options === true || options?.loose === true;
-
 // The rules that cover a call with the smallest texts: for one of its versions or of its ranges, or for its results.
 function covering(name, texts) {
     const versions = takes[name].flatMap((word) => (['v', 'w', 'list'].includes(word) ? texts[word] : []));
     const ranges = takes[name].flatMap((word) => (['r', 's'].includes(word) ? [trimmed(texts[word])] : []));
     return rules.filter((rule) => (!rule.calls || rule.calls.includes(name))
         && ((rule.version && versions.some(rule.version))
-        || (rule.range && ranges.some((text) => rule.range(text, isLoose(texts.o), texts.o ?? {})))));
+        || (rule.range && ranges.some((text) => coversRange(rule, text, texts.o)))));
 }
 
 function pair(texts) {

@@ -8,7 +8,7 @@ const { test } = require('node:test');
 const here = require('..');
 const { OPTIONS } = require('./calls.js');
 const { Edited } = require('./edited.js');
-const { rules } = require('./rules.js');
+const { coversRange, rules } = require('./rules.js');
 const { Texts } = require('./texts.js');
 
 const RANGES = 4000;
@@ -16,8 +16,7 @@ const VERSIONS = ['0.0.0-0', '0.0.0', '1.0.0', '1.2.3', '2.0.0', '3.0.0-rc.1'];
 const DROPS = ['large numbers and long words', 'any version beside others'];
 const dropping = rules.filter(({ name }) => DROPS.includes(name));
 
-const isLoose = (options) => options === true || options?.loose === true;
-const isDropped = (text, options) => dropping.some(({ range }) => range(text, isLoose(options), options ?? {}));
+const isDropped = (text, options) => dropping.some((rule) => coversRange(rule, text, options));
 
 for (const [name, Generator] of Object.entries({ grammar: Texts, edits: Edited })) {
     test(`${RANGES} ranges by ${name}`, () => {

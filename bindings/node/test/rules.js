@@ -107,4 +107,9 @@ const rules = [
     },
 ];
 
-module.exports = { rules };
+const isLoose = (options) => options === true || options?.loose === true;
+
+// Whether a row of ranges covers a range text, as npm trims it, that is read with these options.
+const coversRange = ({ range }, text, options) => range(text, isLoose(options), options ?? {});
+
+module.exports = { rules, coversRange };

@@ -14,8 +14,6 @@ mod osv;
 mod read;
 mod severity;
 mod spans;
-#[cfg(test)]
-mod tests;
 
 pub use advisory::About;
 pub use fault::{AuditError, Fault, FaultKind};

@@ -17,8 +17,6 @@ mod place;
 mod problem;
 mod range_text;
 mod search;
-#[cfg(test)]
-mod tests;
 mod text;
 mod verdict;
 mod version_one;

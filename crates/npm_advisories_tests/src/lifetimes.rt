@@ -1,7 +1,7 @@
 //! A file and packages that do not live equally long.
 
-use super::FILE;
-use crate::{Installed, Severity, audit};
+use crate::npm_form::FILE;
+use npm_advisories::{Installed, Severity, audit};
 use serde_json::Value;
 use std::alloc::Global;
 use std::test::Fail;

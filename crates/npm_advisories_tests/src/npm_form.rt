@@ -1,16 +1,12 @@
 //! Advisories in npm's form, installed packages, and what is found.
 
-mod large;
-mod lifetimes;
-mod osv;
-
-use crate::{AuditError, FaultKind, Installed, LockError, Severity, audit, audit_lock};
+use npm_advisories::{AuditError, FaultKind, Installed, LockError, Severity, audit, audit_lock};
 use serde_json::Value;
 use std::alloc::Global;
 use std::test::Fail;
 
 /// Advisories on two packages, as npm's registry returns them.
-const FILE: &str = r#"{
+pub(crate) const FILE: &str = r#"{
   "lodash": [
     {"id": 1, "severity": "high", "title": "Prototype Pollution", "url": "https://a/1", "vulnerable_versions": "<4.17.12"},
     {"id": "G-2", "severity": "low", "vulnerable_versions": ">=4.0.0 <4.17.21"},

@@ -2,7 +2,7 @@
 
 mod faults;
 
-use crate::{Installed, Severity, audit};
+use npm_advisories::{Installed, Severity, audit};
 use serde_json::Value;
 use std::alloc::Global;
 use std::test::Fail;

@@ -1,7 +1,7 @@
 //! Tests of lock files of version 1: their texts, and the problems of each.
-use super::are_problems;
-use crate::{CheckError, Fault, Kind, check, check_any};
+use crate::check::are_problems;
 use node_semver::Version;
+use npm_lock::{CheckError, Fault, Kind, check, check_any};
 use serde_json::Value;
 use std::alloc::Global;
 use std::test::Fail;

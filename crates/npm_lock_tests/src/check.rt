@@ -1,9 +1,7 @@
 //! Tests of the check: texts of lock files, and the problems of each.
-mod manifest;
-mod version_one;
 
-use crate::{CheckError, Fault, Kind, Problem, check};
 use node_semver::Version;
+use npm_lock::{CheckError, Fault, Kind, Problem, check};
 use serde_json::Value;
 use std::alloc::Global;
 use std::test::Fail;
@@ -319,7 +317,7 @@ fn finds_the_problems_of_each_row(rt: HostRuntime) -> Result<(), Fail> {
     Ok(())
 }
 
-fn are_problems(found: &[Problem], wanted: &[(Kind, &str, &str)]) -> bool {
+pub(crate) fn are_problems(found: &[Problem], wanted: &[(Kind, &str, &str)]) -> bool {
     found.len() == wanted.len()
         && found
             .iter()

@@ -1,7 +1,7 @@
 //! What is no advisories in OSV's form.
 
 use super::about_a;
-use crate::{AuditError, Severity, audit};
+use npm_advisories::{AuditError, Severity, audit};
 use serde_json::Value;
 use std::alloc::Global;
 use std::test::Fail;

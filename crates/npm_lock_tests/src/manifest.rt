@@ -1,5 +1,5 @@
 //! Tests of manifests beside a lock file: which names they do not ask for alike, and what is checked with a manifest.
-use crate::{CheckError, Fault, Group, Kind, check, mismatches_of, put_manifest};
+use npm_lock::{CheckError, Fault, Group, Kind, check, mismatches_of, put_manifest};
 use serde_json::Value;
 use std::test::Fail;
 

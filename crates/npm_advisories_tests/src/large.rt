@@ -1,6 +1,6 @@
 //! Thousands of packages and advisories.
 
-use crate::{Installed, Severity, audit};
+use npm_advisories::{Installed, Severity, audit};
 use serde_json::Value;
 use std::alloc::Global;
 use std::test::Fail;

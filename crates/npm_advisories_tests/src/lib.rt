@@ -1,0 +1,11 @@
+//! Tests of the public calls of `npm_advisories`: advisories in npm's form and in OSV's, large files, and lifetimes.
+#![tactic(auto)]
+
+#[cfg(test)]
+mod large;
+#[cfg(test)]
+mod lifetimes;
+#[cfg(test)]
+mod npm_form;
+#[cfg(test)]
+mod osv;

@@ -1,0 +1,9 @@
+//! Tests of the public calls of `npm_lock`: lock files of version 2 and 3, of version 1, and manifests.
+#![tactic(auto)]
+
+#[cfg(test)]
+mod check;
+#[cfg(test)]
+mod manifest;
+#[cfg(test)]
+mod version_one;

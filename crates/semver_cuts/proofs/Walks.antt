@@ -43,9 +43,11 @@ module _ {T : Type 0} {cmp : T → T → Ordering} (o : IsTotalOrder cmp) where
 
   -- the cuts of the spans from a place on are cuts of the list
   pub in-whole : (spans : List (Ends T)) (k : ℕ) (cut : Cut T) → IsInSome cmp (drop k spans) cut → IsInSome cmp spans cut
-  in-whole spans k cut is =
-      subst (λ l. IsInSome cmp l cut) (take-append-drop k spans)
-      (in_some-right cmp cut (take k spans) (drop k spans) is)
+  in-whole spans k cut is = grind (
+    arith,
+    take-append-drop k spans,
+    in_some-right cmp cut (take k spans) (drop k spans) is,
+  )
 
   module _ (ms ws : List (Ends T)) (ms_are : AreMerged cmp ms) (ws_are : AreMerged cmp ws) (i j : ℕ)
       (one other : Ends T)
@@ -138,11 +140,7 @@ module _ {T : Type 0} {cmp : T → T → Ordering} (o : IsTotalOrder cmp) where
         → IsInSome cmp (drop i ms) cut)
         → ((cut : Cut T) × IsInSome cmp (drop j ws) cut × ¬ IsInSome cmp (drop i ms) cut)
         → IsTrue false ↔ CoversAll cmp ones others
-    not-covered passed found = (
-      λ never. absurd (true≢false (sym never)),
-      λ covers. absurd (found.2 (passed found.0 found.1 ((are.cuts found.0).1
-          (covers found.0 ((others_are.cuts found.0).0 (in-whole ws j found.0 found.1)))))),
-    )
+    not-covered passed found = grind (arith, in-whole)
 
 -- ---- one span and one span
 
@@ -157,13 +155,7 @@ module _ {T : Type 0} (cmp : T → T → Ordering) (one other : Ends T) where
   in-only span cut is = ⊎_elim (λ here. here) (λ never. absurd never) is
 
   pub covers-one : IsWithin cmp other one ↔ CoversAll cmp (one ∷ []) (other ∷ [])
-  covers-one = (
-    λ within cut is. inl (within cut (in-only other cut is)),
-    λ covers cut is. in-only one cut (covers cut (inl is)),
-  )
+  covers-one = grind arith
 
   pub shares-one : HaveCommonCut cmp one other ↔ ShareCut cmp (one ∷ []) (other ∷ [])
-  shares-one = (
-    λ shared. (shared.0, inl shared.1, inl shared.2),
-    λ shared. (shared.0, in-only one shared.0 shared.1, in-only other shared.0 shared.2),
-  )
+  shares-one = grind arith

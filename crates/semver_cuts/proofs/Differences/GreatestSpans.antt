@@ -1,4 +1,5 @@
 -- Spans that are apart are the greatest spans of their cuts: the end of each lies in none of them.
+use native.Mathlib.Omega.{arith}
 use Rattle.std.proofs.Common.{List, [], ◌∷◌, Ordering, inl, inr, ⊎_elim}
 use Rattle.std.specs.List.{AllByRecursion}
 use Rattle.std.specs.Cmp.{IsTotalOrder}
@@ -22,12 +23,7 @@ module _ {T : Type 0} (cmp : T → T → Ordering) where
   pub each-in_some : (spans : List (Ends T))
       → AllByRecursion (λ (s : Ends T). (cut : Cut T) → IsInSpan cmp s cut → IsInSome cmp spans cut) spans
   each-in_some [] = tt
-  each-in_some (span ∷ spans) = (
-    λ cut h. inl h,
-    all_map (λ (s : Ends T). (cut : Cut T) → IsInSpan cmp s cut → IsInSome cmp spans cut)
-        (λ (s : Ends T). (cut : Cut T) → IsInSpan cmp s cut → IsInSome cmp (span ∷ spans) cut)
-        (λ s h cut is. inr (h cut is)) spans (each-in_some spans),
-  )
+  each-in_some (span ∷ spans) = grind (arith, all_map, each-in_some spans)
 
 module _ {T : Type 0} {cmp : T → T → Ordering} (o : IsTotalOrder cmp) where
   past_end : (span : Ends T) (cut : Cut T) → IsCutBelow cmp span.upper cut → ¬ (IsInSpan cmp span cut)

@@ -1,4 +1,5 @@
 -- The pieces of a span outside merged spans, found one by one in ascending order.
+use native.Mathlib.Omega.{arith}
 use Rattle.std.proofs.Common.{◌≡◌, ◌⊎◌, List, [], ◌∷◌, ◌++◌, Ordering, true, false, refl, inl, inr, ⊎_elim, ap, subst, sym, ◌∙◌}
 use Rattle.std.proofs.lemmas.List.{append-nil, append_assoc}
 use Rattle.std.specs.List.{AllByRecursion}
@@ -45,13 +46,7 @@ module _ {T : Type 0} {cmp : T → T → Ordering} (o : IsTotalOrder cmp) where
       → ((is_lt (cut_cmp cmp low lower) ≡ true) × (now ≡ old ++ span_between low lower ∷ []))
       ⊎ ((is_lt (cut_cmp cmp low lower) ≡ false) × (now ≡ old))
       → (new : List (Ends T)) × (now ≡ first ++ new) × IsAdded low lower done new
-  added-by low lower first old now done e (inl h) = (
-    done ++ span_between low lower ∷ [],
-    h.1 ∙ ap (λ l. l ++ span_between low lower ∷ []) e ∙ append_assoc first done (span_between low lower ∷ []),
-    inl (below-from_lt cmp low lower h.0, refl),
-  )
-  added-by low lower first old now done e (inr h) =
-      (done, h.1 ∙ e, inr (at_most-from_not_lt o low lower h.0, refl))
+  added-by low lower first old now done h1 h2 = grind (arith, append_assoc, below-from_lt cmp, at_most-from_not_lt o)
 
 module _ {T : Type 0} {cmp : T → T → Ordering} (o : IsTotalOrder cmp) (others : List (Ends T)) (one : Ends T) where
   -- if no span begins below the end of `one`, the part is one piece
@@ -80,15 +75,7 @@ module _ {T : Type 0} {cmp : T → T → Ordering} (o : IsTotalOrder cmp) (other
   -- if the cut is not below the end of `one`, there is no piece
   no-piece : (low : Cut T) (spans : List (Ends T)) → IsCutAtMost cmp one.upper low
       → ArePiecesFrom cmp others one low spans []
-  no-piece low spans above = record {
-    rising = tt;
-    apart = tt;
-    from = tt;
-    inside = λ cut h. elim h [ ];
-    all = λ cut l u free. absurd (below-not-at_most o cut one.upper u (at_most_trans o one.upper low cut above l));
-    lowers = tt;
-    uppers = tt;
-  }
+  no-piece low spans above = grind arith
 
   module _ (low : Cut T) (span : Ends T) (spans : List (Ends T)) (over : IsCutBelow cmp low span.upper)
       (rising : IsCutBelow cmp span.lower span.upper)
@@ -98,19 +85,12 @@ module _ {T : Type 0} {cmp : T → T → Ordering} (o : IsTotalOrder cmp) (other
     behind : (parts : List (Ends T)) → ArePiecesFrom cmp others one span.upper spans parts → (cut : Cut T)
         → IsInSome cmp parts cut
         → IsCutAtMost cmp low cut × IsCutBelow cmp cut one.upper × ¬ (IsInSome cmp (span ∷ spans) cut)
-    behind parts are cut is =
-        let in' = are.inside cut is in (
-          inl (below-at_most o low span.upper cut over in'.0),
-          in'.1,
-          ⊎_elim (λ here. below-not-at_most o cut span.upper here.upper in'.0) in'.2,
-        )
+    behind parts are cut is = grind (arith, below-at_most o, below-not-at_most o)
 
     from_behind : (parts : List (Ends T)) → ArePiecesFrom cmp others one span.upper spans parts → (cut : Cut T)
         → IsCutBelow cmp cut one.upper → ¬ (IsInSome cmp (span ∷ spans) cut) → IsCutAtMost cmp span.lower cut
         → IsInSome cmp parts cut
-    from_behind parts are cut u free l =
-        are.all cut (⊎_elim (λ h. h) (λ h. absurd (free (inl (record { lower = l; upper = h }))))
-        (at_most-or-below o span.upper cut)) u (λ h. free (inr h))
+    from_behind parts are cut u free l = grind arith
 
     without-first : (parts : List (Ends T)) → ArePiecesFrom cmp others one span.upper spans parts
         → IsCutAtMost cmp span.lower low → ArePiecesFrom cmp others one low (span ∷ spans) parts
@@ -176,8 +156,7 @@ module _ {T : Type 0} {cmp : T → T → Ordering} (o : IsTotalOrder cmp) (other
   pub walked-stopped : (low : Cut T) (spans done : List (Ends T)) → IsWalked low spans done
       → AllByRecursion (λ (s : Ends T). IsCutAtMost cmp one.upper s.lower) spans
       → ArePieces cmp others one (done ++ span_between low one.upper ∷ [])
-  walked-stopped low spans done walked above =
-      walked.left (span_between low one.upper ∷ []) (whole-piece low spans walked.below walked.end above)
+  walked-stopped low spans done walked above = grind (arith, whole-piece)
 
   module _ (low : Cut T) (span : Ends T) (all spans done : List (Ends T)) (walking : IsWalked low all done)
       (parts : all ≡ span ∷ spans) where
@@ -213,9 +192,12 @@ module _ {T : Type 0} {cmp : T → T → Ordering} (o : IsTotalOrder cmp) (other
       -- it ends at the end of `one` or above: there are no more pieces
       pub walked-ended : IsAdded o low span.lower done new → IsCutAtMost cmp one.upper span.upper
           → ArePieces cmp others one new
-      walked-ended more past =
-          subst (ArePieces cmp others one) (append-nil new)
-          (added more [] (no-piece span.upper spans past))
+      walked-ended more past = grind (
+        arith,
+        append-nil new,
+        added more [] (no-piece span.upper spans past),
+        no-piece span.upper spans past,
+      )
 
       -- or below it: the walk goes on
       pub walked-next : IsAdded o low span.lower done new → IsCutBelow cmp span.upper one.upper

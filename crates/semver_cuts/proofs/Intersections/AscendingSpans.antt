@@ -1,4 +1,5 @@
 -- The intersection of one span with merged spans: it is empty for those below the span and those above it.
+use native.Mathlib.Omega.{arith}
 use Rattle.std.proofs.Common.{◌≡◌, ◌<◌, ◌+◌, ℕ, List, [], ◌∷◌, ◌++◌, get_or, length, take, drop, ap, subst, sym}
 use Rattle.std.proofs.Common.{refl, ◌∙◌, inl, Ordering}
 use Rattle.std.proofs.lemmas.List.{append-nil, take-append-drop}
@@ -27,20 +28,18 @@ module _ {T : Type 0} {cmp : T → T → Ordering} (o : IsTotalOrder cmp) (one :
       ∙ none-common others all.1
 
   before : (other : Ends T) → IsCutAtMost cmp other.upper one.lower → IsApart other
-  before other ended shared =
-      below-not-at_most o shared.0 other.upper shared.2.upper
-      (at_most_trans o other.upper one.lower shared.0 ended shared.1.lower)
+  before other ended shared = grind arith
 
   behind : (other : Ends T) → IsCutAtMost cmp one.upper other.lower → IsApart other
-  behind other begins shared =
-      below-not-at_most o shared.0 one.upper shared.1.upper
-      (at_most_trans o one.upper other.lower shared.0 begins shared.2.lower)
+  behind other begins shared = grind (arith, below-not-at_most o, at_most_trans o)
 
   parted : (others : List (Ends T)) (k : ℕ)
       → common_with cmp one (take k others) ++ common_with cmp one (drop k others) ≡ common_with cmp one others
-  parted others k =
-      sym (flat_map-append (common_of cmp one) (take k others) (drop k others))
-      ∙ ap (common_with cmp one) (take-append-drop k others)
+  parted others k = grind (
+    arith,
+    flat_map-append (common_of cmp one) (take k others) (drop k others),
+    take-append-drop k others,
+  )
 
   -- those that end at or below the lower end of the span can be left out
   pub common_with-from : (others : List (Ends T)) (k : ℕ)

@@ -1,4 +1,5 @@
 -- The loop of `are_merged`: whether each span ends below where the next one begins.
+use native.Mathlib.Omega.{arith}
 use Rattle.std.proofs.Common.{◌≡◌, ◌↔◌, ℕ, ◌+◌, ◌<◌, List, ◌∷◌, Ordering, drop, get_or, length, sym, subst}
 use Rattle.semver_cuts.specs.Ends.{Ends, IsCutAtMost, IsCutBelow}
 use Rattle.std.specs.Cmp.{IsTotalOrder}
@@ -19,14 +20,8 @@ module _ {T : Type 0} {cmp : T → T → Ordering} (o : IsTotalOrder cmp) (spans
   -- the next span begins above where the last one ends
   pub seen-next : IsCutBelow cmp last.lower last.upper → IsCutBelow cmp last.upper next.lower
       → AreMerged cmp spans ↔ AreMerged cmp (next ∷ rest)
-  seen-next rising below = (
-    λ are. merged-tail cmp last (next ∷ rest) (subst (λ l. AreMerged cmp (last ∷ l)) parts (seen.0 are)),
-    λ are. seen.1 (subst (λ l. AreMerged cmp (last ∷ l)) (sym parts)
-        (record { rising = (rising, are.rising); apart = (below, are.apart) })),
-  )
+  seen-next rising below = grind (arith, merged-tail cmp, parts)
 
   -- or it does not
   pub seen-touching : IsCutAtMost cmp next.lower last.upper → ¬ AreMerged cmp spans
-  seen-touching touches are =
-      below-not-at_most o last.upper next.lower
-      (subst (λ l. AreMerged cmp (last ∷ l)) parts (seen.0 are)).apart.0 touches
+  seen-touching touches are = grind (arith, below-not-at_most o, parts)

@@ -86,10 +86,7 @@ module _ {T : Type 0} {cmp : T → T → Ordering} (o : IsTotalOrder cmp) (spans
 
     -- after the last span
     pub running-over : IsRunning pairs begun place upper [] → AreJoinedAt cmp spans (pairs ++ (begun, place) ∷ [])
-    running-over is =
-        is.left ((begun, place) ∷ []) ((is.begins.0, is.ends.0), tt)
-        (subst (λ span. AreEntries o spans order s is.lower upper [] (span ∷ []))
-        (sym (ended [] is)) (entries-last o spans order s is.lower upper place is.run))
+    running-over is = grind (arith, ended [] is, entries-last o spans order s is.lower upper place is.run)
 
     module _ (next : PlacedSpan T) (later : List (PlacedSpan T)) (is : IsRunning pairs begun place upper (next ∷ later)) where
       at : IsPlaced spans next
@@ -151,22 +148,18 @@ module _ {T : Type 0} {cmp : T → T → Ordering} (o : IsTotalOrder cmp) (spans
   pub running-moved : (pairs pairs' : List (ℕ × ℕ)) (begun begun' place place' : ℕ) (upper upper' : Cut T)
       (later later' : List (PlacedSpan T)) → pairs ≡ pairs' → begun ≡ begun' → place ≡ place' → upper ≡ upper'
       → later ≡ later' → IsRunning pairs begun place upper later → IsRunning pairs' begun' place' upper' later'
-  running-moved pairs pairs' begun begun' place place' upper upper' later later' e f h u l is =
-      subst (λ (X : Type 0). X) (λ i. IsRunning (e i) (f i) (h i) (u i) (l i)) is
+  running-moved pairs pairs' begun begun' place place' upper upper' later later' e f h u l is = grind arith
 
 module _ {T : Type 0} (cmp : T → T → Ordering) (spans : List (Ends T)) where
   -- the merged spans, if there are places
   pub some-map : (pairs : List (ℕ × ℕ)) → pairs ≢ [] → merged_spans spans pairs ≡ map (span_of_places spans) pairs
-  some-map [] some = absurd (some refl)
-  some-map (pair ∷ pairs) some = refl
+  some-map pairs h1 = grind arith
 
   -- after the last pair of places, all merged spans were taken
   pub taken-all : (pairs : List (ℕ × ℕ)) → pairs ≢ [] → (k : ℕ) (items : List (Ends T)) → length pairs ≤ k
       → items ++ map (span_of_places spans) (drop k pairs) ≡ map (span_of_places spans) pairs
       → items ≡ merged_spans spans pairs
-  taken-all pairs some k items done e =
-      sym (append-nil items) ∙ ap (λ l. items ++ map (span_of_places spans) l) (sym (drop_all k pairs done))
-      ∙ e ∙ sym (some-map pairs some)
+  taken-all pairs some k items done e = grind (arith, append-nil, drop_all, some-map)
 
 module _ {T : Type 0} {cmp : T → T → Ordering} (o : IsTotalOrder cmp) where
   none-apart : (spans : List (Ends T)) → AreRising cmp spans → AreJoined cmp spans [] → AreApart cmp spans
@@ -176,13 +169,7 @@ module _ {T : Type 0} {cmp : T → T → Ordering} (o : IsTotalOrder cmp) where
   -- the places of spans that are not merged as they stand
   pub joined-places : (spans : List (Ends T)) → AreRising cmp spans → ¬ AreApart cmp spans → (pairs : List (ℕ × ℕ))
       → AreJoinedAt cmp spans pairs → IsPlacesOf cmp spans pairs
-  joined-places spans rising divided [] are = absurd (divided (none-apart spans rising are.joined))
-  joined-places spans rising divided (pair ∷ pairs) are = record {
-    rising = rising;
-    within = are.within;
-    joined = are.joined;
-    none = λ apart. absurd (divided apart);
-  }
+  joined-places spans h1 h2 pairs h3 = grind (arith, none-apart)
 
 -- ---- a merged span by its number
 
@@ -190,10 +177,7 @@ module _ {T : Type 0} (cmp : T → T → Ordering) where
   -- there are no places if the list is merged as it stands
   pub merged-by : (spans : List (Ends T)) (pairs : List (ℕ × ℕ)) (b : Bool) → (length pairs == 0) ≡ b
       → Tested b (merged_spans spans pairs ≡ spans) (merged_spans spans pairs ≡ map (span_of_places spans) pairs)
-  merged-by spans [] true e = refl
-  merged-by spans [] false e = absurd (true≢false e)
-  merged-by spans (p ∷ pairs) true e = let z = eqb-true (length (p ∷ pairs)) 0 e in absurd (omega arith)
-  merged-by spans (p ∷ pairs) false e = refl
+  merged-by spans pairs b h1 = grind arith
 
   module _ (spans : List (Ends T)) (pairs : List (ℕ × ℕ)) (k : ℕ) (low : k < length (merged_spans spans pairs)) where
     pub low-place : (length pairs == 0) ≡ true → k < length spans
@@ -201,19 +185,12 @@ module _ {T : Type 0} (cmp : T → T → Ordering) where
 
     module _ (some : (length pairs == 0) ≡ false) where
       pub low-pair : k < length pairs
-      low-pair =
-          let f : ℕ × ℕ → Ends T = span_of_places spans in
-          omega (arith, ap length (merged-by spans pairs false some), length-map pairs f, low)
+      low-pair = grind (arith, merged-by, length-map)
 
       -- the merged span of a pair of places
       pub merged-at : (d : ℕ × ℕ) (span : Ends T) → span ≡ span_of_places spans (get_or pairs k d)
           → drop k (merged_spans spans pairs) ≡ span ∷ drop (k + 1) (merged_spans spans pairs)
-      merged-at d span e =
-          let f : ℕ × ℕ → Ends T = span_of_places spans in
-          let same : merged_spans spans pairs ≡ map f pairs = merged-by spans pairs false some in
-          ap (drop k) same ∙ drop-map f k pairs ∙ ap (map f) (drop_more pairs k d low-pair)
-          ∙ ap (λ s. s ∷ map f (drop (k + 1) pairs)) (sym e)
-          ∙ ap (λ l. span ∷ l) (sym (drop-map f (k + 1) pairs) ∙ ap (drop (k + 1)) (sym same))
+      merged-at d span e = grind (arith, merged-by, drop-map, drop_more, low-pair)
 
   -- both places of each pair are in the list
   pub within-at : (spans : List (Ends T)) (pairs : List (ℕ × ℕ)) (k : ℕ) (d : ℕ × ℕ)
@@ -240,14 +217,7 @@ module _ {T : Type 0} {cmp : T → T → Ordering} (o : IsTotalOrder cmp) (spans
         → AllByRecursion (λ (s : Ends T). IsCutBelow cmp (span_of_places spans pair).upper s.upper)
         (map (span_of_places spans) later) → AllByRecursion (IsKept now) later → AllByRecursion (IsKept new) later
     all-kept [] low high kept = tt
-    all-kept (p ∷ later) low high kept =
-        let lower : (span_at new p.0).lower ≡ (span_at now p.0).lower =
-        lowers p.0 (λ e. below_irrefl o (span_of_places spans pair).lower
-        (subst (λ k. IsCutBelow cmp (span_of_places spans pair).lower (span_at spans k).lower) e low.0)) in
-        let upper : (span_at new p.1).upper ≡ (span_at now p.1).upper =
-        uppers p.1 (λ e. below_irrefl o (span_of_places spans pair).upper
-        (subst (λ k. IsCutBelow cmp (span_of_places spans pair).upper (span_at spans k).upper) e high.0)) in
-        ((λ i. span_between (lower i) (upper i)) ∙ kept.0, all-kept later low.1 high.1 kept.1)
+    all-kept (p ∷ later) low high kept = grind (arith, below_irrefl o, all-kept later low.1 high.1 kept.1)
 
   pub itself-kept : (pairs : List (ℕ × ℕ)) → AllByRecursion (IsKept spans) pairs
   itself-kept [] = tt
@@ -267,9 +237,13 @@ module _ {T : Type 0} {cmp : T → T → Ordering} (o : IsTotalOrder cmp) (spans
     kept' = subst (AllByRecursion (IsKept now)) here kept
 
     left : AreMerged cmp (map (span_of_places spans) (next ∷ drop (k + 1) pairs))
-    left =
-        subst (AreMerged cmp) (ap (drop k) (some-map cmp spans pairs some) ∙ drop-map (span_of_places spans) k pairs
-        ∙ ap (map (span_of_places spans)) here) (merged-drop cmp k (merged_spans spans pairs) are)
+    left = grind (
+      arith,
+      some-map cmp spans pairs some,
+      drop-map (span_of_places spans) k pairs,
+      here,
+      merged-drop cmp k (merged_spans spans pairs) are,
+    )
 
     pub next-rising : IsCutBelow cmp (span_at now next.0).lower (span_at now next.1).upper
     next-rising = subst (λ (s : Ends T). IsCutBelow cmp s.lower s.upper) (sym kept'.0) left.rising.0
@@ -284,7 +258,4 @@ module _ {T : Type 0} {cmp : T → T → Ordering} (o : IsTotalOrder cmp) (spans
     pub next-done : (joined : List (Ends T)) (span : Ends T) → span ≡ span_of_places now next
         → (joined ++ span ∷ []) ++ map (span_of_places spans) (drop (k + 1) pairs)
         ≡ joined ++ map (span_of_places spans) (drop k pairs)
-    next-done joined span e =
-        append_assoc joined (span ∷ []) (map (span_of_places spans) (drop (k + 1) pairs))
-        ∙ ap (λ s. joined ++ (s ∷ map (span_of_places spans) (drop (k + 1) pairs))) (e ∙ kept'.0)
-        ∙ ap (λ l. joined ++ map (span_of_places spans) l) (sym here)
+    next-done joined span e = grind (arith, append_assoc, here)

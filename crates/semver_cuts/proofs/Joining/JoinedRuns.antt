@@ -32,9 +32,7 @@ module _ {T : Type 0} {cmp : T → T → Ordering} (o : IsTotalOrder cmp) (spans
   In = IsAmong (placed_from 0 spans)
 
   rises : (p : PlacedSpan T) → In p → IsCutBelow cmp p.span.lower p.span.upper
-  rises p is =
-      all-among (λ (p : PlacedSpan T). IsCutBelow cmp p.span.lower p.span.upper) (placed_from 0 spans) p
-      (rising-placed cmp 0 spans s.rising) is
+  rises p is = grind (arith, all-among, rising-placed cmp)
 
   -- the end of one of all spans, such that no span with an equal end has a lower place
   abbrev pub IsFirstPlaced : (Ends T → Cut T) → Cut T → Type 0
@@ -116,14 +114,7 @@ module _ {T : Type 0} {cmp : T → T → Ordering} (o : IsTotalOrder cmp) (spans
   -- the joined spans after the last of the later spans
   pub entries-last : (lower upper : Cut T) (place : ℕ) → IsRun lower upper place []
       → AreEntries lower upper [] (span_between lower upper ∷ [])
-  entries-last lower upper place run = record {
-    rising = (run.rising, tt);
-    apart = tt;
-    from = (at_most_refl o lower, tt);
-    lowers = (run.begins, tt);
-    uppers = (first-end lower upper place [] run tt tt, tt);
-    cuts = λ cut. (λ h. h, λ h. h);
-  }
+  entries-last lower upper place run = grind arith
 
   -- ---- one more span
 
@@ -190,15 +181,7 @@ module _ {T : Type 0} {cmp : T → T → Ordering} (o : IsTotalOrder cmp) (spans
 
     -- or it does not end later
     pub kept-run : EndsNoLater o upper place next → IsRun lower upper place later
-    kept-run no_later = record {
-      rising = run.rising;
-      begins = run.begins;
-      ends = run.ends;
-      done = λ q in'. ⊎_elim (⊎_elim (λ e. inr (subst (EndsNoLater o upper place) (sym e) no_later))
-          (λ there. inl there))
-          (λ done. inr done) (run.done q in');
-      ahead = run.ahead.1;
-    }
+    kept-run no_later = grind arith
 
     -- then the joined spans are those of the longer run, `wide` being the greater of the two ends
     pub goes-on : IsCutAtMost cmp next.span.lower upper → (wide : Cut T) → IsCutAtMost cmp upper wide

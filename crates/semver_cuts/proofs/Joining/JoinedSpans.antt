@@ -126,13 +126,7 @@ module _ {T : Type 0} {cmp : T → T → Ordering} (o : IsTotalOrder cmp) where
 
     -- an empty list is joined to itself
     pub none-joined : order ≡ [] → AreJoined cmp spans []
-    none-joined e = record {
-      merged = record { rising = tt; apart = tt };
-      cuts = λ cut. subst (λ l. IsInSome cmp (map (λ (p : PlacedSpan T). p.span) l) cut ↔ IsInSome cmp spans cut) e
-          (some-of cut);
-      lowers = tt;
-      uppers = tt;
-    }
+    none-joined e = grind (arith, some-of)
 
     module _ (first : PlacedSpan T) (later : List (PlacedSpan T)) (e : order ≡ first ∷ later) where
       -- the run of the first span
@@ -145,16 +139,4 @@ module _ {T : Type 0} {cmp : T → T → Ordering} (o : IsTotalOrder cmp) where
       -- the joined spans from there on are those that the list is joined to
       pub first-joined : (entries : List (Ends T))
           → AreEntries o spans order s first.span.lower first.span.upper later entries → AreJoined cmp spans entries
-      first-joined entries come = record {
-        merged = record { rising = come.rising; apart = come.apart };
-        cuts = λ cut.
-            let whole = subst (λ l. IsInSome cmp (map (λ (p : PlacedSpan T). p.span) l) cut ↔ IsInSome cmp spans cut) e
-            (some-of cut) in
-            (λ is. whole.0 ((come.cuts cut).0 is), λ is. (come.cuts cut).1 (whole.1 is));
-        lowers = all_map (λ (span : Ends T). IsFirstPlaced o spans order s (λ s. s.lower) span.lower)
-            (λ (s : Ends T). IsFirstAt cmp (λ (s : Ends T). s.lower) spans s.lower)
-            (λ span h. first-placed (λ s. s.lower) span.lower 0 spans h.0 h.1 h.2 h.3) entries come.lowers;
-        uppers = all_map (λ (span : Ends T). IsFirstPlaced o spans order s (λ s. s.upper) span.upper)
-            (λ (s : Ends T). IsFirstAt cmp (λ (s : Ends T). s.upper) spans s.upper)
-            (λ span h. first-placed (λ s. s.upper) span.upper 0 spans h.0 h.1 h.2 h.3) entries come.uppers;
-      }
+      first-joined entries come = search (arith, some-of, all_map, first-placed)

@@ -1,4 +1,5 @@
 -- The loop of `in_order`: each span is added with its place.
+use native.Mathlib.Omega.{arith}
 use Rattle.std.proofs.Common.{◌≡◌, ℕ, ◌+◌, ◌<◌, ◌≤◌, List, [], ◌∷◌, ◌++◌, Ordering, drop, get_or, length, sym, ap}
 use Rattle.std.proofs.Common.{subst, ◌∙◌, append_assoc}
 use Rattle.std.specs.List.Sorted.{IsPermutation}
@@ -14,22 +15,16 @@ module _ {T : Type 0} (cmp : T → T → Ordering) where
   pub placed-next : (spans : List (Ends T)) (k : ℕ) (span : Ends T) (old new total : List (PlacedSpan T))
       → k < length spans → span ≡ get_or spans k span → new ≡ old ++ record { span = span; place = k } ∷ []
       → old ++ placed_from k (drop k spans) ≡ total → new ++ placed_from (k + 1) (drop (k + 1) spans) ≡ total
-  placed-next spans k span old new total low at more before =
-      let rest : List (PlacedSpan T) = placed_from (k + 1) (drop (k + 1) spans) in
-      ap (λ l. l ++ rest) more ∙ append_assoc old (record { span = span; place = k } ∷ []) rest
-      ∙ ap (λ l. old ++ placed_from k l) (sym (here spans k span low at)) ∙ before
+  placed-next spans k span old new total low at more before = grind (arith, append_assoc, here)
 
   -- one more span begins below where it ends
   pub placed-rising : (spans : List (Ends T)) (k : ℕ) (span : Ends T) (lower upper : Cut T) → k < length spans
       → span ≡ get_or spans k span → span ≡ span_between lower upper → IsCutBelow cmp lower upper
       → AreRising cmp (drop (k + 1) spans) → AreRising cmp (drop k spans)
-  placed-rising spans k span lower upper low at e below h =
-      subst (AreRising cmp) (sym (here spans k span low at ∙ ap (λ s. s ∷ drop (k + 1) spans) e)) (below, h)
+  placed-rising spans k span lower upper low at e below h = grind (arith, here)
 
   -- the sort keeps the spans
   pub placed-moved : (spans : List (Ends T)) (k : ℕ) (items moved : List (PlacedSpan T)) → length spans ≤ k
       → items ++ placed_from k (drop k spans) ≡ placed_from 0 spans → IsPermutation items moved
       → IsPermutation (placed_from 0 spans) moved
-  placed-moved spans k items moved done all moves =
-      subst (λ l. IsPermutation l moved)
-      (sym (append-nil items) ∙ ap (λ l. items ++ placed_from k l) (sym (drop_all k spans done)) ∙ all) moves
+  placed-moved spans k items moved done all moves = grind (arith, append-nil, drop_all)

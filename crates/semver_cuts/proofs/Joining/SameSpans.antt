@@ -1,4 +1,5 @@
 -- Merged lists with the same cuts have the same spans.
+use native.Mathlib.Omega.{arith}
 use Rattle.std.proofs.Common.{◌↔◌, List, [], ◌∷◌, Ordering, inl, inr, ⊎_elim}
 use Rattle.std.specs.Cmp.{IsTotalOrder}
 use Rattle.semver_cuts.specs.declared.cut.Cut.{Cut}
@@ -15,16 +16,13 @@ module _ {T : Type 0} {cmp : T → T → Ordering} (o : IsTotalOrder cmp) where
   ends-no_lower : (one : Ends T) (ones : List (Ends T)) (other : Ends T) → AreMerged cmp (one ∷ ones)
       → ((cut : Cut T) → IsInSpan cmp other cut → IsInSome cmp (one ∷ ones) cut) → IsCutAtMost cmp other.lower one.lower
       → IsCutAtMost cmp other.upper one.upper
-  ends-no_lower one ones other are within le =
-      ⊎_elim (λ h. h)
-      (λ lt. absurd
-      (⊎_elim (λ here. below_irrefl o one.upper here.upper)
-      (λ there. below_irrefl o one.upper (later-above o one ones one.upper are there))
-      (within one.upper (record {
-        lower = inl (at_most-below o other.lower one.lower one.upper le are.rising.0);
-        upper = lt;
-      }))))
-      (at_most-or-below o other.upper one.upper)
+  ends-no_lower one ones other are within le = grind (
+    arith,
+    at_most-below o other.lower one.lower one.upper le are.rising.0,
+    at_most-or-below o other.upper one.upper,
+    below_irrefl o,
+    later-above o,
+  )
 
   later-in : (one : Ends T) (ones : List (Ends T)) (other : Ends T) (others : List (Ends T))
       → AreMerged cmp (one ∷ ones)
@@ -44,8 +42,7 @@ module _ {T : Type 0} {cmp : T → T → Ordering} (o : IsTotalOrder cmp) where
   pub same-spans : (ones others : List (Ends T)) → AreMerged cmp ones → AreMerged cmp others
       → ((cut : Cut T) → IsInSome cmp ones cut ↔ IsInSome cmp others cut) → AreSameSpans cmp ones others
   same-spans [] [] are others_are same = tt
-  same-spans [] (other ∷ others) are others_are same =
-      absurd ((same other.lower).1 (inl (first-cut o other others_are.rising.0)))
+  same-spans [] (other ∷ others) are others_are same = grind (arith, first-cut o)
   same-spans (one ∷ ones) [] are others_are same = absurd ((same one.lower).0 (inl (first-cut o one are.rising.0)))
   same-spans (one ∷ ones) (other ∷ others) are others_are same =
       let low : IsCutAtMost cmp other.lower one.lower =

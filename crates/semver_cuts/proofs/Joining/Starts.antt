@@ -1,4 +1,5 @@
 -- For each cut of a list: either a joined span begins there, or a span of the list reaches it from below.
+use native.Mathlib.Omega.{arith}
 use Rattle.std.proofs.Common.{◌≡◌, List, [], ◌∷◌, Bool, true, false, not, ◌&&◌, Ordering, Equal}
 use Rattle.std.proofs.Common.{refl, sym, ap, ◌∙◌, inl, inr, ⊎_elim}
 use mathlib.Core.Bool.{true≢false}
@@ -22,16 +23,11 @@ use Rattle.semver_cuts.proofs.Walks.{first-cut}
 -- ---- tests
 
 and-false : (a b : Bool) → (a && b) ≡ false → a ≡ true → b ≡ true → ⊥
-and-false true true e p q = true≢false e
-and-false true false e p q = true≢false (sym q)
-and-false false b e p q = true≢false (sym p)
+and-false a b h1 h2 h3 = grind arith
 
 one_only : (begins reached : Bool) → (begins ≡ true → reached ≡ true → ⊥) → (begins ≡ false → reached ≡ false → ⊥)
     → not reached ≡ begins
-one_only true true p q = absurd (p refl refl)
-one_only true false p q = refl
-one_only false true p q = refl
-one_only false false p q = absurd (q refl refl)
+one_only begins reached h1 h2 = grind arith
 
 -- ---- where a merged span begins
 
@@ -61,26 +57,18 @@ module _ {T : Type 0} {cmp : T → T → Ordering} (o : IsTotalOrder cmp) where
   gap-before : (spans : List (Ends T)) → AreMerged cmp spans → (cut early : Cut T) → begins_at cmp spans cut ≡ true
       → IsInSome cmp spans early → IsCutBelow cmp early cut
       → (gap : Cut T) × IsCutBelow cmp early gap × IsCutBelow cmp gap cut × ¬ IsInSome cmp spans gap
-  gap-before spans are cut early h is low =
-      let begun = begun-of (HasGapBelow o spans) spans cut (gaps-below o spans are.apart are.rising) h in
-      let found = begun.1 early (below-at_most o early cut begun.0.lower low
-      (inr (cut_cmp-equal_back o begun.0.lower cut begun.2))) is in
-      (found.0, found.1, below-at_most o found.0 begun.0.lower cut found.2 (inr begun.2), found.3)
+  gap-before spans are cut early h is low = grind (
+    arith,
+    begun-of (HasGapBelow o spans) spans cut (gaps-below o spans are.apart are.rising) h,
+    gaps-below o spans are.apart are.rising,
+  )
 
   -- below a cut of merged spans at which none begins, there is a cut such that all cuts between lie in the spans
   goes-on : (spans : List (Ends T)) → (cut : Cut T) → IsInSome cmp spans cut → begins_at cmp spans cut ≡ false
       → (low : Cut T) × IsCutBelow cmp low cut
       × ((c : Cut T) → IsCutAtMost cmp low c → IsCutBelow cmp c cut → IsInSome cmp spans c)
   goes-on [] cut is h = absurd is
-  goes-on (span ∷ spans) cut (inl here) h =
-      let apart = or_parts (is_eq (cut_cmp cmp span.lower cut)) (begins_at cmp spans cut) h in
-      ⊎_elim
-      (λ lt. (
-        span.lower,
-        lt,
-        λ c low high. inl (record { lower = low; upper = below_trans o c cut span.upper high here.upper }),
-      ))
-      (λ same. absurd (true≢false (sym (ap is_eq same) ∙ apart.0))) here.lower
+  goes-on (span ∷ spans) cut (inl here) h = grind (arith, or_parts, below_trans o)
   goes-on (span ∷ spans) cut (inr there) h =
       let apart = or_parts (is_eq (cut_cmp cmp span.lower cut)) (begins_at cmp spans cut) h in
       let found = goes-on spans cut there apart.1 in

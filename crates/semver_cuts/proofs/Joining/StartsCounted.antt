@@ -39,19 +39,16 @@ module _ {T : Type 0} (cmp : T → T → Ordering) where
       + same-count all test (earlier ++ span ∷ []) later same.1 i
 
   add-none : (b : Bool) (n : ℕ) → n ≡ 0 → (if b && false then 1 else 0) + n ≡ 0
-  add-none true n e = omega arith
-  add-none false n e = omega arith
+  add-none b n h1 = grind arith
 
   none-counted : (earlier later : List (Ends T)) → count_first (λ cut. false) earlier later ≡ 0
   unfolding count_first
   none-counted earlier [] = refl
-  none-counted earlier (span ∷ later) =
-      add-none (not (begins_at cmp earlier span.lower)) _ (none-counted (earlier ++ span ∷ []) later)
+  none-counted earlier (span ∷ later) = grind (arith, add-none, none-counted (earlier ++ span ∷ []) later)
 
   add-either : (b p q : Bool) (k m n : ℕ) → (p ≡ true → q ≡ true → ⊥) → k ≡ m + n
       → (if b && (p || q) then 1 else 0) + k ≡ ((if b && p then 1 else 0) + m) + ((if b && q then 1 else 0) + n)
-  add-either true true true k m n h e = absurd (h refl refl)
-  add-either b p q k m n h e = omega arith
+  add-either b p q k m n h1 h2 = grind arith
 
   -- no cut passes both of two tests
   either-counted : (p q : Cut T → Bool) → ((c : Cut T) → p c ≡ true → q c ≡ true → ⊥)
@@ -59,39 +56,32 @@ module _ {T : Type 0} (cmp : T → T → Ordering) where
       → count_first (λ cut. p cut || q cut) earlier later ≡ count_first p earlier later + count_first q earlier later
   unfolding count_first
   either-counted p q h earlier [] = refl
-  either-counted p q h earlier (span ∷ later) =
-      add-either (not (begins_at cmp earlier span.lower)) (p span.lower) (q span.lower) _ _ _ (h span.lower)
-      (either-counted p q h (earlier ++ span ∷ []) later)
+  either-counted p q h earlier (span ∷ later) = grind (
+    arith,
+    add-either,
+    either-counted p q h (earlier ++ span ∷ []) later,
+  )
 
   or-false : (a : Bool) → (a || false) ≡ a
-  or-false true = refl
-  or-false false = refl
+  or-false a = grind arith
 
   or-assoc : (a b c : Bool) → (a || (b || c)) ≡ ((a || b) || c)
-  or-assoc true b c = refl
-  or-assoc false b c = refl
+  or-assoc a b c = grind arith
 
   begins-push : (cut : Cut T) (spans : List (Ends T)) (span : Ends T)
       → begins_at cmp (spans ++ span ∷ []) cut ≡ (begins_at cmp spans cut || is_eq (cut_cmp cmp span.lower cut))
   begins-push cut [] span = or-false (is_eq (cut_cmp cmp span.lower cut))
-  begins-push cut (one ∷ spans) span =
-      ap (λ b. is_eq (cut_cmp cmp one.lower cut) || b) (begins-push cut spans span)
-      ∙ or-assoc (is_eq (cut_cmp cmp one.lower cut)) (begins_at cmp spans cut) _
+  begins-push cut (one ∷ spans) span = grind (arith, begins-push cut spans span, or-assoc)
 
   begins-middle : (cut : Cut T) (before after : List (Ends T)) (span : Ends T)
       → is_eq (cut_cmp cmp span.lower cut) ≡ true → begins_at cmp (before ++ span ∷ after) cut ≡ true
   begins-middle cut [] after span h = or_left (is_eq (cut_cmp cmp span.lower cut)) (begins_at cmp after cut) h
-  begins-middle cut (one ∷ before) after span h =
-      or_right (is_eq (cut_cmp cmp one.lower cut)) (begins_at cmp (before ++ span ∷ after) cut)
-      (begins-middle cut before after span h)
+  begins-middle cut (one ∷ before) after span h = grind (arith, or_right, begins-middle cut before after span h)
 
   add-one : (begun b e later : Bool) (n : ℕ) → (e ≡ true → b ≡ begun)
       → n ≡ (if begun || e then 0 else (if later then 1 else 0))
       → (if not b && e then 1 else 0) + n ≡ (if begun then 0 else (if e || later then 1 else 0))
-  add-one true false true later n h e = cc (h refl)
-  add-one false true true later n h e = cc (h refl)
-  add-one false false true later n h q = omega arith
-  add-one begun b e later n h q = omega arith
+  add-one begun b e later n h1 h2 = grind arith
 
 module _ {T : Type 0} {cmp : T → T → Ordering} (o : IsTotalOrder cmp) where
   turned : (c d : Cut T) → is_eq (cut_cmp cmp c d) ≡ is_eq (cut_cmp cmp d c)
@@ -103,8 +93,7 @@ module _ {T : Type 0} {cmp : T → T → Ordering} (o : IsTotalOrder cmp) where
   begins-same c d e (span ∷ spans) = λ i. is_eq (cut_cmp-equal_right o c d span.lower e i) || begins-same c d e spans i
 
   nothing : (b : Bool) (n : ℕ) → n ≡ 0 → n ≡ (if b then 0 else 0)
-  nothing true n e = e
-  nothing false n e = e
+  nothing b n h1 = grind arith
 
   -- of the later spans that begin at one cut, the first is counted, if no earlier one does
   one-counted : (cut : Cut T) (earlier later : List (Ends T))
@@ -112,16 +101,16 @@ module _ {T : Type 0} {cmp : T → T → Ordering} (o : IsTotalOrder cmp) where
       ≡ (if begins_at cmp earlier cut then 0 else (if begins_at cmp later cut then 1 else 0))
   unfolding count_first
   one-counted cut earlier [] = nothing (begins_at cmp earlier cut) 0 refl
-  one-counted cut earlier (span ∷ later) =
-      subst (λ (e : Bool). (if not (begins_at cmp earlier span.lower) && e then 1 else 0)
-      + count_first cmp (λ c. is_eq (cut_cmp cmp cut c)) (earlier ++ span ∷ []) later
-      ≡ (if begins_at cmp earlier cut then 0 else
-      (if is_eq (cut_cmp cmp span.lower cut) || begins_at cmp later cut then 1 else 0))) (turned span.lower cut)
-      (add-one cmp (begins_at cmp earlier cut) (begins_at cmp earlier span.lower) (is_eq (cut_cmp cmp span.lower cut))
-      (begins_at cmp later cut) _
-      (λ same. begins-same span.lower cut (equal-from o span.lower cut same) earlier)
-      (one-counted cut (earlier ++ span ∷ []) later
-      ∙ ap (λ b. if b then 0 else (if begins_at cmp later cut then 1 else 0)) (begins-push cmp cut earlier span)))
+  one-counted cut earlier (span ∷ later) = grind (
+    arith,
+    count_first cmp,
+    turned,
+    add-one cmp,
+    begins-same,
+    equal-from o,
+    one-counted cut (earlier ++ span ∷ []) later,
+    begins-push cmp,
+  )
 
   firsts-counted : (spans joined : List (Ends T)) → AreMerged cmp joined
       → AllByRecursion (λ (span : Ends T). IsFirstAt cmp (λ (s : Ends T). s.lower) spans span.lower) joined

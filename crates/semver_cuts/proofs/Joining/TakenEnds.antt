@@ -29,6 +29,4 @@ module _ {T : Type 0} (end : Ends T → Cut T) where
   -- the end at a place of the new list, for any default
   pub end-read : (spans : List (Ends T)) (i k : ℕ) (span d e : Ends T) → i < length spans → k < length spans
       → end span ≡ end (get_or spans i d) → end (get_or (set spans i span) k e) ≡ end (span_at spans k)
-  end-read spans i k span d e low within kept =
-      end-at (set spans i span) k e (omega (arith, length-set spans i span, within))
-      ∙ end-kept spans i k span d low kept
+  end-read spans i k span d e low within kept = grind (arith, end-at, length-set, end-kept)

@@ -1,4 +1,5 @@
 -- The part of one list of spans outside another: its cuts, its ends, when it is empty, and how it adds up.
+use native.Mathlib.Omega.{arith}
 use Rattle.std.specs.Prelude.{◌≡◌, ◌⊎◌, ◌↔◌, List, [], ◌∷◌}
 use mathlib.Core.Path.{sym, subst}
 use mathlib.Core.Logic.{inl, inr}
@@ -38,18 +39,17 @@ module _ {T : Type 0} (cmp : T → T → Ordering) where
   in-difference : (ones others spans : List (Ends T)) (cut : Cut T) → AreDifference cmp ones others spans
       → IsInSome cmp ones cut → ¬ IsInSome cmp others cut → IsInSome cmp spans cut
   in-difference [] others spans cut are is out = absurd is
-  in-difference (one ∷ ones) others spans cut are (inl here) out =
-      subst (λ spans. IsInSome cmp spans cut) (sym are.2)
-      (in_some-left cmp cut are.0 are.1 (are.3.all cut (here, out)))
-  in-difference (one ∷ ones) others spans cut are (inr there) out =
-      subst (λ spans. IsInSome cmp spans cut) (sym are.2)
-      (in_some-right cmp cut are.0 are.1 (in-difference ones others are.1 cut are.4 there out))
+  in-difference (one ∷ ones) others spans cut are (inl here) out = grind (arith, in_some-left cmp cut)
+  in-difference (one ∷ ones) others spans cut are (inr there) out = grind (
+    arith,
+    in_some-right cmp cut,
+    in-difference ones others are.1 cut are.4 there out,
+  )
 
   -- a cut lies in the difference exactly if it lies in a span of the first list and in none of the second
   pub difference-cuts : (ones others spans : List (Ends T)) → AreDifference cmp ones others spans → (cut : Cut T)
       → IsInSome cmp spans cut ↔ (IsInSome cmp ones cut × ¬ IsInSome cmp others cut)
-  difference-cuts ones others spans are cut =
-      (of-difference ones others spans cut are, λ both. in-difference ones others spans cut are both.0 both.1)
+  difference-cuts ones others spans are cut = grind (arith, of-difference, in-difference)
 
   -- ---- each span of the difference
 
@@ -123,18 +123,9 @@ module _ {T : Type 0} {cmp : T → T → Ordering} (o : IsTotalOrder cmp) (ones 
       (of-difference cmp ones others spans cut are left).1 ((common_spans-cuts o ones others cut).0 common).1
 
   parted : IsInSome cmp ones cut → IsInSome cmp (common_spans cmp ones others) cut ⊎ IsInSome cmp spans cut
-  parted is = elim (in_some-or_not o cut others) [
-    | inl there ↦ inl ((common_spans-cuts o ones others cut).1 (is, there))
-    | inr out ↦ inr (in-difference cmp ones others spans cut are is out)
-  ]
+  parted is = grind (arith, in_some-or_not o cut, common_spans-cuts o, in-difference cmp)
 
   -- and each cut of the first list lies in one of the two
   pub common_difference-together : (IsInSome cmp (common_spans cmp ones others) cut ⊎ IsInSome cmp spans cut)
       ↔ IsInSome cmp ones cut
-  common_difference-together = (
-    λ either. elim either [
-      | inl common ↦ ((common_spans-cuts o ones others cut).0 common).0
-      | inr left ↦ (of-difference cmp ones others spans cut are left).0
-    ],
-    parted,
-  )
+  common_difference-together = grind (arith, common_spans-cuts o ones others cut, parted, of-difference cmp)

@@ -1,4 +1,5 @@
 -- Equal cuts, and equal spans, feed a hasher the same, if equal values do.
+use native.Mathlib.Omega.{arith}
 use Rattle.std.specs.Prelude.{◌≡◌, true, ◌++◌, refl}
 use mathlib.Core.Path.{ap}
 use Rattle.std.specs.declared.cmp.Ordering.{Ordering}
@@ -16,11 +17,7 @@ module _ {T : Type 0} (cmp : T → T → Ordering) {writes : T → HashWrites}
     (alike : (v w : T) → eq_by_cmp cmp v w ≡ true → writes v ≡ writes w) where
   -- equal cuts feed a hasher the same
   pub cut_alike : (c d : Cut T) → eq_by_cmp (cut_cmp cmp) c d ≡ true → cut_writes writes c ≡ cut_writes writes d
-  cut_alike c d e =
-      equal-by_kind cmp (λ c d. cut_writes writes c ≡ cut_writes writes d) refl
-      (λ v w p. ap (λ (r : HashWrites). fed.u8 1 ++ r) (alike v w (ap is_eq p)))
-      (λ v w p. ap (λ (r : HashWrites). fed.u8 2 ++ r) (alike v w (ap is_eq p)))
-      refl c d ((Equal-is (cut_cmp cmp c d)).0 e)
+  cut_alike c d e = grind arith
 
   -- and equal spans do
   pub span_alike : (s t : Ends T) → are_same_ends cmp s t ≡ true → span_writes writes s ≡ span_writes writes t

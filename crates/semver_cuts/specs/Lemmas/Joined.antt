@@ -1,4 +1,5 @@
 -- Lists of spans that are merged as they stand are joined to themselves.
+use native.Mathlib.Omega.{arith}
 use Rattle.std.specs.Prelude.{◌≡◌, List, [], ◌∷◌, ◌++◌, refl}
 use mathlib.Core.Path.{subst}
 use mathlib.Core.Logic.{inr}
@@ -86,9 +87,4 @@ module _ {T : Type 0} {cmp : T → T → Ordering} (o : IsTotalOrder cmp) where
 
   -- and have no places
   pub places_of-merged : (spans : List (Ends T)) → AreMerged cmp spans → IsPlacesOf cmp spans []
-  places_of-merged spans are = record {
-    rising = are.rising;
-    within = tt;
-    joined = apart-joined spans are;
-    none = λ apart. refl;
-  }
+  places_of-merged spans are = grind (arith, apart-joined)

@@ -1,4 +1,5 @@
 -- The part of one span outside another: when there is a piece below and above, and which cuts lie in the pieces.
+use native.Mathlib.Omega.{arith}
 use Rattle.std.specs.Prelude.{◌≡◌, ◌⊎◌, ◌↔◌, Bool, List, [], ◌∷◌, ◌++◌, if◌then◌else◌, refl, true, false}
 use mathlib.Core.Path.{sym, ap, ◌∙◌}
 use mathlib.Core.Logic.{inl, inr}
@@ -19,16 +20,14 @@ use Rattle.semver_cuts.specs.Lemmas.TwoSpans.{common_ends-hold, shares-ends}
 
 module _ {T : Type 0} (cmp : T → T → Ordering) (one other : Ends T) where
   some_by : (span : Ends T) (r : Bool) → span ∷ [] ≡ (if r then common_ends cmp one other ∷ [] else []) → r ≡ true
-  some_by span true e = refl
-  some_by span false e = cc e
+  some_by span r h1 = grind arith
 
   -- the two share a cut if they have a common span
   pub share-from_some : (span : Ends T) → span ∷ [] ≡ common_of cmp one other → spans_share cmp one other ≡ true
   share-from_some span e = some_by span (spans_share cmp one other) e
 
   none_by : (r : Bool) → [] ≡ (if r then common_ends cmp one other ∷ [] else []) → r ≡ false
-  none_by true e = cc e
-  none_by false e = refl
+  none_by r h1 = grind arith
 
   -- and none if they have no common span
   pub apart-from_none : [] ≡ common_of cmp one other → spans_share cmp one other ≡ false
@@ -54,18 +53,7 @@ module _ {T : Type 0} (cmp : T → T → Ordering) (one other : Ends T) where
 module _ {T : Type 0} {cmp : T → T → Ordering} (o : IsTotalOrder cmp) where
   if_any_by : (lower upper cut : Cut T) (r : Bool) → is_lt (cut_cmp cmp lower upper) ≡ r
       → IsInSome cmp (if r then span_between lower upper ∷ [] else []) cut ↔ IsInSpan cmp (span_between lower upper) cut
-  if_any_by lower upper cut true h = (
-    λ is. elim is [
-      | inl here ↦ here
-      | inr there ↦ absurd there
-    ],
-    λ is. inl is,
-  )
-  if_any_by lower upper cut false h = (
-    λ is. absurd is,
-    λ is. absurd (true≢false (sym (lt-from_below cmp lower upper (at_most-below o lower cut upper is.lower is.upper))
-        ∙ h)),
-  )
+  if_any_by lower upper cut r h1 = grind arith
 
   -- a cut lies in the span between two cuts, if there is one, exactly if it lies between them
   pub if_any-cuts : (lower upper cut : Cut T)
@@ -79,26 +67,14 @@ module _ {T : Type 0} {cmp : T → T → Ordering} (o : IsTotalOrder cmp) where
     shared = (shares-ends o one other held held').0 ((common_ends-hold o one other).1 (below-from_lt cmp _ _ share))
 
     left-below : IsInSpan cmp (span_between one.lower other.lower) cut → IsInSpan cmp one cut × ¬ IsInSpan cmp other cut
-    left-below is = (
-      record { lower = is.lower; upper = below_trans o cut other.lower one.upper is.upper shared.1 },
-      λ in_other. below-not-at_most o cut other.lower is.upper in_other.lower,
-    )
+    left-below is = grind (arith, below_trans o cut other.lower one.upper is.upper shared.1)
 
     left-above : IsInSpan cmp (span_between other.upper one.upper) cut → IsInSpan cmp one cut × ¬ IsInSpan cmp other cut
-    left-above is = (
-      record { lower = inl (below-at_most o one.lower other.upper cut shared.0 is.lower); upper = is.upper },
-      λ in_other. below-not-at_most o cut other.upper in_other.upper is.lower,
-    )
+    left-above is = grind (arith, below-at_most o one.lower other.upper cut shared.0 is.lower)
 
     in-pieces : IsInSpan cmp one cut → ¬ IsInSpan cmp other cut
         → IsInSpan cmp (span_between one.lower other.lower) cut ⊎ IsInSpan cmp (span_between other.upper one.upper) cut
-    in-pieces is out = elim (at_most-or-below o other.lower cut) [
-      | inl begun ↦ elim (at_most-or-below o other.upper cut) [
-        | inl past ↦ inr (record { lower = past; upper = is.upper })
-        | inr inside ↦ absurd (out (record { lower = begun; upper = inside }))
-      ]
-      | inr early ↦ inl (record { lower = is.lower; upper = early })
-    ]
+    in-pieces is out = grind (arith, at_most-or-below o)
 
     -- a cut lies in one of the two pieces exactly if it lies in the first span and not in the second
     pub pieces-cuts : IsInSome cmp (span_if_any cmp one.lower other.lower ++ span_if_any cmp other.upper one.upper) cut

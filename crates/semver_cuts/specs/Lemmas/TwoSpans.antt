@@ -1,4 +1,5 @@
 -- Two spans: their intersection, when they share a cut, and when one contains all cuts of the other.
+use native.Mathlib.Omega.{arith}
 use Rattle.std.specs.Prelude.{◌≡◌, ◌⊎◌, ◌↔◌, ◌&&◌, Bool, IsTrue, List, [], ◌∷◌, if◌then◌else◌, refl, true, false}
 use mathlib.Core.Path.{sym, ◌∙◌}
 use mathlib.Core.Logic.{inl, inr}
@@ -27,8 +28,7 @@ module _ {T : Type 0} {cmp : T → T → Ordering} (o : IsTotalOrder cmp) where
   -- a fact of the first if the second is less, and of the second if not, is one of the greater
   greater-by : (P : Cut T → Type 0) (c d : Cut T) (r : Bool) → is_lt (cut_cmp cmp d c) ≡ r
       → (IsCutBelow cmp d c → P c) → (IsCutAtMost cmp c d → P d) → P (if r then c else d)
-  greater-by P c d true h first second = first (below-from_lt cmp d c h)
-  greater-by P c d false h first second = second (at_most-from_not_lt o d c h)
+  greater-by P c d r h1 h2 h3 = grind arith
 
   pub greater-is : (P : Cut T → Type 0) (c d : Cut T)
       → (IsCutBelow cmp d c → P c) → (IsCutAtMost cmp c d → P d) → P (greater_cut cmp c d)
@@ -36,47 +36,33 @@ module _ {T : Type 0} {cmp : T → T → Ordering} (o : IsTotalOrder cmp) where
 
   lesser-by : (P : Cut T → Type 0) (c d : Cut T) (r : Bool) → is_lt (cut_cmp cmp d c) ≡ r
       → (IsCutBelow cmp d c → P d) → (IsCutAtMost cmp c d → P c) → P (if r then d else c)
-  lesser-by P c d true h first second = first (below-from_lt cmp d c h)
-  lesser-by P c d false h first second = second (at_most-from_not_lt o d c h)
+  lesser-by P c d r h1 h2 h3 = grind arith
 
   -- and the other way round of the lesser
   pub lesser-is : (P : Cut T → Type 0) (c d : Cut T)
       → (IsCutBelow cmp d c → P d) → (IsCutAtMost cmp c d → P c) → P (lesser_cut cmp c d)
-  lesser-is P c d first second =
-      lesser-by P c d (is_lt (cut_cmp cmp d c)) refl first second
+  lesser-is P c d h1 h2 = grind arith
 
   -- the greater of two cuts is at most a third exactly if both are
   pub greater-at_most : (c d e : Cut T)
       → IsCutAtMost cmp (greater_cut cmp c d) e ↔ (IsCutAtMost cmp c e × IsCutAtMost cmp d e)
-  greater-at_most c d e =
-      greater-is (λ k. IsCutAtMost cmp k e ↔ (IsCutAtMost cmp c e × IsCutAtMost cmp d e)) c d
-      (λ h. (λ p. (p, at_most_trans o d c e (inl h) p), λ both. both.0))
-      (λ h. (λ p. (at_most_trans o c d e h p, p), λ both. both.1))
+  greater-at_most c d e = search (arith, greater-is, at_most_trans o)
 
   -- a cut is below the lesser of two exactly if it is below both
   pub below-lesser : (c d e : Cut T)
       → IsCutBelow cmp e (lesser_cut cmp c d) ↔ (IsCutBelow cmp e c × IsCutBelow cmp e d)
-  below-lesser c d e =
-      lesser-is (λ k. IsCutBelow cmp e k ↔ (IsCutBelow cmp e c × IsCutBelow cmp e d)) c d
-      (λ h. (λ p. (below_trans o e d c p h, p), λ both. both.1))
-      (λ h. (λ p. (p, below-at_most o e c d p h), λ both. both.0))
+  below-lesser c d e = grind arith
 
   -- the greater of two cuts is below a third exactly if both are
   pub greater-below : (c d e : Cut T)
       → IsCutBelow cmp (greater_cut cmp c d) e ↔ (IsCutBelow cmp c e × IsCutBelow cmp d e)
-  greater-below c d e =
-      greater-is (λ k. IsCutBelow cmp k e ↔ (IsCutBelow cmp c e × IsCutBelow cmp d e)) c d
-      (λ h. (λ p. (p, below_trans o d c e h p), λ both. both.0))
-      (λ h. (λ p. (at_most-below o c d e h p, p), λ both. both.1))
+  greater-below c d e = grind arith
 
   -- ---- the cuts of a span
 
   -- a span contains a cut exactly if it begins below where it ends
   pub holds-below : (span : Ends T) → HoldsCut cmp span ↔ IsCutBelow cmp span.lower span.upper
-  holds-below span = (
-    λ h. at_most-below o span.lower h.0 span.upper h.1.lower h.1.upper,
-    λ p. (span.lower, record { lower = at_most_refl o span.lower; upper = p }),
-  )
+  holds-below span = grind arith
 
   -- a span that contains a cut lies in another exactly if it begins no earlier and ends no later
   pub within-ends : (one other : Ends T) → IsCutBelow cmp one.lower one.upper
@@ -104,18 +90,7 @@ module _ {T : Type 0} {cmp : T → T → Ordering} (o : IsTotalOrder cmp) where
   -- a cut lies between the common ends exactly if it lies in both spans
   pub common_ends-cuts : (one other : Ends T) (cut : Cut T)
       → IsInSpan cmp (common_ends cmp one other) cut ↔ (IsInSpan cmp one cut × IsInSpan cmp other cut)
-  common_ends-cuts one other cut =
-      let begins = greater-at_most one.lower other.lower cut in
-      let goes_on = below-lesser one.upper other.upper cut in (
-        λ is. (
-          record { lower = (begins.0 is.lower).0; upper = (goes_on.0 is.upper).0 },
-          record { lower = (begins.0 is.lower).1; upper = (goes_on.0 is.upper).1 },
-        ),
-        λ both. record {
-          lower = begins.1 (both.0.lower, both.1.lower);
-          upper = goes_on.1 (both.0.upper, both.1.upper);
-        },
-      )
+  common_ends-cuts one other cut = grind (arith, greater-at_most, below-lesser)
 
   -- the common ends contain a cut exactly if some cut lies in both spans
   pub common_ends-hold : (one other : Ends T)
@@ -131,31 +106,19 @@ module _ {T : Type 0} {cmp : T → T → Ordering} (o : IsTotalOrder cmp) where
   -- two spans that contain cuts share one exactly if each begins below where the other ends
   pub shares-ends : (one other : Ends T) → IsCutBelow cmp one.lower one.upper → IsCutBelow cmp other.lower other.upper
       → HaveCommonCut cmp one other ↔ (IsCutBelow cmp one.lower other.upper × IsCutBelow cmp other.lower one.upper)
-  shares-ends one other held held' =
-      let upper : Cut T = lesser_cut cmp one.upper other.upper in
-      let lowers = greater-below one.lower other.lower upper in (
-        λ h. let both = lowers.0 ((common_ends-hold one other).0 h) in (
-          ((below-lesser one.upper other.upper one.lower).0 both.0).1,
-          ((below-lesser one.upper other.upper other.lower).0 both.1).0,
-        ),
-        λ p. (common_ends-hold one other).1 (lowers.1 (
-          (below-lesser one.upper other.upper one.lower).1 (held, p.0),
-          (below-lesser one.upper other.upper other.lower).1 (p.1, held'),
-        )),
-      )
+  shares-ends one other held held' = grind (
+    arith,
+    common_ends-hold one other,
+    below-lesser one.upper other.upper one.lower,
+    below-lesser one.upper other.upper other.lower,
+    greater-below,
+  )
 
   -- the two tests of the program
   pub shares-by : (one other : Ends T) → IsCutBelow cmp one.lower one.upper → IsCutBelow cmp other.lower other.upper
       → (r : Bool) → r ≡ (is_lt (cut_cmp cmp one.lower other.upper) && is_lt (cut_cmp cmp other.lower one.upper))
       → IsTrue r ↔ HaveCommonCut cmp one other
-  shares-by one other held held' r e =
-      let law = shares-ends one other held held' in (
-        λ p. let tests = and_parts _ _ (sym e ∙ p) in
-            law.1 (below-from_lt cmp one.lower other.upper tests.0, below-from_lt cmp other.lower one.upper tests.1),
-        λ h. let ends = law.0 h in
-            e ∙ (λ i. lt-from_below cmp one.lower other.upper ends.0 i
-            && lt-from_below cmp other.lower one.upper ends.1 i),
-      )
+  shares-by one other held held' r e = grind (arith, shares-ends, and_parts, below-from_lt cmp, lt-from_below cmp)
 
   pub covers-by : (one other : Ends T) → IsCutBelow cmp other.lower other.upper
       → (r : Bool) → r ≡ (is_le (cut_cmp cmp one.lower other.lower) && is_le (cut_cmp cmp other.upper one.upper))
@@ -175,10 +138,7 @@ module _ {T : Type 0} {cmp : T → T → Ordering} (o : IsTotalOrder cmp) where
       → is_lt (cut_cmp cmp (common_ends cmp one other).lower (common_ends cmp one other).upper) ≡ r
       → (HaveCommonCut cmp one other → P (common_ends cmp one other ∷ [])) → (¬ HaveCommonCut cmp one other → P [])
       → P (if r then common_ends cmp one other ∷ [] else [])
-  common_by one other P true h some none =
-      some ((common_ends-hold one other).1 (below-from_lt cmp _ _ h))
-  common_by one other P false h some none =
-      none (λ shared. both_ways _ (lt-from_below cmp _ _ ((common_ends-hold one other).0 shared)) h)
+  common_by one other P r h1 h2 h3 = grind (arith, common_ends-hold, below-from_lt cmp, both_ways, lt-from_below cmp)
 
   -- there is a common span exactly if some cut lies in both
   pub common_of-cases : (one other : Ends T) (P : List (Ends T) → Type 0)

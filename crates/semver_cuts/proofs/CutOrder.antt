@@ -1,12 +1,11 @@
 -- The order of cuts follows the order of the values, and is the only one that does.
 use native.Mathlib.Omega.{arith}
-use Rattle.std.proofs.Common.{◌≡◌, refl, ap, ◌∙◌, Ordering, Less, Equal, Greater}
+use Rattle.std.proofs.Common.{◌≡◌, ap, ◌∙◌, Ordering, Less, Equal, Greater}
 use Rattle.std.specs.Ordering.{ordering_then, ordering_reverse}
 use Rattle.std.specs.Cmp.{IsTotalOrder, tied_itself}
 use Rattle.semver_cuts.specs.declared.cut.Cut.{Cut}
 use Rattle.semver_cuts.specs.declared.cut.Cut.TheVariants.{Start, Before, After, End}
 use Rattle.semver_cuts.specs.Cut.{cut_cmp}
-use Rattle.semver_cuts.specs.Lemmas.CutOrder.{cut_total}
 use Rattle.semver_cuts.specs.CutLaws.{IsOrderOfCuts}
 
 module _ {T : Type 0} {cmp : T → T → Ordering} (o : IsTotalOrder cmp) where

@@ -1,9 +1,8 @@
 -- A step of a loop along a list: the elements that are left, and what follows from a test that is false.
 use native.Mathlib.Omega.{arith}
 use Rattle.std.proofs.Common.{◌≡◌, ℕ, ◌+◌, ◌<◌, List, ◌∷◌, Ordering, Less, true, false}
-use Rattle.std.proofs.Common.{drop, get_or, length, refl, sym, ap, ◌∙◌}
+use Rattle.std.proofs.Common.{drop, get_or, length, sym, ap, ◌∙◌}
 use Rattle.std.specs.Ordering.{is_ge, is_lt}
-use mathlib.Core.Bool.{true≢false}
 use Rattle.std.proofs.lemmas.List.{drop_more}
 use Rattle.semver_cuts.specs.declared.cut.Cut.{Cut}
 use Rattle.semver_cuts.specs.Cut.{cut_cmp}

@@ -1,19 +1,15 @@
 -- Spans in the order of their lower ends: which of two begins later, and which ends later.
-use Rattle.std.proofs.Common.{◌≡◌, ◌⊎◌, ℕ, ◌<◌, ◌≤◌, List, [], ◌∷◌, Ordering, Less, Equal, Greater, true, false, refl}
-use Rattle.std.proofs.Common.{Bool, sym, ap, ◌∙◌, inl, inr, ⊎_elim, arith, zero, suc, get_or, length, lit<}
-use mathlib.Core.Bool.{true≢false}
+use Rattle.std.proofs.Common.{◌≡◌, ◌⊎◌, ℕ, ◌<◌, ◌≤◌, List, [], ◌∷◌, Ordering, Equal, true, false, refl}
+use Rattle.std.proofs.Common.{Bool, sym, arith, get_or, length, lit<}
 use Rattle.std.specs.List.{AllByRecursion}
 use Rattle.std.specs.List.Sorted.{IsPermutation, IsSorted}
 use Rattle.std.specs.Ordering.{is_lt, nat_cmp, ordering_reverse, ordering_then}
 use Rattle.std.specs.Cmp.{IsTotalOrder}
-use Rattle.std.proofs.lemmas.Cmp.{ranked}
 use Rattle.std.proofs.lemmas.List.Sorted.{IsPermutation-swap}
 use Rattle.semver_cuts.specs.declared.cut.Cut.{Cut}
 use Rattle.semver_cuts.specs.Cut.{cut_cmp}
 use Rattle.semver_cuts.specs.Ends.{IsCutAtMost, IsCutBelow}
 use Rattle.semver_cuts.specs.Private.Placed.{PlacedSpan, placed_cmp}
-use Rattle.semver_cuts.specs.Lemmas.Ends.{at_most-below, below-at_most, below-from_greater, cut_cmp-equal_back}
-use Rattle.semver_cuts.specs.Lemmas.Ends.{cut_cmp-equal_left}
 
 -- ---- tests of numbers
 

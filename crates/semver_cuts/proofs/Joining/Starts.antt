@@ -1,8 +1,7 @@
 -- For each cut of a list: either a joined span begins there, or a span of the list reaches it from below.
 use native.Mathlib.Omega.{arith}
 use Rattle.std.proofs.Common.{◌≡◌, List, [], ◌∷◌, Bool, true, false, not, ◌&&◌, Ordering, Equal}
-use Rattle.std.proofs.Common.{refl, sym, ap, ◌∙◌, inl, inr, ⊎_elim}
-use mathlib.Core.Bool.{true≢false}
+use Rattle.std.proofs.Common.{inl, inr, ⊎_elim}
 use Rattle.std.specs.List.{AllByRecursion}
 use Rattle.std.specs.Ordering.{is_eq, is_le, is_lt}
 use Rattle.std.specs.Cmp.{Equal-is, IsTotalOrder}
@@ -15,7 +14,7 @@ use Rattle.semver_cuts.specs.Joined.{AreJoined, AreMerged, AreRising}
 use Rattle.semver_cuts.specs.Starts.{begins_at, reaches}
 use Rattle.semver_cuts.specs.Lemmas.Ends.{at_most-below, at_most-from_le, at_most-or-below, at_most_refl, at_most_trans}
 use Rattle.semver_cuts.specs.Lemmas.Ends.{below-at_most, below-from_lt, below-not-at_most, below_trans}
-use Rattle.semver_cuts.specs.Lemmas.Ends.{cut_cmp-equal_back, le-from_at_most, lt-from_below}
+use Rattle.semver_cuts.specs.Lemmas.Ends.{le-from_at_most, lt-from_below}
 use Rattle.semver_cuts.specs.Lemmas.InSome.{in_span-or_not}
 use Rattle.semver_cuts.proofs.Differences.GreatestSpans.{HasGapBelow, gaps-below}
 use Rattle.semver_cuts.proofs.Walks.{first-cut}
@@ -39,19 +38,14 @@ module _ {T : Type 0} {cmp : T → T → Ordering} (o : IsTotalOrder cmp) where
   pub begins-above : (c cut : Cut T) (spans : List (Ends T))
       → AllByRecursion (λ (s : Ends T). IsCutBelow cmp c s.lower) spans
       → begins_at cmp spans cut ≡ true → IsCutBelow cmp c cut
-  begins-above c cut [] above h = absurd (true≢false (sym h))
-  begins-above c cut (span ∷ spans) above h =
-      ⊎_elim (λ here. below-at_most o c span.lower cut above.0 (inr (equal-from span.lower cut here)))
-      (λ there. begins-above c cut spans above.1 there)
-      (or_cases (is_eq (cut_cmp cmp span.lower cut)) (begins_at cmp spans cut) h)
+  begins-above c cut [] above h = cc
+  begins-above c cut (span ∷ spans) above h = grind (arith, or_cases, equal-from, below-at_most o, begins-above c cut spans above.1)
 
   -- a fact of each lower end is one of a cut that equals the cut where one of the spans begins
   begun-of : (P : Ends T → Type 0) (spans : List (Ends T)) (cut : Cut T) → AllByRecursion P spans
       → begins_at cmp spans cut ≡ true → (span : Ends T) × P span × (cut_cmp cmp span.lower cut ≡ Equal)
-  begun-of P [] cut all h = absurd (true≢false (sym h))
-  begun-of P (span ∷ spans) cut all h =
-      ⊎_elim (λ here. (span, all.0, equal-from span.lower cut here)) (λ there. begun-of P spans cut all.1 there)
-      (or_cases (is_eq (cut_cmp cmp span.lower cut)) (begins_at cmp spans cut) h)
+  begun-of P [] cut all h = cc
+  begun-of P (span ∷ spans) cut all h = ⊎_elim (λ here. (span, all.0, equal-from span.lower cut here)) (λ there. begun-of P spans cut all.1 there) (or_cases _ _ h)
 
   -- between a cut of merged spans and a lower end above it, some cut lies in none of them
   gap-before : (spans : List (Ends T)) → AreMerged cmp spans → (cut early : Cut T) → begins_at cmp spans cut ≡ true
@@ -106,36 +100,24 @@ module _ {T : Type 0} {cmp : T → T → Ordering} (o : IsTotalOrder cmp) where
   reached : (spans : List (Ends T)) → AreRising cmp spans → (cut : Cut T) → reaches cmp spans cut ≡ true
       → (low : Cut T) × IsInSome cmp spans low × IsCutBelow cmp low cut
       × ((c : Cut T) → IsCutBelow cmp low c → IsCutBelow cmp c cut → IsInSome cmp spans c)
-  reached [] rising cut h = absurd (true≢false (sym h))
-  reached (span ∷ spans) rising cut h =
-      let test : Bool = is_lt (cut_cmp cmp span.lower cut) && is_le (cut_cmp cmp cut span.upper) in
-      ⊎_elim
-      (λ here.
-      let both = and_parts (is_lt (cut_cmp cmp span.lower cut)) (is_le (cut_cmp cmp cut span.upper)) here in (
+  reached [] rising cut h = cc
+  reached (span ∷ spans) rising cut h = ⊎_elim
+      (λ here. let both = and_parts _ _ here in (
         span.lower,
         inl (first-cut o span rising.0),
         below-from_lt cmp span.lower cut both.0,
-        λ c low high. inl (record {
-          lower = inl low;
-          upper = below-at_most o c cut span.upper high (at_most-from_le cmp cut span.upper both.1);
-        }),
+        λ c low high. grind (arith, both, at_most-from_le cmp cut span.upper, below-at_most o c cut span.upper),
       ))
-      (λ there. let found = reached spans rising.1 cut there in
-      (found.0, inr found.1, found.2, λ c low high. inr (found.3 c low high)))
-      (or_cases test (reaches cmp spans cut) h)
+      (λ there. let found = reached spans rising.1 cut there in (found.0, inr found.1, found.2, λ c low high. inr (found.3 c low high)))
+      (or_cases (is_lt (cut_cmp cmp span.lower cut) && is_le (cut_cmp cmp cut span.upper)) (reaches cmp spans cut) h)
 
   -- ---- the cuts of the list
 
   pub begins-or_reached : (spans joined : List (Ends T)) → AreRising cmp spans → AreJoined cmp spans joined
       → (cut : Cut T)
       → IsInSome cmp spans cut → not (reaches cmp spans cut) ≡ begins_at cmp joined cut
-  begins-or_reached spans joined rising are cut is =
-      one_only (begins_at cmp joined cut) (reaches cmp spans cut)
-      (λ begins reach.
-      let found = reached spans rising cut reach in
-      let gap = gap-before joined are.merged cut found.0 begins ((are.cuts found.0).1 found.1) found.2 in
-      gap.3 ((are.cuts gap.0).1 (found.3 gap.0 gap.1 gap.2)))
-      (λ none free.
-      let found = goes-on joined cut ((are.cuts cut).1 is) none in
-      let past = beyond spans cut free found.0 found.1 in
-      past.3 ((are.cuts past.0).0 (found.2 past.0 past.1 past.2)))
+  begins-or_reached spans joined rising are cut is = one_only (begins_at cmp joined cut) (reaches cmp spans cut)
+      (λ begins reach. let found = reached spans rising cut reach in
+      grind (arith, gap-before joined are.merged cut found.0 begins, are.cuts))
+      (λ none free. let found = goes-on joined cut ((are.cuts cut).1 is) none in
+      grind (arith, beyond spans cut free found.0 found.1, are.cuts))

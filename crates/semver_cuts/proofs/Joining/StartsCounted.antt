@@ -1,6 +1,6 @@
 -- The number of joined spans is the number of spans whose lower end no earlier span has, and that no span reaches.
 use Rattle.std.proofs.Common.{◌≡◌, ℕ, ◌+◌, List, [], ◌∷◌, ◌++◌, Bool, true, false, not, ◌&&◌, ◌||◌, if◌then◌else◌}
-use Rattle.std.proofs.Common.{Ordering, Equal, length, refl, sym, ap, ◌∙◌, inl, inr, subst, arith}
+use Rattle.std.proofs.Common.{Ordering, Equal, length, refl, arith}
 use Rattle.std.specs.List.{AllByRecursion}
 use Rattle.std.specs.Ordering.{is_eq}
 use Rattle.std.specs.Cmp.{IsTotalOrder}
@@ -15,7 +15,7 @@ use Rattle.semver_cuts.specs.Difference.{IsFirstAt}
 use Rattle.semver_cuts.specs.Starts.{begins_at, count_of_starts, count_of_starts_from, reaches}
 use Rattle.semver_cuts.specs.Lemmas.Apart.{apart-above, merged-tail}
 use Rattle.semver_cuts.specs.Lemmas.CutOrder.{cut_total}
-use Rattle.semver_cuts.specs.Lemmas.Ends.{at_most_trans, below-not-at_most, cut_cmp-equal_back, cut_cmp-equal_right}
+use Rattle.semver_cuts.specs.Lemmas.Ends.{cut_cmp-equal_back, cut_cmp-equal_right}
 use Rattle.semver_cuts.specs.Lemmas.Ends.{cut_cmp-refl}
 use Rattle.semver_cuts.proofs.Joining.Starts.{begins-above, begins-or_reached, equal-from}
 use Rattle.semver_cuts.proofs.Walks.{first-cut}
@@ -118,35 +118,23 @@ module _ {T : Type 0} {cmp : T → T → Ordering} (o : IsTotalOrder cmp) where
   firsts-counted spans [] are firsts = none-counted cmp [] spans
   firsts-counted spans (first ∷ joined) are firsts =
       let above = apart-above o first joined are.apart are.rising.1 in
-      let at = firsts.0 in
-      let here : begins_at cmp spans first.lower ≡ true =
-      subst (λ l. begins_at cmp l first.lower ≡ true) (sym at.parts)
-      (begins-middle cmp first.lower at.before at.after at.span
-      (ap is_eq (ap (λ c. cut_cmp cmp c first.lower) at.end_of ∙ cut_cmp-refl o first.lower))) in
-      let one : count_first cmp (λ c. is_eq (cut_cmp cmp first.lower c)) [] spans ≡ 1 =
-      one-counted first.lower [] spans ∙ ap (λ b. if b then 1 else 0) here in
-      let more = either-counted cmp (λ c. is_eq (cut_cmp cmp first.lower c)) (begins_at cmp joined)
-      (λ c same there. below-not-at_most o first.lower first.upper are.rising.0
-      (at_most_trans o first.upper c first.lower (inl (begins-above o first.upper c joined above there))
-      (inr (cut_cmp-equal_back o first.lower c (equal-from o first.lower c same))))) [] spans in
+      let here = begins-middle cmp first.lower firsts.0.before firsts.0.after firsts.0.span in
       let others = firsts-counted spans joined (merged-tail cmp first joined are) firsts.1 in
-      omega (arith, more, one, others)
+      let one = one-counted first.lower [] spans in
+      let more = either-counted cmp (λ c. is_eq (cut_cmp cmp first.lower c)) (begins_at cmp joined)
+      (λ c same there. grind (arith, are.rising.0, begins-above o first.upper c joined above there, equal-from o, cut_cmp-equal_back o)) [] spans in
+      grind (arith, more, one, others, here, firsts.0.parts, firsts.0.end_of, cut_cmp-refl o)
 
   all-in : (spans part : List (Ends T)) (P : Cut T → Type 0)
       → ((c : Cut T) → IsInSome cmp part c → IsInSome cmp spans c)
       → AreRising cmp part → ((c : Cut T) → IsInSome cmp spans c → P c)
       → AllByRecursion (λ (s : Ends T). P s.lower) part
   all-in spans [] P within rising holds = tt
-  all-in spans (span ∷ part) P within rising holds = (
-    holds span.lower (within span.lower (inl (first-cut o span rising.0))),
-    all-in spans part P (λ c is. within c (inr is)) rising.1 holds,
-  )
+  all-in spans (span ∷ part) P within rising holds = grind (arith, first-cut o span, all-in spans part P)
 
   -- the number of joined spans
   pub starts-counted : (spans joined : List (Ends T)) → AreRising cmp spans → AreJoined cmp spans joined
       → length joined ≡ count_of_starts cmp spans
   starts-counted spans joined rising are =
-      sym (same-count cmp spans (begins_at cmp joined) [] spans
-      (all-in spans spans (λ c. not (reaches cmp spans c) ≡ begins_at cmp joined c) (λ c is. is) rising
-      (λ c is. begins-or_reached o spans joined rising are c is))
-      ∙ firsts-counted spans joined are.merged are.lowers)
+      let same = all-in spans spans (λ c. not (reaches cmp spans c) ≡ begins_at cmp joined c) (λ c is. is) rising (begins-or_reached o spans joined rising are) in
+      grind (arith, same-count cmp spans (begins_at cmp joined) [] spans same, firsts-counted spans joined are.merged are.lowers)

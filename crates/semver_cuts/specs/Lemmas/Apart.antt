@@ -1,4 +1,8 @@
 -- Lists of spans that are apart, and merged lists: the spans before and after one of them.
+use Rattle.semver_cuts.specs.Ends.{IsCutAtMost}
+use Rattle.semver_cuts.specs.Lemmas.Ends.{at_most-below, below-at_most}
+use Rattle.semver_cuts.specs.Lemmas.Lists.{all_both}
+use Rattle.semver_cuts.specs.declared.cut.Cut.{Cut}
 use native.Mathlib.Omega.{arith}
 use Rattle.std.specs.Prelude.{ℕ, zero, suc, List, [], ◌∷◌, ◌++◌, drop}
 use Rattle.std.specs.declared.cmp.Ordering.{Ordering}
@@ -39,6 +43,28 @@ module _ {T : Type 0} (cmp : T → T → Ordering) where
   apart-cons span spans h1 h2 = grind arith
 
 module _ {T : Type 0} {cmp : T → T → Ordering} (o : IsTotalOrder cmp) where
+  -- spans that begin above a cut, or at it or above, begin above each lesser cut
+  pub lowers-above : (low high : Cut T) (spans : List (Ends T)) → IsCutAtMost cmp low high
+      → AllByRecursion (λ (s : Ends T). IsCutBelow cmp high s.lower) spans
+      → AllByRecursion (λ (s : Ends T). IsCutBelow cmp low s.lower) spans
+  lowers-above low high spans le all = grind (arith, at_most-below o, all_map)
+
+  pub lowers-from : (low high : Cut T) (spans : List (Ends T)) → IsCutBelow cmp low high
+      → AllByRecursion (λ (s : Ends T). IsCutAtMost cmp high s.lower) spans
+      → AllByRecursion (λ (s : Ends T). IsCutBelow cmp low s.lower) spans
+  lowers-from low high spans le all = grind (arith, below-at_most o, all_map)
+
+  -- spans that begin above a cut begin at it or above, and end above it
+  pub lowers-at_least : (low : Cut T) (spans : List (Ends T))
+      → AllByRecursion (λ (s : Ends T). IsCutBelow cmp low s.lower) spans
+      → AllByRecursion (λ (s : Ends T). IsCutAtMost cmp low s.lower) spans
+  lowers-at_least low spans all = grind (arith, all_map)
+
+  pub uppers-above : (low : Cut T) (spans : List (Ends T))
+      → AllByRecursion (λ (s : Ends T). IsCutBelow cmp low s.lower) spans → AreRising cmp spans
+      → AllByRecursion (λ (s : Ends T). IsCutBelow cmp low s.upper) spans
+  uppers-above low spans all rising = grind (arith, below_trans o, all_both)
+
   -- all spans after one begin above where it ends
   pub apart-above : (span : Ends T) (spans : List (Ends T)) → AreApart cmp (span ∷ spans) → AreRising cmp spans
       → AllByRecursion (λ (s : Ends T). IsCutBelow cmp span.upper s.lower) spans

@@ -1,7 +1,7 @@
 -- The chosen ends of a list of spans: after one more span, that the choice is unique, and the cuts between the two.
 use native.Mathlib.Omega.{arith}
-use Rattle.std.specs.Prelude.{◌≡◌, ◌≢◌, ◌↔◌, List, [], ◌∷◌, ◌++◌, refl}
-use mathlib.Core.Path.{sym, ap, subst, ◌∙◌}
+use Rattle.std.specs.Prelude.{◌≡◌, ◌≢◌, ◌↔◌, List, [], ◌∷◌, ◌++◌}
+use mathlib.Core.Path.{sym, subst, ◌∙◌}
 use mathlib.Core.Logic.{inl, inr}
 use Rattle.std.specs.declared.cmp.Ordering.{Ordering}
 use Rattle.std.specs.Cmp.{IsTotalOrder}
@@ -109,17 +109,11 @@ module _ {T : Type 0} {cmp : T → T → Ordering} (o : IsTotalOrder cmp) where
   pub chosen_lower-push : (spans : List (Ends T)) (span : Ends T) (old new : Cut T) → IsLastGreatestLower cmp spans old
       → IsLaterGreatest cmp old span.lower new → IsLastGreatestLower cmp (spans ++ span ∷ []) new
   chosen_lower-push spans span old new is (inl h) = grind (arith, chosen-kept)
-  chosen_lower-push spans span old new is (inr h) =
-      subst (IsLastGreatestLower cmp (spans ++ span ∷ [])) (sym h.1) (lower-last spans span
-      (all_map (λ (s : Ends T). IsCutAtMost cmp s.lower old) (λ (s : Ends T). IsCutAtMost cmp s.lower span.lower)
-      (λ s p. at_most_trans o s.lower old span.lower p h.0) spans (chosen_lower-above spans old is)))
+  chosen_lower-push spans span old new is (inr h) = grind (arith, lower-last spans span (all_map _ _ (λ s p. at_most_trans o s.lower old span.lower p h.0) spans (chosen_lower-above spans old is)))
 
   pub chosen_upper-push : (spans : List (Ends T)) (span : Ends T) (old new : Cut T) → IsFirstLeastUpper cmp spans old
       → IsEarlierLeast cmp old span.upper new → IsFirstLeastUpper cmp (spans ++ span ∷ []) new
-  chosen_upper-push spans span old new is (inl h) =
-      subst (IsFirstLeastUpper cmp (spans ++ span ∷ [])) (sym h.1) (upper-last spans span
-      (all_map (λ (s : Ends T). IsCutAtMost cmp old s.upper) (λ (s : Ends T). IsCutBelow cmp span.upper s.upper)
-      (λ s p. below-at_most o span.upper old s.upper h.0 p) spans (chosen_upper-below spans old is)))
+  chosen_upper-push spans span old new is (inl h) = grind (arith, upper-last spans span (all_map _ _ (λ s p. below-at_most o span.upper old s.upper h.0 p) spans (chosen_upper-below spans old is)))
   chosen_upper-push spans span old new is (inr h) = grind (arith, chosen-kept)
 
   -- only one end is chosen
@@ -140,14 +134,10 @@ module _ {T : Type 0} {cmp : T → T → Ordering} (o : IsTotalOrder cmp) where
   module _ (spans : List (Ends T)) (lower upper : Cut T) (l : IsLastGreatestLower cmp spans lower)
       (u : IsFirstLeastUpper cmp spans upper) where
     every-between : (cut : Cut T) → IsInEvery cmp spans cut → IsInSpan cmp (span_between lower upper) cut
-    every-between cut all =
-        let In : Ends T → Type 0 = λ s. IsInSpan cmp s cut in
-        let Begins : Ends T → Type 0 = λ s. IsCutAtMost cmp s.lower cut in
-        let GoesOn : Ends T → Type 0 = λ s. IsCutBelow cmp cut s.upper in
-        record {
-          lower = chosen-of (λ c. IsCutAtMost cmp c cut) l (all_map In Begins (λ s h. h.lower) spans all);
-          upper = chosen-of (λ c. IsCutBelow cmp cut c) u (all_map In GoesOn (λ s h. h.upper) spans all);
-        }
+    every-between cut all = record {
+      lower = chosen-of (λ c. IsCutAtMost cmp c cut) l (all_map _ _ (λ s h. h.lower) spans all);
+      upper = chosen-of (λ c. IsCutBelow cmp cut c) u (all_map _ _ (λ s h. h.upper) spans all);
+    }
 
     between-every : (cut : Cut T) → IsInSpan cmp (span_between lower upper) cut → IsInEvery cmp spans cut
     between-every cut is = search (

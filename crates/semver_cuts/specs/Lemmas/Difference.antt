@@ -29,12 +29,8 @@ module _ {T : Type 0} (cmp : T → T → Ordering) where
 
   of-difference : (ones others spans : List (Ends T)) (cut : Cut T) → AreDifference cmp ones others spans
       → IsInSome cmp spans cut → IsInSome cmp ones cut × ¬ IsInSome cmp others cut
-  of-difference [] others spans cut are is = absurd (subst (λ spans. IsInSome cmp spans cut) are is)
-  of-difference (one ∷ ones) others spans cut are is =
-      elim (in_some-either cmp cut are.0 are.1 (subst (λ spans. IsInSome cmp spans cut) are.2 is)) [
-        | inl here ↦ let left = pieces-left others one are.0 cut are.3.each here in (inl left.0, left.1)
-        | inr there ↦ let left = of-difference ones others are.1 cut are.4 there in (inr left.0, left.1)
-      ]
+  of-difference [] others spans cut are is = grind arith
+  of-difference (one ∷ ones) others spans cut are is = grind (arith, in_some-either cmp cut, pieces-left others one, of-difference ones others are.1 cut are.4)
 
   in-difference : (ones others spans : List (Ends T)) (cut : Cut T) → AreDifference cmp ones others spans
       → IsInSome cmp ones cut → ¬ IsInSome cmp others cut → IsInSome cmp spans cut
@@ -87,31 +83,13 @@ module _ {T : Type 0} (cmp : T → T → Ordering) where
       → AllByRecursion (λ (span : Ends T). Upper span.lower × Lower span.upper) others
       → AreDifference cmp ones others spans
       → AllByRecursion (λ (span : Ends T). Lower span.lower × Upper span.upper) spans
-  difference-ends Lower Upper ones others spans all all' are =
-      let Of : Ends T → Type 0 = λ span. Lower span.lower × Upper span.upper in
-      let Opposite : Ends T → Type 0 = λ span. Upper span.lower × Lower span.upper in
-      difference-each Of others Of
-      (λ one piece p is. (
-        lower-is Lower others one piece.lower p.0
-            (all_map Opposite (λ (other : Ends T). Lower other.upper) (λ other q. q.1) others all') is.lower,
-        upper-is Upper others one piece.upper p.1
-            (all_map Opposite (λ (other : Ends T). Upper other.lower) (λ other q. q.0) others all') is.upper,
-      ))
-      ones spans all are
+  difference-ends Lower Upper ones others spans all all' are = difference-each _ others _ (λ one piece p is. (lower-is Lower others one piece.lower p.0 (all_map _ _ (λ other q. q.1) others all') is.lower, upper-is Upper others one piece.upper p.1 (all_map _ _ (λ other q. q.0) others all') is.upper)) ones spans all are
 
 module _ {T : Type 0} {cmp : T → T → Ordering} (o : IsTotalOrder cmp) where
   -- the difference is empty exactly if each cut of the first list lies in some span of the second
   pub difference-covered : (ones others spans : List (Ends T)) → AreDifference cmp ones others spans
       → (spans ≡ []) ↔ ((cut : Cut T) → IsInSome cmp ones cut → IsInSome cmp others cut)
-  difference-covered ones others spans are = (
-    λ none cut is. elim (in_some-or_not o cut others) [
-      | inl there ↦ there
-      | inr out ↦ absurd (subst (λ spans. IsInSome cmp spans cut) none
-          (in-difference cmp ones others spans cut are is out))
-    ],
-    λ covered. none_held cmp spans (difference-hold cmp ones others spans are)
-        (λ cut is. let left = of-difference cmp ones others spans cut are is in left.1 (covered cut left.0)),
-  )
+  difference-covered ones others spans are = (λ none cut is. grind (arith, in_some-or_not o cut others, in-difference cmp ones others spans cut are is), λ covered. none_held cmp spans (difference-hold cmp ones others spans are) (λ cut is. grind (arith, of-difference cmp ones others spans cut are is)))
 
 -- ---- the intersection and the difference
 

@@ -2,13 +2,13 @@
 use native.Mathlib.Omega.{arith}
 use Rattle.std.specs.Prelude.{◌≡◌, ◌⊎◌, ◌↔◌, ◌&&◌, Bool, IsTrue, refl, true, false}
 use mathlib.Core.Path.{sym, ap, ◌∙◌}
-use mathlib.Core.Logic.{inl, inr}
+use mathlib.Core.Logic.{inr}
 use mathlib.Core.Bool.{true≢false}
 use Rattle.std.specs.declared.cmp.Ordering.{Ordering}
 use Rattle.std.specs.declared.cmp.Ordering.TheVariants.{Less, Equal, Greater}
 use Rattle.std.specs.Ordering.{is_eq, is_lt, is_le, ordering_reverse}
-use Rattle.std.specs.Cmp.{Equal-is, IsEquivalence, IsTotalOrder, alike_right, and_equiv}
-use Rattle.std.specs.Cmp.{eq_by_cmp_equiv, first_so, on_equiv, second_so, tied_back, tied_itself}
+use Rattle.std.specs.Cmp.{IsEquivalence, IsTotalOrder, alike_right, and_equiv}
+use Rattle.std.specs.Cmp.{eq_by_cmp_equiv, on_equiv, tied_back, tied_itself}
 use Rattle.semver_cuts.specs.declared.cut.Cut.{Cut}
 use Rattle.semver_cuts.specs.Cut.{cut_cmp}
 use Rattle.semver_cuts.specs.Lemmas.CutOrder.{cut_total}

@@ -1,17 +1,14 @@
 -- Equal cuts, and equal spans, feed a hasher the same, if equal values do.
 use native.Mathlib.Omega.{arith}
-use Rattle.std.specs.Prelude.{◌≡◌, true, ◌++◌, refl}
-use mathlib.Core.Path.{ap}
+use Rattle.std.specs.Prelude.{◌≡◌, true, ◌++◌}
 use Rattle.std.specs.declared.cmp.Ordering.{Ordering}
-use Rattle.std.specs.Cmp.{Equal-is, first_so, second_so}
-use Rattle.std.specs.Hash as fed
+use Rattle.std.specs.Cmp.{first_so, second_so}
 use Rattle.std.specs.Hash.{HashWrites}
-use Rattle.std.specs.Ordering.{eq_by_cmp, is_eq}
+use Rattle.std.specs.Ordering.{eq_by_cmp}
 use Rattle.semver_cuts.specs.declared.cut.Cut.{Cut}
 use Rattle.semver_cuts.specs.Cut.{cut_cmp}
 use Rattle.semver_cuts.specs.Ends.{Ends, are_same_ends}
 use Rattle.semver_cuts.specs.Hash.{cut_writes, span_writes}
-use Rattle.semver_cuts.specs.Lemmas.CutOrder.{equal-by_kind}
 
 module _ {T : Type 0} (cmp : T → T → Ordering) {writes : T → HashWrites}
     (alike : (v w : T) → eq_by_cmp cmp v w ≡ true → writes v ≡ writes w) where

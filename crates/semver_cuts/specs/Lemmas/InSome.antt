@@ -8,7 +8,7 @@ use Rattle.std.specs.List.{AllByRecursion}
 use Rattle.semver_cuts.specs.declared.cut.Cut.{Cut}
 use Rattle.semver_cuts.specs.Ends.{Ends, HoldsCut, IsCutBelow, IsInSpan}
 use Rattle.semver_cuts.specs.SpanLists.{IsInSome}
-use Rattle.semver_cuts.specs.Lemmas.Ends.{at_most-or-below, below-at_most, below-not-at_most}
+use Rattle.semver_cuts.specs.Lemmas.Ends.{below-at_most}
 use Rattle.semver_cuts.specs.Lemmas.Lists.{any-either, any-left, any-right}
 
 module _ {T : Type 0} (cmp : T → T → Ordering) (cut : Cut T) where

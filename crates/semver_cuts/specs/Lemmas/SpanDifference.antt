@@ -1,9 +1,8 @@
 -- The part of one span outside another: when there is a piece below and above, and which cuts lie in the pieces.
 use native.Mathlib.Omega.{arith}
 use Rattle.std.specs.Prelude.{◌≡◌, ◌⊎◌, ◌↔◌, Bool, List, [], ◌∷◌, ◌++◌, if◌then◌else◌, refl, true, false}
-use mathlib.Core.Path.{sym, ap, ◌∙◌}
+use mathlib.Core.Path.{ap}
 use mathlib.Core.Logic.{inl, inr}
-use mathlib.Core.Bool.{true≢false}
 use Rattle.std.specs.declared.cmp.Ordering.{Ordering}
 use Rattle.std.specs.Ordering.{is_lt}
 use Rattle.std.specs.Cmp.{IsTotalOrder}
@@ -13,8 +12,8 @@ use Rattle.semver_cuts.specs.Ends.{Ends, IsCutBelow, IsInSpan, span_between}
 use Rattle.semver_cuts.specs.SpanLists.{IsInSome}
 use Rattle.semver_cuts.specs.CommonSpans.{common_ends, common_of}
 use Rattle.semver_cuts.specs.SpanDifference.{piece_above, piece_below, span_if_any, spans_share}
-use Rattle.semver_cuts.specs.Lemmas.Ends.{at_most-below, at_most-or-below, below-at_most, below-from_lt}
-use Rattle.semver_cuts.specs.Lemmas.Ends.{below-not-at_most, below_trans, lt-from_below}
+use Rattle.semver_cuts.specs.Lemmas.Ends.{at_most-or-below, below-at_most, below-from_lt}
+use Rattle.semver_cuts.specs.Lemmas.Ends.{below_trans}
 use Rattle.semver_cuts.specs.Lemmas.InSome.{in_some-either, in_some-left, in_some-right}
 use Rattle.semver_cuts.specs.Lemmas.TwoSpans.{common_ends-hold, shares-ends}
 

@@ -2,7 +2,6 @@
 use native.Mathlib.Omega.{arith}
 use Rattle.std.specs.Prelude.{◌≡◌, ◌⊎◌, ◌↔◌, ◌&&◌, Bool, IsTrue, List, [], ◌∷◌, if◌then◌else◌, refl, true, false}
 use mathlib.Core.Path.{sym, ◌∙◌}
-use mathlib.Core.Logic.{inl, inr}
 use mathlib.Core.Bool.{true≢false}
 use Rattle.std.specs.declared.cmp.Ordering.{Ordering}
 use Rattle.std.specs.Ordering.{is_le, is_lt}
@@ -14,9 +13,9 @@ use Rattle.semver_cuts.specs.Ends.{Ends, HoldsCut, IsCutAtMost, IsCutBelow, IsIn
 use Rattle.semver_cuts.specs.SpanLists.{IsInSome, IsWithin}
 use Rattle.semver_cuts.specs.CommonSpans.{common_ends, common_of, greater_cut, lesser_cut}
 use Rattle.semver_cuts.specs.Sharing.{HaveCommonCut}
-use Rattle.semver_cuts.specs.Lemmas.Ends.{at_most-from_le, at_most-from_not_lt, at_most-or-below, at_most_refl}
-use Rattle.semver_cuts.specs.Lemmas.Ends.{at_most_trans, at_most-below, below-at_most, below-from_lt, below-not-at_most}
-use Rattle.semver_cuts.specs.Lemmas.Ends.{below_irrefl, below_trans, le-from_at_most, lt-from_below}
+use Rattle.semver_cuts.specs.Lemmas.Ends.{at_most-from_le, at_most-or-below, at_most_refl}
+use Rattle.semver_cuts.specs.Lemmas.Ends.{at_most_trans, below-at_most, below-from_lt, below-not-at_most}
+use Rattle.semver_cuts.specs.Lemmas.Ends.{below_irrefl, le-from_at_most, lt-from_below}
 
 -- no test is both `true` and `false`
 both_ways : {P : Type 0} (r : Bool) → r ≡ true → r ≡ false → P
@@ -67,23 +66,7 @@ module _ {T : Type 0} {cmp : T → T → Ordering} (o : IsTotalOrder cmp) where
   -- a span that contains a cut lies in another exactly if it begins no earlier and ends no later
   pub within-ends : (one other : Ends T) → IsCutBelow cmp one.lower one.upper
       → IsWithin cmp one other ↔ (IsCutAtMost cmp other.lower one.lower × IsCutAtMost cmp one.upper other.upper)
-  within-ends one other held =
-      let whole : (within : IsWithin cmp one other) → IsCutAtMost cmp one.upper other.upper = λ within.
-      elim (at_most-or-below o one.upper other.upper) [
-        | inl at_most ↦ at_most
-        | inr below ↦ absurd (elim (at_most-or-below o one.lower other.upper) [
-          | inl begun ↦ below_irrefl o other.upper (within other.upper (record { lower = begun; upper = below })).upper
-          | inr begun ↦ below-not-at_most o other.upper one.lower begun
-              (inl (within one.lower (record { lower = at_most_refl o one.lower; upper = held })).upper)
-        ])
-      ] in (
-        λ within.
-            ((within one.lower (record { lower = at_most_refl o one.lower; upper = held })).lower, whole within),
-        λ ends cut is. record {
-          lower = at_most_trans o other.lower one.lower cut ends.0 is.lower;
-          upper = below-at_most o cut one.upper other.upper is.upper ends.1;
-        },
-      )
+  within-ends one other held = (λ within. (grind (arith, within one.lower, at_most_refl o), grind (arith, within one.lower, within other.upper, at_most-or-below o, below-not-at_most o, below_irrefl o)), λ ends cut is. grind (arith, at_most_trans o other.lower one.lower, below-at_most o cut one.upper))
 
   -- ---- the intersection of two spans
 
@@ -124,13 +107,8 @@ module _ {T : Type 0} {cmp : T → T → Ordering} (o : IsTotalOrder cmp) where
       → (r : Bool) → r ≡ (is_le (cut_cmp cmp one.lower other.lower) && is_le (cut_cmp cmp other.upper one.upper))
       → IsTrue r ↔ IsWithin cmp other one
   covers-by one other held r e =
-      let law = within-ends other one held in (
-        λ p. let tests = and_parts _ _ (sym e ∙ p) in
-            law.1 (at_most-from_le cmp one.lower other.lower tests.0, at_most-from_le cmp other.upper one.upper tests.1),
-        λ h. let ends = law.0 h in
-            e ∙ (λ i. le-from_at_most cmp one.lower other.lower ends.0 i
-            && le-from_at_most cmp other.upper one.upper ends.1 i),
-      )
+      let law = within-ends other one held in
+      grind (arith, law, and_parts, at_most-from_le cmp, le-from_at_most cmp)
 
   -- ---- the common span, as a list of one span or none
 
@@ -151,33 +129,14 @@ module _ {T : Type 0} {cmp : T → T → Ordering} (o : IsTotalOrder cmp) where
   -- a cut lies in the common span exactly if it lies in both
   pub common_of-cuts : (one other : Ends T) (cut : Cut T)
       → IsInSome cmp (common_of cmp one other) cut ↔ (IsInSpan cmp one cut × IsInSpan cmp other cut)
-  common_of-cuts one other cut =
-      common_of-cases one other (λ spans. IsInSome cmp spans cut ↔ (IsInSpan cmp one cut × IsInSpan cmp other cut))
-      (λ shared. (
-        λ is. elim is [
-          | inl here ↦ (common_ends-cuts one other cut).0 here
-          | inr there ↦ absurd there
-        ],
-        λ both. inl ((common_ends-cuts one other cut).1 both),
-      ))
-      (λ apart. (λ is. absurd is, λ both. absurd (apart (cut, both.0, both.1))))
+  common_of-cuts one other cut = common_of-cases one other (λ spans. IsInSome cmp spans cut ↔ (IsInSpan cmp one cut × IsInSpan cmp other cut)) (λ shared. grind (arith, common_ends-cuts one other cut)) (λ apart. grind arith)
 
   -- there is none if one begins where the other ends or above
   pub common_of-none : (one other : Ends T) → IsCutBelow cmp one.lower one.upper → IsCutBelow cmp other.lower other.upper
       → IsCutAtMost cmp other.upper one.lower ⊎ IsCutAtMost cmp one.upper other.lower → [] ≡ common_of cmp one other
-  common_of-none one other held held' apart =
-      common_of-cases one other (λ spans. [] ≡ spans)
-      (λ shared. let ends = (shares-ends one other held held').0 shared in
-      absurd (elim apart [
-        | inl past ↦ below-not-at_most o one.lower other.upper ends.0 past
-        | inr past ↦ below-not-at_most o other.lower one.upper ends.1 past
-      ]))
-      (λ none. refl)
+  common_of-none one other held held' apart = common_of-cases one other (λ spans. [] ≡ spans) (λ shared. grind (arith, shares-ends one other held held', below-not-at_most o)) (λ none. refl)
 
   -- and it begins below where it ends
   pub common_of-rising : (one other span : Ends T) → span ∷ [] ≡ common_of cmp one other
       → IsCutBelow cmp span.lower span.upper
-  common_of-rising one other span =
-      common_of-cases one other (λ spans. span ∷ [] ≡ spans → IsCutBelow cmp span.lower span.upper)
-      (λ shared e. let same : span ≡ common_ends cmp one other = cc e in
-      rw same ((common_ends-hold one other).0 shared)) (λ none e. cc e)
+  common_of-rising one other span = common_of-cases one other (λ spans. span ∷ [] ≡ spans → IsCutBelow cmp span.lower span.upper) (λ shared e. grind (arith, common_ends-hold one other)) (λ none e. cc e)

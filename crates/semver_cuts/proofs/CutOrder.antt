@@ -4,17 +4,11 @@ use Rattle.std.proofs.Common.{◌≡◌, ap, ◌∙◌, Ordering, Less, Equal, G
 use Rattle.std.specs.Ordering.{ordering_then, ordering_reverse}
 use Rattle.std.specs.Cmp.{IsTotalOrder, tied_itself}
 use Rattle.semver_cuts.specs.declared.cut.Cut.{Cut}
-use Rattle.semver_cuts.specs.declared.cut.Cut.TheVariants.{Start, Before, After, End}
+use Rattle.semver_cuts.specs.declared.cut.Cut.TheVariants.{Before, After}
 use Rattle.semver_cuts.specs.Cut.{cut_cmp}
 use Rattle.semver_cuts.specs.CutLaws.{IsOrderOfCuts}
 
 module _ {T : Type 0} {cmp : T → T → Ordering} (o : IsTotalOrder cmp) where
-  start_least : (c : Cut T) → (c ≡ Start → ⊥) → cut_cmp cmp Start c ≡ Less
-  start_least c h1 = grind arith
-
-  end_greatest : (c : Cut T) → (c ≡ End → ⊥) → cut_cmp cmp c End ≡ Less
-  end_greatest c h1 = grind arith
-
   pub cut_cmp-order : IsOrderOfCuts cmp (cut_cmp cmp)
   cut_cmp-order = grind arith
 

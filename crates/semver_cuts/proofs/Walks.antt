@@ -3,14 +3,14 @@ use Rattle.semver_cuts.specs.Lemmas.TwoSpans.{shares-ends}
 use mathlib.Core.Bool.{true≢false}
 use Rattle.std.proofs.Common.{◌≡◌, ◌⊎◌, ◌↔◌, ℕ, zero, suc, ◌+◌, ◌<◌, ◌≤◌, List, [], ◌∷◌, Ordering}
 use Rattle.std.proofs.Common.{IsTrue, get_or, false}
-use Rattle.std.proofs.Common.{take, drop, length, sym, ap, subst, inl, inr, ⊎_elim, arith}
+use Rattle.std.proofs.Common.{drop, length, sym, ap, subst, inl, inr, arith}
 use Rattle.std.specs.Cmp.{IsTotalOrder}
 use Rattle.std.proofs.lemmas.List.{drop_all, take-append-drop}
 use Rattle.semver_cuts.specs.declared.cut.Cut.{Cut}
 use Rattle.semver_cuts.specs.SpanLists.{IsInSome, IsWithin}
 use Rattle.semver_cuts.specs.Ends.{Ends, IsCutAtMost, IsCutBelow, IsInSpan}
 use Rattle.semver_cuts.specs.Joined.{AreJoined, AreMerged}
-use Rattle.semver_cuts.specs.Sharing.{CoversAll, HaveCommonCut, ShareCut}
+use Rattle.semver_cuts.specs.Sharing.{CoversAll, ShareCut}
 use Rattle.semver_cuts.specs.Lemmas.Apart.{apart-above, merged-drop, merged-tail}
 use Rattle.semver_cuts.specs.Lemmas.Ends.{at_most_refl, at_most_trans, below-at_most}
 use Rattle.semver_cuts.specs.Lemmas.Ends.{below-not-at_most, below_irrefl, below_trans}
@@ -44,11 +44,7 @@ module _ {T : Type 0} {cmp : T → T → Ordering} (o : IsTotalOrder cmp) where
 
   -- the cuts of the spans from a place on are cuts of the list
   pub in-whole : (spans : List (Ends T)) (k : ℕ) (cut : Cut T) → IsInSome cmp (drop k spans) cut → IsInSome cmp spans cut
-  in-whole spans k cut is = grind (
-    arith,
-    take-append-drop k spans,
-    in_some-right cmp cut (take k spans) (drop k spans) is,
-  )
+  in-whole spans k cut is = grind (arith, take-append-drop k spans, in_some-right cmp cut)
 
   module _ (ms ws : List (Ends T)) (ms_are : AreMerged cmp ms) (ws_are : AreMerged cmp ws) (i j : ℕ)
       (one other : Ends T)
@@ -116,11 +112,5 @@ one-list (y ∷ []) x l e = ap (λ z. z ∷ []) (sym e)
 one-list (y ∷ z ∷ xs) x l e = absurd (omega arith)
 
 module _ {T : Type 0} (cmp : T → T → Ordering) (one other : Ends T) where
-  in-only : (span : Ends T) (cut : Cut T) → IsInSome cmp (span ∷ []) cut → IsInSpan cmp span cut
-  in-only span cut is = ⊎_elim (λ here. here) (λ never. absurd never) is
-
   pub covers-one : IsWithin cmp other one ↔ CoversAll cmp (one ∷ []) (other ∷ [])
   covers-one = grind arith
-
-  pub shares-one : HaveCommonCut cmp one other ↔ ShareCut cmp (one ∷ []) (other ∷ [])
-  shares-one = grind arith

@@ -143,12 +143,7 @@ module _ {T : Type 0} {cmp : T → T → Ordering} (o : IsTotalOrder cmp) (other
       -- it ends at the end of `one` or above: there are no more pieces
       pub walked-ended : IsAdded o low span.lower done new → IsCutAtMost cmp one.upper span.upper
           → ArePieces cmp others one new
-      walked-ended more past = grind (
-        arith,
-        append-nil new,
-        added more [] (no-piece span.upper spans past),
-        no-piece span.upper spans past,
-      )
+      walked-ended more past = rw (← append-nil new) (added more [] (no-piece span.upper spans past))
 
       -- or below it: the walk goes on
       pub walked-next : IsAdded o low span.lower done new → IsCutBelow cmp span.upper one.upper

@@ -34,11 +34,7 @@ module _ {T : Type 0} {cmp : T → T → Ordering} (o : IsTotalOrder cmp) (one :
 
   parted : (others : List (Ends T)) (k : ℕ)
       → common_with cmp one (take k others) ++ common_with cmp one (drop k others) ≡ common_with cmp one others
-  parted others k = grind (
-    arith,
-    flat_map-append (common_of cmp one) (take k others) (drop k others),
-    take-append-drop k others,
-  )
+  parted others k = grind (arith, flat_map-append (common_of cmp one), take-append-drop)
 
   -- those that end at or below the lower end of the span can be left out
   pub common_with-from : (others : List (Ends T)) (k : ℕ)

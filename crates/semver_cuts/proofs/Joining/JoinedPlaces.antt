@@ -1,14 +1,13 @@
 -- Merged spans kept as places in a list: how a sorted list gives them, and the span at each pair of places.
-use Rattle.std.proofs.Common.{◌≡◌, ◌≢◌, ℕ, zero, suc, ◌+◌, ◌<◌, ◌≤◌, List, [], ◌∷◌, ◌++◌, Ordering, drop, get_or}
-use Rattle.std.proofs.Common.{length, map, refl, sym, ap, subst, inl, inr, ⊎_elim, arith, length-append}
-use Rattle.std.proofs.Common.{◌==◌, Bool, true, false}
+use Rattle.std.proofs.Common.{◌≡◌, ◌≢◌, ℕ, zero, suc, ◌+◌, ◌<◌, List, [], ◌∷◌, ◌++◌, Ordering, drop, get_or}
+use Rattle.std.proofs.Common.{length, map, refl, sym, ap, subst, inl, inr, arith, length-append}
+use Rattle.std.proofs.Common.{◌==◌, Bool, false}
 use Rattle.std.specs.List.{AllByRecursion}
 use Rattle.std.specs.Cmp.{IsTotalOrder}
-use Rattle.std.proofs.lemmas.List.{append-nil, append_assoc, drop-map, drop_all, drop_more, get_or_at, length-map}
+use Rattle.std.proofs.lemmas.List.{append_assoc, drop-map, drop_more, get_or_at, length-map}
 use Rattle.semver_cuts.specs.declared.cut.Cut.{Cut}
-use Rattle.semver_cuts.specs.declared.cut.Cut.TheVariants.{Start, End}
 use Rattle.semver_cuts.specs.SpanLists.{AreApart}
-use Rattle.semver_cuts.specs.Ends.{Ends, IsCutAtMost, IsCutBelow, span_between}
+use Rattle.semver_cuts.specs.Ends.{Ends, IsCutAtMost, IsCutBelow}
 use Rattle.semver_cuts.specs.Joined.{AreJoined, AreMerged, AreRising}
 use Rattle.semver_cuts.specs.Places.{AreWithin, IsPlacesOf, merged_spans, span_at, span_of_places}
 use Rattle.semver_cuts.specs.Private.Placed.{AreJoinedAt, AreSorted, PlacedSpan, placed_from}
@@ -31,14 +30,7 @@ IsPlaced spans p = (p.place < length spans) × (span_at spans p.place ≡ p.span
 pub placed-in : {T : Type 0} (front spans : List (Ends T)) (n : ℕ) → length front ≡ n
     → AllByRecursion (IsPlaced (front ++ spans)) (placed_from n spans)
 placed-in front [] n e = tt
-placed-in front (span ∷ spans) n e =
-    let at : (front ++ span ∷ []) ++ spans ≡ front ++ span ∷ spans = append_assoc front (span ∷ []) spans in
-    let within : n < length (front ++ span ∷ spans) = omega (arith, length-append front (span ∷ spans)) in
-    let next : length (front ++ span ∷ []) ≡ n + 1 = omega (arith, length-append front (span ∷ [])) in (
-      (within, get_or_at front span spans (span_between Start End) n e),
-      subst (λ l. AllByRecursion (IsPlaced l) (placed_from (n + 1) spans)) at
-          (placed-in (front ++ span ∷ []) spans (n + 1) next),
-    )
+placed-in front (span ∷ spans) n e = grind (arith, append_assoc, length-append, get_or_at, placed-in (front ++ span ∷ []) spans (n + 1))
 
 -- ---- joining the spans along the sorted list
 
@@ -47,14 +39,13 @@ module _ {T : Type 0} {cmp : T → T → Ordering} (o : IsTotalOrder cmp) (spans
   -- the pairs of places so far, where a run from the span at `begun` up to that at `place` is not ended yet
   pub record IsRunning (pairs : List (ℕ × ℕ)) (begun place : ℕ) (upper : Cut T) (later : List (PlacedSpan T))
       : Type 0 where
-    pub lower : Cut T
-    pub run : IsRun o spans order s lower upper place later
+    pub run : IsRun o spans order s (span_at spans begun).lower upper place later
     pub all : AllByRecursion (In o spans order s) later
     pub ascends : AreInOrder cmp later
-    pub begins : (begun < length spans) × ((span_at spans begun).lower ≡ lower)
+    pub begins : begun < length spans
     pub ends : (place < length spans) × ((span_at spans place).upper ≡ upper)
     pub left : (ps : List (ℕ × ℕ)) → AllByRecursion (AreWithin spans) ps
-        → AreEntries o spans order s lower upper later (map (span_of_places spans) ps)
+        → AreEntries o spans order s (span_at spans begun).lower upper later (map (span_of_places spans) ps)
         → AreJoinedAt cmp spans (pairs ++ ps)
 
   is-placed : (p : PlacedSpan T) → In o spans order s p → IsPlaced spans p
@@ -66,25 +57,13 @@ module _ {T : Type 0} {cmp : T → T → Ordering} (o : IsTotalOrder cmp) (spans
   running-first first later e =
       let all = subst (AllByRecursion (In o spans order s)) e (all-in o spans order s) in
       let at = is-placed first all.0 in
-      record {
-        lower = first.span.lower;
-        run = first-run o spans order s first later e;
-        all = all.1;
-        ascends = (subst (AreInOrder cmp) e (all-in_order o spans order s)).1;
-        begins = (at.0, ap (λ (s : Ends T). s.lower) at.1);
-        ends = (at.0, ap (λ (s : Ends T). s.upper) at.1);
-        left = λ ps within are.
-            record { within = within; joined = first-joined o spans order s first later e _ are };
-      }
+      let run = first-run o spans order s first later e in
+      grind (arith, first-joined o spans order s first later e, all-in_order o spans order s)
 
   module _ (pairs : List (ℕ × ℕ)) (begun place : ℕ) (upper : Cut T) where
-    ended : (later : List (PlacedSpan T)) (is : IsRunning pairs begun place upper later)
-        → span_of_places spans (begun, place) ≡ span_between is.lower upper
-    ended later is = λ i. span_between (is.begins.1 i) (is.ends.1 i)
-
     -- after the last span
     pub running-over : IsRunning pairs begun place upper [] → AreJoinedAt cmp spans (pairs ++ (begun, place) ∷ [])
-    running-over is = grind (arith, ended [] is, entries-last o spans order s is.lower upper place is.run)
+    running-over is = grind (arith, entries-last o spans order s (span_at spans begun).lower upper place is.run)
 
     module _ (next : PlacedSpan T) (later : List (PlacedSpan T)) (is : IsRunning pairs begun place upper (next ∷ later)) where
       at : IsPlaced spans next
@@ -93,54 +72,46 @@ module _ {T : Type 0} {cmp : T → T → Ordering} (o : IsTotalOrder cmp) (spans
       -- the next span begins above the end of the run
       pub running-next : IsCutBelow cmp upper next.span.lower
           → IsRunning (pairs ++ (begun, place) ∷ []) next.place next.place next.span.upper later
-      running-next gap = record {
-        lower = next.span.lower;
-        run = starts-run o spans order s is.lower upper place next later is.run is.all
-            is.ascends gap;
-        all = is.all.1;
-        ascends = is.ascends.1;
-        begins = (at.0, ap (λ (s : Ends T). s.lower) at.1);
-        ends = (at.0, ap (λ (s : Ends T). s.upper) at.1);
-        left = λ ps within are. subst (AreJoinedAt cmp spans) (sym (append_assoc pairs ((begun, place) ∷ []) ps))
-            (is.left ((begun, place) ∷ ps) ((is.begins.0, is.ends.0), within)
-            (subst (λ span. AreEntries o spans order s is.lower upper (next ∷ later)
-            (span ∷ map (span_of_places spans) ps)) (sym (ended (next ∷ later) is))
-            (starts o spans order s is.lower upper place next later is.run is.all is.ascends
-            gap (map (span_of_places spans) ps) are)));
-      }
+      running-next gap =
+          let run = starts-run o spans order s _ upper place next later is.run is.all is.ascends gap in
+          let more = starts o spans order s _ upper place next later is.run is.all is.ascends gap in
+          record {
+            run = rw at.1 run;
+            all = is.all.1;
+            ascends = is.ascends.1;
+            begins = at.0;
+            ends = (at.0, ap (λ (s : Ends T). s.upper) at.1);
+            left = λ ps within are. grind (arith, append_assoc, is.left, at, is.ends, more (map (span_of_places spans) ps));
+          }
 
       module _ (touches : IsCutAtMost cmp next.span.lower upper) where
         -- it begins there or below, and ends later
         pub running-longer : EndsLater o upper place next → IsRunning pairs begun next.place next.span.upper later
-        running-longer longer = record {
-          lower = is.lower;
-          run = grown-run o spans order s is.lower upper place next later is.run is.all
-              is.ascends longer;
-          all = is.all.1;
-          ascends = is.ascends.1;
-          begins = is.begins;
-          ends = (at.0, ap (λ (s : Ends T). s.upper) at.1);
-          left = λ ps within are. is.left ps within
-              (goes-on o spans order s is.lower upper place next later is.run is.all
-              is.ascends touches next.span.upper (⊎_elim (λ h. inl h) (λ h. inr h.0) longer)
-              (at_most_refl o next.span.upper) (inr refl) (map (span_of_places spans) ps) are);
-        }
+        running-longer longer =
+            let run = grown-run o spans order s _ upper place next later is.run is.all is.ascends longer in
+            let more = goes-on o spans order s _ upper place next later is.run is.all is.ascends touches in
+            record {
+              run = run;
+              all = is.all.1;
+              ascends = is.ascends.1;
+              begins = is.begins;
+              ends = (at.0, ap (λ (s : Ends T). s.upper) at.1);
+              left = λ ps within are. is.left ps within (more next.span.upper (grind arith) (at_most_refl o next.span.upper) (inr refl) _ are);
+            }
 
         -- or does not end later
         pub running-same : EndsNoLater o upper place next → IsRunning pairs begun place upper later
-        running-same no_later = record {
-          lower = is.lower;
-          run = kept-run o spans order s is.lower upper place next later is.run is.all
-              is.ascends no_later;
-          all = is.all.1;
-          ascends = is.ascends.1;
-          begins = is.begins;
-          ends = is.ends;
-          left = λ ps within are. is.left ps within
-              (goes-on o spans order s is.lower upper place next later is.run is.all
-              is.ascends touches upper (at_most_refl o upper) (⊎_elim (λ h. inl h) (λ h. inr h.0) no_later) (inl refl)
-              (map (span_of_places spans) ps) are);
-        }
+        running-same no_later =
+            let run = kept-run o spans order s _ upper place next later is.run is.all is.ascends no_later in
+            let more = goes-on o spans order s _ upper place next later is.run is.all is.ascends touches in
+            record {
+              run = run;
+              all = is.all.1;
+              ascends = is.ascends.1;
+              begins = is.begins;
+              ends = is.ends;
+              left = λ ps within are. is.left ps within (more upper (at_most_refl o upper) (grind arith) (inl refl) _ are);
+            }
 
   -- the same state by other names
   pub running-moved : (pairs pairs' : List (ℕ × ℕ)) (begun begun' place place' : ℕ) (upper upper' : Cut T)
@@ -152,12 +123,6 @@ module _ {T : Type 0} (cmp : T → T → Ordering) (spans : List (Ends T)) where
   -- the merged spans, if there are places
   pub some-map : (pairs : List (ℕ × ℕ)) → pairs ≢ [] → merged_spans spans pairs ≡ map (span_of_places spans) pairs
   some-map pairs h1 = grind arith
-
-  -- after the last pair of places, all merged spans were taken
-  pub taken-all : (pairs : List (ℕ × ℕ)) → pairs ≢ [] → (k : ℕ) (items : List (Ends T)) → length pairs ≤ k
-      → items ++ map (span_of_places spans) (drop k pairs) ≡ map (span_of_places spans) pairs
-      → items ≡ merged_spans spans pairs
-  taken-all pairs some k items done e = grind (arith, append-nil, drop_all, some-map)
 
 module _ {T : Type 0} {cmp : T → T → Ordering} (o : IsTotalOrder cmp) where
   none-apart : (spans : List (Ends T)) → AreRising cmp spans → AreJoined cmp spans [] → AreApart cmp spans
@@ -178,9 +143,6 @@ module _ {T : Type 0} (cmp : T → T → Ordering) where
   merged-by spans pairs b h1 = grind arith
 
   module _ (spans : List (Ends T)) (pairs : List (ℕ × ℕ)) (k : ℕ) (low : k < length (merged_spans spans pairs)) where
-    pub low-place : (length pairs == 0) ≡ true → k < length spans
-    low-place e = subst (λ l. k < length l) (merged-by spans pairs true e) low
-
     module _ (some : (length pairs == 0) ≡ false) where
       pub low-pair : k < length pairs
       low-pair = grind (arith, merged-by, length-map)
@@ -235,13 +197,7 @@ module _ {T : Type 0} {cmp : T → T → Ordering} (o : IsTotalOrder cmp) (spans
     kept' = subst (AllByRecursion (IsKept now)) here kept
 
     left : AreMerged cmp (map (span_of_places spans) (next ∷ drop (k + 1) pairs))
-    left = grind (
-      arith,
-      some-map cmp spans pairs some,
-      drop-map (span_of_places spans) k pairs,
-      here,
-      merged-drop cmp k (merged_spans spans pairs) are,
-    )
+    left = grind (arith, some-map cmp, drop-map, here, merged-drop cmp k)
 
     pub next-rising : IsCutBelow cmp (span_at now next.0).lower (span_at now next.1).upper
     next-rising = subst (λ (s : Ends T). IsCutBelow cmp s.lower s.upper) (sym kept'.0) left.rising.0

@@ -3,7 +3,7 @@ use Rattle.std.proofs.Common.{◌≡◌, ◌⊎◌, ℕ, ◌<◌, ◌≤◌, Lis
 use Rattle.std.proofs.Common.{Bool, sym, arith, get_or, length, lit<}
 use Rattle.std.specs.List.{AllByRecursion}
 use Rattle.std.specs.List.Sorted.{IsPermutation, IsSorted}
-use Rattle.std.specs.Ordering.{is_lt, nat_cmp, ordering_reverse, ordering_then}
+use Rattle.std.specs.Ordering.{is_lt, nat_cmp, ordering_then}
 use Rattle.std.specs.Cmp.{IsTotalOrder}
 use Rattle.std.proofs.lemmas.List.Sorted.{IsPermutation-swap}
 use Rattle.semver_cuts.specs.declared.cut.Cut.{Cut}
@@ -12,12 +12,6 @@ use Rattle.semver_cuts.specs.Ends.{IsCutAtMost, IsCutBelow}
 use Rattle.semver_cuts.specs.Private.Placed.{PlacedSpan, placed_cmp}
 
 -- ---- tests of numbers
-
-lt-from_test : (x y : ℕ) (r : Ordering) → r ≡ nat_cmp x y → is_lt r ≡ true → x < y
-lt-from_test x y r h1 h2 = grind arith
-
-le-from_test : (x y : ℕ) (r : Ordering) → r ≡ nat_cmp x y → is_lt r ≡ false → y ≤ x
-le-from_test x y r h1 h2 = grind arith
 
 -- the first if the test is true, and else the second
 abbrev pub Tested : Bool → Type 0 → Type 0 → Type 0
@@ -33,10 +27,6 @@ AreInOrder {T} cmp (first ∷ later) =
     AllByRecursion (λ (next : PlacedSpan T). is_lt (placed_cmp cmp next first) ≡ false) later × AreInOrder cmp later
 
 module _ {T : Type 0} {cmp : T → T → Ordering} (o : IsTotalOrder cmp) where
-  lower_by : (c d : Cut T) (r s : Ordering) → cut_cmp cmp c d ≡ r → is_lt (ordering_then r s) ≡ false
-      → IsCutAtMost cmp d c
-  lower_by c d r s h1 h2 = grind arith
-
   -- a later span does not begin lower
   pub lower-later : (first next : PlacedSpan T) → is_lt (placed_cmp cmp next first) ≡ false
       → IsCutAtMost cmp first.span.lower next.span.lower
@@ -85,14 +75,6 @@ two-items [] one other least below a b = absurd (omega arith)
 two-items (x ∷ []) one other least below a b = absurd (omega arith)
 two-items (x ∷ y ∷ []) one other least below a b = λ i. sym a i ∷ sym b i ∷ []
 two-items (x ∷ y ∷ z ∷ xs) one other least below a b = absurd (omega arith)
-
--- two are sorted if the second is not less than the first
-pub two-sorted : {X : Type 0} (cmp : X → X → Ordering) (one other : X) → is_lt (cmp other one) ≡ false
-    → IsSorted cmp (one ∷ other ∷ [])
-two-sorted cmp one other h1 = grind arith
-
-not_above : (r : Ordering) → is_lt r ≡ true → is_lt (ordering_reverse r) ≡ false
-not_above r h1 = grind arith
 
 -- and the other way round if it is
 pub two-turned : {X : Type 0} (cmp : X → X → Ordering) → IsTotalOrder cmp → (one other : X)

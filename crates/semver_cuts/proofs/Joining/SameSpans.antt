@@ -16,13 +16,9 @@ module _ {T : Type 0} {cmp : T → T → Ordering} (o : IsTotalOrder cmp) where
   ends-no_lower : (one : Ends T) (ones : List (Ends T)) (other : Ends T) → AreMerged cmp (one ∷ ones)
       → ((cut : Cut T) → IsInSpan cmp other cut → IsInSome cmp (one ∷ ones) cut) → IsCutAtMost cmp other.lower one.lower
       → IsCutAtMost cmp other.upper one.upper
-  ends-no_lower one ones other are within le = grind (
-    arith,
-    at_most-below o other.lower one.lower one.upper le are.rising.0,
-    at_most-or-below o other.upper one.upper,
-    below_irrefl o,
-    later-above o,
-  )
+  ends-no_lower one ones other are within le =
+      let low = at_most-below o other.lower one.lower one.upper le are.rising.0 in
+      grind (arith, at_most-or-below o other.upper one.upper, below_irrefl o, later-above o)
 
   later-in : (one : Ends T) (ones : List (Ends T)) (other : Ends T) (others : List (Ends T))
       → AreMerged cmp (one ∷ ones)
@@ -39,20 +35,13 @@ module _ {T : Type 0} {cmp : T → T → Ordering} (o : IsTotalOrder cmp) where
       → ((cut : Cut T) → IsInSome cmp ones cut ↔ IsInSome cmp others cut) → AreSameSpans cmp ones others
   same-spans [] [] are others_are same = tt
   same-spans [] (other ∷ others) are others_are same = grind (arith, first-cut o)
-  same-spans (one ∷ ones) [] are others_are same = absurd ((same one.lower).0 (inl (first-cut o one are.rising.0)))
+  same-spans (one ∷ ones) [] are others_are same = grind (arith, first-cut o)
   same-spans (one ∷ ones) (other ∷ others) are others_are same =
-      let low : IsCutAtMost cmp other.lower one.lower =
-      all-from_first o other others one.lower others_are ((same one.lower).0 (inl (first-cut o one are.rising.0))) in
-      let low' : IsCutAtMost cmp one.lower other.lower =
-      all-from_first o one ones other.lower are ((same other.lower).1 (inl (first-cut o other others_are.rising.0))) in
-      let high : IsCutAtMost cmp other.upper one.upper =
-      ends-no_lower one ones other are (λ cut is. (same cut).1 (inl is)) low in
-      let high' : IsCutAtMost cmp one.upper other.upper =
-      ends-no_lower other others one others_are (λ cut is. (same cut).0 (inl is)) low' in (
-        record {
-          lower = at_most-both o one.lower other.lower low' low;
-          upper = at_most-both o one.upper other.upper high' high;
-        },
+      let low = all-from_first o other others one.lower others_are ((same one.lower).0 (inl (first-cut o one are.rising.0))) in
+      let low' = all-from_first o one ones other.lower are ((same other.lower).1 (inl (first-cut o other others_are.rising.0))) in
+      let high = ends-no_lower one ones other are (λ cut is. (same cut).1 (inl is)) low in
+      let high' = ends-no_lower other others one others_are (λ cut is. (same cut).0 (inl is)) low' in (
+        record { lower = at_most-both o _ _ low' low; upper = at_most-both o _ _ high' high },
         same-spans ones others (tail-merged one ones are) (tail-merged other others others_are)
             (λ cut. (
               later-in one ones other others are high (λ c is. (same c).0 is) cut,

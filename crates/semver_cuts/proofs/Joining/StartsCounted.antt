@@ -56,11 +56,8 @@ module _ {T : Type 0} (cmp : T → T → Ordering) where
       → count_first (λ cut. p cut || q cut) earlier later ≡ count_first p earlier later + count_first q earlier later
   unfolding count_first
   either-counted p q h earlier [] = refl
-  either-counted p q h earlier (span ∷ later) = grind (
-    arith,
-    add-either,
-    either-counted p q h (earlier ++ span ∷ []) later,
-  )
+  either-counted p q h earlier (span ∷ later) =
+      let rest = either-counted p q h (earlier ++ span ∷ []) later in grind (arith, add-either)
 
   or-false : (a : Bool) → (a || false) ≡ a
   or-false a = grind arith
@@ -101,16 +98,9 @@ module _ {T : Type 0} {cmp : T → T → Ordering} (o : IsTotalOrder cmp) where
       ≡ (if begins_at cmp earlier cut then 0 else (if begins_at cmp later cut then 1 else 0))
   unfolding count_first
   one-counted cut earlier [] = nothing (begins_at cmp earlier cut) 0 refl
-  one-counted cut earlier (span ∷ later) = grind (
-    arith,
-    count_first cmp,
-    turned,
-    add-one cmp,
-    begins-same,
-    equal-from o,
-    one-counted cut (earlier ++ span ∷ []) later,
-    begins-push cmp,
-  )
+  one-counted cut earlier (span ∷ later) =
+      let rest = one-counted cut (earlier ++ span ∷ []) later in
+      grind (arith, turned, add-one cmp, begins-same, equal-from o, begins-push cmp)
 
   firsts-counted : (spans joined : List (Ends T)) → AreMerged cmp joined
       → AllByRecursion (λ (span : Ends T). IsFirstAt cmp (λ (s : Ends T). s.lower) spans span.lower) joined

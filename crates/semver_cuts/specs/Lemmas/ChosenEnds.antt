@@ -140,15 +140,7 @@ module _ {T : Type 0} {cmp : T → T → Ordering} (o : IsTotalOrder cmp) where
     }
 
     between-every : (cut : Cut T) → IsInSpan cmp (span_between lower upper) cut → IsInEvery cmp spans cut
-    between-every cut is = search (
-      arith,
-      all_map,
-      at_most_trans o,
-      chosen_lower-above,
-      below-at_most o,
-      chosen_upper-below,
-      all_both,
-    )
+    between-every cut is = all_both _ _ _ (λ s p q. grind (arith, at_most_trans o s.lower, below-at_most o cut upper)) spans (chosen_lower-above spans lower l) (chosen_upper-below spans upper u)
 
     -- a cut lies in each span exactly if it lies between the chosen ends
     pub in_every-between : (cut : Cut T) → IsInEvery cmp spans cut ↔ IsInSpan cmp (span_between lower upper) cut

@@ -46,9 +46,6 @@ key_total o = options_total (back_total (options_total (back_total (pair_total o
 pub cut_total : {T : Type 0} {cmp : T → T → Ordering} → IsTotalOrder cmp → IsTotalOrder (cut_cmp cmp)
 cut_total {T} {cmp} o = subst IsTotalOrder (λ i c d. by_key cmp c d i) (on_total key (key_total o))
 
-never_equal : {P : Type 0} (r s : Ordering) → (s ≡ Equal → ⊥) → ordering_then r s ≡ Equal → P
-never_equal r s h1 h2 = grind arith
-
 -- equal cuts are of one kind: what holds of those of each kind holds of all
 pub equal-by_kind : {T : Type 0} (cmp : T → T → Ordering) (P : Cut T → Cut T → Type 0) → P Start Start
     → ((v w : T) → cmp v w ≡ Equal → P (Before v) (Before w))

@@ -36,11 +36,8 @@ module _ {T : Type 0} (cmp : T → T → Ordering) where
       → IsInSome cmp ones cut → ¬ IsInSome cmp others cut → IsInSome cmp spans cut
   in-difference [] others spans cut are is out = absurd is
   in-difference (one ∷ ones) others spans cut are (inl here) out = grind (arith, in_some-left cmp cut)
-  in-difference (one ∷ ones) others spans cut are (inr there) out = grind (
-    arith,
-    in_some-right cmp cut,
-    in-difference ones others are.1 cut are.4 there out,
-  )
+  in-difference (one ∷ ones) others spans cut are (inr there) out =
+      let left = in-difference ones others are.1 cut are.4 there out in grind (arith, in_some-right cmp cut)
 
   -- a cut lies in the difference exactly if it lies in a span of the first list and in none of the second
   pub difference-cuts : (ones others spans : List (Ends T)) → AreDifference cmp ones others spans → (cut : Cut T)

@@ -1,12 +1,12 @@
 -- Less and at most of cuts, wherever the order of the values is total, and the tests of them in a program.
 use native.Mathlib.Omega.{arith}
-use Rattle.std.specs.Prelude.{◌≡◌, ◌⊎◌, ◌↔◌, ◌&&◌, Bool, IsTrue, refl, true, false}
+use Rattle.std.specs.Prelude.{◌≡◌, ◌⊎◌, ◌↔◌, Bool, IsTrue, refl, true, false}
 use mathlib.Core.Path.{sym, ap, ◌∙◌}
 use mathlib.Core.Logic.{inr}
 use mathlib.Core.Bool.{true≢false}
 use Rattle.std.specs.declared.cmp.Ordering.{Ordering}
-use Rattle.std.specs.declared.cmp.Ordering.TheVariants.{Less, Equal, Greater}
-use Rattle.std.specs.Ordering.{is_eq, is_lt, is_le, ordering_reverse}
+use Rattle.std.specs.declared.cmp.Ordering.TheVariants.{Less, Equal}
+use Rattle.std.specs.Ordering.{is_lt, is_le}
 use Rattle.std.specs.Cmp.{IsEquivalence, IsTotalOrder, alike_right, and_equiv}
 use Rattle.std.specs.Cmp.{eq_by_cmp_equiv, on_equiv, tied_back, tied_itself}
 use Rattle.semver_cuts.specs.declared.cut.Cut.{Cut}
@@ -22,29 +22,13 @@ module _ {T : Type 0} {cmp : T → T → Ordering} (o : IsTotalOrder cmp) where
   pub cut_cmp-refl : (c : Cut T) → cut_cmp cmp c c ≡ Equal
   cut_cmp-refl c = tied_itself (cut_total o) c
 
-  -- the comparison the other way round
-  pub cut_cmp-reverse : (c d : Cut T) → cut_cmp cmp c d ≡ ordering_reverse (cut_cmp cmp d c)
-  cut_cmp-reverse c d = (cut_total o).antisymm c d
-
   -- the same cut either way round
   pub cut_cmp-equal_back : (c d : Cut T) → cut_cmp cmp c d ≡ Equal → cut_cmp cmp d c ≡ Equal
   cut_cmp-equal_back c d p = tied_back (cut_total o) c d p
 
-  -- the same cut on the left compares alike
-  pub cut_cmp-equal_left : (c d e : Cut T) → cut_cmp cmp c d ≡ Equal → cut_cmp cmp c e ≡ cut_cmp cmp d e
-  cut_cmp-equal_left c d e p = (cut_total o).congr c d e p
-
   -- the same cut on the right compares alike
   pub cut_cmp-equal_right : (c d e : Cut T) → cut_cmp cmp c d ≡ Equal → cut_cmp cmp e c ≡ cut_cmp cmp e d
   cut_cmp-equal_right c d e p = alike_right (cut_total o) c d e p
-
-  -- greater is less the other way round
-  pub below-from_greater : (c d : Cut T) → cut_cmp cmp c d ≡ Greater → IsCutBelow cmp d c
-  below-from_greater c d p = cut_cmp-reverse d c ∙ ap ordering_reverse p
-
-  -- and less is greater
-  pub greater-from_below : (c d : Cut T) → IsCutBelow cmp d c → cut_cmp cmp c d ≡ Greater
-  greater-from_below c d p = cut_cmp-reverse c d ∙ ap ordering_reverse p
 
   -- no cut is below itself
   pub below_irrefl : (c : Cut T) → ¬ (IsCutBelow cmp c c)
@@ -134,12 +118,6 @@ module _ {T : Type 0} (cmp : T → T → Ordering) where
   -- the same for the test `c <= d`
   pub le-from_at_most : (c d : Cut T) → IsCutAtMost cmp c d → is_le (cut_cmp cmp c d) ≡ true
   le-from_at_most c d h1 = grind arith
-
-  ends-from_test : (one other : Ends T) → are_same_ends cmp one other ≡ true → AreSameEnds cmp one other
-  ends-from_test one other h = grind arith
-
-  test-from_ends : (one other : Ends T) → AreSameEnds cmp one other → are_same_ends cmp one other ≡ true
-  test-from_ends one other same = λ i. is_eq (same.lower i) && is_eq (same.upper i)
 
   -- the test of the same two ends is true exactly if they are the same
   pub span_same : (one other : Ends T) (r : Bool) → r ≡ are_same_ends cmp one other

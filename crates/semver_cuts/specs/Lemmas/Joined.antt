@@ -2,8 +2,6 @@
 use Rattle.semver_cuts.specs.Lemmas.Apart.{lowers-above, uppers-above}
 use native.Mathlib.Omega.{arith}
 use Rattle.std.specs.Prelude.{◌≡◌, List, [], ◌∷◌, ◌++◌, refl}
-use mathlib.Core.Path.{subst}
-use mathlib.Core.Logic.{inr}
 use Rattle.std.specs.declared.cmp.Ordering.{Ordering}
 use Rattle.std.specs.declared.cmp.Ordering.TheVariants.{Equal}
 use Rattle.std.specs.List.{AllByRecursion}
@@ -43,21 +41,8 @@ module _ {T : Type 0} {cmp : T → T → Ordering} (o : IsTotalOrder cmp) where
         → AllByRecursion (λ (s : Ends T). IsFirstAt cmp end (front ++ back) (end s)) back
     first-each front [] new up = tt
     first-each front (span ∷ back) new up = (
-      record {
-        before = front;
-        span = span;
-        after = back;
-        parts = refl;
-        end_of = refl;
-        earlier = new.0;
-        later = all_unit back;
-      },
-      subst (λ l. AllByRecursion (λ (s : Ends T). IsFirstAt cmp end l (end s)) back) (append_assoc front (span ∷ []) back)
-          (first-each (front ++ span ∷ []) back
-          (all_both (IsNew front) (λ (s : Ends T). IsCutBelow cmp (end span) (end s)) (IsNew (front ++ span ∷ []))
-          (λ s p q. all_push (λ (e : Ends T). ¬ (cut_cmp cmp (end e) (end s) ≡ Equal)) front span p
-          (λ e. below-not-at_most o (end span) (end s) q (inr (cut_cmp-equal_back o (end span) (end s) e))))
-          back new.1 up.0) up.1),
+      record { before = front; span = span; after = back; parts = refl; end_of = refl; earlier = new.0; later = all_unit back },
+      rw append_assoc at (first-each (front ++ span ∷ []) back (all_both _ _ _ (λ s p q. all_push _ front span p (grind (arith, below-not-at_most o, cut_cmp-equal_back o))) back new.1 up.0) up.1),
     )
 
   -- spans that are apart are joined to themselves

@@ -1,6 +1,6 @@
 -- The part of one span outside another: when there is a piece below and above, and which cuts lie in the pieces.
 use native.Mathlib.Omega.{arith}
-use Rattle.std.specs.Prelude.{◌≡◌, ◌⊎◌, ◌↔◌, Bool, List, [], ◌∷◌, ◌++◌, if◌then◌else◌, refl, true, false}
+use Rattle.std.specs.Prelude.{◌≡◌, ◌⊎◌, ◌↔◌, Bool, [], ◌∷◌, ◌++◌, if◌then◌else◌, refl, true}
 use mathlib.Core.Path.{ap}
 use mathlib.Core.Logic.{inl, inr}
 use Rattle.std.specs.declared.cmp.Ordering.{Ordering}
@@ -24,20 +24,6 @@ module _ {T : Type 0} (cmp : T → T → Ordering) (one other : Ends T) where
   -- the two share a cut if they have a common span
   pub share-from_some : (span : Ends T) → span ∷ [] ≡ common_of cmp one other → spans_share cmp one other ≡ true
   share-from_some span e = some_by span (spans_share cmp one other) e
-
-  none_by : (r : Bool) → [] ≡ (if r then common_ends cmp one other ∷ [] else []) → r ≡ false
-  none_by r h1 = grind arith
-
-  -- and none if they have no common span
-  pub apart-from_none : [] ≡ common_of cmp one other → spans_share cmp one other ≡ false
-  apart-from_none e = none_by (spans_share cmp one other) e
-
-  -- the piece below is then the whole span, and there is none above
-  pub below-apart : spans_share cmp one other ≡ false → piece_below cmp one other ≡ one ∷ []
-  below-apart apart = ap (λ r. if r then span_if_any cmp one.lower other.lower else one ∷ []) apart
-
-  pub above-apart : spans_share cmp one other ≡ false → piece_above cmp one other ≡ []
-  above-apart apart = ap (λ r. if r then span_if_any cmp other.upper one.upper else []) apart
 
   -- the piece below, if they share a cut
   pub below-shared : spans_share cmp one other ≡ true
@@ -79,14 +65,13 @@ module _ {T : Type 0} {cmp : T → T → Ordering} (o : IsTotalOrder cmp) where
     pub pieces-cuts : IsInSome cmp (span_if_any cmp one.lower other.lower ++ span_if_any cmp other.upper one.upper) cut
         ↔ (IsInSpan cmp one cut × ¬ IsInSpan cmp other cut)
     pieces-cuts =
-        let low : List (Ends T) = span_if_any cmp one.lower other.lower in
-        let high : List (Ends T) = span_if_any cmp other.upper one.upper in (
-          λ is. elim (in_some-either cmp cut low high is) [
-            | inl l ↦ left-below ((if_any-cuts one.lower other.lower cut).0 l)
-            | inr r ↦ left-above ((if_any-cuts other.upper one.upper cut).0 r)
+        let low = if_any-cuts one.lower other.lower cut in let high = if_any-cuts other.upper one.upper cut in (
+          λ is. elim (in_some-either cmp cut _ _ is) [
+            | inl l ↦ left-below (low.0 l)
+            | inr r ↦ left-above (high.0 r)
           ],
           λ both. elim (in-pieces both.0 both.1) [
-            | inl l ↦ in_some-left cmp cut low high ((if_any-cuts one.lower other.lower cut).1 l)
-            | inr r ↦ in_some-right cmp cut low high ((if_any-cuts other.upper one.upper cut).1 r)
+            | inl l ↦ in_some-left cmp cut _ _ (low.1 l)
+            | inr r ↦ in_some-right cmp cut _ _ (high.1 r)
           ],
         )

@@ -80,22 +80,15 @@ module _ {T : Type 0} {cmp : T → T → Ordering} (o : IsTotalOrder cmp) where
       → HaveCommonCut cmp one other
       ↔ IsCutBelow cmp (common_ends cmp one other).lower (common_ends cmp one other).upper
   common_ends-hold one other =
-      let ends : Ends T = common_ends cmp one other in (
+      let ends = common_ends cmp one other in (
         λ h. (holds-below ends).0 (h.0, (common_ends-cuts one other h.0).1 (h.1, h.2)),
-        λ p. let held = (holds-below ends).1 p in
-            let both = (common_ends-cuts one other held.0).0 held.1 in (held.0, both.0, both.1),
+        λ p. let both = (common_ends-cuts one other ends.lower).0 (record { lower = at_most_refl o ends.lower; upper = p }) in (ends.lower, both.0, both.1),
       )
 
   -- two spans that contain cuts share one exactly if each begins below where the other ends
   pub shares-ends : (one other : Ends T) → IsCutBelow cmp one.lower one.upper → IsCutBelow cmp other.lower other.upper
       → HaveCommonCut cmp one other ↔ (IsCutBelow cmp one.lower other.upper × IsCutBelow cmp other.lower one.upper)
-  shares-ends one other held held' = grind (
-    arith,
-    common_ends-hold one other,
-    below-lesser one.upper other.upper one.lower,
-    below-lesser one.upper other.upper other.lower,
-    greater-below,
-  )
+  shares-ends one other held held' = grind (arith, common_ends-hold one other, below-lesser, greater-below)
 
   -- the two tests of the program
   pub shares-by : (one other : Ends T) → IsCutBelow cmp one.lower one.upper → IsCutBelow cmp other.lower other.upper

@@ -1,8 +1,8 @@
 -- A step of a loop along a list: the elements that are left, and what follows from a test that is false.
+use native.Mathlib.Omega.{arith}
 use Rattle.std.proofs.Common.{◌≡◌, ℕ, ◌+◌, ◌<◌, List, ◌∷◌, Ordering, Less, true, false}
-use Rattle.std.proofs.Common.{drop, get_or, length, refl, sym, ap, ◌∙◌}
+use Rattle.std.proofs.Common.{drop, get_or, length, sym, ap, ◌∙◌}
 use Rattle.std.specs.Ordering.{is_ge, is_lt}
-use mathlib.Core.Bool.{true≢false}
 use Rattle.std.proofs.lemmas.List.{drop_more}
 use Rattle.semver_cuts.specs.declared.cut.Cut.{Cut}
 use Rattle.semver_cuts.specs.Cut.{cut_cmp}
@@ -17,12 +17,10 @@ here xs k x low at = drop_more xs k x low ∙ ap (λ y. y ∷ drop (k + 1) xs) (
 
 -- what follows if the test `>=` is false, and if it is true
 less-from_not_ge : (r : Ordering) → is_ge r ≡ false → r ≡ Less
-less-from_not_ge Less e = refl
-less-from_not_ge r e = absurd (true≢false e)
+less-from_not_ge r h1 = grind arith
 
 pub not_lt-from_ge : (r : Ordering) → is_ge r ≡ true → is_lt r ≡ false
-not_lt-from_ge Less e = absurd (true≢false (sym e))
-not_lt-from_ge r e = refl
+not_lt-from_ge r h1 = grind arith
 
 -- what follows if the test `c >= d` is true
 pub at_most-from_ge : {T : Type 0} {cmp : T → T → Ordering} → IsTotalOrder cmp → (c d : Cut T)

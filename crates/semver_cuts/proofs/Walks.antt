@@ -1,17 +1,18 @@
 -- Walks along the merged spans of two lists: a span that ends below the next span of the other list can be passed.
+use Rattle.semver_cuts.specs.Lemmas.TwoSpans.{shares-ends}
 use mathlib.Core.Bool.{true≢false}
 use Rattle.std.proofs.Common.{◌≡◌, ◌⊎◌, ◌↔◌, ℕ, zero, suc, ◌+◌, ◌<◌, ◌≤◌, List, [], ◌∷◌, Ordering}
 use Rattle.std.proofs.Common.{IsTrue, get_or, false}
-use Rattle.std.proofs.Common.{take, drop, length, sym, ap, subst, inl, inr, ⊎_elim, arith}
+use Rattle.std.proofs.Common.{drop, length, sym, ap, subst, inl, inr, arith}
 use Rattle.std.specs.Cmp.{IsTotalOrder}
 use Rattle.std.proofs.lemmas.List.{drop_all, take-append-drop}
 use Rattle.semver_cuts.specs.declared.cut.Cut.{Cut}
 use Rattle.semver_cuts.specs.SpanLists.{IsInSome, IsWithin}
 use Rattle.semver_cuts.specs.Ends.{Ends, IsCutAtMost, IsCutBelow, IsInSpan}
 use Rattle.semver_cuts.specs.Joined.{AreJoined, AreMerged}
-use Rattle.semver_cuts.specs.Sharing.{CoversAll, HaveCommonCut, ShareCut}
+use Rattle.semver_cuts.specs.Sharing.{CoversAll, ShareCut}
 use Rattle.semver_cuts.specs.Lemmas.Apart.{apart-above, merged-drop, merged-tail}
-use Rattle.semver_cuts.specs.Lemmas.Ends.{at_most-or-below, at_most_refl, at_most_trans, below-at_most}
+use Rattle.semver_cuts.specs.Lemmas.Ends.{at_most_refl, at_most_trans, below-at_most}
 use Rattle.semver_cuts.specs.Lemmas.Ends.{below-not-at_most, below_irrefl, below_trans}
 use Rattle.semver_cuts.specs.Lemmas.InSome.{in_some-right, some-above}
 
@@ -43,9 +44,7 @@ module _ {T : Type 0} {cmp : T → T → Ordering} (o : IsTotalOrder cmp) where
 
   -- the cuts of the spans from a place on are cuts of the list
   pub in-whole : (spans : List (Ends T)) (k : ℕ) (cut : Cut T) → IsInSome cmp (drop k spans) cut → IsInSome cmp spans cut
-  in-whole spans k cut is =
-      subst (λ l. IsInSome cmp l cut) (take-append-drop k spans)
-      (in_some-right cmp cut (take k spans) (drop k spans) is)
+  in-whole spans k cut is = grind (arith, take-append-drop k spans, in_some-right cmp cut)
 
   module _ (ms ws : List (Ends T)) (ms_are : AreMerged cmp ms) (ws_are : AreMerged cmp ws) (i j : ℕ)
       (one other : Ends T)
@@ -59,54 +58,23 @@ module _ {T : Type 0} {cmp : T → T → Ordering} (o : IsTotalOrder cmp) where
     -- a span of the first list can be passed if it ends at or below where the next span of the second begins
     pub passed : IsCutAtMost cmp one.upper other.lower → (cut : Cut T) → IsInSome cmp (drop j ws) cut
         → IsInSome cmp (drop i ms) cut → IsInSome cmp (drop (i + 1) ms) cut
-    passed past cut there here =
-        ⊎_elim
-        (λ is. absurd (below-not-at_most o cut one.upper is.upper (at_most_trans o one.upper other.lower cut past
-        (all-from_first other (drop (j + 1) ws) cut other_are (subst (λ l. IsInSome cmp l cut) other_at there)))))
-        (λ later. later) (subst (λ l. IsInSome cmp l cut) at here)
+    passed past cut there here = grind (arith, all-from_first other (drop (j + 1) ws) cut other_are, below-not-at_most o, at_most_trans o)
 
     -- the two spans share a cut if each begins below where the other ends
     pub share-found : IsCutBelow cmp one.lower other.upper → IsCutBelow cmp other.lower one.upper → ShareCut cmp ms ws
-    share-found low high =
-        let found : (cut : Cut T) → IsInSpan cmp one cut → IsInSpan cmp other cut → ShareCut cmp ms ws =
-        λ cut p q. (
-          cut,
-          in-whole ms i cut (subst (λ l. IsInSome cmp l cut) (sym at) (inl p)),
-          in-whole ws j cut (subst (λ l. IsInSome cmp l cut) (sym other_at) (inl q)),
-        ) in
-        ⊎_elim
-        (λ le. found other.lower (record { lower = le; upper = high }) (first-cut other other_are.rising.0))
-        (λ lt. found one.lower (first-cut one one_are.rising.0) (record { lower = inl lt; upper = low }))
-        (at_most-or-below o one.lower other.lower)
+    share-found low high = let shared = (shares-ends o one other one_are.rising.0 other_are.rising.0).1 (low, high) in (shared.0, grind (arith, in-whole ms i shared.0), grind (arith, in-whole ws j shared.0))
 
     -- a span of the second list that lies in the next one of the first
     pub covered : IsCutAtMost cmp one.lower other.lower → IsCutAtMost cmp other.upper one.upper → (cut : Cut T)
         → IsInSome cmp (drop j ws) cut → IsInSome cmp ms cut ⊎ IsInSome cmp (drop (j + 1) ws) cut
-    covered low high cut is =
-        ⊎_elim
-        (λ here. inl (in-whole ms i cut (subst (λ l. IsInSome cmp l cut) (sym at) (inl (record {
-          lower = at_most_trans o one.lower other.lower cut low here.lower;
-          upper = below-at_most o cut other.upper one.upper here.upper high;
-        })))))
-        (λ later. inr later) (subst (λ l. IsInSome cmp l cut) other_at is)
+    covered low high cut is = grind (arith, in-whole ms i cut, at_most_trans o one.lower other.lower, below-at_most o cut other.upper)
 
     -- a span of the second list that does not, and begins below the end of the next one of the first
     pub uncovered : IsCutBelow cmp other.lower one.upper
         → IsCutBelow cmp other.lower one.lower ⊎ IsCutBelow cmp one.upper other.upper
         → (cut : Cut T) × IsInSome cmp (drop j ws) cut × ¬ IsInSome cmp (drop i ms) cut
-    uncovered begun out =
-        let found : (cut : Cut T) → IsInSpan cmp other cut → ¬ IsInSome cmp (one ∷ drop (i + 1) ms) cut
-        → (cut : Cut T) × IsInSome cmp (drop j ws) cut × ¬ IsInSome cmp (drop i ms) cut =
-        λ cut is none. (
-          cut,
-          subst (λ l. IsInSome cmp l cut) (sym other_at) (inl is),
-          subst (λ l. ¬ IsInSome cmp l cut) (sym at) none,
-        ) in
-        ⊎_elim
-        (λ low. found other.lower (first-cut other other_are.rising.0)
-        (λ is. below-not-at_most o other.lower one.lower low (all-from_first one (drop (i + 1) ms) other.lower one_are is)))
-        (λ high. found one.upper (record { lower = inl begun; upper = high }) (end-outside one (drop (i + 1) ms) one_are))
-        out
+    uncovered begun (inl low) = (other.lower, grind (arith, first-cut other, other_are), grind (arith, all-from_first one (drop (i + 1) ms) other.lower one_are, below-not-at_most o))
+    uncovered begun (inr high) = (one.upper, grind arith, grind (arith, end-outside one (drop (i + 1) ms) one_are))
 
   -- ---- the end of a walk
 
@@ -126,23 +94,14 @@ module _ {T : Type 0} {cmp : T → T → Ordering} (o : IsTotalOrder cmp) where
     pub not-shared : ((cut : Cut T) → IsInSome cmp ms cut → IsInSome cmp ws cut
         → IsInSome cmp (drop i ms) cut × IsInSome cmp (drop j ws) cut)
         → (length ms ≤ i) ⊎ (length ws ≤ j) → IsTrue false ↔ ShareCut cmp ones others
-    not-shared left ended = (
-      λ never. absurd (true≢false (sym never)),
-      λ shared.
-          let both = left shared.0 ((are.cuts shared.0).1 shared.1) ((others_are.cuts shared.0).1 shared.2) in
-          absurd (⊎_elim (λ h. none-from ms i h shared.0 both.0) (λ h. none-from ws j h shared.0 both.1) ended),
-    )
+    not-shared left ended = (λ never. absurd (true≢false (sym never)), λ shared. let both = left shared.0 ((are.cuts shared.0).1 shared.1) ((others_are.cuts shared.0).1 shared.2) in absurd (grind (arith, both, none-from)))
 
     -- a cut that is left in the second list alone is not covered
     pub not-covered : ((cut : Cut T) → IsInSome cmp (drop j ws) cut → IsInSome cmp ms cut
         → IsInSome cmp (drop i ms) cut)
         → ((cut : Cut T) × IsInSome cmp (drop j ws) cut × ¬ IsInSome cmp (drop i ms) cut)
         → IsTrue false ↔ CoversAll cmp ones others
-    not-covered passed found = (
-      λ never. absurd (true≢false (sym never)),
-      λ covers. absurd (found.2 (passed found.0 found.1 ((are.cuts found.0).1
-          (covers found.0 ((others_are.cuts found.0).0 (in-whole ws j found.0 found.1)))))),
-    )
+    not-covered passed found = grind (arith, in-whole)
 
 -- ---- one span and one span
 
@@ -153,17 +112,5 @@ one-list (y ∷ []) x l e = ap (λ z. z ∷ []) (sym e)
 one-list (y ∷ z ∷ xs) x l e = absurd (omega arith)
 
 module _ {T : Type 0} (cmp : T → T → Ordering) (one other : Ends T) where
-  in-only : (span : Ends T) (cut : Cut T) → IsInSome cmp (span ∷ []) cut → IsInSpan cmp span cut
-  in-only span cut is = ⊎_elim (λ here. here) (λ never. absurd never) is
-
   pub covers-one : IsWithin cmp other one ↔ CoversAll cmp (one ∷ []) (other ∷ [])
-  covers-one = (
-    λ within cut is. inl (within cut (in-only other cut is)),
-    λ covers cut is. in-only one cut (covers cut (inl is)),
-  )
-
-  pub shares-one : HaveCommonCut cmp one other ↔ ShareCut cmp (one ∷ []) (other ∷ [])
-  shares-one = (
-    λ shared. (shared.0, inl shared.1, inl shared.2),
-    λ shared. (shared.0, in-only one shared.0 shared.1, in-only other shared.0 shared.2),
-  )
+  covers-one = grind arith

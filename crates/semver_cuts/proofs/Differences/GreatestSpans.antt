@@ -1,5 +1,8 @@
 -- Spans that are apart are the greatest spans of their cuts: the end of each lies in none of them.
-use Rattle.std.proofs.Common.{List, [], ◌∷◌, Ordering, inl, inr, ⊎_elim}
+use Rattle.semver_cuts.proofs.Walks.{all-from_first}
+use Rattle.semver_cuts.specs.Lemmas.Apart.{uppers-above}
+use native.Mathlib.Omega.{arith}
+use Rattle.std.proofs.Common.{List, [], ◌∷◌, Ordering, inl, ⊎_elim}
 use Rattle.std.specs.List.{AllByRecursion}
 use Rattle.std.specs.Cmp.{IsTotalOrder}
 use Rattle.semver_cuts.specs.declared.cut.Cut.{Cut}
@@ -22,12 +25,7 @@ module _ {T : Type 0} (cmp : T → T → Ordering) where
   pub each-in_some : (spans : List (Ends T))
       → AllByRecursion (λ (s : Ends T). (cut : Cut T) → IsInSpan cmp s cut → IsInSome cmp spans cut) spans
   each-in_some [] = tt
-  each-in_some (span ∷ spans) = (
-    λ cut h. inl h,
-    all_map (λ (s : Ends T). (cut : Cut T) → IsInSpan cmp s cut → IsInSome cmp spans cut)
-        (λ (s : Ends T). (cut : Cut T) → IsInSpan cmp s cut → IsInSome cmp (span ∷ spans) cut)
-        (λ s h cut is. inr (h cut is)) spans (each-in_some spans),
-  )
+  each-in_some (span ∷ spans) = grind (arith, all_map, each-in_some spans)
 
 module _ {T : Type 0} {cmp : T → T → Ordering} (o : IsTotalOrder cmp) where
   past_end : (span : Ends T) (cut : Cut T) → IsCutBelow cmp span.upper cut → ¬ (IsInSpan cmp span cut)
@@ -38,18 +36,10 @@ module _ {T : Type 0} {cmp : T → T → Ordering} (o : IsTotalOrder cmp) where
       → AllByRecursion (λ (s : Ends T). ¬ (IsInSome cmp spans s.upper)) spans
   ends-free [] apart rising = tt
   ends-free (span ∷ spans) apart rising =
-      let Free : Ends T → Type 0 = λ s. ¬ (IsInSome cmp spans s.upper) in
-      let Above : Ends T → Type 0 = λ s. IsCutBelow cmp span.upper s.lower in
-      let above : AllByRecursion Above spans = apart-above o span spans apart rising.1 in
-      let over : AllByRecursion (λ (s : Ends T). IsCutBelow cmp span.upper s.upper) spans =
-      all_both Above (λ (s : Ends T). IsCutBelow cmp s.lower s.upper)
-      (λ (s : Ends T). IsCutBelow cmp span.upper s.upper)
-      (λ s p q. below_trans o span.upper s.lower s.upper p q) spans above rising.1 in (
-        ⊎_elim (λ h. below_irrefl o span.upper h.upper) (none-above cmp o span.upper spans above),
-        all_both Free (λ (s : Ends T). IsCutBelow cmp span.upper s.upper)
-            (λ (s : Ends T). ¬ (IsInSome cmp (span ∷ spans) s.upper))
-            (λ s free h. ⊎_elim (past_end span s.upper h) free) spans
-            (ends-free spans (apart-tail cmp span spans apart) rising.1) over,
+      let above = apart-above o span spans apart rising.1 in (
+        grind (arith, none-above cmp o, below_irrefl o),
+        all_both _ _ _ (λ s free h. ⊎_elim (past_end span s.upper h) free) spans
+            (ends-free spans (apart-tail cmp span spans apart) rising.1) (uppers-above o span.upper spans above rising.1),
       )
 
   -- between a cut that lies in one of them and the lower end of a later one, some cut lies in none
@@ -61,22 +51,17 @@ module _ {T : Type 0} {cmp : T → T → Ordering} (o : IsTotalOrder cmp) where
       → AllByRecursion (HasGapBelow spans) spans
   gaps-below [] apart rising = tt
   gaps-below (span ∷ spans) apart rising =
-      let Above : Ends T → Type 0 = λ s. IsCutBelow cmp span.upper s.lower in
-      let above : AllByRecursion Above spans = apart-above o span spans apart rising.1 in
-      let free : ¬ (IsInSome cmp (span ∷ spans) span.upper) = (ends-free (span ∷ spans) apart rising).0 in (
-        λ cut below. ⊎_elim (λ here. absurd (below-not-at_most o cut span.lower below here.lower))
-            (λ there. absurd (below_irrefl o cut (below_trans o cut span.lower cut below
-            (below_trans o span.lower span.upper cut rising.0 (some-above o cut span.upper spans above there))))),
-        all_both (HasGapBelow spans) Above (HasGapBelow (span ∷ spans))
-            (λ s gap h cut below. ⊎_elim
-            (λ here. (span.upper, here.upper, h, free))
-            (λ there.
-            let g = gap cut below there in (
+      let above = apart-above o span spans apart rising.1 in (
+        λ cut below is. absurd (below-not-at_most o cut span.lower below
+            (all-from_first o span spans cut (record { rising = rising; apart = apart }) is)),
+        all_both _ _ _ (λ s gap h cut below. ⊎_elim
+            (λ here. (span.upper, here.upper, h, (ends-free (span ∷ spans) apart rising).0))
+            (λ there. let g = gap cut below there in (
               g.0,
               g.1,
               g.2,
-              ⊎_elim (past_end span g.0 (below_trans o span.upper cut g.0
-                  (some-above o cut span.upper spans above there) g.1)) g.3,
+              ⊎_elim (past_end span g.0 (below_trans o span.upper cut
+                  g.0 (some-above o cut span.upper spans above there) g.1)) g.3,
             )))
             spans (gaps-below spans (apart-tail cmp span spans apart) rising.1) above,
       )
@@ -87,21 +72,7 @@ module _ {T : Type 0} {cmp : T → T → Ordering} (o : IsTotalOrder cmp) where
       → ((cut : Cut T) → IsInSpan cmp wider cut → IsInSome cmp spans cut) → IsWithin cmp span wider
       → IsWithin cmp wider span
   greatest spans span wider rising free gap inside within cut is =
-      let begins : IsInSpan cmp wider span.lower =
-      within span.lower (record { lower = at_most_refl o span.lower; upper = rising }) in
-      record {
-        lower = ⊎_elim (λ h. h)
-            (λ below.
-            let g = gap cut below (inside cut is) in
-            absurd (g.3 (inside g.0 (record {
-              lower = at_most_trans o wider.lower cut g.0 is.lower (inl g.1);
-              upper = below_trans o g.0 span.lower wider.upper g.2 begins.upper;
-            }))))
-            (at_most-or-below o span.lower cut);
-        upper = ⊎_elim
-            (λ past. absurd (free (inside span.upper (record {
-              lower = at_most_trans o wider.lower span.lower span.upper begins.lower (inl rising);
-              upper = at_most-below o span.upper cut wider.upper past is.upper;
-            }))))
-            (λ h. h) (at_most-or-below o span.upper cut);
+      let lower = within span.lower (record { lower = at_most_refl o span.lower; upper = rising }) in record {
+        lower = ⊎_elim (λ h. h) (λ below. let g = gap cut below (inside cut is) in absurd (grind (arith, inside g.0, at_most_trans o wider.lower cut g.0, below_trans o g.0 span.lower wider.upper))) (at_most-or-below o span.lower cut);
+        upper = ⊎_elim (λ past. absurd (grind (arith, inside span.upper, at_most_trans o wider.lower span.lower span.upper, at_most-below o span.upper cut wider.upper))) (λ h. h) (at_most-or-below o span.upper cut);
       }

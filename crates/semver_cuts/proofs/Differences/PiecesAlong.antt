@@ -1,5 +1,7 @@
 -- The pieces of a span outside merged spans, found one by one in ascending order.
-use Rattle.std.proofs.Common.{◌≡◌, ◌⊎◌, List, [], ◌∷◌, ◌++◌, Ordering, true, false, refl, inl, inr, ⊎_elim, ap, subst, sym, ◌∙◌}
+use Rattle.semver_cuts.specs.Lemmas.Apart.{lowers-above, lowers-from, lowers-at_least, uppers-above}
+use native.Mathlib.Omega.{arith}
+use Rattle.std.proofs.Common.{◌≡◌, ◌⊎◌, List, [], ◌∷◌, ◌++◌, Ordering, true, false, inl, inr, subst}
 use Rattle.std.proofs.lemmas.List.{append-nil, append_assoc}
 use Rattle.std.specs.List.{AllByRecursion}
 use Rattle.std.specs.Cmp.{IsTotalOrder}
@@ -13,7 +15,6 @@ use Rattle.semver_cuts.specs.Joined.{AreMerged, AreRising}
 use Rattle.semver_cuts.specs.Lemmas.Apart.{apart-above, apart-cons, merged-tail}
 use Rattle.semver_cuts.specs.Lemmas.Ends.{at_most-below, at_most-from_not_lt, at_most-or-below, at_most_refl, below-from_lt}
 use Rattle.semver_cuts.specs.Lemmas.Ends.{at_most_trans, below-at_most, below-not-at_most, below_trans}
-use Rattle.semver_cuts.specs.Lemmas.Lists.{all_both, all_map}
 use Rattle.semver_cuts.proofs.Differences.GreatestSpans.{none-above}
 
 -- the pieces, outside the spans, of the part of `one` from a cut on
@@ -45,13 +46,7 @@ module _ {T : Type 0} {cmp : T → T → Ordering} (o : IsTotalOrder cmp) where
       → ((is_lt (cut_cmp cmp low lower) ≡ true) × (now ≡ old ++ span_between low lower ∷ []))
       ⊎ ((is_lt (cut_cmp cmp low lower) ≡ false) × (now ≡ old))
       → (new : List (Ends T)) × (now ≡ first ++ new) × IsAdded low lower done new
-  added-by low lower first old now done e (inl h) = (
-    done ++ span_between low lower ∷ [],
-    h.1 ∙ ap (λ l. l ++ span_between low lower ∷ []) e ∙ append_assoc first done (span_between low lower ∷ []),
-    inl (below-from_lt cmp low lower h.0, refl),
-  )
-  added-by low lower first old now done e (inr h) =
-      (done, h.1 ∙ e, inr (at_most-from_not_lt o low lower h.0, refl))
+  added-by low lower first old now done h1 h2 = grind (arith, append_assoc, below-from_lt cmp, at_most-from_not_lt o)
 
 module _ {T : Type 0} {cmp : T → T → Ordering} (o : IsTotalOrder cmp) (others : List (Ends T)) (one : Ends T) where
   -- if no span begins below the end of `one`, the part is one piece
@@ -59,36 +54,14 @@ module _ {T : Type 0} {cmp : T → T → Ordering} (o : IsTotalOrder cmp) (other
       → IsPieceLower cmp others one low
       → AllByRecursion (λ (s : Ends T). IsCutAtMost cmp one.upper s.lower) spans
       → ArePiecesFrom cmp others one low spans (span_between low one.upper ∷ [])
-  whole-piece low spans below end above = record {
-    rising = (below, tt);
-    apart = tt;
-    from = (at_most_refl o low, tt);
-    inside = λ cut. ⊎_elim
-        (λ is. (
-          is.lower,
-          is.upper,
-          none-above cmp o cut spans (all_map (λ (s : Ends T). IsCutAtMost cmp one.upper s.lower)
-              (λ (s : Ends T). IsCutBelow cmp cut s.lower)
-              (λ s h. below-at_most o cut one.upper s.lower is.upper h) spans above),
-        ))
-        (λ h. elim h [ ]);
-    all = λ cut l u free. inl (record { lower = l; upper = u });
-    lowers = (end, tt);
-    uppers = (inl refl, tt);
-  }
+  whole-piece low spans below end above =
+      let none = λ (cut : Cut T) (h : IsCutBelow cmp cut one.upper). none-above cmp o cut spans (lowers-from o cut one.upper spans h above) in
+      grind (arith, none, at_most_refl o low)
 
   -- if the cut is not below the end of `one`, there is no piece
   no-piece : (low : Cut T) (spans : List (Ends T)) → IsCutAtMost cmp one.upper low
       → ArePiecesFrom cmp others one low spans []
-  no-piece low spans above = record {
-    rising = tt;
-    apart = tt;
-    from = tt;
-    inside = λ cut h. elim h [ ];
-    all = λ cut l u free. absurd (below-not-at_most o cut one.upper u (at_most_trans o one.upper low cut above l));
-    lowers = tt;
-    uppers = tt;
-  }
+  no-piece low spans above = grind arith
 
   module _ (low : Cut T) (span : Ends T) (spans : List (Ends T)) (over : IsCutBelow cmp low span.upper)
       (rising : IsCutBelow cmp span.lower span.upper)
@@ -98,66 +71,31 @@ module _ {T : Type 0} {cmp : T → T → Ordering} (o : IsTotalOrder cmp) (other
     behind : (parts : List (Ends T)) → ArePiecesFrom cmp others one span.upper spans parts → (cut : Cut T)
         → IsInSome cmp parts cut
         → IsCutAtMost cmp low cut × IsCutBelow cmp cut one.upper × ¬ (IsInSome cmp (span ∷ spans) cut)
-    behind parts are cut is =
-        let in' = are.inside cut is in (
-          inl (below-at_most o low span.upper cut over in'.0),
-          in'.1,
-          ⊎_elim (λ here. below-not-at_most o cut span.upper here.upper in'.0) in'.2,
-        )
+    behind parts are cut is = grind (arith, below-at_most o, below-not-at_most o)
 
     from_behind : (parts : List (Ends T)) → ArePiecesFrom cmp others one span.upper spans parts → (cut : Cut T)
         → IsCutBelow cmp cut one.upper → ¬ (IsInSome cmp (span ∷ spans) cut) → IsCutAtMost cmp span.lower cut
         → IsInSome cmp parts cut
-    from_behind parts are cut u free l =
-        are.all cut (⊎_elim (λ h. h) (λ h. absurd (free (inl (record { lower = l; upper = h }))))
-        (at_most-or-below o span.upper cut)) u (λ h. free (inr h))
+    from_behind parts are cut u free l = grind arith
 
     without-first : (parts : List (Ends T)) → ArePiecesFrom cmp others one span.upper spans parts
         → IsCutAtMost cmp span.lower low → ArePiecesFrom cmp others one low (span ∷ spans) parts
-    without-first parts are touches = record {
-      rising = are.rising;
-      apart = are.apart;
-      from = all_map (λ (s : Ends T). IsCutAtMost cmp span.upper s.lower) (λ (s : Ends T). IsCutAtMost cmp low s.lower)
-          (λ s h. inl (below-at_most o low span.upper s.lower over h)) parts are.from;
-      inside = behind parts are;
-      all = λ cut l u free. from_behind parts are cut u free (at_most_trans o span.lower low cut touches l);
-      lowers = are.lowers;
-      uppers = are.uppers;
-    }
+    without-first parts are touches = grind (arith, lowers-from o low span.upper, lowers-at_least o low, behind, at_most_trans o)
 
     with-first : (parts : List (Ends T)) → ArePiecesFrom cmp others one span.upper spans parts
         → IsCutBelow cmp low span.lower → IsPieceLower cmp others one low
         → IsFirstAt cmp (λ (s : Ends T). s.lower) others span.lower
         → ArePiecesFrom cmp others one low (span ∷ spans) (span_between low span.lower ∷ parts)
-    with-first parts are room end first = record {
-      rising = (room, are.rising);
-      apart = apart-cons cmp (span_between low span.lower) parts
-          (all_map (λ (s : Ends T). IsCutAtMost cmp span.upper s.lower)
-          (λ (s : Ends T). IsCutBelow cmp span.lower s.lower)
-          (λ s h. below-at_most o span.lower span.upper s.lower rising h) parts are.from) are.apart;
-      from = (
-        at_most_refl o low,
-        all_map (λ (s : Ends T). IsCutAtMost cmp span.upper s.lower) (λ (s : Ends T). IsCutAtMost cmp low s.lower)
-            (λ s h. inl (below-at_most o low span.upper s.lower over h)) parts are.from,
-      );
-      inside = λ cut. ⊎_elim
-          (λ is. (
-            is.lower,
-            below_trans o cut span.lower one.upper is.upper begins,
-            none-above cmp o cut (span ∷ spans) (
-              is.upper,
-              all_map (λ (s : Ends T). IsCutBelow cmp span.upper s.lower) (λ (s : Ends T). IsCutBelow cmp cut s.lower)
-                  (λ s h. below_trans o cut span.upper s.lower
-                  (below_trans o cut span.lower span.upper is.upper rising) h)
-                  spans above,
-            ),
-          ))
-          (behind parts are cut);
-      all = λ cut l u free. ⊎_elim (λ h. inr (from_behind parts are cut u free h))
-          (λ h. inl (record { lower = l; upper = h })) (at_most-or-below o span.lower cut);
-      lowers = (end, are.lowers);
-      uppers = (inr (begins, first), are.uppers);
-    }
+    with-first parts are room end first =
+        let none = λ (cut : Cut T) (h : IsCutBelow cmp cut span.lower). none-above cmp o cut (span ∷ spans) (h, lowers-above o cut span.upper spans (inl (below_trans o cut span.lower span.upper h rising)) above) in record {
+          rising = (room, are.rising);
+          apart = apart-cons cmp (span_between low span.lower) parts (lowers-from o span.lower span.upper parts rising are.from) are.apart;
+          from = (at_most_refl o low, lowers-at_least o low parts (lowers-from o low span.upper parts over are.from));
+          inside = λ cut is. grind (arith, none cut, behind parts are cut, below_trans o cut span.lower one.upper);
+          all = λ cut l u free. grind (arith, from_behind parts are cut u free, at_most-or-below o span.lower cut);
+          lowers = (end, are.lowers);
+          uppers = (inr (begins, first), are.uppers);
+        }
 
   -- ---- the walk along the spans
 
@@ -176,8 +114,7 @@ module _ {T : Type 0} {cmp : T → T → Ordering} (o : IsTotalOrder cmp) (other
   pub walked-stopped : (low : Cut T) (spans done : List (Ends T)) → IsWalked low spans done
       → AllByRecursion (λ (s : Ends T). IsCutAtMost cmp one.upper s.lower) spans
       → ArePieces cmp others one (done ++ span_between low one.upper ∷ [])
-  walked-stopped low spans done walked above =
-      walked.left (span_between low one.upper ∷ []) (whole-piece low spans walked.below walked.end above)
+  walked-stopped low spans done walked above = grind (arith, whole-piece)
 
   module _ (low : Cut T) (span : Ends T) (all spans done : List (Ends T)) (walking : IsWalked low all done)
       (parts : all ≡ span ∷ spans) where
@@ -191,46 +128,27 @@ module _ {T : Type 0} {cmp : T → T → Ordering} (o : IsTotalOrder cmp) (other
     pub walked-past : IsCutAtMost cmp one.upper span.lower
         → ArePieces cmp others one (done ++ span_between low one.upper ∷ [])
     walked-past past =
-        walked-stopped low (span ∷ spans) done walked (
-          past,
-          all_map (λ (s : Ends T). IsCutBelow cmp span.upper s.lower)
-              (λ (s : Ends T). IsCutAtMost cmp one.upper s.lower)
-              (λ s h. inl (at_most-below o one.upper span.lower s.lower past
-              (below_trans o span.lower span.upper s.lower walked.merged.rising.0 h))) spans above,
-        )
+        let over = at_most-below o one.upper span.lower span.upper past walked.merged.rising.0 in
+        walked-stopped low (span ∷ spans) done walked
+        (past, lowers-at_least o one.upper spans (lowers-above o one.upper span.upper spans (inl over) above))
 
     module _ (begins : IsCutBelow cmp span.lower one.upper) (new : List (Ends T)) where
       added : IsAdded o low span.lower done new → (parts : List (Ends T))
           → ArePiecesFrom cmp others one span.upper spans parts → ArePieces cmp others one (new ++ parts)
-      added (inl h) parts from =
-          subst (ArePieces cmp others one) (sym (append_assoc done (span_between low span.lower ∷ []) parts)
-          ∙ ap (λ l. l ++ parts) (sym h.1)) (walked.left (span_between low span.lower ∷ parts)
-          (with-first low span spans walked.over.0 walked.merged.rising.0 above begins parts from h.0 walked.end walked.first.0.0))
-      added (inr h) parts from =
-          subst (λ l. ArePieces cmp others one (l ++ parts)) (sym h.1) (walked.left parts
-          (without-first low span spans walked.over.0 walked.merged.rising.0 above begins parts from h.0))
+      added (inl h) parts from = rw (h.1, append_assoc) (walked.left _ (with-first low span spans walked.over.0
+          walked.merged.rising.0 above begins parts from h.0 walked.end walked.first.0.0))
+      added (inr h) parts from = rw h.1 (walked.left parts (without-first low span spans walked.over.0
+          walked.merged.rising.0 above begins parts from h.0))
 
       -- it ends at the end of `one` or above: there are no more pieces
       pub walked-ended : IsAdded o low span.lower done new → IsCutAtMost cmp one.upper span.upper
           → ArePieces cmp others one new
-      walked-ended more past =
-          subst (ArePieces cmp others one) (append-nil new)
-          (added more [] (no-piece span.upper spans past))
+      walked-ended more past = rw (← append-nil new) (added more [] (no-piece span.upper spans past))
 
       -- or below it: the walk goes on
       pub walked-next : IsAdded o low span.lower done new → IsCutBelow cmp span.upper one.upper
           → IsWalked span.upper spans new
       walked-next more ends =
-          let over : IsCutBelow cmp one.lower span.upper =
-          at_most-below o one.lower low span.upper walked.least walked.over.0 in
-          record {
-            below = ends;
-            least = inl over;
-            end = inr (over, walked.first.0.1);
-            over = all_both (λ (s : Ends T). IsCutBelow cmp span.upper s.lower)
-                (λ (s : Ends T). IsCutBelow cmp s.lower s.upper) (λ (s : Ends T). IsCutBelow cmp span.upper s.upper)
-                (λ s p q. below_trans o span.upper s.lower s.upper p q) spans above walked.merged.rising.1;
-            merged = merged-tail cmp span spans walked.merged;
-            first = walked.first.1;
-            left = added more;
-          }
+          let over = at_most-below o one.lower low span.upper walked.least walked.over.0 in
+          let uppers = uppers-above o span.upper spans above walked.merged.rising.1 in
+          grind (arith, over, uppers, walked, merged-tail cmp span spans walked.merged, added more)

@@ -1,5 +1,6 @@
 -- The pieces of a span that are found along merged spans are all its pieces, and each is a greatest one.
-use Rattle.std.proofs.Common.{◌≡◌, ℕ, zero, suc, List, [], ◌∷◌, ◌++◌, Ordering, drop, take, sym, subst, inl, inr, refl}
+use native.Mathlib.Omega.{arith}
+use Rattle.std.proofs.Common.{◌≡◌, ℕ, zero, suc, List, [], ◌∷◌, ◌++◌, Ordering, drop, take, inl, inr, refl}
 use Rattle.std.proofs.lemmas.List.{take-append-drop}
 use Rattle.std.specs.List.{AllByRecursion}
 use Rattle.std.specs.Cmp.{IsTotalOrder}
@@ -22,8 +23,7 @@ module _ {T : Type 0} {cmp : T → T → Ordering} (o : IsTotalOrder cmp) where
       → AllByRecursion (λ (s : Ends T). IsCutAtMost cmp s.upper low) front
       → IsCutAtMost cmp low cut → IsInSome cmp (front ++ back) cut → IsInSome cmp back cut
   not-before low [] back cut below l is = is
-  not-before low (span ∷ front) back cut below l (inl here) =
-      absurd (below-not-at_most o cut span.upper here.upper (at_most_trans o span.upper low cut below.0 l))
+  not-before low (span ∷ front) back cut below l (inl here) = grind (arith, below-not-at_most o, at_most_trans o)
   not-before low (span ∷ front) back cut below l (inr there) = not-before low front back cut below.1 l there
 
   all-drop : {X : Type 0} (P : X → Type 0) (k : ℕ) (xs : List X) → AllByRecursion P xs → AllByRecursion P (drop k xs)
@@ -38,17 +38,10 @@ module _ {T : Type 0} {cmp : T → T → Ordering} (o : IsTotalOrder cmp) where
 
     module _ (pieces : List (Ends T)) (from : ArePiecesFrom cmp others one one.lower (drop k joined) pieces) where
       left : (cut : Cut T) → IsInSome cmp pieces cut → IsInDifference cmp others one cut
-      left cut is =
-          let found = from.inside cut is in (
-            record { lower = found.0; upper = found.1 },
-            λ other. found.2 (not-before one.lower (take k joined) (drop k joined) cut first.below found.0
-                (subst (λ spans. IsInSome cmp spans cut) (sym parts) ((are.cuts cut).1 other))),
-          )
+      left cut is = grind (arith, not-before, parts)
 
       kept : (cut : Cut T) → IsInDifference cmp others one cut → IsInSome cmp pieces cut
-      kept cut is =
-          from.all cut is.0.lower is.0.upper (λ there. is.1 ((are.cuts cut).0
-          (subst (λ spans. IsInSome cmp spans cut) parts (in_some-right cmp cut (take k joined) (drop k joined) there))))
+      kept cut is = grind (arith, parts, in_some-right cmp cut)
 
       each-piece : (some : List (Ends T)) → AreRising cmp some
           → AllByRecursion (λ (s : Ends T). (cut : Cut T) → IsInSpan cmp s cut → IsInSome cmp pieces cut) some
@@ -71,12 +64,7 @@ module _ {T : Type 0} {cmp : T → T → Ordering} (o : IsTotalOrder cmp) where
       )
 
       found-all : ArePieces cmp others one pieces
-      found-all = record {
-        each = each-piece pieces from.rising (each-in_some cmp pieces) (ends-free o pieces from.apart from.rising)
-            (gaps-below o pieces from.apart from.rising) from.lowers from.uppers;
-        ascending = from.apart;
-        all = kept;
-      }
+      found-all = grind (arith, each-piece, each-in_some cmp, ends-free o, gaps-below o, kept)
 
     -- the walk begins at the first of the joined spans that ends above where `one` begins
     pub walked-first : IsWalked o others one one.lower (drop k joined) []

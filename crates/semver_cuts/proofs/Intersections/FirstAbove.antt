@@ -1,5 +1,7 @@
 -- Merged spans before one that ends at or below a cut do so too, and those after one that ends above it.
-use Rattle.std.proofs.Common.{◌≡◌, ◌<◌, ◌+◌, ℕ, List, [], ◌∷◌, ◌++◌, length, take, drop, ap, subst, sym, ◌∙◌, inl}
+use native.Mathlib.Omega.{arith}
+use Rattle.semver_cuts.specs.Lemmas.Apart.{lowers-above, uppers-above}
+use Rattle.std.proofs.Common.{◌≡◌, ◌<◌, ◌+◌, ℕ, List, [], ◌∷◌, ◌++◌, length, take, drop, ap, subst, sym, ◌∙◌}
 use Rattle.std.proofs.Common.{Ordering}
 use Rattle.std.proofs.lemmas.List.{drop_more, take_more, take-append-drop}
 use Rattle.std.specs.Cmp.{IsTotalOrder}
@@ -10,7 +12,7 @@ use Rattle.semver_cuts.specs.Joined.{AreMerged, AreRising}
 use Rattle.semver_cuts.specs.SpanLists.{AreApart}
 use Rattle.semver_cuts.specs.Lemmas.Apart.{apart-above, apart-before, merged-drop}
 use Rattle.semver_cuts.specs.Lemmas.Ends.{below-at_most, below_trans}
-use Rattle.semver_cuts.specs.Lemmas.Lists.{all_both, all_map, all_push}
+use Rattle.semver_cuts.specs.Lemmas.Lists.{all_map, all_push}
 
 module _ {T : Type 0} {cmp : T → T → Ordering} (o : IsTotalOrder cmp) (spans : List (Ends T)) (are : AreMerged cmp spans)
     (cut : Cut T) (place : ℕ) (span : Ends T) (within : place < length spans)
@@ -28,23 +30,11 @@ module _ {T : Type 0} {cmp : T → T → Ordering} (o : IsTotalOrder cmp) (spans
   pub ended-before : IsCutAtMost cmp span.upper cut
       → AllByRecursion (λ (s : Ends T). IsCutAtMost cmp s.upper cut) (take (place + 1) spans)
   ended-before h =
-      let Ended : Ends T → Type 0 = λ s. IsCutAtMost cmp s.upper cut in
-      subst (AllByRecursion Ended) (sym one_more) (all_push Ended (take place spans) span
-      (all_map (λ (s : Ends T). IsCutBelow cmp s.upper span.lower) Ended
-      (λ s p. inl (below-at_most o s.upper span.upper cut (below_trans o s.upper span.lower span.upper p
-      whole.rising.0) h)) (take place spans) (apart-before o (take place spans) (drop (place + 1) spans) span
-      (subst (AreApart cmp) parts are.apart) (subst (AreRising cmp) parts are.rising))) h)
+      let before = apart-before o (take place spans) (drop (place + 1) spans) span (subst (AreApart cmp) parts are.apart) (subst (AreRising cmp) parts are.rising) in
+      let ended : AllByRecursion (λ (s : Ends T). IsCutAtMost cmp s.upper cut) (take place spans) = all_map _ _ (λ s p. grind (arith, whole.rising.0, below_trans o, below-at_most o)) (take place spans) before in
+      grind (arith, one_more, all_push (λ (s : Ends T). IsCutAtMost cmp s.upper cut) (take place spans) span)
 
   -- a span that ends above the cut: so do all those after it
   pub above-from : IsCutBelow cmp cut span.upper
       → AllByRecursion (λ (s : Ends T). IsCutBelow cmp cut s.upper) (drop place spans)
-  above-from h =
-      let Above : Ends T → Type 0 = λ s. IsCutBelow cmp cut s.upper in
-      let rest : List (Ends T) = drop (place + 1) spans in
-      subst (AllByRecursion Above) (sym here) (
-        h,
-        all_both (λ (s : Ends T). IsCutBelow cmp span.upper s.lower) (λ (s : Ends T). IsCutBelow cmp s.lower s.upper)
-            Above
-            (λ s p q. below_trans o cut span.upper s.upper h (below_trans o span.upper s.lower s.upper p q))
-            rest (apart-above o span rest whole.apart whole.rising.1) whole.rising.1,
-      )
+  above-from h = grind (arith, here, whole, apart-above o span, lowers-above o cut span.upper, uppers-above o cut)

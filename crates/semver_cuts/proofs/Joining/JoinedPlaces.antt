@@ -1,16 +1,13 @@
 -- Merged spans kept as places in a list: how a sorted list gives them, and the span at each pair of places.
-use Rattle.std.proofs.Common.{◌≡◌, ◌≢◌, ℕ, zero, suc, ◌+◌, ◌<◌, ◌≤◌, List, [], ◌∷◌, ◌++◌, Ordering, drop, get_or}
-use Rattle.std.proofs.Common.{length, map, refl, sym, ap, subst, ◌∙◌, inl, inr, ⊎_elim, arith, length-append}
-use Rattle.std.proofs.Common.{◌==◌, Bool, true, false}
-use mathlib.Core.Bool.{true≢false}
-use Rattle.std.proofs.lemmas.Bool.{eqb-true}
+use Rattle.std.proofs.Common.{◌≡◌, ◌≢◌, ℕ, zero, suc, ◌+◌, ◌<◌, List, [], ◌∷◌, ◌++◌, Ordering, drop, get_or}
+use Rattle.std.proofs.Common.{length, map, refl, sym, ap, subst, inl, inr, arith, length-append}
+use Rattle.std.proofs.Common.{◌==◌, Bool, false}
 use Rattle.std.specs.List.{AllByRecursion}
 use Rattle.std.specs.Cmp.{IsTotalOrder}
-use Rattle.std.proofs.lemmas.List.{append-nil, append_assoc, drop-map, drop_all, drop_more, get_or_at, length-map}
+use Rattle.std.proofs.lemmas.List.{append_assoc, drop-map, drop_more, get_or_at, length-map}
 use Rattle.semver_cuts.specs.declared.cut.Cut.{Cut}
-use Rattle.semver_cuts.specs.declared.cut.Cut.TheVariants.{Start, End}
 use Rattle.semver_cuts.specs.SpanLists.{AreApart}
-use Rattle.semver_cuts.specs.Ends.{Ends, IsCutAtMost, IsCutBelow, span_between}
+use Rattle.semver_cuts.specs.Ends.{Ends, IsCutAtMost, IsCutBelow}
 use Rattle.semver_cuts.specs.Joined.{AreJoined, AreMerged, AreRising}
 use Rattle.semver_cuts.specs.Places.{AreWithin, IsPlacesOf, merged_spans, span_at, span_of_places}
 use Rattle.semver_cuts.specs.Private.Placed.{AreJoinedAt, AreSorted, PlacedSpan, placed_from}
@@ -33,14 +30,7 @@ IsPlaced spans p = (p.place < length spans) × (span_at spans p.place ≡ p.span
 pub placed-in : {T : Type 0} (front spans : List (Ends T)) (n : ℕ) → length front ≡ n
     → AllByRecursion (IsPlaced (front ++ spans)) (placed_from n spans)
 placed-in front [] n e = tt
-placed-in front (span ∷ spans) n e =
-    let at : (front ++ span ∷ []) ++ spans ≡ front ++ span ∷ spans = append_assoc front (span ∷ []) spans in
-    let within : n < length (front ++ span ∷ spans) = omega (arith, length-append front (span ∷ spans)) in
-    let next : length (front ++ span ∷ []) ≡ n + 1 = omega (arith, length-append front (span ∷ [])) in (
-      (within, get_or_at front span spans (span_between Start End) n e),
-      subst (λ l. AllByRecursion (IsPlaced l) (placed_from (n + 1) spans)) at
-          (placed-in (front ++ span ∷ []) spans (n + 1) next),
-    )
+placed-in front (span ∷ spans) n e = grind (arith, append_assoc, length-append, get_or_at, placed-in (front ++ span ∷ []) spans (n + 1))
 
 -- ---- joining the spans along the sorted list
 
@@ -49,14 +39,13 @@ module _ {T : Type 0} {cmp : T → T → Ordering} (o : IsTotalOrder cmp) (spans
   -- the pairs of places so far, where a run from the span at `begun` up to that at `place` is not ended yet
   pub record IsRunning (pairs : List (ℕ × ℕ)) (begun place : ℕ) (upper : Cut T) (later : List (PlacedSpan T))
       : Type 0 where
-    pub lower : Cut T
-    pub run : IsRun o spans order s lower upper place later
+    pub run : IsRun o spans order s (span_at spans begun).lower upper place later
     pub all : AllByRecursion (In o spans order s) later
     pub ascends : AreInOrder cmp later
-    pub begins : (begun < length spans) × ((span_at spans begun).lower ≡ lower)
+    pub begins : begun < length spans
     pub ends : (place < length spans) × ((span_at spans place).upper ≡ upper)
     pub left : (ps : List (ℕ × ℕ)) → AllByRecursion (AreWithin spans) ps
-        → AreEntries o spans order s lower upper later (map (span_of_places spans) ps)
+        → AreEntries o spans order s (span_at spans begun).lower upper later (map (span_of_places spans) ps)
         → AreJoinedAt cmp spans (pairs ++ ps)
 
   is-placed : (p : PlacedSpan T) → In o spans order s p → IsPlaced spans p
@@ -68,28 +57,13 @@ module _ {T : Type 0} {cmp : T → T → Ordering} (o : IsTotalOrder cmp) (spans
   running-first first later e =
       let all = subst (AllByRecursion (In o spans order s)) e (all-in o spans order s) in
       let at = is-placed first all.0 in
-      record {
-        lower = first.span.lower;
-        run = first-run o spans order s first later e;
-        all = all.1;
-        ascends = (subst (AreInOrder cmp) e (all-in_order o spans order s)).1;
-        begins = (at.0, ap (λ (s : Ends T). s.lower) at.1);
-        ends = (at.0, ap (λ (s : Ends T). s.upper) at.1);
-        left = λ ps within are.
-            record { within = within; joined = first-joined o spans order s first later e _ are };
-      }
+      let run = first-run o spans order s first later e in
+      grind (arith, first-joined o spans order s first later e, all-in_order o spans order s)
 
   module _ (pairs : List (ℕ × ℕ)) (begun place : ℕ) (upper : Cut T) where
-    ended : (later : List (PlacedSpan T)) (is : IsRunning pairs begun place upper later)
-        → span_of_places spans (begun, place) ≡ span_between is.lower upper
-    ended later is = λ i. span_between (is.begins.1 i) (is.ends.1 i)
-
     -- after the last span
     pub running-over : IsRunning pairs begun place upper [] → AreJoinedAt cmp spans (pairs ++ (begun, place) ∷ [])
-    running-over is =
-        is.left ((begun, place) ∷ []) ((is.begins.0, is.ends.0), tt)
-        (subst (λ span. AreEntries o spans order s is.lower upper [] (span ∷ []))
-        (sym (ended [] is)) (entries-last o spans order s is.lower upper place is.run))
+    running-over is = grind (arith, entries-last o spans order s (span_at spans begun).lower upper place is.run)
 
     module _ (next : PlacedSpan T) (later : List (PlacedSpan T)) (is : IsRunning pairs begun place upper (next ∷ later)) where
       at : IsPlaced spans next
@@ -98,75 +72,57 @@ module _ {T : Type 0} {cmp : T → T → Ordering} (o : IsTotalOrder cmp) (spans
       -- the next span begins above the end of the run
       pub running-next : IsCutBelow cmp upper next.span.lower
           → IsRunning (pairs ++ (begun, place) ∷ []) next.place next.place next.span.upper later
-      running-next gap = record {
-        lower = next.span.lower;
-        run = starts-run o spans order s is.lower upper place next later is.run is.all
-            is.ascends gap;
-        all = is.all.1;
-        ascends = is.ascends.1;
-        begins = (at.0, ap (λ (s : Ends T). s.lower) at.1);
-        ends = (at.0, ap (λ (s : Ends T). s.upper) at.1);
-        left = λ ps within are. subst (AreJoinedAt cmp spans) (sym (append_assoc pairs ((begun, place) ∷ []) ps))
-            (is.left ((begun, place) ∷ ps) ((is.begins.0, is.ends.0), within)
-            (subst (λ span. AreEntries o spans order s is.lower upper (next ∷ later)
-            (span ∷ map (span_of_places spans) ps)) (sym (ended (next ∷ later) is))
-            (starts o spans order s is.lower upper place next later is.run is.all is.ascends
-            gap (map (span_of_places spans) ps) are)));
-      }
+      running-next gap =
+          let run = starts-run o spans order s _ upper place next later is.run is.all is.ascends gap in
+          let more = starts o spans order s _ upper place next later is.run is.all is.ascends gap in
+          record {
+            run = rw at.1 run;
+            all = is.all.1;
+            ascends = is.ascends.1;
+            begins = at.0;
+            ends = (at.0, ap (λ (s : Ends T). s.upper) at.1);
+            left = λ ps within are. grind (arith, append_assoc, is.left, at, is.ends, more (map (span_of_places spans) ps));
+          }
 
       module _ (touches : IsCutAtMost cmp next.span.lower upper) where
         -- it begins there or below, and ends later
         pub running-longer : EndsLater o upper place next → IsRunning pairs begun next.place next.span.upper later
-        running-longer longer = record {
-          lower = is.lower;
-          run = grown-run o spans order s is.lower upper place next later is.run is.all
-              is.ascends longer;
-          all = is.all.1;
-          ascends = is.ascends.1;
-          begins = is.begins;
-          ends = (at.0, ap (λ (s : Ends T). s.upper) at.1);
-          left = λ ps within are. is.left ps within
-              (goes-on o spans order s is.lower upper place next later is.run is.all
-              is.ascends touches next.span.upper (⊎_elim (λ h. inl h) (λ h. inr h.0) longer)
-              (at_most_refl o next.span.upper) (inr refl) (map (span_of_places spans) ps) are);
-        }
+        running-longer longer =
+            let run = grown-run o spans order s _ upper place next later is.run is.all is.ascends longer in
+            let more = goes-on o spans order s _ upper place next later is.run is.all is.ascends touches in
+            record {
+              run = run;
+              all = is.all.1;
+              ascends = is.ascends.1;
+              begins = is.begins;
+              ends = (at.0, ap (λ (s : Ends T). s.upper) at.1);
+              left = λ ps within are. is.left ps within (more next.span.upper (grind arith) (at_most_refl o next.span.upper) (inr refl) _ are);
+            }
 
         -- or does not end later
         pub running-same : EndsNoLater o upper place next → IsRunning pairs begun place upper later
-        running-same no_later = record {
-          lower = is.lower;
-          run = kept-run o spans order s is.lower upper place next later is.run is.all
-              is.ascends no_later;
-          all = is.all.1;
-          ascends = is.ascends.1;
-          begins = is.begins;
-          ends = is.ends;
-          left = λ ps within are. is.left ps within
-              (goes-on o spans order s is.lower upper place next later is.run is.all
-              is.ascends touches upper (at_most_refl o upper) (⊎_elim (λ h. inl h) (λ h. inr h.0) no_later) (inl refl)
-              (map (span_of_places spans) ps) are);
-        }
+        running-same no_later =
+            let run = kept-run o spans order s _ upper place next later is.run is.all is.ascends no_later in
+            let more = goes-on o spans order s _ upper place next later is.run is.all is.ascends touches in
+            record {
+              run = run;
+              all = is.all.1;
+              ascends = is.ascends.1;
+              begins = is.begins;
+              ends = is.ends;
+              left = λ ps within are. is.left ps within (more upper (at_most_refl o upper) (grind arith) (inl refl) _ are);
+            }
 
   -- the same state by other names
   pub running-moved : (pairs pairs' : List (ℕ × ℕ)) (begun begun' place place' : ℕ) (upper upper' : Cut T)
       (later later' : List (PlacedSpan T)) → pairs ≡ pairs' → begun ≡ begun' → place ≡ place' → upper ≡ upper'
       → later ≡ later' → IsRunning pairs begun place upper later → IsRunning pairs' begun' place' upper' later'
-  running-moved pairs pairs' begun begun' place place' upper upper' later later' e f h u l is =
-      subst (λ (X : Type 0). X) (λ i. IsRunning (e i) (f i) (h i) (u i) (l i)) is
+  running-moved pairs pairs' begun begun' place place' upper upper' later later' e f h u l is = grind arith
 
 module _ {T : Type 0} (cmp : T → T → Ordering) (spans : List (Ends T)) where
   -- the merged spans, if there are places
   pub some-map : (pairs : List (ℕ × ℕ)) → pairs ≢ [] → merged_spans spans pairs ≡ map (span_of_places spans) pairs
-  some-map [] some = absurd (some refl)
-  some-map (pair ∷ pairs) some = refl
-
-  -- after the last pair of places, all merged spans were taken
-  pub taken-all : (pairs : List (ℕ × ℕ)) → pairs ≢ [] → (k : ℕ) (items : List (Ends T)) → length pairs ≤ k
-      → items ++ map (span_of_places spans) (drop k pairs) ≡ map (span_of_places spans) pairs
-      → items ≡ merged_spans spans pairs
-  taken-all pairs some k items done e =
-      sym (append-nil items) ∙ ap (λ l. items ++ map (span_of_places spans) l) (sym (drop_all k pairs done))
-      ∙ e ∙ sym (some-map pairs some)
+  some-map pairs h1 = grind arith
 
 module _ {T : Type 0} {cmp : T → T → Ordering} (o : IsTotalOrder cmp) where
   none-apart : (spans : List (Ends T)) → AreRising cmp spans → AreJoined cmp spans [] → AreApart cmp spans
@@ -176,13 +132,7 @@ module _ {T : Type 0} {cmp : T → T → Ordering} (o : IsTotalOrder cmp) where
   -- the places of spans that are not merged as they stand
   pub joined-places : (spans : List (Ends T)) → AreRising cmp spans → ¬ AreApart cmp spans → (pairs : List (ℕ × ℕ))
       → AreJoinedAt cmp spans pairs → IsPlacesOf cmp spans pairs
-  joined-places spans rising divided [] are = absurd (divided (none-apart spans rising are.joined))
-  joined-places spans rising divided (pair ∷ pairs) are = record {
-    rising = rising;
-    within = are.within;
-    joined = are.joined;
-    none = λ apart. absurd (divided apart);
-  }
+  joined-places spans h1 h2 pairs h3 = grind (arith, none-apart)
 
 -- ---- a merged span by its number
 
@@ -190,30 +140,17 @@ module _ {T : Type 0} (cmp : T → T → Ordering) where
   -- there are no places if the list is merged as it stands
   pub merged-by : (spans : List (Ends T)) (pairs : List (ℕ × ℕ)) (b : Bool) → (length pairs == 0) ≡ b
       → Tested b (merged_spans spans pairs ≡ spans) (merged_spans spans pairs ≡ map (span_of_places spans) pairs)
-  merged-by spans [] true e = refl
-  merged-by spans [] false e = absurd (true≢false e)
-  merged-by spans (p ∷ pairs) true e = let z = eqb-true (length (p ∷ pairs)) 0 e in absurd (omega arith)
-  merged-by spans (p ∷ pairs) false e = refl
+  merged-by spans pairs b h1 = grind arith
 
   module _ (spans : List (Ends T)) (pairs : List (ℕ × ℕ)) (k : ℕ) (low : k < length (merged_spans spans pairs)) where
-    pub low-place : (length pairs == 0) ≡ true → k < length spans
-    low-place e = subst (λ l. k < length l) (merged-by spans pairs true e) low
-
     module _ (some : (length pairs == 0) ≡ false) where
       pub low-pair : k < length pairs
-      low-pair =
-          let f : ℕ × ℕ → Ends T = span_of_places spans in
-          omega (arith, ap length (merged-by spans pairs false some), length-map pairs f, low)
+      low-pair = grind (arith, merged-by, length-map)
 
       -- the merged span of a pair of places
       pub merged-at : (d : ℕ × ℕ) (span : Ends T) → span ≡ span_of_places spans (get_or pairs k d)
           → drop k (merged_spans spans pairs) ≡ span ∷ drop (k + 1) (merged_spans spans pairs)
-      merged-at d span e =
-          let f : ℕ × ℕ → Ends T = span_of_places spans in
-          let same : merged_spans spans pairs ≡ map f pairs = merged-by spans pairs false some in
-          ap (drop k) same ∙ drop-map f k pairs ∙ ap (map f) (drop_more pairs k d low-pair)
-          ∙ ap (λ s. s ∷ map f (drop (k + 1) pairs)) (sym e)
-          ∙ ap (λ l. span ∷ l) (sym (drop-map f (k + 1) pairs) ∙ ap (drop (k + 1)) (sym same))
+      merged-at d span e = grind (arith, merged-by, drop-map, drop_more, low-pair)
 
   -- both places of each pair are in the list
   pub within-at : (spans : List (Ends T)) (pairs : List (ℕ × ℕ)) (k : ℕ) (d : ℕ × ℕ)
@@ -240,14 +177,7 @@ module _ {T : Type 0} {cmp : T → T → Ordering} (o : IsTotalOrder cmp) (spans
         → AllByRecursion (λ (s : Ends T). IsCutBelow cmp (span_of_places spans pair).upper s.upper)
         (map (span_of_places spans) later) → AllByRecursion (IsKept now) later → AllByRecursion (IsKept new) later
     all-kept [] low high kept = tt
-    all-kept (p ∷ later) low high kept =
-        let lower : (span_at new p.0).lower ≡ (span_at now p.0).lower =
-        lowers p.0 (λ e. below_irrefl o (span_of_places spans pair).lower
-        (subst (λ k. IsCutBelow cmp (span_of_places spans pair).lower (span_at spans k).lower) e low.0)) in
-        let upper : (span_at new p.1).upper ≡ (span_at now p.1).upper =
-        uppers p.1 (λ e. below_irrefl o (span_of_places spans pair).upper
-        (subst (λ k. IsCutBelow cmp (span_of_places spans pair).upper (span_at spans k).upper) e high.0)) in
-        ((λ i. span_between (lower i) (upper i)) ∙ kept.0, all-kept later low.1 high.1 kept.1)
+    all-kept (p ∷ later) low high kept = grind (arith, below_irrefl o, all-kept later low.1 high.1 kept.1)
 
   pub itself-kept : (pairs : List (ℕ × ℕ)) → AllByRecursion (IsKept spans) pairs
   itself-kept [] = tt
@@ -267,9 +197,7 @@ module _ {T : Type 0} {cmp : T → T → Ordering} (o : IsTotalOrder cmp) (spans
     kept' = subst (AllByRecursion (IsKept now)) here kept
 
     left : AreMerged cmp (map (span_of_places spans) (next ∷ drop (k + 1) pairs))
-    left =
-        subst (AreMerged cmp) (ap (drop k) (some-map cmp spans pairs some) ∙ drop-map (span_of_places spans) k pairs
-        ∙ ap (map (span_of_places spans)) here) (merged-drop cmp k (merged_spans spans pairs) are)
+    left = grind (arith, some-map cmp, drop-map, here, merged-drop cmp k)
 
     pub next-rising : IsCutBelow cmp (span_at now next.0).lower (span_at now next.1).upper
     next-rising = subst (λ (s : Ends T). IsCutBelow cmp s.lower s.upper) (sym kept'.0) left.rising.0
@@ -284,7 +212,4 @@ module _ {T : Type 0} {cmp : T → T → Ordering} (o : IsTotalOrder cmp) (spans
     pub next-done : (joined : List (Ends T)) (span : Ends T) → span ≡ span_of_places now next
         → (joined ++ span ∷ []) ++ map (span_of_places spans) (drop (k + 1) pairs)
         ≡ joined ++ map (span_of_places spans) (drop k pairs)
-    next-done joined span e =
-        append_assoc joined (span ∷ []) (map (span_of_places spans) (drop (k + 1) pairs))
-        ∙ ap (λ s. joined ++ (s ∷ map (span_of_places spans) (drop (k + 1) pairs))) (e ∙ kept'.0)
-        ∙ ap (λ l. joined ++ map (span_of_places spans) l) (sym here)
+    next-done joined span e = grind (arith, append_assoc, here)

@@ -1,7 +1,8 @@
 -- Spans that are joined in the order of their lower ends. The joined spans are apart and have the same cuts, and of
 -- equal ends that of the first span is chosen.
+use Rattle.semver_cuts.specs.Lemmas.Apart.{lowers-above, lowers-from, lowers-at_least}
 use Rattle.std.proofs.Common.{◌≡◌, ◌+◌, ◌⊎◌, ◌↔◌, ℕ, ◌≤◌, List, [], ◌∷◌, map, Ordering, Equal, false}
-use Rattle.std.proofs.Common.{refl, sym, ap, subst, ◌∙◌, inl, inr, ⊎_elim, arith}
+use Rattle.std.proofs.Common.{refl, inl, arith}
 use Rattle.std.specs.List.{AllByRecursion}
 use Rattle.std.specs.Ordering.{is_lt}
 use Rattle.std.specs.Cmp.{IsTotalOrder}
@@ -11,10 +12,9 @@ use Rattle.semver_cuts.specs.SpanLists.{AreApart, IsInSome}
 use Rattle.semver_cuts.specs.Ends.{Ends, IsCutAtMost, IsCutBelow, IsInSpan, span_between}
 use Rattle.semver_cuts.specs.Joined.{AreRising}
 use Rattle.semver_cuts.specs.Private.Placed.{AreSorted, PlacedSpan, placed_cmp, placed_from}
-use Rattle.semver_cuts.specs.Lemmas.Apart.{apart-cons}
 use Rattle.semver_cuts.specs.Lemmas.Ends.{at_most-below, at_most-or-below, at_most_refl}
-use Rattle.semver_cuts.specs.Lemmas.Ends.{at_most_trans, below-at_most, below-not-at_most, below_trans}
-use Rattle.semver_cuts.specs.Lemmas.Ends.{cut_cmp-equal_back, cut_cmp-refl}
+use Rattle.semver_cuts.specs.Lemmas.Ends.{at_most_trans, below-at_most, below_trans}
+use Rattle.semver_cuts.specs.Lemmas.Ends.{cut_cmp-refl}
 use Rattle.semver_cuts.specs.Lemmas.Lists.{all_map}
 use Rattle.semver_cuts.proofs.Lists.Elements.{IsAmong, all-among}
 use Rattle.semver_cuts.proofs.Joining.PlacedOrder.{AreInOrder, EndsLater, EndsNoLater, lower-later}
@@ -32,9 +32,7 @@ module _ {T : Type 0} {cmp : T → T → Ordering} (o : IsTotalOrder cmp) (spans
   In = IsAmong (placed_from 0 spans)
 
   rises : (p : PlacedSpan T) → In p → IsCutBelow cmp p.span.lower p.span.upper
-  rises p is =
-      all-among (λ (p : PlacedSpan T). IsCutBelow cmp p.span.lower p.span.upper) (placed_from 0 spans) p
-      (rising-placed cmp 0 spans s.rising) is
+  rises p is = grind (arith, all-among, rising-placed cmp)
 
   -- the end of one of all spans, such that no span with an equal end has a lower place
   abbrev pub IsFirstPlaced : (Ends T → Cut T) → Cut T → Type 0
@@ -67,63 +65,26 @@ module _ {T : Type 0} {cmp : T → T → Ordering} (o : IsTotalOrder cmp) (spans
     run.ends.0,
     run.ends.1,
     run.ends.2,
-    λ q in' same. subst (λ n. n ≤ q.place) (sym run.ends.3)
-        (⊎_elim
-        (λ there. absurd (below-not-at_most o upper q.span.upper
-        (below_trans o upper q.span.lower q.span.upper
-        (all-among (λ (p : PlacedSpan T). IsCutBelow cmp upper p.span.lower) later q above there) (rises q in'))
-        (inr same)))
-        (⊎_elim (λ below. absurd (below-not-at_most o q.span.upper upper below
-        (inr (cut_cmp-equal_back o q.span.upper upper same))))
-        (λ at. at.1))
-        (run.done q in')),
+    λ q in' same. grind (arith, run.done q in', run.ends, all-among _ later q above, rises q in'),
   )
 
   -- a new run begins with a span, if all earlier spans end below it
   pub new-run : (next : PlacedSpan T) (later : List (PlacedSpan T)) → In next → AreInOrder cmp (next ∷ later)
       → ((q : PlacedSpan T) → In q → IsAmong (next ∷ later) q ⊎ IsCutBelow cmp q.span.upper next.span.lower)
       → IsRun next.span.lower next.span.upper next.place later
-  new-run next later in' ascends old = record {
-    rising = rises next in';
-    begins = (
-      next,
-      in',
-      refl,
-      λ q is same. ⊎_elim
-          (⊎_elim (λ e. let e' = ap (λ (p : PlacedSpan T). p.place) e in omega arith)
-          (λ there. place-later o next q
-          (all-among (λ (p : PlacedSpan T). is_lt (placed_cmp cmp p next) ≡ false) later q ascends.0 there) same))
-          (λ below. absurd (below-not-at_most o q.span.lower next.span.lower
-          (below_trans o q.span.lower q.span.upper next.span.lower (rises q is) below)
-          (inr (cut_cmp-equal_back o q.span.lower next.span.lower same))))
-          (old q is),
-    );
-    ends = (next, in', refl, refl);
-    done = λ q is. ⊎_elim
-        (⊎_elim
-        (λ e. inr (inr (
-          ap (λ (p : PlacedSpan T). cut_cmp cmp p.span.upper next.span.upper) e ∙ cut_cmp-refl o next.span.upper,
-          let e' = ap (λ (p : PlacedSpan T). p.place) e in omega arith,
-        )))
-        (λ there. inl there))
-        (λ below. inr (inl (below_trans o q.span.upper next.span.lower next.span.upper below (rises next in'))))
-        (old q is);
-    ahead = all_map (λ (q : PlacedSpan T). is_lt (placed_cmp cmp q next) ≡ false)
-        (λ (q : PlacedSpan T). IsCutAtMost cmp next.span.lower q.span.lower)
-        (λ q h. lower-later o next q h) later ascends.0;
-  }
+  new-run next later in' ascends old =
+      let behind = all-among (λ (p : PlacedSpan T). is_lt (placed_cmp cmp p next) ≡ false) later in record {
+        rising = rises next in';
+        begins = (next, in', refl, λ q is same. grind (arith, old q is, rises q is, place-later o next q, behind q));
+        ends = (next, in', refl, refl);
+        done = λ q is. grind (arith, old q is, rises next in', cut_cmp-refl o, below_trans o);
+        ahead = all_map _ _ (λ q h. lower-later o next q h) later ascends.0;
+      }
 
   -- the joined spans after the last of the later spans
   pub entries-last : (lower upper : Cut T) (place : ℕ) → IsRun lower upper place []
       → AreEntries lower upper [] (span_between lower upper ∷ [])
-  entries-last lower upper place run = record {
-    rising = (run.rising, tt);
-    apart = tt;
-    from = (at_most_refl o lower, tt);
-    lowers = (run.begins, tt);
-    uppers = (first-end lower upper place [] run tt tt, tt);
-    cuts = λ cut. (λ h. h, λ h. h);
-  }
+  entries-last lower upper place run = grind arith
 
   -- ---- one more span
 
@@ -132,73 +93,31 @@ module _ {T : Type 0} {cmp : T → T → Ordering} (o : IsTotalOrder cmp) (spans
       (ascends : AreInOrder cmp (next ∷ later)) where
     -- it begins above the end of the run
     pub starts-run : IsCutBelow cmp upper next.span.lower → IsRun next.span.lower next.span.upper next.place later
-    starts-run gap =
-        new-run next later all.0 ascends
-        (λ q in'. ⊎_elim (λ there. inl there)
-        (λ done. inr (at_most-below o q.span.upper upper next.span.lower
-        (⊎_elim (λ h. inl h) (λ h. inr h.0) done) gap))
-        (run.done q in'))
+    starts-run gap = new-run next later all.0 ascends (λ q is. grind (arith, run.done q is, at_most-below o q.span.upper upper))
 
     pub starts : IsCutBelow cmp upper next.span.lower → (entries : List (Ends T))
         → AreEntries next.span.lower next.span.upper later entries
         → AreEntries lower upper (next ∷ later) (span_between lower upper ∷ entries)
     starts gap entries rest =
-        let over : AllByRecursion (λ (s : Ends T). IsCutBelow cmp upper s.lower) entries =
-        all_map (λ (s : Ends T). IsCutAtMost cmp next.span.lower s.lower) (λ (s : Ends T). IsCutBelow cmp upper s.lower)
-        (λ s h. below-at_most o upper next.span.lower s.lower gap h) entries rest.from in
-        record {
-          rising = (run.rising, rest.rising);
-          apart = apart-cons cmp (span_between lower upper) entries over rest.apart;
-          from = (
-            at_most_refl o lower,
-            all_map (λ (s : Ends T). IsCutBelow cmp upper s.lower) (λ (s : Ends T). IsCutAtMost cmp lower s.lower)
-                (λ s h. inl (below_trans o lower upper s.lower run.rising h)) entries over,
-          );
-          lowers = (run.begins, rest.lowers);
-          uppers = (
-            first-end lower upper place (next ∷ later) run all (
-              gap,
-              all_map (λ (q : PlacedSpan T). IsCutAtMost cmp next.span.lower q.span.lower)
-                  (λ (q : PlacedSpan T). IsCutBelow cmp upper q.span.lower)
-                  (λ q h. below-at_most o upper next.span.lower q.span.lower gap h) later (starts-run gap).ahead,
-            ),
-            rest.uppers,
-          );
-          cuts = λ cut. (
-            ⊎_elim (λ h. inl h) (λ h. inr ((rest.cuts cut).0 h)),
-            ⊎_elim (λ h. inl h) (λ h. inr ((rest.cuts cut).1 h)),
-          );
-        }
+        let over = lowers-from o upper next.span.lower entries gap rest.from in
+        let ahead = all_map _ _ (λ q h. below-at_most o upper next.span.lower q.span.lower gap h) later (starts-run gap).ahead in
+        let first = first-end lower upper place (next ∷ later) run all (gap, ahead) in
+        let from = lowers-at_least o lower entries (lowers-above o lower upper entries (inl run.rising) over) in
+        grind (arith, at_most_refl o)
 
     -- it begins at or below the end of the run, and ends later
     pub grown-run : EndsLater o upper place next → IsRun lower next.span.upper next.place later
     grown-run ends_later = record {
-      rising = below-at_most o lower upper next.span.upper run.rising (⊎_elim (λ h. inl h) (λ h. inr h.0) ends_later);
+      rising = grind (arith, below-at_most o lower upper);
       begins = run.begins;
       ends = (next, all.0, refl, refl);
-      done = λ q in'. ⊎_elim
-          (⊎_elim
-          (λ e. inr (inr (
-            ap (λ (p : PlacedSpan T). cut_cmp cmp p.span.upper next.span.upper) e ∙ cut_cmp-refl o next.span.upper,
-            let e' = ap (λ (p : PlacedSpan T). p.place) e in omega arith,
-          )))
-          (λ there. inl there))
-          (λ done. inr (no_later-trans o upper next.span.upper place next.place q done ends_later))
-          (run.done q in');
+      done = λ q is. grind (arith, run.done q is, no_later-trans o upper next.span.upper place next.place q, cut_cmp-refl o);
       ahead = run.ahead.1;
     }
 
     -- or it does not end later
     pub kept-run : EndsNoLater o upper place next → IsRun lower upper place later
-    kept-run no_later = record {
-      rising = run.rising;
-      begins = run.begins;
-      ends = run.ends;
-      done = λ q in'. ⊎_elim (⊎_elim (λ e. inr (subst (EndsNoLater o upper place) (sym e) no_later))
-          (λ there. inl there))
-          (λ done. inr done) (run.done q in');
-      ahead = run.ahead.1;
-    }
+    kept-run no_later = grind arith
 
     -- then the joined spans are those of the longer run, `wide` being the greater of the two ends
     pub goes-on : IsCutAtMost cmp next.span.lower upper → (wide : Cut T) → IsCutAtMost cmp upper wide
@@ -211,22 +130,7 @@ module _ {T : Type 0} {cmp : T → T → Ordering} (o : IsTotalOrder cmp) (spans
       lowers = rest.lowers;
       uppers = rest.uppers;
       cuts = λ cut. (
-        λ is. ⊎_elim
-            (λ h. ⊎_elim
-            (λ past. inr (inl (record {
-              lower = at_most_trans o next.span.lower upper cut touches past;
-              upper = ⊎_elim (λ e. absurd (below-not-at_most o cut upper (subst (IsCutBelow cmp cut) e h.upper) past))
-                  (λ e. subst (IsCutBelow cmp cut) e h.upper) which;
-            })))
-            (λ inside. inl (record { lower = h.lower; upper = inside })) (at_most-or-below o upper cut))
-            (λ h. inr (inr h)) ((rest.cuts cut).0 is),
-        λ is. (rest.cuts cut).1 (⊎_elim
-            (λ h. inl (record { lower = h.lower; upper = below-at_most o cut upper wide h.upper higher }))
-            (⊎_elim
-            (λ h. inl (record {
-              lower = at_most_trans o lower next.span.lower cut run.ahead.0 h.lower;
-              upper = below-at_most o cut next.span.upper wide h.upper within;
-            }))
-            (λ h. inr h)) is),
+        λ is. grind (arith, (rest.cuts cut).0 is, at_most-or-below o upper cut, at_most_trans o next.span.lower),
+        λ is. grind (arith, (rest.cuts cut).1, below-at_most o cut, at_most_trans o lower next.span.lower),
       );
     }

@@ -1,6 +1,6 @@
 -- The spans that a list is joined to are apart, and have its cuts. Each end is that of the first span of the list that
 -- has an end at this cut.
-use Rattle.std.proofs.Common.{◌≡◌, ◌↔◌, ℕ, ◌+◌, ◌≤◌, suc, List, [], ◌∷◌, map, Ordering, Equal, Bool, false, refl, sym}
+use Rattle.std.proofs.Common.{◌≡◌, ◌↔◌, ℕ, ◌+◌, ◌≤◌, suc, List, [], ◌∷◌, map, Ordering, Equal, Bool, refl, sym}
 use Rattle.std.proofs.Common.{ap, subst, ◌∙◌, inl, inr, arith, add-one}
 use Rattle.std.specs.List.{AllByRecursion}
 use Rattle.std.specs.List.Sorted.{IsPermutation, IsSortedBy}
@@ -20,7 +20,7 @@ use Rattle.semver_cuts.specs.Lemmas.Lists.{all_map}
 use Rattle.semver_cuts.specs.Lemmas.Placed.{placed_total}
 use Rattle.semver_cuts.proofs.Lists.Elements.{IsAmong, all-moved, among-itself, among-moved}
 use Rattle.semver_cuts.proofs.Joining.PlacedOrder.{AreInOrder}
-use Rattle.semver_cuts.proofs.Joining.JoinedRuns.{AreEntries, In, IsFirstPlaced, IsRun, new-run}
+use Rattle.semver_cuts.proofs.Joining.JoinedRuns.{AreEntries, In, IsRun, new-run}
 
 -- ---- spans with their places, and a permutation of them
 
@@ -101,21 +101,13 @@ module _ {T : Type 0} {cmp : T → T → Ordering} (o : IsTotalOrder cmp) where
   in-order : (ps : List (PlacedSpan T)) → IsSortedBy before ps → AreInOrder cmp ps
   unfolding before
   in-order [] up = tt
-  in-order (p ∷ ps) up = (
-    recursion_from_All (λ (q : PlacedSpan T). is_lt (placed_cmp cmp q p) ≡ false) ps
-        (λ k d h. sorted_far before weak (p ∷ ps) up 0 (suc k) d (omega arith) (omega arith)),
-    in-order ps (sorted-tail p ps up),
-  )
+  in-order (p ∷ ps) up = (recursion_from_All _ ps (λ k d h. sorted_far before weak (p ∷ ps) up 0 (suc k) d (omega arith) (omega arith)), in-order ps (sorted-tail p ps up))
 
   -- ---- the spans of a list, sorted and joined
 
   module _ (spans : List (Ends T)) (order : List (PlacedSpan T)) (s : AreSorted cmp spans order) where
     some-of : (cut : Cut T) → IsInSome cmp (map (λ (p : PlacedSpan T). p.span) order) cut ↔ IsInSome cmp spans cut
-    some-of cut = (
-      λ is. subst (λ l. IsInSome cmp l cut) (map-placed 0 spans) (some-moved (placed_from 0 spans) order s.same cut is),
-      λ is. some-moved order (placed_from 0 spans) (IsPermutation-sym (placed_from 0 spans) order s.same) cut
-          (subst (λ l. IsInSome cmp l cut) (sym (map-placed 0 spans)) is),
-    )
+    some-of cut = (λ is. grind (arith, map-placed 0 spans, some-moved (placed_from 0 spans) order s.same cut is), λ is. grind (arith, map-placed 0 spans, some-moved order (placed_from 0 spans) (IsPermutation-sym (placed_from 0 spans) order s.same) cut))
 
     pub all-in_order : AreInOrder cmp order
     unfolding before
@@ -126,35 +118,15 @@ module _ {T : Type 0} {cmp : T → T → Ordering} (o : IsTotalOrder cmp) where
 
     -- an empty list is joined to itself
     pub none-joined : order ≡ [] → AreJoined cmp spans []
-    none-joined e = record {
-      merged = record { rising = tt; apart = tt };
-      cuts = λ cut. subst (λ l. IsInSome cmp (map (λ (p : PlacedSpan T). p.span) l) cut ↔ IsInSome cmp spans cut) e
-          (some-of cut);
-      lowers = tt;
-      uppers = tt;
-    }
+    none-joined e = grind (arith, some-of)
 
     module _ (first : PlacedSpan T) (later : List (PlacedSpan T)) (e : order ≡ first ∷ later) where
       -- the run of the first span
       pub first-run : IsRun o spans order s first.span.lower first.span.upper first.place later
-      first-run =
-          new-run o spans order s first later (subst (AllByRecursion (In o spans order s)) e all-in).0 (subst (AreInOrder cmp) e all-in_order)
-          (λ q is. inl (subst (λ l. IsAmong l q) e (among-moved order (placed_from 0 spans)
-          (IsPermutation-sym (placed_from 0 spans) order s.same) q is)))
+      first-run = new-run o spans order s first later (subst (AllByRecursion (In o spans order s)) e all-in).0 (subst (AreInOrder cmp) e all-in_order)
+          (λ q is. grind (arith, e, among-moved order (placed_from 0 spans) (IsPermutation-sym (placed_from 0 spans) order s.same) q))
 
       -- the joined spans from there on are those that the list is joined to
       pub first-joined : (entries : List (Ends T))
           → AreEntries o spans order s first.span.lower first.span.upper later entries → AreJoined cmp spans entries
-      first-joined entries come = record {
-        merged = record { rising = come.rising; apart = come.apart };
-        cuts = λ cut.
-            let whole = subst (λ l. IsInSome cmp (map (λ (p : PlacedSpan T). p.span) l) cut ↔ IsInSome cmp spans cut) e
-            (some-of cut) in
-            (λ is. whole.0 ((come.cuts cut).0 is), λ is. (come.cuts cut).1 (whole.1 is));
-        lowers = all_map (λ (span : Ends T). IsFirstPlaced o spans order s (λ s. s.lower) span.lower)
-            (λ (s : Ends T). IsFirstAt cmp (λ (s : Ends T). s.lower) spans s.lower)
-            (λ span h. first-placed (λ s. s.lower) span.lower 0 spans h.0 h.1 h.2 h.3) entries come.lowers;
-        uppers = all_map (λ (span : Ends T). IsFirstPlaced o spans order s (λ s. s.upper) span.upper)
-            (λ (s : Ends T). IsFirstAt cmp (λ (s : Ends T). s.upper) spans s.upper)
-            (λ span h. first-placed (λ s. s.upper) span.upper 0 spans h.0 h.1 h.2 h.3) entries come.uppers;
-      }
+      first-joined entries come = search (arith, some-of, all_map, first-placed)

@@ -1,30 +1,17 @@
 -- Spans in the order of their lower ends: which of two begins later, and which ends later.
-use Rattle.std.proofs.Common.{◌≡◌, ◌⊎◌, ℕ, ◌<◌, ◌≤◌, List, [], ◌∷◌, Ordering, Less, Equal, Greater, true, false, refl}
-use Rattle.std.proofs.Common.{Bool, sym, ap, ◌∙◌, inl, inr, ⊎_elim, arith, zero, suc, get_or, length, lit<}
-use mathlib.Core.Bool.{true≢false}
+use Rattle.std.proofs.Common.{◌≡◌, ◌⊎◌, ℕ, ◌<◌, ◌≤◌, List, [], ◌∷◌, Ordering, Equal, true, false, refl}
+use Rattle.std.proofs.Common.{Bool, sym, arith, get_or, length, lit<}
 use Rattle.std.specs.List.{AllByRecursion}
 use Rattle.std.specs.List.Sorted.{IsPermutation, IsSorted}
-use Rattle.std.specs.Ordering.{is_lt, nat_cmp, ordering_reverse, ordering_then}
+use Rattle.std.specs.Ordering.{is_lt, nat_cmp, ordering_then}
 use Rattle.std.specs.Cmp.{IsTotalOrder}
-use Rattle.std.proofs.lemmas.Cmp.{ranked}
 use Rattle.std.proofs.lemmas.List.Sorted.{IsPermutation-swap}
 use Rattle.semver_cuts.specs.declared.cut.Cut.{Cut}
 use Rattle.semver_cuts.specs.Cut.{cut_cmp}
 use Rattle.semver_cuts.specs.Ends.{IsCutAtMost, IsCutBelow}
 use Rattle.semver_cuts.specs.Private.Placed.{PlacedSpan, placed_cmp}
-use Rattle.semver_cuts.specs.Lemmas.Ends.{at_most-below, below-at_most, below-from_greater, cut_cmp-equal_back}
-use Rattle.semver_cuts.specs.Lemmas.Ends.{cut_cmp-equal_left}
 
 -- ---- tests of numbers
-
-lt-from_test : (x y : ℕ) (r : Ordering) → r ≡ nat_cmp x y → is_lt r ≡ true → x < y
-lt-from_test x y Less e h = ranked x y Less e
-lt-from_test x y r e h = absurd (true≢false (sym h))
-
-le-from_test : (x y : ℕ) (r : Ordering) → r ≡ nat_cmp x y → is_lt r ≡ false → y ≤ x
-le-from_test x y Less e h = absurd (true≢false h)
-le-from_test x y Equal e h = let same = ranked x y Equal e in omega arith
-le-from_test x y Greater e h = let less = ranked x y Greater e in omega arith
 
 -- the first if the test is true, and else the second
 abbrev pub Tested : Bool → Type 0 → Type 0 → Type 0
@@ -40,25 +27,15 @@ AreInOrder {T} cmp (first ∷ later) =
     AllByRecursion (λ (next : PlacedSpan T). is_lt (placed_cmp cmp next first) ≡ false) later × AreInOrder cmp later
 
 module _ {T : Type 0} {cmp : T → T → Ordering} (o : IsTotalOrder cmp) where
-  lower_by : (c d : Cut T) (r s : Ordering) → cut_cmp cmp c d ≡ r → is_lt (ordering_then r s) ≡ false
-      → IsCutAtMost cmp d c
-  lower_by c d Less s e h = absurd (true≢false h)
-  lower_by c d Equal s e h = inr (cut_cmp-equal_back o c d e)
-  lower_by c d Greater s e h = inl (below-from_greater o c d e)
-
   -- a later span does not begin lower
   pub lower-later : (first next : PlacedSpan T) → is_lt (placed_cmp cmp next first) ≡ false
       → IsCutAtMost cmp first.span.lower next.span.lower
-  lower-later first next h =
-      lower_by next.span.lower first.span.lower (cut_cmp cmp next.span.lower first.span.lower)
-      (nat_cmp next.place first.place) refl h
+  lower-later first next h = grind arith
 
   -- and if it begins at the same cut, its place is not lower
   pub place-later : (first next : PlacedSpan T) → is_lt (placed_cmp cmp next first) ≡ false
       → cut_cmp cmp next.span.lower first.span.lower ≡ Equal → first.place ≤ next.place
-  place-later first next h same =
-      le-from_test next.place first.place (nat_cmp next.place first.place) refl
-      (sym (ap (λ r. is_lt (ordering_then r (nat_cmp next.place first.place))) same) ∙ h)
+  place-later first next h same = grind arith
 
   -- ---- which of two ends is the later
 
@@ -75,18 +52,7 @@ module _ {T : Type 0} {cmp : T → T → Ordering} (o : IsTotalOrder cmp) where
   later_by : (upper : Cut T) (place : ℕ) (next : PlacedSpan T) (r : Ordering) → cut_cmp cmp upper next.span.upper ≡ r
       → (b : Bool) → is_lt (ordering_then r (nat_cmp next.place place)) ≡ b
       → Tested b (EndsLater upper place next) (EndsNoLater upper place next)
-  later_by upper place next Less e true h = inl e
-  later_by upper place next Less e false h = absurd (true≢false h)
-  later_by upper place next Equal e true h =
-      let less : next.place < place = lt-from_test next.place place (nat_cmp next.place place) refl h in
-      inr (e, omega arith)
-  later_by upper place next Equal e false h =
-      inr (
-        cut_cmp-equal_back o upper next.span.upper e,
-        le-from_test next.place place (nat_cmp next.place place) refl h,
-      )
-  later_by upper place next Greater e true h = absurd (true≢false (sym h))
-  later_by upper place next Greater e false h = inl (below-from_greater o upper next.span.upper e)
+  later_by upper place next r h1 b h2 = grind arith
 
   -- by the test of the program
   pub later-tested : (upper : Cut T) (place : ℕ) (next : PlacedSpan T) (b : Bool)
@@ -98,13 +64,7 @@ module _ {T : Type 0} {cmp : T → T → Ordering} (o : IsTotalOrder cmp) where
   pub no_later-trans : (upper upper' : Cut T) (place place' : ℕ) (p : PlacedSpan T) → EndsNoLater upper place p
       → IsCutBelow cmp upper upper' ⊎ ((cut_cmp cmp upper upper' ≡ Equal) × (place' ≤ place))
       → EndsNoLater upper' place' p
-  no_later-trans upper upper' place place' p (inl below) step =
-      inl (below-at_most o p.span.upper upper upper' below (⊎_elim (λ h. inl h) (λ h. inr h.0) step))
-  no_later-trans upper upper' place place' p (inr at) (inl below) =
-      inl (at_most-below o p.span.upper upper upper' (inr at.0) below)
-  no_later-trans upper upper' place place' p (inr at) (inr same) =
-      let le : place' ≤ p.place = omega (arith, at.1, same.1) in
-      inr (cut_cmp-equal_left o p.span.upper upper upper' at.0 ∙ same.0, le)
+  no_later-trans upper upper' place place' p h1 h2 = grind arith
 
 -- ---- two spans
 
@@ -116,21 +76,10 @@ two-items (x ∷ []) one other least below a b = absurd (omega arith)
 two-items (x ∷ y ∷ []) one other least below a b = λ i. sym a i ∷ sym b i ∷ []
 two-items (x ∷ y ∷ z ∷ xs) one other least below a b = absurd (omega arith)
 
--- two are sorted if the second is not less than the first
-pub two-sorted : {X : Type 0} (cmp : X → X → Ordering) (one other : X) → is_lt (cmp other one) ≡ false
-    → IsSorted cmp (one ∷ other ∷ [])
-two-sorted cmp one other h zero d from below = h
-two-sorted cmp one other h (suc k) d from below = absurd (omega arith)
-
-not_above : (r : Ordering) → is_lt r ≡ true → is_lt (ordering_reverse r) ≡ false
-not_above Less e = refl
-not_above r e = absurd (true≢false (sym e))
-
 -- and the other way round if it is
 pub two-turned : {X : Type 0} (cmp : X → X → Ordering) → IsTotalOrder cmp → (one other : X)
     → is_lt (cmp other one) ≡ true → IsSorted cmp (other ∷ one ∷ [])
-two-turned cmp o one other h =
-    two-sorted cmp other one (ap is_lt (o.antisymm one other) ∙ not_above (cmp other one) h)
+two-turned cmp o one other h = grind arith
 
 pub two-moved : {X : Type 0} (one other : X) → IsPermutation (one ∷ other ∷ []) (other ∷ one ∷ [])
 two-moved one other =

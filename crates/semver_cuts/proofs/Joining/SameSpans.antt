@@ -1,5 +1,6 @@
 -- Merged lists with the same cuts have the same spans.
-use Rattle.std.proofs.Common.{◌↔◌, List, [], ◌∷◌, Ordering, inl, inr, ⊎_elim}
+use native.Mathlib.Omega.{arith}
+use Rattle.std.proofs.Common.{◌↔◌, List, [], ◌∷◌, Ordering, inl, inr}
 use Rattle.std.specs.Cmp.{IsTotalOrder}
 use Rattle.semver_cuts.specs.declared.cut.Cut.{Cut}
 use Rattle.semver_cuts.specs.SpanLists.{IsInSome}
@@ -16,26 +17,15 @@ module _ {T : Type 0} {cmp : T → T → Ordering} (o : IsTotalOrder cmp) where
       → ((cut : Cut T) → IsInSpan cmp other cut → IsInSome cmp (one ∷ ones) cut) → IsCutAtMost cmp other.lower one.lower
       → IsCutAtMost cmp other.upper one.upper
   ends-no_lower one ones other are within le =
-      ⊎_elim (λ h. h)
-      (λ lt. absurd
-      (⊎_elim (λ here. below_irrefl o one.upper here.upper)
-      (λ there. below_irrefl o one.upper (later-above o one ones one.upper are there))
-      (within one.upper (record {
-        lower = inl (at_most-below o other.lower one.lower one.upper le are.rising.0);
-        upper = lt;
-      }))))
-      (at_most-or-below o other.upper one.upper)
+      let low = at_most-below o other.lower one.lower one.upper le are.rising.0 in
+      grind (arith, at_most-or-below o other.upper one.upper, below_irrefl o, later-above o)
 
   later-in : (one : Ends T) (ones : List (Ends T)) (other : Ends T) (others : List (Ends T))
       → AreMerged cmp (one ∷ ones)
       → IsCutAtMost cmp other.upper one.upper
       → ((cut : Cut T) → IsInSome cmp (one ∷ ones) cut → IsInSome cmp (other ∷ others) cut)
       → (cut : Cut T) → IsInSome cmp ones cut → IsInSome cmp others cut
-  later-in one ones other others are le within cut is =
-      ⊎_elim
-      (λ here. absurd (below-not-at_most o one.upper cut (later-above o one ones cut are is)
-      (inl (below-at_most o cut other.upper one.upper here.upper le))))
-      (λ there. there) (within cut (inr is))
+  later-in one ones other others are le within cut is = grind (arith, within cut (inr is), later-above o one ones cut are is, below-at_most o cut other.upper one.upper, below-not-at_most o)
 
   tail-merged : (one : Ends T) (ones : List (Ends T)) → AreMerged cmp (one ∷ ones) → AreMerged cmp ones
   tail-merged one ones are = record { rising = are.rising.1; apart = apart-tail cmp one ones are.apart }
@@ -44,22 +34,14 @@ module _ {T : Type 0} {cmp : T → T → Ordering} (o : IsTotalOrder cmp) where
   pub same-spans : (ones others : List (Ends T)) → AreMerged cmp ones → AreMerged cmp others
       → ((cut : Cut T) → IsInSome cmp ones cut ↔ IsInSome cmp others cut) → AreSameSpans cmp ones others
   same-spans [] [] are others_are same = tt
-  same-spans [] (other ∷ others) are others_are same =
-      absurd ((same other.lower).1 (inl (first-cut o other others_are.rising.0)))
-  same-spans (one ∷ ones) [] are others_are same = absurd ((same one.lower).0 (inl (first-cut o one are.rising.0)))
+  same-spans [] (other ∷ others) are others_are same = grind (arith, first-cut o)
+  same-spans (one ∷ ones) [] are others_are same = grind (arith, first-cut o)
   same-spans (one ∷ ones) (other ∷ others) are others_are same =
-      let low : IsCutAtMost cmp other.lower one.lower =
-      all-from_first o other others one.lower others_are ((same one.lower).0 (inl (first-cut o one are.rising.0))) in
-      let low' : IsCutAtMost cmp one.lower other.lower =
-      all-from_first o one ones other.lower are ((same other.lower).1 (inl (first-cut o other others_are.rising.0))) in
-      let high : IsCutAtMost cmp other.upper one.upper =
-      ends-no_lower one ones other are (λ cut is. (same cut).1 (inl is)) low in
-      let high' : IsCutAtMost cmp one.upper other.upper =
-      ends-no_lower other others one others_are (λ cut is. (same cut).0 (inl is)) low' in (
-        record {
-          lower = at_most-both o one.lower other.lower low' low;
-          upper = at_most-both o one.upper other.upper high' high;
-        },
+      let low = all-from_first o other others one.lower others_are ((same one.lower).0 (inl (first-cut o one are.rising.0))) in
+      let low' = all-from_first o one ones other.lower are ((same other.lower).1 (inl (first-cut o other others_are.rising.0))) in
+      let high = ends-no_lower one ones other are (λ cut is. (same cut).1 (inl is)) low in
+      let high' = ends-no_lower other others one others_are (λ cut is. (same cut).0 (inl is)) low' in (
+        record { lower = at_most-both o _ _ low' low; upper = at_most-both o _ _ high' high },
         same-spans ones others (tail-merged one ones are) (tail-merged other others others_are)
             (λ cut. (
               later-in one ones other others are high (λ c is. (same c).0 is) cut,

@@ -1,6 +1,6 @@
 -- The number of joined spans is the number of spans whose lower end no earlier span has, and that no span reaches.
 use Rattle.std.proofs.Common.{◌≡◌, ℕ, ◌+◌, List, [], ◌∷◌, ◌++◌, Bool, true, false, not, ◌&&◌, ◌||◌, if◌then◌else◌}
-use Rattle.std.proofs.Common.{Ordering, Equal, length, refl, sym, ap, ◌∙◌, inl, inr, subst, arith}
+use Rattle.std.proofs.Common.{Ordering, Equal, length, refl, arith}
 use Rattle.std.specs.List.{AllByRecursion}
 use Rattle.std.specs.Ordering.{is_eq}
 use Rattle.std.specs.Cmp.{IsTotalOrder}
@@ -15,7 +15,7 @@ use Rattle.semver_cuts.specs.Difference.{IsFirstAt}
 use Rattle.semver_cuts.specs.Starts.{begins_at, count_of_starts, count_of_starts_from, reaches}
 use Rattle.semver_cuts.specs.Lemmas.Apart.{apart-above, merged-tail}
 use Rattle.semver_cuts.specs.Lemmas.CutOrder.{cut_total}
-use Rattle.semver_cuts.specs.Lemmas.Ends.{at_most_trans, below-not-at_most, cut_cmp-equal_back, cut_cmp-equal_right}
+use Rattle.semver_cuts.specs.Lemmas.Ends.{cut_cmp-equal_back, cut_cmp-equal_right}
 use Rattle.semver_cuts.specs.Lemmas.Ends.{cut_cmp-refl}
 use Rattle.semver_cuts.proofs.Joining.Starts.{begins-above, begins-or_reached, equal-from}
 use Rattle.semver_cuts.proofs.Walks.{first-cut}
@@ -39,19 +39,16 @@ module _ {T : Type 0} (cmp : T → T → Ordering) where
       + same-count all test (earlier ++ span ∷ []) later same.1 i
 
   add-none : (b : Bool) (n : ℕ) → n ≡ 0 → (if b && false then 1 else 0) + n ≡ 0
-  add-none true n e = omega arith
-  add-none false n e = omega arith
+  add-none b n h1 = grind arith
 
   none-counted : (earlier later : List (Ends T)) → count_first (λ cut. false) earlier later ≡ 0
   unfolding count_first
   none-counted earlier [] = refl
-  none-counted earlier (span ∷ later) =
-      add-none (not (begins_at cmp earlier span.lower)) _ (none-counted (earlier ++ span ∷ []) later)
+  none-counted earlier (span ∷ later) = grind (arith, add-none, none-counted (earlier ++ span ∷ []) later)
 
   add-either : (b p q : Bool) (k m n : ℕ) → (p ≡ true → q ≡ true → ⊥) → k ≡ m + n
       → (if b && (p || q) then 1 else 0) + k ≡ ((if b && p then 1 else 0) + m) + ((if b && q then 1 else 0) + n)
-  add-either true true true k m n h e = absurd (h refl refl)
-  add-either b p q k m n h e = omega arith
+  add-either b p q k m n h1 h2 = grind arith
 
   -- no cut passes both of two tests
   either-counted : (p q : Cut T → Bool) → ((c : Cut T) → p c ≡ true → q c ≡ true → ⊥)
@@ -60,38 +57,28 @@ module _ {T : Type 0} (cmp : T → T → Ordering) where
   unfolding count_first
   either-counted p q h earlier [] = refl
   either-counted p q h earlier (span ∷ later) =
-      add-either (not (begins_at cmp earlier span.lower)) (p span.lower) (q span.lower) _ _ _ (h span.lower)
-      (either-counted p q h (earlier ++ span ∷ []) later)
+      let rest = either-counted p q h (earlier ++ span ∷ []) later in grind (arith, add-either)
 
   or-false : (a : Bool) → (a || false) ≡ a
-  or-false true = refl
-  or-false false = refl
+  or-false a = grind arith
 
   or-assoc : (a b c : Bool) → (a || (b || c)) ≡ ((a || b) || c)
-  or-assoc true b c = refl
-  or-assoc false b c = refl
+  or-assoc a b c = grind arith
 
   begins-push : (cut : Cut T) (spans : List (Ends T)) (span : Ends T)
       → begins_at cmp (spans ++ span ∷ []) cut ≡ (begins_at cmp spans cut || is_eq (cut_cmp cmp span.lower cut))
   begins-push cut [] span = or-false (is_eq (cut_cmp cmp span.lower cut))
-  begins-push cut (one ∷ spans) span =
-      ap (λ b. is_eq (cut_cmp cmp one.lower cut) || b) (begins-push cut spans span)
-      ∙ or-assoc (is_eq (cut_cmp cmp one.lower cut)) (begins_at cmp spans cut) _
+  begins-push cut (one ∷ spans) span = grind (arith, begins-push cut spans span, or-assoc)
 
   begins-middle : (cut : Cut T) (before after : List (Ends T)) (span : Ends T)
       → is_eq (cut_cmp cmp span.lower cut) ≡ true → begins_at cmp (before ++ span ∷ after) cut ≡ true
   begins-middle cut [] after span h = or_left (is_eq (cut_cmp cmp span.lower cut)) (begins_at cmp after cut) h
-  begins-middle cut (one ∷ before) after span h =
-      or_right (is_eq (cut_cmp cmp one.lower cut)) (begins_at cmp (before ++ span ∷ after) cut)
-      (begins-middle cut before after span h)
+  begins-middle cut (one ∷ before) after span h = grind (arith, or_right, begins-middle cut before after span h)
 
   add-one : (begun b e later : Bool) (n : ℕ) → (e ≡ true → b ≡ begun)
       → n ≡ (if begun || e then 0 else (if later then 1 else 0))
       → (if not b && e then 1 else 0) + n ≡ (if begun then 0 else (if e || later then 1 else 0))
-  add-one true false true later n h e = cc (h refl)
-  add-one false true true later n h e = cc (h refl)
-  add-one false false true later n h q = omega arith
-  add-one begun b e later n h q = omega arith
+  add-one begun b e later n h1 h2 = grind arith
 
 module _ {T : Type 0} {cmp : T → T → Ordering} (o : IsTotalOrder cmp) where
   turned : (c d : Cut T) → is_eq (cut_cmp cmp c d) ≡ is_eq (cut_cmp cmp d c)
@@ -103,8 +90,7 @@ module _ {T : Type 0} {cmp : T → T → Ordering} (o : IsTotalOrder cmp) where
   begins-same c d e (span ∷ spans) = λ i. is_eq (cut_cmp-equal_right o c d span.lower e i) || begins-same c d e spans i
 
   nothing : (b : Bool) (n : ℕ) → n ≡ 0 → n ≡ (if b then 0 else 0)
-  nothing true n e = e
-  nothing false n e = e
+  nothing b n h1 = grind arith
 
   -- of the later spans that begin at one cut, the first is counted, if no earlier one does
   one-counted : (cut : Cut T) (earlier later : List (Ends T))
@@ -113,15 +99,8 @@ module _ {T : Type 0} {cmp : T → T → Ordering} (o : IsTotalOrder cmp) where
   unfolding count_first
   one-counted cut earlier [] = nothing (begins_at cmp earlier cut) 0 refl
   one-counted cut earlier (span ∷ later) =
-      subst (λ (e : Bool). (if not (begins_at cmp earlier span.lower) && e then 1 else 0)
-      + count_first cmp (λ c. is_eq (cut_cmp cmp cut c)) (earlier ++ span ∷ []) later
-      ≡ (if begins_at cmp earlier cut then 0 else
-      (if is_eq (cut_cmp cmp span.lower cut) || begins_at cmp later cut then 1 else 0))) (turned span.lower cut)
-      (add-one cmp (begins_at cmp earlier cut) (begins_at cmp earlier span.lower) (is_eq (cut_cmp cmp span.lower cut))
-      (begins_at cmp later cut) _
-      (λ same. begins-same span.lower cut (equal-from o span.lower cut same) earlier)
-      (one-counted cut (earlier ++ span ∷ []) later
-      ∙ ap (λ b. if b then 0 else (if begins_at cmp later cut then 1 else 0)) (begins-push cmp cut earlier span)))
+      let rest = one-counted cut (earlier ++ span ∷ []) later in
+      grind (arith, turned, add-one cmp, begins-same, equal-from o, begins-push cmp)
 
   firsts-counted : (spans joined : List (Ends T)) → AreMerged cmp joined
       → AllByRecursion (λ (span : Ends T). IsFirstAt cmp (λ (s : Ends T). s.lower) spans span.lower) joined
@@ -129,35 +108,23 @@ module _ {T : Type 0} {cmp : T → T → Ordering} (o : IsTotalOrder cmp) where
   firsts-counted spans [] are firsts = none-counted cmp [] spans
   firsts-counted spans (first ∷ joined) are firsts =
       let above = apart-above o first joined are.apart are.rising.1 in
-      let at = firsts.0 in
-      let here : begins_at cmp spans first.lower ≡ true =
-      subst (λ l. begins_at cmp l first.lower ≡ true) (sym at.parts)
-      (begins-middle cmp first.lower at.before at.after at.span
-      (ap is_eq (ap (λ c. cut_cmp cmp c first.lower) at.end_of ∙ cut_cmp-refl o first.lower))) in
-      let one : count_first cmp (λ c. is_eq (cut_cmp cmp first.lower c)) [] spans ≡ 1 =
-      one-counted first.lower [] spans ∙ ap (λ b. if b then 1 else 0) here in
-      let more = either-counted cmp (λ c. is_eq (cut_cmp cmp first.lower c)) (begins_at cmp joined)
-      (λ c same there. below-not-at_most o first.lower first.upper are.rising.0
-      (at_most_trans o first.upper c first.lower (inl (begins-above o first.upper c joined above there))
-      (inr (cut_cmp-equal_back o first.lower c (equal-from o first.lower c same))))) [] spans in
+      let here = begins-middle cmp first.lower firsts.0.before firsts.0.after firsts.0.span in
       let others = firsts-counted spans joined (merged-tail cmp first joined are) firsts.1 in
-      omega (arith, more, one, others)
+      let one = one-counted first.lower [] spans in
+      let more = either-counted cmp (λ c. is_eq (cut_cmp cmp first.lower c)) (begins_at cmp joined)
+      (λ c same there. grind (arith, are.rising.0, begins-above o first.upper c joined above there, equal-from o, cut_cmp-equal_back o)) [] spans in
+      grind (arith, more, one, others, here, firsts.0.parts, firsts.0.end_of, cut_cmp-refl o)
 
   all-in : (spans part : List (Ends T)) (P : Cut T → Type 0)
       → ((c : Cut T) → IsInSome cmp part c → IsInSome cmp spans c)
       → AreRising cmp part → ((c : Cut T) → IsInSome cmp spans c → P c)
       → AllByRecursion (λ (s : Ends T). P s.lower) part
   all-in spans [] P within rising holds = tt
-  all-in spans (span ∷ part) P within rising holds = (
-    holds span.lower (within span.lower (inl (first-cut o span rising.0))),
-    all-in spans part P (λ c is. within c (inr is)) rising.1 holds,
-  )
+  all-in spans (span ∷ part) P within rising holds = grind (arith, first-cut o span, all-in spans part P)
 
   -- the number of joined spans
   pub starts-counted : (spans joined : List (Ends T)) → AreRising cmp spans → AreJoined cmp spans joined
       → length joined ≡ count_of_starts cmp spans
   starts-counted spans joined rising are =
-      sym (same-count cmp spans (begins_at cmp joined) [] spans
-      (all-in spans spans (λ c. not (reaches cmp spans c) ≡ begins_at cmp joined c) (λ c is. is) rising
-      (λ c is. begins-or_reached o spans joined rising are c is))
-      ∙ firsts-counted spans joined are.merged are.lowers)
+      let same = all-in spans spans (λ c. not (reaches cmp spans c) ≡ begins_at cmp joined c) (λ c is. is) rising (begins-or_reached o spans joined rising are) in
+      grind (arith, same-count cmp spans (begins_at cmp joined) [] spans same, firsts-counted spans joined are.merged are.lowers)

@@ -1,4 +1,9 @@
 -- Lists of spans that are apart, and merged lists: the spans before and after one of them.
+use Rattle.semver_cuts.specs.Ends.{IsCutAtMost}
+use Rattle.semver_cuts.specs.Lemmas.Ends.{at_most-below, below-at_most}
+use Rattle.semver_cuts.specs.Lemmas.Lists.{all_both}
+use Rattle.semver_cuts.specs.declared.cut.Cut.{Cut}
+use native.Mathlib.Omega.{arith}
 use Rattle.std.specs.Prelude.{ℕ, zero, suc, List, [], ◌∷◌, ◌++◌, drop}
 use Rattle.std.specs.declared.cmp.Ordering.{Ordering}
 use Rattle.std.specs.Cmp.{IsTotalOrder}
@@ -12,8 +17,7 @@ use Rattle.semver_cuts.specs.Lemmas.Lists.{all_map, all_middle}
 module _ {T : Type 0} (cmp : T → T → Ordering) where
   -- without the first span the others are apart
   pub apart-tail : (span : Ends T) (spans : List (Ends T)) → AreApart cmp (span ∷ spans) → AreApart cmp spans
-  apart-tail span [] apart = tt
-  apart-tail span (next ∷ spans) apart = apart.1
+  apart-tail span spans h1 = grind arith
 
   pub apart-behind : (front back : List (Ends T)) → AreApart cmp (front ++ back) → AreApart cmp back
   apart-behind [] back apart = apart
@@ -36,22 +40,36 @@ module _ {T : Type 0} (cmp : T → T → Ordering) where
   pub apart-cons : (span : Ends T) (spans : List (Ends T))
       → AllByRecursion (λ (s : Ends T). IsCutBelow cmp span.upper s.lower) spans → AreApart cmp spans
       → AreApart cmp (span ∷ spans)
-  apart-cons span [] above apart = tt
-  apart-cons span (next ∷ spans) above apart = (above.0, apart)
+  apart-cons span spans h1 h2 = grind arith
 
 module _ {T : Type 0} {cmp : T → T → Ordering} (o : IsTotalOrder cmp) where
+  -- spans that begin above a cut, or at it or above, begin above each lesser cut
+  pub lowers-above : (low high : Cut T) (spans : List (Ends T)) → IsCutAtMost cmp low high
+      → AllByRecursion (λ (s : Ends T). IsCutBelow cmp high s.lower) spans
+      → AllByRecursion (λ (s : Ends T). IsCutBelow cmp low s.lower) spans
+  lowers-above low high spans le all = grind (arith, at_most-below o, all_map)
+
+  pub lowers-from : (low high : Cut T) (spans : List (Ends T)) → IsCutBelow cmp low high
+      → AllByRecursion (λ (s : Ends T). IsCutAtMost cmp high s.lower) spans
+      → AllByRecursion (λ (s : Ends T). IsCutBelow cmp low s.lower) spans
+  lowers-from low high spans le all = grind (arith, below-at_most o, all_map)
+
+  -- spans that begin above a cut begin at it or above, and end above it
+  pub lowers-at_least : (low : Cut T) (spans : List (Ends T))
+      → AllByRecursion (λ (s : Ends T). IsCutBelow cmp low s.lower) spans
+      → AllByRecursion (λ (s : Ends T). IsCutAtMost cmp low s.lower) spans
+  lowers-at_least low spans all = grind (arith, all_map)
+
+  pub uppers-above : (low : Cut T) (spans : List (Ends T))
+      → AllByRecursion (λ (s : Ends T). IsCutBelow cmp low s.lower) spans → AreRising cmp spans
+      → AllByRecursion (λ (s : Ends T). IsCutBelow cmp low s.upper) spans
+  uppers-above low spans all rising = grind (arith, below_trans o, all_both)
+
   -- all spans after one begin above where it ends
   pub apart-above : (span : Ends T) (spans : List (Ends T)) → AreApart cmp (span ∷ spans) → AreRising cmp spans
       → AllByRecursion (λ (s : Ends T). IsCutBelow cmp span.upper s.lower) spans
   apart-above span [] apart rising = tt
-  apart-above span (next ∷ spans) apart rising =
-      let over : IsCutBelow cmp span.upper next.upper =
-      below_trans o span.upper next.lower next.upper apart.0 rising.0 in (
-        apart.0,
-        all_map (λ (s : Ends T). IsCutBelow cmp next.upper s.lower) (λ (s : Ends T). IsCutBelow cmp span.upper s.lower)
-            (λ s h. below_trans o span.upper next.upper s.lower over h) spans
-            (apart-above next spans apart.1 rising.1),
-      )
+  apart-above span (next ∷ spans) apart rising = grind (arith, below_trans o, all_map, apart-above next spans apart.1)
 
   -- and all spans before one end below where it begins
   pub apart-before : (front back : List (Ends T)) (span : Ends T) → AreApart cmp (front ++ span ∷ back)

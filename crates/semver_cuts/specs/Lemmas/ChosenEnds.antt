@@ -1,6 +1,7 @@
 -- The chosen ends of a list of spans: after one more span, that the choice is unique, and the cuts between the two.
-use Rattle.std.specs.Prelude.{◌≡◌, ◌≢◌, ◌↔◌, List, [], ◌∷◌, ◌++◌, refl}
-use mathlib.Core.Path.{sym, ap, subst, ◌∙◌}
+use native.Mathlib.Omega.{arith}
+use Rattle.std.specs.Prelude.{◌≡◌, ◌≢◌, ◌↔◌, List, [], ◌∷◌, ◌++◌}
+use mathlib.Core.Path.{sym, subst, ◌∙◌}
 use mathlib.Core.Logic.{inl, inr}
 use Rattle.std.specs.declared.cmp.Ordering.{Ordering}
 use Rattle.std.specs.Cmp.{IsTotalOrder}
@@ -48,54 +49,29 @@ module _ {T : Type 0} {end : Ends T → Cut T} {Before After : Cut T → Cut T �
   -- the choice stays if `After` holds between the span that is added and it
   chosen-kept : {spans : List (Ends T)} {chosen : Cut T} (span : Ends T) → IsChosenEnd end Before After spans chosen
       → After (end span) chosen → IsChosenEnd end Before After (spans ++ span ∷ []) chosen
-  chosen-kept {chosen = chosen} span is h = record {
-    before = is.before;
-    span = is.span;
-    after = is.after ++ span ∷ [];
-    parts = ap (λ l. l ++ span ∷ []) is.parts ∙ append_assoc is.before (is.span ∷ is.after) (span ∷ []);
-    end_of = is.end_of;
-    earlier = is.earlier;
-    later = all_push (λ (other : Ends T). After (end other) chosen) is.after span is.later h;
-  }
+  chosen-kept span h1 h2 = search (arith, append_assoc, all_push)
 
   -- a fact of the ends before the chosen one, of itself, and of those after it is a fact of all ends
   chosen-all : (P : Cut T → Type 0) {spans : List (Ends T)} {chosen : Cut T} → IsChosenEnd end Before After spans chosen
       → ((c : Cut T) → Before c chosen → P c) → P chosen → ((c : Cut T) → After c chosen → P c)
       → AllByRecursion (λ (other : Ends T). P (end other)) spans
-  chosen-all P {chosen = chosen} is from_before at from_after =
-      let Of : (Cut T → Type 0) → Ends T → Type 0 = λ Q other. Q (end other) in
-      subst (AllByRecursion (Of P)) (sym is.parts) (all_join (Of P) is.before is.after is.span
-      (all_map (Of (λ c. Before c chosen)) (Of P) (λ other h. from_before (end other) h) is.before is.earlier)
-      (subst P (sym is.end_of) at)
-      (all_map (Of (λ c. After c chosen)) (Of P) (λ other h. from_after (end other) h) is.after is.later))
+  chosen-all P h1 h2 h3 h4 = search (arith, all_join, all_map)
 
   -- a fact of all ends is a fact of the chosen one
   pub chosen-of : (P : Cut T → Type 0) {spans : List (Ends T)} {chosen : Cut T} → IsChosenEnd end Before After spans chosen
       → AllByRecursion (λ (other : Ends T). P (end other)) spans → P chosen
-  chosen-of P is all =
-      let Of : Ends T → Type 0 = λ other. P (end other) in
-      subst P is.end_of (all_middle Of is.before is.after is.span (subst (AllByRecursion Of) is.parts all))
+  chosen-of P h1 h2 = grind (arith, all_middle)
 
   chosen-unique : ((c d : Cut T) → Before c d → After d c → ⊥) → {spans : List (Ends T)} {one other : Cut T}
       → IsChosenEnd end Before After spans one → IsChosenEnd end Before After spans other → one ≡ other
-  chosen-unique clash {one = one} {other = other} is is' =
-      same-place end Before After clash one other is.before is'.before is.after is'.after is.span is'.span (sym is.parts ∙ is'.parts)
-      is.end_of is'.end_of is.earlier is'.earlier is.later is'.later
+  chosen-unique clash {one = one} {other = other} is is' = grind (arith, same-place end Before After clash one other)
 
 -- the only span is chosen, and so is the last one if `Before` holds between all the others and it
 chosen-last : {T : Type 0} (end : Ends T → Cut T) (Before After : Cut T → Cut T → Type 0)
     → (spans : List (Ends T)) (span : Ends T)
     → AllByRecursion (λ (other : Ends T). Before (end other) (end span)) spans
     → IsChosenEnd end Before After (spans ++ span ∷ []) (end span)
-chosen-last end Before After spans span all = record {
-  before = spans;
-  span = span;
-  after = [];
-  parts = refl;
-  end_of = refl;
-  earlier = all;
-  later = tt;
-}
+chosen-last end Before After spans span h1 = grind arith
 
 -- ---- the last of the greatest lower ends, and the first of the least upper ends
 
@@ -132,32 +108,22 @@ module _ {T : Type 0} {cmp : T → T → Ordering} (o : IsTotalOrder cmp) where
   -- the choice of a list and a span after it
   pub chosen_lower-push : (spans : List (Ends T)) (span : Ends T) (old new : Cut T) → IsLastGreatestLower cmp spans old
       → IsLaterGreatest cmp old span.lower new → IsLastGreatestLower cmp (spans ++ span ∷ []) new
-  chosen_lower-push spans span old new is (inl h) =
-      subst (IsLastGreatestLower cmp (spans ++ span ∷ [])) (sym h.1) (chosen-kept span is h.0)
-  chosen_lower-push spans span old new is (inr h) =
-      subst (IsLastGreatestLower cmp (spans ++ span ∷ [])) (sym h.1) (lower-last spans span
-      (all_map (λ (s : Ends T). IsCutAtMost cmp s.lower old) (λ (s : Ends T). IsCutAtMost cmp s.lower span.lower)
-      (λ s p. at_most_trans o s.lower old span.lower p h.0) spans (chosen_lower-above spans old is)))
+  chosen_lower-push spans span old new is (inl h) = grind (arith, chosen-kept)
+  chosen_lower-push spans span old new is (inr h) = grind (arith, lower-last spans span (all_map _ _ (λ s p. at_most_trans o s.lower old span.lower p h.0) spans (chosen_lower-above spans old is)))
 
   pub chosen_upper-push : (spans : List (Ends T)) (span : Ends T) (old new : Cut T) → IsFirstLeastUpper cmp spans old
       → IsEarlierLeast cmp old span.upper new → IsFirstLeastUpper cmp (spans ++ span ∷ []) new
-  chosen_upper-push spans span old new is (inl h) =
-      subst (IsFirstLeastUpper cmp (spans ++ span ∷ [])) (sym h.1) (upper-last spans span
-      (all_map (λ (s : Ends T). IsCutAtMost cmp old s.upper) (λ (s : Ends T). IsCutBelow cmp span.upper s.upper)
-      (λ s p. below-at_most o span.upper old s.upper h.0 p) spans (chosen_upper-below spans old is)))
-  chosen_upper-push spans span old new is (inr h) =
-      subst (IsFirstLeastUpper cmp (spans ++ span ∷ [])) (sym h.1) (chosen-kept span is h.0)
+  chosen_upper-push spans span old new is (inl h) = grind (arith, upper-last spans span (all_map _ _ (λ s p. below-at_most o span.upper old s.upper h.0 p) spans (chosen_upper-below spans old is)))
+  chosen_upper-push spans span old new is (inr h) = grind (arith, chosen-kept)
 
   -- only one end is chosen
   pub chosen_lower-unique : (spans : List (Ends T)) (one other : Cut T) → IsLastGreatestLower cmp spans one
       → IsLastGreatestLower cmp spans other → one ≡ other
-  chosen_lower-unique spans one other is is' =
-      chosen-unique (λ c d at_most below. below-not-at_most o d c below at_most) is is'
+  chosen_lower-unique spans one other is is' = search (arith, chosen-unique, below-not-at_most o)
 
   pub chosen_upper-unique : (spans : List (Ends T)) (one other : Cut T) → IsFirstLeastUpper cmp spans one
       → IsFirstLeastUpper cmp spans other → one ≡ other
-  chosen_upper-unique spans one other is is' =
-      chosen-unique (λ c d below at_most. below-not-at_most o d c below at_most) is is'
+  chosen_upper-unique spans one other is is' = search (arith, chosen-unique, below-not-at_most o)
 
   -- and none is chosen of no spans
   pub chosen_lower-some : (spans : List (Ends T)) (chosen : Cut T) → IsLastGreatestLower cmp spans chosen → spans ≢ []
@@ -168,27 +134,13 @@ module _ {T : Type 0} {cmp : T → T → Ordering} (o : IsTotalOrder cmp) where
   module _ (spans : List (Ends T)) (lower upper : Cut T) (l : IsLastGreatestLower cmp spans lower)
       (u : IsFirstLeastUpper cmp spans upper) where
     every-between : (cut : Cut T) → IsInEvery cmp spans cut → IsInSpan cmp (span_between lower upper) cut
-    every-between cut all =
-        let In : Ends T → Type 0 = λ s. IsInSpan cmp s cut in
-        let Begins : Ends T → Type 0 = λ s. IsCutAtMost cmp s.lower cut in
-        let GoesOn : Ends T → Type 0 = λ s. IsCutBelow cmp cut s.upper in
-        record {
-          lower = chosen-of (λ c. IsCutAtMost cmp c cut) l (all_map In Begins (λ s h. h.lower) spans all);
-          upper = chosen-of (λ c. IsCutBelow cmp cut c) u (all_map In GoesOn (λ s h. h.upper) spans all);
-        }
+    every-between cut all = record {
+      lower = chosen-of (λ c. IsCutAtMost cmp c cut) l (all_map _ _ (λ s h. h.lower) spans all);
+      upper = chosen-of (λ c. IsCutBelow cmp cut c) u (all_map _ _ (λ s h. h.upper) spans all);
+    }
 
     between-every : (cut : Cut T) → IsInSpan cmp (span_between lower upper) cut → IsInEvery cmp spans cut
-    between-every cut is =
-        let Begins : Ends T → Type 0 = λ s. IsCutAtMost cmp s.lower cut in
-        let GoesOn : Ends T → Type 0 = λ s. IsCutBelow cmp cut s.upper in
-        let begun : AllByRecursion Begins spans =
-        all_map (λ (s : Ends T). IsCutAtMost cmp s.lower lower) Begins
-        (λ s p. at_most_trans o s.lower lower cut p is.lower) spans (chosen_lower-above spans lower l) in
-        let going_on : AllByRecursion GoesOn spans =
-        all_map (λ (s : Ends T). IsCutAtMost cmp upper s.upper) GoesOn
-        (λ s p. below-at_most o cut upper s.upper is.upper p) spans (chosen_upper-below spans upper u) in
-        all_both Begins GoesOn (λ (s : Ends T). IsInSpan cmp s cut) (λ s p q. record { lower = p; upper = q })
-        spans begun going_on
+    between-every cut is = all_both _ _ _ (λ s p q. grind (arith, at_most_trans o s.lower, below-at_most o cut upper)) spans (chosen_lower-above spans lower l) (chosen_upper-below spans upper u)
 
     -- a cut lies in each span exactly if it lies between the chosen ends
     pub in_every-between : (cut : Cut T) → IsInEvery cmp spans cut ↔ IsInSpan cmp (span_between lower upper) cut

@@ -1,14 +1,14 @@
 -- The intersection of two lists of spans: its cuts, its ends, and from which two spans each of its spans comes.
+use native.Mathlib.Omega.{arith}
 use Rattle.std.specs.Prelude.{◌≡◌, ◌≢◌, ◌↔◌, List, [], ◌∷◌, refl}
-use mathlib.Core.Path.{subst}
-use mathlib.Core.Logic.{inl, inr}
+use mathlib.Core.Logic.{inl}
 use Rattle.std.specs.declared.cmp.Ordering.{Ordering}
 use Rattle.std.specs.Cmp.{IsTotalOrder}
 use Rattle.std.specs.List.{AllByRecursion}
 use Rattle.semver_cuts.specs.declared.cut.Cut.{Cut}
 use Rattle.semver_cuts.specs.Ends.{Ends, HoldsCut, IsInSpan}
 use Rattle.semver_cuts.specs.SpanLists.{AnyByRecursion, IsInSome}
-use Rattle.semver_cuts.specs.CommonSpans.{common_ends, common_of, common_spans, common_with}
+use Rattle.semver_cuts.specs.CommonSpans.{common_ends, common_of, common_spans}
 use Rattle.semver_cuts.specs.Sharing.{HaveCommonCut, ShareCut}
 use Rattle.semver_cuts.specs.Lemmas.InSome.{none_held}
 use Rattle.semver_cuts.specs.Lemmas.Lists.{all-always, all-flat_map, all_map, any-flat_map, any-found, any-map}
@@ -24,13 +24,7 @@ module _ {T : Type 0} {cmp : T → T → Ordering} (o : IsTotalOrder cmp) where
       → ((one other : Ends T) → P one → P' other → HaveCommonCut cmp one other → Q (common_ends cmp one other))
       → (ones others : List (Ends T)) → AllByRecursion P ones → AllByRecursion P' others
       → AllByRecursion Q (common_spans cmp ones others)
-  common_spans-each P P' Q from ones others all all' =
-      all-flat_map (λ (one : Ends T). common_with cmp one others) Q ones
-      (all_map P (λ (one : Ends T). AllByRecursion Q (common_with cmp one others))
-      (λ one p. all-flat_map (common_of cmp one) Q others
-      (all_map P' (λ (other : Ends T). AllByRecursion Q (common_of cmp one other))
-      (λ other p'. common_of-cases o one other (AllByRecursion Q) (λ shared. (from one other p p' shared, tt))
-      (λ apart. tt)) others all')) ones all)
+  common_spans-each P P' Q from ones others all all' = all-flat_map _ Q ones (all_map P _ (λ one p. all-flat_map (common_of cmp one) Q others (all_map P' _ (λ other p'. common_of-cases o one other (AllByRecursion Q) (λ shared. (from one other p p' shared, tt)) (λ apart. tt)) others all')) ones all)
 
   -- each common span holds a cut
   pub common_spans-hold : (ones others : List (Ends T)) → AllByRecursion (HoldsCut cmp) (common_spans cmp ones others)
@@ -45,14 +39,7 @@ module _ {T : Type 0} {cmp : T → T → Ordering} (o : IsTotalOrder cmp) where
       → AllByRecursion (λ (span : Ends T). Lower span.lower × Upper span.upper) ones
       → AllByRecursion (λ (span : Ends T). Lower span.lower × Upper span.upper) others
       → AllByRecursion (λ (span : Ends T). Lower span.lower × Upper span.upper) (common_spans cmp ones others)
-  common_spans-ends Lower Upper ones others all all' =
-      let Of : Ends T → Type 0 = λ span. Lower span.lower × Upper span.upper in
-      common_spans-each Of Of Of
-      (λ one other p p' shared. (
-        greater-is o Lower one.lower other.lower (λ h. p.0) (λ h. p'.0),
-        lesser-is o Upper one.upper other.upper (λ h. p'.1) (λ h. p.1),
-      ))
-      ones others all all'
+  common_spans-ends Lower Upper ones others all all' = common_spans-each _ _ _ (λ one other p p' shared. (greater-is o Lower one.lower other.lower (λ h. p.0) (λ h. p'.0), lesser-is o Upper one.upper other.upper (λ h. p'.1) (λ h. p.1))) ones others all all'
 
   -- ---- some of the common spans
 
@@ -61,32 +48,16 @@ module _ {T : Type 0} {cmp : T → T → Ordering} (o : IsTotalOrder cmp) where
     IsFrom one other = HaveCommonCut cmp one other × Q (common_ends cmp one other)
 
     some-of : (one other : Ends T) → AnyByRecursion Q (common_of cmp one other) ↔ IsFrom one other
-    some-of one other = common_of-cases o one other (λ spans. AnyByRecursion Q spans ↔ IsFrom one other)
-        (λ shared. (
-          λ some. elim some [
-            | inl here ↦ (shared, here)
-            | inr none ↦ absurd none
-          ],
-          λ is. inl is.1,
-        ))
-        (λ apart. (λ none. absurd none, λ is. absurd (apart is.0)))
+    some-of one other = common_of-cases o one other (λ spans. AnyByRecursion Q spans ↔ IsFrom one other) (λ shared. grind arith) (λ apart. grind arith)
 
     -- a fact of the common ends of some two spans that share a cut is a fact of some common span
     pub common_spans-some : (ones others : List (Ends T)) → AnyByRecursion Q (common_spans cmp ones others)
         ↔ AnyByRecursion (λ (one : Ends T). AnyByRecursion (λ (other : Ends T).
         HaveCommonCut cmp one other × Q (common_ends cmp one other)) others) ones
-    common_spans-some ones others =
-        let With : Ends T → Type 0 = λ one. AnyByRecursion Q (common_with cmp one others) in
-        let From : Ends T → Type 0 = λ one. AnyByRecursion (IsFrom one) others in (
-          λ some. any-map With From
-              (λ one with. any-map (λ (other : Ends T). AnyByRecursion Q (common_of cmp one other)) (IsFrom one)
-              (λ other is. (some-of one other).0 is) others (any-flat_map (common_of cmp one) Q others with))
-              ones (any-flat_map (λ (one : Ends T). common_with cmp one others) Q ones some),
-          λ from. flat_map-any (λ (one : Ends T). common_with cmp one others) Q ones (any-map From With
-              (λ one some. flat_map-any (common_of cmp one) Q others
-              (any-map (IsFrom one) (λ (other : Ends T). AnyByRecursion Q (common_of cmp one other))
-              (λ other is. (some-of one other).1 is) others some)) ones from),
-        )
+    common_spans-some ones others = (
+      λ some. any-map _ _ (λ one with. any-map _ (IsFrom one) (λ other is. (some-of one other).0 is) others (any-flat_map (common_of cmp one) Q others with)) ones (any-flat_map _ Q ones some),
+      λ from. flat_map-any _ Q ones (any-map _ _ (λ one some. flat_map-any (common_of cmp one) Q others (any-map (IsFrom one) _ (λ other is. (some-of one other).1 is) others some)) ones from),
+    )
 
   -- ---- cuts
 
@@ -121,18 +92,9 @@ module _ {T : Type 0} {cmp : T → T → Ordering} (o : IsTotalOrder cmp) where
   -- there is no common span if no cut lies in a span of each list
   pub common_spans-none : (ones others : List (Ends T))
       → (common_spans cmp ones others ≡ []) ↔ (¬ ShareCut cmp ones others)
-  common_spans-none ones others = (
-    λ none shared. subst (λ spans. IsInSome cmp spans shared.0) none
-        ((common_spans-cuts ones others shared.0).1 (shared.1, shared.2)),
-    λ apart. none_held cmp (common_spans cmp ones others) (common_spans-hold ones others)
-        (λ cut is. let both = (common_spans-cuts ones others cut).0 is in apart (cut, both.0, both.1)),
-  )
+  common_spans-none ones others = (λ none shared. grind (arith, common_spans-cuts ones others shared.0), λ apart. none_held cmp _ (common_spans-hold ones others) (λ cut is. grind (arith, common_spans-cuts ones others cut)))
 
   -- and there is one if some cut does
   pub common_spans-any : (ones others : List (Ends T))
       → (common_spans cmp ones others ≢ []) ↔ ShareCut cmp ones others
-  common_spans-any ones others = (
-    λ some. let held = some-held (common_spans cmp ones others) (common_spans-hold ones others) some in
-        let both = (common_spans-cuts ones others held.0).0 held.1 in (held.0, both.0, both.1),
-    λ shared none. (common_spans-none ones others).0 none shared,
-  )
+  common_spans-any ones others = (λ some. let held = some-held _ (common_spans-hold ones others) some in let both = (common_spans-cuts ones others held.0).0 held.1 in (held.0, both.0, both.1), λ shared none. (common_spans-none ones others).0 none shared)

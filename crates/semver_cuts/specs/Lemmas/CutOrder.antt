@@ -1,8 +1,9 @@
 -- The order of cuts is a total order wherever the order of the values is.
+use native.Mathlib.Omega.{arith}
 use Rattle.std.specs.Prelude.{◌≡◌, ℕ}
-use mathlib.Core.Path.{refl, subst}
+use mathlib.Core.Path.{subst}
 use Rattle.std.specs.declared.cmp.Ordering.{Ordering}
-use Rattle.std.specs.declared.cmp.Ordering.TheVariants.{Less, Equal, Greater}
+use Rattle.std.specs.declared.cmp.Ordering.TheVariants.{Equal}
 use Rattle.std.specs.declared.option.Option.{Option}
 use Rattle.std.specs.declared.option.Option.TheVariants.{Some, None}
 use Rattle.std.specs.Option.{option_cmp}
@@ -27,17 +28,11 @@ key_cmp : {T : Type 0} → (T → T → Ordering) → Option (Option (T × ℕ))
 key_cmp cmp = option_cmp (flip_args (option_cmp (flip_args (pair_cmp cmp))))
 
 pub then_equal : (r : Ordering) → ordering_then r Equal ≡ r
-then_equal Less = refl
-then_equal Equal = refl
-then_equal Greater = refl
+then_equal r = grind arith
 
 by_key : {T : Type 0} (cmp : T → T → Ordering) (c d : Cut T) → on key (key_cmp cmp) c d ≡ cut_cmp cmp c d
 unfolding key key_cmp pair_cmp
-by_key cmp (Before v) (Before w) = then_equal (cmp v w)
-by_key cmp (After v) (After w) = then_equal (cmp v w)
-by_key cmp Start Start = refl
-by_key cmp End End = refl
-by_key cmp c d = refl
+by_key cmp c d = grind arith
 
 pair_total : {T : Type 0} {cmp : T → T → Ordering} → IsTotalOrder cmp → IsTotalOrder (pair_cmp cmp)
 unfolding pair_cmp
@@ -51,19 +46,9 @@ key_total o = options_total (back_total (options_total (back_total (pair_total o
 pub cut_total : {T : Type 0} {cmp : T → T → Ordering} → IsTotalOrder cmp → IsTotalOrder (cut_cmp cmp)
 cut_total {T} {cmp} o = subst IsTotalOrder (λ i c d. by_key cmp c d i) (on_total key (key_total o))
 
-never_equal : {P : Type 0} (r s : Ordering) → (s ≡ Equal → ⊥) → ordering_then r s ≡ Equal → P
-never_equal Equal s h e = absurd (h e)
-never_equal r s h e = cc
-
 -- equal cuts are of one kind: what holds of those of each kind holds of all
 pub equal-by_kind : {T : Type 0} (cmp : T → T → Ordering) (P : Cut T → Cut T → Type 0) → P Start Start
     → ((v w : T) → cmp v w ≡ Equal → P (Before v) (Before w))
     → ((v w : T) → cmp v w ≡ Equal → P (After v) (After w))
     → P End End → (c d : Cut T) → cut_cmp cmp c d ≡ Equal → P c d
-equal-by_kind cmp P start before after end Start Start e = start
-equal-by_kind cmp P start before after end (Before v) (Before w) e = before v w e
-equal-by_kind cmp P start before after end (After v) (After w) e = after v w e
-equal-by_kind cmp P start before after end End End e = end
-equal-by_kind cmp P start before after end (Before v) (After w) e = never_equal (cmp v w) Less (λ h. cc) e
-equal-by_kind cmp P start before after end (After v) (Before w) e = never_equal (cmp v w) Greater (λ h. cc) e
-equal-by_kind cmp P start before after end c d e = cc
+equal-by_kind cmp P h1 h2 h3 h4 c d h5 = grind arith

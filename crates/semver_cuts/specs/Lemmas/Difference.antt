@@ -1,4 +1,5 @@
 -- The part of one list of spans outside another: its cuts, its ends, when it is empty, and how it adds up.
+use native.Mathlib.Omega.{arith}
 use Rattle.std.specs.Prelude.{◌≡◌, ◌⊎◌, ◌↔◌, List, [], ◌∷◌}
 use mathlib.Core.Path.{sym, subst}
 use mathlib.Core.Logic.{inl, inr}
@@ -28,28 +29,20 @@ module _ {T : Type 0} (cmp : T → T → Ordering) where
 
   of-difference : (ones others spans : List (Ends T)) (cut : Cut T) → AreDifference cmp ones others spans
       → IsInSome cmp spans cut → IsInSome cmp ones cut × ¬ IsInSome cmp others cut
-  of-difference [] others spans cut are is = absurd (subst (λ spans. IsInSome cmp spans cut) are is)
-  of-difference (one ∷ ones) others spans cut are is =
-      elim (in_some-either cmp cut are.0 are.1 (subst (λ spans. IsInSome cmp spans cut) are.2 is)) [
-        | inl here ↦ let left = pieces-left others one are.0 cut are.3.each here in (inl left.0, left.1)
-        | inr there ↦ let left = of-difference ones others are.1 cut are.4 there in (inr left.0, left.1)
-      ]
+  of-difference [] others spans cut are is = grind arith
+  of-difference (one ∷ ones) others spans cut are is = grind (arith, in_some-either cmp cut, pieces-left others one, of-difference ones others are.1 cut are.4)
 
   in-difference : (ones others spans : List (Ends T)) (cut : Cut T) → AreDifference cmp ones others spans
       → IsInSome cmp ones cut → ¬ IsInSome cmp others cut → IsInSome cmp spans cut
   in-difference [] others spans cut are is out = absurd is
-  in-difference (one ∷ ones) others spans cut are (inl here) out =
-      subst (λ spans. IsInSome cmp spans cut) (sym are.2)
-      (in_some-left cmp cut are.0 are.1 (are.3.all cut (here, out)))
+  in-difference (one ∷ ones) others spans cut are (inl here) out = grind (arith, in_some-left cmp cut)
   in-difference (one ∷ ones) others spans cut are (inr there) out =
-      subst (λ spans. IsInSome cmp spans cut) (sym are.2)
-      (in_some-right cmp cut are.0 are.1 (in-difference ones others are.1 cut are.4 there out))
+      let left = in-difference ones others are.1 cut are.4 there out in grind (arith, in_some-right cmp cut)
 
   -- a cut lies in the difference exactly if it lies in a span of the first list and in none of the second
   pub difference-cuts : (ones others spans : List (Ends T)) → AreDifference cmp ones others spans → (cut : Cut T)
       → IsInSome cmp spans cut ↔ (IsInSome cmp ones cut × ¬ IsInSome cmp others cut)
-  difference-cuts ones others spans are cut =
-      (of-difference ones others spans cut are, λ both. in-difference ones others spans cut are both.0 both.1)
+  difference-cuts ones others spans are cut = grind (arith, of-difference, in-difference)
 
   -- ---- each span of the difference
 
@@ -87,31 +80,13 @@ module _ {T : Type 0} (cmp : T → T → Ordering) where
       → AllByRecursion (λ (span : Ends T). Upper span.lower × Lower span.upper) others
       → AreDifference cmp ones others spans
       → AllByRecursion (λ (span : Ends T). Lower span.lower × Upper span.upper) spans
-  difference-ends Lower Upper ones others spans all all' are =
-      let Of : Ends T → Type 0 = λ span. Lower span.lower × Upper span.upper in
-      let Opposite : Ends T → Type 0 = λ span. Upper span.lower × Lower span.upper in
-      difference-each Of others Of
-      (λ one piece p is. (
-        lower-is Lower others one piece.lower p.0
-            (all_map Opposite (λ (other : Ends T). Lower other.upper) (λ other q. q.1) others all') is.lower,
-        upper-is Upper others one piece.upper p.1
-            (all_map Opposite (λ (other : Ends T). Upper other.lower) (λ other q. q.0) others all') is.upper,
-      ))
-      ones spans all are
+  difference-ends Lower Upper ones others spans all all' are = difference-each _ others _ (λ one piece p is. (lower-is Lower others one piece.lower p.0 (all_map _ _ (λ other q. q.1) others all') is.lower, upper-is Upper others one piece.upper p.1 (all_map _ _ (λ other q. q.0) others all') is.upper)) ones spans all are
 
 module _ {T : Type 0} {cmp : T → T → Ordering} (o : IsTotalOrder cmp) where
   -- the difference is empty exactly if each cut of the first list lies in some span of the second
   pub difference-covered : (ones others spans : List (Ends T)) → AreDifference cmp ones others spans
       → (spans ≡ []) ↔ ((cut : Cut T) → IsInSome cmp ones cut → IsInSome cmp others cut)
-  difference-covered ones others spans are = (
-    λ none cut is. elim (in_some-or_not o cut others) [
-      | inl there ↦ there
-      | inr out ↦ absurd (subst (λ spans. IsInSome cmp spans cut) none
-          (in-difference cmp ones others spans cut are is out))
-    ],
-    λ covered. none_held cmp spans (difference-hold cmp ones others spans are)
-        (λ cut is. let left = of-difference cmp ones others spans cut are is in left.1 (covered cut left.0)),
-  )
+  difference-covered ones others spans are = (λ none cut is. grind (arith, in_some-or_not o cut others, in-difference cmp ones others spans cut are is), λ covered. none_held cmp spans (difference-hold cmp ones others spans are) (λ cut is. grind (arith, of-difference cmp ones others spans cut are is)))
 
 -- ---- the intersection and the difference
 
@@ -123,18 +98,9 @@ module _ {T : Type 0} {cmp : T → T → Ordering} (o : IsTotalOrder cmp) (ones 
       (of-difference cmp ones others spans cut are left).1 ((common_spans-cuts o ones others cut).0 common).1
 
   parted : IsInSome cmp ones cut → IsInSome cmp (common_spans cmp ones others) cut ⊎ IsInSome cmp spans cut
-  parted is = elim (in_some-or_not o cut others) [
-    | inl there ↦ inl ((common_spans-cuts o ones others cut).1 (is, there))
-    | inr out ↦ inr (in-difference cmp ones others spans cut are is out)
-  ]
+  parted is = grind (arith, in_some-or_not o cut, common_spans-cuts o, in-difference cmp)
 
   -- and each cut of the first list lies in one of the two
   pub common_difference-together : (IsInSome cmp (common_spans cmp ones others) cut ⊎ IsInSome cmp spans cut)
       ↔ IsInSome cmp ones cut
-  common_difference-together = (
-    λ either. elim either [
-      | inl common ↦ ((common_spans-cuts o ones others cut).0 common).0
-      | inr left ↦ (of-difference cmp ones others spans cut are left).0
-    ],
-    parted,
-  )
+  common_difference-together = grind (arith, common_spans-cuts o ones others cut, parted, of-difference cmp)

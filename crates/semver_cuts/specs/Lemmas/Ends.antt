@@ -1,13 +1,14 @@
 -- Less and at most of cuts, wherever the order of the values is total, and the tests of them in a program.
-use Rattle.std.specs.Prelude.{◌≡◌, ◌⊎◌, ◌↔◌, ◌&&◌, Bool, IsTrue, refl, true, false}
+use native.Mathlib.Omega.{arith}
+use Rattle.std.specs.Prelude.{◌≡◌, ◌⊎◌, ◌↔◌, Bool, IsTrue, refl, true, false}
 use mathlib.Core.Path.{sym, ap, ◌∙◌}
-use mathlib.Core.Logic.{inl, inr}
+use mathlib.Core.Logic.{inr}
 use mathlib.Core.Bool.{true≢false}
 use Rattle.std.specs.declared.cmp.Ordering.{Ordering}
-use Rattle.std.specs.declared.cmp.Ordering.TheVariants.{Less, Equal, Greater}
-use Rattle.std.specs.Ordering.{is_eq, is_lt, is_le, ordering_reverse}
-use Rattle.std.specs.Cmp.{Equal-is, IsEquivalence, IsTotalOrder, alike_right, and_equiv}
-use Rattle.std.specs.Cmp.{eq_by_cmp_equiv, first_so, on_equiv, second_so, tied_back, tied_itself}
+use Rattle.std.specs.declared.cmp.Ordering.TheVariants.{Less, Equal}
+use Rattle.std.specs.Ordering.{is_lt, is_le}
+use Rattle.std.specs.Cmp.{IsEquivalence, IsTotalOrder, alike_right, and_equiv}
+use Rattle.std.specs.Cmp.{eq_by_cmp_equiv, on_equiv, tied_back, tied_itself}
 use Rattle.semver_cuts.specs.declared.cut.Cut.{Cut}
 use Rattle.semver_cuts.specs.Cut.{cut_cmp}
 use Rattle.semver_cuts.specs.Lemmas.CutOrder.{cut_total}
@@ -21,29 +22,13 @@ module _ {T : Type 0} {cmp : T → T → Ordering} (o : IsTotalOrder cmp) where
   pub cut_cmp-refl : (c : Cut T) → cut_cmp cmp c c ≡ Equal
   cut_cmp-refl c = tied_itself (cut_total o) c
 
-  -- the comparison the other way round
-  pub cut_cmp-reverse : (c d : Cut T) → cut_cmp cmp c d ≡ ordering_reverse (cut_cmp cmp d c)
-  cut_cmp-reverse c d = (cut_total o).antisymm c d
-
   -- the same cut either way round
   pub cut_cmp-equal_back : (c d : Cut T) → cut_cmp cmp c d ≡ Equal → cut_cmp cmp d c ≡ Equal
   cut_cmp-equal_back c d p = tied_back (cut_total o) c d p
 
-  -- the same cut on the left compares alike
-  pub cut_cmp-equal_left : (c d e : Cut T) → cut_cmp cmp c d ≡ Equal → cut_cmp cmp c e ≡ cut_cmp cmp d e
-  cut_cmp-equal_left c d e p = (cut_total o).congr c d e p
-
   -- the same cut on the right compares alike
   pub cut_cmp-equal_right : (c d e : Cut T) → cut_cmp cmp c d ≡ Equal → cut_cmp cmp e c ≡ cut_cmp cmp e d
   cut_cmp-equal_right c d e p = alike_right (cut_total o) c d e p
-
-  -- greater is less the other way round
-  pub below-from_greater : (c d : Cut T) → cut_cmp cmp c d ≡ Greater → IsCutBelow cmp d c
-  below-from_greater c d p = cut_cmp-reverse d c ∙ ap ordering_reverse p
-
-  -- and less is greater
-  pub greater-from_below : (c d : Cut T) → IsCutBelow cmp d c → cut_cmp cmp c d ≡ Greater
-  greater-from_below c d p = cut_cmp-reverse c d ∙ ap ordering_reverse p
 
   -- no cut is below itself
   pub below_irrefl : (c : Cut T) → ¬ (IsCutBelow cmp c c)
@@ -59,24 +44,18 @@ module _ {T : Type 0} {cmp : T → T → Ordering} (o : IsTotalOrder cmp) where
 
   -- below one that is at most a third is below the third
   pub below-at_most : (c d e : Cut T) → IsCutBelow cmp c d → IsCutAtMost cmp d e → IsCutBelow cmp c e
-  below-at_most c d e p (inl q) = below_trans c d e p q
-  below-at_most c d e p (inr q) = sym (cut_cmp-equal_right d e c q) ∙ p
+  below-at_most c d e h1 h2 = grind arith
 
   -- at most one that is below a third is below the third
   pub at_most-below : (c d e : Cut T) → IsCutAtMost cmp c d → IsCutBelow cmp d e → IsCutBelow cmp c e
-  at_most-below c d e (inl p) q = below_trans c d e p q
-  at_most-below c d e (inr p) q = cut_cmp-equal_left c d e p ∙ q
+  at_most-below c d e h1 h2 = grind arith
 
   -- at most is transitive
   pub at_most_trans : (c d e : Cut T) → IsCutAtMost cmp c d → IsCutAtMost cmp d e → IsCutAtMost cmp c e
-  at_most_trans c d e (inl p) q = inl (below-at_most c d e p q)
-  at_most_trans c d e (inr p) (inl q) = inl (cut_cmp-equal_left c d e p ∙ q)
-  at_most_trans c d e (inr p) (inr q) = inr (cut_cmp-equal_left c d e p ∙ q)
+  at_most_trans c d e h1 h2 = grind arith
 
   either_by : (c d : Cut T) (r : Ordering) → cut_cmp cmp c d ≡ r → IsCutAtMost cmp c d ⊎ IsCutBelow cmp d c
-  either_by c d Less p = inl (inl p)
-  either_by c d Equal p = inl (inr p)
-  either_by c d Greater p = inr (below-from_greater c d p)
+  either_by c d r h1 = grind arith
 
   -- of two cuts one is at most the other, or the other is below it
   pub at_most-or-below : (c d : Cut T) → IsCutAtMost cmp c d ⊎ IsCutBelow cmp d c
@@ -88,21 +67,17 @@ module _ {T : Type 0} {cmp : T → T → Ordering} (o : IsTotalOrder cmp) where
 
   -- two cuts of which each is at most the other are the same
   pub at_most-both : (c d : Cut T) → IsCutAtMost cmp c d → IsCutAtMost cmp d c → cut_cmp cmp c d ≡ Equal
-  at_most-both c d (inl less) back = absurd (below-not-at_most c d less back)
-  at_most-both c d (inr same) back = same
+  at_most-both c d h1 h2 = grind arith
 
   not_below_by : (c d : Cut T) (r : Ordering) → cut_cmp cmp c d ≡ r → is_lt r ≡ false → IsCutAtMost cmp d c
-  not_below_by c d Less p h = absurd (true≢false h)
-  not_below_by c d Equal p h = inr (cut_cmp-equal_back c d p)
-  not_below_by c d Greater p h = inl (below-from_greater c d p)
+  not_below_by c d r h1 h2 = grind arith
 
   -- what follows if the test `c < d` is false
   pub at_most-from_not_lt : (c d : Cut T) → is_lt (cut_cmp cmp c d) ≡ false → IsCutAtMost cmp d c
   at_most-from_not_lt c d h = not_below_by c d (cut_cmp cmp c d) refl h
 
   not_at_most_by : (c d : Cut T) (r : Ordering) → cut_cmp cmp c d ≡ r → is_le r ≡ false → IsCutBelow cmp d c
-  not_at_most_by c d Greater p h = below-from_greater c d p
-  not_at_most_by c d r p h = absurd (true≢false h)
+  not_at_most_by c d r h1 h2 = grind arith
 
   -- what follows if the test `c <= d` is false
   pub below-from_not_le : (c d : Cut T) → is_le (cut_cmp cmp c d) ≡ false → IsCutBelow cmp d c
@@ -110,40 +85,27 @@ module _ {T : Type 0} {cmp : T → T → Ordering} (o : IsTotalOrder cmp) where
 
   -- the same two ends, as a test, is an equivalence
   pub are_same_ends-equiv : IsEquivalence (are_same_ends cmp)
-  are_same_ends-equiv =
-      and_equiv (on_equiv (λ (span : Ends T). span.lower) (eq_by_cmp_equiv (cut_total o)))
-      (on_equiv (λ (span : Ends T). span.upper) (eq_by_cmp_equiv (cut_total o)))
+  are_same_ends-equiv = search (arith, and_equiv, on_equiv, eq_by_cmp_equiv, cut_total)
 
   -- spans of the same two ends the other way round
   pub same_ends-back : (one other : Ends T) → AreSameEnds cmp one other → AreSameEnds cmp other one
-  same_ends-back one other same = record {
-    lower = cut_cmp-equal_back one.lower other.lower same.lower;
-    upper = cut_cmp-equal_back one.upper other.upper same.upper;
-  }
+  same_ends-back one other same = grind arith
 
   -- the same cuts lie in spans of the same two ends
   pub same_ends-in_span : (one other : Ends T) (cut : Cut T) → AreSameEnds cmp one other → IsInSpan cmp one cut
       → IsInSpan cmp other cut
-  same_ends-in_span one other cut same inside = record {
-    lower =
-        at_most_trans other.lower one.lower cut
-        (inr (cut_cmp-equal_back one.lower other.lower same.lower)) inside.lower;
-    upper = below-at_most cut one.upper other.upper inside.upper (inr same.upper);
-  }
+  same_ends-in_span one other cut same inside = grind arith
 
 module _ {T : Type 0} (cmp : T → T → Ordering) where
   below_by : (r : Ordering) → is_lt r ≡ true → r ≡ Less
-  below_by Less h = refl
-  below_by r h = absurd (true≢false (sym h))
+  below_by r h1 = grind arith
 
   -- what follows if the test `c < d` is true
   pub below-from_lt : (c d : Cut T) → is_lt (cut_cmp cmp c d) ≡ true → IsCutBelow cmp c d
   below-from_lt c d h = below_by (cut_cmp cmp c d) h
 
   at_most_by : (r : Ordering) → is_le r ≡ true → (r ≡ Less) ⊎ (r ≡ Equal)
-  at_most_by Less h = inl refl
-  at_most_by Equal h = inr refl
-  at_most_by Greater h = absurd (true≢false (sym h))
+  at_most_by r h1 = grind arith
 
   -- what follows if the test `c <= d` is true
   pub at_most-from_le : (c d : Cut T) → is_le (cut_cmp cmp c d) ≡ true → IsCutAtMost cmp c d
@@ -155,20 +117,9 @@ module _ {T : Type 0} (cmp : T → T → Ordering) where
 
   -- the same for the test `c <= d`
   pub le-from_at_most : (c d : Cut T) → IsCutAtMost cmp c d → is_le (cut_cmp cmp c d) ≡ true
-  le-from_at_most c d (inl p) = ap is_le p
-  le-from_at_most c d (inr p) = ap is_le p
-
-  ends-from_test : (one other : Ends T) → are_same_ends cmp one other ≡ true → AreSameEnds cmp one other
-  ends-from_test one other h = record {
-    lower = (Equal-is (cut_cmp cmp one.lower other.lower)).0 (first_so _ _ h);
-    upper = (Equal-is (cut_cmp cmp one.upper other.upper)).0 (second_so _ _ h);
-  }
-
-  test-from_ends : (one other : Ends T) → AreSameEnds cmp one other → are_same_ends cmp one other ≡ true
-  test-from_ends one other same = λ i. is_eq (same.lower i) && is_eq (same.upper i)
+  le-from_at_most c d h1 = grind arith
 
   -- the test of the same two ends is true exactly if they are the same
   pub span_same : (one other : Ends T) (r : Bool) → r ≡ are_same_ends cmp one other
       → IsTrue r ↔ AreSameEnds cmp one other
-  span_same one other r e =
-      (λ h. ends-from_test one other (sym e ∙ h), λ same. e ∙ test-from_ends one other same)
+  span_same one other r e = grind arith

@@ -1,26 +1,20 @@
 -- Equal cuts, and equal spans, feed a hasher the same, if equal values do.
-use Rattle.std.specs.Prelude.{◌≡◌, true, ◌++◌, refl}
-use mathlib.Core.Path.{ap}
+use native.Mathlib.Omega.{arith}
+use Rattle.std.specs.Prelude.{◌≡◌, true, ◌++◌}
 use Rattle.std.specs.declared.cmp.Ordering.{Ordering}
-use Rattle.std.specs.Cmp.{Equal-is, first_so, second_so}
-use Rattle.std.specs.Hash as fed
+use Rattle.std.specs.Cmp.{first_so, second_so}
 use Rattle.std.specs.Hash.{HashWrites}
-use Rattle.std.specs.Ordering.{eq_by_cmp, is_eq}
+use Rattle.std.specs.Ordering.{eq_by_cmp}
 use Rattle.semver_cuts.specs.declared.cut.Cut.{Cut}
 use Rattle.semver_cuts.specs.Cut.{cut_cmp}
 use Rattle.semver_cuts.specs.Ends.{Ends, are_same_ends}
 use Rattle.semver_cuts.specs.Hash.{cut_writes, span_writes}
-use Rattle.semver_cuts.specs.Lemmas.CutOrder.{equal-by_kind}
 
 module _ {T : Type 0} (cmp : T → T → Ordering) {writes : T → HashWrites}
     (alike : (v w : T) → eq_by_cmp cmp v w ≡ true → writes v ≡ writes w) where
   -- equal cuts feed a hasher the same
   pub cut_alike : (c d : Cut T) → eq_by_cmp (cut_cmp cmp) c d ≡ true → cut_writes writes c ≡ cut_writes writes d
-  cut_alike c d e =
-      equal-by_kind cmp (λ c d. cut_writes writes c ≡ cut_writes writes d) refl
-      (λ v w p. ap (λ (r : HashWrites). fed.u8 1 ++ r) (alike v w (ap is_eq p)))
-      (λ v w p. ap (λ (r : HashWrites). fed.u8 2 ++ r) (alike v w (ap is_eq p)))
-      refl c d ((Equal-is (cut_cmp cmp c d)).0 e)
+  cut_alike c d e = grind arith
 
   -- and equal spans do
   pub span_alike : (s t : Ends T) → are_same_ends cmp s t ≡ true → span_writes writes s ≡ span_writes writes t

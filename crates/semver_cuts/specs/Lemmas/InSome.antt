@@ -1,4 +1,5 @@
 -- Cuts in some span of a list: of two lists one after the other, and found or not found.
+use native.Mathlib.Omega.{arith}
 use Rattle.std.specs.Prelude.{◌≡◌, ◌⊎◌, List, [], ◌∷◌, ◌++◌, refl}
 use mathlib.Core.Logic.{inl, inr}
 use Rattle.std.specs.declared.cmp.Ordering.{Ordering}
@@ -7,7 +8,7 @@ use Rattle.std.specs.List.{AllByRecursion}
 use Rattle.semver_cuts.specs.declared.cut.Cut.{Cut}
 use Rattle.semver_cuts.specs.Ends.{Ends, HoldsCut, IsCutBelow, IsInSpan}
 use Rattle.semver_cuts.specs.SpanLists.{IsInSome}
-use Rattle.semver_cuts.specs.Lemmas.Ends.{at_most-or-below, below-at_most, below-not-at_most}
+use Rattle.semver_cuts.specs.Lemmas.Ends.{below-at_most}
 use Rattle.semver_cuts.specs.Lemmas.Lists.{any-either, any-left, any-right}
 
 module _ {T : Type 0} (cmp : T → T → Ordering) (cut : Cut T) where
@@ -34,13 +35,7 @@ module _ {T : Type 0} (cmp : T → T → Ordering) where
 module _ {T : Type 0} {cmp : T → T → Ordering} (o : IsTotalOrder cmp) (cut : Cut T) where
   -- a cut lies in a span or it does not
   pub in_span-or_not : (span : Ends T) → IsInSpan cmp span cut ⊎ (¬ IsInSpan cmp span cut)
-  in_span-or_not span = elim (at_most-or-below o span.lower cut) [
-    | inl begun ↦ elim (at_most-or-below o span.upper cut) [
-      | inl past ↦ inr (λ is. below-not-at_most o cut span.upper is.upper past)
-      | inr inside ↦ inl (record { lower = begun; upper = inside })
-    ]
-    | inr early ↦ inr (λ is. below-not-at_most o cut span.lower early is.lower)
-  ]
+  in_span-or_not span = grind arith
 
   -- if spans all begin above a cut, the cuts in them are above it
   pub some-above : (bound : Cut T) (spans : List (Ends T))
@@ -52,13 +47,4 @@ module _ {T : Type 0} {cmp : T → T → Ordering} (o : IsTotalOrder cmp) (cut :
   -- and it lies in some span of a list, or in none
   pub in_some-or_not : (spans : List (Ends T)) → IsInSome cmp spans cut ⊎ (¬ IsInSome cmp spans cut)
   in_some-or_not [] = inr (λ is. is)
-  in_some-or_not (span ∷ spans) = elim (in_span-or_not span) [
-    | inl here ↦ inl (inl here)
-    | inr not_here ↦ elim (in_some-or_not spans) [
-      | inl there ↦ inl (inr there)
-      | inr not_there ↦ inr (λ is. elim is [
-        | inl here ↦ not_here here
-        | inr there ↦ not_there there
-      ])
-    ]
-  ]
+  in_some-or_not (span ∷ spans) = grind (arith, in_span-or_not, in_some-or_not spans)

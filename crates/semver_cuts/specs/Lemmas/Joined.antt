@@ -1,7 +1,7 @@
 -- Lists of spans that are merged as they stand are joined to themselves.
+use Rattle.semver_cuts.specs.Lemmas.Apart.{lowers-above, uppers-above}
+use native.Mathlib.Omega.{arith}
 use Rattle.std.specs.Prelude.{◌≡◌, List, [], ◌∷◌, ◌++◌, refl}
-use mathlib.Core.Path.{subst}
-use mathlib.Core.Logic.{inr}
 use Rattle.std.specs.declared.cmp.Ordering.{Ordering}
 use Rattle.std.specs.declared.cmp.Ordering.TheVariants.{Equal}
 use Rattle.std.specs.List.{AllByRecursion}
@@ -14,8 +14,8 @@ use Rattle.semver_cuts.specs.Joined.{AreJoined, AreMerged}
 use Rattle.semver_cuts.specs.Places.{IsPlacesOf}
 use Rattle.semver_cuts.specs.Difference.{IsFirstAt}
 use Rattle.semver_cuts.specs.Lemmas.Apart.{apart-above, merged-tail}
-use Rattle.semver_cuts.specs.Lemmas.Ends.{below-not-at_most, below_trans, cut_cmp-equal_back}
-use Rattle.semver_cuts.specs.Lemmas.Lists.{all_both, all_map, all_push}
+use Rattle.semver_cuts.specs.Lemmas.Ends.{below-not-at_most, cut_cmp-equal_back}
+use Rattle.semver_cuts.specs.Lemmas.Lists.{all_both, all_push}
 
 pub all_unit : {X : Type 0} (xs : List X) → AllByRecursion (λ (x : X). Unit {0}) xs
 all_unit [] = tt
@@ -31,22 +31,7 @@ module _ {T : Type 0} {cmp : T → T → Ordering} (o : IsTotalOrder cmp) where
   pub merged-ascending : (spans : List (Ends T)) → AreMerged cmp spans
       → IsAscending (λ s. s.lower) spans × IsAscending (λ s. s.upper) spans
   merged-ascending [] are = (tt, tt)
-  merged-ascending (span ∷ spans) are =
-      let Above : Ends T → Type 0 = λ s. IsCutBelow cmp span.upper s.lower in
-      let above : AllByRecursion Above spans = apart-above o span spans are.apart are.rising.1 in
-      let rest = merged-ascending spans (merged-tail cmp span spans are) in (
-        (
-          all_map Above (λ (s : Ends T). IsCutBelow cmp span.lower s.lower)
-              (λ s h. below_trans o span.lower span.upper s.lower are.rising.0 h) spans above,
-          rest.0,
-        ),
-        (
-          all_both Above (λ (s : Ends T). IsCutBelow cmp s.lower s.upper)
-              (λ (s : Ends T). IsCutBelow cmp span.upper s.upper)
-              (λ s p q. below_trans o span.upper s.lower s.upper p q) spans above are.rising.1,
-          rest.1,
-        ),
-      )
+  merged-ascending (span ∷ spans) are = grind (arith, apart-above o span spans, merged-tail cmp span spans, merged-ascending spans (merged-tail cmp span spans are), uppers-above o span.upper spans, lowers-above o span.lower span.upper spans)
 
   module _ (end : Ends T → Cut T) where
     abbrev IsNew : List (Ends T) → Ends T → Type 0
@@ -56,39 +41,14 @@ module _ {T : Type 0} {cmp : T → T → Ordering} (o : IsTotalOrder cmp) where
         → AllByRecursion (λ (s : Ends T). IsFirstAt cmp end (front ++ back) (end s)) back
     first-each front [] new up = tt
     first-each front (span ∷ back) new up = (
-      record {
-        before = front;
-        span = span;
-        after = back;
-        parts = refl;
-        end_of = refl;
-        earlier = new.0;
-        later = all_unit back;
-      },
-      subst (λ l. AllByRecursion (λ (s : Ends T). IsFirstAt cmp end l (end s)) back) (append_assoc front (span ∷ []) back)
-          (first-each (front ++ span ∷ []) back
-          (all_both (IsNew front) (λ (s : Ends T). IsCutBelow cmp (end span) (end s)) (IsNew (front ++ span ∷ []))
-          (λ s p q. all_push (λ (e : Ends T). ¬ (cut_cmp cmp (end e) (end s) ≡ Equal)) front span p
-          (λ e. below-not-at_most o (end span) (end s) q (inr (cut_cmp-equal_back o (end span) (end s) e))))
-          back new.1 up.0) up.1),
+      record { before = front; span = span; after = back; parts = refl; end_of = refl; earlier = new.0; later = all_unit back },
+      rw append_assoc at (first-each (front ++ span ∷ []) back (all_both _ _ _ (λ s p q. all_push _ front span p (grind (arith, below-not-at_most o, cut_cmp-equal_back o))) back new.1 up.0) up.1),
     )
 
   -- spans that are apart are joined to themselves
   pub apart-joined : (spans : List (Ends T)) → AreMerged cmp spans → AreJoined cmp spans spans
-  apart-joined spans are =
-      let up = merged-ascending spans are in
-      record {
-        merged = are;
-        cuts = λ cut. (λ h. h, λ h. h);
-        lowers = first-each (λ s. s.lower) [] spans (all_unit spans) up.0;
-        uppers = first-each (λ s. s.upper) [] spans (all_unit spans) up.1;
-      }
+  apart-joined spans are = record { merged = are; cuts = λ cut. (λ h. h, λ h. h); lowers = first-each (λ s. s.lower) [] spans (all_unit spans) (merged-ascending spans are).0; uppers = first-each (λ s. s.upper) [] spans (all_unit spans) (merged-ascending spans are).1 }
 
   -- and have no places
   pub places_of-merged : (spans : List (Ends T)) → AreMerged cmp spans → IsPlacesOf cmp spans []
-  places_of-merged spans are = record {
-    rising = are.rising;
-    within = tt;
-    joined = apart-joined spans are;
-    none = λ apart. refl;
-  }
+  places_of-merged spans are = grind (arith, apart-joined)

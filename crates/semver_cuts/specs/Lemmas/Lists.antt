@@ -1,6 +1,6 @@
 -- Facts of some element and of each element of a list.
 use Rattle.std.specs.Prelude.{◌≡◌, ◌⊎◌, ◌<◌, ◌+◌, ℕ, zero, suc, List, [], ◌∷◌, ◌++◌, get_or, length, take}
-use mathlib.Core.Path.{sym, subst}
+use mathlib.Core.Path.{subst}
 use mathlib.Core.Logic.{inl, inr}
 use Rattle.std.specs.List.{AllByRecursion, flat_map}
 use Rattle.std.proofs.Common.{arith}
@@ -60,10 +60,7 @@ module _ {X : Type 0} (P : X → Type 0) where
   pub any-either : (xs ys : List X) → AnyByRecursion P (xs ++ ys) → AnyByRecursion P xs ⊎ AnyByRecursion P ys
   any-either [] ys a = inr a
   any-either (x ∷ xs) ys (inl p) = inl (inl p)
-  any-either (x ∷ xs) ys (inr a) = elim (any-either xs ys a) [
-    | inl l ↦ inl (inr l)
-    | inr r ↦ inr r
-  ]
+  any-either (x ∷ xs) ys (inr a) = grind (arith, any-either xs ys a)
 
   -- the element at a place
   pub any-at : (xs : List X) (k : ℕ) (x : X) → k < length xs → x ≡ get_or xs k x → P x → AnyByRecursion P xs
@@ -74,10 +71,7 @@ module _ {X : Type 0} (P : X → Type 0) where
   passed_one : (xs : List X) (k : ℕ) (x : X) → k < length xs → x ≡ get_or xs k x
       → ¬ AnyByRecursion P (take k xs) → ¬ P x → ¬ AnyByRecursion P (take (suc k) xs)
   passed_one [] k x lt e none other = absurd (omega arith)
-  passed_one (y ∷ xs) zero x lt e none other = λ some. elim some [
-    | inl here ↦ other (subst P (sym e) here)
-    | inr there ↦ absurd there
-  ]
+  passed_one (y ∷ xs) zero x lt e none other = grind arith
   passed_one (y ∷ xs) (suc k) x lt e none other = λ some. elim some [
     | inl here ↦ none (inl here)
     | inr there ↦ passed_one xs k x (omega arith) e (λ earlier. none (inr earlier)) other there
@@ -86,9 +80,7 @@ module _ {X : Type 0} (P : X → Type 0) where
   -- if it is true of no element so far, and not of the next one, it is true of none up to there
   pub none-more : (xs : List X) (k : ℕ) (x : X) → k < length xs → x ≡ get_or xs k x
       → ¬ AnyByRecursion P (take k xs) → ¬ P x → ¬ AnyByRecursion P (take (k + 1) xs)
-  none-more xs k x lt e none other =
-      let next : suc k ≡ k + 1 = omega arith in
-      subst (λ (n : ℕ). ¬ AnyByRecursion P (take n xs)) next (passed_one xs k x lt e none other)
+  none-more xs k x lt e none other = grind (arith, passed_one)
 
 module _ {X : Type 0} (P Q : X → Type 0) where
   -- what follows for each element follows for some element

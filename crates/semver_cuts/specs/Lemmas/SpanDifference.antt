@@ -1,8 +1,8 @@
 -- The part of one span outside another: when there is a piece below and above, and which cuts lie in the pieces.
-use Rattle.std.specs.Prelude.{◌≡◌, ◌⊎◌, ◌↔◌, Bool, List, [], ◌∷◌, ◌++◌, if◌then◌else◌, refl, true, false}
-use mathlib.Core.Path.{sym, ap, ◌∙◌}
+use native.Mathlib.Omega.{arith}
+use Rattle.std.specs.Prelude.{◌≡◌, ◌⊎◌, ◌↔◌, Bool, [], ◌∷◌, ◌++◌, if◌then◌else◌, refl, true}
+use mathlib.Core.Path.{ap}
 use mathlib.Core.Logic.{inl, inr}
-use mathlib.Core.Bool.{true≢false}
 use Rattle.std.specs.declared.cmp.Ordering.{Ordering}
 use Rattle.std.specs.Ordering.{is_lt}
 use Rattle.std.specs.Cmp.{IsTotalOrder}
@@ -12,34 +12,18 @@ use Rattle.semver_cuts.specs.Ends.{Ends, IsCutBelow, IsInSpan, span_between}
 use Rattle.semver_cuts.specs.SpanLists.{IsInSome}
 use Rattle.semver_cuts.specs.CommonSpans.{common_ends, common_of}
 use Rattle.semver_cuts.specs.SpanDifference.{piece_above, piece_below, span_if_any, spans_share}
-use Rattle.semver_cuts.specs.Lemmas.Ends.{at_most-below, at_most-or-below, below-at_most, below-from_lt}
-use Rattle.semver_cuts.specs.Lemmas.Ends.{below-not-at_most, below_trans, lt-from_below}
+use Rattle.semver_cuts.specs.Lemmas.Ends.{at_most-or-below, below-at_most, below-from_lt}
+use Rattle.semver_cuts.specs.Lemmas.Ends.{below_trans}
 use Rattle.semver_cuts.specs.Lemmas.InSome.{in_some-either, in_some-left, in_some-right}
 use Rattle.semver_cuts.specs.Lemmas.TwoSpans.{common_ends-hold, shares-ends}
 
 module _ {T : Type 0} (cmp : T → T → Ordering) (one other : Ends T) where
   some_by : (span : Ends T) (r : Bool) → span ∷ [] ≡ (if r then common_ends cmp one other ∷ [] else []) → r ≡ true
-  some_by span true e = refl
-  some_by span false e = cc e
+  some_by span r h1 = grind arith
 
   -- the two share a cut if they have a common span
   pub share-from_some : (span : Ends T) → span ∷ [] ≡ common_of cmp one other → spans_share cmp one other ≡ true
   share-from_some span e = some_by span (spans_share cmp one other) e
-
-  none_by : (r : Bool) → [] ≡ (if r then common_ends cmp one other ∷ [] else []) → r ≡ false
-  none_by true e = cc e
-  none_by false e = refl
-
-  -- and none if they have no common span
-  pub apart-from_none : [] ≡ common_of cmp one other → spans_share cmp one other ≡ false
-  apart-from_none e = none_by (spans_share cmp one other) e
-
-  -- the piece below is then the whole span, and there is none above
-  pub below-apart : spans_share cmp one other ≡ false → piece_below cmp one other ≡ one ∷ []
-  below-apart apart = ap (λ r. if r then span_if_any cmp one.lower other.lower else one ∷ []) apart
-
-  pub above-apart : spans_share cmp one other ≡ false → piece_above cmp one other ≡ []
-  above-apart apart = ap (λ r. if r then span_if_any cmp other.upper one.upper else []) apart
 
   -- the piece below, if they share a cut
   pub below-shared : spans_share cmp one other ≡ true
@@ -54,18 +38,7 @@ module _ {T : Type 0} (cmp : T → T → Ordering) (one other : Ends T) where
 module _ {T : Type 0} {cmp : T → T → Ordering} (o : IsTotalOrder cmp) where
   if_any_by : (lower upper cut : Cut T) (r : Bool) → is_lt (cut_cmp cmp lower upper) ≡ r
       → IsInSome cmp (if r then span_between lower upper ∷ [] else []) cut ↔ IsInSpan cmp (span_between lower upper) cut
-  if_any_by lower upper cut true h = (
-    λ is. elim is [
-      | inl here ↦ here
-      | inr there ↦ absurd there
-    ],
-    λ is. inl is,
-  )
-  if_any_by lower upper cut false h = (
-    λ is. absurd is,
-    λ is. absurd (true≢false (sym (lt-from_below cmp lower upper (at_most-below o lower cut upper is.lower is.upper))
-        ∙ h)),
-  )
+  if_any_by lower upper cut r h1 = grind arith
 
   -- a cut lies in the span between two cuts, if there is one, exactly if it lies between them
   pub if_any-cuts : (lower upper cut : Cut T)
@@ -79,39 +52,26 @@ module _ {T : Type 0} {cmp : T → T → Ordering} (o : IsTotalOrder cmp) where
     shared = (shares-ends o one other held held').0 ((common_ends-hold o one other).1 (below-from_lt cmp _ _ share))
 
     left-below : IsInSpan cmp (span_between one.lower other.lower) cut → IsInSpan cmp one cut × ¬ IsInSpan cmp other cut
-    left-below is = (
-      record { lower = is.lower; upper = below_trans o cut other.lower one.upper is.upper shared.1 },
-      λ in_other. below-not-at_most o cut other.lower is.upper in_other.lower,
-    )
+    left-below is = grind (arith, below_trans o cut other.lower one.upper is.upper shared.1)
 
     left-above : IsInSpan cmp (span_between other.upper one.upper) cut → IsInSpan cmp one cut × ¬ IsInSpan cmp other cut
-    left-above is = (
-      record { lower = inl (below-at_most o one.lower other.upper cut shared.0 is.lower); upper = is.upper },
-      λ in_other. below-not-at_most o cut other.upper in_other.upper is.lower,
-    )
+    left-above is = grind (arith, below-at_most o one.lower other.upper cut shared.0 is.lower)
 
     in-pieces : IsInSpan cmp one cut → ¬ IsInSpan cmp other cut
         → IsInSpan cmp (span_between one.lower other.lower) cut ⊎ IsInSpan cmp (span_between other.upper one.upper) cut
-    in-pieces is out = elim (at_most-or-below o other.lower cut) [
-      | inl begun ↦ elim (at_most-or-below o other.upper cut) [
-        | inl past ↦ inr (record { lower = past; upper = is.upper })
-        | inr inside ↦ absurd (out (record { lower = begun; upper = inside }))
-      ]
-      | inr early ↦ inl (record { lower = is.lower; upper = early })
-    ]
+    in-pieces is out = grind (arith, at_most-or-below o)
 
     -- a cut lies in one of the two pieces exactly if it lies in the first span and not in the second
     pub pieces-cuts : IsInSome cmp (span_if_any cmp one.lower other.lower ++ span_if_any cmp other.upper one.upper) cut
         ↔ (IsInSpan cmp one cut × ¬ IsInSpan cmp other cut)
     pieces-cuts =
-        let low : List (Ends T) = span_if_any cmp one.lower other.lower in
-        let high : List (Ends T) = span_if_any cmp other.upper one.upper in (
-          λ is. elim (in_some-either cmp cut low high is) [
-            | inl l ↦ left-below ((if_any-cuts one.lower other.lower cut).0 l)
-            | inr r ↦ left-above ((if_any-cuts other.upper one.upper cut).0 r)
+        let low = if_any-cuts one.lower other.lower cut in let high = if_any-cuts other.upper one.upper cut in (
+          λ is. elim (in_some-either cmp cut _ _ is) [
+            | inl l ↦ left-below (low.0 l)
+            | inr r ↦ left-above (high.0 r)
           ],
           λ both. elim (in-pieces both.0 both.1) [
-            | inl l ↦ in_some-left cmp cut low high ((if_any-cuts one.lower other.lower cut).1 l)
-            | inr r ↦ in_some-right cmp cut low high ((if_any-cuts other.upper one.upper cut).1 r)
+            | inl l ↦ in_some-left cmp cut _ _ (low.1 l)
+            | inr r ↦ in_some-right cmp cut _ _ (high.1 r)
           ],
         )

@@ -1,7 +1,7 @@
 -- Two spans: their intersection, when they share a cut, and when one contains all cuts of the other.
+use native.Mathlib.Omega.{arith}
 use Rattle.std.specs.Prelude.{◌≡◌, ◌⊎◌, ◌↔◌, ◌&&◌, Bool, IsTrue, List, [], ◌∷◌, if◌then◌else◌, refl, true, false}
 use mathlib.Core.Path.{sym, ◌∙◌}
-use mathlib.Core.Logic.{inl, inr}
 use mathlib.Core.Bool.{true≢false}
 use Rattle.std.specs.declared.cmp.Ordering.{Ordering}
 use Rattle.std.specs.Ordering.{is_le, is_lt}
@@ -13,9 +13,9 @@ use Rattle.semver_cuts.specs.Ends.{Ends, HoldsCut, IsCutAtMost, IsCutBelow, IsIn
 use Rattle.semver_cuts.specs.SpanLists.{IsInSome, IsWithin}
 use Rattle.semver_cuts.specs.CommonSpans.{common_ends, common_of, greater_cut, lesser_cut}
 use Rattle.semver_cuts.specs.Sharing.{HaveCommonCut}
-use Rattle.semver_cuts.specs.Lemmas.Ends.{at_most-from_le, at_most-from_not_lt, at_most-or-below, at_most_refl}
-use Rattle.semver_cuts.specs.Lemmas.Ends.{at_most_trans, at_most-below, below-at_most, below-from_lt, below-not-at_most}
-use Rattle.semver_cuts.specs.Lemmas.Ends.{below_irrefl, below_trans, le-from_at_most, lt-from_below}
+use Rattle.semver_cuts.specs.Lemmas.Ends.{at_most-from_le, at_most-or-below, at_most_refl}
+use Rattle.semver_cuts.specs.Lemmas.Ends.{at_most_trans, below-at_most, below-from_lt, below-not-at_most}
+use Rattle.semver_cuts.specs.Lemmas.Ends.{below_irrefl, le-from_at_most, lt-from_below}
 
 -- no test is both `true` and `false`
 both_ways : {P : Type 0} (r : Bool) → r ≡ true → r ≡ false → P
@@ -27,8 +27,7 @@ module _ {T : Type 0} {cmp : T → T → Ordering} (o : IsTotalOrder cmp) where
   -- a fact of the first if the second is less, and of the second if not, is one of the greater
   greater-by : (P : Cut T → Type 0) (c d : Cut T) (r : Bool) → is_lt (cut_cmp cmp d c) ≡ r
       → (IsCutBelow cmp d c → P c) → (IsCutAtMost cmp c d → P d) → P (if r then c else d)
-  greater-by P c d true h first second = first (below-from_lt cmp d c h)
-  greater-by P c d false h first second = second (at_most-from_not_lt o d c h)
+  greater-by P c d r h1 h2 h3 = grind arith
 
   pub greater-is : (P : Cut T → Type 0) (c d : Cut T)
       → (IsCutBelow cmp d c → P c) → (IsCutAtMost cmp c d → P d) → P (greater_cut cmp c d)
@@ -36,138 +35,73 @@ module _ {T : Type 0} {cmp : T → T → Ordering} (o : IsTotalOrder cmp) where
 
   lesser-by : (P : Cut T → Type 0) (c d : Cut T) (r : Bool) → is_lt (cut_cmp cmp d c) ≡ r
       → (IsCutBelow cmp d c → P d) → (IsCutAtMost cmp c d → P c) → P (if r then d else c)
-  lesser-by P c d true h first second = first (below-from_lt cmp d c h)
-  lesser-by P c d false h first second = second (at_most-from_not_lt o d c h)
+  lesser-by P c d r h1 h2 h3 = grind arith
 
   -- and the other way round of the lesser
   pub lesser-is : (P : Cut T → Type 0) (c d : Cut T)
       → (IsCutBelow cmp d c → P d) → (IsCutAtMost cmp c d → P c) → P (lesser_cut cmp c d)
-  lesser-is P c d first second =
-      lesser-by P c d (is_lt (cut_cmp cmp d c)) refl first second
+  lesser-is P c d h1 h2 = grind arith
 
   -- the greater of two cuts is at most a third exactly if both are
   pub greater-at_most : (c d e : Cut T)
       → IsCutAtMost cmp (greater_cut cmp c d) e ↔ (IsCutAtMost cmp c e × IsCutAtMost cmp d e)
-  greater-at_most c d e =
-      greater-is (λ k. IsCutAtMost cmp k e ↔ (IsCutAtMost cmp c e × IsCutAtMost cmp d e)) c d
-      (λ h. (λ p. (p, at_most_trans o d c e (inl h) p), λ both. both.0))
-      (λ h. (λ p. (at_most_trans o c d e h p, p), λ both. both.1))
+  greater-at_most c d e = search (arith, greater-is, at_most_trans o)
 
   -- a cut is below the lesser of two exactly if it is below both
   pub below-lesser : (c d e : Cut T)
       → IsCutBelow cmp e (lesser_cut cmp c d) ↔ (IsCutBelow cmp e c × IsCutBelow cmp e d)
-  below-lesser c d e =
-      lesser-is (λ k. IsCutBelow cmp e k ↔ (IsCutBelow cmp e c × IsCutBelow cmp e d)) c d
-      (λ h. (λ p. (below_trans o e d c p h, p), λ both. both.1))
-      (λ h. (λ p. (p, below-at_most o e c d p h), λ both. both.0))
+  below-lesser c d e = grind arith
 
   -- the greater of two cuts is below a third exactly if both are
   pub greater-below : (c d e : Cut T)
       → IsCutBelow cmp (greater_cut cmp c d) e ↔ (IsCutBelow cmp c e × IsCutBelow cmp d e)
-  greater-below c d e =
-      greater-is (λ k. IsCutBelow cmp k e ↔ (IsCutBelow cmp c e × IsCutBelow cmp d e)) c d
-      (λ h. (λ p. (p, below_trans o d c e h p), λ both. both.0))
-      (λ h. (λ p. (at_most-below o c d e h p, p), λ both. both.1))
+  greater-below c d e = grind arith
 
   -- ---- the cuts of a span
 
   -- a span contains a cut exactly if it begins below where it ends
   pub holds-below : (span : Ends T) → HoldsCut cmp span ↔ IsCutBelow cmp span.lower span.upper
-  holds-below span = (
-    λ h. at_most-below o span.lower h.0 span.upper h.1.lower h.1.upper,
-    λ p. (span.lower, record { lower = at_most_refl o span.lower; upper = p }),
-  )
+  holds-below span = grind arith
 
   -- a span that contains a cut lies in another exactly if it begins no earlier and ends no later
   pub within-ends : (one other : Ends T) → IsCutBelow cmp one.lower one.upper
       → IsWithin cmp one other ↔ (IsCutAtMost cmp other.lower one.lower × IsCutAtMost cmp one.upper other.upper)
-  within-ends one other held =
-      let whole : (within : IsWithin cmp one other) → IsCutAtMost cmp one.upper other.upper = λ within.
-      elim (at_most-or-below o one.upper other.upper) [
-        | inl at_most ↦ at_most
-        | inr below ↦ absurd (elim (at_most-or-below o one.lower other.upper) [
-          | inl begun ↦ below_irrefl o other.upper (within other.upper (record { lower = begun; upper = below })).upper
-          | inr begun ↦ below-not-at_most o other.upper one.lower begun
-              (inl (within one.lower (record { lower = at_most_refl o one.lower; upper = held })).upper)
-        ])
-      ] in (
-        λ within.
-            ((within one.lower (record { lower = at_most_refl o one.lower; upper = held })).lower, whole within),
-        λ ends cut is. record {
-          lower = at_most_trans o other.lower one.lower cut ends.0 is.lower;
-          upper = below-at_most o cut one.upper other.upper is.upper ends.1;
-        },
-      )
+  within-ends one other held = (λ within. (grind (arith, within one.lower, at_most_refl o), grind (arith, within one.lower, within other.upper, at_most-or-below o, below-not-at_most o, below_irrefl o)), λ ends cut is. grind (arith, at_most_trans o other.lower one.lower, below-at_most o cut one.upper))
 
   -- ---- the intersection of two spans
 
   -- a cut lies between the common ends exactly if it lies in both spans
   pub common_ends-cuts : (one other : Ends T) (cut : Cut T)
       → IsInSpan cmp (common_ends cmp one other) cut ↔ (IsInSpan cmp one cut × IsInSpan cmp other cut)
-  common_ends-cuts one other cut =
-      let begins = greater-at_most one.lower other.lower cut in
-      let goes_on = below-lesser one.upper other.upper cut in (
-        λ is. (
-          record { lower = (begins.0 is.lower).0; upper = (goes_on.0 is.upper).0 },
-          record { lower = (begins.0 is.lower).1; upper = (goes_on.0 is.upper).1 },
-        ),
-        λ both. record {
-          lower = begins.1 (both.0.lower, both.1.lower);
-          upper = goes_on.1 (both.0.upper, both.1.upper);
-        },
-      )
+  common_ends-cuts one other cut = grind (arith, greater-at_most, below-lesser)
 
   -- the common ends contain a cut exactly if some cut lies in both spans
   pub common_ends-hold : (one other : Ends T)
       → HaveCommonCut cmp one other
       ↔ IsCutBelow cmp (common_ends cmp one other).lower (common_ends cmp one other).upper
   common_ends-hold one other =
-      let ends : Ends T = common_ends cmp one other in (
+      let ends = common_ends cmp one other in (
         λ h. (holds-below ends).0 (h.0, (common_ends-cuts one other h.0).1 (h.1, h.2)),
-        λ p. let held = (holds-below ends).1 p in
-            let both = (common_ends-cuts one other held.0).0 held.1 in (held.0, both.0, both.1),
+        λ p. let both = (common_ends-cuts one other ends.lower).0 (record { lower = at_most_refl o ends.lower; upper = p }) in (ends.lower, both.0, both.1),
       )
 
   -- two spans that contain cuts share one exactly if each begins below where the other ends
   pub shares-ends : (one other : Ends T) → IsCutBelow cmp one.lower one.upper → IsCutBelow cmp other.lower other.upper
       → HaveCommonCut cmp one other ↔ (IsCutBelow cmp one.lower other.upper × IsCutBelow cmp other.lower one.upper)
-  shares-ends one other held held' =
-      let upper : Cut T = lesser_cut cmp one.upper other.upper in
-      let lowers = greater-below one.lower other.lower upper in (
-        λ h. let both = lowers.0 ((common_ends-hold one other).0 h) in (
-          ((below-lesser one.upper other.upper one.lower).0 both.0).1,
-          ((below-lesser one.upper other.upper other.lower).0 both.1).0,
-        ),
-        λ p. (common_ends-hold one other).1 (lowers.1 (
-          (below-lesser one.upper other.upper one.lower).1 (held, p.0),
-          (below-lesser one.upper other.upper other.lower).1 (p.1, held'),
-        )),
-      )
+  shares-ends one other held held' = grind (arith, common_ends-hold one other, below-lesser, greater-below)
 
   -- the two tests of the program
   pub shares-by : (one other : Ends T) → IsCutBelow cmp one.lower one.upper → IsCutBelow cmp other.lower other.upper
       → (r : Bool) → r ≡ (is_lt (cut_cmp cmp one.lower other.upper) && is_lt (cut_cmp cmp other.lower one.upper))
       → IsTrue r ↔ HaveCommonCut cmp one other
-  shares-by one other held held' r e =
-      let law = shares-ends one other held held' in (
-        λ p. let tests = and_parts _ _ (sym e ∙ p) in
-            law.1 (below-from_lt cmp one.lower other.upper tests.0, below-from_lt cmp other.lower one.upper tests.1),
-        λ h. let ends = law.0 h in
-            e ∙ (λ i. lt-from_below cmp one.lower other.upper ends.0 i
-            && lt-from_below cmp other.lower one.upper ends.1 i),
-      )
+  shares-by one other held held' r e = grind (arith, shares-ends, and_parts, below-from_lt cmp, lt-from_below cmp)
 
   pub covers-by : (one other : Ends T) → IsCutBelow cmp other.lower other.upper
       → (r : Bool) → r ≡ (is_le (cut_cmp cmp one.lower other.lower) && is_le (cut_cmp cmp other.upper one.upper))
       → IsTrue r ↔ IsWithin cmp other one
   covers-by one other held r e =
-      let law = within-ends other one held in (
-        λ p. let tests = and_parts _ _ (sym e ∙ p) in
-            law.1 (at_most-from_le cmp one.lower other.lower tests.0, at_most-from_le cmp other.upper one.upper tests.1),
-        λ h. let ends = law.0 h in
-            e ∙ (λ i. le-from_at_most cmp one.lower other.lower ends.0 i
-            && le-from_at_most cmp other.upper one.upper ends.1 i),
-      )
+      let law = within-ends other one held in
+      grind (arith, law, and_parts, at_most-from_le cmp, le-from_at_most cmp)
 
   -- ---- the common span, as a list of one span or none
 
@@ -175,10 +109,7 @@ module _ {T : Type 0} {cmp : T → T → Ordering} (o : IsTotalOrder cmp) where
       → is_lt (cut_cmp cmp (common_ends cmp one other).lower (common_ends cmp one other).upper) ≡ r
       → (HaveCommonCut cmp one other → P (common_ends cmp one other ∷ [])) → (¬ HaveCommonCut cmp one other → P [])
       → P (if r then common_ends cmp one other ∷ [] else [])
-  common_by one other P true h some none =
-      some ((common_ends-hold one other).1 (below-from_lt cmp _ _ h))
-  common_by one other P false h some none =
-      none (λ shared. both_ways _ (lt-from_below cmp _ _ ((common_ends-hold one other).0 shared)) h)
+  common_by one other P r h1 h2 h3 = grind (arith, common_ends-hold, below-from_lt cmp, both_ways, lt-from_below cmp)
 
   -- there is a common span exactly if some cut lies in both
   pub common_of-cases : (one other : Ends T) (P : List (Ends T) → Type 0)
@@ -191,33 +122,14 @@ module _ {T : Type 0} {cmp : T → T → Ordering} (o : IsTotalOrder cmp) where
   -- a cut lies in the common span exactly if it lies in both
   pub common_of-cuts : (one other : Ends T) (cut : Cut T)
       → IsInSome cmp (common_of cmp one other) cut ↔ (IsInSpan cmp one cut × IsInSpan cmp other cut)
-  common_of-cuts one other cut =
-      common_of-cases one other (λ spans. IsInSome cmp spans cut ↔ (IsInSpan cmp one cut × IsInSpan cmp other cut))
-      (λ shared. (
-        λ is. elim is [
-          | inl here ↦ (common_ends-cuts one other cut).0 here
-          | inr there ↦ absurd there
-        ],
-        λ both. inl ((common_ends-cuts one other cut).1 both),
-      ))
-      (λ apart. (λ is. absurd is, λ both. absurd (apart (cut, both.0, both.1))))
+  common_of-cuts one other cut = common_of-cases one other (λ spans. IsInSome cmp spans cut ↔ (IsInSpan cmp one cut × IsInSpan cmp other cut)) (λ shared. grind (arith, common_ends-cuts one other cut)) (λ apart. grind arith)
 
   -- there is none if one begins where the other ends or above
   pub common_of-none : (one other : Ends T) → IsCutBelow cmp one.lower one.upper → IsCutBelow cmp other.lower other.upper
       → IsCutAtMost cmp other.upper one.lower ⊎ IsCutAtMost cmp one.upper other.lower → [] ≡ common_of cmp one other
-  common_of-none one other held held' apart =
-      common_of-cases one other (λ spans. [] ≡ spans)
-      (λ shared. let ends = (shares-ends one other held held').0 shared in
-      absurd (elim apart [
-        | inl past ↦ below-not-at_most o one.lower other.upper ends.0 past
-        | inr past ↦ below-not-at_most o other.lower one.upper ends.1 past
-      ]))
-      (λ none. refl)
+  common_of-none one other held held' apart = common_of-cases one other (λ spans. [] ≡ spans) (λ shared. grind (arith, shares-ends one other held held', below-not-at_most o)) (λ none. refl)
 
   -- and it begins below where it ends
   pub common_of-rising : (one other span : Ends T) → span ∷ [] ≡ common_of cmp one other
       → IsCutBelow cmp span.lower span.upper
-  common_of-rising one other span =
-      common_of-cases one other (λ spans. span ∷ [] ≡ spans → IsCutBelow cmp span.lower span.upper)
-      (λ shared e. let same : span ≡ common_ends cmp one other = cc e in
-      rw same ((common_ends-hold one other).0 shared)) (λ none e. cc e)
+  common_of-rising one other span = common_of-cases one other (λ spans. span ∷ [] ≡ spans → IsCutBelow cmp span.lower span.upper) (λ shared e. grind (arith, common_ends-hold one other)) (λ none e. cc e)

@@ -1,4 +1,6 @@
-use Rattle.std.proofs.Common.{ap, refl, subst, take, ◌∙◌, ◌++◌}
+use Rattle.std.proofs.lemmas.Grind.{common_steps}
+use native.Mathlib.Omega.{arith}
+use Rattle.std.proofs.Common.{ap, subst, take, ◌∙◌, ◌++◌}
 use Rattle.std.proofs.lemmas.List.{take_rest}
 use Rattle.std.specs.List.{AllByRecursion}
 use Rattle.semver_cuts.specs.CommonSpans.{common_with}
@@ -8,10 +10,7 @@ use Rattle.semver_cuts.proofs.Intersections.AscendingSpans.{common_with-from}
 use Rattle.semver_cuts.proofs.algebra.common.common_along.Goals as goal
 
 pub common_until-requires : goal.common_until-requires
-common_until-requires g c κs =
-    let others = c.args.others.now in
-    let first = c.first_near-first.result in
-    rw (take_rest others first) ((refl, tt), merged-drop g.T.Ord.cmp first others c.requires)
+common_until-requires g c κs = grind (arith, common_steps, take_rest, merged-drop g.T.Ord.cmp)
 
 pub returns : goal.returns
 returns g c =

@@ -1,10 +1,11 @@
+use Rattle.std.proofs.lemmas.Grind.{common_steps}
+use native.Mathlib.Omega.{arith}
 use Rattle.std.proofs.Common.{List, [], ◌∷◌, ◌++◌, ◌+◌, ◌<◌, ◌≤◌, append_assoc, ap, drop, inl, inr, refl, subst, sym, ◌∙◌}
 use Rattle.std.proofs.lemmas.List.{append-nil, drop_all}
 use Rattle.std.proofs.lemmas.Result.{on_ok_weaker}
 use Rattle.semver_cuts.specs.Difference.{ArePieces}
 use Rattle.std.specs.List.{AllByRecursion}
 use Rattle.semver_cuts.specs.Ends.{Ends, IsCutAtMost, span_between}
-use Rattle.semver_cuts.specs.Lemmas.Ends.{below-from_lt}
 use Rattle.semver_cuts.proofs.Differences.PiecesAlong.{added-by, walked-ended, walked-next, walked-past}
 use Rattle.semver_cuts.proofs.Differences.PiecesAlong.{walked-stopped}
 use Rattle.semver_cuts.proofs.Differences.PiecesFound.{walked-first}
@@ -14,19 +15,8 @@ use Rattle.semver_cuts.proofs.algebra.difference.add_pieces.Goals.{then-lt+in_ok
 use Rattle.semver_cuts.proofs.algebra.difference.add_pieces.Goals.{then-loop-number-test+then-ge}
 
 pub loop-number-init : goal.loop-number-init
-loop-number-init g c = record {
-  done = [];
-  gathered = sym (append-nil (g.S.Gather.gathered c.args.into.now));
-  walked = walked-first g.met.T.Ord.total c.args.others.now.list c.args.others.now.merged
-      c.len-number-end.ensures.joined (span_between c.ends.result.0.now c.ends.result.1.now) c.ends.ensures.rising
-      c.first_above-number.result c.first_above-number.ensures;
-}
-
-pub gather-requires : goal.gather-requires
-gather-requires g c κs = (
-  (refl, tt),
-  below-from_lt g.T.Ord.cmp c.loop-number.low.now c.ends-in-loop-number.result.0.now (sym c.lt.ensures ∙ c.if-lt.true),
-)
+loop-number-init g c =
+    grind (arith, common_steps, append-nil, walked-first g.met.T.Ord.total c.args.others.now.list c.args.others.now.merged c.len-number-end.ensures.joined (span_between c.ends.result.0.now c.ends.result.1.now) c.ends.ensures.rising c.first_above-number.result c.first_above-number.ensures)
 
 pub loop-number-preserved : goal.loop-number-preserved
 loop-number-preserved g c =

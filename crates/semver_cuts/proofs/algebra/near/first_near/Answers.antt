@@ -1,5 +1,3 @@
-use Rattle.std.proofs.Common.{subst}
-use Rattle.semver_cuts.specs.Private.FirstAbove.{IsFirstAbove}
 use Rattle.semver_cuts.proofs.algebra.near.first_near.Goals as goal
 
 pub returns-then-is_first_above : goal.returns-then-is_first_above
@@ -7,8 +5,3 @@ returns-then-is_first_above g c = c.is_first_above.ensures c.if-is_first_above.t
 
 pub returns-then-is_first_above-2 : goal.returns-then-is_first_above-2
 returns-then-is_first_above-2 g c = c.is_first_above-2.ensures c.if-is_first_above-2.true
-
-pub returns : goal.returns
-returns g c =
-    subst (λ l. IsFirstAbove g.T.Ord.cmp l c.args.cut.now c.first_above.result) c.itself.ensures.merged
-    c.first_above.ensures

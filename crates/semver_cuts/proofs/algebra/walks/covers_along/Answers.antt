@@ -73,14 +73,6 @@ loop-other_place-preserved g c =
           (subst (λ l. IsInSome g.T.Ord.cmp l cut) (sym c.ends-in-loop-other_place.ensures) (inr later)) here;
     }
 
-pub loop-other_place-init : goal.loop-other_place-init
-loop-other_place-init g c = record {
-  place = omega arith;
-  other_place = omega arith;
-  covered = λ cut is. inr is;
-  passed = λ cut there here. here;
-}
-
 pub returns : goal.returns
 returns g c =
     let loop = c.loop-other_place in (

@@ -1,20 +1,12 @@
-use Rattle.std.proofs.Common.{refl, sym, ◌∙◌}
+use Rattle.std.proofs.lemmas.Grind.{common_steps}
+use native.Mathlib.Omega.{arith}
+use Rattle.std.proofs.Common.{sym, ◌∙◌}
 use mathlib.Core.Bool.{true≢false}
 use Rattle.semver_cuts.specs.Lemmas.Ends.{at_most-below, at_most_refl, below-from_lt, lt-from_below}
 use Rattle.semver_cuts.proofs.span.Span.new.Goals as goal
 
 pub returns-then-lt-clause-cut : goal.returns-then-lt-clause-cut
-returns-then-lt-clause-cut g c =
-    let lower = c.args.lower in (
-      λ some. (
-        lower,
-        record {
-          lower = at_most_refl g.met.T.Ord.total lower;
-          upper = below-from_lt g.T.Ord.cmp lower c.args.upper (sym c.lt.ensures ∙ c.if-lt.true);
-        },
-      ),
-      λ holds. refl,
-    )
+returns-then-lt-clause-cut g c = grind (arith, common_steps, at_most_refl g.met.T.Ord.total, below-from_lt g.T.Ord.cmp)
 
 pub returns-else-lt-clause-cut : goal.returns-else-lt-clause-cut
 returns-else-lt-clause-cut g c =

@@ -1,3 +1,5 @@
+use Rattle.std.proofs.lemmas.Grind.{common_steps}
+use native.Mathlib.Omega.{arith}
 use Rattle.std.proofs.Common.{[], ◌++◌, append_assoc, ap, refl, subst, sym, ◌∙◌}
 use Rattle.std.proofs.lemmas.List.{append-nil, drop_all}
 use Rattle.semver_cuts.specs.Difference.{AreDifference}
@@ -29,12 +31,4 @@ returns g c =
     let kept = c.loop-one.invariant in
     let ones = c.args.ones.now in
     let others = c.args.self.now.list in
-    record {
-      difference = (
-        kept.done,
-        subst (AreDifference g.T.Ord.cmp ones others) (append-nil kept.done) (kept.left []
-            (subst (λ l. AreDifference g.T.Ord.cmp l others []) (sym (drop_all c.loop-one.one-index ones
-            c.loop-one-test.false)) refl)),
-        kept.gathered,
-      );
-    }
+    grind (arith, common_steps, append-nil kept.done, drop_all c.loop-one.one-index ones c.loop-one-test.false)

@@ -1,16 +1,15 @@
+use Rattle.std.proofs.lemmas.Grind.{common_steps}
+use native.Mathlib.Omega.{arith}
 use Rattle.std.proofs.Common.{subst, sym, ◌∙◌}
 use mathlib.Core.Bool.{true≢false}
 use Rattle.semver_cuts.specs.Lemmas.Joined.{places_of-merged}
-use Rattle.semver_cuts.specs.Places.{IsPlacesOf}
 use Rattle.semver_cuts.specs.Private.Placed.{AreSorted}
 use Rattle.semver_cuts.proofs.Joining.JoinedPlaces.{joined-places}
 use Rattle.semver_cuts.proofs.Joining.PlacedOrder.{two-items}
 use Rattle.semver_cuts.proofs.algebra.places.Places.of.Goals as goal
 
 pub returns-then-are_merged : goal.returns-then-are_merged
-returns-then-are_merged g c =
-    subst (IsPlacesOf g.T.Ord.cmp c.args.spans.now) (sym c.none.ensures)
-    (places_of-merged g.met.T.Ord.total c.args.spans.now (c.are_merged.ensures.0 c.if-are_merged.true))
+returns-then-are_merged g c = grind (arith, common_steps, places_of-merged g.met.T.Ord.total)
 
 pub returns-in-len2 : goal.returns-in-len2
 returns-in-len2 g c =

@@ -1,7 +1,7 @@
 -- The spans that a list is joined to are apart, and have its cuts. Each end is that of the first span of the list that
 -- has an end at this cut.
-use Rattle.std.proofs.Common.{◌≡◌, ◌↔◌, ℕ, ◌+◌, ◌≤◌, suc, List, [], ◌∷◌, map, Ordering, Equal, Bool, refl, sym}
-use Rattle.std.proofs.Common.{ap, subst, ◌∙◌, inl, inr, arith, add-one}
+use Rattle.std.proofs.Common.{◌≡◌, ◌↔◌, ℕ, ◌+◌, ◌≤◌, suc, List, [], ◌∷◌, map, Ordering, Equal, Bool, refl}
+use Rattle.std.proofs.Common.{ap, subst, inl, inr, arith, add-one}
 use Rattle.std.specs.List.{AllByRecursion}
 use Rattle.std.specs.List.Sorted.{IsPermutation, IsSortedBy}
 use Rattle.std.specs.Ordering.{is_lt}
@@ -60,29 +60,18 @@ module _ {T : Type 0} {cmp : T → T → Ordering} (o : IsTotalOrder cmp) where
       ≡ Equal → p.place ≤ q.place)
       → IsFirstAt cmp end spans cut
   first-placed end cut n [] p is at least = elim is [ ]
-  first-placed end cut n (span ∷ spans) p (inl same) at least = record {
-    before = [];
-    span = span;
-    after = spans;
-    parts = refl;
-    end_of = sym (ap (λ (q : PlacedSpan T). end q.span) same) ∙ at;
-    earlier = tt;
-    later = all_unit spans;
-  }
+  first-placed end cut n (span ∷ spans) p (inl same) at least =
+      record { before = []; span = span; after = spans; parts = refl; end_of = cc; earlier = tt; later = all_unit spans }
   first-placed end cut n (span ∷ spans) p (inr there) at least =
       let rest = first-placed end cut (n + 1) spans p there at (λ q is. least q (inr is)) in
-      let high : n + 1 ≤ p.place = place-from (n + 1) spans p there in
-      record {
+      let high = place-from (n + 1) spans p there in
+      let first = least (record { span = span; place = n }) (inl refl) in record {
         before = span ∷ rest.before;
         span = rest.span;
         after = rest.after;
         parts = ap (λ l. span ∷ l) rest.parts;
         end_of = rest.end_of;
-        earlier = (
-          λ same. let low = least (record { span = span; place = n }) (inl refl) same in absurd
-              (omega arith),
-          rest.earlier,
-        );
+        earlier = (λ same. absurd (grind (arith, first)), rest.earlier);
         later = rest.later;
       }
 

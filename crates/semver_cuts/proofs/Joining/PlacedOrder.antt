@@ -49,16 +49,11 @@ module _ {T : Type 0} {cmp : T → T → Ordering} (o : IsTotalOrder cmp) where
   EndsLater upper place p =
       IsCutBelow cmp upper p.span.upper ⊎ ((cut_cmp cmp upper p.span.upper ≡ Equal) × (p.place ≤ place))
 
-  later_by : (upper : Cut T) (place : ℕ) (next : PlacedSpan T) (r : Ordering) → cut_cmp cmp upper next.span.upper ≡ r
-      → (b : Bool) → is_lt (ordering_then r (nat_cmp next.place place)) ≡ b
-      → Tested b (EndsLater upper place next) (EndsNoLater upper place next)
-  later_by upper place next r h1 b h2 = grind arith
-
   -- by the test of the program
   pub later-tested : (upper : Cut T) (place : ℕ) (next : PlacedSpan T) (b : Bool)
       → is_lt (ordering_then (cut_cmp cmp upper next.span.upper) (nat_cmp next.place place)) ≡ b
       → Tested b (EndsLater upper place next) (EndsNoLater upper place next)
-  later-tested upper place next b h = later_by upper place next (cut_cmp cmp upper next.span.upper) refl b h
+  later-tested upper place next b h = grind arith
 
   -- a span that does not end later than one end does not end later than a later end
   pub no_later-trans : (upper upper' : Cut T) (place place' : ℕ) (p : PlacedSpan T) → EndsNoLater upper place p
@@ -76,7 +71,7 @@ two-items (x ∷ []) one other least below a b = absurd (omega arith)
 two-items (x ∷ y ∷ []) one other least below a b = λ i. sym a i ∷ sym b i ∷ []
 two-items (x ∷ y ∷ z ∷ xs) one other least below a b = absurd (omega arith)
 
--- and the other way round if it is
+-- if the second of two is less than the first, they are sorted the other way round
 pub two-turned : {X : Type 0} (cmp : X → X → Ordering) → IsTotalOrder cmp → (one other : X)
     → is_lt (cmp other one) ≡ true → IsSorted cmp (other ∷ one ∷ [])
 two-turned cmp o one other h = grind arith

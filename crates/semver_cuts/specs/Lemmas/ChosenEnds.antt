@@ -33,15 +33,11 @@ module _ {T : Type 0} (end : Ends T → Cut T) (Before After : Cut T → Cut T �
       → AllByRecursion (λ (other : Ends T). After (end other) d) after' → c ≡ d
   same-place [] [] after after' span span' same p q e e' l l' = cc (same, p, q)
   same-place [] (y ∷ before') after after' span span' same p q e e' l l' =
-      let After' : Ends T → Type 0 = λ other. After (end other) c in
-      let rest : after ≡ before' ++ span' ∷ after' = cc same in
-      let later : After (end span') c = all_middle After' before' after' span' (subst (AllByRecursion After') rest l) in
-      absurd (clash c d (subst (λ k. Before k d) (cc (same, p)) e'.0) (subst (λ k. After k c) q later))
+      let later = all_middle _ before' after' span' (subst (AllByRecursion (λ (s : Ends T). After (end s) c)) (cc same) l) in
+      absurd (grind (arith, clash c d, later))
   same-place (x ∷ before) [] after after' span span' same p q e e' l l' =
-      let After' : Ends T → Type 0 = λ other. After (end other) d in
-      let rest : after' ≡ before ++ span ∷ after = cc same in
-      let later : After (end span) d = all_middle After' before after span (subst (AllByRecursion After') rest l') in
-      absurd (clash d c (subst (λ k. Before k c) (cc (same, q)) e.0) (subst (λ k. After k d) p later))
+      let later = all_middle _ before after span (subst (AllByRecursion (λ (s : Ends T). After (end s) d)) (cc same) l') in
+      absurd (grind (arith, clash d c, later))
   same-place (x ∷ before) (y ∷ before') after after' span span' same p q e e' l l' =
       same-place before before' after after' span span' (cc same) p q e.1 e'.1 l l'
 

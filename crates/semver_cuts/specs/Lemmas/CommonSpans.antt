@@ -28,11 +28,7 @@ module _ {T : Type 0} {cmp : T → T → Ordering} (o : IsTotalOrder cmp) where
 
   -- each common span holds a cut
   pub common_spans-hold : (ones others : List (Ends T)) → AllByRecursion (HoldsCut cmp) (common_spans cmp ones others)
-  common_spans-hold ones others =
-      common_spans-each (λ one. Unit {0}) (λ other. Unit {0}) (HoldsCut cmp)
-      (λ one other p p' shared. (holds-below o (common_ends cmp one other)).1 ((common_ends-hold o one other).0 shared))
-      ones others (all-always (λ (one : Ends T). Unit {0}) (λ one. tt) ones)
-      (all-always (λ (other : Ends T). Unit {0}) (λ other. tt) others)
+  common_spans-hold ones others = common_spans-each (λ one. Unit {0}) (λ other. Unit {0}) (HoldsCut cmp) (λ one other p p' shared. (holds-below o (common_ends cmp one other)).1 ((common_ends-hold o one other).0 shared)) ones others (all-always _ (λ one. tt) ones) (all-always _ (λ one. tt) others)
 
   -- a fact of all lower ends, and one of all upper ends, are facts of those of the common spans
   pub common_spans-ends : (Lower Upper : Cut T → Type 0) (ones others : List (Ends T))
@@ -65,20 +61,15 @@ module _ {T : Type 0} {cmp : T → T → Ordering} (o : IsTotalOrder cmp) where
   pub common_spans-cuts : (ones others : List (Ends T)) (cut : Cut T)
       → IsInSome cmp (common_spans cmp ones others) cut ↔ (IsInSome cmp ones cut × IsInSome cmp others cut)
   common_spans-cuts ones others cut =
-      let In : Ends T → Type 0 = λ span. IsInSpan cmp span cut in
-      let law = common_spans-some In ones others in
+      let law = common_spans-some (λ span. IsInSpan cmp span cut) ones others in
       let both = λ (one other : Ends T). common_ends-cuts o one other cut in (
         λ is.
-            let some = law.0 is in
-            let One : Ends T → Type 0 = λ one. AnyByRecursion (IsFrom In one) others in
-            let found = any-found One ones some in (
-              any-map One In
-                  (λ one from. let other = any-found (IsFrom In one) others from in ((both one other.0).0 other.1.1).0)
-                  ones some,
-              any-map (IsFrom In found.0) In (λ other from. ((both found.0 other).0 from.1).1) others found.1,
+            let one = any-found _ ones (law.0 is) in
+            let other = any-found _ others one.1 in (
+              any-map _ _ (λ one from. let other = any-found _ others from in ((both one other.0).0 other.1.1).0) ones (law.0 is),
+              any-map _ _ (λ other from. ((both one.0 other).0 from.1).1) others one.1,
             ),
-        λ is. law.1 (any-map In (λ (one : Ends T). AnyByRecursion (IsFrom In one) others)
-            (λ one here. any-map In (IsFrom In one)
+        λ is. law.1 (any-map _ _ (λ one here. any-map _ _
             (λ other there. ((cut, here, there), (both one other).1 (here, there))) others is.1) ones is.0),
       )
 

@@ -1,11 +1,10 @@
 -- Less and at most of cuts, wherever the order of the values is total, and the tests of them in a program.
 use native.Mathlib.Omega.{arith}
-use Rattle.std.specs.Prelude.{◌≡◌, ◌⊎◌, ◌↔◌, Bool, IsTrue, refl, true, false}
-use mathlib.Core.Path.{sym, ap, ◌∙◌}
+use Rattle.std.specs.Prelude.{◌≡◌, ◌⊎◌, ◌↔◌, Bool, IsTrue, true, false}
+use mathlib.Core.Path.{ap}
 use mathlib.Core.Logic.{inr}
-use mathlib.Core.Bool.{true≢false}
 use Rattle.std.specs.declared.cmp.Ordering.{Ordering}
-use Rattle.std.specs.declared.cmp.Ordering.TheVariants.{Less, Equal}
+use Rattle.std.specs.declared.cmp.Ordering.TheVariants.{Equal}
 use Rattle.std.specs.Ordering.{is_lt, is_le}
 use Rattle.std.specs.Cmp.{IsEquivalence, IsTotalOrder, alike_right, and_equiv}
 use Rattle.std.specs.Cmp.{eq_by_cmp_equiv, on_equiv, tied_back, tied_itself}
@@ -13,9 +12,6 @@ use Rattle.semver_cuts.specs.declared.cut.Cut.{Cut}
 use Rattle.semver_cuts.specs.Cut.{cut_cmp}
 use Rattle.semver_cuts.specs.Lemmas.CutOrder.{cut_total}
 use Rattle.semver_cuts.specs.Ends.{AreSameEnds, Ends, IsCutAtMost, IsCutBelow, IsInSpan, are_same_ends}
-
-less≢equal : (r : Ordering) → r ≡ Less → r ≡ Equal → ⊥
-less≢equal r p q = true≢false (ap is_lt (sym p ∙ q))
 
 module _ {T : Type 0} {cmp : T → T → Ordering} (o : IsTotalOrder cmp) where
   -- a cut is the same cut as itself
@@ -32,7 +28,7 @@ module _ {T : Type 0} {cmp : T → T → Ordering} (o : IsTotalOrder cmp) where
 
   -- no cut is below itself
   pub below_irrefl : (c : Cut T) → ¬ (IsCutBelow cmp c c)
-  below_irrefl c p = less≢equal (cut_cmp cmp c c) p (cut_cmp-refl c)
+  below_irrefl c p = grind (arith, cut_cmp-refl)
 
   -- below is transitive
   pub below_trans : (c d e : Cut T) → IsCutBelow cmp c d → IsCutBelow cmp d e → IsCutBelow cmp c e
@@ -54,12 +50,9 @@ module _ {T : Type 0} {cmp : T → T → Ordering} (o : IsTotalOrder cmp) where
   pub at_most_trans : (c d e : Cut T) → IsCutAtMost cmp c d → IsCutAtMost cmp d e → IsCutAtMost cmp c e
   at_most_trans c d e h1 h2 = grind arith
 
-  either_by : (c d : Cut T) (r : Ordering) → cut_cmp cmp c d ≡ r → IsCutAtMost cmp c d ⊎ IsCutBelow cmp d c
-  either_by c d r h1 = grind arith
-
   -- of two cuts one is at most the other, or the other is below it
   pub at_most-or-below : (c d : Cut T) → IsCutAtMost cmp c d ⊎ IsCutBelow cmp d c
-  at_most-or-below c d = either_by c d (cut_cmp cmp c d) refl
+  at_most-or-below c d = grind arith
 
   -- and not both
   pub below-not-at_most : (c d : Cut T) → IsCutBelow cmp c d → ¬ (IsCutAtMost cmp d c)
@@ -69,19 +62,13 @@ module _ {T : Type 0} {cmp : T → T → Ordering} (o : IsTotalOrder cmp) where
   pub at_most-both : (c d : Cut T) → IsCutAtMost cmp c d → IsCutAtMost cmp d c → cut_cmp cmp c d ≡ Equal
   at_most-both c d h1 h2 = grind arith
 
-  not_below_by : (c d : Cut T) (r : Ordering) → cut_cmp cmp c d ≡ r → is_lt r ≡ false → IsCutAtMost cmp d c
-  not_below_by c d r h1 h2 = grind arith
-
   -- what follows if the test `c < d` is false
   pub at_most-from_not_lt : (c d : Cut T) → is_lt (cut_cmp cmp c d) ≡ false → IsCutAtMost cmp d c
-  at_most-from_not_lt c d h = not_below_by c d (cut_cmp cmp c d) refl h
-
-  not_at_most_by : (c d : Cut T) (r : Ordering) → cut_cmp cmp c d ≡ r → is_le r ≡ false → IsCutBelow cmp d c
-  not_at_most_by c d r h1 h2 = grind arith
+  at_most-from_not_lt c d h = grind arith
 
   -- what follows if the test `c <= d` is false
   pub below-from_not_le : (c d : Cut T) → is_le (cut_cmp cmp c d) ≡ false → IsCutBelow cmp d c
-  below-from_not_le c d h = not_at_most_by c d (cut_cmp cmp c d) refl h
+  below-from_not_le c d h = grind arith
 
   -- the same two ends, as a test, is an equivalence
   pub are_same_ends-equiv : IsEquivalence (are_same_ends cmp)
@@ -97,19 +84,13 @@ module _ {T : Type 0} {cmp : T → T → Ordering} (o : IsTotalOrder cmp) where
   same_ends-in_span one other cut same inside = grind arith
 
 module _ {T : Type 0} (cmp : T → T → Ordering) where
-  below_by : (r : Ordering) → is_lt r ≡ true → r ≡ Less
-  below_by r h1 = grind arith
-
   -- what follows if the test `c < d` is true
   pub below-from_lt : (c d : Cut T) → is_lt (cut_cmp cmp c d) ≡ true → IsCutBelow cmp c d
-  below-from_lt c d h = below_by (cut_cmp cmp c d) h
-
-  at_most_by : (r : Ordering) → is_le r ≡ true → (r ≡ Less) ⊎ (r ≡ Equal)
-  at_most_by r h1 = grind arith
+  below-from_lt c d h = grind arith
 
   -- what follows if the test `c <= d` is true
   pub at_most-from_le : (c d : Cut T) → is_le (cut_cmp cmp c d) ≡ true → IsCutAtMost cmp c d
-  at_most-from_le c d h = at_most_by (cut_cmp cmp c d) h
+  at_most-from_le c d h = grind arith
 
   -- and the test is true if the fact is
   pub lt-from_below : (c d : Cut T) → IsCutBelow cmp c d → is_lt (cut_cmp cmp c d) ≡ true

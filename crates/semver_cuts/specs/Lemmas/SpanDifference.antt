@@ -1,16 +1,14 @@
 -- The part of one span outside another: when there is a piece below and above, and which cuts lie in the pieces.
 use native.Mathlib.Omega.{arith}
-use Rattle.std.specs.Prelude.{◌≡◌, ◌⊎◌, ◌↔◌, Bool, [], ◌∷◌, ◌++◌, if◌then◌else◌, refl, true}
+use Rattle.std.specs.Prelude.{◌≡◌, ◌⊎◌, ◌↔◌, [], ◌∷◌, ◌++◌, if◌then◌else◌, true}
 use mathlib.Core.Path.{ap}
 use mathlib.Core.Logic.{inl, inr}
 use Rattle.std.specs.declared.cmp.Ordering.{Ordering}
-use Rattle.std.specs.Ordering.{is_lt}
 use Rattle.std.specs.Cmp.{IsTotalOrder}
 use Rattle.semver_cuts.specs.declared.cut.Cut.{Cut}
-use Rattle.semver_cuts.specs.Cut.{cut_cmp}
 use Rattle.semver_cuts.specs.Ends.{Ends, IsCutBelow, IsInSpan, span_between}
 use Rattle.semver_cuts.specs.SpanLists.{IsInSome}
-use Rattle.semver_cuts.specs.CommonSpans.{common_ends, common_of}
+use Rattle.semver_cuts.specs.CommonSpans.{common_of}
 use Rattle.semver_cuts.specs.SpanDifference.{piece_above, piece_below, span_if_any, spans_share}
 use Rattle.semver_cuts.specs.Lemmas.Ends.{at_most-or-below, below-at_most, below-from_lt}
 use Rattle.semver_cuts.specs.Lemmas.Ends.{below_trans}
@@ -18,12 +16,9 @@ use Rattle.semver_cuts.specs.Lemmas.InSome.{in_some-either, in_some-left, in_som
 use Rattle.semver_cuts.specs.Lemmas.TwoSpans.{common_ends-hold, shares-ends}
 
 module _ {T : Type 0} (cmp : T → T → Ordering) (one other : Ends T) where
-  some_by : (span : Ends T) (r : Bool) → span ∷ [] ≡ (if r then common_ends cmp one other ∷ [] else []) → r ≡ true
-  some_by span r h1 = grind arith
-
   -- the two share a cut if they have a common span
   pub share-from_some : (span : Ends T) → span ∷ [] ≡ common_of cmp one other → spans_share cmp one other ≡ true
-  share-from_some span e = some_by span (spans_share cmp one other) e
+  share-from_some span e = grind arith
 
   -- the piece below, if they share a cut
   pub below-shared : spans_share cmp one other ≡ true
@@ -36,14 +31,10 @@ module _ {T : Type 0} (cmp : T → T → Ordering) (one other : Ends T) where
   above-shared share = ap (λ r. if r then span_if_any cmp other.upper one.upper else []) share
 
 module _ {T : Type 0} {cmp : T → T → Ordering} (o : IsTotalOrder cmp) where
-  if_any_by : (lower upper cut : Cut T) (r : Bool) → is_lt (cut_cmp cmp lower upper) ≡ r
-      → IsInSome cmp (if r then span_between lower upper ∷ [] else []) cut ↔ IsInSpan cmp (span_between lower upper) cut
-  if_any_by lower upper cut r h1 = grind arith
-
   -- a cut lies in the span between two cuts, if there is one, exactly if it lies between them
   pub if_any-cuts : (lower upper cut : Cut T)
       → IsInSome cmp (span_if_any cmp lower upper) cut ↔ IsInSpan cmp (span_between lower upper) cut
-  if_any-cuts lower upper cut = if_any_by lower upper cut (is_lt (cut_cmp cmp lower upper)) refl
+  if_any-cuts lower upper cut = grind arith
 
   module _ (one other : Ends T) (held : IsCutBelow cmp one.lower one.upper)
       (held' : IsCutBelow cmp other.lower other.upper)

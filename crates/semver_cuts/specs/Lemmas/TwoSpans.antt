@@ -1,8 +1,6 @@
 -- Two spans: their intersection, when they share a cut, and when one contains all cuts of the other.
 use native.Mathlib.Omega.{arith}
-use Rattle.std.specs.Prelude.{◌≡◌, ◌⊎◌, ◌↔◌, ◌&&◌, Bool, IsTrue, List, [], ◌∷◌, if◌then◌else◌, refl, true, false}
-use mathlib.Core.Path.{sym, ◌∙◌}
-use mathlib.Core.Bool.{true≢false}
+use Rattle.std.specs.Prelude.{◌≡◌, ◌⊎◌, ◌↔◌, ◌&&◌, Bool, IsTrue, List, [], ◌∷◌, if◌then◌else◌, refl}
 use Rattle.std.specs.declared.cmp.Ordering.{Ordering}
 use Rattle.std.specs.Ordering.{is_le, is_lt}
 use Rattle.std.specs.Cmp.{IsTotalOrder}
@@ -17,10 +15,6 @@ use Rattle.semver_cuts.specs.Lemmas.Ends.{at_most-from_le, at_most-or-below, at_
 use Rattle.semver_cuts.specs.Lemmas.Ends.{at_most_trans, below-at_most, below-from_lt, below-not-at_most}
 use Rattle.semver_cuts.specs.Lemmas.Ends.{below_irrefl, le-from_at_most, lt-from_below}
 
--- no test is both `true` and `false`
-both_ways : {P : Type 0} (r : Bool) → r ≡ true → r ≡ false → P
-both_ways r p q = absurd (true≢false (sym p ∙ q))
-
 module _ {T : Type 0} {cmp : T → T → Ordering} (o : IsTotalOrder cmp) where
   -- ---- the greater and the lesser of two cuts
 
@@ -31,7 +25,7 @@ module _ {T : Type 0} {cmp : T → T → Ordering} (o : IsTotalOrder cmp) where
 
   pub greater-is : (P : Cut T → Type 0) (c d : Cut T)
       → (IsCutBelow cmp d c → P c) → (IsCutAtMost cmp c d → P d) → P (greater_cut cmp c d)
-  greater-is P c d = greater-by P c d (is_lt (cut_cmp cmp d c)) refl
+  greater-is P c d h1 h2 = grind arith
 
   lesser-by : (P : Cut T → Type 0) (c d : Cut T) (r : Bool) → is_lt (cut_cmp cmp d c) ≡ r
       → (IsCutBelow cmp d c → P d) → (IsCutAtMost cmp c d → P c) → P (if r then d else c)
@@ -105,19 +99,11 @@ module _ {T : Type 0} {cmp : T → T → Ordering} (o : IsTotalOrder cmp) where
 
   -- ---- the common span, as a list of one span or none
 
-  common_by : (one other : Ends T) (P : List (Ends T) → Type 0) (r : Bool)
-      → is_lt (cut_cmp cmp (common_ends cmp one other).lower (common_ends cmp one other).upper) ≡ r
-      → (HaveCommonCut cmp one other → P (common_ends cmp one other ∷ [])) → (¬ HaveCommonCut cmp one other → P [])
-      → P (if r then common_ends cmp one other ∷ [] else [])
-  common_by one other P r h1 h2 h3 = grind (arith, common_ends-hold, below-from_lt cmp, both_ways, lt-from_below cmp)
-
   -- there is a common span exactly if some cut lies in both
   pub common_of-cases : (one other : Ends T) (P : List (Ends T) → Type 0)
       → (HaveCommonCut cmp one other → P (common_ends cmp one other ∷ [])) → (¬ HaveCommonCut cmp one other → P [])
       → P (common_of cmp one other)
-  common_of-cases one other P some none =
-      common_by one other P
-      (is_lt (cut_cmp cmp (common_ends cmp one other).lower (common_ends cmp one other).upper)) refl some none
+  common_of-cases one other P some none = grind (arith, common_ends-hold one other)
 
   -- a cut lies in the common span exactly if it lies in both
   pub common_of-cuts : (one other : Ends T) (cut : Cut T)

@@ -1,5 +1,6 @@
 -- The last number of a list of identifiers: there is only one, and it is raised only below the limit.
-use Rattle.std.proofs.Common.{◌≡◌, ◌≤◌, ◌∙◌, ℕ, List, [], ◌∷◌, ◌++◌, ◌≢◌, ◌⊎◌, Bool, false, length, Option, None, Some, Result, Ok, Err, IfErr, arith, inl, inr, refl, subst, sym}
+use Rattle.std.proofs.Common.{◌≡◌, ◌≤◌, ℕ, List, [], ◌∷◌, ◌++◌, ◌≢◌, ◌⊎◌, Bool, false, length, arith, inl, inr}
+use Rattle.std.proofs.Common.{Option, None, Some, Result, IfErr}
 use Rattle.std.specs.List.{AllByRecursion}
 use Rattle.std.specs.Prelude.{◌==◌}
 use Rattle.semver_versions.specs.Identifier.{values_of}
@@ -8,7 +9,7 @@ use Rattle.semver_versions.specs.Bump.{BeginsNumbered, HasNoNext, IsNext, IsNext
 use Rattle.semver_versions.specs.IdentifierValue.{IdentifierValue, numeric}
 use Rattle.semver_versions.specs.declared.TheConstants.{MAX_SAFE_INTEGER}
 use Rattle.semver_versions.specs.declared.version.bump.IdentifierBase.{IdentifierBase}
-use Rattle.semver_versions.specs.declared.version.bump.IdentifierBase.TheVariants.{Absent, One, Zero}
+use Rattle.semver_versions.specs.declared.version.bump.IdentifierBase.TheVariants.{Absent}
 
 -- texts have no number among them
 texts-none : (before after : List IdentifierValue) (number : ℕ)
@@ -31,16 +32,10 @@ no_next_at_limit base one before after number split limit other next = grind (ar
 
 -- ---- with an identifier
 
--- a prerelease that begins with the identifier and a number has a number
-numbered-none : (identifier : IdentifierValue) (one : List IdentifierValue) → BeginsNumbered identifier one
-    → AllByRecursion IsText one → ⊥
-numbered-none identifier one begins all =
-    texts-none (identifier ∷ []) begins.rest begins.number (subst (AllByRecursion IsText) begins.whole all)
-
 -- so its last number is raised
 pub next_with : (identifier : IdentifierValue) (base : IdentifierBase) (one other : List IdentifierValue)
     → BeginsNumbered identifier one → IsNext None base one other → IsNext (Some identifier) base one other
-next_with identifier base one other begins next = grind (arith, numbered-none)
+next_with identifier base one other begins next = grind arith
 
 pub no_next_with : (identifier : IdentifierValue) (base : IdentifierBase) (one : List IdentifierValue)
     → BeginsNumbered identifier one → HasNoNext None base one → HasNoNext (Some identifier) base one
@@ -54,33 +49,20 @@ pub no_next_alone : (identifier : IdentifierValue) (one : List IdentifierValue) 
     → HasNoNext (Some identifier) Absent one
 no_next_alone identifier one alone other next = grind arith
 
--- any other prerelease becomes a new one
-new-other : (identifier : IdentifierValue) (base : IdentifierBase) (one : List IdentifierValue)
-    → (¬ BeginsNumbered identifier one) → (base ≡ Absent → one ≢ identifier ∷ [])
-    → new_identifiers (Some identifier) base ≢ one
-new-other identifier Zero one begins alone same =
-    begins (record { number = 0; rest = []; whole = sym same })
-new-other identifier One one begins alone same =
-    begins (record { number = 1; rest = []; whole = sym same })
-new-other identifier Absent one begins alone same = alone refl (sym same)
-
 pub next_new : (identifier : IdentifierValue) (base : IdentifierBase) (one other : List IdentifierValue)
     → (¬ BeginsNumbered identifier one) → (base ≡ Absent → one ≢ identifier ∷ [])
     → other ≡ new_identifiers (Some identifier) base → IsNext (Some identifier) base one other
-next_new identifier base one other begins alone is =
-    inr (begins, is, λ same. new-other identifier base one begins alone (sym is ∙ same))
+next_new identifier base one other begins alone is = grind arith
 
 -- an error has one of two reasons; the second gives another
 pub other-reason : {A E : Type 0} → (Memory Reason Other : E → Type 0) (result : Result A E)
     → ((e : E) → Reason e → Other e) → IfErr result (λ e. Memory e ⊎ Reason e) → IfErr result (λ e. Memory e ⊎ Other e)
-other-reason Memory Reason Other (Ok value) gives reasons = tt
-other-reason Memory Reason Other (Err e) gives reasons = grind arith
+other-reason Memory Reason Other result gives reasons = grind arith
 
 -- what follows the prerelease of a version that has one
 pub next-of_some : (identifier : Option IdentifierValue) (base : IdentifierBase) (one other : List IdentifierValue)
     → one ≢ [] → IsNextOf identifier base one other → IsNext identifier base one other
-next-of_some identifier base [] other some next = absurd (some refl)
-next-of_some identifier base (x ∷ xs) other some next = next.1
+next-of_some identifier base one other some next = grind arith
 
 -- identifiers that are not empty
 pub some-identifiers : (identifiers : List Identifier) (empty : Bool) → empty ≡ (length identifiers == 0)

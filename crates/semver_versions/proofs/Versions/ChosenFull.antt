@@ -1,24 +1,22 @@
 -- The chosen piece with its prerelease and its build: there is only one, and so one version at most.
-use Rattle.std.proofs.Common.{◌≡◌, ◌+◌, ◌<◌, ℕ, Bool, true, false, List, Option, Some, None, refl, subst, arith}
+use Rattle.semver_versions.proofs.Versions.ChosenPieces.{same_numbers}
+use Rattle.std.proofs.Common.{◌≡◌, ℕ, Bool, List, Option, Some, None, arith}
 use Rattle.std.proofs.Common.{Result, Ok, Err}
 use Rattle.std.specs.Prelude.{IfNone, IfOk}
-use Rattle.semver_versions.specs.declared.TheConstants.{MAX_LENGTH}
 use Rattle.semver_versions.specs.CoerceWithPrerelease.{Ends, IsChosenFull, IsCoercedWithPrerelease, IsFirstFull}
 use Rattle.semver_versions.specs.CoerceWithPrerelease.{IsFullPiece, IsLastFull, IsShortPiece, IsVersionOf}
 use Rattle.semver_versions.specs.Version.{VersionValue}
-use Rattle.semver_versions.proofs.Versions.FullPieces.{AreSameEnds, full_ends, full_numbers}
+use Rattle.semver_versions.proofs.Versions.FullPieces.{full_ends}
 
 -- ---- one start
 
 first_same : (text : List ℕ) (start from : ℕ) (ends other : Ends) (numbers others : List (List ℕ))
     → IsFirstFull text start ends numbers → IsFirstFull text from other others → from ≡ start
-first_same text start from ends other numbers others h g =
-    omega (arith, h.first from other.numbers others g.full.piece, g.first start ends.numbers numbers h.full.piece)
+first_same text start from ends other numbers others h g = grind arith
 
 as_short : (text : List ℕ) (start : ℕ) (ends : Ends) (numbers : List (List ℕ)) → IsLastFull text start ends numbers
     → IsShortPiece text start ends.build
-as_short text start ends numbers h =
-    record { ends = ends; numbers = numbers; full = h.full; whole = refl; short = h.short }
+as_short text start ends numbers h = grind arith
 
 last_same : (text : List ℕ) (start from : ℕ) (ends other : Ends) (numbers others : List (List ℕ))
     → IsLastFull text start ends numbers → IsLastFull text from other others → from ≡ start
@@ -31,45 +29,26 @@ last_same text start from ends other numbers others h g =
 
 chosen_start : (rtl : Bool) (text : List ℕ) (start from : ℕ) (ends other : Ends) (numbers others : List (List ℕ))
     → IsChosenFull rtl text start ends numbers → IsChosenFull rtl text from other others → from ≡ start
-chosen_start false = first_same
-chosen_start true = last_same
+chosen_start rtl = grind (arith, first_same, last_same)
 
 pub chosen_full : (rtl : Bool) (text : List ℕ) (start : ℕ) (ends : Ends) (numbers : List (List ℕ))
     → IsChosenFull rtl text start ends numbers → IsFullPiece text start ends numbers
-chosen_full false text start ends numbers h = h.full
-chosen_full true text start ends numbers h = h.full
+chosen_full rtl text start ends numbers h = grind arith
 
 -- ---- one version
-
-same_ends : (ends other : Ends) → AreSameEnds ends other → other ≡ ends
-same_ends ends other h =
-    let first : other ≡ record { numbers = ends.numbers; prerelease = other.prerelease; build = other.build } =
-    subst (λ (n : ℕ). other ≡ record { numbers = n; prerelease = other.prerelease; build = other.build }) h.numbers refl in
-    let second : other ≡ record { numbers = ends.numbers; prerelease = ends.prerelease; build = other.build } =
-    subst (λ (n : ℕ). other ≡ record { numbers = ends.numbers; prerelease = n; build = other.build }) h.prerelease first in
-    subst (λ (n : ℕ). other ≡ record { numbers = ends.numbers; prerelease = ends.prerelease; build = n }) h.build second
 
 -- a version of one chosen piece is one of the other
 same_version : (rtl : Bool) (text : List ℕ) (start from : ℕ) (ends other : Ends) (numbers others : List (List ℕ))
     (v : VersionValue) → IsChosenFull rtl text start ends numbers → IsChosenFull rtl text from other others
     → IsVersionOf text from other others v → IsVersionOf text start ends numbers v
 same_version rtl text start from ends other numbers others v h g version =
-    let e = chosen_start rtl text start from ends other numbers others h g in
-    let full : IsFullPiece text start other others =
-    subst (λ (n : ℕ). IsFullPiece text n other others) e (chosen_full rtl text from other others g) in
-    let own = chosen_full rtl text start ends numbers h in
-    let f : other ≡ ends = same_ends ends other (full_ends text start ends other numbers others own full) in
-    let k : others ≡ numbers = full_numbers text start ends other numbers others own full in
-    subst (λ (l : List (List ℕ)). IsVersionOf text start ends l v) k
-    (subst (λ (l : Ends). IsVersionOf text start l others v) f
-    (subst (λ (n : ℕ). IsVersionOf text n other others v) e version))
+    grind (arith, chosen_start, chosen_full, full_ends, same_numbers)
 
 -- none, if the chosen piece has none
 pub none_coerced : (rtl : Bool) (text : List ℕ) (start : ℕ) (ends : Ends) (numbers : List (List ℕ))
     → IsChosenFull rtl text start ends numbers → ((v : VersionValue) → ¬ IsVersionOf text start ends numbers v)
     → (v : VersionValue) → ¬ IsCoercedWithPrerelease rtl text v
-none_coerced rtl text start ends numbers h none v g =
-    none v (same_version rtl text start g.start ends g.ends numbers g.numbers v h g.chosen g.version)
+none_coerced rtl text start ends numbers h none v g = grind (arith, same_version)
 
 pub answer_none : {E : Type 0} (rtl : Bool) (text : List ℕ) (start : ℕ) (ends : Ends) (numbers : List (List ℕ))
     (r : Result (Option VersionValue) E) → IsChosenFull rtl text start ends numbers
@@ -78,10 +57,3 @@ pub answer_none : {E : Type 0} (rtl : Bool) (text : List ℕ) (start : ℕ) (end
 answer_none rtl text start ends numbers (Err e) h none = tt
 answer_none rtl text start ends numbers (Ok (Some v)) h none = tt
 answer_none rtl text start ends numbers (Ok None) h none = none_coerced rtl text start ends numbers h none
-
--- or is too long
-pub long_none : (rtl : Bool) (text : List ℕ)
-    → ((start : ℕ) (ends : Ends) (numbers : List (List ℕ)) → IsChosenFull rtl text start ends numbers
-    → start + MAX_LENGTH < ends.build) → (v : VersionValue) → ¬ IsCoercedWithPrerelease rtl text v
-long_none rtl text long v g =
-    absurd (omega (arith, long g.start g.ends g.numbers g.chosen, g.version.short))

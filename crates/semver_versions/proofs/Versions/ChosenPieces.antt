@@ -1,7 +1,7 @@
 -- The chosen piece: it is found from a number at its end, and there is only one.
-use Rattle.std.proofs.Common.{◌≡◌, ◌+◌, ℕ, Bool, true, false, List, [], ◌∷◌, Option, Some, None, refl, ap}
+use Rattle.std.proofs.Common.{◌≡◌, ℕ, Bool, List, Option, refl}
 use Rattle.std.proofs.Common.{arith}
-use Rattle.std.specs.Prelude.{IfNone, slice_range}
+use Rattle.std.specs.Prelude.{IfNone}
 use Rattle.semver_versions.specs.Coerce.{IsChosen, IsCoerced, IsFirstPiece, IsLastPiece, IsPiece, IsReleaseOf}
 use Rattle.semver_versions.specs.Coerce.{one, two, three}
 use Rattle.semver_versions.specs.Private.PieceViews.{IsFirstNumber, IsLastNumber, IsLongestFrom, IsLongestTo}
@@ -18,8 +18,7 @@ first_found text start first end numbers number piece = (
   record {
     piece = piece.piece;
     first = λ from to others h.
-        let other = first_of text from to others h in
-        number.first from other.0 (omega arith) other.1;
+        number.first from (first_of text from to others h).0 (omega arith) (first_of text from to others h).1;
     longest = piece.longest;
   },
 )
@@ -31,9 +30,7 @@ last_found text start end numbers number piece = (
   end,
   record {
     piece = piece.piece;
-    last = λ from to others h.
-        let other = last_of text from to others h in
-        number.last other.0 to other.1;
+    last = λ from to others h. number.last (last_of text from to others h).0 to (last_of text from to others h).1;
     longest = piece.longest;
   },
 )
@@ -44,21 +41,17 @@ last_found text start end numbers number piece = (
 pub same_numbers : (text : List ℕ) (start end : ℕ) (numbers others : List (List ℕ)) → IsPiece text start end numbers
     → IsPiece text start end others → others ≡ numbers
 same_numbers text start end _ _ (one _ _ h) (one _ _ k) = refl
-same_numbers text start end _ _ (one _ _ h) (two _ other _ k point m) =
-    absurd (omega (arith, same_end text start end other h k, m.some))
-same_numbers text start end _ _ (one _ _ h) (three _ other next _ k point m dash l) =
-    absurd (omega (arith, same_end text start end other h k, m.some, l.some))
-same_numbers text start end _ _ (two _ first _ h point g) (one _ _ k) =
-    absurd (omega (arith, same_end text start end first k h, g.some))
-same_numbers text start end _ _ (two _ first _ h point g) (two _ other _ k dash m) =
-    ap (λ (n : ℕ). slice_range text start n ∷ slice_range text (n + 1) end ∷ []) (same_end text start first other h k)
+same_numbers text start end _ _ (one _ _ h) (two _ other _ k point m) = grind (arith, same_end)
+same_numbers text start end _ _ (one _ _ h) (three _ other next _ k point m dash l) = grind (arith, same_end)
+same_numbers text start end _ _ (two _ first _ h point g) (one _ _ k) = grind (arith, same_end)
+same_numbers text start end _ _ (two _ first _ h point g) (two _ other _ k dash m) = grind (arith, same_end)
 same_numbers text start end _ _ (two _ first _ h point g) (three _ other next _ k dash m last l) =
     absurd (omega (arith, next_end text start first other end next h k g m, l.some))
-same_numbers text start end _ _ (three _ first second _ h point g dash f) (one _ _ k) =
-    absurd (omega (arith, same_end text start end first k h, g.some, f.some))
+same_numbers text start end _ _ (three _ first second _ h point g dash f) (one _ _ k) = grind (arith, same_end)
 same_numbers text start end _ _ (three _ first second _ h point g dash f) (two _ other _ k last m) =
     absurd (omega (arith, next_end text start other first end second k h m g, f.some))
-same_numbers text start end _ _ (three _ first second _ h point g dash f) (three _ other next _ k last m mark l) = grind (arith, same_end, next_end)
+same_numbers text start end _ _ (three _ first second _ h point g dash f) (three _ other next _ k last m mark l) =
+    grind (arith, same_end, next_end)
 
 first_same : (text : List ℕ) (start end from to : ℕ) (numbers others : List (List ℕ))
     → IsFirstPiece text start end numbers → IsFirstPiece text from to others → others ≡ numbers
@@ -68,26 +61,13 @@ last_same : (text : List ℕ) (start end from to : ℕ) (numbers others : List (
     → IsLastPiece text start end numbers → IsLastPiece text from to others → others ≡ numbers
 last_same text start end from to numbers others h g = grind (arith, same_numbers)
 
-chosen_same : (rtl : Bool) (text : List ℕ) (start end from to : ℕ) (numbers others : List (List ℕ))
-    → IsChosen rtl text start end numbers → IsChosen rtl text from to others → others ≡ numbers
-chosen_same false = first_same
-chosen_same true = last_same
-
 -- a text whose chosen piece has no release has no version
 pub not_coerced : (rtl : Bool) (text : List ℕ) (start end : ℕ) (numbers : List (List ℕ)) (r : Option VersionValue)
     → IsChosen rtl text start end numbers → IfNone r ((v : VersionValue) → ¬ IsReleaseOf numbers v)
     → IfNone r ((v : VersionValue) → ¬ IsCoerced rtl text v)
-not_coerced rtl text start end numbers (Some w) chosen none = tt
-not_coerced rtl text start end numbers None chosen none = grind (arith, chosen_same)
-
--- and a text without pieces has none
-chosen_piece : (rtl : Bool) (text : List ℕ) (start end : ℕ) (numbers : List (List ℕ))
-    → IsChosen rtl text start end numbers → IsPiece text start end numbers
-chosen_piece false text start end numbers h = h.piece
-chosen_piece true text start end numbers h = h.piece
+not_coerced rtl text start end numbers r chosen none = grind (arith, first_same, last_same)
 
 pub none_coerced : (rtl : Bool) (text : List ℕ)
     → ((start end : ℕ) (numbers : List (List ℕ)) → ¬ IsPiece text start end numbers) → (v : VersionValue)
     → ¬ IsCoerced rtl text v
-none_coerced rtl text none v h =
-    none h.start h.end h.numbers (chosen_piece rtl text h.start h.end h.numbers h.chosen)
+none_coerced rtl text none v h = grind arith

@@ -1,14 +1,13 @@
 -- Identifiers after a piece, and lists of them: where they start decides where they end.
-use Rattle.std.proofs.Common.{◌≡◌, ◌+◌, ◌<◌, ◌≤◌, ◌⊎◌, ℕ, Bool, true, false, List, length, sym, ◌∙◌, inl, inr, subst}
-use Rattle.std.proofs.Common.{arith, refl, zero, suc}
+use Rattle.std.proofs.Common.{◌≡◌, ◌+◌, ◌<◌, ◌≤◌, ◌⊎◌, ℕ, Bool, true, false, List, length, sym, ◌∙◌, inl, inr}
+use Rattle.std.proofs.Common.{arith, zero, suc}
 use Rattle.std.proofs.lemmas.Bool.{cases_Bool}
 use Rattle.std.proofs.lemmas.List.{get_or_past}
 use Rattle.std.specs.Prelude.{slice_index}
-use Rattle.semver_versions.specs.Characters.{dot, is_digit, is_identifier_character}
+use Rattle.semver_versions.specs.Characters.{dot, is_identifier_character}
 use Rattle.semver_versions.specs.CoerceWithPrerelease.{IsRunAt, last, more}
 use Rattle.semver_versions.specs.Private.ExtraViews.{IsIdentifierOf, IsListOf, is_character_at}
 use Rattle.semver_versions.specs.declared.version.coerce.extras.Extra.{Extra}
-use Rattle.semver_versions.specs.declared.version.coerce.extras.Extra.TheVariants.{Build, Prerelease}
 use Rattle.semver_versions.proofs.Versions.Pieces.{below_or_not}
 
 -- ---- runs
@@ -17,65 +16,37 @@ use Rattle.semver_versions.proofs.Versions.Pieces.{below_or_not}
 pub both : (test : ℕ → Bool) (b : ℕ) → test b ≡ true → test b ≡ false → ⊥
 both test b some none = cc (sym some ∙ none)
 
-run_below : (test : ℕ → Bool) (text : List ℕ) (start end other : ℕ) → IsRunAt test text start end
-    → IsRunAt test text start other → other ≤ end
-run_below test text start end other h g = elim (below_or_not end other) [
-  | inl below ↦ absurd (both test (slice_index text end) (g.passes end (omega (arith, h.some)) below) h.after)
-  | inr above ↦ above
-]
-
 pub one_run : (test : ℕ → Bool) (text : List ℕ) (start end other : ℕ) → IsRunAt test text start end
     → IsRunAt test text start other → other ≡ end
-one_run test text start end other h g =
-    omega (arith, run_below test text start end other h g, run_below test text start other end g h)
+one_run test text start end other h g = grind arith
 
 -- identifier characters up to one place more
 longer : (text : List ℕ) (start place : ℕ)
     → ((other : ℕ) → start ≤ other → other < place → is_character_at text other ≡ true)
     → is_character_at text place ≡ true → (other : ℕ) → start ≤ other → other < place + 1
     → is_character_at text other ≡ true
-longer text start place passes goes other from to = elim (below_or_not other place) [
-  | inl before ↦ passes other from before
-  | inr here ↦
-      let same : place ≡ other = omega (arith, here, to) in
-      subst (λ (p : ℕ). is_character_at text p ≡ true) same goes
-]
+longer text start place passes goes other from to = grind arith
 
 -- they are inside the text
 inside : (text : List ℕ) (place : ℕ) → is_character_at text place ≡ true → place < length text
-inside text place goes = elim (below_or_not place (length text)) [
-  | inl within ↦ within
-  | inr past ↦ absurd (both is_identifier_character 0
-      (subst (λ (b : ℕ). is_identifier_character b ≡ true) (get_or_past text place 0 past) goes) refl)
-]
+inside text place goes = grind (arith, below_or_not, both, get_or_past)
 
 -- and go on to the end of a run
 pub run_there : (text : List ℕ) (n start place : ℕ) → length text ≤ place + n → place ≤ length text → start < place
     → ((other : ℕ) → start ≤ other → other < place → is_character_at text other ≡ true)
     → (end : ℕ) × (place ≤ end) × IsRunAt is_identifier_character text start end
-run_there text zero start place fuel within some passes = elim (cases_Bool (is_character_at text place)) [
-  | inr stops ↦ (place, omega arith, record { within = within; some = some; passes = passes; after = stops })
-  | inl goes ↦ absurd (omega (arith, inside text place goes, fuel))
-]
 run_there text (suc n) start place fuel within some passes = elim (cases_Bool (is_character_at text place)) [
   | inr stops ↦ (place, omega arith, record { within = within; some = some; passes = passes; after = stops })
   | inl goes ↦
-      let r = run_there text n start (place + 1) (omega (arith, fuel)) (omega (arith, inside text place goes))
-      (omega (arith, some)) (longer text start place passes goes) in
-      (r.0, omega (arith, r.1), r.2)
+      grind (arith, run_there text n start (place + 1), inside text place goes, longer text start place passes goes)
 ]
+run_there text zero start place fuel within some passes = grind (arith, cases_Bool (is_character_at text place), inside)
 
 -- ---- identifiers
 
 pub one_identifier : (extra : Extra) (text : List ℕ) (start end other : ℕ) → IsIdentifierOf extra text start end
     → IsIdentifierOf extra text start other → other ≡ end
-one_identifier Build text start end other h g = one_run is_identifier_character text start end other h g
-one_identifier Prerelease text start end other (inl h) (inl g) =
-    one_run is_digit text start end other h.digits g.digits
-one_identifier Prerelease text start end other (inl h) (inr g) = absurd (g.number end h)
-one_identifier Prerelease text start end other (inr h) (inl g) = absurd (h.number other g)
-one_identifier Prerelease text start end other (inr h) (inr g) =
-    one_run is_identifier_character text start end other h.characters g.characters
+one_identifier extra text start end other h6 h7 = grind arith
 
 -- one or more identifier characters
 pub record AreCharactersAt (text : List ℕ) (start end : ℕ) : Type 0 where
@@ -85,24 +56,12 @@ pub record AreCharactersAt (text : List ℕ) (start end : ℕ) : Type 0 where
 
 pub identifier_some : (extra : Extra) (text : List ℕ) (start end : ℕ) → IsIdentifierOf extra text start end
     → start < end
-identifier_some Build text start end h = h.some
-identifier_some Prerelease text start end (inl h) = h.digits.some
-identifier_some Prerelease text start end (inr h) = h.characters.some
-
-digit-character : (b : ℕ) → is_digit b ≡ true → is_identifier_character b ≡ true
-digit-character b h = grind arith
+identifier_some extra text start end h5 = grind arith
 
 -- all its characters, with those after a number
 pub identifier_characters : (extra : Extra) (text : List ℕ) (start end : ℕ) → IsIdentifierOf extra text start end
     → AreCharactersAt text start end
-identifier_characters Build text start end h = record { within = h.within; some = h.some; passes = h.passes }
-identifier_characters Prerelease text start end (inl h) = record {
-  within = h.digits.within;
-  some = h.digits.some;
-  passes = λ place from to. digit-character (slice_index text place) (h.digits.passes place from to);
-}
-identifier_characters Prerelease text start end (inr h) =
-    record { within = h.characters.within; some = h.characters.some; passes = h.characters.passes }
+identifier_characters extra text start end h5 = grind arith
 
 -- ---- lists
 
@@ -130,29 +89,20 @@ GoesOn extra text end other = (slice_index text end ≡ dot) × IsListOf extra t
 -- a list is its first identifier, or goes on after that
 pub list_from : (extra : Extra) (text : List ℕ) (start end other : ℕ) → IsIdentifierOf extra text start end
     → IsListOf extra text start other → (other ≤ end) ⊎ GoesOn extra text end other
-list_from extra text start end other h (last _ _ g) =
-    inl (omega (arith, one_identifier extra text start end other h g))
-list_from extra text start end other h (more _ middle _ g point rest) =
-    inr (subst (λ (p : ℕ). GoesOn extra text p other) (one_identifier extra text start end middle h g) (point, rest))
+list_from extra text start end other h h7 = grind (arith, one_identifier)
 
 -- and so after the next one
 pub list_next : (extra : Extra) (text : List ℕ) (end next other : ℕ) → IsIdentifierOf extra text (end + 1) next
     → (other ≤ end) ⊎ GoesOn extra text end other → (other ≤ next) ⊎ GoesOn extra text next other
-list_next extra text end next other h (inl before) =
-    inl (omega (arith, before, identifier_some extra text (end + 1) next h))
-list_next extra text end next other h (inr g) = list_from extra text (end + 1) next other h g.1
+list_next extra text end next other h h7 = grind (arith, identifier_some, list_from)
 
 -- a list begins with an identifier
 pub list_first : (extra : Extra) (text : List ℕ) (start end : ℕ) → IsListOf extra text start end
     → (first : ℕ) × IsIdentifierOf extra text start first
-list_first extra text start end (last _ _ h) = (end, h)
-list_first extra text start end (more _ middle _ h point rest) = (middle, h)
+list_first extra text start end h5 = grind arith
 
 -- so none goes on where no identifier follows
 pub list_stops : (extra : Extra) (text : List ℕ) (end other : ℕ)
     → ((next : ℕ) → ¬ IsIdentifierOf extra text (end + 1) next) → (other ≤ end) ⊎ GoesOn extra text end other
     → other ≤ end
-list_stops extra text end other none (inl before) = before
-list_stops extra text end other none (inr g) =
-    let first = list_first extra text (end + 1) other g.1 in
-    absurd (none first.0 first.1)
+list_stops extra text end other none h6 = grind arith

@@ -1,57 +1,29 @@
 -- The piece that npm takes from the right, as a loop goes over the numbers of the text.
-use Rattle.std.proofs.Common.{◌≡◌, ◌+◌, ◌-◌, ◌<◌, ◌≤◌, ◌⊎◌, ℕ, List, length, Option, Some, None, sym, inl, inr, subst}
-use Rattle.std.proofs.Common.{arith, refl, true}
+use Rattle.std.proofs.Common.{◌≡◌, ◌+◌, ◌-◌, ◌<◌, ◌≤◌, ◌⊎◌, ℕ, List, length, Option, Some, None, inl, inr}
+use Rattle.std.proofs.Common.{arith}
 use Rattle.std.specs.Prelude.{IfNone, IfSome}
 use Rattle.semver_versions.specs.declared.TheConstants.{MAX_LENGTH}
-use Rattle.semver_versions.specs.Coerce.{IsNumberAt, is_digit_at}
+use Rattle.semver_versions.specs.Coerce.{IsNumberAt}
 use Rattle.semver_versions.specs.CoerceWithPrerelease.{Ends, IsLastFull, IsShortPiece}
 use Rattle.semver_versions.specs.Private.ExtraViews.{AreEndedUpTo, IsFoundBefore, IsFullAt, IsTooLongAt, ends_of}
 use Rattle.semver_versions.specs.Private.PieceViews.{IsFirstNumber, numbers_of}
 use Rattle.semver_versions.specs.declared.version.coerce.full.FullPiece.{FullPiece}
 use Rattle.semver_versions.proofs.Versions.FullPieces.{short_first, short_full, short_same}
-use Rattle.semver_versions.proofs.Versions.Pieces.{below_or_not, clash}
 
 -- ---- one number more
 
 -- no other number starts up to its end
 only_number : (text : List ℕ) (start first other end : ℕ) → IsNumberAt text start first → IsNumberAt text other end
     → start ≤ other → other < first + 1 → other ≡ start
-only_number text start first other end h g from to = elim (below_or_not start other) [
-  | inr same ↦ omega (arith, same, from)
-  | inl after ↦ elim (below_or_not other first) [
-    | inl inner ↦ absurd
-        (clash text (other - 1) (h.digits (other - 1) (omega (arith, after)) (omega (arith, inner)))
-        (g.before (other - 1) (omega (arith, after))))
-    | inr past ↦
-        let e : other ≡ first = omega (arith, past, to) in
-        absurd (clash text first (subst (λ (n : ℕ). is_digit_at text n ≡ true) e (g.digits other (omega arith) g.some))
-        h.after)
-  ]
-]
+only_number text start first other end h g from to =
+    grind (arith, h.digits (other - 1), g.before (other - 1), h.digits other, g.digits other)
 
 -- so a short piece starts before, or with it
 before_or_here : (text : List ℕ) (from start first other end : ℕ) → IsFirstNumber text from start first
     → IsShortPiece text other end → other < first + 1 → (other < from) ⊎ (other ≡ start)
-before_or_here text from start first other end number h to = elim (below_or_not other from) [
-  | inl before ↦ inl before
-  | inr after ↦
-      let there = short_first text other end h in
-      inr (only_number text start first other there.0 number.number there.1
-      (number.first other there.0 after there.1) to)
-]
-
--- what holds of the short pieces before, and of those that start with the number
-up_to : (text : List ℕ) (from start first : ℕ) (P : ℕ → ℕ → Type 0) → IsFirstNumber text from start first
-    → ((other end : ℕ) → IsShortPiece text other end → other < from → P other end)
-    → ((end : ℕ) → IsShortPiece text start end → P start end)
-    → (other end : ℕ) → IsShortPiece text other end → other < first + 1 → P other end
-up_to text from start first P number before here other end h to =
-    elim (before_or_here text from start first other end number h to) [
-      | inl earlier ↦ before other end h earlier
-      | inr same ↦
-          let at : IsShortPiece text start end = subst (λ (n : ℕ). IsShortPiece text n end) same h in
-          subst (λ (n : ℕ). P n end) (sym same) (here end at)
-    ]
+before_or_here text from start first other end number h to =
+    let there = short_first text other end h in
+    grind (arith, number.first other there.0, only_number text start first other there.0 number.number there.1)
 
 -- some of more pieces
 fewer : (text : List ℕ) (start from to end : ℕ) → from ≤ to → AreEndedUpTo text start to end
@@ -65,15 +37,10 @@ keep_none : (text : List ℕ) (from start first : ℕ) → IsFoundBefore text fr
     → IsFirstNumber text from start first → ((end : ℕ) → ¬ IsShortPiece text start end)
     → IsFoundBefore text (first + 1) None
 keep_none text from start first h number none = record {
-  inner = up_to text from start first (λ other end. end + 1 < length text) number h.inner
-      (λ end short. absurd (none end short));
-  none = λ other end short. elim (below_or_not other (first + 1)) [
-    | inr after ↦ after
-    | inl before ↦ elim (before_or_here text from start first other end number short before) [
-      | inl earlier ↦ absurd (omega (arith, earlier, h.none other end short))
-      | inr same ↦ absurd (none end (subst (λ (n : ℕ). IsShortPiece text n end) same short))
-    ]
-  ];
+  inner = λ other end short before.
+      grind (arith, before_or_here text from start first other end number short, h.inner other end short, none end);
+  none = λ other end short.
+      grind (arith, before_or_here text from start first other end number short, h.none other end short, none end);
   some = tt;
 }
 
@@ -84,28 +51,23 @@ pub keep_some : (text : List ℕ) (from start first : ℕ) (p : FullPiece) → I
     → ((end : ℕ) → IsShortPiece text start end → (end ≡ p.end) × (end + 1 < length text))
     → IsFoundBefore text (first + 1) (Some p)
 keep_some text from start first p h number same = record {
-  inner = up_to text from start first (λ other end. end + 1 < length text) number h.inner
-      (λ end short. (same end short).1);
+  inner = λ other end short before.
+      grind (arith, before_or_here text from start first other end number short, h.inner other end short, same end);
   none = tt;
   some = record {
     full = h.some.full;
     short = h.some.short;
     within = h.some.within;
-    before = omega (arith, h.some.before, number.after, number.number.some);
+    before = grind arith;
     ended = λ other end short after before.
-        (up_to text from start first (λ other end. p.start ≤ other → end ≡ p.end) number
-        (λ other end short before after. h.some.ended other end short after before)
-        (λ end short _. (same end short).0)) other end short before after;
-    first = λ other end short before all.
-        h.some.first other end short before
-        (fewer text other from (first + 1) end (omega (arith, number.after, number.number.some)) all);
+        grind (arith, before_or_here text from start first other end number, h.some.ended other end short, same end);
+    first = λ other end short before all. h.some.first other end short before (λ a b c d e. all a b c d (grind arith));
   };
 }
 
 -- no short piece starts where one is too long
 long_short : (text : List ℕ) (start end : ℕ) → IsTooLongAt text start → ¬ IsShortPiece text start end
-long_short text start end long h =
-    absurd (omega (arith, long h.ends h.numbers h.full, h.whole, h.short))
+long_short text start end long h = grind arith
 
 -- so nothing else is found there
 pub keep_long : (text : List ℕ) (from start first : ℕ) (found : Option FullPiece) → IsFoundBefore text from found
@@ -121,11 +83,9 @@ keep_long text from start first (Some p) h number long =
 not_earlier : (text : List ℕ) (from other end : ℕ) (found : Option FullPiece) (p : FullPiece)
     → IsFoundBefore text from found → IsShortPiece text other end → other < from → p.end ≡ end
     → AreEndedUpTo text other from end → IfSome found (λ before. ¬ (before.end ≡ p.end)) → ⊥
-not_earlier text from other end None p h g before e all differs = absurd (omega (arith, before, h.none other end g))
-not_earlier text from other end (Some q) p h g before e all differs = elim (below_or_not other q.start) [
-  | inl earlier ↦ h.some.first other end g earlier all
-  | inr later ↦ differs (omega (arith, e, h.some.ended other end g later before))
-]
+not_earlier text from other end None p h g before e all differs = grind (arith, h.none other end g)
+not_earlier text from other end (Some q) p h g before e all differs =
+    grind (arith, h.some.first other end g, h.some.ended other end g)
 
 pub take : (text : List ℕ) (from first : ℕ) (found : Option FullPiece) (p : FullPiece) → IsFoundBefore text from found
     → IsFirstNumber text from p.start first → IsFullAt text p → p.end ≤ p.start + MAX_LENGTH
@@ -136,8 +96,8 @@ take text from first found p h number full short inner differs =
     let same : (end : ℕ) → IsShortPiece text p.start end → end ≡ p.end =
     λ end g. short_same text p.start p.end end here g in
     record {
-      inner = up_to text from p.start first (λ other end. end + 1 < length text) number h.inner
-          (λ end g. omega (arith, same end g, inner));
+      inner = λ other end g before.
+          grind (arith, same end, before_or_here text from p.start first other end number g, h.inner other end g);
       none = tt;
       some = record {
         full = full;
@@ -145,9 +105,7 @@ take text from first found p h number full short inner differs =
         within = omega (arith, inner);
         before = omega (arith, number.number.some);
         ended = λ other end g after before.
-            up_to text from p.start first (λ other end. p.start ≤ other → end ≡ p.end) number
-            (λ other end k before after. absurd (omega (arith, before, after, number.after)))
-            (λ end k _. same end k) other end g before after;
+            grind (arith, same end, before_or_here text from p.start first other end number g before, number.after);
         first = λ other end g before all.
             let e : p.end ≡ end = all p.start p.end here (omega (arith, before)) (omega (arith, number.number.some)) in
             elim (before_or_here text from p.start first other end number g
@@ -170,20 +128,13 @@ last_there text from start first found p h number e full short reaches = record 
   full = full;
   short = omega (arith, e, short);
   last = inl reaches;
-  longest = λ other end g last. elim (below_or_not other p.start) [
-    | inr after ↦ after
-    | inl before ↦
-        let there = short_first text other end g in
-        elim (below_or_not other from) [
-          | inr past ↦ absurd (omega (arith, before, e, number.first other there.0 past there.1))
-          | inl earlier ↦ elim last [
-            | inl ended ↦ absurd (omega (arith, ended, h.inner other end g earlier))
-            | inr all ↦
-                let same = all p.start p.end (short_full text p full (omega (arith, e, short))) (omega (arith, before)) in
-                absurd (omega (arith, same, reaches, h.inner other end g earlier))
-          ]
-        ]
-  ];
+  longest = λ other end g last. grind (
+    arith,
+    number.first other (short_first text other end g).0,
+    (short_first text other end g).1,
+    h.inner other end g,
+    short_full text p full,
+  );
 }
 
 -- the one that was found, if no number is left
@@ -191,32 +142,25 @@ last_found : (text : List ℕ) (from : ℕ) (p : FullPiece) → IsFoundBefore te
     → ((start end : ℕ) → from ≤ start → ¬ IsNumberAt text start end)
     → IsLastFull text p.start (ends_of p) (numbers_of p.piece)
 last_found text from p h none =
-    let before : (other end : ℕ) → IsShortPiece text other end → other < from = λ other end g.
-    elim (below_or_not other from) [
-      | inl earlier ↦ earlier
-      | inr past ↦
-          let there = short_first text other end g in
-          absurd (none other there.0 past there.1)
-    ] in
+    let before : (other end : ℕ) → IsShortPiece text other end → other < from =
+    λ other end g. grind (arith, none other (short_first text other end g).0, (short_first text other end g).1) in
     record {
       full = h.some.full;
       short = h.some.short;
       last = inr (λ other end g after. h.some.ended other end g after (before other end g));
-      longest = λ other end g last. elim (below_or_not other p.start) [
-        | inr after ↦ after
-        | inl earlier ↦ elim last [
-          | inl ended ↦ absurd (omega (arith, ended, h.inner other end g (before other end g)))
-          | inr all ↦ absurd (h.some.first other end g earlier (λ start to k after _. all start to k after))
-        ]
+      longest = λ other end g last. elim last [
+        | inl ended ↦ grind (arith, before other end g, h.inner other end g)
+        | inr all ↦
+            let no : ¬ (other < p.start) = λ e.
+            h.some.first other end g e (λ start to k after _. all start to k after) in
+            omega (arith, no)
       ];
     }
 
 -- and none
 none_found : (text : List ℕ) (from : ℕ) → IsFoundBefore text from None
     → ((start end : ℕ) → from ≤ start → ¬ IsNumberAt text start end) → (start end : ℕ) → ¬ IsShortPiece text start end
-none_found text from h none start end g =
-    let there = short_first text start end g in
-    none start there.0 (h.none start end g) there.1
+none_found text from h none start end g = grind (arith, none start (short_first text start end g).0, h.none start end g)
 
 -- the same of the loop's result
 pub found_some : (text : List ℕ) (from : ℕ) (found : Option FullPiece) → IsFoundBefore text from found
@@ -231,10 +175,4 @@ pub found_none : (text : List ℕ) (from : ℕ) (found : Option FullPiece) → I
     → start + MAX_LENGTH < ends.build)
 found_none text from (Some p) h none = tt
 found_none text from None h none = λ start ends numbers last.
-    absurd (none_found text from h none start ends.build (record {
-      ends = ends;
-      numbers = numbers;
-      full = last.full;
-      whole = refl;
-      short = last.short;
-    }))
+    grind (arith, none_found text from h none start ends.build)

@@ -1,5 +1,5 @@
 -- The longest piece that ends with a number.
-use Rattle.std.proofs.Common.{◌≡◌, ◌+◌, ◌≤◌, ℕ, List, [], ◌∷◌, subst, arith}
+use Rattle.std.proofs.Common.{◌≡◌, ◌+◌, ◌≤◌, ℕ, List, [], ◌∷◌, arith}
 use Rattle.std.specs.Prelude.{slice_index, slice_range}
 use Rattle.semver_versions.specs.Characters.{dot}
 use Rattle.semver_versions.specs.Coerce.{IsNumberAt, IsPiece, one, two, three}
@@ -11,10 +11,7 @@ use Rattle.semver_versions.proofs.Versions.Pieces.{previous_start, same_start}
 two_at : (text : List ℕ) (start first third end : ℕ) → first + 1 ≡ third → IsNumberAt text start first
     → slice_index text first ≡ dot → IsNumberAt text third end
     → IsPiece text start end (slice_range text start first ∷ slice_range text third end ∷ [])
-two_at text start first third end e h point g =
-    let P : ℕ → Type 0 = λ n. IsNumberAt text n end
-    → IsPiece text start end (slice_range text start first ∷ slice_range text n end ∷ []) in
-    subst P e (λ k. two start first end h point k) g
+two_at text start first third end e h point g = grind (arith, two)
 
 three_at : (text : List ℕ) (start first second middle third end : ℕ) → first + 1 ≡ second → middle + 1 ≡ third
     → IsNumberAt text start first → slice_index text first ≡ dot → IsNumberAt text second middle
@@ -23,12 +20,7 @@ three_at : (text : List ℕ) (start first second middle third end : ℕ) → fir
     ∷ slice_range text second middle
     ∷ slice_range text third end
     ∷ [])
-three_at text start first second middle third end e f h point g dash k =
-    let P : ℕ → Type 0 = λ n. IsNumberAt text n end
-    → IsPiece text start end (slice_range text start first ∷ slice_range text second middle ∷ slice_range text n end ∷ []) in
-    let Q : ℕ → Type 0 = λ n. IsNumberAt text n middle
-    → IsPiece text start end (slice_range text start first ∷ slice_range text n middle ∷ slice_range text (middle + 1) end ∷ []) in
-    subst P f (λ l. subst Q e (λ m. three start first middle end h point m dash l) g) k
+three_at text start first second middle third end e f h point g dash k = grind (arith, three)
 
 -- ---- the longest ones
 
@@ -54,8 +46,7 @@ one_to text third end h none =
 two_longest : (text : List ℕ) (second middle third end : ℕ) → middle + 1 ≡ third → IsNumberAt text second middle
     → IsNumberAt text third end → HasNoPrevious text second → (start : ℕ) (numbers : List (List ℕ))
     → IsPiece text start end numbers → second ≤ start
-two_longest text second middle third end e g h none start _ (one _ _ k) =
-    omega (arith, same_start text third start end h k, e, g.some)
+two_longest text second middle third end e g h none start _ (one _ _ k) = grind (arith, same_start)
 two_longest text second middle third end e g h none start _ (two _ first _ k point m) =
     omega (arith, previous_start text second start middle first third (first + 1) end e (omega arith) h m g k)
 two_longest text second middle third end e g h none start _ (three _ first last _ k point m dash l) =
@@ -65,25 +56,20 @@ two_longest text second middle third end e g h none start _ (three _ first last 
 pub two_to : (text : List ℕ) (second middle third end : ℕ) → middle + 1 ≡ third → IsNumberAt text second middle
     → slice_index text middle ≡ dot → IsNumberAt text third end → HasNoPrevious text second
     → IsLongestTo text end (slice_range text second middle ∷ slice_range text third end ∷ [])
-two_to text second middle third end e g point h none = record {
-  start = second;
-  piece = two_at text second middle third end e g point h;
-  longest = two_longest text second middle third end e g h none;
-}
+two_to text second middle third end e g point h none =
+    grind (arith, two_at text second middle third end e g point h, two_longest text second middle third end e g h none)
 
 three_longest : (text : List ℕ) (begin first second middle third end : ℕ) → first + 1 ≡ second → middle + 1 ≡ third
     → IsNumberAt text begin first → IsNumberAt text second middle → IsNumberAt text third end
     → (start : ℕ) (numbers : List (List ℕ)) → IsPiece text start end numbers → begin ≤ start
-three_longest text begin first second middle third end d e f g h start _ (one _ _ k) =
-    omega (arith, same_start text third start end h k, e, g.some, d, f.some)
+three_longest text begin first second middle third end d e f g h start _ (one _ _ k) = grind (arith, same_start)
 three_longest text begin first second middle third end d e f g h start _ (two _ other _ k point m) =
-    omega (arith, previous_start text second start middle other third (other + 1) end e (omega arith) h m g k, d, f.some)
+    grind (arith, previous_start text second start middle other third (other + 1) end e)
 three_longest text begin first second middle third end d e f g h start _ (three _ other last _ k point m dash l) =
-    let same : last ≡ middle = omega (arith, e, same_start text third (last + 1) end h l) in
-    omega (
+    grind (
       arith,
-      previous_start text begin start first other second (other + 1) middle d (omega arith) g
-          (subst (λ (n : ℕ). IsNumberAt text (other + 1) n) same m) f k,
+      same_start text third (last + 1) end h l,
+      previous_start text begin start first other second (other + 1) middle d,
     )
 
 pub three_to : (text : List ℕ) (begin first second middle third end : ℕ) → first + 1 ≡ second → middle + 1 ≡ third
@@ -93,8 +79,8 @@ pub three_to : (text : List ℕ) (begin first second middle third end : ℕ) →
     ∷ slice_range text second middle
     ∷ slice_range text third end
     ∷ [])
-three_to text begin first second middle third end d e f point g dash h = record {
-  start = begin;
-  piece = three_at text begin first second middle third end d e f point g dash h;
-  longest = three_longest text begin first second middle third end d e f g h;
-}
+three_to text begin first second middle third end d e f point g dash h = grind (
+  arith,
+  three_at text begin first second middle third end d e f point g dash h,
+  three_longest text begin first second middle third end d e f g h,
+)

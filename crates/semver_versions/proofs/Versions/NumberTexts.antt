@@ -1,5 +1,5 @@
 -- A number that is written in a text, and the texts around it.
-use Rattle.std.proofs.Common.{◌≡◌, ◌+◌, ◌-◌, ◌<◌, ◌≤◌, ℕ, true, false, List, [], ◌∷◌, ◌++◌, length, get_or, take, drop, refl}
+use Rattle.std.proofs.Common.{◌≡◌, ◌+◌, ◌-◌, ◌<◌, ◌≤◌, ℕ, true, false, List, ◌++◌, length, get_or, take, drop}
 use Rattle.std.proofs.Common.{ap, ◌∙◌, subst, arith, length-append}
 use Rattle.std.proofs.Math.Seq.{drop-append_seam, take-append_seam}
 use Rattle.std.proofs.lemmas.List.{get_or-append-add, get_or_append_left}
@@ -13,8 +13,7 @@ digit_in : (digits : List ℕ) (k : ℕ) → AreAll is_digit digits → k < leng
 digit_in digits k all below = grind (arith, get_or, list_all_at)
 
 no_digit : (rest : List ℕ) → BeginsWithNo is_digit rest → is_digit (get_or rest 0 0) ≡ false
-no_digit [] h = refl
-no_digit (b ∷ rest) h = h
+no_digit rest h = grind arith
 
 module _ (before digits rest : List ℕ) where
   -- the digit so many places after the texts before

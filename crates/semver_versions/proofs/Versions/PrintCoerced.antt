@@ -1,8 +1,8 @@
 -- The print of a version is coerced to the release with its triple.
-use Rattle.std.proofs.Common.{◌≡◌, ◌+◌, ◌<◌, ◌≤◌, ◌^◌, ℕ, false, List, [], ◌∷◌, ◌++◌, length, get_or, zero, suc, refl}
+use Rattle.semver_versions.specs.Lemmas.Texts.DecimalReading.{decimal-begins, decimal-value}
+use Rattle.std.proofs.Common.{◌≡◌, ◌+◌, ◌<◌, ◌≤◌, ◌^◌, ℕ, false, List, [], ◌∷◌, ◌++◌, length, get_or, refl}
 use Rattle.std.proofs.Common.{sym, ap, ◌∙◌, subst, arith, append_assoc, length-append, lit<}
 use Rattle.std.proofs.Math.Seq.{get_or-append_seam}
-use Rattle.std.proofs.lemmas.Bool.{eqb-true}
 use Rattle.std.proofs.lemmas.Fmt.{decimal_nonempty, first_decimal, length-decimal-le}
 use Rattle.std.specs.Fmt.{decimal}
 use Rattle.std.specs.Prelude.{slice_index, slice_range}
@@ -13,7 +13,7 @@ use Rattle.semver_versions.specs.StrictVersionText.{has_zero_in_front}
 use Rattle.semver_versions.specs.Version.{VersionValue, release}
 use Rattle.semver_versions.specs.VersionLaws.{PrintIsCoerced}
 use Rattle.semver_versions.specs.Lemmas.Texts.DecimalReading.{decimal-digits}
-use Rattle.semver_versions.specs.Lemmas.Versions.PrintReading.{extras_text, extras_text-no_digit, number-text, print-whole}
+use Rattle.semver_versions.specs.Lemmas.Versions.PrintReading.{extras_text, extras_text-no_digit, print-whole}
 use Rattle.semver_versions.proofs.Versions.ChosenPieces.{first_found}
 use Rattle.semver_versions.proofs.Versions.NumberTexts.{number_at, range_at}
 use Rattle.semver_versions.proofs.Versions.Pieces.{three_from}
@@ -22,18 +22,13 @@ use Rattle.semver_versions.proofs.Versions.StrictNumbers.{is_strict}
 -- ---- the digits of a number
 
 no_zero : (text : List ℕ) → 48 < get_or text 0 0 → has_zero_in_front text ≡ false
-no_zero [] h = refl
-no_zero (b ∷ []) h = refl
-no_zero (b ∷ c ∷ rest) h = grind (arith, eqb-true)
+no_zero text h = grind arith
 
 short_no_zero : (text : List ℕ) → length text ≤ 1 → has_zero_in_front text ≡ false
-short_no_zero [] h = refl
-short_no_zero (b ∷ []) h = refl
-short_no_zero (b ∷ c ∷ rest) h = absurd (omega (arith, h))
+short_no_zero text h = grind arith
 
 no_zero_decimal : (n : ℕ) → n < 2 ^ 64 → has_zero_in_front (decimal n) ≡ false
-no_zero_decimal zero small = short_no_zero (decimal 0) (length-decimal-le 1 0 (lit< tt) (lit< tt) small)
-no_zero_decimal (suc n) small = no_zero (decimal (suc n)) (first_decimal (suc n) (omega arith) small)
+no_zero_decimal n small = grind (arith, short_no_zero, length-decimal-le, no_zero, first_decimal)
 
 fits : (n : ℕ) → n ≤ MAX_SAFE_INTEGER → n < 2 ^ 64
 fits n h = omega (arith, h)
@@ -42,7 +37,7 @@ decimal_short : (n : ℕ) → n ≤ MAX_SAFE_INTEGER → length (decimal n) ≤ 
 decimal_short n h = length-decimal-le 16 n (lit< tt) (omega (arith, h)) (fits n h)
 
 decimal_strict : (n : ℕ) → n ≤ MAX_SAFE_INTEGER → IsStrictNumber (decimal n) n
-decimal_strict n h = grind (arith, number-text, is_strict, no_zero_decimal, fits)
+decimal_strict n h = grind (arith, is_strict, no_zero_decimal, fits, decimal-begins, decimal-digits, decimal-value)
 
 -- the number is from `start` up to `end`, and its text is this one
 record IsWritten (text : List ℕ) (start end : ℕ) (digits : List ℕ) : Type 0 where

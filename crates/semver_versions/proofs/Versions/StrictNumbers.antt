@@ -1,7 +1,6 @@
 -- A number without a zero in front is what the reader of numbers reads of the whole text.
-use Rattle.std.proofs.Common.{◌≡◌, ◌<◌, ◌≤◌, ℕ, true, false, List, [], ◌∷◌, length, Ok, Err, sym, ap, ◌∙◌}
-use Rattle.std.proofs.Common.{append-nil, arith, refl, subst}
-use Rattle.std.proofs.lemmas.Bool.{and_from}
+use Rattle.std.proofs.Common.{◌≡◌, ◌<◌, ◌≤◌, ℕ, true, false, List, [], ◌∷◌, length, Ok, Err}
+use Rattle.std.proofs.Common.{append-nil, arith}
 use Rattle.semver_versions.specs.Coerce.{IsStrictNumber}
 use Rattle.semver_versions.specs.NumberText.{IsNumberText}
 use Rattle.semver_versions.specs.Reading.{read_number}
@@ -11,22 +10,16 @@ use Rattle.semver_versions.specs.Lemmas.Texts.NumberReading.{answer, number-agai
 
 pub is_strict : (text : List ℕ) (number : ℕ) → IsNumberText text number → has_zero_in_front text ≡ false
     → is_strict_number text ≡ true
-is_strict [] number read zero = absurd read.some
-is_strict (b ∷ text) number read zero = and_from _ _ read.digits (rw zero refl)
+is_strict text number read zero4 = grind arith
 
 pub strict_read : (text rest : List ℕ) (number : ℕ) → read_number text ≡ Ok (number, rest) → length rest < 1
     → has_zero_in_front text ≡ false → IsStrictNumber text number
-strict_read text [] number h none zero =
-    let taken = number-takes text number [] h in
-    let same : taken.digits ≡ text = sym (taken.whole ∙ append-nil taken.digits) in
-    let read : IsNumberText text number = subst (λ (l : List ℕ). IsNumberText l number) same taken.read in
-    record { read = read; strict = is_strict text number read zero }
+strict_read text [] number h none zero = grind (arith, number-takes text number [] h, append-nil, is_strict)
 strict_read text (b ∷ rest) number h none zero = absurd (omega arith)
 
 -- it would be read
 whole_read : (text : List ℕ) (number : ℕ) → IsStrictNumber text number → read_number text ≡ Ok (number, [])
-whole_read text number h =
-    sym (ap read_number (append-nil text)) ∙ number-again text [] number h.read tt
+whole_read text number h = grind (arith, append-nil text, number-again text [] number h.read tt)
 
 pub strict_left : (text rest : List ℕ) (number other : ℕ) → read_number text ≡ Ok (other, rest) → 1 ≤ length rest
     → IsStrictNumber text number → ⊥

@@ -11,7 +11,6 @@ use Rattle.semver_versions.specs.Reading.{prefix_of, rest_of}
 use Rattle.semver_versions.specs.Private.StrictViews.{IsStrictUpTo, IsUnstrictFrom, are_strict, is_inner, is_listed}
 use Rattle.semver_versions.specs.Private.StrictViews.{is_strict, strict_offset}
 use Rattle.semver_versions.specs.declared.parse.strict.Part.{Part}
-use Rattle.semver_versions.specs.declared.parse.strict.Part.TheVariants.{Identifier, Number}
 use Rattle.semver_versions.specs.Lemmas.Texts.Prefixes.{prefix_of-rest_of}
 
 -- of a list of parts, the characters of one part
@@ -73,12 +72,7 @@ passed-one test part parts passes = grind (arith, length-append)
 pub part-length : (test : ℕ → Bool) (text : List ℕ) (mark : ℕ) (next : List ℕ) → rest_of test text ≡ mark ∷ next
     → length text ≡ length (prefix_of test text) + 1 + length next
 part-length test text mark next e =
-    omega (
-      arith,
-      ap length (prefix_of-rest_of test text),
-      length-append (prefix_of test text) (rest_of test text),
-      ap length e,
-    )
+    grind (arith, prefix_of-rest_of test text, length-append (prefix_of test text) (rest_of test text))
 
 -- ---- from part to part
 
@@ -90,13 +84,11 @@ pub record IsReached (part : Part) (text rest : List ℕ) : Type 0 where
   pub offset : strict_offset part text ≡ (length text - length rest) + strict_offset part rest
 
 pub reached-start : (part : Part) (text : List ℕ) → IsReached part text text
-reached-start part text =
-    record { within = omega arith; strict = refl; follows = refl; offset = omega arith }
+reached-start part text = grind arith
 
 -- a dot belongs to the text of the parts
 dot-listed : (part : Part) → is_listed part dot ≡ true
-dot-listed Number = refl
-dot-listed Identifier = refl
+dot-listed part = grind arith
 
 module _ (part : Part) (text rest first others : List ℕ) (reached : IsReached part text rest)
     (first_is : first ≡ prefix_of (is_inner part) rest) (others_is : others ≡ rest_of (is_inner part) rest) where

@@ -1,5 +1,5 @@
 -- The numbers and the prerelease of a strict text, as its reader finds them.
-use Rattle.std.proofs.Common.{◌≡◌, ◌+◌, ◌-◌, ◌≤◌, ℕ, Bool, false, List, [], ◌∷◌, length, refl, sym, ap, ◌∙◌}
+use Rattle.std.proofs.Common.{◌≡◌, ◌+◌, ◌-◌, ◌≤◌, ℕ, Bool, List, [], ◌∷◌, length, refl, sym, ap, ◌∙◌}
 use Rattle.std.proofs.Common.{inl, inr, arith, drop, subst, suc, take}
 use Rattle.std.proofs.lemmas.Bool.{cases_Bool}
 use Rattle.std.specs.Prelude.{◌==◌, not}
@@ -31,23 +31,19 @@ taken test (b ∷ text) = elim (cases_Bool (test b)) [
 abbrev behind : List ℕ → List ℕ
 behind text = drop (prefix_len (λ b. not (b == hyphen)) text + 1) text
 
--- one character more, which is no hyphen
-behind-other : (b : ℕ) (text : List ℕ) → (b == hyphen) ≡ false → behind (b ∷ text) ≡ behind text
-behind-other b text other = grind arith
-
 -- the identifiers after the hyphen
 behind-hyphen : (text identifiers : List ℕ) → rest_of (is_listed Number) text ≡ hyphen ∷ identifiers
     → behind (prefix_of (is_listed Identifier) text) ≡ prefix_of (is_listed Identifier) identifiers
 unfolding prefix_of rest_of
 behind-hyphen [] identifiers e = cc e
-behind-hyphen (b ∷ text) identifiers e = grind (arith, behind-hyphen text identifiers, behind-other)
+behind-hyphen (b ∷ text) identifiers e = grind (arith, behind-hyphen text identifiers)
 
 -- nothing, if there is no hyphen before the build
 behind-none : (text : List ℕ) → BeginsWithNo (λ b. b == hyphen) (rest_of (is_listed Number) text)
     → behind (prefix_of (is_listed Identifier) text) ≡ []
 unfolding prefix_of rest_of
 behind-none [] none = refl
-behind-none (b ∷ text) none = grind (arith, behind-none text, behind-other)
+behind-none (b ∷ text) none = grind (arith, behind-none text)
 
 -- the numbers
 numbers-are : (text : List ℕ) → numbers_text text ≡ prefix_of (is_listed Number) text
@@ -68,22 +64,12 @@ prerelease-none text none = ap behind (taken (is_listed Identifier) text) ∙ be
 -- all numbers, and no prerelease after a hyphen
 pub strict-numbers : (text rest : List ℕ) → IsStrictUpTo Number text rest → BeginsWithNo (λ b. b == hyphen) rest
     → IsStrictlyWritten text
-strict-numbers text rest h none =
-    record {
-      numbers = ap (λ (l : List ℕ). list_all is_strict_number (parts_of l)) (numbers-are text) ∙ h.strict;
-      identifiers = ap (λ (l : List ℕ). list_all is_strict_identifier (parts_of l))
-          (prerelease-none text (subst (BeginsWithNo (λ b. b == hyphen)) h.follows none));
-    }
+strict-numbers text rest h none = grind (arith, numbers-are, prerelease-none)
 
 -- all numbers and all identifiers
 pub strict-all : (text rest identifiers others : List ℕ) → IsStrictUpTo Number text rest → rest ≡ hyphen ∷ identifiers
     → IsStrictUpTo Identifier identifiers others → IsStrictlyWritten text
-strict-all text rest identifiers others h e g =
-    record {
-      numbers = ap (λ (l : List ℕ). list_all is_strict_number (parts_of l)) (numbers-are text) ∙ h.strict;
-      identifiers = ap (λ (l : List ℕ). list_all is_strict_identifier (parts_of l))
-          (prerelease-hyphen text identifiers (sym h.follows ∙ e)) ∙ g.strict;
-    }
+strict-all text rest identifiers others h e g = grind (arith, numbers-are, prerelease-hyphen)
 
 -- a number that is not strictly written
 pub unstrict-number : (text : List ℕ) (left : ℕ) → IsUnstrictFrom Number text left
@@ -96,8 +82,7 @@ unstrict-number text left h =
 -- an identifier that is not
 pub unstrict-within : (text rest identifiers : List ℕ) (left : ℕ) → IsStrictUpTo Number text rest
     → rest ≡ hyphen ∷ identifiers → IsUnstrictFrom Identifier identifiers left → left ≤ length text
-unstrict-within text rest identifiers left h e g =
-    omega (arith, g.within, part-length (is_listed Number) text hyphen identifiers (sym h.follows ∙ e))
+unstrict-within text rest identifiers left h e g = grind (arith, part-length)
 
 pub unstrict-identifier : (text rest identifiers : List ℕ) (left : ℕ) → IsStrictUpTo Number text rest
     → rest ≡ hyphen ∷ identifiers → IsUnstrictFrom Identifier identifiers left
@@ -114,17 +99,13 @@ unstrict-identifier text rest identifiers left h e g =
 
 -- what has such a place is not strictly written
 pub unstrict-not : (text : List ℕ) (offset : ℕ) → IsUnstrictAt text offset → ¬ IsStrictlyWritten text
-unstrict-not text offset (number fails) s = cc (sym fails ∙ s.numbers)
-unstrict-not text offset (identifier numbers fails) s = cc (sym fails ∙ s.identifiers)
+unstrict-not text offset h3 s = grind arith
 
 -- ---- one fault
 
 -- a text has one such place at most
 one-place : (text : List ℕ) (m n : ℕ) → IsUnstrictAt text m → IsUnstrictAt text n → m ≡ n
-one-place text m n (number fails) (number again) = refl
-one-place text m n (number fails) (identifier numbers again) = cc (sym fails ∙ numbers)
-one-place text m n (identifier numbers fails) (number again) = cc (sym again ∙ numbers)
-one-place text m n (identifier numbers fails) (identifier others again) = refl
+one-place text m n h4 h5 = grind arith
 
 -- and one strict fault
 pub one_strict_fault : (text : List ℕ) → HasOneStrictFault text

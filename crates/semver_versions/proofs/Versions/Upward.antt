@@ -1,8 +1,8 @@
 -- A bumped version is above the version, but after `pre`, and after `prerelease` with an identifier.
-use Rattle.std.proofs.Common.{◌≡◌, ◌≢◌, ◌+◌, List, [], ◌∷◌, ◌++◌, ◌∙◌, Option, Some, None, arith, inl, inr, refl, sym}
+use Rattle.std.proofs.Common.{◌≡◌, ◌≢◌, ◌+◌, List, [], ◌∷◌, ◌++◌, Option, Some, None, arith, inl, inr, refl, sym}
 use Rattle.semver_versions.specs.Bump.{IsBumped, IsNextOf, IsUpward}
 use Rattle.semver_versions.specs.IdentifierValue.{IdentifierValue}
-use Rattle.semver_versions.specs.Order.{IsBelow, IsIdentifierBelow, IsListBelow, before_release}
+use Rattle.semver_versions.specs.Order.{IsBelow, IsIdentifierBelow, IsListBelow}
 use Rattle.semver_versions.specs.Order.{by_major, by_minor, by_patch}
 use Rattle.semver_versions.specs.Triple.{triple_of}
 use Rattle.semver_versions.specs.Version.{HasSameTriple, IsPrerelease, VersionValue}
@@ -27,24 +27,16 @@ some-append : {A : Type 0} (before : List A) (x : A) (after : List A) → before
 some-append [] x after same = cc same
 some-append (y ∷ before) x after same = cc same
 
--- what is above a list is not empty
-below-some : (one other : List IdentifierValue) → IsListBelow IsIdentifierBelow one other → other ≢ []
-below-some one other below none = grind (arith, some-append)
-
 -- ---- by the kinds of bump
 
 -- the next prerelease of a prerelease
 pub next-above : (base : IdentifierBase) (v w : VersionValue) → HasSameTriple v w → IsPrerelease v
     → IsNextOf None base v.pre_release w.pre_release → IsBelow v w
-next-above base v w triple pre next = grind (arith, next-below, below-some)
+next-above base v w triple pre next = grind (arith, next-below, some-append)
 
 same-triple : (v w : VersionValue) → (triple_of w).major ≡ v.major → (triple_of w).minor ≡ v.minor
     → (triple_of w).patch ≡ v.patch → HasSameTriple v w
 same-triple v w major minor patch = record { major = sym major; minor = sym minor; patch = sym patch }
-
--- its release
-released : (v w : VersionValue) → HasSameTriple v w → IsPrerelease v → w.pre_release ≡ [] → IsBelow v w
-released v w triple pre none = before_release triple pre (λ some. some none)
 
 next-major : (v w : VersionValue) → w.major ≡ v.major + 1 → IsBelow v w
 next-major v w major = by_major (omega (arith, major))
@@ -57,20 +49,9 @@ next-patch v w major minor patch = by_patch (sym major) (sym minor) (omega (arit
 
 pub above-version : (bump : Bump) (identifier : Option IdentifierValue) (base : IdentifierBase) (v w : VersionValue)
     → IsUpward bump identifier → IsBumped bump identifier base v w → IsBelow v w
-above-version Major identifier base v w up bumped = elim bumped.triple [
-  | inl before ↦ released v w (same-triple v w before.1.0 (before.1.1 ∙ sym before.0.1) (before.1.2 ∙ sym before.0.2))
-      before.0.0 bumped.pre_release
-  | inr next ↦ next-major v w next.1.0
-]
-above-version Minor identifier base v w up bumped = elim bumped.triple [
-  | inl before ↦ released v w (same-triple v w before.1.0 before.1.1 (before.1.2 ∙ sym before.0.1)) before.0.0
-      bumped.pre_release
-  | inr next ↦ next-minor v w next.1.0 next.1.1
-]
-above-version Patch identifier base v w up bumped = elim bumped.triple [
-  | inl before ↦ released v w (same-triple v w before.1.0 before.1.1 before.1.2) before.0 bumped.pre_release
-  | inr next ↦ next-patch v w next.1.0 next.1.1 next.1.2
-]
+above-version Major identifier base v w up bumped = grind (arith, same-triple, next-major)
+above-version Minor identifier base v w up bumped = grind (arith, same-triple, next-minor)
+above-version Patch identifier base v w up bumped = grind (arith, same-triple, next-patch)
 above-version PreMajor identifier base v w up bumped = next-major v w bumped.triple.0
 above-version PreMinor identifier base v w up bumped = next-minor v w bumped.triple.0 bumped.triple.1
 above-version PrePatch identifier base v w up bumped = next-patch v w bumped.triple.0 bumped.triple.1 bumped.triple.2

@@ -1,4 +1,5 @@
 -- The result of parsing a version text: the version that it writes, or its fault.
+use native.Mathlib.Omega.{arith}
 use Rattle.std.proofs.Common.{◌≡◌, ◌≤◌, ◌⊎◌, ℕ, List, length, Ok, Err, inl, inr}
 use Rattle.std.specs.Prelude.{IfErr, IfOk, Result}
 use Rattle.semver_versions.specs.Print.{version_text}
@@ -26,13 +27,11 @@ only-answer text (Err e) found (inr (kind, offset, fault, refusal)) v h = absurd
 -- its print is read as it
 pub answer-reads_back : (text : List ℕ) (answer : Result VersionValue SemverError)
     → IfOk answer (λ v. IsVersionText text v) → IfOk answer VersionReadsBack
-answer-reads_back text (Ok w) found = version-reads_back text w found
-answer-reads_back text (Err e) found = found
+answer-reads_back text answer found = grind (arith, version-reads_back)
 
 -- and a text that is a print is read as the version
 pub answer-printed : (text : List ℕ) (answer : Result VersionValue SemverError)
     → IfOk answer (λ v. IsVersionText text v)
     → IfErr answer (λ e. IsOutOfMemory e ⊎ IsFaultOf text e) → (v : VersionValue) → HasText v → version_text v ≡ text
     → length text ≤ MAX_LENGTH → IsReadAs v answer
-answer-printed text answer found fault v has print short =
-    only-answer text answer found fault v (version-print_read text v has print short)
+answer-printed text answer found fault v has print short = grind (arith, only-answer, version-print_read)

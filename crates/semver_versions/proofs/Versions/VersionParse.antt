@@ -1,10 +1,10 @@
 -- What a reader at the start of a text says of the whole text.
-use Rattle.std.proofs.Common.{◌≡◌, ◌-◌, ◌<◌, ◌≤◌, ℕ, List, [], ◌∷◌, length, Ok, Err, refl, ◌∙◌}
+use Rattle.std.proofs.Math.Seq.{drop-append_seam}
+use Rattle.std.proofs.Common.{◌≡◌, ◌-◌, ◌<◌, ◌≤◌, ℕ, List, [], ◌∷◌, length, Ok, refl, ◌∙◌}
 use Rattle.std.proofs.Common.{arith, take, drop}
 use Rattle.std.proofs.lemmas.List.{take_rest}
 use Rattle.std.specs.Borrow.{Bor}
-use Rattle.std.proofs.lemmas.Bool.{cond-false, cond-true}
-use Rattle.std.specs.Prelude.{IfErr, Result, codes}
+use Rattle.std.specs.Prelude.{IfErr, Result}
 use Rattle.semver_versions.specs.Lemmas.Texts.Prefixes.{begins-append}
 use Rattle.semver_versions.specs.declared.TheConstants.{MAX_LENGTH}
 use Rattle.semver_versions.specs.Characters.{BeginsWith, is_digit}
@@ -19,17 +19,16 @@ use Rattle.semver_versions.specs.VersionText.{IsVersionText}
 use Rattle.semver_versions.specs.declared.parse.fault.Fault.{Fault}
 use Rattle.semver_versions.specs.Lemmas.Texts.ExtrasReading.{no_extras}
 use Rattle.semver_versions.specs.Lemmas.Versions.OneReading.{read-version}
-use Rattle.semver_versions.specs.Error.{Kind, context, max_int, max_length, other, parse_int}
-use Rattle.semver_versions.specs.Fault.{IsFault, large_number, left_over, no_number, no_dot, too_large, too_long}
+use Rattle.semver_versions.specs.Error.{Kind}
+use Rattle.semver_versions.specs.Fault.{IsFault, too_large}
 use Rattle.semver_versions.specs.Private.FaultViews.{IsReadFault}
-use Rattle.semver_versions.specs.Lemmas.Versions.FaultReading.{behind-there, fault-takes, left-takes}
+use Rattle.semver_versions.specs.Lemmas.Versions.FaultReading.{fault-takes, left-takes}
 
 -- the fault of a text whose triple was not read
 pub triple-fault : (text : List ℕ) (r : Result ((ℕ × ℕ × ℕ) × Bor (List ℕ)) Fault) → length text ≤ MAX_LENGTH
     → seen r ≡ read_marked_triple text → IfErr r (IsReadFault text)
 unfolding read_version read_unmarked
-triple-fault text (Ok x) short read = tt
-triple-fault text (Err f) short read = fault-takes text f short (rw (← read) refl)
+triple-fault text r short read = grind (arith, fault-takes)
 
 -- the version of the triple and of what follows it
 begun-version : (text rest : List ℕ) (triple : ℕ × ℕ × ℕ) → IsBegun text triple rest
@@ -56,25 +55,12 @@ begun-release text (b ∷ rest) triple begun none = absurd (omega arith)
 pub begun-left : (text rest left : List ℕ) (triple : ℕ × ℕ × ℕ) → IsBegun text triple rest
     → left ≡ (read_extras rest).1 → 1 ≤ length left → IsReadFault text (LeftOver (length left))
 begun-left text rest [] triple begun end some = absurd (omega arith)
-begun-left text rest (b ∷ left) triple begun end some =
-    left-takes text (version_of triple (read_extras rest).0) b left begun.short
-    (begun-version text rest triple begun ∙ rw (← end) refl)
-
--- a kind of fault that is not one of a number
-no-large : (kind : Kind) (n : ℕ) → ((m : ℕ) → kind ≡ max_int m → ⊥) → (kind ≡ parse_int → ⊥) → kind ≡ too_large n → ⊥
-no-large kind n ints parses same = grind (arith, cond-true, cond-false)
+begun-left text rest (b ∷ left) triple begun end some = grind (arith, left-takes, begun-version text rest triple begun)
 
 -- the fault of a number that is too large is where that number begins
 large-here : (text : List ℕ) (kind : Kind) (offset n : ℕ) → IsFault text kind offset → kind ≡ too_large n
     → BeginsWith is_digit (drop offset text)
-large-here text _ _ n (too_long long) same = absurd (no-large max_length n (λ m e. cc e) (λ e. cc e) same)
-large-here text _ _ n (no_number beginning rest count short before none) same =
-    absurd (no-large (context (codes "version")) n (λ m e. cc e) (λ e. cc e) same)
-large-here text _ _ n (large_number beginning digits rest count short before all large) same = grind (arith, behind-there, begins-append)
-large-here text _ _ n (no_dot beginning digits rest count short before few all small none) same =
-    absurd (no-large (context (codes "version")) n (λ m e. cc e) (λ e. cc e) same)
-large-here text _ _ n (left_over beginning v b rest short whole digit read longest) same =
-    absurd (no-large other n (λ m e. cc e) (λ e. cc e) same)
+large-here text kind offset n h5 same = grind (arith, begins-append, drop-append_seam)
 
 pub large-refused : (text : List ℕ) (left : ℕ) → IsReadFault text (TooLarge left)
     → BeginsWith is_digit (take (length text - (length text - left)) (drop (length text - left) text))

@@ -18,9 +18,7 @@ pub identifier_alike : (a b : IdentifierValue) → eq_by_cmp identifier_cmp a b 
 identifier_alike a b e = ap identifier_writes (identifier-IsAntisymmetric a b ((Equal-is (identifier_cmp a b)).0 e))
 
 pub version_alike : (v w : VersionValue) → eq_by_cmp version_cmp v w ≡ true → version_writes v ≡ version_writes w
-version_alike v w e = let s = Equal-version v w ((Equal-is (version_cmp v w)).0 e) in
-    λ i. fed.u64 (s.triple.major i) ++ fed.u64 (s.triple.minor i) ++ fed.u64 (s.triple.patch i)
-    ++ fed.slice identifier_writes (s.pre_release i)
+version_alike v w e = grind (arith, Equal-version, Equal-is)
 
 -- the identifiers of a version, one by one
 pub version_writes-fields : (major minor patch : ℕ) (identifiers : List Identifier) (build : List IdentifierValue)

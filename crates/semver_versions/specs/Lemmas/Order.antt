@@ -2,7 +2,7 @@
 use Rattle.std.proofs.Common.{arith}
 use Rattle.std.proofs.Common.{◌≡◌, ◌≢◌, ◌<◌, ◌↔◌, ◌⊎◌, ℕ, List, [], ◌∷◌, ◌++◌, refl}
 use Rattle.std.proofs.Common.{sym, ap, subst, ◌∙◌, inl, inr, Bool, IsTrue, ◌==◌, ◌&&◌}
-use Rattle.std.specs.Ordering.{eq_by_cmp, nat_cmp, on, then_cmp, ordering_then, ordering_reverse}
+use Rattle.std.specs.Ordering.{eq_by_cmp, nat_cmp, on, then_cmp, ordering_then}
 use Rattle.std.specs.Cmp.{Equal-is, IsTotalOrder, nat_cmp_is, nat_cmp_total, on_total, then_total, tied_itself}
 use Rattle.std.specs.Cmp.{tied_then, unsigned_ties}
 use Rattle.std.specs.Cmp.Lexicographic.{slice_cmp, lists_total, nat_list_cmp_total}
@@ -10,7 +10,6 @@ use Rattle.std.specs.FinMap.{IsAntisymmetric, nat_cmp-IsAntisymmetric, slice_cmp
 use Rattle.std.proofs.lemmas.Cmp.{ranked}
 use Rattle.std.specs.declared.cmp.Ordering.{Ordering}
 use Rattle.std.specs.declared.cmp.Ordering.TheVariants.{Less, Equal, Greater}
-use Rattle.semver_cuts.specs.Lemmas.CutOrder.{then_equal}
 use Rattle.semver_versions.specs.IdentifierValue.{IdentifierValue, numeric, alphanumeric}
 use Rattle.semver_versions.specs.Version.{VersionValue, HasSameTriple}
 use Rattle.semver_versions.specs.Order.{IsListBelow, IsIdentifierBelow, IsBelow, by_major, by_minor, by_patch}
@@ -38,10 +37,7 @@ abbrev identifier_by_parts : IdentifierValue → IdentifierValue → Ordering
 identifier_by_parts = then_cmp (on class nat_cmp) (then_cmp (on number nat_cmp) (on text (slice_cmp nat_cmp)))
 
 by_parts : (a b : IdentifierValue) → identifier_by_parts a b ≡ identifier_cmp a b
-by_parts (numeric m) (numeric n) = then_equal (nat_cmp m n)
-by_parts (numeric m) (alphanumeric t) = refl
-by_parts (alphanumeric s) (numeric n) = refl
-by_parts (alphanumeric s) (alphanumeric t) = refl
+by_parts a b = grind arith
 
 pub identifier_total : IsTotalOrder identifier_cmp
 identifier_total = subst IsTotalOrder (λ i a b. by_parts a b i)
@@ -55,10 +51,7 @@ rank (x ∷ xs) = 0
 
 by_rank : (xs ys : List IdentifierValue)
     → then_cmp (on rank nat_cmp) (slice_cmp identifier_cmp) xs ys ≡ prerelease_cmp xs ys
-by_rank [] [] = refl
-by_rank [] (y ∷ ys) = refl
-by_rank (x ∷ xs) [] = refl
-by_rank (x ∷ xs) (y ∷ ys) = refl
+by_rank xs ys = grind arith
 
 pub prerelease_total : IsTotalOrder prerelease_cmp
 prerelease_total = subst IsTotalOrder (λ i xs ys. by_rank xs ys i)
@@ -80,35 +73,23 @@ version_total = then_total (on_total (λ (v : VersionValue). v.major) nat_cmp_to
 -- greater is less the other way round
 pub Greater-turned : {K : Type 0} {R : K → K → Ordering} → IsTotalOrder R → (x y : K)
     → (R x y ≡ Greater) ↔ (R y x ≡ Less)
-Greater-turned {R = R} o x y =
-    (λ e. by_reverse (R y x) (sym e ∙ o.antisymm x y), λ e. o.antisymm x y ∙ ap ordering_reverse e)
-  where
-    by_reverse : (r : Ordering) → Greater ≡ ordering_reverse r → r ≡ Less
-    by_reverse Less e = refl
-    by_reverse Equal e = cc e
-    by_reverse Greater e = cc e
+Greater-turned {R = R} o x y = grind arith
 
 -- the first decides, unless it is `Equal`
 pub then-Less : (r s : Ordering) → r ≡ Less → ordering_then r s ≡ Less
 then-Less r s e = ap (λ k. ordering_then k s) e
 
 pub then-cases : (r s : Ordering) → ordering_then r s ≡ Less → (r ≡ Less) ⊎ ((r ≡ Equal) × (s ≡ Less))
-then-cases Less s e = inl refl
-then-cases Equal s e = inr (refl, e)
-then-cases Greater s e = cc e
+then-cases r s e = grind arith
 
 pub then-tied : (r s : Ordering) → r ≡ Equal → ordering_then r s ≡ s
 then-tied r s e = ap (λ k. ordering_then k s) e
 
 pub then-first : (r s : Ordering) → ordering_then r s ≡ Equal → r ≡ Equal
-then-first Less s e = cc e
-then-first Equal s e = refl
-then-first Greater s e = cc e
+then-first r s e = grind arith
 
 pub then-second : (r s : Ordering) → ordering_then r s ≡ Equal → s ≡ Equal
-then-second Less s e = cc e
-then-second Equal s e = e
-then-second Greater s e = cc e
+then-second r s e = grind arith
 
 -- ---- lists
 
@@ -183,39 +164,19 @@ number-Less : (m n : ℕ) → m < n → nat_cmp m n ≡ Less
 number-Less m n h = sym (nat_cmp_is m n Less h)
 
 pub Less-identifier : (a b : IdentifierValue) → identifier_cmp a b ≡ Less → IsIdentifierBelow a b
-Less-identifier (numeric m) (numeric n) e = Less-number m n e
-Less-identifier (numeric m) (alphanumeric t) e = tt
-Less-identifier (alphanumeric s) (numeric n) e = cc e
-Less-identifier (alphanumeric s) (alphanumeric t) e =
-    Less-list nat_cmp (λ x y. x < y) Less-number nat_cmp-IsAntisymmetric s t e
+Less-identifier a b e = grind (arith, Less-list nat_cmp (λ x y. x < y) Less-number nat_cmp-IsAntisymmetric)
 
 pub identifier-Less : (a b : IdentifierValue) → IsIdentifierBelow a b → identifier_cmp a b ≡ Less
-identifier-Less (numeric m) (numeric n) h = number-Less m n h
-identifier-Less (numeric m) (alphanumeric t) h = refl
-identifier-Less (alphanumeric s) (numeric n) h = absurd h
-identifier-Less (alphanumeric s) (alphanumeric t) h = list-Less nat_cmp nat_cmp_total (λ x y. x < y) number-Less s t h
+identifier-Less a b h = grind (arith, list-Less nat_cmp nat_cmp_total (λ x y. x < y) number-Less)
 
 -- identifiers that tie are the same
 pub identifier-IsAntisymmetric : IsAntisymmetric identifier_cmp
-identifier-IsAntisymmetric (numeric m) (numeric n) e = ap numeric (nat_cmp-IsAntisymmetric m n e)
-identifier-IsAntisymmetric (numeric m) (alphanumeric t) e = cc e
-identifier-IsAntisymmetric (alphanumeric s) (numeric n) e = cc e
-identifier-IsAntisymmetric (alphanumeric s) (alphanumeric t) e =
-    ap alphanumeric (slice_cmp-IsAntisymmetric nat_cmp-IsAntisymmetric s t e)
+identifier-IsAntisymmetric h1 h2 e = grind (arith, nat_cmp-IsAntisymmetric, slice_cmp-IsAntisymmetric)
 
 -- `identifier_cmp` agrees with the relations
 pub identifier_cmp-means : (a b : IdentifierValue) → IdentifierOrderMeans a b (identifier_cmp a b)
-identifier_cmp-means a b = record {
-  below = (Less-identifier a b, identifier-Less a b);
-  same = (
-    identifier-IsAntisymmetric a b,
-    λ e. subst (λ c. identifier_cmp a c ≡ Equal) e (tied_itself identifier_total a),
-  );
-  above = (
-    λ e. Less-identifier b a ((Greater-turned identifier_total a b).0 e),
-    λ h. (Greater-turned identifier_total a b).1 (identifier-Less b a h),
-  );
-}
+identifier_cmp-means a b =
+    grind (arith, Less-identifier, identifier-Less, identifier-IsAntisymmetric, Greater-turned identifier_total a b)
 
 -- the same for the result of a function
 pub identifier_order : (a b : IdentifierValue) (r : Ordering) → r ≡ identifier_cmp a b → IdentifierOrderMeans a b r
@@ -228,89 +189,44 @@ identifier_same a b r e = grind (arith, identifier_cmp-means)
 
 -- prerelease lists that tie are the same
 pub prerelease-IsAntisymmetric : IsAntisymmetric prerelease_cmp
-prerelease-IsAntisymmetric [] [] e = refl
-prerelease-IsAntisymmetric [] (y ∷ ys) e = cc e
-prerelease-IsAntisymmetric (x ∷ xs) [] e = cc e
-prerelease-IsAntisymmetric (x ∷ xs) (y ∷ ys) e =
-    slice_cmp-IsAntisymmetric identifier-IsAntisymmetric (x ∷ xs) (y ∷ ys) e
+prerelease-IsAntisymmetric h1 h2 e = grind (arith, slice_cmp-IsAntisymmetric, identifier-IsAntisymmetric)
 
 -- two prereleases are ordered by their lists
 both-prereleases : (xs ys : List IdentifierValue) → xs ≢ [] → ys ≢ []
     → prerelease_cmp xs ys ≡ slice_cmp identifier_cmp xs ys
-both-prereleases [] ys n m = absurd (n refl)
-both-prereleases (x ∷ xs) [] n m = absurd (m refl)
-both-prereleases (x ∷ xs) (y ∷ ys) n m = refl
+both-prereleases xs ys n m = grind arith
 
 prerelease-release : (xs ys : List IdentifierValue) → xs ≢ [] → ¬ (ys ≢ []) → prerelease_cmp xs ys ≡ Less
-prerelease-release [] ys n m = absurd (n refl)
-prerelease-release (x ∷ xs) [] n m = refl
-prerelease-release (x ∷ xs) (y ∷ ys) n m = absurd (m (λ e. cc e))
+prerelease-release xs ys n m = grind arith
 
 Less-prereleases : (v w : VersionValue) → HasSameTriple v w → (xs ys : List IdentifierValue) → v.pre_release ≡ xs
     → w.pre_release ≡ ys
     → prerelease_cmp xs ys ≡ Less → IsBelow v w
-Less-prereleases v w t [] [] p q e = cc e
-Less-prereleases v w t [] (y ∷ ys) p q e = cc e
-Less-prereleases v w t (x ∷ xs) [] p q e = before_release t (λ n. cc (p, n)) (λ k. k q)
-Less-prereleases v w t (x ∷ xs) (y ∷ ys) p q e = by_identifiers t (λ n. cc (p, n)) (λ n. cc (q, n))
-    (Less-list identifier_cmp IsIdentifierBelow Less-identifier identifier-IsAntisymmetric v.pre_release w.pre_release
-    ((λ i. slice_cmp identifier_cmp (p i) (q i)) ∙ e))
+Less-prereleases v w t xs ys p q e = grind (
+  arith,
+  before_release,
+  by_identifiers,
+  Less-list identifier_cmp IsIdentifierBelow Less-identifier identifier-IsAntisymmetric,
+)
 
 pub Less-version : (v w : VersionValue) → version_cmp v w ≡ Less → IsBelow v w
-Less-version v w e = elim (then-cases (nat_cmp v.major w.major) _ e) [
-  | inl less ↦ by_major (Less-number _ _ less)
-  | inr minors ↦
-      let major = nat_cmp-IsAntisymmetric v.major w.major minors.0 in
-      elim (then-cases (nat_cmp v.minor w.minor) _ minors.1) [
-        | inl less ↦ by_minor major (Less-number _ _ less)
-        | inr patches ↦
-            let minor = nat_cmp-IsAntisymmetric v.minor w.minor patches.0 in
-            elim (then-cases (nat_cmp v.patch w.patch) _ patches.1) [
-              | inl less ↦ by_patch major minor (Less-number _ _ less)
-              | inr lists ↦ Less-prereleases v w (record {
-                major = major;
-                minor = minor;
-                patch = nat_cmp-IsAntisymmetric v.patch w.patch lists.0;
-              }) v.pre_release w.pre_release refl refl lists.1
-            ]
-      ]
-]
-
--- equal numbers tie
-number-tied : (m n : ℕ) → m ≡ n → nat_cmp m n ≡ Equal
-number-tied m n e = sym (nat_cmp_is m n Equal e)
+Less-version v w e = grind (arith, then-cases, Less-number, nat_cmp-IsAntisymmetric, Less-prereleases)
 
 -- if the triples are equal, the prereleases decide
 same-triple : (v w : VersionValue) → HasSameTriple v w → version_cmp v w ≡ prerelease_cmp v.pre_release w.pre_release
-same-triple v w t = then-tied _ _ (number-tied v.major w.major t.major)
-    ∙ then-tied _ _ (number-tied v.minor w.minor t.minor)
-    ∙ then-tied _ _ (number-tied v.patch w.patch t.patch)
+same-triple v w t = grind arith
 
 pub version-Less : (v w : VersionValue) → IsBelow v w → version_cmp v w ≡ Less
 version-Less v w (by_major h) = then-Less _ _ (number-Less v.major w.major h)
-version-Less v w (by_minor a h) = then-tied _ _ (number-tied v.major w.major a)
-    ∙ then-Less _ _ (number-Less v.minor w.minor h)
-version-Less v w (by_patch a b h) = then-tied _ _ (number-tied v.major w.major a)
-    ∙ then-tied _ _ (number-tied v.minor w.minor b)
-    ∙ then-Less _ _ (number-Less v.patch w.patch h)
+version-Less v w (by_minor a h) = grind (arith, then-tied, then-Less, number-Less)
+version-Less v w (by_patch a b h) = grind (arith, then-tied, then-Less, number-Less)
 version-Less v w (before_release t n m) = same-triple v w t ∙ prerelease-release v.pre_release w.pre_release n m
 version-Less v w (by_identifiers t n m h) = same-triple v w t ∙ both-prereleases v.pre_release w.pre_release n m
     ∙ list-Less identifier_cmp identifier_total IsIdentifierBelow identifier-Less v.pre_release w.pre_release h
 
 -- versions that tie are the same, but for the build
 pub Equal-version : (v w : VersionValue) → version_cmp v w ≡ Equal → IsSame v w
-Equal-version v w e =
-    let e2 = then-second (nat_cmp v.major w.major) _ e in
-    let e3 = then-second (nat_cmp v.minor w.minor) _ e2 in
-    let e4 = then-second (nat_cmp v.patch w.patch) _ e3 in
-    record {
-      triple = record {
-        major = nat_cmp-IsAntisymmetric v.major w.major (then-first _ _ e);
-        minor = nat_cmp-IsAntisymmetric v.minor w.minor (then-first _ _ e2);
-        patch = nat_cmp-IsAntisymmetric v.patch w.patch (then-first _ _ e3);
-      };
-      pre_release = prerelease-IsAntisymmetric v.pre_release w.pre_release e4;
-    }
+Equal-version v w e = grind (arith, then-second, nat_cmp-IsAntisymmetric, then-first, prerelease-IsAntisymmetric)
 
 pub version-Equal : (v w : VersionValue) → IsSame v w → version_cmp v w ≡ Equal
 version-Equal v w s = grind (arith, same-triple, tied_itself, prerelease_total)
@@ -331,10 +247,7 @@ pub version_order : (v w : VersionValue) (r : Ordering) → r ≡ version_cmp v 
 version_order v w r e = subst (OrderMeans v w) (sym e) (version_cmp-means v w)
 
 pub version_same : (v w : VersionValue) (r : Bool) → r ≡ eq_by_cmp version_cmp v w → IsTrue r ↔ IsSame v w
-version_same v w r e = (
-  λ t. Equal-version v w ((Equal-is (version_cmp v w)).0 (sym e ∙ t)),
-  λ s. e ∙ (Equal-is (version_cmp v w)).1 (version-Equal v w s),
-)
+version_same v w r e = grind (arith, Equal-version, Equal-is, version-Equal)
 
 -- ---- triples
 
@@ -343,27 +256,7 @@ pub triples_tie : (t u : Triple) → ((t.major == u.major) && ((t.minor == u.min
     ≡ eq_by_cmp triple_cmp t u
 triples_tie t u = grind (arith, unsigned_ties, tied_then)
 
--- versions are compared by their triples, and then by their prereleases
-pub by_triple : (v w : VersionValue)
-    → version_cmp v w ≡ ordering_then (triple_cmp (triple_of v) (triple_of w)) (prerelease_cmp v.pre_release w.pre_release)
-by_triple v w = by_numbers (nat_cmp v.major w.major) (nat_cmp v.minor w.minor) (nat_cmp v.patch w.patch)
-    (prerelease_cmp v.pre_release w.pre_release)
-  where
-    by_numbers : (r s t u : Ordering)
-        → ordering_then r (ordering_then s (ordering_then t u)) ≡ ordering_then (ordering_then r (ordering_then s t)) u
-    by_numbers Less s t u = refl
-    by_numbers Greater s t u = refl
-    by_numbers Equal Less t u = refl
-    by_numbers Equal Greater t u = refl
-    by_numbers Equal Equal t u = refl
-
 -- if the triples are not equal, their order is that of the versions
 pub triples_decide : (v w : VersionValue) (t : Ordering) → t ≡ triple_cmp (triple_of v) (triple_of w)
     → (t ≡ Equal → ⊥) → t ≡ version_cmp v w
-triples_decide v w t e apart =
-    subst (λ u. t ≡ ordering_then u (prerelease_cmp v.pre_release w.pre_release)) e (first t apart) ∙ sym (by_triple v w)
-  where
-    first : (r : Ordering) → (r ≡ Equal → ⊥) → r ≡ ordering_then r (prerelease_cmp v.pre_release w.pre_release)
-    first Less n = refl
-    first Equal n = absurd (n refl)
-    first Greater n = refl
+triples_decide v w t e apart = grind arith

@@ -1,5 +1,6 @@
 -- The text of identifiers, in the pieces in which it is written.
-use Rattle.std.proofs.Common.{◌≡◌, ℕ, List, [], ◌∷◌, ◌++◌, map, refl, ap, append-nil, flat_map}
+use native.Mathlib.Omega.{arith}
+use Rattle.std.proofs.Common.{◌≡◌, ℕ, List, [], ◌∷◌, ◌++◌, map, ap, append-nil, flat_map}
 use Rattle.std.specs.List.{join_with_byte}
 use Rattle.semver_versions.specs.Identifier.{value_of, values_of}
 use Rattle.semver_versions.specs.IdentifierValue.{IdentifierValue}
@@ -23,8 +24,7 @@ joined x (y ∷ ys) = ap (λ (l : List ℕ). identifier_text (value_of x) ++ (46
 
 -- after a mark of one byte
 pub led_text-marked : (mark : ℕ) (xs : List Identifier) → led_text (mark ∷ []) xs ≡ marked_text mark (values_of xs)
-led_text-marked mark [] = refl
-led_text-marked mark (x ∷ xs) = ap (λ (l : List ℕ). mark ∷ l) (joined x xs)
+led_text-marked mark xs = grind (arith, joined)
 
 -- the first identifier after the mark, and each other after a dot
 abbrev pub led_values : List ℕ → List IdentifierValue → List ℕ
@@ -37,5 +37,4 @@ joined-values x [] = append-nil (identifier_text x)
 joined-values x (y ∷ ys) = ap (λ (l : List ℕ). identifier_text x ++ (46 ∷ l)) (joined-values y ys)
 
 pub led_values-marked : (mark : ℕ) (xs : List IdentifierValue) → led_values (mark ∷ []) xs ≡ marked_text mark xs
-led_values-marked mark [] = refl
-led_values-marked mark (x ∷ xs) = ap (λ (l : List ℕ). mark ∷ l) (joined-values x xs)
+led_values-marked mark xs = grind (arith, joined-values)

@@ -1,3 +1,4 @@
+use Rattle.std.proofs.lemmas.Grind.{common_steps}
 use Rattle.std.proofs.Common.{arith, rules}
 use Rattle.std.proofs.lemmas.Fmt.{length-decimal-le}
 use Rattle.semver_versions.proofs.line.put_number.Goals as goal
@@ -8,6 +9,4 @@ write_digits-requires c =
 
 pub returns-clause-place : goal.returns-clause-place
 returns-clause-place c =
-    let short = length-decimal-le 20 c.args.n (omega arith) (omega arith) c.ranges.n.fits in
-    let start = c.write_digits.ensures.start in
-    (omega arith, omega arith)
+    grind (arith, common_steps, length-decimal-le 20 c.args.n (omega arith) (omega arith) c.ranges.n.fits)

@@ -1,4 +1,5 @@
-use Rattle.std.proofs.Common.{◌++◌, ◌∷◌, ◌<◌, ◌^◌, ◌∙◌, ◌-◌, ℕ, List, zero, suc, arith, sym, subst, ap, take, drop}
+use Rattle.std.proofs.lemmas.Grind.{common_steps}
+use Rattle.std.proofs.Common.{◌++◌, ◌∷◌, ◌<◌, ◌^◌, ◌-◌, ℕ, List, zero, suc, arith}
 use Rattle.std.proofs.lemmas.List.{take_rest}
 use Rattle.std.specs.Prelude.{IsAscii, IsUtf8, decimal}
 use Rattle.std.proofs.lemmas.Fmt.{IsAscii-decimal}
@@ -18,10 +19,9 @@ triple-utf8 major minor patch one two three =
     (dot-ascii _ (IsAscii-decimal patch three)))))
 
 pub from_utf8_unchecked-requires : goal.from_utf8_unchecked-requires
-from_utf8_unchecked-requires c =
-    let line = c.put_triple_last-start.new.line in
-    let start = c.put_triple_last-start.result in
-    let whole = ap (λ (n : ℕ). take (n - start) (drop start line)) (sym c.put_triple_last-start.array_long)
-    ∙ take_rest line start ∙ c.put_triple_last-start.ensures.text in
-    subst IsUtf8 (sym whole) (triple-utf8 c.args.major c.args.minor c.args.patch
-    c.ranges.major.fits c.ranges.minor.fits c.ranges.patch.fits)
+from_utf8_unchecked-requires c = grind (
+  arith,
+  common_steps,
+  take_rest,
+  triple-utf8 c.args.major c.args.minor c.args.patch c.ranges.major.fits c.ranges.minor.fits c.ranges.patch.fits,
+)

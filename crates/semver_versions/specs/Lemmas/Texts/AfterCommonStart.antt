@@ -1,22 +1,19 @@
 -- Two texts of identifiers after their common start: the order by an end, by a letter, and by the last digits of two
 -- numbers.
-use Rattle.std.proofs.Common.{◌≡◌, ◌<◌, ◌^◌, ℕ, true, false, List, [], ◌∷◌, ◌++◌, refl, sym, ap}
-use Rattle.std.proofs.Common.{◌∙◌, inl, inr, subst, append_assoc, arith}
-use Rattle.std.proofs.lemmas.Bool.{cases_Bool, cond-false, cond-true, eqb-true}
+use Rattle.std.proofs.Common.{◌≡◌, ◌<◌, ℕ, true, false, List, [], ◌∷◌, ◌++◌, refl, sym, ap}
+use Rattle.std.proofs.Common.{◌∙◌, subst, append_assoc, arith}
+use Rattle.std.proofs.lemmas.Bool.{cases_Bool, eqb-true}
 use Rattle.std.proofs.lemmas.Bool.Decides.{nat_tests}
 use Rattle.std.proofs.lemmas.List.{map-append}
-use Rattle.std.specs.Cmp.{nat_cmp_is, nat_cmp_total}
+use Rattle.std.specs.Cmp.{nat_cmp_total}
 use Rattle.std.specs.Cmp.Lexicographic.{slice_cmp}
-use Rattle.std.specs.List.{list_all}
 use Rattle.std.specs.Ordering.{nat_cmp, ordering_then}
-use Rattle.std.specs.Prelude.{◌==◌, ◌&&◌, nat_lt, map}
+use Rattle.std.specs.Prelude.{◌==◌, map}
 use Rattle.std.specs.declared.cmp.Ordering.{Ordering}
 use Rattle.std.specs.declared.cmp.Ordering.TheVariants.{Less}
 use Rattle.semver_versions.specs.Characters.{dot, is_digit}
 use Rattle.semver_versions.specs.Comparison.{identifier_cmp}
 use Rattle.semver_versions.specs.IdentifierText.{IsListed, identifier_of, parts_of, texts_of}
-use Rattle.semver_versions.specs.IdentifierValue.{IdentifierValue, alphanumeric, numeric}
-use Rattle.semver_versions.specs.NumberText.{number_of}
 use Rattle.semver_versions.specs.Private.CommonStarts.{ends, first_byte}
 use Rattle.semver_versions.specs.Lemmas.Order.{cmp-after, ends-Less, identifier_total}
 use Rattle.semver_versions.specs.Lemmas.Texts.IdentifierReading.{parts-dot, parts-other, parts-shape}
@@ -28,14 +25,13 @@ use Rattle.semver_versions.specs.Lemmas.Texts.FirstDifference.{not-digits, text-
 -- the first of two texts ends where the other goes on after a dot
 pub end-below : (common s : List ℕ) → texts_cmp common (common ++ (dot ∷ s)) ≡ Less
 end-below [] s = refl
-end-below (b ∷ common) s =
-    let r = parts-shape s in
-    ap (λ (l : List (List ℕ)). slice_cmp identifier_cmp (map identifier_of (parts_of (b ∷ common))) (map identifier_of l))
-    (texts-sides (b ∷ common) s ∙ ap (λ (l : List (List ℕ)). parts_of (b ∷ common) ++ l) r.2)
-    ∙ ap (slice_cmp identifier_cmp (map identifier_of (parts_of (b ∷ common))))
-    (map-append identifier_of (parts_of (b ∷ common)) (r.0 ∷ r.1))
-    ∙ ends-Less identifier_cmp identifier_total (map identifier_of (parts_of (b ∷ common))) (identifier_of r.0)
-    (map identifier_of r.1)
+end-below (b ∷ common) s = grind (
+  arith,
+  texts-sides (b ∷ common) s,
+  parts-shape s,
+  map-append identifier_of (parts_of (b ∷ common)),
+  ends-Less identifier_cmp identifier_total (map identifier_of (parts_of (b ∷ common))),
+)
 
 -- the first part of a text, whose first byte is below d
 record Low (text : List ℕ) (d : ℕ) : Type 0 where
@@ -46,37 +42,18 @@ record Low (text : List ℕ) (d : ℕ) : Type 0 where
 
 low : (text : List ℕ) (d : ℕ) → first_byte text < d → Low text d
 low [] d h = record { first = []; others = []; parts = refl; below = h }
-low (c ∷ r) d h = elim (cases_Bool (c == dot)) [
-  | inl here ↦ record { first = []; others = parts_of r; parts = parts-dot c r here; below = omega arith }
-  | inr other ↦
-      let f = parts-shape r in
-      record { first = c ∷ f.0; others = f.1; parts = parts-other c r f.0 f.1 other f.2; below = h }
-]
-
-texts-below : (f g : List ℕ) (d : ℕ) → first_byte f < d → slice_cmp nat_cmp f (d ∷ g) ≡ Less
-texts-below [] g d h = refl
-texts-below (c ∷ f) g d h =
-    ap (λ (o : Ordering). ordering_then o (slice_cmp nat_cmp f g)) (sym (nat_cmp_is c d Less h))
+low (c ∷ r) d h = grind (arith, cases_Bool (c == dot), parts-dot c r, parts-other c r, parts-shape r)
 
 -- an identifier with a letter is a text, which is greater than a number, and than a text with a lower byte there
 letter-above : (p f g : List ℕ) (d : ℕ) → is_digit d ≡ false → first_byte f < d
     → identifier_cmp (identifier_of (p ++ f)) (identifier_of (p ++ (d ∷ g))) ≡ Less
 letter-above p f g d none h =
-    ap (identifier_cmp (identifier_of (p ++ f))) (text-value (p ++ (d ∷ g)) (not-digits p g d none))
-    ∙ elim (cases_Bool (list_all is_digit (p ++ f) && nat_lt (number_of (p ++ f)) (2 ^ 64))) [
-      | inl number ↦ ap (λ (i : IdentifierValue). identifier_cmp i (alphanumeric (p ++ (d ∷ g))))
-          (cond-true _ (numeric (number_of (p ++ f))) (alphanumeric (p ++ f)) number)
-      | inr text ↦ ap (λ (i : IdentifierValue). identifier_cmp i (alphanumeric (p ++ (d ∷ g))))
-          (cond-false _ (numeric (number_of (p ++ f))) (alphanumeric (p ++ f)) text)
-          ∙ cmp-after nat_cmp nat_cmp_total p f (d ∷ g) ∙ texts-below f g d h
-    ]
+    grind (arith, text-value (p ++ (d ∷ g)) (not-digits p g d none), cmp-after nat_cmp nat_cmp_total p f (d ∷ g))
 
 -- the first parts decide
 parts-below : (t u f g : List ℕ) (fs gs : List (List ℕ)) → parts_of t ≡ f ∷ fs → texts_of u ≡ g ∷ gs
     → identifier_cmp (identifier_of f) (identifier_of g) ≡ Less → texts_cmp t u ≡ Less
-parts-below [] u f g fs gs first second below =
-    ap (λ (l : List (List ℕ)). slice_cmp identifier_cmp [] (map identifier_of l)) second
-parts-below (b ∷ t) u f g fs gs first second below = grind (arith, slice_cmp)
+parts-below t u f g fs gs first second below = grind arith
 
 not-dot : (d : ℕ) → 46 < d → (d == dot) ≡ false
 not-dot d h = grind (arith, eqb-true)
@@ -104,10 +81,7 @@ letter-order common one s d first second letter h =
 
 ends-shape : (r : List ℕ) → ends r ≡ true → (others : List (List ℕ)) × (parts_of r ≡ [] ∷ others)
 ends-shape [] end = ([], refl)
-ends-shape (b ∷ r) end = elim (cases_Bool (b == dot)) [
-  | inl here ↦ (parts_of r, parts-dot b r here)
-  | inr other ↦ cc (rw other at end)
-]
+ends-shape (b ∷ r) end = grind (arith, parts-dot b r)
 
 pub digits-order : (common r s : List ℕ) (c d : ℕ) → IsListed (common ++ (c ∷ r)) → IsListed (common ++ (d ∷ s))
     → is_digit c ≡ true → is_digit d ≡ true → ends r ≡ true → ends s ≡ true → (c == d) ≡ false

@@ -1,11 +1,11 @@
 -- Characters: those of a class one by one, which classes have none in common, and which are ASCII.
-use Rattle.std.proofs.Common.{◌≡◌, ◌<◌, ℕ, Bool, true, false, List, [], ◌∷◌, zero, suc, arith, refl, ap}
+use Rattle.std.proofs.Common.{◌≡◌, ◌<◌, ℕ, Bool, true, false, List, [], ◌∷◌, zero, suc, arith, refl}
 use Rattle.std.proofs.lemmas.Bool.{and_parts, eqb-true, or_cases}
 use Rattle.std.proofs.lemmas.Bool.Decides.{nat_tests}
 use Rattle.std.specs.Prelude.{◌==◌}
 use Rattle.std.specs.List.{list_all}
 use Rattle.std.specs.Str.{IsAscii}
-use Rattle.semver_versions.specs.Characters.{AreAll, BeginsWith, BeginsWithNo, dot, hyphen, is_blank, is_digit}
+use Rattle.semver_versions.specs.Characters.{AreAll, BeginsWith, BeginsWithNo, dot, is_blank, is_digit}
 use Rattle.semver_versions.specs.Characters.{is_identifier_character, is_partial_mark, is_version_mark, is_x}
 
 -- ---- the characters of a class
@@ -17,10 +17,6 @@ blank-cases P b h space tab = grind (arith, or_cases, eqb-true)
 -- what holds of each x holds of any
 pub x-cases : (P : ℕ → Type 0) (b : ℕ) → is_x b ≡ true → P 120 → P 88 → P 42 → P b
 x-cases P b h small large star = grind (arith, or_cases, eqb-true)
-
--- what holds of each mark of a version holds of any
-version_mark-cases : (P : ℕ → Type 0) (b : ℕ) → is_version_mark b ≡ true → P 118 → P 86 → P b
-version_mark-cases P b h small large = grind (arith, or_cases, eqb-true)
 
 -- ---- classes that have no character in common
 
@@ -34,35 +30,22 @@ x-no_digit b h = x-cases (λ (c : ℕ). is_digit c ≡ false) b h refl refl refl
 pub digit-no_x : (b : ℕ) → is_digit b ≡ true → is_x b ≡ false
 digit-no_x = apart is_digit is_x x-no_digit
 
-digit-not_blank : (b : ℕ) → is_digit b ≡ true → is_blank b ≡ false
-digit-not_blank =
-    apart is_digit is_blank (λ b blank. blank-cases (λ (c : ℕ). is_digit c ≡ false) b blank refl refl)
-
 pub digit-no_version_mark : (b : ℕ) → is_digit b ≡ true → is_version_mark b ≡ false
-digit-no_version_mark =
-    apart is_digit is_version_mark (λ b mark. version_mark-cases (λ (c : ℕ). is_digit c ≡ false) b mark refl refl)
+digit-no_version_mark = grind arith
 
 pub digit-no_partial_mark : (b : ℕ) → is_digit b ≡ true → is_partial_mark b ≡ false
-digit-no_partial_mark =
-    apart is_digit is_partial_mark (λ b mark. ap is_digit (eqb-true b 118 mark))
+digit-no_partial_mark = grind arith
 
 -- an identifier character is no dot
 pub character-no_dot : (b : ℕ) → is_identifier_character b ≡ true → (b == dot) ≡ false
-character-no_dot =
-    apart is_identifier_character (λ b. b == dot) (λ b here. ap is_identifier_character (eqb-true b dot here))
-
--- and a hyphen is one
-pub other-no_hyphen : (b : ℕ) → is_identifier_character b ≡ false → (b == hyphen) ≡ false
-other-no_hyphen b h = grind (arith, eqb-true)
+character-no_dot = grind arith
 
 -- a text that begins with a digit begins with no blank, and with no x
 pub digit-no_blank : (text : List ℕ) → BeginsWith is_digit text → BeginsWithNo is_blank text
-digit-no_blank [] h = absurd h
-digit-no_blank (b ∷ rest) h = digit-not_blank b h
+digit-no_blank text h = grind arith
 
 pub digit-begins_no_x : (text : List ℕ) → BeginsWith is_digit text → BeginsWithNo is_x text
-digit-begins_no_x [] h = absurd h
-digit-begins_no_x (b ∷ rest) h = digit-no_x b h
+digit-begins_no_x text h = grind arith
 
 -- ---- ASCII
 

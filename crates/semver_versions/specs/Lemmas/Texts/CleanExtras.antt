@@ -1,5 +1,6 @@
 -- A text that begins with a blank, or is empty, has no extras.
-use Rattle.std.proofs.Common.{◌≡◌, ℕ, true, List, [], ◌∷◌, refl}
+use native.Mathlib.Omega.{arith}
+use Rattle.std.proofs.Common.{◌≡◌, ℕ, true, List, [], refl}
 use Rattle.semver_versions.specs.Characters.{IsCleanEnd}
 use Rattle.semver_versions.specs.Reading.{is_clean_end, read_extras}
 use Rattle.semver_versions.specs.Lemmas.Texts.ExtrasReading.{extras-again}
@@ -7,8 +8,7 @@ use Rattle.semver_versions.specs.Lemmas.Versions.VersionReading.{clean-ends_extr
 
 -- a clean end, as it is tested
 pub clean-end : (text : List ℕ) → is_clean_end text ≡ true → IsCleanEnd text
-clean-end [] h = tt
-clean-end (b ∷ rest) h = h
+clean-end text h = grind arith
 
 -- a text at a clean end begins with no extras
 pub clean_extras : (text : List ℕ) → is_clean_end text ≡ true → read_extras text ≡ (([], []), text)

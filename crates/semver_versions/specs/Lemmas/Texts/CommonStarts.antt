@@ -1,6 +1,6 @@
 -- The order of two texts of identifiers that begin alike: the first bytes after the common start decide.
-use Rattle.std.proofs.Common.{◌≡◌, ◌<◌, ◌≤◌, ℕ, true, List, [], ◌∷◌, ◌++◌, refl, sym, ap}
-use Rattle.std.proofs.Common.{◌∙◌, inl, inr, subst, length, take, drop, append-nil, arith}
+use Rattle.std.proofs.Common.{◌≡◌, ◌<◌, ◌≤◌, ℕ, true, List, [], ◌∷◌, ◌++◌, refl, sym}
+use Rattle.std.proofs.Common.{◌∙◌, inl, inr, length, take, drop, append-nil, arith}
 use Rattle.std.proofs.lemmas.Bool.{and_parts, eq-eqb, eqb-true, ltb-true, or_cases}
 use Rattle.std.proofs.lemmas.Cmp.{ranked}
 use Rattle.std.proofs.lemmas.List.{take-append-drop, take-append-le}
@@ -8,10 +8,10 @@ use Rattle.std.specs.Cmp.{nat_cmp_is}
 use Rattle.std.specs.Cmp.Lexicographic.{lists_total}
 use Rattle.std.specs.FinMap.{nat_cmp-IsAntisymmetric}
 use Rattle.std.specs.Ordering.{nat_cmp}
-use Rattle.std.specs.Prelude.{◌==◌, ◌&&◌, ◌||◌, nat_lt}
+use Rattle.std.specs.Prelude.{◌&&◌, ◌||◌, nat_lt}
 use Rattle.std.specs.declared.cmp.Ordering.{Ordering}
 use Rattle.std.specs.declared.cmp.Ordering.TheVariants.{Less, Equal, Greater}
-use Rattle.semver_versions.specs.Characters.{dot, is_digit}
+use Rattle.semver_versions.specs.Characters.{is_digit}
 use Rattle.semver_versions.specs.IdentifierText.{IsListed, identifiers_of}
 use Rattle.semver_versions.specs.Private.CommonStarts.{AreApart, IsCommon, IsStart, are_decided, ends}
 use Rattle.semver_versions.specs.Private.CommonStarts.{first_byte, is_last_digit, is_letter}
@@ -28,24 +28,10 @@ pub decided : (common one other : List ℕ) → IsListed (common ++ one) → IsL
     → AreApart one other → are_decided one other ≡ true
     → nat_cmp (first_byte one) (first_byte other) ≡ texts_cmp (common ++ one) (common ++ other)
 decided common [] [] first second apart decides = texts-tied (common ++ []) (common ++ []) refl
-decided common [] (d ∷ s) first second apart decides = elim (or_cases (is_letter d) (d == dot) decides) [
-  | inl letter ↦
-      let above : 57 < d = ltb-true _ _ letter in
-      sym (nat_cmp_is 0 d Less (omega arith)) ∙ sym (letter-order common [] s d first second above (omega arith))
-  | inr end ↦
-      subst (λ (b : ℕ). nat_cmp 0 b ≡ texts_cmp (common ++ []) (common ++ (b ∷ s))) (sym (eqb-true d dot end))
-      (sym (ap (λ (l : List ℕ). texts_cmp l (common ++ (dot ∷ s))) (append-nil common) ∙ end-below common s))
-]
-decided common (c ∷ r) [] first second apart decides = elim (or_cases (is_letter c) (c == dot) decides) [
-  | inl letter ↦
-      let above : 57 < c = ltb-true _ _ letter in
-      sym (nat_cmp_is c 0 Greater (omega arith))
-      ∙ sym (turned (common ++ []) (common ++ (c ∷ r)) (letter-order common [] r c second first above (omega arith)))
-  | inr end ↦
-      subst (λ (b : ℕ). nat_cmp b 0 ≡ texts_cmp (common ++ (b ∷ r)) (common ++ [])) (sym (eqb-true c dot end))
-      (sym (turned (common ++ []) (common ++ (dot ∷ r))
-      (ap (λ (l : List ℕ). texts_cmp l (common ++ (dot ∷ r))) (append-nil common) ∙ end-below common r)))
-]
+decided common [] (d ∷ s) first second apart decides =
+    grind (arith, or_cases, ltb-true, nat_cmp_is, letter-order, texts_cmp, eqb-true, append-nil, end-below)
+decided common (c ∷ r) [] first second apart decides =
+    grind (arith, or_cases, ltb-true, nat_cmp_is, turned, letter-order, texts_cmp, eqb-true, append-nil, end-below)
 decided common (c ∷ r) (d ∷ s) first second apart decides =
     elim (or_cases (is_letter c || is_letter d) (is_last_digit c r && is_last_digit d s) decides) [
       | inl letters ↦ by_size (nat_cmp c d) refl letters
@@ -89,33 +75,20 @@ pub record FromStart (a b : List ℕ) (start : ℕ) : Type 0 where
 
 pub from-start : (a b : List ℕ) (n start : ℕ) → IsListed a → IsListed b → IsCommon a b n → start ≤ length (take n a)
     → IsStart (take start (take n a)) → FromStart a b start
-from-start a b n start first second common within starts =
-    let q = take start (take n a) in
-    let whole_a : q ++ drop start a ≡ a = split a n start within in
-    let whole_b : q ++ drop start b ≡ b =
-    ap (λ (l : List ℕ). take start l ++ drop start b) common.same
-    ∙ split b n start (subst (λ (l : List ℕ). start ≤ length l) common.same within) in
-    let after = after-start q (drop start a) (drop start b) starts
-    (subst IsListed (sym whole_a) first) (subst IsListed (sym whole_b) second) in
-    record {
-      first = after.first;
-      second = after.second;
-      order = after.order ∙ (λ i. texts_cmp (whole_a i) (whole_b i));
-    }
-  where
-    split : (l : List ℕ) (n start : ℕ) → start ≤ length (take n l) → take start (take n l) ++ drop start l ≡ l
-    split l n start within =
-        ap (λ (t : List ℕ). t ++ drop start l) (sym (take-append-le start (take n l) (drop n l) within)
-        ∙ ap (take start) (take-append-drop n l)) ∙ take-append-drop start l
+from-start a b n start first second common within starts = grind (
+  arith,
+  after-start (take start (take n a)) (drop start a) (drop start b) starts,
+  take-append-le start (take n a) (drop n a),
+  take-append-le start (take n b) (drop n b),
+  take-append-drop n a,
+  take-append-drop n b,
+  take-append-drop start a,
+  take-append-drop start b,
+)
 
 -- the bytes after the common start of two texts decide
 pub decided-after : (a b : List ℕ) (n : ℕ) → IsListed a → IsListed b → IsCommon a b n
     → are_decided (drop n a) (drop n b) ≡ true
     → nat_cmp (first_byte (drop n a)) (first_byte (drop n b)) ≡ texts_cmp a b
 decided-after a b n first second common decides =
-    let whole_a : take n a ++ drop n a ≡ a = take-append-drop n a in
-    let whole_b : take n a ++ drop n b ≡ b =
-    ap (λ (l : List ℕ). l ++ drop n b) common.same ∙ take-append-drop n b in
-    decided (take n a) (drop n a) (drop n b) (subst IsListed (sym whole_a) first) (subst IsListed (sym whole_b) second)
-    common.apart decides
-    ∙ (λ i. texts_cmp (whole_a i) (whole_b i))
+    grind (arith, take-append-drop n a, take-append-drop n b, decided, texts_cmp)

@@ -3,19 +3,16 @@ use Rattle.std.proofs.Common.{◌≡◌, ◌<◌, ◌^◌, ℕ, Bool, true, List
 use Rattle.std.proofs.lemmas.Bool.{and_from, and_parts, lt-ltb}
 use Rattle.std.proofs.lemmas.Fmt.{decimal_nonempty, digits_decimal, digits_value-decimal}
 use Rattle.std.specs.Fmt.{decimal}
-use Rattle.std.specs.List.{list_all}
 use Rattle.std.specs.Prelude.{nat_lt}
 use Rattle.semver_versions.specs.Characters.{AreAll, BeginsWith, is_digit, is_identifier_character}
 use Rattle.semver_versions.specs.IdentifierText.{IsIdentifierText, identifier_of}
 use Rattle.semver_versions.specs.IdentifierValue.{numeric}
 use Rattle.semver_versions.specs.NumberText.{number_of}
 use Rattle.semver_versions.specs.Lemmas.Texts.Digits.{digits-numerals}
-use Rattle.semver_versions.specs.Lemmas.Texts.LongestReading.{digit-character}
 
 -- a text of such characters that is not empty begins with one
 pub some-begins : (test : ℕ → Bool) (text : List ℕ) → 0 < length text → AreAll test text → BeginsWith test text
-some-begins test [] some all = absurd (omega arith)
-some-begins test (b ∷ text) some all = (and_parts (test b) (list_all test text) all).0
+some-begins test text some all = grind arith
 
 -- the decimal digits of a number of 64 bits
 module _ (n : ℕ) (small : n < 2 ^ 64) where
@@ -30,7 +27,7 @@ module _ (n : ℕ) (small : n < 2 ^ 64) where
 
 pub characters-of_digits : (text : List ℕ) → AreAll is_digit text → AreAll is_identifier_character text
 characters-of_digits [] all = refl
-characters-of_digits (b ∷ text) all = grind (arith, characters-of_digits text, and_parts, and_from, digit-character)
+characters-of_digits (b ∷ text) all = grind (arith, characters-of_digits text, and_parts, and_from)
 
 -- they are an identifier text of the number
 pub decimal-identifier : (n : ℕ) → n < 2 ^ 64

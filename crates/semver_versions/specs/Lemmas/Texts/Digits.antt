@@ -27,17 +27,13 @@ more-digits n (d ∷ ds) =
     let more = more-digits (n * 10 + digit_value d) ds in
     omega arith
 
--- a digit and more after those that write n
-one-digit : (n b : ℕ) (ds : List ℕ) → is_digit b ≡ true → n * 10 + (b - 48) ≤ digits_value_after 10 n (b ∷ ds)
-one-digit n b ds digit = grind (arith, digit-value, more-digits)
-
 -- one digit more makes the number at the start too large
 pub read_number-large : (s : List ℕ) (n b : ℕ) (ds : List ℕ) → BeginsWith is_digit s → is_digit b ≡ true
     → MAX_SAFE_INTEGER < n * 10 + (b - 48)
     → digits_value_after 10 n (prefix_of is_digit (b ∷ ds)) ≡ number_of (prefix_of is_digit s)
     → refusal {A = ℕ × List ℕ} (TooLarge (length s)) ≡ read_number s
 unfolding read_number prefix_of
-read_number-large s n b ds some digit above value = grind (arith, with-begins, one-digit, lt-leb)
+read_number-large s n b ds some digit above value = grind (arith, with-begins, lt-leb, digit-value, more-digits)
 
 -- digits as `parse` reads them
 pub digits-numerals : IsNumeralModel (AreAll is_digit) number_of
@@ -55,4 +51,5 @@ OneMore n b = if is_digit b && nat_lt (n * 10 + (b - 48)) (2 ^ 64) then Some (n 
 pub none-numeric : (s : List ℕ) (n b : ℕ) (ds : List ℕ) → None ≡ OneMore n b
     → list_all is_digit (b ∷ ds) ≡ list_all is_digit s → digits_value_after 10 n (b ∷ ds) ≡ number_of s
     → None ≡ Numeric s
-none-numeric s n b ds none all value = grind (arith, cond-true, and_from, one-digit, ltb-false, le-ltb, cond-false, and_right)
+none-numeric s n b ds none all value =
+    grind (arith, cond-true, and_from, ltb-false, le-ltb, cond-false, and_right, digit-value, more-digits)

@@ -1,15 +1,14 @@
 -- Lists of identifiers: the reader reads exactly these texts.
 use Rattle.std.proofs.Common.{arith}
-use Rattle.std.proofs.Common.{◌≡◌, ◌⊎◌, ℕ, Bool, true, false, List, [], ◌∷◌, ◌++◌, refl, sym, ap, ◌∙◌, inl, inr, subst}
+use Rattle.std.proofs.Common.{◌≡◌, ◌⊎◌, ℕ, Bool, true, false, List, [], ◌∷◌, ◌++◌, refl, ap, inl, inr}
 use Rattle.std.proofs.Common.{append-nil}
-use Rattle.std.proofs.lemmas.Bool.{and_from, and_parts, cases_Bool, eqb-true, or_parts}
+use Rattle.std.proofs.lemmas.Bool.{and_parts, cases_Bool}
 use Rattle.std.specs.Prelude.{◌==◌, ◌||◌, map}
-use Rattle.std.specs.List.{AllByRecursion, list_all}
+use Rattle.std.specs.List.{AllByRecursion}
 use Rattle.semver_versions.specs.Characters.{AreAll, BeginsWith, BeginsWithNo, is_identifier_character, plus, dot}
 use Rattle.semver_versions.specs.IdentifierText.{IsIdentifierList, IsIdentifierText, identifier_of, parts_of}
 use Rattle.semver_versions.specs.IdentifierValue.{IdentifierValue}
 use Rattle.semver_versions.specs.Reading.{begins, goes_on, list_rest, list_prefix, list_values}
-use Rattle.semver_versions.specs.Lemmas.Texts.Prefixes.{begins-append, with-begins}
 use Rattle.semver_versions.specs.Lemmas.Texts.Characters.{character-no_dot}
 
 -- The parts of a list that goes on from some earlier characters: the first part may be empty, the others are
@@ -43,10 +42,6 @@ parts-other b rest first others other shape = rw (other, shape) refl
 pub goes_on-character : (b : ℕ) (rest : List ℕ) → is_identifier_character b ≡ true → goes_on (b ∷ rest) ≡ true
 goes_on-character b rest h = rw h refl
 
-goes_on-dot : (b : ℕ) (rest : List ℕ) → (b == dot) ≡ true → begins is_identifier_character rest ≡ true
-    → goes_on (b ∷ rest) ≡ true
-goes_on-dot b rest here h = rw (eqb-true b dot here, h) refl
-
 -- and nowhere else
 goes_on-cases : (b : ℕ) (rest : List ℕ) → goes_on (b ∷ rest) ≡ true
     → (is_identifier_character b ≡ true) ⊎ (((b == dot) ≡ true) × (begins is_identifier_character rest ≡ true))
@@ -62,32 +57,21 @@ list-whole (b ∷ rest) = grind (arith, list-whole rest)
 list-begins : (text : List ℕ) → begins is_identifier_character text ≡ true
     → BeginsWith is_identifier_character (list_prefix text)
 unfolding list_prefix
-list-begins [] h = cc h
-list-begins (b ∷ rest) h = rw (goes_on-character b rest h) h
+list-begins text h = grind arith
 
 -- a first part that is not empty begins as the text does
 first-begins : (text first : List ℕ) (others : List (List ℕ)) → parts_of text ≡ first ∷ others
     → BeginsWith is_identifier_character text → BeginsWith is_identifier_character first
-first-begins [] first others shape h = absurd h
-first-begins (b ∷ rest) first others shape h = grind (arith, parts-shape, parts-other, character-no_dot)
-
-pub begins-first : (text first : List ℕ) (others : List (List ℕ)) → parts_of text ≡ first ∷ others
-    → BeginsWith is_identifier_character first → BeginsWith is_identifier_character text
-begins-first [] first others shape h = grind arith
-begins-first (b ∷ rest) first others shape h = grind (arith, parts-dot, parts-shape, parts-other)
+first-begins text first others shape h = grind arith
 
 -- the parts of a list of identifiers
 pub go-on : (text : List ℕ) → AllByRecursion IsIdentifierText (parts_of text) → GoOn (parts_of text)
-go-on text all =
-    let r = parts-shape text in
-    let these : AllByRecursion IsIdentifierText (r.0 ∷ r.1) =
-    subst (λ (l : List (List ℕ)). AllByRecursion IsIdentifierText l) r.2 all in
-    record { first = r.0; others = r.1; whole = r.2; characters = these.0.1; identifiers = these.1 }
+go-on text all = grind (arith, parts-shape text)
 
 -- it begins with an identifier character
 pub all-begins : (text : List ℕ) → AllByRecursion IsIdentifierText (parts_of text)
     → BeginsWith is_identifier_character text
-all-begins text all = grind (arith, parts-shape, begins-first)
+all-begins text all = grind (arith, parts-shape)
 
 -- and a list that goes on and begins so is one of identifiers
 all-texts : (text : List ℕ) → GoOn (parts_of text) → BeginsWith is_identifier_character text
@@ -97,22 +81,7 @@ all-texts text g begin = grind (arith, first-begins)
 -- a list that goes on, after its first character
 pub go-on-other : (b : ℕ) (text : List ℕ) → (b == dot) ≡ false → GoOn (parts_of (b ∷ text))
     → (is_identifier_character b ≡ true) × GoOn (parts_of text)
-go-on-other b text other g =
-    let r = parts-shape text in
-    let e : (b ∷ r.0) ∷ r.1 ≡ g.first ∷ g.others = sym (parts-other b text r.0 r.1 other r.2) ∙ g.whole in
-    let f : g.first ≡ b ∷ r.0 = cc e in
-    let o : g.others ≡ r.1 = cc e in
-    let characters = and_parts (is_identifier_character b) (list_all is_identifier_character r.0)
-    (subst (λ (l : List ℕ). AreAll is_identifier_character l) f g.characters) in (
-      characters.0,
-      record {
-        first = r.0;
-        others = r.1;
-        whole = r.2;
-        characters = characters.1;
-        identifiers = subst (λ (l : List (List ℕ)). AllByRecursion IsIdentifierText l) o g.identifiers;
-      },
-    )
+go-on-other b text other g = grind (arith, parts-shape text, parts-other, and_parts)
 
 -- the longest list goes on
 list-goes : (text : List ℕ) → GoOn (parts_of (list_prefix text))
@@ -123,62 +92,33 @@ list-goes (b ∷ rest) = elim (cases_Bool (goes_on (b ∷ rest))) [
   | inl goes ↦
       let r = list-goes rest in
       elim (goes_on-cases b rest goes) [
-        | inl character ↦ rw goes (record {
-          first = b ∷ r.first;
-          others = r.others;
-          whole = parts-other b (list_prefix rest) r.first r.others (character-no_dot b character) r.whole;
-          characters = and_from (is_identifier_character b) _ character r.characters;
-          identifiers = r.identifiers;
-        })
-        | inr w ↦ rw goes (record {
-          first = [];
-          others = parts_of (list_prefix rest);
-          whole = parts-dot b (list_prefix rest) w.0;
-          characters = refl;
-          identifiers = all-texts (list_prefix rest) r (list-begins rest w.1);
-        })
+        | inl character ↦ grind (arith, parts-other b (list_prefix rest) r.first r.others, character-no_dot b character)
+        | inr w ↦
+            grind (arith, parts-dot b (list_prefix rest) w.0, all-texts (list_prefix rest) r, list-begins rest w.1)
       ]
 ]
 
 -- the longest list at the start of a text that begins with an identifier character is a list of identifiers
 pub list-takes : (text : List ℕ) → begins is_identifier_character text ≡ true
     → IsIdentifierList (list_prefix text) (list_values text)
-list-takes text h =
-    record { parts = all-texts (list_prefix text) (list-goes text) (list-begins text h); values = refl }
+list-takes text h = grind (arith, all-texts, list-goes, list-begins)
 
 -- a list that goes on is passed, whatever follows it
 pub list-through : (list rest : List ℕ) → GoOn (parts_of list)
     → (list_prefix (list ++ rest) ≡ list ++ list_prefix rest) × (list_rest (list ++ rest) ≡ list_rest rest)
 unfolding list_prefix list_rest
 list-through [] rest g = (refl, refl)
-list-through (b ∷ list) rest g = elim (cases_Bool (b == dot)) [
-  | inl here ↦
-      let others : parts_of list ≡ g.others = cc (sym (parts-dot b list here) ∙ g.whole) in
-      let all = subst (λ (l : List (List ℕ)). AllByRecursion IsIdentifierText l) (sym others) g.identifiers in
-      let goes = goes_on-dot b (list ++ rest) here
-      (with-begins _ (list ++ rest) (begins-append _ list rest (all-begins list all))) in
-      let on = list-through list rest (go-on list all) in
-      (rw goes (ap (λ (l : List ℕ). b ∷ l) on.0), rw goes on.1)
-  | inr other ↦
-      let after = go-on-other b list other g in
-      let goes = goes_on-character b (list ++ rest) after.0 in
-      let on = list-through list rest after.1 in
-      (rw goes (ap (λ (l : List ℕ). b ∷ l) on.0), rw goes on.1)
-]
+list-through (b ∷ list) rest g = grind (arith, parts-dot, all-begins list, list-through list rest)
 
 -- where a list stops
 pub list-none : (rest : List ℕ) → goes_on rest ≡ false → (list_prefix rest ≡ []) × (list_rest rest ≡ rest)
 unfolding list_prefix list_rest
-list-none [] stops = (refl, refl)
-list-none (b ∷ rest) stops = (rw stops refl, rw stops refl)
+list-none rest stops = grind arith
 
 -- a list that goes on is read to its end, where nothing goes on after it
 list-on : (list rest : List ℕ) → GoOn (parts_of list) → goes_on rest ≡ false
     → (list_prefix (list ++ rest) ≡ list) × (list_rest (list ++ rest) ≡ rest)
-list-on list rest g stops =
-    let t = list-through list rest g in
-    let n = list-none rest stops in
-    (t.0 ∙ ap (λ (l : List ℕ). list ++ l) n.0 ∙ append-nil list, t.1 ∙ n.1)
+list-on list rest g stops = grind (arith, list-through list rest g, list-none rest stops, append-nil list)
 
 -- what a list of identifiers is read as
 pub record ReadsList (list rest : List ℕ) (identifiers : List IdentifierValue) : Type 0 where
@@ -189,14 +129,7 @@ pub record ReadsList (list rest : List ℕ) (identifiers : List IdentifierValue)
 pub list-again : (list rest : List ℕ) (identifiers : List IdentifierValue) → IsIdentifierList list identifiers
     → goes_on rest ≡ false → ReadsList list rest identifiers
 list-again list rest identifiers h stops =
-    let on = list-on list rest (go-on list h.parts) stops in
-    record { starts = all-begins list h.parts; values = rw on.0 (sym h.values); behind = on.1 }
-
--- the first character of a text that has one is that of the text with more after it
-pub first-stays : (some none : ℕ → Bool) (text rest : List ℕ) → BeginsWith some text → BeginsWithNo none text
-    → BeginsWithNo none (text ++ rest)
-first-stays some none [] rest h g = absurd h
-first-stays some none (b ∷ text) rest h g = g
+    grind (arith, list-on list rest (go-on list h.parts) stops, go-on list h.parts, all-begins list h.parts)
 
 -- the characters of extras
 abbrev is_of_extras : ℕ → Bool
@@ -211,16 +144,13 @@ abbrev pub is_of_list : ℕ → Bool
 is_of_list b = is_identifier_character b || (b == dot)
 
 pub ends-list : (rest : List ℕ) → EndsExtras rest → BeginsWithNo is_of_list rest
-ends-list [] h = tt
-ends-list (b ∷ rest) h = (or_parts (is_of_list b) (b == plus) h).0
+ends-list rest h = grind arith
 
 pub ends-plus : (rest : List ℕ) → EndsExtras rest → BeginsWithNo (λ b. b == plus) rest
-ends-plus [] h = tt
-ends-plus (b ∷ rest) h = (or_parts (is_of_list b) (b == plus) h).1
+ends-plus rest h = grind arith
 
 pub stops-list : (rest : List ℕ) → BeginsWithNo is_of_list rest → goes_on rest ≡ false
-stops-list [] h = refl
-stops-list (b ∷ rest) h = grind (arith, or_parts)
+stops-list rest h = grind arith
 
 -- the identifiers of a text that begins with one are some
 pub some-values : (text : List ℕ)

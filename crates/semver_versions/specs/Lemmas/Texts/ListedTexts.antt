@@ -1,6 +1,5 @@
 -- Texts of identifiers: their first identifier, and those after it.
-use Rattle.std.proofs.Common.{◌≡◌, ◌<◌, ◌-◌, ◌≤◌, ℕ, true, List, [], ◌∷◌, ◌++◌, refl, sym, ap, inl, inr}
-use Rattle.std.proofs.Common.{subst}
+use Rattle.std.proofs.Common.{◌≡◌, ◌<◌, ◌-◌, ◌≤◌, ℕ, true, List, [], ◌∷◌, ◌++◌, refl, sym, inl, inr}
 use Rattle.std.proofs.Common.{arith, length, length-append, drop, take}
 use Rattle.std.proofs.lemmas.List.{take_rest}
 use Rattle.std.proofs.lemmas.Bool.{cases_Bool, eqb-true}
@@ -44,21 +43,13 @@ first-part (b ∷ rest) g = elim (cases_Bool (b == dot)) [
 
 -- a text whose parts are identifiers is not empty
 pub parts-texts : (text : List ℕ) → AllByRecursion IsIdentifierText (parts_of text) → texts_of text ≡ parts_of text
-parts-texts [] all = absurd all.0.0
-parts-texts (b ∷ rest) all = refl
-
--- the first identifier of a text that has one, if it is the last
-pub first-alone : (text : List ℕ) → IsListed text → 0 < length text → rest_of is_identifier_character text ≡ []
-    → IsFirstSplit text (prefix_of is_identifier_character text) []
-first-alone [] listed some end = absurd (omega arith)
-first-alone (b ∷ rest) listed some end = grind (arith, first-part, go-on)
+parts-texts text all = grind arith
 
 -- the same, if others follow it after a dot
 pub first-before : (text rest : List ℕ) (d : ℕ) → IsListed text → 0 < length text
     → rest_of is_identifier_character text ≡ d ∷ rest
     → IsFirstSplit text (prefix_of is_identifier_character text) rest
-first-before [] rest d listed some end = absurd (omega arith)
-first-before (b ∷ text) rest d listed some end = grind (arith, first-part, go-on, parts-texts)
+first-before text rest d listed some end = grind (arith, first-part, go-on, parts-texts)
 
 -- an identifier of a list ends where a dot does, or the text
 pub record EndsAtDot (text : List ℕ) : Type 0 where
@@ -81,8 +72,7 @@ listed-ends (b ∷ text) listed some = elim (first-part (b ∷ text) (go-on (b �
 pub split-alone : (text part rest : List ℕ) → IsListed text → 0 < length text
     → part ≡ prefix_of is_identifier_character text → rest ≡ rest_of is_identifier_character text → length rest < 1
     → IsFirstSplit text part rest
-split-alone text part [] listed some part_is rest_is none =
-    subst (λ (l : List ℕ). IsFirstSplit text l []) (sym part_is) (first-alone text listed some (sym rest_is))
+split-alone text part [] listed some part_is rest_is none = grind (arith, first-part, go-on)
 split-alone text part (d ∷ rest) listed some part_is rest_is none = absurd (omega arith)
 
 pub split-before : (text part rest : List ℕ) → IsListed text → 0 < length text
@@ -90,35 +80,23 @@ pub split-before : (text part rest : List ℕ) → IsListed text → 0 < length 
     → IsFirstSplit text part (take (length rest - 1) (drop 1 rest))
 split-before text part [] listed some part_is rest_is more = absurd (omega arith)
 split-before text part (d ∷ rest) listed some part_is rest_is more =
-    subst (λ (l : List ℕ). IsFirstSplit text part l) (sym (take_rest (d ∷ rest) 1))
-    (subst (λ (l : List ℕ). IsFirstSplit text l rest) (sym part_is) (first-before text rest d listed some (sym rest_is)))
+    grind (arith, take_rest (d ∷ rest) 1, first-before text rest d listed some (sym rest_is))
 
 pub split-shorter : (text rest : List ℕ) → rest ≡ rest_of is_identifier_character text → 1 ≤ length rest
     → length (take (length rest - 1) (drop 1 rest)) < length text
-split-shorter text [] rest_is more = absurd (omega arith)
-split-shorter text (d ∷ rest) rest_is more =
-    let whole = ap length (prefix_of-rest_of is_identifier_character text) in
-    let parts = length-append (prefix_of is_identifier_character text) (rest_of is_identifier_character text) in
-    let here : length (d ∷ rest) ≡ length (rest_of is_identifier_character text) = ap length rest_is in
-    let size : length (take (length (d ∷ rest) - 1) (drop 1 (d ∷ rest))) ≡ length rest =
-    ap length (take_rest (d ∷ rest) 1) in
-    omega arith
+split-shorter text rest rest_is more =
+    grind (arith, take_rest rest 1, prefix_of-rest_of is_identifier_character text, length-append)
 
 -- the rest of a list is no longer than the text
 pub list_rest-short : (text : List ℕ) → length (list_rest text) ≤ length text
 list_rest-short text = rest-short text _ (list_rest text) (sym (list-whole text))
 
 take-first : (a b : List ℕ) → take (length (a ++ b) - length b) (a ++ b) ≡ a
-take-first a b =
-    let size : length (a ++ b) - length b ≡ length a = (let parts = length-append a b in omega arith) in
-    rw size (take-append_seam a b)
+take-first a b = grind (arith, length-append a b, take-append_seam a b)
 
 -- what is before the rest of a list is the list
 pub list-before : (text : List ℕ) → take (length text - length (list_rest text)) text ≡ list_prefix text
-list-before text =
-    let whole = list-whole text in
-    subst (λ (l : List ℕ). take (length l - length (list_rest text)) l ≡ list_prefix text) whole
-    (take-first (list_prefix text) (list_rest text))
+list-before text = grind (arith, list-whole text, take-first (list_prefix text) (list_rest text))
 
 -- the longest list at the start of a text that begins with an identifier character
 pub split-some : (otherwise text list rest : List ℕ) → begins is_identifier_character text ≡ true

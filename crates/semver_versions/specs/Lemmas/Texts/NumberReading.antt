@@ -1,7 +1,7 @@
 -- Numbers: the reader reads exactly the number texts.
 use Rattle.std.proofs.Common.{arith}
-use Rattle.std.proofs.Common.{◌≡◌, ℕ, List, [], ◌∷◌, ◌++◌, Ok, Err, refl}
-use Rattle.std.proofs.lemmas.Bool.{eqb-true, le-leb, leb-true}
+use Rattle.std.proofs.Common.{◌≡◌, ℕ, List, ◌∷◌, ◌++◌, Ok, Err, refl}
+use Rattle.std.proofs.lemmas.Bool.{le-leb, leb-true}
 use Rattle.std.specs.Prelude.{Result}
 use Rattle.semver_versions.specs.Characters.{BeginsWithNo, is_digit, dot}
 use Rattle.semver_versions.specs.NumberText.{IsNumberText}
@@ -17,8 +17,7 @@ use Rattle.semver_versions.specs.Lemmas.Texts.Prefixes.{prefix_of-again, prefix_
 -- a chain of two readers that succeeds
 pub bind-ok : {A B : Type 0} (r : Result A Fault) (f : A → Result B Fault) (y : B) → (r >>= f) ≡ Ok y
     → (x : A) × (r ≡ Ok x) × (f x ≡ Ok y)
-bind-ok (Ok x) f y h = (x, refl, h)
-bind-ok (Err e) f y h = cc h
+bind-ok r f y h = grind arith
 
 -- the value of a success
 abbrev pub answer : {A : Type 0} → A → Result A Fault
@@ -52,34 +51,21 @@ number-again digits rest number read ends = grind (arith, with-begins, begins-ap
 -- a dot comes before the rest
 pub dot-takes : (text rest : List ℕ) → read_dot text ≡ Ok rest → text ≡ dot ∷ rest
 unfolding read_dot
-dot-takes [] rest h = cc h
-dot-takes (b ∷ text) rest h = grind (arith, eqb-true)
-
--- two steps and a third are one and two
-regrouped : {A B C : Type 0} (r : Result A Fault) (f : A → Result B Fault) (g : B → Result C Fault)
-    → ((r >>= f) >>= g) ≡ (r >>= λ x. f x >>= g)
-regrouped (Ok x) f g = refl
-regrouped (Err e) f g = refl
-
--- two numbers, each after its dot
-dotted-twice : (major : ℕ) (text : List ℕ)
-    → (read_dotted text >>= λ minor. read_dotted minor.1 >>= λ patch. Ok ((major, minor.0, patch.0), patch.1))
-    ≡ read_minor_and_patch (major, text)
-dotted-twice major text = grind (arith, regrouped)
+dot-takes text rest h = grind arith
 
 pub dotted-both : (major : ℕ) (text : List ℕ) (minor patch : ℕ × List ℕ) → Ok minor ≡ read_dotted text
     → Ok patch ≡ read_dotted minor.1 → Ok ((major, minor.0, patch.0), patch.1) ≡ read_minor_and_patch (major, text)
-dotted-both major text minor patch first second = grind (arith, dotted-twice)
+dotted-both major text minor patch first second = grind arith
 
 -- where the second one is missing
 pub dotted-second : (major : ℕ) (text : List ℕ) (minor : ℕ × List ℕ) (f : Fault) → Ok minor ≡ read_dotted text
     → Err f ≡ read_dotted minor.1 → Err f ≡ read_minor_and_patch (major, text)
-dotted-second major text minor f first second = grind (arith, dotted-twice)
+dotted-second major text minor f first second = grind arith
 
 -- and where the first one is
 pub dotted-first : (major : ℕ) (text : List ℕ) (f : Fault) → Err f ≡ read_dotted text
     → Err f ≡ read_minor_and_patch (major, text)
-dotted-first major text f first = grind (arith, dotted-twice)
+dotted-first major text f first = grind arith
 
 pub dot-again : (rest : List ℕ) → read_dot (dot ∷ rest) ≡ Ok rest
 unfolding read_dot

@@ -45,13 +45,11 @@ skip_one-first test (b ∷ s) some passes = rw passes (take_rest (b ∷ s) 1)
 -- and nothing where there is none
 pub skip_one-empty : (test : ℕ → Bool) (s : List ℕ) → length s < 1 → s ≡ skip_one test s
 unfolding skip_one
-skip_one-empty test [] none = refl
-skip_one-empty test (b ∷ s) none = absurd (omega arith)
+skip_one-empty test s none = grind arith
 
 pub skip_one-other : (test : ℕ → Bool) (s : List ℕ) → 1 ≤ length s → test (get_or s 0 0) ≡ false → s ≡ skip_one test s
 unfolding skip_one
-skip_one-other test [] some stops = absurd (omega arith)
-skip_one-other test (b ∷ s) some stops = rw stops refl
+skip_one-other test s some stops = grind arith
 
 -- A loop has gone over the first i characters, which all pass.
 pub record Over (test : ℕ → Bool) (s : List ℕ) (i : ℕ) : Type 0 where
@@ -74,16 +72,10 @@ pub record Through (test : ℕ → Bool) (s : List ℕ) (i : ℕ) : Type 0 where
 
 pub over-stop : (test : ℕ → Bool) (s : List ℕ) (i : ℕ) → i < length s → test (get_or s i 0) ≡ false → Over test s i
     → Through test s i
-over-stop test s i h stops over = record {
-  prefix = over.prefix ∙ ap (λ (l : List ℕ). take i s ++ l) (prefix_of-stop test s i h stops) ∙ append-nil (take i s);
-  rest = over.rest ∙ rest_of-stop test s i h stops;
-}
+over-stop test s i h stops over = grind (arith, prefix_of-stop, append-nil, rest_of-stop)
 
 pub over-end : (test : ℕ → Bool) (s : List ℕ) (i : ℕ) → length s ≤ i → Over test s i → Through test s i
-over-end test s i h over = record {
-  prefix = over.prefix ∙ ap (λ (l : List ℕ). take i s ++ l) (prefix_of-end test s i h) ∙ append-nil (take i s);
-  rest = over.rest ∙ rest_of-end test s i h;
-}
+over-end test s i h over = grind (arith, prefix_of-end, append-nil, rest_of-end)
 
 -- ---- the first place that does not pass, as a search finds it
 

@@ -54,42 +54,34 @@ rest_of-all test (b ∷ text) more all = grind (arith, rest_of-all test text mor
 -- nothing is skipped where nothing passes
 pub rest_of-none : (test : ℕ → Bool) (text : List ℕ) → BeginsWithNo test text → rest_of test text ≡ text
 unfolding rest_of
-rest_of-none test [] none = refl
-rest_of-none test (b ∷ rest) none = rw none refl
+rest_of-none test text none = grind arith
 
 -- the test of the first character, and the fact
 pub begins-with : (test : ℕ → Bool) (text : List ℕ) → begins test text ≡ true → BeginsWith test text
-begins-with test [] h = cc h
-begins-with test (b ∷ rest) h = h
+begins-with test text h = grind arith
 
 pub with-begins : (test : ℕ → Bool) (text : List ℕ) → BeginsWith test text → begins test text ≡ true
-with-begins test [] h = absurd h
-with-begins test (b ∷ rest) h = h
+with-begins test text h = grind arith
 
 pub begins-with_no : (test : ℕ → Bool) (text : List ℕ) → begins test text ≡ false → BeginsWithNo test text
-begins-with_no test [] h = tt
-begins-with_no test (b ∷ rest) h = h
+begins-with_no test text h = grind arith
 
 pub with_no-begins : (test : ℕ → Bool) (text : List ℕ) → BeginsWithNo test text → begins test text ≡ false
-with_no-begins test [] h = refl
-with_no-begins test (b ∷ rest) h = h
+with_no-begins test text h = grind arith
 
 -- a text with a first character that passes has one that passes at the start of its longest prefix
 pub prefix_of-begins : (test : ℕ → Bool) (text : List ℕ) → BeginsWith test text → BeginsWith test (prefix_of test text)
 unfolding prefix_of
-prefix_of-begins test [] h = absurd h
-prefix_of-begins test (b ∷ rest) h = rw h h
+prefix_of-begins test text h = grind arith
 
 -- what begins a text begins it with more after it
 pub begins-append : (test : ℕ → Bool) (text rest : List ℕ) → BeginsWith test text → BeginsWith test (text ++ rest)
-begins-append test [] rest h = absurd h
-begins-append test (b ∷ text) rest h = h
+begins-append test text rest h = grind arith
 
 -- the empty text takes the first character of the rest
 pub no-append : (test : ℕ → Bool) (text rest : List ℕ) → BeginsWithNo test text → BeginsWithNo test rest
     → BeginsWithNo test (text ++ rest)
-no-append test [] rest h g = g
-no-append test (b ∷ text) rest h g = h
+no-append test text rest h g = grind arith
 
 -- nothing is left exactly where all pass
 pub rest_of-empty : (test : ℕ → Bool) (text : List ℕ) → (length (rest_of test text) == 0) ≡ list_all test text

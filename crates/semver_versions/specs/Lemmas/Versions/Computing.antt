@@ -1,5 +1,6 @@
 -- The version and the fault of a text, computed: for worked examples.
-use Rattle.std.proofs.Common.{◌≡◌, ℕ, ◌≤◌, List, [], ◌∷◌, Ok, Err, Option, Some, None, length, refl}
+use native.Mathlib.Omega.{arith}
+use Rattle.std.proofs.Common.{◌≡◌, ℕ, ◌≤◌, List, [], ◌∷◌, Ok, Err, Option, Some, None, length}
 use Rattle.semver_versions.specs.declared.TheConstants.{MAX_LENGTH}
 use Rattle.semver_versions.specs.Error.{Kind}
 use Rattle.semver_versions.specs.Fault.{IsFault}
@@ -36,13 +37,8 @@ unfolding rest_of skip_one skip_plus read_build read_extras prefix_of list_rest 
     read_triple read_dot read_prerelease read_unmarked
 version_in text = read_whole (read_version text)
 
-nothing-left : (v w : VersionValue) (rest : List ℕ) → with_nothing_left v rest ≡ Some w → (v ≡ w) × (rest ≡ [])
-nothing-left v w [] whole = (cc whole, refl)
-nothing-left v w (b ∷ rest) whole = cc whole
-
 all-read : (r : Read VersionValue) (v : VersionValue) → read_whole r ≡ Some v → r ≡ Ok (v, [])
-all-read (Ok read) v whole = let same = nothing-left read.0 v read.1 whole in (λ i. Ok (same.0 i, same.1 i))
-all-read (Err fault) v whole = cc whole
+all-read r v whole = grind arith
 
 pub is-version_in : (text : List ℕ) (v : VersionValue) → length text ≤ MAX_LENGTH → version_in text ≡ Some v
     → IsVersionText text v

@@ -1,15 +1,15 @@
 -- Laws of faults: each text is a version text or has a fault, never both, and one fault at most.
-use Rattle.std.proofs.Common.{◌≡◌, ◌⊎◌, ◌≤◌, ◌<◌, ℕ, ◌-◌, true, List, [], ◌∷◌, ◌++◌, length, Ok, Err, refl, sym, ap}
+use Rattle.std.proofs.Common.{◌≡◌, ◌⊎◌, ◌≤◌, ◌<◌, ℕ, ◌-◌, List, [], ◌∷◌, ◌++◌, length, Ok, Err, refl, sym, ap}
 use Rattle.std.proofs.Common.{◌∙◌, inl, inr, arith, subst, append_assoc, append-nil}
 use Rattle.std.proofs.lemmas.Bool.{cases_Bool, cond-false, cond-true, le-leb, leb-false, leb-true, lt-leb}
 use Rattle.std.proofs.lemmas.List.{length-append}
 use Rattle.std.specs.Prelude.{Option, Some, None, Result, ◌==◌, if◌then◌else◌, nat_le}
 use Rattle.semver_versions.specs.declared.TheConstants.{MAX_LENGTH, MAX_SAFE_INTEGER}
-use Rattle.semver_versions.specs.Characters.{BeginsWithNo, dot, is_blank, is_digit, is_version_mark, mark_of}
+use Rattle.semver_versions.specs.Characters.{BeginsWithNo, dot, is_blank, is_digit, is_version_mark}
 use Rattle.semver_versions.specs.NumberText.{number_of}
 use Rattle.semver_versions.specs.Version.{VersionValue}
 use Rattle.semver_versions.specs.VersionText.{IsMarked, IsUnmarkedVersion, IsVersionText}
-use Rattle.semver_versions.specs.Reading.{rest_of, skip_one, begins, read_extras, prefix_of}
+use Rattle.semver_versions.specs.Reading.{rest_of, skip_one, read_extras}
 use Rattle.semver_versions.specs.Private.VersionReading.{read_version}
 use Rattle.semver_versions.specs.Reading.{read_number}
 use Rattle.semver_versions.specs.Private.VersionReading.{read_triple, read_dot, read_unmarked, version_of}
@@ -25,7 +25,7 @@ use Rattle.semver_versions.specs.Lemmas.Versions.OneReading.{read-version, versi
 use Rattle.semver_versions.specs.Lemmas.Versions.VersionReading.{numbers-again, regroup, version-follows, version-takes}
 use Rattle.semver_versions.specs.Error.{Kind, max_length, other}
 use Rattle.semver_versions.specs.Fault.{IsAllDigits, IsFault, HasPrefix, large_number, left_over, no_number, no_dot}
-use Rattle.semver_versions.specs.Fault.{too_large, too_long, with_dots}
+use Rattle.semver_versions.specs.Fault.{too_long, with_dots}
 use Rattle.semver_versions.specs.Private.FaultViews.{kind_in, left_of}
 use Rattle.semver_versions.specs.Lemmas.Versions.FaultReading.{AreNumbers, digits-there, fault-takes, prefix-length}
 use Rattle.semver_versions.specs.Lemmas.Versions.FaultReading.{left-takes}
@@ -60,25 +60,19 @@ no-number text h = rw (with_no-begins is_digit text h) refl
 too-large : (digits rest : List ℕ) → IsAllDigits digits rest → MAX_SAFE_INTEGER < number_of digits
     → read_number (digits ++ rest) ≡ Err (TooLarge (length (digits ++ rest)))
 unfolding read_number
-too-large digits rest all large =
-    let some : begins is_digit (digits ++ rest) ≡ true =
-    with-begins is_digit (digits ++ rest) (begins-append is_digit digits rest all.some) in
-    let here : prefix_of is_digit (digits ++ rest) ≡ digits = prefix_of-again is_digit digits rest all.all all.end in
-    rw (some, here, lt-leb _ _ large) refl
+too-large digits rest all large = grind (arith, with-begins, begins-append, prefix_of-again, lt-leb)
 
 -- no dot is read
 unread-dot : (text : List ℕ) → BeginsWithNo (λ b. b == dot) text → read_dot text ≡ Err (missing_at text)
 unfolding read_dot
-unread-dot [] h = refl
-unread-dot (b ∷ rest) h = rw h refl
+unread-dot text h = grind arith
 
 -- after a number and its dot
 one-dot : (a rest : List ℕ) → with_dots (a ∷ []) ++ rest ≡ a ++ (dot ∷ rest)
 one-dot a rest = append_assoc a (dot ∷ []) rest
 
 two-dots : (a b rest : List ℕ) → with_dots (a ∷ b ∷ []) ++ rest ≡ a ++ (dot ∷ (b ++ (dot ∷ rest)))
-two-dots a b rest = append_assoc a (dot ∷ (b ++ (dot ∷ []))) rest
-    ∙ ap (λ (l : List ℕ). a ++ (dot ∷ l)) (append_assoc b (dot ∷ []) rest)
+two-dots a b rest = grind (arith, append_assoc)
 
 -- where no number is read after numbers and their dots
 numbers-stop : (texts : List (List ℕ)) (rest : List ℕ) (e : Fault) → AreNumbers texts → length texts ≤ 2
@@ -86,8 +80,7 @@ numbers-stop : (texts : List (List ℕ)) (rest : List ℕ) (e : Fault) → AreNu
 unfolding read_triple
 numbers-stop [] rest e all few h = rw h refl
 numbers-stop (a ∷ []) rest e all few h =
-    let r = number-again a (dot ∷ rest) all.0.0 all.0.1 refl in
-    rw (one-dot a rest, r, dot-again rest, h) refl
+    grind (arith, number-again a (dot ∷ rest) all.0.0 all.0.1, one-dot a rest, dot-again rest)
 numbers-stop (a ∷ b ∷ []) rest e all few h =
     let r = number-again a (dot ∷ (b ++ (dot ∷ rest))) all.0.0 all.0.1 refl in
     let s = number-again b (dot ∷ rest) all.1.0.0 all.1.0.1 refl in
@@ -100,39 +93,27 @@ dots-stop : (texts : List (List ℕ)) (digits rest : List ℕ) → AreNumbers te
     → BeginsWithNo (λ b. b == dot) rest → read_triple (with_dots texts ++ (digits ++ rest)) ≡ Err (missing_at rest)
 unfolding read_triple
 dots-stop [] digits rest all few here limit none =
-    let n = number-again digits rest (number_of digits)
-    (record { some = here.some; digits = here.all; value = refl; limit = limit }) here.end in
-    rw (n, unread-dot rest none) refl
-dots-stop (a ∷ []) digits rest all few here limit none =
-    let n = number-again digits rest (number_of digits)
-    (record { some = here.some; digits = here.all; value = refl; limit = limit }) here.end in
-    let r = number-again a (dot ∷ (digits ++ rest)) all.0.0 all.0.1 refl in
-    rw (one-dot a (digits ++ rest), r, dot-again (digits ++ rest), n, unread-dot rest none) refl
+    grind (arith, number-again digits rest (number_of digits), unread-dot rest none)
+dots-stop (a ∷ []) digits rest all few here limit none = grind (
+  arith,
+  number-again digits rest (number_of digits),
+  unread-dot rest none,
+  number-again a (dot ∷ (digits ++ rest)) all.0.0 all.0.1 refl,
+  one-dot a (digits ++ rest),
+  dot-again (digits ++ rest),
+)
 dots-stop (a ∷ b ∷ texts) digits rest all few here limit none = absurd (omega arith)
 
 -- a mark and blanks are taken before the numbers of a prefix
 prefix-taken : (text before rest : List ℕ) (count : ℕ) (h : HasPrefix text before rest count)
     → rest_of is_blank (skip_one is_version_mark text) ≡ with_dots h.numbers ++ rest
-prefix-taken text before rest count h =
-    let whole : text ≡ mark_of is_version_mark text ++ (h.blanks ++ (with_dots h.numbers ++ rest)) = h.whole
-    ∙ ap (λ (l : List ℕ). l ++ rest) h.pieces ∙ simp append_assoc in
-    ap (λ (l : List ℕ). rest_of is_blank l)
-    (skip_one-mark is_version_mark text (h.blanks ++ (with_dots h.numbers ++ rest)) whole)
-    ∙ rest_of-again is_blank h.blanks (with_dots h.numbers ++ rest) h.blank h.blanks_end
+prefix-taken text before rest count h = grind (arith, append_assoc, skip_one-mark, rest_of-again)
 
 -- a fault in the numbers is a fault of the whole
 stopped : (text numbers : List ℕ) (f : Fault) → rest_of is_blank (skip_one is_version_mark text) ≡ numbers
     → read_triple numbers ≡ Err f → read_version text ≡ Err f
 unfolding read_version read_unmarked
 stopped text numbers f e h = rw (e, h) refl
-
--- so the fault is where the rest after a prefix begins
-stopped-told : (text beginning rest : List ℕ) (kind : Kind) (f : Fault) → length text ≤ MAX_LENGTH
-    → text ≡ beginning ++ rest → kind_in text f ≡ kind → left_of f ≡ length rest
-    → read_version text ≡ Err f → fault_of text ≡ Some (kind, length beginning)
-stopped-told text beginning rest kind f short whole same left h =
-    short-told text short ∙ ap (λ (r : Result (VersionValue × List ℕ) Fault). told text r) h
-    ∙ rw (same, left) (ap (λ (n : ℕ). Some (kind, n)) (sym (prefix-length text beginning rest whole)))
 
 -- a version with more after it is read, and something may be left
 pub record ReadsSome (text : List ℕ) : Type 0 where
@@ -162,66 +143,55 @@ left-told : (text version : List ℕ) (v w : VersionValue) (b : ℕ) (rest left 
     → ((shorter behind : List ℕ) (u : VersionValue) → text ≡ shorter ++ behind → IsVersionText shorter u
     → length shorter ≤ length version)
     → read_version text ≡ Ok (w, left) → left_told (length text) left ≡ Some (other, length version)
-left-told text version v w b rest [] short whole h longest read =
-    let all = longest text [] w (sym (append-nil text)) (read-version text w short read) in
-    absurd (omega (arith, ap length whole, length-append version (b ∷ rest)))
-left-told text version v w b rest (c ∷ left) short whole h longest read =
-    let t = version-takes text w (c ∷ left) read in
-    let taken : IsVersionText t.taken w =
-    record { short = omega (arith, ap length t.whole, length-append t.taken (c ∷ left)); fields = t.read } in
-    let below : length t.taken ≤ length version = longest t.taken (c ∷ left) w t.whole taken in
-    let above : length (c ∷ left) ≤ length (b ∷ rest) =
-    version-longest version (b ∷ rest) (c ∷ left) w v h.fields (ap (λ (l : List ℕ). read_version l) (sym whole)
-    ∙ read) in
-    let same : length text - length (c ∷ left) ≡ length version =
-    omega (
-      arith,
-      ap length whole,
-      ap length t.whole,
-      length-append version (b ∷ rest),
-      length-append t.taken (c ∷ left),
-    ) in
-    ap (λ (n : ℕ). Some (other, n)) same
+left-told text version v w b rest left short whole h longest read = grind (
+  arith,
+  version-takes text w left read,
+  read-version text w short,
+  append-nil text,
+  longest text [] w,
+  version-longest version (b ∷ rest) left w v h.fields,
+  length-append,
+)
 
 -- each fault is reported by the reader
 pub fault-again : (text : List ℕ) (kind : Kind) (offset : ℕ) → IsFault text kind offset
     → fault_of text ≡ Some (kind, offset)
 fault-again text kind offset (too_long long) = cond-false _ _ _ (lt-leb _ _ long)
-fault-again text kind offset (no_number before rest count short h none) =
-    let stops = numbers-stop h.numbers rest (missing_at rest) h.read (omega (arith, h.few, h.counted))
-    (no-number rest none) in
-    stopped-told text before rest kind (missing_at rest) short h.whole refl refl
-    (stopped text (with_dots h.numbers ++ rest) (missing_at rest) (prefix-taken text before rest count h) stops)
-fault-again text kind offset (large_number before digits rest count short h all large) =
-    let e = TooLarge (length (digits ++ rest)) in
-    let stops = numbers-stop h.numbers (digits ++ rest) e h.read (omega (arith, h.few, h.counted))
-    (too-large digits rest all large) in
-    stopped-told text before (digits ++ rest) kind e short h.whole
-    (ap (λ (l : List ℕ). too_large (number_of l)) (digits-there text before digits rest h.whole all)) refl
-    (stopped text (with_dots h.numbers ++ (digits ++ rest)) e (prefix-taken text before (digits ++ rest) count h) stops)
-fault-again text kind offset (no_dot before digits rest count short h few all limit none) =
-    let stops = dots-stop h.numbers digits rest h.read (omega (arith, h.counted)) all limit none in
-    stopped-told text (before ++ digits) rest kind (missing_at rest) short (h.whole
-    ∙ sym (append_assoc before digits rest)) refl refl
-    (stopped text (with_dots h.numbers ++ (digits ++ rest)) (missing_at rest)
-    (prefix-taken text before (digits ++ rest) count h) stops)
+fault-again text kind offset (no_number before rest count short h none) = grind (
+  arith,
+  numbers-stop h.numbers rest (missing_at rest) h.read,
+  no-number rest none,
+  stopped text (with_dots h.numbers ++ rest) (missing_at rest) (prefix-taken text before rest count h),
+  prefix-length,
+)
+fault-again text kind offset (large_number before digits rest count short h all large) = grind (
+  arith,
+  numbers-stop h.numbers (digits ++ rest) (TooLarge (length (digits ++ rest))) h.read,
+  too-large,
+  digits-there,
+  prefix-taken text before (digits ++ rest) count h,
+  stopped text (with_dots h.numbers ++ (digits ++ rest)) (TooLarge (length (digits ++ rest))),
+  prefix-length,
+)
+fault-again text kind offset (no_dot before digits rest count short h few all limit none) = grind (
+  arith,
+  dots-stop,
+  append_assoc,
+  prefix-taken text before (digits ++ rest) count h,
+  stopped text (with_dots h.numbers ++ (digits ++ rest)) (missing_at rest),
+  prefix-length,
+)
 fault-again text kind offset (left_over version v b rest short whole none h longest) =
     let s = version-opens version (b ∷ rest) v h.fields none in
-    let read : read_version text ≡ Ok (s.v, s.left) = ap (λ (l : List ℕ). read_version l) whole ∙ s.read in
-    short-told text short ∙ ap (λ (r : Result (VersionValue × List ℕ) Fault). told text r) read
-    ∙ left-told text version v s.v b rest s.left short whole h longest read
+    grind (arith, short-told text short, s.read, left-told text version v s.v b rest s.left short whole h longest)
 
 -- a version text has no fault
 pub version-none : (text : List ℕ) (v : VersionValue) → IsVersionText text v → fault_of text ≡ None
-version-none text v h =
-    short-told text h.short ∙ ap (λ (r : Result (VersionValue × List ℕ) Fault). told text r) (version-read text v h)
+version-none text v h = grind (arith, short-told text h.short, version-read text v h)
 
 -- a text has one fault at most
 pub one_fault : (text : List ℕ) (k l : Kind) (m n : ℕ) → IsFault text k m → IsFault text l n → (k ≡ l) × (m ≡ n)
-one_fault text k l m n h g =
-    let e : Some (k, m) ≡ Some (l, n) = sym (fault-again text k m h) ∙ fault-again text l n g in
-    let f : (k, m) ≡ (l, n) = cc e in
-    (ap (λ (p : Kind × ℕ). p.0) f, ap (λ (p : Kind × ℕ). p.1) f)
+one_fault text k l m n h g = grind (arith, fault-again)
 
 -- and a version text none
 pub version-no_fault : (text : List ℕ) (v : VersionValue) (kind : Kind) (offset : ℕ) → IsVersionText text v
@@ -237,8 +207,7 @@ result-takes : (text : List ℕ) (r : Result (VersionValue × List ℕ) Fault) �
     → read_version text ≡ r → ReadOrFaulty text
 result-takes text (Err f) short h = inr (kind_in text f, length text - left_of f, (fault-takes text f short h).fault)
 result-takes text (Ok (v, [])) short h = inl (v, read-version text v short h)
-result-takes text (Ok (v, b ∷ rest)) short h =
-    inr (other, length text - length (b ∷ rest), (left-takes text v b rest short h).fault)
+result-takes text (Ok (v, b ∷ rest)) short h = grind (arith, left-takes text v b rest short h)
 
 -- each text is a version text or has a fault
 pub read_or_faulty : (text : List ℕ) → ReadOrFaulty text

@@ -1,29 +1,28 @@
 -- Faults: where the reader gives a fault, the text has that fault.
-use Rattle.std.proofs.Common.{◌≡◌, ◌⊎◌, ◌≤◌, ◌<◌, ℕ, ◌+◌, ◌-◌, List, [], ◌∷◌, ◌++◌, drop, length, Ok, Err, refl, sym}
-use Rattle.std.proofs.Common.{ap, ◌∙◌, inl, inr, arith, subst, append_assoc}
-use Rattle.std.proofs.lemmas.Bool.{cases_Bool, leb-false}
+use Rattle.std.proofs.Common.{◌≡◌, ◌⊎◌, ◌≤◌, ◌<◌, ℕ, ◌+◌, ◌-◌, List, [], ◌∷◌, ◌++◌, drop, length, Ok, Err, refl}
+use Rattle.std.proofs.Common.{ap, inl, inr, arith, append_assoc}
 use Rattle.std.proofs.lemmas.List.{length-append}
 use Rattle.std.proofs.Math.Seq.{drop-append_seam}
-use Rattle.std.specs.Prelude.{Result, ◌==◌, codes, nat_le}
+use Rattle.std.specs.Prelude.{Result, ◌==◌, codes}
 use Rattle.std.specs.List.{AllByRecursion}
 use Rattle.semver_versions.specs.declared.TheConstants.{MAX_LENGTH, MAX_SAFE_INTEGER}
 use Rattle.semver_versions.specs.Characters.{BeginsWithNo, dot, is_blank, is_digit, is_version_mark, mark_of}
 use Rattle.semver_versions.specs.NumberText.{IsNumberText, number_of}
 use Rattle.semver_versions.specs.Version.{VersionValue}
 use Rattle.semver_versions.specs.VersionText.{IsVersionText}
-use Rattle.semver_versions.specs.Reading.{◌>>=◌, rest_of, skip_one, begins, prefix_of}
+use Rattle.semver_versions.specs.Reading.{◌>>=◌, rest_of, skip_one, prefix_of}
 use Rattle.semver_versions.specs.Private.VersionReading.{read_version}
 use Rattle.semver_versions.specs.Reading.{read_number}
 use Rattle.semver_versions.specs.Private.VersionReading.{read_triple, read_dot, read_unmarked}
 use Rattle.semver_versions.specs.declared.parse.fault.Fault.{Fault}
 use Rattle.semver_versions.specs.declared.parse.fault.Fault.TheVariants.{LeftOver, Missing, TooLarge}
-use Rattle.semver_versions.specs.Lemmas.Texts.Prefixes.{rest_of-no, begins-with, begins-with_no, prefix_of-rest_of}
-use Rattle.semver_versions.specs.Lemmas.Texts.Prefixes.{prefix_of-again, prefix_of-all, prefix_of-begins, rest-short}
+use Rattle.semver_versions.specs.Lemmas.Texts.Prefixes.{rest_of-no, prefix_of-rest_of}
+use Rattle.semver_versions.specs.Lemmas.Texts.Prefixes.{prefix_of-again, prefix_of-all, rest-short}
 use Rattle.semver_versions.specs.Lemmas.Texts.LongestReading.{version-longest, version-no_digit}
-use Rattle.semver_versions.specs.Lemmas.Texts.NumberReading.{number-takes, dot-takes, refusal}
+use Rattle.semver_versions.specs.Lemmas.Texts.NumberReading.{number-takes, dot-takes}
 use Rattle.semver_versions.specs.Lemmas.Texts.Marks.{mark-skip}
 use Rattle.semver_versions.specs.Lemmas.Versions.VersionReading.{version-takes}
-use Rattle.semver_versions.specs.Error.{context, other}
+use Rattle.semver_versions.specs.Error.{context}
 use Rattle.semver_versions.specs.Fault.{IsAllDigits, IsFault, HasPrefix, large_number, left_over, no_number, no_dot}
 use Rattle.semver_versions.specs.Fault.{too_large, with_dots}
 use Rattle.semver_versions.specs.Private.FaultViews.{IsReadFault}
@@ -31,11 +30,7 @@ use Rattle.semver_versions.specs.Private.FaultViews.{IsReadFault}
 -- a chain that gave a fault
 pub bind-err : {A B : Type 0} (r : Result A Fault) (f : A → Result B Fault) (e : Fault) → (r >>= f) ≡ Err e
     → (r ≡ Err e) ⊎ ((x : A) × (r ≡ Ok x) × (f x ≡ Err e))
-bind-err (Ok x) f e h = inr (x, refl, h)
-bind-err (Err d) f e h = inl (cc h)
-
-fault-value : {A : Type 0} (e f : Fault) → refusal {A = A} e ≡ refusal f → e ≡ f
-fault-value e f h = cc h
+bind-err r f e h = grind arith
 
 -- a word is missing where this text begins
 abbrev pub missing_at : List ℕ → Fault
@@ -54,36 +49,14 @@ pub record TakesLarge (text : List ℕ) (f : Fault) : Type 0 where
 number-fails : (text : List ℕ) (f : Fault) → read_number text ≡ Err f
     → (BeginsWithNo is_digit text × (missing_at text ≡ f)) ⊎ TakesLarge text f
 unfolding read_number
-number-fails text f h = elim (cases_Bool (begins is_digit text)) [
-  | inr none ↦
-      let told : refusal {A = ℕ × List ℕ} (missing_at text) ≡ refusal f = rw none at h in
-      inl (begins-with_no is_digit text none, fault-value (missing_at text) f told)
-  | inl some ↦ elim (cases_Bool (nat_le (number_of (prefix_of is_digit text)) MAX_SAFE_INTEGER)) [
-    | inl fits ↦ cc (rw (some, fits) at h)
-    | inr large ↦
-        let told : refusal {A = ℕ × List ℕ} (TooLarge (length text)) ≡ refusal f = rw (some, large) at h in
-        inr (record {
-          digits = prefix_of is_digit text;
-          rest = rest_of is_digit text;
-          whole = sym (prefix_of-rest_of is_digit text);
-          all = record {
-            some = prefix_of-begins is_digit text (begins-with is_digit text some);
-            all =
-                prefix_of-all is_digit text;
-            end = rest_of-no is_digit text;
-          };
-          large = leb-false _ _ large;
-          told = fault-value _ f told;
-        })
-  ]
-]
+number-fails text f h =
+    grind (arith, prefix_of-rest_of is_digit text, prefix_of-all is_digit text, rest_of-no is_digit text)
 
 -- no dot is read
 dot-fails : (text : List ℕ) (f : Fault) → read_dot text ≡ Err f
     → BeginsWithNo (λ b. b == dot) text × (missing_at text ≡ f)
 unfolding read_dot
-dot-fails [] f h = (tt, fault-value {A = List ℕ} _ f h)
-dot-fails (b ∷ rest) f h = grind (arith, refusal, fault-value)
+dot-fails text f h = grind arith
 
 -- a prefix is as long as the text less the rest
 pub prefix-length : (text beginning rest : List ℕ) → text ≡ beginning ++ rest
@@ -95,18 +68,11 @@ told-missing : (text beginning rest : List ℕ) (f : Fault) → text ≡ beginni
     → IsFault text (context (codes "version")) (length beginning) → IsReadFault text f
 told-missing text beginning rest f whole told h = grind (arith, rest-short, prefix-length)
 
--- what follows a prefix
-pub behind-there : (text beginning rest : List ℕ) → text ≡ beginning ++ rest → drop (length beginning) text ≡ rest
-behind-there text beginning rest whole = grind (arith, drop-append_seam)
-
 -- the digits at the place with so many bytes left
 pub digits-there : (text beginning digits rest : List ℕ) → text ≡ beginning ++ (digits ++ rest)
     → IsAllDigits digits rest → prefix_of is_digit (drop (length text - length (digits ++ rest)) text) ≡ digits
 digits-there text beginning digits rest whole all =
-    let here : drop (length text - length (digits ++ rest)) text ≡ digits ++ rest =
-    ap (λ (i : ℕ). drop i text) (sym (prefix-length text beginning (digits ++ rest) whole))
-    ∙ behind-there text beginning (digits ++ rest) whole in
-    ap (λ (l : List ℕ). prefix_of is_digit l) here ∙ prefix_of-again is_digit digits rest all.all all.end
+    grind (arith, prefix-length text beginning (digits ++ rest) whole, prefix_of-again, drop-append_seam)
 
 -- a number that is too large begins the rest
 told-large : (text beginning digits rest : List ℕ) (f : Fault) → text ≡ beginning ++ (digits ++ rest)
@@ -119,12 +85,11 @@ number-fault : (text before rest : List ℕ) (count : ℕ) (f : Fault) → lengt
     → HasPrefix text before rest count → read_number rest ≡ Err f → IsReadFault text f
 number-fault text before rest count f short prefix h = elim (number-fails rest f h) [
   | inl none ↦ told-missing text before rest f prefix.whole none.1 (no_number before rest count short prefix none.0)
-  | inr l ↦
-      let here : HasPrefix text before (l.digits ++ l.rest) count =
-      subst (λ (r : List ℕ). HasPrefix text before r count) l.whole prefix in
-      told-large text before l.digits l.rest f here.whole l.all
-      (ap (λ (r : List ℕ). TooLarge (length r)) (sym l.whole)
-      ∙ l.told) (large_number before l.digits l.rest count short here l.all l.large)
+  | inr l ↦ grind (
+    arith,
+    told-large text before l.digits l.rest f,
+    large_number before l.digits l.rest count short,
+  )
 ]
 
 -- if a dot is expected after a prefix and a number
@@ -134,21 +99,13 @@ dot-fault : (text before rest : List ℕ) (count : ℕ) (read : ℕ × List ℕ)
 dot-fault text before rest count read f short prefix few number h =
     let t = number-takes rest read.0 read.1 number in
     let p = dot-fails read.1 f h in
-    let here : HasPrefix text before (t.digits ++ read.1) count =
-    subst (λ (r : List ℕ). HasPrefix text before r count) t.whole prefix in
-    let all : IsAllDigits t.digits read.1 = record { some = t.read.some; all = t.read.digits; end = t.ends } in
-    let limit : number_of t.digits ≤ MAX_SAFE_INTEGER =
-    subst (λ (n : ℕ). n ≤ MAX_SAFE_INTEGER) t.read.value t.read.limit in
-    let whole : text ≡ (before ++ t.digits) ++ read.1 = here.whole ∙ sym (append_assoc before t.digits read.1) in
-    told-missing text (before ++ t.digits) read.1 f whole p.1
-    (no_dot before t.digits read.1 count short here few all limit p.0)
+    grind (arith, append_assoc before t.digits read.1, told-missing, no_dot before t.digits read.1 count short)
 
 -- one more text with a dot
 with_dots-more : (texts : List (List ℕ)) (text : List ℕ)
     → with_dots (texts ++ (text ∷ [])) ≡ with_dots texts ++ (text ++ (dot ∷ []))
 with_dots-more [] text = refl
-with_dots-more (t ∷ texts) text = ap (λ (l : List ℕ). t ++ (dot ∷ l)) (with_dots-more texts text)
-    ∙ sym (append_assoc t (dot ∷ with_dots texts) (text ++ (dot ∷ [])))
+with_dots-more (t ∷ texts) text = grind (arith, append_assoc, with_dots-more texts text)
 
 -- numbers as they are written
 abbrev pub AreNumbers : List (List ℕ) → Type 0
@@ -163,19 +120,13 @@ numbers-more (t ∷ texts) text number all one = (all.0, numbers-more texts text
 prefix-more : (text before digits rest : List ℕ) (count number : ℕ)
     → HasPrefix text before (digits ++ (dot ∷ rest)) count → count < 2 → IsNumberText digits number
     → HasPrefix text (before ++ (digits ++ (dot ∷ []))) rest (count + 1)
-prefix-more text before digits rest count number prefix few read =
-    let dots = with_dots-more prefix.numbers digits in
-    record {
-      whole = prefix.whole ∙ simp append_assoc;
-      blanks = prefix.blanks;
-      numbers = prefix.numbers ++ (digits ∷ []);
-      pieces = rw (prefix.pieces, dots) (simp append_assoc);
-      blank = prefix.blank;
-      blanks_end = rw dots (subst (λ (l : List ℕ). BeginsWithNo is_blank l) (simp append_assoc) prefix.blanks_end);
-      read = numbers-more prefix.numbers digits number prefix.read read;
-      counted = length-append prefix.numbers (digits ∷ []) ∙ ap (λ (n : ℕ). n + 1) prefix.counted;
-      few = omega arith;
-    }
+prefix-more text before digits rest count number prefix few read = grind (
+  arith,
+  with_dots-more prefix.numbers digits,
+  append_assoc,
+  numbers-more prefix.numbers digits number prefix.read read,
+  length-append prefix.numbers (digits ∷ []),
+)
 
 -- after a prefix, a number and its dot, a longer prefix
 pub record LongerPrefix (text rest : List ℕ) (count : ℕ) : Type 0 where
@@ -185,37 +136,25 @@ pub record LongerPrefix (text rest : List ℕ) (count : ℕ) : Type 0 where
 prefix-on : (text before rest behind : List ℕ) (count : ℕ) (read : ℕ × List ℕ) → HasPrefix text before rest count
     → count < 2
     → read_number rest ≡ Ok read → read_dot read.1 ≡ Ok behind → LongerPrefix text behind (count + 1)
-prefix-on text before rest behind count read prefix few number dot =
-    let t = number-takes rest read.0 read.1 number in
-    let e = t.whole ∙ ap (λ (l : List ℕ). t.digits ++ l) (dot-takes read.1 behind dot) in
-    record {
-      before = _;
-      prefix =
-          prefix-more text before t.digits behind count read.0
-          (subst (λ (r : List ℕ). HasPrefix text before r count) e prefix) few t.read;
-    }
+prefix-on text before rest behind count read prefix few number dot = grind (
+  arith,
+  dot-takes,
+  prefix-more text before (number-takes rest read.0 read.1 number).digits behind count read.0,
+)
 
 -- the prefix with no number
 prefix-first : (text : List ℕ) → LongerPrefix text (rest_of is_blank (skip_one is_version_mark text)) 0
-prefix-first text =
-    let mark = mark_of is_version_mark text in
-    let unmarked = skip_one is_version_mark text in
-    let split = mark-skip is_version_mark text
-    ∙ ap (λ (l : List ℕ). mark ++ l) (sym (prefix_of-rest_of is_blank unmarked)) in
-    record {
-      before = mark ++ (prefix_of is_blank unmarked ++ []);
-      prefix = record {
-        whole = split ∙ simp append_assoc;
-        blanks = prefix_of is_blank unmarked;
-        numbers = [];
-        pieces = refl;
-        blank = prefix_of-all is_blank unmarked;
-        blanks_end = rest_of-no is_blank unmarked;
-        read = tt;
-        counted = refl;
-        few = omega arith;
-      };
-    }
+prefix-first text = record {
+  before = mark_of is_version_mark text ++ (prefix_of is_blank (skip_one is_version_mark text) ++ []);
+  prefix = grind (
+    arith,
+    mark-skip is_version_mark text,
+    prefix_of-rest_of is_blank (skip_one is_version_mark text),
+    prefix_of-all is_blank (skip_one is_version_mark text),
+    rest_of-no is_blank (skip_one is_version_mark text),
+    append_assoc,
+  );
+}
 
 numbers-fault : (text before rest : List ℕ) (f : Fault) → length text ≤ MAX_LENGTH → HasPrefix text before rest 0
     → read_triple rest ≡ Err f → IsReadFault text f
@@ -245,28 +184,27 @@ numbers-fault text before rest f short prefix h = elim (bind-err (read_number re
 pub fault-takes : (text : List ℕ) (f : Fault) → length text ≤ MAX_LENGTH → read_version text ≡ Err f
     → IsReadFault text f
 unfolding read_version read_unmarked
-fault-takes text f short h =
-    let first = prefix-first text in
-    elim (bind-err (read_triple (rest_of is_blank (skip_one is_version_mark text))) _ f h) [
-      | inl e ↦ numbers-fault text first.before (rest_of is_blank (skip_one is_version_mark text)) f short
-          first.prefix e
-      | inr n ↦ cc n.2
-    ]
+fault-takes text f short h = grind (
+  arith,
+  numbers-fault text (prefix-first text).before (rest_of is_blank (skip_one is_version_mark text)) f short,
+)
 
 -- where the reader leaves something after a version, the text has that fault
 pub left-takes : (text : List ℕ) (v : VersionValue) (b : ℕ) (rest : List ℕ) → length text ≤ MAX_LENGTH
     → read_version text ≡ Ok (v, b ∷ rest) → IsReadFault text (LeftOver (length (b ∷ rest)))
 left-takes text v b rest short h =
     let t = version-takes text v (b ∷ rest) h in
-    let version : IsVersionText t.taken v =
-    record { short = omega (arith, ap length t.whole, length-append t.taken (b ∷ rest)); fields = t.read } in
+    let version : IsVersionText t.taken v = grind (arith, length-append t.taken (b ∷ rest)) in
     let longest : (shorter behind : List ℕ) (w : VersionValue) → text ≡ shorter ++ behind → IsVersionText shorter w
     → length shorter ≤ length t.taken =
-    λ shorter behind w e g.
-    let l = version-longest shorter behind (b ∷ rest) v w g.fields (ap (λ (l : List ℕ). read_version l) (sym e) ∙ h) in
-    omega (arith, ap length e, ap length t.whole, length-append shorter behind, length-append t.taken (b ∷ rest)) in
-    record {
-      within = rest-short text t.taken (b ∷ rest) t.whole;
-      fault = subst (λ (n : ℕ). IsFault text other n) (prefix-length text t.taken (b ∷ rest) t.whole)
-          (left_over t.taken v b rest short t.whole (version-no_digit text (b ∷ rest) v h) version longest);
-    }
+    λ shorter behind w e g. grind (
+      arith,
+      version-longest shorter behind (b ∷ rest) v w g.fields,
+      length-append shorter behind,
+      length-append t.taken (b ∷ rest),
+    ) in
+    grind (
+      arith,
+      prefix-length text t.taken (b ∷ rest) t.whole,
+      left_over t.taken v b rest short t.whole (version-no_digit text (b ∷ rest) v h) version longest,
+    )

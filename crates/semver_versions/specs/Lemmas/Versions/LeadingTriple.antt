@@ -1,5 +1,6 @@
 -- A triple that is read once, at the very start of a version text.
-use Rattle.std.proofs.Common.{◌≡◌, ℕ, List, [], ◌∷◌, Ok, Err, Option, refl, sym, subst}
+use native.Mathlib.Omega.{arith}
+use Rattle.std.proofs.Common.{◌≡◌, ℕ, List, Ok, Option, sym}
 use Rattle.std.specs.Borrow.{Bor}
 use Rattle.std.specs.Prelude.{IfSome, Result}
 use Rattle.std.specs.Result.{result_ok}
@@ -10,22 +11,18 @@ use Rattle.semver_versions.specs.Reading.{rest_of, skip_one}
 use Rattle.semver_versions.specs.Private.VersionReading.{read_triple}
 use Rattle.semver_versions.specs.Reading.{seen}
 use Rattle.semver_versions.specs.declared.parse.fault.Fault.{Fault}
-use Rattle.semver_versions.specs.Lemmas.Texts.Characters.{digit-no_blank, digit-no_version_mark}
 use Rattle.semver_versions.specs.Lemmas.Texts.Prefixes.{begins-append}
 use Rattle.semver_versions.specs.Lemmas.Texts.NumberReading.{number-takes}
 
 -- a number begins with a digit
 pub number-digit : (text rest : List ℕ) (number : ℕ) → Ok (number, rest) ≡ read_number text → BeginsWith is_digit text
-number-digit text rest number h =
-    let t = number-takes text number rest (sym h) in
-    subst (BeginsWith is_digit) (sym t.whole) (begins-append is_digit t.digits rest t.read.some)
+number-digit text rest number h = grind (arith, number-takes text number rest (sym h), begins-append)
 
 -- a text that begins with a digit begins with no mark and no blank
 pub version-begins : (text : List ℕ) → BeginsWith is_digit text
     → rest_of is_blank (skip_one is_version_mark text) ≡ text
 unfolding rest_of skip_one
-version-begins [] digit = absurd digit
-version-begins (b ∷ text) digit = rw (digit-no_version_mark b digit, digit-no_blank (b ∷ text) digit) refl
+version-begins text digit = grind arith
 
 -- three numbers that are read from the start
 pub leading-read : (text first : List ℕ) (major : ℕ) (r : Result ((ℕ × ℕ × ℕ) × Bor (List ℕ)) Fault)
@@ -33,6 +30,4 @@ pub leading-read : (text first : List ℕ) (major : ℕ) (r : Result ((ℕ × �
     → seen r ≡ read_minor_and_patch (major, first) → found ≡ result_ok r
     → IfSome found (λ t. read_marked_triple text ≡ Ok (t.0, t.1.now))
 unfolding read_triple
-leading-read text first major (Ok x) found one two is =
-    rw (is, version-begins text (number-digit text first major one), ← one) (sym two)
-leading-read text first major (Err f) found one two is = rw is tt
+leading-read text first major r found one two is = grind (arith, version-begins, number-digit)

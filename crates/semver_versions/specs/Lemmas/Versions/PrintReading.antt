@@ -1,16 +1,15 @@
 -- The print of a version of which a text can write the numbers and the identifiers is such a text.
-use Rattle.std.proofs.Common.{◌≡◌, ◌<◌, ◌≤◌, ◌^◌, ◌∙◌, ℕ, Bool, true, false, List, [], ◌∷◌, ◌++◌, map, length}
-use Rattle.std.proofs.Common.{append_assoc, arith, refl, sym, ap, subst, inl}
+use Rattle.std.proofs.Common.{◌≡◌, ◌≤◌, ℕ, Bool, true, false, List, [], ◌∷◌, ◌++◌, map, length}
+use Rattle.std.proofs.Common.{append_assoc, arith, refl, subst}
 use Rattle.std.proofs.lemmas.Bool.{and_parts, ltb-true}
 use Rattle.std.specs.Fmt.{decimal}
 use Rattle.std.specs.List.{AllByRecursion, join_with_byte}
-use Rattle.semver_versions.specs.declared.TheConstants.{MAX_LENGTH, MAX_SAFE_INTEGER}
+use Rattle.semver_versions.specs.declared.TheConstants.{MAX_LENGTH}
 use Rattle.semver_versions.specs.Characters.{BeginsWith, BeginsWithNo, dot, hyphen, is_digit}
-use Rattle.semver_versions.specs.Characters.{is_version_mark, mark_of, plus}
+use Rattle.semver_versions.specs.Characters.{mark_of, plus}
 use Rattle.semver_versions.specs.IdentifierText.{IsBuildText, IsIdentifierList, IsIdentifierText, IsPrereleaseText}
 use Rattle.semver_versions.specs.IdentifierText.{identifier_of, parts_of}
 use Rattle.semver_versions.specs.IdentifierValue.{IdentifierValue}
-use Rattle.semver_versions.specs.NumberText.{IsNumberText}
 use Rattle.semver_versions.specs.Print.{identifier_text, marked_text, version_text}
 use Rattle.semver_versions.specs.IdentifierText.{IsReadIdentifier}
 use Rattle.semver_versions.specs.Version.{VersionValue}
@@ -23,17 +22,6 @@ use Rattle.semver_versions.specs.Lemmas.Texts.Characters.{digit-no_version_mark}
 use Rattle.semver_versions.specs.ReadingBack.{HasText, HasTextNumbers, VersionReadsBack}
 
 -- ---- numbers
-
--- the decimal digits of a number within the limit are a number text of it
-pub number-text : (n : ℕ) → n ≤ MAX_SAFE_INTEGER → IsNumberText (decimal n) n
-number-text n limit =
-    let small : n < 2 ^ 64 = omega arith in
-    record {
-      some = decimal-begins n small;
-      digits = decimal-digits n small;
-      value = sym (decimal-value n small);
-      limit = limit;
-    }
 
 -- ---- identifiers
 
@@ -66,26 +54,18 @@ identifiers-values (i ∷ is) read = grind (arith, identifiers-values is, identi
 list-printed : (i : IdentifierValue) (is : List IdentifierValue) → AllByRecursion IsReadIdentifier (i ∷ is)
     → IsIdentifierList (join_with_byte dot (map identifier_text (i ∷ is))) (i ∷ is)
 list-printed i is read =
-    let parts = parts-printed i is read in
-    record {
-      parts = subst (λ (l : List (List ℕ)). AllByRecursion IsIdentifierText l) (sym parts)
-          (identifiers-texts (i ∷ is) read);
-      values = identifiers-values (i ∷ is) read
-          ∙ ap (λ (l : List (List ℕ)). map identifier_of l) (sym parts);
-    }
+    grind (arith, parts-printed i is read, identifiers-texts (i ∷ is) read, identifiers-values (i ∷ is) read)
 
 -- ---- extras
 
 prerelease-printed : (is : List IdentifierValue) → AllByRecursion IsReadIdentifier is
     → IsPrereleaseText (marked_text hyphen is) is
 prerelease-printed [] read = refl
-prerelease-printed (i ∷ is) read =
-    (join_with_byte dot (map identifier_text (i ∷ is)), inl refl, list-printed i is read)
+prerelease-printed (i ∷ is) read = grind (arith, list-printed i is read)
 
 build-printed : (is : List IdentifierValue) → AllByRecursion IsReadIdentifier is → IsBuildText (marked_text plus is) is
 build-printed [] read = refl
-build-printed (i ∷ is) read =
-    (join_with_byte dot (map identifier_text (i ∷ is)), refl, list-printed i is read)
+build-printed (i ∷ is) read = grind (arith, list-printed)
 
 -- after the triple
 abbrev pub extras_text : VersionValue → List ℕ
@@ -93,9 +73,7 @@ extras_text v = marked_text hyphen v.pre_release ++ marked_text plus v.build
 
 pub extras_text-no_digit : (pre build : List IdentifierValue)
     → BeginsWithNo is_digit (marked_text hyphen pre ++ marked_text plus build)
-extras_text-no_digit [] [] = tt
-extras_text-no_digit [] (j ∷ build) = refl
-extras_text-no_digit (i ∷ pre) build = refl
+extras_text-no_digit pre build = grind arith
 
 -- ---- versions
 
@@ -105,66 +83,31 @@ pub record IsTextVersion (v : VersionValue) : Type 0 where
   pub pre_release : AllByRecursion IsReadIdentifier v.pre_release
   pub build : AllByRecursion IsReadIdentifier v.build
 
--- the parts of the print, in the order in which they are read
-parts-in_order : (first second third pre build : List ℕ)
-    → first ++ (dot ∷ second) ++ (dot ∷ third) ++ pre ++ build
-    ≡ first ++ (dot ∷ (second ++ (dot ∷ (third ++ (pre ++ build)))))
-parts-in_order first second third pre build =
-    append_assoc (first ++ (dot ∷ second) ++ (dot ∷ third)) pre build
-    ∙ append_assoc (first ++ (dot ∷ second)) (dot ∷ third) (pre ++ build)
-    ∙ append_assoc first (dot ∷ second) (dot ∷ (third ++ (pre ++ build)))
-
 pub print-whole : (v : VersionValue)
     → version_text v ≡ decimal v.major ++ (dot ∷ (decimal v.minor ++ (dot ∷ (decimal v.patch ++ extras_text v))))
-print-whole v = grind (arith, parts-in_order)
+print-whole v = grind (arith, append_assoc)
 
 pub three-printed : (v : VersionValue) → IsTextVersion v → IsUnmarkedVersion v (version_text v)
-three-printed v is = record {
-  first = decimal v.major;
-  second = decimal v.minor;
-  third = decimal v.patch;
-  extras = extras_text v;
-  whole = print-whole v;
-  major_text = number-text v.major is.numbers.major;
-  minor_text = number-text v.minor is.numbers.minor;
-  patch_text = number-text v.patch is.numbers.patch;
-  digits_end = λ digit. extras_text-no_digit v.pre_release v.build;
-  extras_text = record {
-    prefix = marked_text hyphen v.pre_release;
-    rest = marked_text plus v.build;
-    whole = refl;
-    first = prerelease-printed v.pre_release is.pre_release;
-    second = build-printed v.build is.build;
-  };
-}
+three-printed v is =
+    grind (arith, print-whole, prerelease-printed, build-printed, decimal-begins, decimal-digits, decimal-value)
 
 -- the print begins with a digit
 pub print-begins : (v : VersionValue) → IsTextVersion v → BeginsWith is_digit (version_text v)
-print-begins v is = grind (arith, print-whole, begins-append, number-text)
+print-begins v is = grind (arith, print-whole, begins-append, decimal-begins, decimal-digits, decimal-value)
 
 -- so it has no mark
 no-mark : (is_mark : ℕ → Bool) (text : List ℕ) → ((b : ℕ) → is_digit b ≡ true → is_mark b ≡ false)
     → BeginsWith is_digit text → mark_of is_mark text ≡ []
-no-mark is_mark [] none digit = refl
-no-mark is_mark (b ∷ text) none digit = rw (none b digit) refl
+no-mark is_mark text none digit = grind arith
 
 -- a text that begins with a digit has no mark and no blanks
 pub unmarked : (is_mark : ℕ → Bool) (Is : List ℕ → Type 0) (text : List ℕ)
     → ((b : ℕ) → is_digit b ≡ true → is_mark b ≡ false) → BeginsWith is_digit text → Is text → IsMarked is_mark Is text
-unmarked is_mark Is text none digit is = record {
-  blanks = [];
-  unmarked = text;
-  whole = ap (λ (l : List ℕ). l ++ text) (sym (no-mark is_mark text none digit));
-  blank = refl;
-  read = is;
-}
+unmarked is_mark Is text none digit is =
+    record { blanks = []; unmarked = text; whole = grind (arith, no-mark is_mark text); blank = refl; read = is }
 
 pub version-printed : (v : VersionValue) → IsTextVersion v → VersionReadsBack v
-version-printed v is short = record {
-  short = short;
-  fields = unmarked is_version_mark (IsUnmarkedVersion v) (version_text v) digit-no_version_mark (print-begins v is)
-      (three-printed v is);
-}
+version-printed v is short = grind (arith, unmarked, digit-no_version_mark, print-begins, three-printed)
 
 -- a version that was read is one that a text can write
 text-version : (text : List ℕ) (v : VersionValue) → IsVersionText text v → IsTextVersion v

@@ -1,4 +1,6 @@
-use Rattle.std.proofs.Common.{◌≡◌, rules, Some, None, refl, ap, sym, string_bytes}
+use Rattle.std.proofs.lemmas.Grind.{common_steps}
+use native.Mathlib.Omega.{arith}
+use Rattle.std.proofs.Common.{◌≡◌, rules, Some, None, refl, ap, sym}
 use mathlib.Core.Bool.{true≢false}
 use denote.Enum.Bare.{same_true, true_same}
 use Rattle.std.specs.Bool.{Decides}
@@ -35,8 +37,5 @@ pub returns-clause-kind : goal.returns-clause-kind
 returns-clause-kind c = kinds_decide
 
 pub returns-clause-error : goal.returns-clause-error
-returns-clause-error c = λ e f. Decides-like _
-    (λ s. λ i. (record { input = s.0 i; offset = s.1.0.0 i; length = s.1.0.1 i; kind = (s.1.1 i).0 }, (s.1.1 i).1))
-    (λ s. (ap (λ v. v.0.input) s, ((ap (λ v. v.0.offset) s, ap (λ v. v.0.length) s), ap (λ v. (v.0.kind, v.1)) s)))
-    (Decides-and _ _ (bytes_decides (string_bytes e.input) (string_bytes f.input))
-    (Decides-and _ _ (Decides-and _ _ (Decides-eqb _ _) (Decides-eqb _ _)) (kinds_decide e.kind f.kind)))
+returns-clause-error c =
+    grind (arith, common_steps, Decides-like, Decides-and, bytes_decides, Decides-eqb, kinds_decide)

@@ -1,3 +1,4 @@
+use native.Mathlib.Omega.{arith}
 use Rattle.std.proofs.Common.{◌∙◌, rules}
 use Rattle.semver_versions.specs.Private.ListedViews.{is_inner}
 use Rattle.semver_versions.specs.Lemmas.Texts.ListedTexts.{listed-ends, split-alone, split-before, split-shorter}
@@ -18,6 +19,4 @@ returns-in-len1-up-clause-split c =
     (c.split.ensures.rest is_inner (search rules) ∙ e.rest) c.in-len1-up.len_at_least
 
 pub returns-in-len1-up-clause-shorter : goal.returns-in-len1-up-clause-shorter
-returns-in-len1-up-clause-shorter c =
-    let e = listed-ends c.args.text.now c.requires.listed c.requires.some in
-    split-shorter c.args.text.now _ (c.split.ensures.rest is_inner (search rules) ∙ e.rest) c.in-len1-up.len_at_least
+returns-in-len1-up-clause-shorter c = grind (arith, listed-ends, split-shorter)

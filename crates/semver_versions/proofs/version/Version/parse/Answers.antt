@@ -1,3 +1,4 @@
+use native.Mathlib.Omega.{arith}
 use Rattle.std.proofs.Common.{Ok, rules}
 use Rattle.semver_versions.proofs.Versions.VersionAnswers.{answer-printed, answer-reads_back, only-answer}
 use Rattle.semver_versions.proofs.version.Version.parse.Goals as goal
@@ -20,15 +21,10 @@ returns-in-Ok-clause-printed c =
 -- ---- a text that is read in parts
 
 pub returns-in-Err-clause-only : goal.returns-in-Err-clause-only
-returns-in-Err-clause-only c =
-    only-answer c.args.text.now c.version_in_parts.result c.version_in_parts.ensures.found
-    c.version_in_parts.ensures.fault
+returns-in-Err-clause-only c = grind (arith, only-answer)
 
 pub returns-in-Err-clause-print : goal.returns-in-Err-clause-print
-returns-in-Err-clause-print c =
-    answer-reads_back c.args.text.now c.version_in_parts.result c.version_in_parts.ensures.found
+returns-in-Err-clause-print c = grind (arith, answer-reads_back)
 
 pub returns-in-Err-clause-printed : goal.returns-in-Err-clause-printed
-returns-in-Err-clause-printed c =
-    answer-printed c.args.text.now c.version_in_parts.result c.version_in_parts.ensures.found
-    c.version_in_parts.ensures.fault
+returns-in-Err-clause-printed c = grind (arith, answer-printed)

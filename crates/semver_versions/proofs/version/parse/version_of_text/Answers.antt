@@ -1,16 +1,11 @@
+use native.Mathlib.Omega.{arith}
 use Rattle.std.proofs.Common.{rules}
 use Rattle.semver_versions.specs.Lemmas.Versions.FaultLemmas.{version-no_fault}
 use Rattle.semver_versions.proofs.Versions.VersionParse.{begun-release}
 use Rattle.semver_versions.proofs.version.parse.version_of_text.Goals as goal
 
 pub returns-in-Ok-default-empty : goal.returns-in-Ok-default-empty
-returns-in-Ok-default-empty c =
-    let found = c.in-Ok-default-empty in record {
-      found = rw (← c.as_bytes.ensures.value, c.new.ensures)
-          (begun-release c.as_bytes.result.now found.field-0-1.now found.triple found.ensures.begun found.len_below);
-      fault = search rules;
-      plain = search rules;
-    }
+returns-in-Ok-default-empty c = grind (arith, begun-release)
 
 pub returns-in-Err : goal.returns-in-Err
 returns-in-Err c = record {

@@ -1,12 +1,10 @@
-use Rattle.std.proofs.Common.{rules}
+use native.Mathlib.Omega.{arith}
 use Rattle.semver_versions.specs.CoerceWithPrerelease.{last}
 use Rattle.semver_versions.proofs.Versions.Extras.{list_first, list_from, list_next, list_on, list_stops}
 use Rattle.semver_versions.proofs.version.coerce.extras.list_end.Goals as goal
 
 pub returns-in-Missing-clause-ending : goal.returns-in-Missing-clause-ending
-returns-in-Missing-clause-ending c = λ end h.
-    let first = list_first c.args.extra c.args.text.now c.args.start end h in
-    c.in-Missing.ensures.ending first.0 first.1
+returns-in-Missing-clause-ending c = grind (arith, list_first)
 
 pub returns-in-AfterLimit-clause-ending : goal.returns-in-AfterLimit-clause-ending
 returns-in-AfterLimit-clause-ending c =
@@ -22,32 +20,10 @@ identifiers-init c = record {
 }
 
 pub identifiers-preserved : goal.identifiers-preserved
-identifiers-preserved c =
-    let next = c.in-At-identifier_end.next in
-    let identifier = c.in-At-identifier_end.ensures.ending in
-    record {
-      within = c.in-At-identifier_end.ensures.within;
-      listed = list_on c.args.extra c.args.text.now c.args.start c.identifiers.end next
-          c.identifiers.invariant.listed (search rules) identifier;
-      others = λ other h.
-          list_next c.args.extra c.args.text.now c.identifiers.end next other identifier
-          (c.identifiers.invariant.others other h);
-    }
+identifiers-preserved c = grind (arith, list_on, list_next)
 
 pub returns-in-Missing-identifier_end-clause-ending : goal.returns-in-Missing-identifier_end-clause-ending
-returns-in-Missing-identifier_end-clause-ending c = (
-  c.identifiers.invariant.listed,
-  search rules,
-  λ other h.
-      list_stops c.args.extra c.args.text.now c.identifiers.end other
-      (λ end. c.in-Missing-identifier_end.ensures.ending end) (c.identifiers.invariant.others other h),
-)
+returns-in-Missing-identifier_end-clause-ending c = grind (arith, list_stops)
 
 pub returns-in-AfterLimit-identifier_end-clause-ending : goal.returns-in-AfterLimit-identifier_end-clause-ending
-returns-in-AfterLimit-identifier_end-clause-ending c =
-    let next = c.in-AfterLimit-identifier_end.ensures.ending in (
-      next.0,
-      next.1,
-      list_on c.args.extra c.args.text.now c.args.start c.identifiers.end next.0 c.identifiers.invariant.listed
-          (search rules) next.2,
-    )
+returns-in-AfterLimit-identifier_end-clause-ending c = grind (arith, list_on)

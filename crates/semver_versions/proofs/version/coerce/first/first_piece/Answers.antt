@@ -4,9 +4,7 @@ use Rattle.semver_versions.proofs.Versions.Pieces.{first_of}
 use Rattle.semver_versions.proofs.version.coerce.first.first_piece.Goals as goal
 
 pub returns-in-Some-clause-some : goal.returns-in-Some-clause-some
-returns-in-Some-clause-some c =
-    first_found c.args.text.now c.in-Some.start c.in-Some.first _ _ c.in-Some.ensures.some
-    c.piece_from.ensures.longest
+returns-in-Some-clause-some c = grind (arith, first_found)
 
 pub returns-in-None-clause-none : goal.returns-in-None-clause-none
 returns-in-None-clause-none c = λ start end numbers h.

@@ -1,9 +1,9 @@
+use native.Mathlib.Omega.{arith}
 use Rattle.semver_versions.proofs.Versions.Pieces.{one_from, three_from, two_from}
 use Rattle.semver_versions.proofs.version.coerce.first.piece_from.Goals as goal
 
 pub returns-in_default-clause-longest : goal.returns-in_default-clause-longest
-returns-in_default-clause-longest c =
-    one_from c.args.text.now c.args.start c.args.first c.requires c.in_default.ensures.none
+returns-in_default-clause-longest c = grind (arith, one_from)
 
 pub returns-in-None-clause-longest : goal.returns-in-None-clause-longest
 returns-in-None-clause-longest c =

@@ -9,9 +9,7 @@ returns-in-Some-clause-some c =
     c.full_from.ensures.full c.full_from.ensures.start
 
 pub returns-in-Some-clause-none : goal.returns-in-Some-clause-none
-returns-in-Some-clause-none c =
-    first_none c.args.text.now c.in-Some.start c.in-Some.first c.full_from.result c.in-Some.ensures.some
-    c.full_from.ensures.none
+returns-in-Some-clause-none c = grind (arith, first_none)
 
 pub returns-in-None-clause-none : goal.returns-in-None-clause-none
 returns-in-None-clause-none c = λ start ends numbers h.

@@ -7,11 +7,7 @@ use Rattle.semver_versions.proofs.version.coerce.last_full.last_full.Goals.{in-S
 use Rattle.semver_versions.proofs.version.coerce.last_full.last_full.Goals as goal
 
 pub returns-then-piece-text-clause-some : goal.returns-then-piece-text-clause-some
-returns-then-piece-text-clause-some c =
-    let piece = c.in-Some-full_from.piece in
-    let full = c.in-Some-full_from.ensures in
-    last_there c.args.text.now c.numbers.from c.in-Some.start c.in-Some.first c.numbers.found piece
-    c.numbers.invariant.found c.in-Some.ensures.some full.start full.full full.short (omega (arith, c.if-piece-text.true))
+returns-then-piece-text-clause-some c = grind (arith, last_there)
 
 pub numbers-preserved : goal.numbers-preserved
 numbers-preserved c =
@@ -37,9 +33,7 @@ numbers-preserved c =
     }
 
 pub returns-clause-some : goal.returns-clause-some
-returns-clause-some c =
-    found_some c.args.text.now c.numbers.from c.numbers.found c.numbers.invariant.found c.in_default.ensures.none
+returns-clause-some c = grind (arith, found_some)
 
 pub returns-clause-none : goal.returns-clause-none
-returns-clause-none c =
-    found_none c.args.text.now c.numbers.from c.numbers.found c.numbers.invariant.found c.in_default.ensures.none
+returns-clause-none c = grind (arith, found_none)

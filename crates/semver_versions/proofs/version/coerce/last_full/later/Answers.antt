@@ -1,12 +1,11 @@
-use Rattle.std.proofs.Common.{Some, None, arith, subst}
+use Rattle.std.proofs.Common.{arith, subst}
 use Rattle.semver_versions.specs.Private.ExtraViews.{IsFoundBefore}
 use Rattle.semver_versions.proofs.Versions.FullPieces.{short_full, short_same}
 use Rattle.semver_versions.proofs.Versions.LastFull.{keep_some, take}
 use Rattle.semver_versions.proofs.version.coerce.last_full.later.Goals as goal
 
 pub returns-in-None : goal.returns-in-None
-returns-in-None c = λ text from first h number full short inner.
-    take text from first None c.args.piece (subst (IsFoundBefore text from) c.in-None.is h) number full short inner tt
+returns-in-None c = grind (arith, take)
 
 pub returns-then-before-piece : goal.returns-then-before-piece
 returns-then-before-piece c = λ text from first h number full short inner.
@@ -16,6 +15,4 @@ returns-then-before-piece c = λ text from first h number full short inner.
     (omega (arith, same, c.if-before-piece.true), omega (arith, same, inner)))
 
 pub returns-else-before-piece : goal.returns-else-before-piece
-returns-else-before-piece c = λ text from first h number full short inner.
-    take text from first (Some c.in-Some.before) c.args.piece (subst (IsFoundBefore text from) c.in-Some.is h) number full
-    short inner c.if-before-piece.false
+returns-else-before-piece c = grind (arith, take)

@@ -10,7 +10,7 @@ use crate::algebra::near::first_near;
 use std::alloc::AllocError;
 
 // If the merged list has fewer spans than this, each pair of spans is tried.
-const FEW: usize = 3;
+const FEW_SPANS: usize = 3;
 
 impl<'a, 'p, T: Ord> MergedSpans<'a, 'p, T> {
     /// Passes the intersection of `ones` and this list to `into`: for each span of `ones` and each span of this list,
@@ -44,7 +44,7 @@ impl<'a, 'p, T: Ord> MergedSpans<'a, 'p, T> {
         if let ([this], [that]) = (ones, others) {
             return common_of(this, that, into);
         }
-        if others.len() < FEW || !self.is_itself() {
+        if others.len() < FEW_SPANS || !self.is_list_merged() {
             return common_of_all(ones, others, into);
         }
         common_ascending(ones, others, into)

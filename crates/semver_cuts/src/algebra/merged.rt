@@ -65,7 +65,7 @@ impl<'a, 'p, T: Ord> MergedSpans<'a, 'p, T> {
     ///
     /// Does not allocate.
     #[inline]
-    pub fn itself(spans: &'a [Span<T>]) -> MergedSpans<'a, 'p, T>
+    pub fn of_merged(spans: &'a [Span<T>]) -> MergedSpans<'a, 'p, T>
         requires { AreMerged T.cmp spans.now }
         ensures list { result.list ≡ spans.now }
         ensures merged { result.merged ≡ spans.now }
@@ -147,7 +147,7 @@ impl<'a, 'p, T: Ord> MergedSpans<'a, 'p, T> {
 
     // Returns `true` only if the list is merged as it stands.
     #[inline]
-    pub(crate) fn is_itself(&self) -> bool
+    pub(crate) fn is_list_merged(&self) -> bool
         ensures { IsTrue result → AreMerged T.cmp self.now.list }
     {
         self.places.is_empty()

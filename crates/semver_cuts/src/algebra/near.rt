@@ -22,7 +22,7 @@ pub(crate) fn first_near<T: Ord>(spans: &[Span<T>], place: usize, cut: &Cut<T>) 
     if is_first_above(spans, next, cut) {
         return next;
     }
-    MergedSpans::itself(spans).first_above(cut)
+    MergedSpans::of_merged(spans).first_above(cut)
 }
 
 // Returns `true` only if the span at the place is the first that ends above the cut.

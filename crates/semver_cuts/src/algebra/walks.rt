@@ -27,7 +27,7 @@ pub fn covers<T: Ord>(ones: &[Span<T>], others: &[Span<T>]) -> bool
     requires others { AreMerged T.cmp others.now }
     ensures { IsTrue result ↔ CoversAll T.cmp ones.now others.now }
 {
-    MergedSpans::itself(ones).covers(&MergedSpans::itself(others))
+    MergedSpans::of_merged(ones).covers(&MergedSpans::of_merged(others))
 }
 
 impl<'a, 'p, T: Ord> MergedSpans<'a, 'p, T> {

@@ -1,4 +1,5 @@
--- Lemmas about single functions, and worked examples. The lemmas that other crates cite are in `specs/Lemmas`. The other
+-- Lemmas about single functions, and worked examples. The lemmas that other crates cite are in `specs/Lemmas`. The
+-- other
 -- folders hold the proofs of functions, by module.
 -- ---- versions: what parsing returns
 pub mod Versions

@@ -1,4 +1,5 @@
--- The order of versions with their builds: npm's README, `compareBuild`. SemVer 2.0.0, section 11, orders no builds. It is
+-- The order of versions with their builds: npm's README, `compareBuild`. SemVer 2.0.0, section 11, orders no builds. It
+-- is
 -- defined twice, as the order of precedence is: as a function, and in words.
 use Rattle.std.specs.Prelude.{◌≡◌, ◌↔◌, List}
 use Rattle.std.specs.Ordering.{on, then_cmp}

@@ -26,7 +26,8 @@ to_prerelease low high = first_of PreMajor PreMinor PrePatch PreRelease low high
 abbrev pub to_release : VersionValue → VersionValue → Bump
 to_release low high = first_of Major Minor Patch Patch low high
 
--- The bump by which a prerelease becomes a release: of which release it is a prerelease, or else the least one that does
+-- The bump by which a prerelease becomes a release: of which release it is a prerelease, or else the least one that
+-- does
 -- not go past the release. `major` for `1.0.0-rc.1` and `1.0.0`, `patch` for `1.2.0-rc.1` and `1.2.1`, `minor` for
 -- `1.2.3-rc.1` and `1.3.0`
 abbrev pub by_numbers : (low_minor low_patch high_minor high_patch : ℕ) → Bump

@@ -1,4 +1,5 @@
--- The version that is found in a text with its prerelease and its build: npm's `coerce` with `includePrerelease`, as its
+-- The version that is found in a text with its prerelease and its build: npm's `coerce` with `includePrerelease`, as
+-- its
 -- README has it under "Coercion". Places in the text are counted from 0.
 use Rattle.std.specs.Prelude.{◌≡◌, ◌⊎◌, ◌+◌, ◌-◌, ◌*◌, ◌<◌, ◌≤◌, ℕ, Bool, true, false, List, length}
 use Rattle.std.specs.Prelude.{slice_index, slice_range}

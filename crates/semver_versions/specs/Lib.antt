@@ -43,7 +43,8 @@ pub mod VersionLaws
 pub mod Identifier
 pub mod IdentifierRef
 pub mod EndViews
--- ---- not to be trusted: what private functions compute, and lemmas. The lemmas that the crates above cite are listed in
+-- ---- not to be trusted: what private functions compute, and lemmas. The lemmas that the crates above cite are listed
+-- in
 -- ---- `Lemmas/Public`.
 pub mod Private
 pub mod Lemmas

@@ -7,7 +7,8 @@ use Rattle.semver_versions.specs.Fault.{IsFault}
 use Rattle.semver_versions.specs.StrictVersionText.{IsStrictFault}
 use Rattle.semver_versions.specs.declared.version_ref.fault.VersionFault.{VersionFault}
 use Rattle.semver_versions.specs.declared.version_ref.fault.FaultKind.{FaultKind}
-use Rattle.semver_versions.specs.declared.version_ref.fault.FaultKind.TheVariants.{TooLong, Missing, TooLarge, Overflow, LeftOver}
+use Rattle.semver_versions.specs.declared.version_ref.fault.FaultKind.TheVariants.{TooLong, Missing, TooLarge, Overflow}
+use Rattle.semver_versions.specs.declared.version_ref.fault.FaultKind.TheVariants.{LeftOver}
 
 abbrev pub fault_kind_of : FaultKind → Kind
 fault_kind_of TooLong = max_length

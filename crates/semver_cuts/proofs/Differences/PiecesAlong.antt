@@ -13,7 +13,8 @@ use Rattle.semver_cuts.specs.Ends.{Ends, IsCutAtMost, IsCutBelow, span_between}
 use Rattle.semver_cuts.specs.Difference.{ArePieces, IsFirstAt, IsPieceLower, IsPieceUpper}
 use Rattle.semver_cuts.specs.Joined.{AreMerged, AreRising}
 use Rattle.semver_cuts.specs.Lemmas.Apart.{apart-above, apart-cons, merged-tail}
-use Rattle.semver_cuts.specs.Lemmas.Ends.{at_most-below, at_most-from_not_lt, at_most-or-below, at_most_refl, below-from_lt}
+use Rattle.semver_cuts.specs.Lemmas.Ends.{at_most-below, at_most-from_not_lt, at_most-or-below, at_most_refl}
+use Rattle.semver_cuts.specs.Lemmas.Ends.{below-from_lt}
 use Rattle.semver_cuts.specs.Lemmas.Ends.{at_most_trans, below-at_most, below-not-at_most, below_trans}
 use Rattle.semver_cuts.proofs.Differences.GreatestSpans.{none-above}
 
@@ -40,7 +41,8 @@ module _ {T : Type 0} {cmp : T → T → Ordering} (o : IsTotalOrder cmp) where
   -- the piece below the next span is added, if a cut lies there
   abbrev pub IsAdded : Cut T → Cut T → List (Ends T) → List (Ends T) → Type 0
   IsAdded low lower done new =
-      (IsCutBelow cmp low lower × (new ≡ done ++ span_between low lower ∷ [])) ⊎ (IsCutAtMost cmp lower low × (new ≡ done))
+      (IsCutBelow cmp low lower × (new ≡ done ++ span_between low lower ∷ [])) ⊎
+          (IsCutAtMost cmp lower low × (new ≡ done))
 
   pub added-by : (low lower : Cut T) (first old now done : List (Ends T)) → old ≡ first ++ done
       → ((is_lt (cut_cmp cmp low lower) ≡ true) × (now ≡ old ++ span_between low lower ∷ []))
@@ -55,7 +57,8 @@ module _ {T : Type 0} {cmp : T → T → Ordering} (o : IsTotalOrder cmp) (other
       → AllByRecursion (λ (s : Ends T). IsCutAtMost cmp one.upper s.lower) spans
       → ArePiecesFrom cmp others one low spans (span_between low one.upper ∷ [])
   whole-piece low spans below end above =
-      let none = λ (cut : Cut T) (h : IsCutBelow cmp cut one.upper). none-above cmp o cut spans (lowers-from o cut one.upper spans h above) in
+      let none = λ (cut : Cut T) (h : IsCutBelow cmp cut one.upper). none-above cmp o cut spans
+          (lowers-from o cut one.upper spans h above) in
       grind (arith, none, at_most_refl o low)
 
   -- if the cut is not below the end of `one`, there is no piece
@@ -80,16 +83,20 @@ module _ {T : Type 0} {cmp : T → T → Ordering} (o : IsTotalOrder cmp) (other
 
     without-first : (parts : List (Ends T)) → ArePiecesFrom cmp others one span.upper spans parts
         → IsCutAtMost cmp span.lower low → ArePiecesFrom cmp others one low (span ∷ spans) parts
-    without-first parts are touches = grind (arith, lowers-from o low span.upper, lowers-at_least o low, behind, at_most_trans o)
+    without-first parts are touches = grind (arith, lowers-from o low span.upper, lowers-at_least o low, behind,
+        at_most_trans o)
 
     with-first : (parts : List (Ends T)) → ArePiecesFrom cmp others one span.upper spans parts
         → IsCutBelow cmp low span.lower → IsPieceLower cmp others one low
         → IsFirstAt cmp (λ (s : Ends T). s.lower) others span.lower
         → ArePiecesFrom cmp others one low (span ∷ spans) (span_between low span.lower ∷ parts)
     with-first parts are room end first =
-        let none = λ (cut : Cut T) (h : IsCutBelow cmp cut span.lower). none-above cmp o cut (span ∷ spans) (h, lowers-above o cut span.upper spans (inl (below_trans o cut span.lower span.upper h rising)) above) in record {
+        let none = λ (cut : Cut T) (h : IsCutBelow cmp cut span.lower). none-above cmp o cut (span ∷ spans)
+            (h, lowers-above o cut span.upper spans (inl (below_trans o cut span.lower span.upper h rising)) above) in
+            record {
           rising = (room, are.rising);
-          apart = apart-cons cmp (span_between low span.lower) parts (lowers-from o span.lower span.upper parts rising are.from) are.apart;
+          apart = apart-cons cmp (span_between low span.lower) parts
+              (lowers-from o span.lower span.upper parts rising are.from) are.apart;
           from = (at_most_refl o low, lowers-at_least o low parts (lowers-from o low span.upper parts over are.from));
           inside = λ cut is. grind (arith, none cut, behind parts are cut, below_trans o cut span.lower one.upper);
           all = λ cut l u free. grind (arith, from_behind parts are cut u free, at_most-or-below o span.lower cut);

@@ -24,7 +24,8 @@ module _ {T : Type 0} {cmp : T → T → Ordering} (o : IsTotalOrder cmp) (one :
 
   none-common : (others : List (Ends T)) → AllByRecursion IsApart others → common_with cmp one others ≡ []
   none-common [] all = refl
-  none-common (other ∷ others) all = common_of-cases o one other (λ spans. spans ++ common_with cmp one others ≡ []) (λ shared. absurd (all.0 shared)) (λ none. none-common others all.1)
+  none-common (other ∷ others) all = common_of-cases o one other (λ spans. spans ++ common_with cmp one others ≡ [])
+      (λ shared. absurd (all.0 shared)) (λ none. none-common others all.1)
 
   before : (other : Ends T) → IsCutAtMost cmp other.upper one.lower → IsApart other
   before other ended shared = grind arith
@@ -40,7 +41,8 @@ module _ {T : Type 0} {cmp : T → T → Ordering} (o : IsTotalOrder cmp) (one :
   pub common_with-from : (others : List (Ends T)) (k : ℕ)
       → AllByRecursion (λ (other : Ends T). IsCutAtMost cmp other.upper one.lower) (take k others)
       → common_with cmp one (drop k others) ≡ common_with cmp one others
-  common_with-from others k ended = grind (arith, none-common (take k others) (all_map _ IsApart before (take k others) ended), parted others k)
+  common_with-from others k ended = grind (arith, none-common (take k others)
+      (all_map _ IsApart before (take k others) ended), parted others k)
 
   -- and those from the first one on that begins at or above its upper end
   pub common_with-until : (others : List (Ends T)) (k : ℕ) (other : Ends T) → k < length others
@@ -51,6 +53,7 @@ module _ {T : Type 0} {cmp : T → T → Ordering} (o : IsTotalOrder cmp) (one :
       let parts : drop k others ≡ other ∷ rest = here others k other lt e in
       let are' = subst (AreMerged cmp) parts (merged-drop cmp k others are) in
       let low = at_most-below o one.upper other.lower other.upper begins are'.rising.0 in
-      let above = lowers-above o one.upper other.upper rest (inl low) (apart-above o other rest are'.apart are'.rising.1) in
+      let above = lowers-above o one.upper other.upper rest (inl low)
+          (apart-above o other rest are'.apart are'.rising.1) in
       let apart = all_map _ IsApart behind rest (lowers-at_least o one.upper rest above) in
       grind (arith, append-nil, none-common (other ∷ rest) (behind other begins, apart), parted others k)

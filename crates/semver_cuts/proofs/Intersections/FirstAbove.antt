@@ -14,7 +14,8 @@ use Rattle.semver_cuts.specs.Lemmas.Apart.{apart-above, apart-before, merged-dro
 use Rattle.semver_cuts.specs.Lemmas.Ends.{below-at_most, below_trans}
 use Rattle.semver_cuts.specs.Lemmas.Lists.{all_map, all_push}
 
-module _ {T : Type 0} {cmp : T → T → Ordering} (o : IsTotalOrder cmp) (spans : List (Ends T)) (are : AreMerged cmp spans)
+module _ {T : Type 0} {cmp : T → T → Ordering} (o : IsTotalOrder cmp) (spans : List (Ends T))
+    (are : AreMerged cmp spans)
     (cut : Cut T) (place : ℕ) (span : Ends T) (within : place < length spans)
     (here : drop place spans ≡ span ∷ drop (place + 1) spans) where
   parts : spans ≡ take place spans ++ span ∷ drop (place + 1) spans
@@ -30,8 +31,10 @@ module _ {T : Type 0} {cmp : T → T → Ordering} (o : IsTotalOrder cmp) (spans
   pub ended-before : IsCutAtMost cmp span.upper cut
       → AllByRecursion (λ (s : Ends T). IsCutAtMost cmp s.upper cut) (take (place + 1) spans)
   ended-before h =
-      let before = apart-before o (take place spans) (drop (place + 1) spans) span (subst (AreApart cmp) parts are.apart) (subst (AreRising cmp) parts are.rising) in
-      let ended : AllByRecursion (λ (s : Ends T). IsCutAtMost cmp s.upper cut) (take place spans) = all_map _ _ (λ s p. grind (arith, whole.rising.0, below_trans o, below-at_most o)) (take place spans) before in
+      let before = apart-before o (take place spans) (drop (place + 1) spans) span
+          (subst (AreApart cmp) parts are.apart) (subst (AreRising cmp) parts are.rising) in
+      let ended : AllByRecursion (λ (s : Ends T). IsCutAtMost cmp s.upper cut) (take place spans) = all_map _ _
+          (λ s p. grind (arith, whole.rising.0, below_trans o, below-at_most o)) (take place spans) before in
       grind (arith, one_more, all_push (λ (s : Ends T). IsCutAtMost cmp s.upper cut) (take place spans) span)
 
   -- a span that ends above the cut: so do all those after it

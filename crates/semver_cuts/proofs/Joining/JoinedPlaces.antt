@@ -15,7 +15,8 @@ use Rattle.semver_cuts.specs.Lemmas.Apart.{merged-drop}
 use Rattle.semver_cuts.specs.Lemmas.Joined.{merged-ascending}
 use Rattle.semver_cuts.specs.Lemmas.Ends.{at_most_refl, below_irrefl}
 use Rattle.semver_cuts.proofs.Lists.Elements.{all-among}
-use Rattle.semver_cuts.proofs.Joining.JoinedRuns.{AreEntries, In, IsRun, entries-last, goes-on, grown-run, kept-run, starts}
+use Rattle.semver_cuts.proofs.Joining.JoinedRuns.{AreEntries, In, IsRun, entries-last, goes-on, grown-run, kept-run}
+use Rattle.semver_cuts.proofs.Joining.JoinedRuns.{starts}
 use Rattle.semver_cuts.proofs.Joining.JoinedRuns.{starts-run}
 use Rattle.semver_cuts.proofs.Joining.JoinedSpans.{all-in, all-in_order, first-joined, first-run}
 use Rattle.semver_cuts.proofs.Joining.PlacedOrder.{AreInOrder, EndsLater, EndsNoLater, Tested}
@@ -30,7 +31,8 @@ IsPlaced spans p = (p.place < length spans) × (span_at spans p.place ≡ p.span
 pub placed-in : {T : Type 0} (front spans : List (Ends T)) (n : ℕ) → length front ≡ n
     → AllByRecursion (IsPlaced (front ++ spans)) (placed_from n spans)
 placed-in front [] n e = tt
-placed-in front (span ∷ spans) n e = grind (arith, append_assoc, length-append, get_or_at, placed-in (front ++ span ∷ []) spans (n + 1))
+placed-in front (span ∷ spans) n e = grind (arith, append_assoc, length-append, get_or_at, placed-in
+    (front ++ span ∷ []) spans (n + 1))
 
 -- ---- joining the spans along the sorted list
 
@@ -65,7 +67,8 @@ module _ {T : Type 0} {cmp : T → T → Ordering} (o : IsTotalOrder cmp) (spans
     pub running-over : IsRunning pairs begun place upper [] → AreJoinedAt cmp spans (pairs ++ (begun, place) ∷ [])
     running-over is = grind (arith, entries-last o spans order s (span_at spans begun).lower upper place is.run)
 
-    module _ (next : PlacedSpan T) (later : List (PlacedSpan T)) (is : IsRunning pairs begun place upper (next ∷ later)) where
+    module _ (next : PlacedSpan T) (later : List (PlacedSpan T)) (is : IsRunning pairs begun place upper (next ∷ later))
+        where
       at : IsPlaced spans next
       at = is-placed next is.all.0
 
@@ -81,7 +84,8 @@ module _ {T : Type 0} {cmp : T → T → Ordering} (o : IsTotalOrder cmp) (spans
             ascends = is.ascends.1;
             begins = at.0;
             ends = (at.0, ap (λ (s : Ends T). s.upper) at.1);
-            left = λ ps within are. grind (arith, append_assoc, is.left, at, is.ends, more (map (span_of_places spans) ps));
+            left = λ ps within are. grind (arith, append_assoc, is.left, at, is.ends, more
+                (map (span_of_places spans) ps));
           }
 
       module _ (touches : IsCutAtMost cmp next.span.lower upper) where
@@ -96,7 +100,8 @@ module _ {T : Type 0} {cmp : T → T → Ordering} (o : IsTotalOrder cmp) (spans
               ascends = is.ascends.1;
               begins = is.begins;
               ends = (at.0, ap (λ (s : Ends T). s.upper) at.1);
-              left = λ ps within are. is.left ps within (more next.span.upper (grind arith) (at_most_refl o next.span.upper) (inr refl) _ are);
+              left = λ ps within are. is.left ps within (more next.span.upper (grind arith)
+                  (at_most_refl o next.span.upper) (inr refl) _ are);
             }
 
         -- or does not end later
@@ -110,7 +115,8 @@ module _ {T : Type 0} {cmp : T → T → Ordering} (o : IsTotalOrder cmp) (spans
               ascends = is.ascends.1;
               begins = is.begins;
               ends = is.ends;
-              left = λ ps within are. is.left ps within (more upper (at_most_refl o upper) (grind arith) (inl refl) _ are);
+              left = λ ps within are. is.left ps within (more upper (at_most_refl o upper) (grind arith) (inl refl) _
+                  are);
             }
 
   -- the same state by other names

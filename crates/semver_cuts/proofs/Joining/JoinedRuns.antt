@@ -93,14 +93,16 @@ module _ {T : Type 0} {cmp : T → T → Ordering} (o : IsTotalOrder cmp) (spans
       (ascends : AreInOrder cmp (next ∷ later)) where
     -- it begins above the end of the run
     pub starts-run : IsCutBelow cmp upper next.span.lower → IsRun next.span.lower next.span.upper next.place later
-    starts-run gap = new-run next later all.0 ascends (λ q is. grind (arith, run.done q is, at_most-below o q.span.upper upper))
+    starts-run gap = new-run next later all.0 ascends (λ q is. grind
+        (arith, run.done q is, at_most-below o q.span.upper upper))
 
     pub starts : IsCutBelow cmp upper next.span.lower → (entries : List (Ends T))
         → AreEntries next.span.lower next.span.upper later entries
         → AreEntries lower upper (next ∷ later) (span_between lower upper ∷ entries)
     starts gap entries rest =
         let over = lowers-from o upper next.span.lower entries gap rest.from in
-        let ahead = all_map _ _ (λ q h. below-at_most o upper next.span.lower q.span.lower gap h) later (starts-run gap).ahead in
+        let ahead = all_map _ _ (λ q h. below-at_most o upper next.span.lower q.span.lower gap h) later
+            (starts-run gap).ahead in
         let first = first-end lower upper place (next ∷ later) run all (gap, ahead) in
         let from = lowers-at_least o lower entries (lowers-above o lower upper entries (inl run.rising) over) in
         grind (arith, at_most_refl o)
@@ -111,7 +113,8 @@ module _ {T : Type 0} {cmp : T → T → Ordering} (o : IsTotalOrder cmp) (spans
       rising = grind (arith, below-at_most o lower upper);
       begins = run.begins;
       ends = (next, all.0, refl, refl);
-      done = λ q is. grind (arith, run.done q is, no_later-trans o upper next.span.upper place next.place q, cut_cmp-refl o);
+      done = λ q is. grind (arith, run.done q is, no_later-trans o upper next.span.upper place next.place q,
+          cut_cmp-refl o);
       ahead = run.ahead.1;
     }
 

@@ -60,7 +60,9 @@ module _ {T : Type 0} {cmp : T → T → Ordering} (o : IsTotalOrder cmp) where
   -- a span that contains a cut lies in another exactly if it begins no earlier and ends no later
   pub within-ends : (one other : Ends T) → IsCutBelow cmp one.lower one.upper
       → IsWithin cmp one other ↔ (IsCutAtMost cmp other.lower one.lower × IsCutAtMost cmp one.upper other.upper)
-  within-ends one other held = (λ within. (grind (arith, within one.lower, at_most_refl o), grind (arith, within one.lower, within other.upper, at_most-or-below o, below-not-at_most o, below_irrefl o)), λ ends cut is. grind (arith, at_most_trans o other.lower one.lower, below-at_most o cut one.upper))
+  within-ends one other held = (λ within. (grind (arith, within one.lower, at_most_refl o), grind
+      (arith, within one.lower, within other.upper, at_most-or-below o, below-not-at_most o, below_irrefl o)), λ ends
+      cut is. grind (arith, at_most_trans o other.lower one.lower, below-at_most o cut one.upper))
 
   -- ---- the intersection of two spans
 
@@ -76,7 +78,8 @@ module _ {T : Type 0} {cmp : T → T → Ordering} (o : IsTotalOrder cmp) where
   common_ends-hold one other =
       let ends = common_ends cmp one other in (
         λ h. (holds-below ends).0 (h.0, (common_ends-cuts one other h.0).1 (h.1, h.2)),
-        λ p. let both = (common_ends-cuts one other ends.lower).0 (record { lower = at_most_refl o ends.lower; upper = p }) in (ends.lower, both.0, both.1),
+        λ p. let both = (common_ends-cuts one other ends.lower).0
+            (record { lower = at_most_refl o ends.lower; upper = p }) in (ends.lower, both.0, both.1),
       )
 
   -- two spans that contain cuts share one exactly if each begins below where the other ends
@@ -108,14 +111,20 @@ module _ {T : Type 0} {cmp : T → T → Ordering} (o : IsTotalOrder cmp) where
   -- a cut lies in the common span exactly if it lies in both
   pub common_of-cuts : (one other : Ends T) (cut : Cut T)
       → IsInSome cmp (common_of cmp one other) cut ↔ (IsInSpan cmp one cut × IsInSpan cmp other cut)
-  common_of-cuts one other cut = common_of-cases one other (λ spans. IsInSome cmp spans cut ↔ (IsInSpan cmp one cut × IsInSpan cmp other cut)) (λ shared. grind (arith, common_ends-cuts one other cut)) (λ apart. grind arith)
+  common_of-cuts one other cut = common_of-cases one other (λ spans. IsInSome cmp spans cut ↔
+      (IsInSpan cmp one cut × IsInSpan cmp other cut)) (λ shared. grind (arith, common_ends-cuts one other cut))
+      (λ apart. grind arith)
 
   -- there is none if one begins where the other ends or above
-  pub common_of-none : (one other : Ends T) → IsCutBelow cmp one.lower one.upper → IsCutBelow cmp other.lower other.upper
+  pub common_of-none : (one other : Ends T) → IsCutBelow cmp one.lower one.upper → IsCutBelow cmp other.lower
+      other.upper
       → IsCutAtMost cmp other.upper one.lower ⊎ IsCutAtMost cmp one.upper other.lower → [] ≡ common_of cmp one other
-  common_of-none one other held held' apart = common_of-cases one other (λ spans. [] ≡ spans) (λ shared. grind (arith, shares-ends one other held held', below-not-at_most o)) (λ none. refl)
+  common_of-none one other held held' apart = common_of-cases one other (λ spans. [] ≡ spans)
+      (λ shared. grind (arith, shares-ends one other held held', below-not-at_most o)) (λ none. refl)
 
   -- and it begins below where it ends
   pub common_of-rising : (one other span : Ends T) → span ∷ [] ≡ common_of cmp one other
       → IsCutBelow cmp span.lower span.upper
-  common_of-rising one other span = common_of-cases one other (λ spans. span ∷ [] ≡ spans → IsCutBelow cmp span.lower span.upper) (λ shared e. grind (arith, common_ends-hold one other)) (λ none e. cc e)
+  common_of-rising one other span = common_of-cases one other
+      (λ spans. span ∷ [] ≡ spans → IsCutBelow cmp span.lower span.upper)
+      (λ shared e. grind (arith, common_ends-hold one other)) (λ none e. cc e)

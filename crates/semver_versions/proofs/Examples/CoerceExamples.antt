@@ -1,4 +1,5 @@
--- Worked examples: which version is found in a text, from the left and from the right, and in which texts none is found.
+-- Worked examples: which version is found in a text, from the left and from the right, and in which texts none is
+-- found.
 use Rattle.std.proofs.Common.{◌≡◌, ◌+◌, ◌≤◌, ℕ, true, false, List, [], ◌∷◌, codes, length, refl, None}
 use Rattle.std.proofs.Common.{inl, inr, subst, arith, lit≤}
 use Rattle.semver_versions.specs.Coerce.{IsCoerced, IsNumberAt, IsStrictNumber, is_digit_at}

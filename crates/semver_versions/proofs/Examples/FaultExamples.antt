@@ -23,7 +23,8 @@ unfolding computed
 large-there = (is-computed _ _ _ refl, is-computed _ _ _ refl)
 
 -- something is left after a version
-left-there : IsFault (codes "1.2.3 ") other 5 × IsFault (codes "1.2.3-+a") other 5 × IsFault (codes "1.2.3-a.+b") other 7
+left-there : IsFault (codes "1.2.3 ") other 5 × IsFault (codes "1.2.3-+a") other 5 × IsFault (codes "1.2.3-a.+b") other
+    7
 unfolding computed
 left-there = (is-computed _ _ _ refl, is-computed _ _ _ refl, is-computed _ _ _ refl)
 

@@ -5,7 +5,8 @@ use Rattle.std.specs.List.{AllByRecursion}
 use Rattle.std.specs.Prelude.{◌==◌}
 use Rattle.semver_versions.specs.Identifier.{values_of}
 use Rattle.semver_versions.specs.declared.identifier.Identifier.{Identifier}
-use Rattle.semver_versions.specs.Bump.{BeginsNumbered, HasNoNext, IsNext, IsNextOf, IsSplitAtLastNumber, IsText, new_identifiers}
+use Rattle.semver_versions.specs.Bump.{BeginsNumbered, HasNoNext, IsNext, IsNextOf, IsSplitAtLastNumber, IsText}
+use Rattle.semver_versions.specs.Bump.{new_identifiers}
 use Rattle.semver_versions.specs.IdentifierValue.{IdentifierValue, numeric}
 use Rattle.semver_versions.specs.declared.TheConstants.{MAX_SAFE_INTEGER}
 use Rattle.semver_versions.specs.declared.version.bump.IdentifierBase.{IdentifierBase}
@@ -23,7 +24,8 @@ last-unique : (before before' after after' : List IdentifierValue) (number numbe
 last-unique [] [] after after' number number' same all all' = cc same
 last-unique [] (x ∷ before') after after' number number' same all all' = grind (arith, texts-none)
 last-unique (x ∷ before) [] after after' number number' same all all' = grind (arith, texts-none)
-last-unique (x ∷ before) (y ∷ before') after after' number number' same all all' = grind (arith, last-unique before before' after after' number number')
+last-unique (x ∷ before) (y ∷ before') after after' number number' same all all' = grind
+    (arith, last-unique before before' after after' number number')
 
 -- where the last number is at the limit, no identifiers are next
 pub no_next_at_limit : (base : IdentifierBase) (one before after : List IdentifierValue) (number : ℕ)

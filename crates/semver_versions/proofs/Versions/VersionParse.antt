@@ -48,7 +48,8 @@ begun-found text rest (b ∷ left) triple v begun value end none = absurd (omega
 pub begun-release : (text rest : List ℕ) (triple : ℕ × ℕ × ℕ) → IsBegun text triple rest → length rest < 1
     → IsVersionText text (release triple.0 triple.1 triple.2)
 begun-release text [] triple begun none =
-    begun-found text [] [] triple (release triple.0 triple.1 triple.2) begun (rw no_extras refl) (rw no_extras refl) none
+    begun-found text [] [] triple (release triple.0 triple.1 triple.2) begun (rw no_extras refl) (rw no_extras refl)
+        none
 begun-release text (b ∷ rest) triple begun none = absurd (omega arith)
 
 -- something is left

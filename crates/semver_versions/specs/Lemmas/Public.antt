@@ -1,4 +1,5 @@
--- The lemmas that the crates above may cite, by subject. Each is proved in the file that it is taken from. They say what
+-- The lemmas that the crates above may cite, by subject. Each is proved in the file that it is taken from. They say
+-- what
 -- holds of versions and of texts, and not how a text is read.
 
 -- ---- the order of versions: it is total, and means what `Order` says

@@ -58,7 +58,8 @@ read_unmarked text = read_triple text >>= λ numbers. read_extended numbers.0 nu
 unfoldable pub read_version : List ℕ → Read VersionValue
 read_version text = read_unmarked (rest_of is_blank (skip_one is_version_mark text))
 
--- the triple that a text begins with after its mark and blanks, and the rest. The text is no longer than a version can be
+-- the triple that a text begins with after its mark and blanks, and the rest. The text is no longer than a version can
+-- be
 pub record IsBegun (text : List ℕ) (triple : ℕ × ℕ × ℕ) (rest : List ℕ) : Type 0 where
   pub short : length text ≤ MAX_LENGTH
   pub read : read_marked_triple text ≡ Ok (triple, rest)

@@ -14,7 +14,8 @@ use Rattle.semver_versions.specs.Reading.{begins, list_prefix, list_rest, prefix
 use Rattle.semver_versions.specs.Lemmas.Texts.Characters.{character-no_dot}
 use Rattle.semver_versions.specs.Lemmas.Texts.Prefixes.{prefix_of-rest_of, rest-short}
 use Rattle.semver_versions.specs.Lemmas.Texts.ExtrasReading.{read_list_or-some}
-use Rattle.semver_versions.specs.Lemmas.Texts.IdentifierReading.{GoOn, go-on, go-on-other, list-takes, list-whole, parts-other}
+use Rattle.semver_versions.specs.Lemmas.Texts.IdentifierReading.{GoOn, go-on, go-on-other, list-takes, list-whole}
+use Rattle.semver_versions.specs.Lemmas.Texts.IdentifierReading.{parts-other}
 
 -- where the first part ends: at the end of the text, or at a dot
 pub data FirstPart (text : List ℕ) : Type 0 where

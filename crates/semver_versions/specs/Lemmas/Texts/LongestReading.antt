@@ -21,7 +21,8 @@ use Rattle.semver_versions.specs.Lemmas.Texts.ExtrasReading.{build-takes, read_b
 use Rattle.semver_versions.specs.Lemmas.Texts.ExtrasReading.{read_list_or-none}
 use Rattle.semver_versions.specs.Lemmas.Texts.ExtrasReading.{read_list_or-some, prerelease-again, prerelease-listed}
 use Rattle.semver_versions.specs.Lemmas.Texts.ExtrasReading.{prerelease-takes}
-use Rattle.semver_versions.specs.Lemmas.Texts.IdentifierReading.{GoOn, all-begins, go-on, goes_on-character, list-through}
+use Rattle.semver_versions.specs.Lemmas.Texts.IdentifierReading.{GoOn, all-begins, go-on, goes_on-character}
+use Rattle.semver_versions.specs.Lemmas.Texts.IdentifierReading.{list-through}
 use Rattle.semver_versions.specs.Lemmas.Texts.ListedTexts.{list_rest-short}
 use Rattle.semver_versions.specs.Lemmas.Texts.NumberReading.{bind-ok, number-again, number-takes, ok-value, dot-again}
 use Rattle.semver_versions.specs.Lemmas.Versions.VersionReading.{numbers-takes, regroup, version-follows}

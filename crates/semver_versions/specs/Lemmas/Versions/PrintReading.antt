@@ -14,7 +14,8 @@ use Rattle.semver_versions.specs.Print.{identifier_text, marked_text, version_te
 use Rattle.semver_versions.specs.IdentifierText.{IsReadIdentifier}
 use Rattle.semver_versions.specs.Version.{VersionValue}
 use Rattle.semver_versions.specs.VersionText.{IsMarked, IsUnmarkedVersion, IsVersionText}
-use Rattle.semver_versions.specs.Lemmas.Texts.DecimalReading.{decimal-begins, decimal-digits, decimal-identifier, decimal-value}
+use Rattle.semver_versions.specs.Lemmas.Texts.DecimalReading.{decimal-begins, decimal-digits, decimal-identifier}
+use Rattle.semver_versions.specs.Lemmas.Texts.DecimalReading.{decimal-value}
 use Rattle.semver_versions.specs.Lemmas.Texts.ListReading.{parts-alone, parts-before}
 use Rattle.semver_versions.specs.Lemmas.Versions.ReadIdentifiers.{build-read, prerelease-read}
 use Rattle.semver_versions.specs.Lemmas.Texts.Prefixes.{begins-append}

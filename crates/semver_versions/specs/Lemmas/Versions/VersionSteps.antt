@@ -6,7 +6,8 @@ use Rattle.std.specs.List.{AllByRecursion}
 use Rattle.semver_cuts.specs.Steps.{IsLeast, IsNext}
 use Rattle.semver_versions.specs.Comparison.{identifier_cmp, version_cmp}
 use Rattle.semver_versions.specs.IdentifierValue.{IdentifierValue, numeric}
-use Rattle.semver_versions.specs.Order.{IsBelow, IsListBelow, IsIdentifierBelow, before_release, by_identifiers, by_major}
+use Rattle.semver_versions.specs.Order.{IsBelow, IsListBelow, IsIdentifierBelow, before_release, by_identifiers}
+use Rattle.semver_versions.specs.Order.{by_major}
 use Rattle.semver_versions.specs.Order.{by_minor, by_patch}
 use Rattle.semver_versions.specs.Version.{HasSameTriple, IsPrerelease, VersionValue, least_of}
 use Rattle.semver_versions.specs.Lemmas.Order.{Less-version, identifier-Less, identifier_total, list-Less}

@@ -1,6 +1,7 @@
 use Rattle.std.proofs.lemmas.Grind.{common_steps}
 use native.Mathlib.Omega.{arith}
-use Rattle.std.proofs.Common.{List, [], ◌∷◌, ◌++◌, ◌+◌, ◌<◌, ◌≤◌, append_assoc, ap, drop, inl, inr, refl, subst, sym, ◌∙◌}
+use Rattle.std.proofs.Common.{List, [], ◌∷◌, ◌++◌, ◌+◌, ◌<◌, ◌≤◌, append_assoc, ap, drop, inl, inr, refl, subst, sym}
+use Rattle.std.proofs.Common.{◌∙◌}
 use Rattle.std.proofs.lemmas.List.{append-nil, drop_all}
 use Rattle.std.proofs.lemmas.Result.{on_ok_weaker}
 use Rattle.semver_cuts.specs.Difference.{ArePieces}
@@ -16,7 +17,9 @@ use Rattle.semver_cuts.proofs.algebra.difference.add_pieces.Goals.{then-loop-num
 
 pub loop-number-init : goal.loop-number-init
 loop-number-init g c =
-    grind (arith, common_steps, append-nil, walked-first g.met.T.Ord.total c.args.others.now.list c.args.others.now.merged c.len-number-end.ensures.joined (span_between c.ends.result.0.now c.ends.result.1.now) c.ends.ensures.rising c.first_above-number.result c.first_above-number.ensures)
+    grind (arith, common_steps, append-nil, walked-first g.met.T.Ord.total c.args.others.now.list
+        c.args.others.now.merged c.len-number-end.ensures.joined (span_between c.ends.result.0.now c.ends.result.1.now)
+        c.ends.ensures.rising c.first_above-number.result c.first_above-number.ensures)
 
 pub loop-number-preserved : goal.loop-number-preserved
 loop-number-preserved g c =

@@ -27,7 +27,8 @@ loop-other_place-preserved-then-le g c =
       other_place = loop.invariant.other_place;
       covered = loop.invariant.covered;
       passed = λ cut there here. passed g.met.T.Ord.total c.args.ones.now.merged c.args.others.now.merged
-          c.len-count.ensures.joined.merged c.len-other_count.ensures.joined.merged loop.place loop.other_place one other
+          c.len-count.ensures.joined.merged c.len-other_count.ensures.joined.merged loop.place loop.other_place one
+              other
           c.ends.ensures c.ends-in-loop-other_place.ensures (at_most-from_le g.T.Ord.cmp one.upper other.lower
           (sym c.le.ensures ∙ c.if-le.true)) cut there (loop.invariant.passed cut there here);
     }
@@ -62,7 +63,8 @@ loop-other_place-preserved g c =
         | then-lt w ↦ absurd (true≢false (sym w.if-lt.true ∙ sym w.value-is ∙ c.if-lt-2.false))
         | else-lt w ↦ λ cut is. ⊎_elim (λ here. inl here)
             (λ there. covered g.met.T.Ord.total c.args.ones.now.merged c.args.others.now.merged
-            c.len-count.ensures.joined.merged c.len-other_count.ensures.joined.merged loop.place loop.other_place one other
+            c.len-count.ensures.joined.merged c.len-other_count.ensures.joined.merged loop.place loop.other_place one
+                other
             c.ends.ensures c.ends-in-loop-other_place.ensures
             (at_most-from_not_lt g.met.T.Ord.total other.lower one.lower (sym c.lt.ensures ∙ w.if-lt.false))
             (at_most-from_not_lt g.met.T.Ord.total one.upper other.upper

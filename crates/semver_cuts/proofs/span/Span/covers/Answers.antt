@@ -11,7 +11,8 @@ returns-then-le g c =
     let other = span_between c.other.inside.lower c.other.inside.upper in
     rw (← c.self.view_is) (rw (← c.other.view_is) (covers-by g.met.T.Ord.total one other c.other.invariant
     c.le-then-le.result (c.le-then-le.ensures
-    ∙ ap (λ (b : Bool). b && is_le (cut_cmp g.T.Ord.cmp other.upper one.upper)) (sym (sym c.le.ensures ∙ c.if-le.true)))))
+    ∙ ap (λ (b : Bool). b && is_le (cut_cmp g.T.Ord.cmp other.upper one.upper))
+        (sym (sym c.le.ensures ∙ c.if-le.true)))))
 
 pub returns-else-le : goal.returns-else-le
 returns-else-le g c =
@@ -19,4 +20,5 @@ returns-else-le g c =
     let other = span_between c.other.inside.lower c.other.inside.upper in
     rw (← c.self.view_is) (rw (← c.other.view_is) (covers-by g.met.T.Ord.total one other c.other.invariant
     c.le.result (c.if-le.false
-    ∙ ap (λ (b : Bool). b && is_le (cut_cmp g.T.Ord.cmp other.upper one.upper)) (sym (sym c.le.ensures ∙ c.if-le.false)))))
+    ∙ ap (λ (b : Bool). b && is_le (cut_cmp g.T.Ord.cmp other.upper one.upper))
+        (sym (sym c.le.ensures ∙ c.if-le.false)))))

@@ -3,7 +3,8 @@ use Rattle.semver_versions.specs.Coerce.{is_digit_at}
 use Rattle.semver_versions.specs.Private.ExtraViews.{IsFoundBefore}
 use Rattle.semver_versions.specs.Private.PieceViews.{IsFirstNumber}
 use Rattle.semver_versions.proofs.Versions.LastFull.{found_none, found_some, keep_long, last_there}
-use Rattle.semver_versions.proofs.version.coerce.last_full.last_full.Goals.{in-Some-full_from+else-piece-text, in_default-full_from}
+use Rattle.semver_versions.proofs.version.coerce.last_full.last_full.Goals.{in-Some-full_from+else-piece-text}
+use Rattle.semver_versions.proofs.version.coerce.last_full.last_full.Goals.{in_default-full_from}
 use Rattle.semver_versions.proofs.version.coerce.last_full.last_full.Goals as goal
 
 pub returns-then-piece-text-clause-some : goal.returns-then-piece-text-clause-some
@@ -27,7 +28,8 @@ numbers-preserved c =
             (omega (arith, full.start, full.short)) (omega (arith, w.if-piece-text.false)))
         | in_default-full_from w ↦
             subst (IsFoundBefore text (c.in-Some.first + 1)) (sym w.found-is)
-            (keep_long text c.numbers.from c.in-Some.start c.in-Some.first c.numbers.found c.numbers.invariant.found number
+            (keep_long text c.numbers.from c.in-Some.start c.in-Some.first c.numbers.found c.numbers.invariant.found
+                number
             w.in_default-full_from.ensures.none)
       ];
     }

@@ -1,6 +1,7 @@
+use Rattle.std.proofs.lemmas.Grind.{common_steps}
 use Rattle.std.proofs.Common.{◌<◌, ◌≤◌, arith, inl, inr, refl, subst, sym, ◌∙◌}
 use Rattle.semver_cuts.specs.Ends.{span_between}
-use Rattle.semver_cuts.specs.Lemmas.Ends.{at_most-from_le, below-from_not_le}
+use Rattle.semver_cuts.specs.Lemmas.Ends.{at_most-from_le}
 use Rattle.semver_cuts.proofs.Walks.{not-shared, passed, share-found}
 use Rattle.semver_cuts.proofs.algebra.walks.shares_along.Goals as goal
 
@@ -44,16 +45,8 @@ returns-else-le-2 g c =
     let other = span_between c.ends-in-loop-place.result.0.now c.ends-in-loop-place.result.1.now in
     let found = share-found g.met.T.Ord.total c.args.ones.now.merged c.args.others.now.merged
     c.len-count.ensures.joined.merged c.len-other_count.ensures.joined.merged c.loop-place.place c.loop-place.other_place
-    one other c.ends.ensures c.ends-in-loop-place.ensures
-    (below-from_not_le g.met.T.Ord.total other.upper one.lower (sym c.le.ensures ∙ c.if-le.false))
-    (below-from_not_le g.met.T.Ord.total one.upper other.lower (sym c.le-else-le.ensures ∙ c.if-le-2.false)) in (
-      λ true. (
-        found.0,
-        (c.len-count.ensures.joined.cuts found.0).0 found.1,
-        (c.len-other_count.ensures.joined.cuts found.0).0 found.2,
-      ),
-      λ some. refl,
-    )
+    one other c.ends.ensures c.ends-in-loop-place.ensures (grind (arith, common_steps)) (grind (arith, common_steps)) in
+    (λ true. (found.0, (c.len-count.ensures.joined.cuts found.0).0 found.1, (c.len-other_count.ensures.joined.cuts found.0).0 found.2), λ some. refl)
 
 pub loop-place-init : goal.loop-place-init
 loop-place-init g c = record { place = omega arith; other_place = omega arith; left = λ cut here there. (here, there) }

@@ -9,17 +9,13 @@ loop-begins-init g c = grind (arith, common_steps, itself-kept g.met.T.Ord.total
 
 pub take_between-requires-clause-begins : goal.take_between-requires-clause-begins
 take_between-requires-clause-begins g c =
-    let low = within-at g.T.Ord.cmp c.args.spans.now c.args.places.now c.loop-begins.begins-index (0, 0)
-    c.requires.places.within c.loop-begins-test.true in
-    let same = c.loop-begins.auto.spans in
-    omega (arith, low.0, same)
+    let low = within-at g.T.Ord.cmp c.args.spans.now c.args.places.now c.loop-begins.begins-index (0, 0) in
+    omega (arith, (low c.requires.places.within c.loop-begins-test.true).0, c.loop-begins.auto.spans)
 
 pub take_between-requires-clause-ends : goal.take_between-requires-clause-ends
 take_between-requires-clause-ends g c =
-    let low = within-at g.T.Ord.cmp c.args.spans.now c.args.places.now c.loop-begins.begins-index (0, 0)
-    c.requires.places.within c.loop-begins-test.true in
-    let same = c.loop-begins.auto.spans in
-    omega (arith, low.1, same)
+    let low = within-at g.T.Ord.cmp c.args.spans.now c.args.places.now c.loop-begins.begins-index (0, 0) in
+    omega (arith, (low c.requires.places.within c.loop-begins-test.true).1, c.loop-begins.auto.spans)
 
 pub take_between-requires-clause-rising : goal.take_between-requires-clause-rising
 take_between-requires-clause-rising g c =

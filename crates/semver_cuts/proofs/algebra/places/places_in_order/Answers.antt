@@ -1,3 +1,5 @@
+use Rattle.std.proofs.lemmas.Grind.{common_steps}
+use native.Mathlib.Omega.{arith}
 use Rattle.std.proofs.Common.{◌≡◌, ◌+◌, ℕ, ap, List, [], ◌∷◌, ◌++◌, drop, length, refl, subst, sym, ◌∙◌}
 use Rattle.std.proofs.lemmas.List.{drop_all}
 use Rattle.std.specs.Ordering.{is_lt, nat_cmp, ordering_then}
@@ -19,20 +21,12 @@ none [] e = refl
 none (x ∷ xs) e = cc
 
 pub returns-in_default : goal.returns-in_default
-returns-in_default g c = λ spans s.
-    subst (AreJoinedAt g.T.Ord.cmp spans) (sym c.new.ensures.items) (record {
-      within = tt;
-      joined = none-joined g.met.T.Ord.total spans c.args.order.now s
-          (none c.args.order.now c.in_default.ensures.cases);
-    })
+returns-in_default g c = λ spans s. grind (arith, common_steps, none-joined g.met.T.Ord.total spans c.args.order.now s, none)
 
 pub loop-next-init : goal.loop-next-init
 loop-next-init g c = λ spans s.
-    let first = c.in-Some.first.now in
-    running-moved g.met.T.Ord.total spans c.args.order.now s [] _ first.place _ first.place _ first.span.upper _ _ _
-    (sym c.in_ok-pairs.ensures.items) (sym c.place-begun.ensures) (sym c.place-begun.ensures)
-    (λ i. (c.ends.ensures.ends i).upper) refl
-    (running-first g.met.T.Ord.total spans c.args.order.now s first c.in-Some.later.now c.in-Some.ensures.cases.0)
+    let first = running-first g.met.T.Ord.total spans c.args.order.now s c.in-Some.first.now c.in-Some.later.now in
+    grind (arith, common_steps, first)
 
 pub loop-next-preserved : goal.loop-next-preserved
 loop-next-preserved g c = λ spans s.

@@ -1,4 +1,5 @@
-use Rattle.std.proofs.Common.{◌<◌, ◌≤◌, arith, inl, inr, refl, subst, sym, ⊎_elim, ◌∙◌}
+use Rattle.std.proofs.lemmas.Grind.{common_steps}
+use Rattle.std.proofs.Common.{◌<◌, arith, inl, inr, refl, subst, sym, ⊎_elim, ◌∙◌}
 use mathlib.Core.Bool.{true≢false}
 use Rattle.semver_cuts.specs.Ends.{span_between}
 use Rattle.semver_cuts.specs.SpanLists.{IsInSome}
@@ -77,13 +78,8 @@ loop-other_place-preserved g c =
 
 pub returns : goal.returns
 returns g c =
-    let loop = c.loop-other_place in (
-      λ true cut is. (c.len-count.ensures.joined.cuts cut).0
-          (⊎_elim (λ here. here) (λ there. absurd (none-from g.met.T.Ord.total c.args.others.now.merged loop.other_place
-          (subst (λ n. n ≤ loop.other_place) c.len-other_count.ensures.length c.loop-other_place-test.false) cut there))
-          (loop.invariant.covered cut ((c.len-other_count.ensures.joined.cuts cut).1 is))),
-      λ covers. refl,
-    )
+    let none = none-from g.met.T.Ord.total c.args.others.now.merged c.loop-other_place.other_place in
+    (λ true cut is. grind (arith, common_steps, c.len-count.ensures.joined.cuts cut, c.len-other_count.ensures.joined.cuts cut, c.loop-other_place.invariant.covered cut, none), λ covers. refl)
 
 pub ends-requires : goal.ends-requires
 ends-requires g c = subst (λ n. c.loop-other_place.place < n) c.len-count.ensures.length c.if-place-count.false

@@ -1,6 +1,5 @@
-use Rattle.std.proofs.Common.{Bool, ◌&&◌, ap, sym, ◌∙◌}
-use Rattle.std.specs.Ordering.{is_le}
-use Rattle.semver_cuts.specs.Cut.{cut_cmp}
+use Rattle.std.proofs.lemmas.Grind.{common_steps}
+use native.Mathlib.Omega.{arith}
 use Rattle.semver_cuts.specs.Ends.{span_between}
 use Rattle.semver_cuts.specs.Lemmas.TwoSpans.{covers-by}
 use Rattle.semver_cuts.proofs.span.Span.covers.Goals as goal
@@ -10,15 +9,11 @@ returns-then-le g c =
     let one = span_between c.self.inside.lower c.self.inside.upper in
     let other = span_between c.other.inside.lower c.other.inside.upper in
     rw (← c.self.view_is) (rw (← c.other.view_is) (covers-by g.met.T.Ord.total one other c.other.invariant
-    c.le-then-le.result (c.le-then-le.ensures
-    ∙ ap (λ (b : Bool). b && is_le (cut_cmp g.T.Ord.cmp other.upper one.upper))
-        (sym (sym c.le.ensures ∙ c.if-le.true)))))
+    c.le-then-le.result (grind (arith, common_steps))))
 
 pub returns-else-le : goal.returns-else-le
 returns-else-le g c =
     let one = span_between c.self.inside.lower c.self.inside.upper in
     let other = span_between c.other.inside.lower c.other.inside.upper in
     rw (← c.self.view_is) (rw (← c.other.view_is) (covers-by g.met.T.Ord.total one other c.other.invariant
-    c.le.result (c.if-le.false
-    ∙ ap (λ (b : Bool). b && is_le (cut_cmp g.T.Ord.cmp other.upper one.upper))
-        (sym (sym c.le.ensures ∙ c.if-le.false)))))
+    c.le.result (grind (arith, common_steps))))

@@ -1,3 +1,5 @@
+use Rattle.std.proofs.lemmas.Grind.{common_steps}
+use native.Mathlib.Omega.{arith}
 use Rattle.std.proofs.Common.{◌<◌, length, subst, sym, ◌∙◌}
 use Rattle.semver_cuts.specs.Ends.{span_between}
 use Rattle.semver_cuts.proofs.Joining.JoinedPlaces.{low-pair, merged-at, within-at}
@@ -12,7 +14,5 @@ returns-else-is_empty g c =
 
 pub ends_between-requires : goal.ends_between-requires
 ends_between-requires g c =
-    within-at g.T.Ord.cmp c.self.inside.spans.now c.self.inside.places.now c.args.number (0, 0) c.self.invariant.within
-    (low-pair g.T.Ord.cmp c.self.inside.spans.now c.self.inside.places.now c.args.number
-    (subst (λ m. c.args.number < length m.merged) (sym c.self.view_is) c.requires)
-    (sym c.is_empty.ensures ∙ c.if-is_empty.false))
+    let pairs = within-at g.T.Ord.cmp c.self.inside.spans.now c.self.inside.places.now c.args.number (0, 0) in
+    grind (arith, common_steps, pairs, low-pair g.T.Ord.cmp)

@@ -1,8 +1,7 @@
 use Rattle.std.proofs.lemmas.Grind.{common_steps}
 use native.Mathlib.Omega.{arith}
-use Rattle.std.proofs.Common.{[], ◌++◌, append_assoc, ap, refl, subst, sym, ◌∙◌}
+use Rattle.std.proofs.Common.{[], ◌++◌, append_assoc, refl, sym}
 use Rattle.std.proofs.lemmas.List.{append-nil, drop_all}
-use Rattle.semver_cuts.specs.Difference.{AreDifference}
 use Rattle.semver_cuts.proofs.LoopSteps.{here}
 use Rattle.semver_cuts.proofs.algebra.merged.MergedSpans.subtract_from.Goals as goal
 
@@ -13,17 +12,12 @@ loop-one-init g c =
 pub loop-one-preserved : goal.loop-one-preserved
 loop-one-preserved g c =
     let kept = c.loop-one.invariant in
-    let ones = c.args.ones.now in
-    let others = c.args.self.now.list in
     let more = c.in_ok-add_pieces.ensures in
+    let rest = here c.args.ones.now c.loop-one.one-index c.one-item.result c.loop-one-test.true c.one-item.is in
     record {
       done = kept.done ++ more.0;
-      gathered = more.2 ∙ ap (λ l. l ++ more.0) kept.gathered
-          ∙ append_assoc (g.S.Gather.gathered c.args.into.now) kept.done more.0;
-      left = λ later are. subst (AreDifference g.T.Ord.cmp ones others) (sym (append_assoc kept.done more.0 later))
-          (kept.left (more.0 ++ later) (subst (λ l. AreDifference g.T.Ord.cmp l others (more.0 ++ later))
-          (sym (here ones c.loop-one.one-index c.one-item.result c.loop-one-test.true c.one-item.is))
-          (more.0, later, refl, more.1, are)));
+      gathered = grind (arith, common_steps, append_assoc);
+      left = λ later are. rw append_assoc (kept.left (more.0 ++ later) (rw rest (more.0, later, refl, more.1, are)));
     }
 
 pub returns : goal.returns

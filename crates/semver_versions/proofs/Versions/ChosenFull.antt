@@ -20,12 +20,11 @@ as_short text start ends numbers h = grind arith
 
 last_same : (text : List ℕ) (start from : ℕ) (ends other : Ends) (numbers others : List (List ℕ))
     → IsLastFull text start ends numbers → IsLastFull text from other others → from ≡ start
-last_same text start from ends other numbers others h g =
-    omega (
-      arith,
-      h.longest from other.build (as_short text from other others g) g.last,
-      g.longest start ends.build (as_short text start ends numbers h) h.last,
-    )
+last_same text start from ends other numbers others h g = grind (
+  arith,
+  h.longest from other.build (as_short text from other others g) g.last,
+  g.longest start ends.build (as_short text start ends numbers h) h.last,
+)
 
 chosen_start : (rtl : Bool) (text : List ℕ) (start from : ℕ) (ends other : Ends) (numbers others : List (List ℕ))
     → IsChosenFull rtl text start ends numbers → IsChosenFull rtl text from other others → from ≡ start

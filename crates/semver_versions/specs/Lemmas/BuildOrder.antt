@@ -44,12 +44,10 @@ Equal-build v w e = all-fields v w (Equal-version v w (then-first _ _ e))
 pub version_build_cmp-means : (v w : VersionValue) → BuildOrderMeans v w (version_build_cmp v w)
 version_build_cmp-means v w = record {
   below = (Less-build v w (version_cmp v w) refl, build-Less v w);
-  same = (Equal-build v w, λ e. grind (arith, tied_itself version_build_total v));
-  above = grind (
-    arith,
-    Greater-turned version_build_total v w,
-    Less-build w v (version_cmp w v) refl,
-    build-Less w v,
+  same = (Equal-build v w, λ e. cc (e, tied_itself version_build_total v));
+  above = (
+    λ e. Less-build w v (version_cmp w v) refl ((Greater-turned version_build_total v w).0 e),
+    λ h. (Greater-turned version_build_total v w).1 (build-Less w v h),
   );
 }
 

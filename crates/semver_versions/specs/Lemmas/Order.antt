@@ -175,8 +175,14 @@ identifier-IsAntisymmetric h1 h2 e = grind (arith, nat_cmp-IsAntisymmetric, slic
 
 -- `identifier_cmp` agrees with the relations
 pub identifier_cmp-means : (a b : IdentifierValue) → IdentifierOrderMeans a b (identifier_cmp a b)
-identifier_cmp-means a b =
-    grind (arith, Less-identifier, identifier-Less, identifier-IsAntisymmetric, Greater-turned identifier_total a b)
+identifier_cmp-means a b = record {
+  below = (Less-identifier a b, identifier-Less a b);
+  same = (identifier-IsAntisymmetric a b, λ e. cc (e, tied_itself identifier_total a));
+  above = (
+    λ e. Less-identifier b a ((Greater-turned identifier_total a b).0 e),
+    λ h. (Greater-turned identifier_total a b).1 (identifier-Less b a h),
+  );
+}
 
 -- the same for the result of a function
 pub identifier_order : (a b : IdentifierValue) (r : Ordering) → r ≡ identifier_cmp a b → IdentifierOrderMeans a b r

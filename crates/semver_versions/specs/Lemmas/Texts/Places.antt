@@ -58,12 +58,8 @@ pub record Over (test : ℕ → Bool) (s : List ℕ) (i : ℕ) : Type 0 where
 
 pub over-step : (test : ℕ → Bool) (s : List ℕ) (i : ℕ) → i < length s → test (get_or s i 0) ≡ true → Over test s i
     → Over test s (i + 1)
-over-step test s i h passes over = record {
-  prefix = over.prefix ∙ ap (λ (l : List ℕ). take i s ++ l) (prefix_of-step test s i h passes)
-      ∙ sym (append_assoc (take i s) (get_or s i 0 ∷ []) (prefix_of test (drop (i + 1) s)))
-      ∙ ap (λ (l : List ℕ). l ++ prefix_of test (drop (i + 1) s)) (sym (take_more s i 0 h));
-  rest = over.rest ∙ rest_of-step test s i h passes;
-}
+over-step test s i h passes over =
+    grind (arith, prefix_of-step test s i h passes, rest_of-step test s i h passes, take_more s i 0 h, append_assoc)
 
 -- where it ends, it has gone over the longest prefix
 pub record Through (test : ℕ → Bool) (s : List ℕ) (i : ℕ) : Type 0 where

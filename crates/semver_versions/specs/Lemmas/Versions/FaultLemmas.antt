@@ -1,5 +1,5 @@
 -- Laws of faults: each text is a version text or has a fault, never both, and one fault at most.
-use Rattle.std.proofs.Common.{◌≡◌, ◌⊎◌, ◌≤◌, ◌<◌, ℕ, ◌-◌, List, [], ◌∷◌, ◌++◌, length, Ok, Err, refl, sym, ap}
+use Rattle.std.proofs.Common.{◌≡◌, ◌⊎◌, ◌≤◌, ◌<◌, ℕ, ◌-◌, List, [], ◌∷◌, ◌++◌, length, Ok, Err, refl, sym}
 use Rattle.std.proofs.Common.{◌∙◌, inl, inr, arith, subst, append_assoc, append-nil}
 use Rattle.std.proofs.lemmas.Bool.{cases_Bool, cond-false, cond-true, le-leb, leb-false, leb-true, lt-leb}
 use Rattle.std.proofs.lemmas.List.{length-append}
@@ -126,15 +126,17 @@ version-opens : (text more : List ℕ) (w : VersionValue) → IsMarked is_versio
 unfolding read_version read_unmarked
 version-opens text more w h none =
     let t = h.read in
-    let split : h.unmarked ++ more ≡ t.first ++ (dot ∷ (t.second ++ (dot ∷ (t.third ++ (t.extras ++ more))))) =
-    ap (λ (l : List ℕ). l ++ more) t.whole ∙ sym (regroup t.first t.second t.third t.extras more) in
-    let n = numbers-again t.first t.second t.third (t.extras ++ more) w.major w.minor w.patch t.major_text
-    t.minor_text t.patch_text
-    (no-append is_digit t.extras more (t.digits_end t.patch_text.some) none) in
+    let n = numbers-again t.first t.second t.third (t.extras ++ more) w.major w.minor w.patch in
     record {
       v = version_of (w.major, w.minor, w.patch) (read_extras (t.extras ++ more)).0;
       left = (read_extras (t.extras ++ more)).1;
-      read = rw (version-follows text more w h, split, n) refl;
+      read = grind (
+        arith,
+        n,
+        no-append is_digit t.extras more,
+        regroup t.first t.second t.third,
+        version-follows text more w h,
+      );
     }
 
 -- the fault is where the rest after the longest version begins
@@ -149,6 +151,7 @@ left-told text version v w b rest left short whole h longest read = grind (
   read-version text w short,
   append-nil text,
   longest text [] w,
+  longest (version-takes text w left read).taken left w,
   version-longest version (b ∷ rest) left w v h.fields,
   length-append,
 )
@@ -167,16 +170,16 @@ fault-again text kind offset (no_number before rest count short h none) = grind 
 fault-again text kind offset (large_number before digits rest count short h all large) = grind (
   arith,
   numbers-stop h.numbers (digits ++ rest) (TooLarge (length (digits ++ rest))) h.read,
-  too-large,
-  digits-there,
+  too-large digits rest all large,
+  digits-there text before digits rest h.whole all,
   prefix-taken text before (digits ++ rest) count h,
   stopped text (with_dots h.numbers ++ (digits ++ rest)) (TooLarge (length (digits ++ rest))),
   prefix-length,
 )
 fault-again text kind offset (no_dot before digits rest count short h few all limit none) = grind (
   arith,
-  dots-stop,
-  append_assoc,
+  dots-stop h.numbers digits rest h.read,
+  append_assoc before digits rest,
   prefix-taken text before (digits ++ rest) count h,
   stopped text (with_dots h.numbers ++ (digits ++ rest)) (missing_at rest),
   prefix-length,

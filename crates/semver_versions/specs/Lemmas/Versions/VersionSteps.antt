@@ -10,6 +10,7 @@ use Rattle.semver_versions.specs.Order.{IsBelow, IsListBelow, IsIdentifierBelow,
 use Rattle.semver_versions.specs.Order.{by_major}
 use Rattle.semver_versions.specs.Order.{by_minor, by_patch}
 use Rattle.semver_versions.specs.Version.{HasSameTriple, IsPrerelease, VersionValue, least_of}
+use Rattle.semver_versions.specs.Lemmas.Versions.Between.{prerelease-below, triple-between}
 use Rattle.semver_versions.specs.Lemmas.Order.{Less-version, identifier-Less, identifier_total, list-Less}
 use Rattle.semver_versions.specs.Lemmas.Order.{ends-Less, then-cases, version-Less}
 use Rattle.semver_versions.specs.VersionSteps.{IsIdentifier, IsVersion, next_version, with_zero}
@@ -71,7 +72,8 @@ patch-above v = by_patch refl refl (omega arith)
 
 pub none-between_patches : (v w : VersionValue) → ¬ IsPrerelease v → IsBelow v w
     → ¬ IsBelow w (least_of v.major v.minor (v.patch + 1))
-none-between_patches v w release above below = grind (arith, none-below_least w v.major v.minor (v.patch + 1))
+none-between_patches v w release above below =
+    grind (arith, prerelease-from_below v w, none-below_least w v.major v.minor (v.patch + 1))
 
 -- ---- after a prerelease
 
@@ -88,6 +90,8 @@ with_zero-above v pre = grind (arith, with_zero-prerelease)
 pub none-between_zeros : (v w : VersionValue) → IsPrerelease v → IsBelow v w → ¬ IsBelow w (with_zero v)
 none-between_zeros v w pre above below = grind (
   arith,
+  triple-between v w (with_zero v),
+  prerelease-below w (with_zero v),
   with_zero-prerelease v,
   none-before_zero v.pre_release w.pre_release,
   lists-below v w,

@@ -59,8 +59,13 @@ module _ {T : Type 0} {cmp : T → T → Ordering} (o : IsTotalOrder cmp) where
     -- a span of the first list can be passed if it ends at or below where the next span of the second begins
     pub passed : IsCutAtMost cmp one.upper other.lower → (cut : Cut T) → IsInSome cmp (drop j ws) cut
         → IsInSome cmp (drop i ms) cut → IsInSome cmp (drop (i + 1) ms) cut
-    passed past cut there here = grind (arith, all-from_first other (drop (j + 1) ws) cut other_are, below-not-at_most
-        o, at_most_trans o)
+    passed past cut there here = grind (
+      arith,
+      all-from_first other (drop (j + 1) ws) cut other_are,
+      below-not-at_most
+          o,
+      at_most_trans o,
+    )
 
     -- the two spans share a cut if each begins below where the other ends
     pub share-found : IsCutBelow cmp one.lower other.upper → IsCutBelow cmp other.lower one.upper → ShareCut cmp ms ws
@@ -70,15 +75,24 @@ module _ {T : Type 0} {cmp : T → T → Ordering} (o : IsTotalOrder cmp) where
     -- a span of the second list that lies in the next one of the first
     pub covered : IsCutAtMost cmp one.lower other.lower → IsCutAtMost cmp other.upper one.upper → (cut : Cut T)
         → IsInSome cmp (drop j ws) cut → IsInSome cmp ms cut ⊎ IsInSome cmp (drop (j + 1) ws) cut
-    covered low high cut is = grind (arith, in-whole ms i cut, at_most_trans o one.lower other.lower, below-at_most o
-        cut other.upper)
+    covered low high cut is = grind (
+      arith,
+      in-whole ms i cut,
+      at_most_trans o one.lower other.lower,
+      below-at_most o
+          cut other.upper,
+    )
 
     -- a span of the second list that does not, and begins below the end of the next one of the first
     pub uncovered : IsCutBelow cmp other.lower one.upper
         → IsCutBelow cmp other.lower one.lower ⊎ IsCutBelow cmp one.upper other.upper
         → (cut : Cut T) × IsInSome cmp (drop j ws) cut × ¬ IsInSome cmp (drop i ms) cut
-    uncovered begun (inl low) = (other.lower, grind (arith, first-cut other, other_are), grind
-        (arith, all-from_first one (drop (i + 1) ms) other.lower one_are, below-not-at_most o))
+    uncovered begun (inl low) = (
+      other.lower,
+      grind (arith, first-cut other, other_are),
+      grind
+          (arith, all-from_first one (drop (i + 1) ms) other.lower one_are, below-not-at_most o),
+    )
     uncovered begun (inr high) = (one.upper, grind arith, grind (arith, end-outside one (drop (i + 1) ms) one_are))
 
   -- ---- the end of a walk
@@ -99,9 +113,12 @@ module _ {T : Type 0} {cmp : T → T → Ordering} (o : IsTotalOrder cmp) where
     pub not-shared : ((cut : Cut T) → IsInSome cmp ms cut → IsInSome cmp ws cut
         → IsInSome cmp (drop i ms) cut × IsInSome cmp (drop j ws) cut)
         → (length ms ≤ i) ⊎ (length ws ≤ j) → IsTrue false ↔ ShareCut cmp ones others
-    not-shared left ended = (λ never. absurd (true≢false (sym never)), λ shared. let both = left shared.0
-        ((are.cuts shared.0).1 shared.1) ((others_are.cuts shared.0).1 shared.2) in absurd
-        (grind (arith, both, none-from)))
+    not-shared left ended = (
+      λ never. absurd (true≢false (sym never)),
+      λ shared. let both = left shared.0
+          ((are.cuts shared.0).1 shared.1) ((others_are.cuts shared.0).1 shared.2) in absurd
+          (grind (arith, both, none-from)),
+    )
 
     -- a cut that is left in the second list alone is not covered
     pub not-covered : ((cut : Cut T) → IsInSome cmp (drop j ws) cut → IsInSome cmp ms cut

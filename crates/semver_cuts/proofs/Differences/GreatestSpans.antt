@@ -40,7 +40,7 @@ module _ {T : Type 0} {cmp : T → T → Ordering} (o : IsTotalOrder cmp) where
         grind (arith, none-above cmp o, below_irrefl o),
         all_both _ _ _ (λ s free h. ⊎_elim (past_end span s.upper h) free) spans
             (ends-free spans (apart-tail cmp span spans apart) rising.1)
-                (uppers-above o span.upper spans above rising.1),
+            (uppers-above o span.upper spans above rising.1),
       )
 
   -- between a cut that lies in one of them and the lower end of a later one, some cut lies in none
@@ -77,6 +77,11 @@ module _ {T : Type 0} {cmp : T → T → Ordering} (o : IsTotalOrder cmp) where
         lower = ⊎_elim (λ h. h) (λ below. let g = gap cut below (inside cut is) in absurd
             (grind (arith, inside g.0, at_most_trans o wider.lower cut g.0, below_trans o g.0 span.lower wider.upper)))
             (at_most-or-below o span.lower cut);
-        upper = ⊎_elim (λ past. absurd (grind (arith, inside span.upper, at_most_trans o wider.lower span.lower
-            span.upper, at_most-below o span.upper cut wider.upper))) (λ h. h) (at_most-or-below o span.upper cut);
+        upper = ⊎_elim (λ past. absurd (grind (
+          arith,
+          inside span.upper,
+          at_most_trans o wider.lower span.lower
+              span.upper,
+          at_most-below o span.upper cut wider.upper,
+        ))) (λ h. h) (at_most-or-below o span.upper cut);
       }

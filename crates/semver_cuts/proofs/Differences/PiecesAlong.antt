@@ -42,7 +42,7 @@ module _ {T : Type 0} {cmp : T → T → Ordering} (o : IsTotalOrder cmp) where
   abbrev pub IsAdded : Cut T → Cut T → List (Ends T) → List (Ends T) → Type 0
   IsAdded low lower done new =
       (IsCutBelow cmp low lower × (new ≡ done ++ span_between low lower ∷ [])) ⊎
-          (IsCutAtMost cmp lower low × (new ≡ done))
+      (IsCutAtMost cmp lower low × (new ≡ done))
 
   pub added-by : (low lower : Cut T) (first old now done : List (Ends T)) → old ≡ first ++ done
       → ((is_lt (cut_cmp cmp low lower) ≡ true) × (now ≡ old ++ span_between low lower ∷ []))
@@ -58,7 +58,7 @@ module _ {T : Type 0} {cmp : T → T → Ordering} (o : IsTotalOrder cmp) (other
       → ArePiecesFrom cmp others one low spans (span_between low one.upper ∷ [])
   whole-piece low spans below end above =
       let none = λ (cut : Cut T) (h : IsCutBelow cmp cut one.upper). none-above cmp o cut spans
-          (lowers-from o cut one.upper spans h above) in
+      (lowers-from o cut one.upper spans h above) in
       grind (arith, none, at_most_refl o low)
 
   -- if the cut is not below the end of `one`, there is no piece
@@ -83,8 +83,13 @@ module _ {T : Type 0} {cmp : T → T → Ordering} (o : IsTotalOrder cmp) (other
 
     without-first : (parts : List (Ends T)) → ArePiecesFrom cmp others one span.upper spans parts
         → IsCutAtMost cmp span.lower low → ArePiecesFrom cmp others one low (span ∷ spans) parts
-    without-first parts are touches = grind (arith, lowers-from o low span.upper, lowers-at_least o low, behind,
-        at_most_trans o)
+    without-first parts are touches = grind (
+      arith,
+      lowers-from o low span.upper,
+      lowers-at_least o low,
+      behind,
+      at_most_trans o,
+    )
 
     with-first : (parts : List (Ends T)) → ArePiecesFrom cmp others one span.upper spans parts
         → IsCutBelow cmp low span.lower → IsPieceLower cmp others one low
@@ -92,8 +97,8 @@ module _ {T : Type 0} {cmp : T → T → Ordering} (o : IsTotalOrder cmp) (other
         → ArePiecesFrom cmp others one low (span ∷ spans) (span_between low span.lower ∷ parts)
     with-first parts are room end first =
         let none = λ (cut : Cut T) (h : IsCutBelow cmp cut span.lower). none-above cmp o cut (span ∷ spans)
-            (h, lowers-above o cut span.upper spans (inl (below_trans o cut span.lower span.upper h rising)) above) in
-            record {
+        (h, lowers-above o cut span.upper spans (inl (below_trans o cut span.lower span.upper h rising)) above) in
+        record {
           rising = (room, are.rising);
           apart = apart-cons cmp (span_between low span.lower) parts
               (lowers-from o span.lower span.upper parts rising are.from) are.apart;

@@ -41,8 +41,12 @@ module _ {T : Type 0} {cmp : T → T → Ordering} (o : IsTotalOrder cmp) (one :
   pub common_with-from : (others : List (Ends T)) (k : ℕ)
       → AllByRecursion (λ (other : Ends T). IsCutAtMost cmp other.upper one.lower) (take k others)
       → common_with cmp one (drop k others) ≡ common_with cmp one others
-  common_with-from others k ended = grind (arith, none-common (take k others)
-      (all_map _ IsApart before (take k others) ended), parted others k)
+  common_with-from others k ended = grind (
+    arith,
+    none-common (take k others)
+        (all_map _ IsApart before (take k others) ended),
+    parted others k,
+  )
 
   -- and those from the first one on that begins at or above its upper end
   pub common_with-until : (others : List (Ends T)) (k : ℕ) (other : Ends T) → k < length others
@@ -54,6 +58,6 @@ module _ {T : Type 0} {cmp : T → T → Ordering} (o : IsTotalOrder cmp) (one :
       let are' = subst (AreMerged cmp) parts (merged-drop cmp k others are) in
       let low = at_most-below o one.upper other.lower other.upper begins are'.rising.0 in
       let above = lowers-above o one.upper other.upper rest (inl low)
-          (apart-above o other rest are'.apart are'.rising.1) in
+      (apart-above o other rest are'.apart are'.rising.1) in
       let apart = all_map _ IsApart behind rest (lowers-at_least o one.upper rest above) in
       grind (arith, append-nil, none-common (other ∷ rest) (behind other begins, apart), parted others k)

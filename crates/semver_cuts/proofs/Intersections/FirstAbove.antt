@@ -32,9 +32,9 @@ module _ {T : Type 0} {cmp : T → T → Ordering} (o : IsTotalOrder cmp) (spans
       → AllByRecursion (λ (s : Ends T). IsCutAtMost cmp s.upper cut) (take (place + 1) spans)
   ended-before h =
       let before = apart-before o (take place spans) (drop (place + 1) spans) span
-          (subst (AreApart cmp) parts are.apart) (subst (AreRising cmp) parts are.rising) in
+      (subst (AreApart cmp) parts are.apart) (subst (AreRising cmp) parts are.rising) in
       let ended : AllByRecursion (λ (s : Ends T). IsCutAtMost cmp s.upper cut) (take place spans) = all_map _ _
-          (λ s p. grind (arith, whole.rising.0, below_trans o, below-at_most o)) (take place spans) before in
+      (λ s p. grind (arith, whole.rising.0, below_trans o, below-at_most o)) (take place spans) before in
       grind (arith, one_more, all_push (λ (s : Ends T). IsCutAtMost cmp s.upper cut) (take place spans) span)
 
   -- a span that ends above the cut: so do all those after it

@@ -31,8 +31,14 @@ IsPlaced spans p = (p.place < length spans) × (span_at spans p.place ≡ p.span
 pub placed-in : {T : Type 0} (front spans : List (Ends T)) (n : ℕ) → length front ≡ n
     → AllByRecursion (IsPlaced (front ++ spans)) (placed_from n spans)
 placed-in front [] n e = tt
-placed-in front (span ∷ spans) n e = grind (arith, append_assoc, length-append, get_or_at, placed-in
-    (front ++ span ∷ []) spans (n + 1))
+placed-in front (span ∷ spans) n e = grind (
+  arith,
+  append_assoc,
+  length-append,
+  get_or_at,
+  placed-in
+      (front ++ span ∷ []) spans (n + 1),
+)
 
 -- ---- joining the spans along the sorted list
 
@@ -68,56 +74,63 @@ module _ {T : Type 0} {cmp : T → T → Ordering} (o : IsTotalOrder cmp) (spans
     running-over is = grind (arith, entries-last o spans order s (span_at spans begun).lower upper place is.run)
 
     module _ (next : PlacedSpan T) (later : List (PlacedSpan T)) (is : IsRunning pairs begun place upper (next ∷ later))
-        where
-      at : IsPlaced spans next
-      at = is-placed next is.all.0
+      where
+        at : IsPlaced spans next
+        at = is-placed next is.all.0
 
-      -- the next span begins above the end of the run
-      pub running-next : IsCutBelow cmp upper next.span.lower
-          → IsRunning (pairs ++ (begun, place) ∷ []) next.place next.place next.span.upper later
-      running-next gap =
-          let run = starts-run o spans order s _ upper place next later is.run is.all is.ascends gap in
-          let more = starts o spans order s _ upper place next later is.run is.all is.ascends gap in
-          record {
-            run = rw at.1 run;
-            all = is.all.1;
-            ascends = is.ascends.1;
-            begins = at.0;
-            ends = (at.0, ap (λ (s : Ends T). s.upper) at.1);
-            left = λ ps within are. grind (arith, append_assoc, is.left, at, is.ends, more
-                (map (span_of_places spans) ps));
-          }
-
-      module _ (touches : IsCutAtMost cmp next.span.lower upper) where
-        -- it begins there or below, and ends later
-        pub running-longer : EndsLater o upper place next → IsRunning pairs begun next.place next.span.upper later
-        running-longer longer =
-            let run = grown-run o spans order s _ upper place next later is.run is.all is.ascends longer in
-            let more = goes-on o spans order s _ upper place next later is.run is.all is.ascends touches in
+        -- the next span begins above the end of the run
+        pub running-next : IsCutBelow cmp upper next.span.lower
+            → IsRunning (pairs ++ (begun, place) ∷ []) next.place next.place next.span.upper later
+        running-next gap =
+            let run = starts-run o spans order s _ upper place next later is.run is.all is.ascends gap in
+            let more = starts o spans order s _ upper place next later is.run is.all is.ascends gap in
             record {
-              run = run;
+              run = rw at.1 run;
               all = is.all.1;
               ascends = is.ascends.1;
-              begins = is.begins;
+              begins = at.0;
               ends = (at.0, ap (λ (s : Ends T). s.upper) at.1);
-              left = λ ps within are. is.left ps within (more next.span.upper (grind arith)
-                  (at_most_refl o next.span.upper) (inr refl) _ are);
+              left = λ ps within are. grind (
+                arith,
+                append_assoc,
+                is.left,
+                at,
+                is.ends,
+                more
+                    (map (span_of_places spans) ps),
+              );
             }
 
-        -- or does not end later
-        pub running-same : EndsNoLater o upper place next → IsRunning pairs begun place upper later
-        running-same no_later =
-            let run = kept-run o spans order s _ upper place next later is.run is.all is.ascends no_later in
-            let more = goes-on o spans order s _ upper place next later is.run is.all is.ascends touches in
-            record {
-              run = run;
-              all = is.all.1;
-              ascends = is.ascends.1;
-              begins = is.begins;
-              ends = is.ends;
-              left = λ ps within are. is.left ps within (more upper (at_most_refl o upper) (grind arith) (inl refl) _
-                  are);
-            }
+        module _ (touches : IsCutAtMost cmp next.span.lower upper) where
+          -- it begins there or below, and ends later
+          pub running-longer : EndsLater o upper place next → IsRunning pairs begun next.place next.span.upper later
+          running-longer longer =
+              let run = grown-run o spans order s _ upper place next later is.run is.all is.ascends longer in
+              let more = goes-on o spans order s _ upper place next later is.run is.all is.ascends touches in
+              record {
+                run = run;
+                all = is.all.1;
+                ascends = is.ascends.1;
+                begins = is.begins;
+                ends = (at.0, ap (λ (s : Ends T). s.upper) at.1);
+                left = λ ps within are. is.left ps within (more next.span.upper (grind arith)
+                    (at_most_refl o next.span.upper) (inr refl) _ are);
+              }
+
+          -- or does not end later
+          pub running-same : EndsNoLater o upper place next → IsRunning pairs begun place upper later
+          running-same no_later =
+              let run = kept-run o spans order s _ upper place next later is.run is.all is.ascends no_later in
+              let more = goes-on o spans order s _ upper place next later is.run is.all is.ascends touches in
+              record {
+                run = run;
+                all = is.all.1;
+                ascends = is.ascends.1;
+                begins = is.begins;
+                ends = is.ends;
+                left = λ ps within are. is.left ps within (more upper (at_most_refl o upper) (grind arith) (inl refl) _
+                    are);
+              }
 
   -- the same state by other names
   pub running-moved : (pairs pairs' : List (ℕ × ℕ)) (begun begun' place place' : ℕ) (upper upper' : Cut T)

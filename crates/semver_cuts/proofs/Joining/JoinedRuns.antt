@@ -102,7 +102,7 @@ module _ {T : Type 0} {cmp : T → T → Ordering} (o : IsTotalOrder cmp) (spans
     starts gap entries rest =
         let over = lowers-from o upper next.span.lower entries gap rest.from in
         let ahead = all_map _ _ (λ q h. below-at_most o upper next.span.lower q.span.lower gap h) later
-            (starts-run gap).ahead in
+        (starts-run gap).ahead in
         let first = first-end lower upper place (next ∷ later) run all (gap, ahead) in
         let from = lowers-at_least o lower entries (lowers-above o lower upper entries (inl run.rising) over) in
         grind (arith, at_most_refl o)
@@ -113,8 +113,12 @@ module _ {T : Type 0} {cmp : T → T → Ordering} (o : IsTotalOrder cmp) (spans
       rising = grind (arith, below-at_most o lower upper);
       begins = run.begins;
       ends = (next, all.0, refl, refl);
-      done = λ q is. grind (arith, run.done q is, no_later-trans o upper next.span.upper place next.place q,
-          cut_cmp-refl o);
+      done = λ q is. grind (
+        arith,
+        run.done q is,
+        no_later-trans o upper next.span.upper place next.place q,
+        cut_cmp-refl o,
+      );
       ahead = run.ahead.1;
     }
 

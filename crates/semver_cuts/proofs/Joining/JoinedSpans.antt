@@ -61,8 +61,15 @@ module _ {T : Type 0} {cmp : T → T → Ordering} (o : IsTotalOrder cmp) where
       → IsFirstAt cmp end spans cut
   first-placed end cut n [] p is at least = elim is [ ]
   first-placed end cut n (span ∷ spans) p (inl same) at least =
-      record { before = []; span = span; after = spans; parts = refl; end_of = cc; earlier = tt; later = all_unit spans
-          }
+      record {
+        before = [];
+        span = span;
+        after = spans;
+        parts = refl;
+        end_of = cc;
+        earlier = tt;
+        later = all_unit spans;
+      }
   first-placed end cut n (span ∷ spans) p (inr there) at least =
       let rest = first-placed end cut (n + 1) spans p there at (λ q is. least q (inr is)) in
       let high = place-from (n + 1) spans p there in
@@ -91,16 +98,26 @@ module _ {T : Type 0} {cmp : T → T → Ordering} (o : IsTotalOrder cmp) where
   in-order : (ps : List (PlacedSpan T)) → IsSortedBy before ps → AreInOrder cmp ps
   unfolding before
   in-order [] up = tt
-  in-order (p ∷ ps) up = (recursion_from_All _ ps (λ k d h. sorted_far before weak (p ∷ ps) up 0 (suc k) d (omega arith)
-      (omega arith)), in-order ps (sorted-tail p ps up))
+  in-order (p ∷ ps) up = (
+    recursion_from_All _ ps (λ k d h. sorted_far before weak (p ∷ ps) up 0 (suc k) d (omega arith)
+        (omega arith)),
+    in-order ps (sorted-tail p ps up),
+  )
 
   -- ---- the spans of a list, sorted and joined
 
   module _ (spans : List (Ends T)) (order : List (PlacedSpan T)) (s : AreSorted cmp spans order) where
     some-of : (cut : Cut T) → IsInSome cmp (map (λ (p : PlacedSpan T). p.span) order) cut ↔ IsInSome cmp spans cut
-    some-of cut = (λ is. grind (arith, map-placed 0 spans, some-moved (placed_from 0 spans) order s.same cut is), λ is.
-        grind (arith, map-placed 0 spans, some-moved order (placed_from 0 spans)
-        (IsPermutation-sym (placed_from 0 spans) order s.same) cut))
+    some-of cut = (
+      λ is. grind (arith, map-placed 0 spans, some-moved (placed_from 0 spans) order s.same cut is),
+      λ is.
+          grind (
+            arith,
+            map-placed 0 spans,
+            some-moved order (placed_from 0 spans)
+                (IsPermutation-sym (placed_from 0 spans) order s.same) cut,
+          ),
+    )
 
     pub all-in_order : AreInOrder cmp order
     unfolding before
@@ -118,8 +135,12 @@ module _ {T : Type 0} {cmp : T → T → Ordering} (o : IsTotalOrder cmp) where
       pub first-run : IsRun o spans order s first.span.lower first.span.upper first.place later
       first-run = new-run o spans order s first later (subst (AllByRecursion (In o spans order s)) e all-in).0
           (subst (AreInOrder cmp) e all-in_order)
-          (λ q is. grind (arith, e, among-moved order (placed_from 0 spans)
-              (IsPermutation-sym (placed_from 0 spans) order s.same) q))
+          (λ q is. grind (
+            arith,
+            e,
+            among-moved order (placed_from 0 spans)
+                (IsPermutation-sym (placed_from 0 spans) order s.same) q,
+          ))
 
       -- the joined spans from there on are those that the list is joined to
       pub first-joined : (entries : List (Ends T))

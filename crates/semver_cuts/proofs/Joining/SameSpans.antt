@@ -26,9 +26,13 @@ module _ {T : Type 0} {cmp : T → T → Ordering} (o : IsTotalOrder cmp) where
       → IsCutAtMost cmp other.upper one.upper
       → ((cut : Cut T) → IsInSome cmp (one ∷ ones) cut → IsInSome cmp (other ∷ others) cut)
       → (cut : Cut T) → IsInSome cmp ones cut → IsInSome cmp others cut
-  later-in one ones other others are le within cut is = grind
-      (arith, within cut (inr is), later-above o one ones cut are is, below-at_most o cut other.upper one.upper,
-      below-not-at_most o)
+  later-in one ones other others are le within cut is = grind (
+    arith,
+    within cut (inr is),
+    later-above o one ones cut are is,
+    below-at_most o cut other.upper one.upper,
+    below-not-at_most o,
+  )
 
   tail-merged : (one : Ends T) (ones : List (Ends T)) → AreMerged cmp (one ∷ ones) → AreMerged cmp ones
   tail-merged one ones are = record { rising = are.rising.1; apart = apart-tail cmp one ones are.apart }
@@ -41,9 +45,9 @@ module _ {T : Type 0} {cmp : T → T → Ordering} (o : IsTotalOrder cmp) where
   same-spans (one ∷ ones) [] are others_are same = grind (arith, first-cut o)
   same-spans (one ∷ ones) (other ∷ others) are others_are same =
       let low = all-from_first o other others one.lower others_are
-          ((same one.lower).0 (inl (first-cut o one are.rising.0))) in
+      ((same one.lower).0 (inl (first-cut o one are.rising.0))) in
       let low' = all-from_first o one ones other.lower are ((same other.lower).1
-          (inl (first-cut o other others_are.rising.0))) in
+      (inl (first-cut o other others_are.rising.0))) in
       let high = ends-no_lower one ones other are (λ cut is. (same cut).1 (inl is)) low in
       let high' = ends-no_lower other others one others_are (λ cut is. (same cut).0 (inl is)) low' in (
         record { lower = at_most-both o _ _ low' low; upper = at_most-both o _ _ high' high },

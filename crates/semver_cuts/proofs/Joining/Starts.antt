@@ -39,8 +39,14 @@ module _ {T : Type 0} {cmp : T → T → Ordering} (o : IsTotalOrder cmp) where
       → AllByRecursion (λ (s : Ends T). IsCutBelow cmp c s.lower) spans
       → begins_at cmp spans cut ≡ true → IsCutBelow cmp c cut
   begins-above c cut [] above h = cc
-  begins-above c cut (span ∷ spans) above h = grind (arith, or_cases, equal-from, below-at_most o, begins-above c cut
-      spans above.1)
+  begins-above c cut (span ∷ spans) above h = grind (
+    arith,
+    or_cases,
+    equal-from,
+    below-at_most o,
+    begins-above c cut
+        spans above.1,
+  )
 
   -- a fact of each lower end is one of a cut that equals the cut where one of the spans begins
   begun-of : (P : Ends T → Type 0) (spans : List (Ends T)) (cut : Cut T) → AllByRecursion P spans
@@ -53,8 +59,11 @@ module _ {T : Type 0} {cmp : T → T → Ordering} (o : IsTotalOrder cmp) where
   gap-before : (spans : List (Ends T)) → AreMerged cmp spans → (cut early : Cut T) → begins_at cmp spans cut ≡ true
       → IsInSome cmp spans early → IsCutBelow cmp early cut
       → (gap : Cut T) × IsCutBelow cmp early gap × IsCutBelow cmp gap cut × ¬ IsInSome cmp spans gap
-  gap-before spans are cut early h is low = grind (arith, begun-of (HasGapBelow o spans) spans cut
-      (gaps-below o spans are.apart are.rising) h)
+  gap-before spans are cut early h is low = grind (
+    arith,
+    begun-of (HasGapBelow o spans) spans cut
+        (gaps-below o spans are.apart are.rising) h,
+  )
 
   -- below a cut of merged spans at which none begins, there is a cut such that all cuts between lie in the spans
   goes-on : (spans : List (Ends T)) → (cut : Cut T) → IsInSome cmp spans cut → begins_at cmp spans cut ≡ false
@@ -76,17 +85,21 @@ module _ {T : Type 0} {cmp : T → T → Ordering} (o : IsTotalOrder cmp) where
   beyond [] cut h low lt = (low, at_most_refl o low, lt, λ is. is)
   beyond (span ∷ spans) cut h low lt =
       let neither = or_parts (is_lt (cut_cmp cmp span.lower cut) && is_le (cut_cmp cmp cut span.upper))
-          (reaches cmp spans cut) h in
+      (reaches cmp spans cut) h in
       let found = beyond spans cut neither.1 low lt in
       ⊎_elim
       (λ inside.
       let begins = at_most-below o span.lower found.0 cut inside.lower found.2 in
       let ends : IsCutBelow cmp span.upper cut = ⊎_elim (λ le. absurd
-          (and-false _ _ neither.0 (lt-from_below cmp span.lower cut begins) (le-from_at_most cmp cut span.upper le)))
-          (λ below. below) (at_most-or-below o cut span.upper) in
-      let next = beyond spans cut neither.1 span.upper ends in
-      (next.0, at_most_trans o low found.0 next.0 found.1 (at_most_trans o found.0 span.upper next.0 (inl inside.upper)
-          next.1), next.2, ⊎_elim (λ itself. below-not-at_most o next.0 span.upper itself.upper next.1) next.3))
+      (and-false _ _ neither.0 (lt-from_below cmp span.lower cut begins) (le-from_at_most cmp cut span.upper le)))
+      (λ below. below) (at_most-or-below o cut span.upper) in
+      let next = beyond spans cut neither.1 span.upper ends in (
+        next.0,
+        at_most_trans o low found.0 next.0 found.1 (at_most_trans o found.0 span.upper next.0 (inl inside.upper)
+            next.1),
+        next.2,
+        ⊎_elim (λ itself. below-not-at_most o next.0 span.upper itself.upper next.1) next.3,
+      ))
       (λ outside. (found.0, found.1, found.2, ⊎_elim outside found.3))
       (in_span-or_not o found.0 span)
 
@@ -103,7 +116,7 @@ module _ {T : Type 0} {cmp : T → T → Ordering} (o : IsTotalOrder cmp) where
         λ c low high. grind (arith, both, at_most-from_le cmp cut span.upper, below-at_most o c cut span.upper),
       ))
       (λ there. let found = reached spans rising.1 cut there in
-          (found.0, inr found.1, found.2, λ c low high. inr (found.3 c low high)))
+      (found.0, inr found.1, found.2, λ c low high. inr (found.3 c low high)))
       (or_cases (is_lt (cut_cmp cmp span.lower cut) && is_le (cut_cmp cmp cut span.upper)) (reaches cmp spans cut) h)
 
   -- ---- the cuts of the list

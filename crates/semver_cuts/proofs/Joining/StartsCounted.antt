@@ -112,8 +112,13 @@ module _ {T : Type 0} {cmp : T → T → Ordering} (o : IsTotalOrder cmp) where
       let others = firsts-counted spans joined (merged-tail cmp first joined are) firsts.1 in
       let one = one-counted first.lower [] spans in
       let more = either-counted cmp (λ c. is_eq (cut_cmp cmp first.lower c)) (begins_at cmp joined)
-      (λ c same there. grind (arith, are.rising.0, begins-above o first.upper c joined above there, equal-from o,
-          cut_cmp-equal_back o)) [] spans in
+      (λ c same there. grind (
+        arith,
+        are.rising.0,
+        begins-above o first.upper c joined above there,
+        equal-from o,
+        cut_cmp-equal_back o,
+      )) [] spans in
       grind (arith, more, one, others, here, firsts.0.parts, firsts.0.end_of, cut_cmp-refl o)
 
   all-in : (spans part : List (Ends T)) (P : Cut T → Type 0)
@@ -128,6 +133,10 @@ module _ {T : Type 0} {cmp : T → T → Ordering} (o : IsTotalOrder cmp) where
       → length joined ≡ count_of_starts cmp spans
   starts-counted spans joined rising are =
       let same = all-in spans spans (λ c. not (reaches cmp spans c) ≡ begins_at cmp joined c) (λ c is. is) rising
-          (begins-or_reached o spans joined rising are) in
-      grind (arith, same-count cmp spans (begins_at cmp joined) [] spans same, firsts-counted spans joined are.merged
-          are.lowers)
+      (begins-or_reached o spans joined rising are) in
+      grind (
+        arith,
+        same-count cmp spans (begins_at cmp joined) [] spans same,
+        firsts-counted spans joined are.merged
+            are.lowers,
+      )

@@ -34,11 +34,11 @@ module _ {T : Type 0} (end : Ends T → Cut T) (Before After : Cut T → Cut T �
   same-place [] [] after after' span span' same p q e e' l l' = cc (same, p, q)
   same-place [] (y ∷ before') after after' span span' same p q e e' l l' =
       let later = all_middle _ before' after' span' (subst (AllByRecursion (λ (s : Ends T). After (end s) c)) (cc same)
-          l) in
+      l) in
       absurd (grind (arith, clash c d, later))
   same-place (x ∷ before) [] after after' span span' same p q e e' l l' =
       let later = all_middle _ before after span (subst (AllByRecursion (λ (s : Ends T). After (end s) d)) (cc same) l')
-          in
+      in
       absurd (grind (arith, clash d c, later))
   same-place (x ∷ before) (y ∷ before') after after' span span' same p q e e' l l' =
       same-place before before' after after' span span' (cc same) p q e.1 e'.1 l l'
@@ -108,13 +108,19 @@ module _ {T : Type 0} {cmp : T → T → Ordering} (o : IsTotalOrder cmp) where
   pub chosen_lower-push : (spans : List (Ends T)) (span : Ends T) (old new : Cut T) → IsLastGreatestLower cmp spans old
       → IsLaterGreatest cmp old span.lower new → IsLastGreatestLower cmp (spans ++ span ∷ []) new
   chosen_lower-push spans span old new is (inl h) = grind (arith, chosen-kept)
-  chosen_lower-push spans span old new is (inr h) = grind (arith, lower-last spans span
-      (all_map _ _ (λ s p. at_most_trans o s.lower old span.lower p h.0) spans (chosen_lower-above spans old is)))
+  chosen_lower-push spans span old new is (inr h) = grind (
+    arith,
+    lower-last spans span
+        (all_map _ _ (λ s p. at_most_trans o s.lower old span.lower p h.0) spans (chosen_lower-above spans old is)),
+  )
 
   pub chosen_upper-push : (spans : List (Ends T)) (span : Ends T) (old new : Cut T) → IsFirstLeastUpper cmp spans old
       → IsEarlierLeast cmp old span.upper new → IsFirstLeastUpper cmp (spans ++ span ∷ []) new
-  chosen_upper-push spans span old new is (inl h) = grind (arith, upper-last spans span
-      (all_map _ _ (λ s p. below-at_most o span.upper old s.upper h.0 p) spans (chosen_upper-below spans old is)))
+  chosen_upper-push spans span old new is (inl h) = grind (
+    arith,
+    upper-last spans span
+        (all_map _ _ (λ s p. below-at_most o span.upper old s.upper h.0 p) spans (chosen_upper-below spans old is)),
+  )
   chosen_upper-push spans span old new is (inr h) = grind (arith, chosen-kept)
 
   -- only one end is chosen

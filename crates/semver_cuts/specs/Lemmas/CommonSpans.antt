@@ -42,8 +42,11 @@ module _ {T : Type 0} {cmp : T → T → Ordering} (o : IsTotalOrder cmp) where
       → AllByRecursion (λ (span : Ends T). Lower span.lower × Upper span.upper) others
       → AllByRecursion (λ (span : Ends T). Lower span.lower × Upper span.upper) (common_spans cmp ones others)
   common_spans-ends Lower Upper ones others all all' = common_spans-each _ _ _
-      (λ one other p p' shared. (greater-is o Lower one.lower other.lower (λ h. p.0) (λ h. p'.0), lesser-is o Upper
-      one.upper other.upper (λ h. p'.1) (λ h. p.1))) ones others all all'
+      (λ one other p p' shared. (
+        greater-is o Lower one.lower other.lower (λ h. p.0) (λ h. p'.0),
+        lesser-is o Upper
+            one.upper other.upper (λ h. p'.1) (λ h. p.1),
+      )) ones others all all'
 
   -- ---- some of the common spans
 
@@ -95,12 +98,18 @@ module _ {T : Type 0} {cmp : T → T → Ordering} (o : IsTotalOrder cmp) where
   -- there is no common span if no cut lies in a span of each list
   pub common_spans-none : (ones others : List (Ends T))
       → (common_spans cmp ones others ≡ []) ↔ (¬ ShareCut cmp ones others)
-  common_spans-none ones others = (λ none shared. grind (arith, common_spans-cuts ones others shared.0), λ apart.
-      none_held cmp _ (common_spans-hold ones others) (λ cut is. grind (arith, common_spans-cuts ones others cut)))
+  common_spans-none ones others = (
+    λ none shared. grind (arith, common_spans-cuts ones others shared.0),
+    λ apart.
+        none_held cmp _ (common_spans-hold ones others) (λ cut is. grind (arith, common_spans-cuts ones others cut)),
+  )
 
   -- and there is one if some cut does
   pub common_spans-any : (ones others : List (Ends T))
       → (common_spans cmp ones others ≢ []) ↔ ShareCut cmp ones others
-  common_spans-any ones others = (λ some. let held = some-held _ (common_spans-hold ones others) some in let both =
-      (common_spans-cuts ones others held.0).0 held.1 in (held.0, both.0, both.1), λ shared none.
-      (common_spans-none ones others).0 none shared)
+  common_spans-any ones others = (
+    λ some. let held = some-held _ (common_spans-hold ones others) some in let both =
+        (common_spans-cuts ones others held.0).0 held.1 in (held.0, both.0, both.1),
+    λ shared none.
+        (common_spans-none ones others).0 none shared,
+  )

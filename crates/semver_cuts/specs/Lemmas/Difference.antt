@@ -82,17 +82,22 @@ module _ {T : Type 0} (cmp : T → T → Ordering) where
       → AreDifference cmp ones others spans
       → AllByRecursion (λ (span : Ends T). Lower span.lower × Upper span.upper) spans
   difference-ends Lower Upper ones others spans all all' are = difference-each _ others _
-      (λ one piece p is. (lower-is Lower others one piece.lower p.0 (all_map _ _ (λ other q. q.1) others all') is.lower,
-      upper-is Upper others one piece.upper p.1 (all_map _ _ (λ other q. q.0) others all') is.upper)) ones spans all are
+      (λ one piece p is. (
+        lower-is Lower others one piece.lower p.0 (all_map _ _ (λ other q. q.1) others all') is.lower,
+        upper-is Upper others one piece.upper p.1 (all_map _ _ (λ other q. q.0) others all') is.upper,
+      )) ones spans all are
 
 module _ {T : Type 0} {cmp : T → T → Ordering} (o : IsTotalOrder cmp) where
   -- the difference is empty exactly if each cut of the first list lies in some span of the second
   pub difference-covered : (ones others spans : List (Ends T)) → AreDifference cmp ones others spans
       → (spans ≡ []) ↔ ((cut : Cut T) → IsInSome cmp ones cut → IsInSome cmp others cut)
-  difference-covered ones others spans are = (λ none cut is. grind
-      (arith, in_some-or_not o cut others, in-difference cmp ones others spans cut are is), λ covered. none_held cmp
-      spans (difference-hold cmp ones others spans are) (λ cut is. grind
-      (arith, of-difference cmp ones others spans cut are is)))
+  difference-covered ones others spans are = (
+    λ none cut is. grind
+        (arith, in_some-or_not o cut others, in-difference cmp ones others spans cut are is),
+    λ covered. none_held cmp
+        spans (difference-hold cmp ones others spans are) (λ cut is. grind
+        (arith, of-difference cmp ones others spans cut are is)),
+  )
 
 -- ---- the intersection and the difference
 

@@ -40,7 +40,7 @@ module _ {T : Type 0} {cmp : T → T → Ordering} (o : IsTotalOrder cmp) (cut :
   -- if spans all begin above a cut, the cuts in them are above it
   pub some-above : (bound : Cut T) (spans : List (Ends T))
       → AllByRecursion (λ (s : Ends T). IsCutBelow cmp bound s.lower) spans → IsInSome cmp spans cut → IsCutBelow cmp
-          bound cut
+      bound cut
   some-above bound [] above is = absurd is
   some-above bound (span ∷ spans) above (inl here) = below-at_most o bound span.lower cut above.0 here.lower
   some-above bound (span ∷ spans) above (inr there) = some-above bound spans above.1 there

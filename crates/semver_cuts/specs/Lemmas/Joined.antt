@@ -31,9 +31,15 @@ module _ {T : Type 0} {cmp : T → T → Ordering} (o : IsTotalOrder cmp) where
   pub merged-ascending : (spans : List (Ends T)) → AreMerged cmp spans
       → IsAscending (λ s. s.lower) spans × IsAscending (λ s. s.upper) spans
   merged-ascending [] are = (tt, tt)
-  merged-ascending (span ∷ spans) are = grind (arith, apart-above o span spans, merged-tail cmp span spans,
-      merged-ascending spans (merged-tail cmp span spans are), uppers-above o span.upper spans, lowers-above o
-      span.lower span.upper spans)
+  merged-ascending (span ∷ spans) are = grind (
+    arith,
+    apart-above o span spans,
+    merged-tail cmp span spans,
+    merged-ascending spans (merged-tail cmp span spans are),
+    uppers-above o span.upper spans,
+    lowers-above o
+        span.lower span.upper spans,
+  )
 
   module _ (end : Ends T → Cut T) where
     abbrev IsNew : List (Ends T) → Ends T → Type 0
@@ -43,8 +49,16 @@ module _ {T : Type 0} {cmp : T → T → Ordering} (o : IsTotalOrder cmp) where
         → AllByRecursion (λ (s : Ends T). IsFirstAt cmp end (front ++ back) (end s)) back
     first-each front [] new up = tt
     first-each front (span ∷ back) new up = (
-      record { before = front; span = span; after = back; parts = refl; end_of = refl; earlier = new.0; later = all_unit
-          back },
+      record {
+        before = front;
+        span = span;
+        after = back;
+        parts = refl;
+        end_of = refl;
+        earlier = new.0;
+        later = all_unit
+            back;
+      },
       rw append_assoc at (first-each (front ++ span ∷ []) back
           (all_both _ _ _ (λ s p q. all_push _ front span p (grind (arith, below-not-at_most o, cut_cmp-equal_back o)))
           back new.1 up.0) up.1),
@@ -52,9 +66,14 @@ module _ {T : Type 0} {cmp : T → T → Ordering} (o : IsTotalOrder cmp) where
 
   -- spans that are apart are joined to themselves
   pub apart-joined : (spans : List (Ends T)) → AreMerged cmp spans → AreJoined cmp spans spans
-  apart-joined spans are = record { merged = are; cuts = λ cut. (λ h. h, λ h. h); lowers = first-each (λ s. s.lower) []
-      spans (all_unit spans) (merged-ascending spans are).0; uppers = first-each (λ s. s.upper) [] spans
-      (all_unit spans) (merged-ascending spans are).1 }
+  apart-joined spans are = record {
+    merged = are;
+    cuts = λ cut. (λ h. h, λ h. h);
+    lowers = first-each (λ s. s.lower) []
+        spans (all_unit spans) (merged-ascending spans are).0;
+    uppers = first-each (λ s. s.upper) [] spans
+        (all_unit spans) (merged-ascending spans are).1;
+  }
 
   -- and have no places
   pub places_of-merged : (spans : List (Ends T)) → AreMerged cmp spans → IsPlacesOf cmp spans []

@@ -60,9 +60,15 @@ module _ {T : Type 0} {cmp : T → T → Ordering} (o : IsTotalOrder cmp) where
   -- a span that contains a cut lies in another exactly if it begins no earlier and ends no later
   pub within-ends : (one other : Ends T) → IsCutBelow cmp one.lower one.upper
       → IsWithin cmp one other ↔ (IsCutAtMost cmp other.lower one.lower × IsCutAtMost cmp one.upper other.upper)
-  within-ends one other held = (λ within. (grind (arith, within one.lower, at_most_refl o), grind
-      (arith, within one.lower, within other.upper, at_most-or-below o, below-not-at_most o, below_irrefl o)), λ ends
-      cut is. grind (arith, at_most_trans o other.lower one.lower, below-at_most o cut one.upper))
+  within-ends one other held = (
+    λ within. (
+      grind (arith, within one.lower, at_most_refl o),
+      grind
+          (arith, within one.lower, within other.upper, at_most-or-below o, below-not-at_most o, below_irrefl o),
+    ),
+    λ ends
+        cut is. grind (arith, at_most_trans o other.lower one.lower, below-at_most o cut one.upper),
+  )
 
   -- ---- the intersection of two spans
 

@@ -28,8 +28,12 @@ below_longest extra text start end other h h7 = grind (arith, longest_from)
 one_longest : (extra : Extra) (text : List ℕ) (start end other : ℕ) → IsLongestOf extra text start end
     → IsLongestOf extra text start other → other ≡ end
 one_longest extra text start end other h g =
-    omega (arith, below_longest extra text start end other h g.there, below_longest extra text start other end g
-        h.there)
+    omega (
+      arith,
+      below_longest extra text start end other h g.there,
+      below_longest extra text start other end g
+          h.there,
+    )
 
 -- ---- all of it
 

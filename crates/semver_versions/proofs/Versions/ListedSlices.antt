@@ -40,7 +40,7 @@ slice_parts text start middle end to before within =
     (drop-drop (middle - start) start text ∙ ap (λ (n : ℕ). drop n text) there
     ∙ drop-cons text middle 0 (omega (arith, before, within)))
     ∙ ap (λ (n : ℕ). slice_range text start middle ++ (get_or text middle 0 ∷ take (end - (middle + 1)) (drop n text)))
-        next
+    next
 
 -- ---- identifiers
 

@@ -85,8 +85,12 @@ module _ (a b c : ℕ) (rest : List ℕ) where
 
   third_length : length to_third ≡ second_place + 1
   third_length =
-      omega (arith, length-append to_second (decimal b ++ (dot ∷ [])), length-append (decimal b) (dot ∷ []),
-          second_length)
+      omega (
+        arith,
+        length-append to_second (decimal b ++ (dot ∷ [])),
+        length-append (decimal b) (dot ∷ []),
+        second_length,
+      )
 
   from_second : to_second ++ (decimal b ++ (dot ∷ (decimal c ++ rest))) ≡ text
   from_second = append_assoc (decimal a) (dot ∷ []) (decimal b ++ (dot ∷ (decimal c ++ rest)))

@@ -97,7 +97,7 @@ module _ (part : Part) (text rest first others : List ℕ) (reached : IsReached 
   reached-next next strict dotted =
       let n = next-part (is_listed part) rest next (dot-listed part) (sym others_is ∙ dotted) in
       let passes : is_strict part (prefix_of (is_inner part) rest) ≡ true = sym (ap (is_strict part) first_is) ∙ strict
-          in
+      in
       let size : length rest ≡ length (prefix_of (is_inner part) rest) + 1 + length next =
       part-length (is_inner part) rest dot next (sym others_is ∙ dotted) in
       let one : strict_offset part rest ≡ length (prefix_of (is_inner part) rest) + 1 + strict_offset part next =

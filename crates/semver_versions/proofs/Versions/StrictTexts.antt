@@ -93,7 +93,7 @@ unstrict-identifier text rest identifiers left h e g =
     ap (first_failing is_strict_identifier) read ∙ g.offset in
     let size = part-length (is_listed Number) text hyphen identifiers (sym h.follows ∙ e) in
     let numbers : length (numbers_text text) ≡ length (prefix_of (is_listed Number) text) = ap length (numbers-are text)
-        in
+    in
     subst (IsUnstrictAt text) (omega (arith, place, numbers, size, g.within))
     (identifier (ap (λ (l : List ℕ). list_all is_strict_number (parts_of l)) (numbers-are text) ∙ h.strict)
     (ap (λ (l : List ℕ). list_all is_strict_identifier (parts_of l)) read ∙ g.unstrict))

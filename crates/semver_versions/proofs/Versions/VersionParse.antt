@@ -49,7 +49,7 @@ pub begun-release : (text rest : List ℕ) (triple : ℕ × ℕ × ℕ) → IsBe
     → IsVersionText text (release triple.0 triple.1 triple.2)
 begun-release text [] triple begun none =
     begun-found text [] [] triple (release triple.0 triple.1 triple.2) begun (rw no_extras refl) (rw no_extras refl)
-        none
+    none
 begun-release text (b ∷ rest) triple begun none = absurd (omega arith)
 
 -- something is left

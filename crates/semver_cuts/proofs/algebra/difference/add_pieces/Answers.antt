@@ -17,9 +17,14 @@ use Rattle.semver_cuts.proofs.algebra.difference.add_pieces.Goals.{then-loop-num
 
 pub loop-number-init : goal.loop-number-init
 loop-number-init g c =
-    grind (arith, common_steps, append-nil, walked-first g.met.T.Ord.total c.args.others.now.list
-        c.args.others.now.merged c.len-number-end.ensures.joined (span_between c.ends.result.0.now c.ends.result.1.now)
-        c.ends.ensures.rising c.first_above-number.result c.first_above-number.ensures)
+    grind (
+      arith,
+      common_steps,
+      append-nil,
+      walked-first g.met.T.Ord.total c.args.others.now.list
+          c.args.others.now.merged c.len-number-end.ensures.joined (span_between c.ends.result.0.now c.ends.result.1.now)
+          c.ends.ensures.rising c.first_above-number.result c.first_above-number.ensures,
+    )
 
 pub loop-number-preserved : goal.loop-number-preserved
 loop-number-preserved g c =

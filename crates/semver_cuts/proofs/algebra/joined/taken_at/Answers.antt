@@ -25,10 +25,15 @@ take_between-requires-clause-rising g c =
 
 pub loop-begins-preserved : goal.loop-begins-preserved
 loop-begins-preserved g c =
-    grind (arith, common_steps, next-left g.met.T.Ord.total c.args.spans.now c.loop-begins.spans c.args.places.now
-        c.loop-begins.begins-index (0, 0) c.requires.some c.requires.places.joined.merged c.loop-begins-test.true
-        c.loop-begins.invariant.left c.take_between.new.spans c.take_between.ensures.lowers
-        c.take_between.ensures.uppers, next-done g.met.T.Ord.total c.args.spans.now c.loop-begins.spans
-        c.args.places.now c.loop-begins.begins-index (0, 0) c.requires.some c.requires.places.joined.merged
-        c.loop-begins-test.true c.loop-begins.invariant.left c.loop-begins.joined.items c.take_between.result
-        c.take_between.ensures.span)
+    grind (
+      arith,
+      common_steps,
+      next-left g.met.T.Ord.total c.args.spans.now c.loop-begins.spans c.args.places.now
+          c.loop-begins.begins-index (0, 0) c.requires.some c.requires.places.joined.merged c.loop-begins-test.true
+          c.loop-begins.invariant.left c.take_between.new.spans c.take_between.ensures.lowers
+          c.take_between.ensures.uppers,
+      next-done g.met.T.Ord.total c.args.spans.now c.loop-begins.spans
+          c.args.places.now c.loop-begins.begins-index (0, 0) c.requires.some c.requires.places.joined.merged
+          c.loop-begins-test.true c.loop-begins.invariant.left c.loop-begins.joined.items c.take_between.result
+          c.take_between.ensures.span,
+    )

@@ -21,7 +21,12 @@ none [] e = refl
 none (x ∷ xs) e = cc
 
 pub returns-in_default : goal.returns-in_default
-returns-in_default g c = λ spans s. grind (arith, common_steps, none-joined g.met.T.Ord.total spans c.args.order.now s, none)
+returns-in_default g c = λ spans s. grind (
+  arith,
+  common_steps,
+  none-joined g.met.T.Ord.total spans c.args.order.now s,
+  none,
+)
 
 pub loop-next-init : goal.loop-next-init
 loop-next-init g c = λ spans s.
@@ -49,13 +54,13 @@ loop-next-preserved g c = λ spans s.
           next.place _ next.place _ next.span.upper _ rest _
           (sym ((λ i. (w.pairs-is i).items) ∙ w.in_ok-push.ensures.items)) (sym (w.begun-is ∙ c.place-found.ensures))
           (sym (w.place-is ∙ c.place-found.ensures)) ((λ i. (c.ends-ends.ensures.ends i).upper) ∙ sym
-              (λ i. (w.upper-is i).now))
+          (λ i. (w.upper-is i).now))
           refl (running-next o spans order s loop.pairs.items loop.begun loop.place loop.upper.now next rest is
           (below-from_lt g.T.Ord.cmp loop.upper.now next.span.lower (begins ∙ sym c.lt.ensures ∙ w.if-lt.true)))
       | else-lt+then-ends_later w ↦ running-moved o spans order s loop.pairs.items _ loop.begun _ next.place _
           next.span.upper _ rest _ (sym (λ i. (w.pairs-is i).items)) (sym w.begun-is)
           (sym (w.place-is ∙ c.place-found.ensures)) ((λ i. (c.ends-ends.ensures.ends i).upper) ∙ sym
-              (λ i. (w.upper-is i).now))
+          (λ i. (w.upper-is i).now))
           refl (running-longer o spans order s loop.pairs.items loop.begun loop.place loop.upper.now next rest is
           (at_most-from_not_lt o loop.upper.now next.span.lower (begins ∙ sym c.lt.ensures ∙ w.if-lt.false))
           (later-tested o loop.upper.now loop.place next _ (ends ∙ sym w.ends_later.ensures ∙ w.if-ends_later.true)))

@@ -29,7 +29,7 @@ loop-other_place-preserved-then-le g c =
       covered = loop.invariant.covered;
       passed = λ cut there here. passed g.met.T.Ord.total c.args.ones.now.merged c.args.others.now.merged
           c.len-count.ensures.joined.merged c.len-other_count.ensures.joined.merged loop.place loop.other_place one
-              other
+          other
           c.ends.ensures c.ends-in-loop-other_place.ensures (at_most-from_le g.T.Ord.cmp one.upper other.lower
           (sym c.le.ensures ∙ c.if-le.true)) cut there (loop.invariant.passed cut there here);
     }
@@ -65,7 +65,7 @@ loop-other_place-preserved g c =
         | else-lt w ↦ λ cut is. ⊎_elim (λ here. inl here)
             (λ there. covered g.met.T.Ord.total c.args.ones.now.merged c.args.others.now.merged
             c.len-count.ensures.joined.merged c.len-other_count.ensures.joined.merged loop.place loop.other_place one
-                other
+            other
             c.ends.ensures c.ends-in-loop-other_place.ensures
             (at_most-from_not_lt g.met.T.Ord.total other.lower one.lower (sym c.lt.ensures ∙ w.if-lt.false))
             (at_most-from_not_lt g.met.T.Ord.total one.upper other.upper
@@ -78,8 +78,17 @@ loop-other_place-preserved g c =
 
 pub returns : goal.returns
 returns g c =
-    let none = none-from g.met.T.Ord.total c.args.others.now.merged c.loop-other_place.other_place in
-    (λ true cut is. grind (arith, common_steps, c.len-count.ensures.joined.cuts cut, c.len-other_count.ensures.joined.cuts cut, c.loop-other_place.invariant.covered cut, none), λ covers. refl)
+    let none = none-from g.met.T.Ord.total c.args.others.now.merged c.loop-other_place.other_place in (
+      λ true cut is. grind (
+        arith,
+        common_steps,
+        c.len-count.ensures.joined.cuts cut,
+        c.len-other_count.ensures.joined.cuts cut,
+        c.loop-other_place.invariant.covered cut,
+        none,
+      ),
+      λ covers. refl,
+    )
 
 pub ends-requires : goal.ends-requires
 ends-requires g c = subst (λ n. c.loop-other_place.place < n) c.len-count.ensures.length c.if-place-count.false

@@ -8,12 +8,14 @@ pub returns-then-lt : goal.returns-then-lt
 returns-then-lt g c =
     let one = span_between c.self.inside.lower c.self.inside.upper in
     let other = span_between c.other.inside.lower c.other.inside.upper in
-    rw (← c.self.view_is) (rw (← c.other.view_is) (shares-by g.met.T.Ord.total one other c.self.invariant c.other.invariant
+    rw (← c.self.view_is) (rw (← c.other.view_is) (shares-by g.met.T.Ord.total one other c.self.invariant
+    c.other.invariant
     c.lt-then-lt.result (grind (arith, common_steps))))
 
 pub returns-else-lt : goal.returns-else-lt
 returns-else-lt g c =
     let one = span_between c.self.inside.lower c.self.inside.upper in
     let other = span_between c.other.inside.lower c.other.inside.upper in
-    rw (← c.self.view_is) (rw (← c.other.view_is) (shares-by g.met.T.Ord.total one other c.self.invariant c.other.invariant
+    rw (← c.self.view_is) (rw (← c.other.view_is) (shares-by g.met.T.Ord.total one other c.self.invariant
+    c.other.invariant
     c.lt.result (grind (arith, common_steps))))

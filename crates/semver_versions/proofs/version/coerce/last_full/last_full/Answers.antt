@@ -29,7 +29,7 @@ numbers-preserved c =
         | in_default-full_from w ↦
             subst (IsFoundBefore text (c.in-Some.first + 1)) (sym w.found-is)
             (keep_long text c.numbers.from c.in-Some.start c.in-Some.first c.numbers.found c.numbers.invariant.found
-                number
+            number
             w.in_default-full_from.ensures.none)
       ];
     }

@@ -10,7 +10,7 @@ returns-in-None c = grind (arith, take)
 pub returns-then-before-piece : goal.returns-then-before-piece
 returns-then-before-piece c = λ text from first h number full short inner.
     keep_some text from c.args.piece.start first c.in-Some.before (subst (IsFoundBefore text from) c.in-Some.is h)
-        number
+    number
     (λ end g.
     let same = short_same text c.args.piece.start c.args.piece.end end (short_full text c.args.piece full short) g in
     (omega (arith, same, c.if-before-piece.true), omega (arith, same, inner)))

@@ -70,7 +70,9 @@ module _ {T : Type 0} {cmp : T → T → Ordering} (o : IsTotalOrder cmp) where
   pub apart-above : (span : Ends T) (spans : List (Ends T)) → AreApart cmp (span ∷ spans) → AreRising cmp spans
       → AllByRecursion (λ (s : Ends T). IsCutBelow cmp span.upper s.lower) spans
   apart-above span [] apart rising = tt
-  apart-above span (next ∷ spans) apart rising = grind (arith, below_trans o, all_map, apart-above next spans apart.1)
+  apart-above span (next ∷ spans) apart rising =
+      let over = below_trans o span.upper next.lower next.upper apart.0 rising.0 in
+      (apart.0, lowers-above span.upper next.upper spans (inl over) (apart-above next spans apart.1 rising.1))
 
   -- and all spans before one end below where it begins
   pub apart-before : (front back : List (Ends T)) (span : Ends T) → AreApart cmp (front ++ span ∷ back)

@@ -10,7 +10,7 @@ use Rattle.semver_cuts.specs.declared.cut.Cut.{Cut}
 use Rattle.semver_cuts.specs.SpanLists.{IsInSome, IsWithin}
 use Rattle.semver_cuts.specs.Ends.{Ends, IsCutAtMost, IsCutBelow, IsInSpan}
 use Rattle.semver_cuts.specs.Joined.{AreJoined, AreMerged}
-use Rattle.semver_cuts.specs.Sharing.{CoversAll, ShareCut}
+use Rattle.semver_cuts.specs.Sharing.{HaveCommonCut, CoversAll, ShareCut}
 use Rattle.semver_cuts.specs.Lemmas.Apart.{apart-above, merged-drop, merged-tail}
 use Rattle.semver_cuts.specs.Lemmas.Ends.{at_most_refl, at_most_trans, below-at_most}
 use Rattle.semver_cuts.specs.Lemmas.Ends.{below-not-at_most, below_irrefl, below_trans}
@@ -138,3 +138,6 @@ one-list (y ∷ z ∷ xs) x l e = absurd (omega arith)
 module _ {T : Type 0} (cmp : T → T → Ordering) (one other : Ends T) where
   pub covers-one : IsWithin cmp other one ↔ CoversAll cmp (one ∷ []) (other ∷ [])
   covers-one = grind arith
+
+  pub shares-one : HaveCommonCut cmp one other ↔ ShareCut cmp (one ∷ []) (other ∷ [])
+  shares-one = grind arith

@@ -1,7 +1,7 @@
 -- Merged spans kept as places in a list: how a sorted list gives them, and the span at each pair of places.
 use Rattle.std.proofs.Common.{◌≡◌, ◌≢◌, ℕ, zero, suc, ◌+◌, ◌<◌, List, [], ◌∷◌, ◌++◌, Ordering, drop, get_or}
 use Rattle.std.proofs.Common.{length, map, refl, sym, ap, subst, inl, inr, arith, length-append}
-use Rattle.std.proofs.Common.{◌==◌, Bool, false}
+use Rattle.std.proofs.Common.{◌==◌, Bool, false, true}
 use Rattle.std.specs.List.{AllByRecursion}
 use Rattle.std.specs.Cmp.{IsTotalOrder}
 use Rattle.std.proofs.lemmas.List.{append_assoc, drop-map, drop_more, get_or_at, length-map}
@@ -162,6 +162,9 @@ module _ {T : Type 0} (cmp : T → T → Ordering) where
   merged-by spans pairs b h1 = grind arith
 
   module _ (spans : List (Ends T)) (pairs : List (ℕ × ℕ)) (k : ℕ) (low : k < length (merged_spans spans pairs)) where
+    pub low-place : (length pairs == 0) ≡ true → k < length spans
+    low-place e = subst (λ l. k < length l) (merged-by spans pairs true e) low
+
     module _ (some : (length pairs == 0) ≡ false) where
       pub low-pair : k < length pairs
       low-pair = grind (arith, merged-by, length-map)

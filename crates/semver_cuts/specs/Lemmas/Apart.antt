@@ -4,6 +4,7 @@ use Rattle.semver_cuts.specs.Lemmas.Ends.{at_most-below, below-at_most}
 use Rattle.semver_cuts.specs.Lemmas.Lists.{all_both}
 use Rattle.semver_cuts.specs.declared.cut.Cut.{Cut}
 use native.Mathlib.Omega.{arith}
+use mathlib.Core.Logic.{inl}
 use Rattle.std.specs.Prelude.{ℕ, zero, suc, List, [], ◌∷◌, ◌++◌, drop}
 use Rattle.std.specs.declared.cmp.Ordering.{Ordering}
 use Rattle.std.specs.Cmp.{IsTotalOrder}
@@ -47,29 +48,31 @@ module _ {T : Type 0} {cmp : T → T → Ordering} (o : IsTotalOrder cmp) where
   pub lowers-above : (low high : Cut T) (spans : List (Ends T)) → IsCutAtMost cmp low high
       → AllByRecursion (λ (s : Ends T). IsCutBelow cmp high s.lower) spans
       → AllByRecursion (λ (s : Ends T). IsCutBelow cmp low s.lower) spans
-  lowers-above low high spans le all = grind (arith, at_most-below o, all_map)
+  lowers-above low high spans le all = all_map _ _ (λ s h. at_most-below o low high s.lower le h) spans all
 
   pub lowers-from : (low high : Cut T) (spans : List (Ends T)) → IsCutBelow cmp low high
       → AllByRecursion (λ (s : Ends T). IsCutAtMost cmp high s.lower) spans
       → AllByRecursion (λ (s : Ends T). IsCutBelow cmp low s.lower) spans
-  lowers-from low high spans le all = grind (arith, below-at_most o, all_map)
+  lowers-from low high spans lt all = all_map _ _ (λ s h. below-at_most o low high s.lower lt h) spans all
 
   -- spans that begin above a cut begin at it or above, and end above it
   pub lowers-at_least : (low : Cut T) (spans : List (Ends T))
       → AllByRecursion (λ (s : Ends T). IsCutBelow cmp low s.lower) spans
       → AllByRecursion (λ (s : Ends T). IsCutAtMost cmp low s.lower) spans
-  lowers-at_least low spans all = grind (arith, all_map)
+  lowers-at_least low spans all = all_map _ _ (λ s h. inl h) spans all
 
   pub uppers-above : (low : Cut T) (spans : List (Ends T))
       → AllByRecursion (λ (s : Ends T). IsCutBelow cmp low s.lower) spans → AreRising cmp spans
       → AllByRecursion (λ (s : Ends T). IsCutBelow cmp low s.upper) spans
-  uppers-above low spans all rising = grind (arith, below_trans o, all_both)
+  uppers-above low spans all rising = all_both _ _ _ (λ s p q. below_trans o low s.lower s.upper p q) spans all rising
 
   -- all spans after one begin above where it ends
   pub apart-above : (span : Ends T) (spans : List (Ends T)) → AreApart cmp (span ∷ spans) → AreRising cmp spans
       → AllByRecursion (λ (s : Ends T). IsCutBelow cmp span.upper s.lower) spans
   apart-above span [] apart rising = tt
-  apart-above span (next ∷ spans) apart rising = grind (arith, below_trans o, all_map, apart-above next spans apart.1)
+  apart-above span (next ∷ spans) apart rising =
+      let over = below_trans o span.upper next.lower next.upper apart.0 rising.0 in
+      (apart.0, lowers-above span.upper next.upper spans (inl over) (apart-above next spans apart.1 rising.1))
 
   -- and all spans before one end below where it begins
   pub apart-before : (front back : List (Ends T)) (span : Ends T) → AreApart cmp (front ++ span ∷ back)

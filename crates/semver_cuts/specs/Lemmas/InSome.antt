@@ -8,7 +8,7 @@ use Rattle.std.specs.List.{AllByRecursion}
 use Rattle.semver_cuts.specs.declared.cut.Cut.{Cut}
 use Rattle.semver_cuts.specs.Ends.{Ends, HoldsCut, IsCutBelow, IsInSpan}
 use Rattle.semver_cuts.specs.SpanLists.{IsInSome}
-use Rattle.semver_cuts.specs.Lemmas.Ends.{below-at_most}
+use Rattle.semver_cuts.specs.Lemmas.Ends.{at_most-or-below, below-at_most, below-not-at_most}
 use Rattle.semver_cuts.specs.Lemmas.Lists.{any-either, any-left, any-right}
 
 module _ {T : Type 0} (cmp : T → T → Ordering) (cut : Cut T) where
@@ -35,7 +35,13 @@ module _ {T : Type 0} (cmp : T → T → Ordering) where
 module _ {T : Type 0} {cmp : T → T → Ordering} (o : IsTotalOrder cmp) (cut : Cut T) where
   -- a cut lies in a span or it does not
   pub in_span-or_not : (span : Ends T) → IsInSpan cmp span cut ⊎ (¬ IsInSpan cmp span cut)
-  in_span-or_not span = grind arith
+  in_span-or_not span = elim (at_most-or-below o span.lower cut) [
+    | inl begun ↦ elim (at_most-or-below o span.upper cut) [
+      | inl past ↦ inr (λ is. below-not-at_most o cut span.upper is.upper past)
+      | inr inside ↦ inl (record { lower = begun; upper = inside })
+    ]
+    | inr early ↦ inr (λ is. below-not-at_most o cut span.lower early is.lower)
+  ]
 
   -- if spans all begin above a cut, the cuts in them are above it
   pub some-above : (bound : Cut T) (spans : List (Ends T))

@@ -13,7 +13,7 @@ use Rattle.semver_cuts.specs.CommonSpans.{common_ends, common_of, greater_cut, l
 use Rattle.semver_cuts.specs.Sharing.{HaveCommonCut}
 use Rattle.semver_cuts.specs.Lemmas.Ends.{at_most-from_le, at_most-or-below, at_most_refl}
 use Rattle.semver_cuts.specs.Lemmas.Ends.{at_most_trans, below-at_most, below-from_lt, below-not-at_most}
-use Rattle.semver_cuts.specs.Lemmas.Ends.{below_irrefl, le-from_at_most, lt-from_below}
+use Rattle.semver_cuts.specs.Lemmas.Ends.{at_most-below, below_irrefl, below_trans, le-from_at_most, lt-from_below}
 
 module _ {T : Type 0} {cmp : T → T → Ordering} (o : IsTotalOrder cmp) where
   -- ---- the greater and the lesser of two cuts
@@ -44,12 +44,18 @@ module _ {T : Type 0} {cmp : T → T → Ordering} (o : IsTotalOrder cmp) where
   -- a cut is below the lesser of two exactly if it is below both
   pub below-lesser : (c d e : Cut T)
       → IsCutBelow cmp e (lesser_cut cmp c d) ↔ (IsCutBelow cmp e c × IsCutBelow cmp e d)
-  below-lesser c d e = grind arith
+  below-lesser c d e =
+      lesser-is (λ k. IsCutBelow cmp e k ↔ (IsCutBelow cmp e c × IsCutBelow cmp e d)) c d
+      (λ h. (λ p. (below_trans o e d c p h, p), λ both. both.1))
+      (λ h. (λ p. (p, below-at_most o e c d p h), λ both. both.0))
 
   -- the greater of two cuts is below a third exactly if both are
   pub greater-below : (c d e : Cut T)
       → IsCutBelow cmp (greater_cut cmp c d) e ↔ (IsCutBelow cmp c e × IsCutBelow cmp d e)
-  greater-below c d e = grind arith
+  greater-below c d e =
+      greater-is (λ k. IsCutBelow cmp k e ↔ (IsCutBelow cmp c e × IsCutBelow cmp d e)) c d
+      (λ h. (λ p. (p, below_trans o d c e h p), λ both. both.0))
+      (λ h. (λ p. (at_most-below o c d e h p, p), λ both. both.1))
 
   -- ---- the cuts of a span
 

@@ -8,7 +8,8 @@ use Rattle.semver_cuts.specs.Lemmas.Apart.{merged-tail}
 use Rattle.semver_cuts.specs.Lemmas.Ends.{below-not-at_most}
 use Rattle.semver_cuts.proofs.LoopSteps.{here}
 
-module _ {T : Type 0} {cmp : T → T → Ordering} (o : IsTotalOrder cmp) (spans others : List (Ends T)) (last next : Ends T)
+module _ {T : Type 0} {cmp : T → T → Ordering} (o : IsTotalOrder cmp) (spans others : List (Ends T))
+    (last next : Ends T)
     (k : ℕ) (seen : AreMerged cmp spans ↔ AreMerged cmp (last ∷ drop k others)) (low : k < length others)
     (at : next ≡ get_or others k next) where
   abbrev rest : List (Ends T)

@@ -13,8 +13,7 @@ parse_int-text : (fault : IntFault) → kind_text (ParseIntError fault) ≡ None
 parse_int-text fault = refl
 
 max_int-text : kind_text (MaxIntError 9007199254740992)
-    ≡ Some (codes "Integer component of semver string is larger than JavaScript's Number.MAX_SAFE_INTEGER:
-        9007199254740992")
+    ≡ Some (codes "Integer component of semver string is larger than JavaScript's Number.MAX_SAFE_INTEGER: 9007199254740992")
 unfolding digits
 max_int-text = refl
 

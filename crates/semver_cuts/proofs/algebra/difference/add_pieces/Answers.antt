@@ -22,7 +22,8 @@ loop-number-init g c =
       common_steps,
       append-nil,
       walked-first g.met.T.Ord.total c.args.others.now.list
-          c.args.others.now.merged c.len-number-end.ensures.joined (span_between c.ends.result.0.now c.ends.result.1.now)
+          c.args.others.now.merged c.len-number-end.ensures.joined
+          (span_between c.ends.result.0.now c.ends.result.1.now)
           c.ends.ensures.rising c.first_above-number.result c.first_above-number.ensures,
     )
 

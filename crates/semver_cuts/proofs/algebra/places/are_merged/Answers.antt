@@ -25,7 +25,8 @@ pub loop-span-init : goal.loop-span-init
 loop-span-init g c = record {
   rising = c.ends-last.ensures.rising;
   merged = subst (λ l. AreMerged g.T.Ord.cmp c.args.spans.now ↔ AreMerged g.T.Ord.cmp l)
-      (c.in-Some.ensures.cases.0 ∙ ap (λ s. s ∷ c.in-Some.others.now) c.ends-last.ensures.ends) (λ are. are, λ are. are);
+      (c.in-Some.ensures.cases.0 ∙ ap (λ s. s ∷ c.in-Some.others.now) c.ends-last.ensures.ends)
+      (λ are. are, λ are. are);
 }
 
 pub loop-span-preserved : goal.loop-span-preserved
@@ -58,7 +59,8 @@ returns-then-ge g c =
 pub returns : goal.returns
 returns g c =
     let loop = c.loop-span in (
-      λ e. loop.invariant.merged.1 (subst (λ l. AreMerged g.T.Ord.cmp (span_between loop.last.0.now loop.last.1.now ∷ l))
+      λ e. loop.invariant.merged.1 (subst (λ l. AreMerged g.T.Ord.cmp
+          (span_between loop.last.0.now loop.last.1.now ∷ l))
           (sym (drop_all loop.span-index c.in-Some.others.now c.loop-span-test.false))
           (record { rising = (loop.invariant.rising, tt); apart = tt })),
       λ merged. refl,

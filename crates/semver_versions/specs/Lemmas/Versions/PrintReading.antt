@@ -22,8 +22,6 @@ use Rattle.semver_versions.specs.Lemmas.Texts.Prefixes.{begins-append}
 use Rattle.semver_versions.specs.Lemmas.Texts.Characters.{digit-no_version_mark}
 use Rattle.semver_versions.specs.ReadingBack.{HasText, HasTextNumbers, VersionReadsBack}
 
--- ---- numbers
-
 -- ---- identifiers
 
 -- the print of the identifier is an identifier text of it

@@ -29,10 +29,6 @@ ends-all [] all = refl
 ends-all (b ∷ []) all = (and_parts (is_space b) true all).0
 ends-all (b ∷ c ∷ rest) all = ends-all (c ∷ rest) (and_parts (is_space b) _ all).1
 
-pub ends-nothing : ends_in_space [] ≡ true
-unfolding ends_in_space
-ends-nothing = refl
-
 -- ---- borders
 
 -- before the rest of a text, and before its first part

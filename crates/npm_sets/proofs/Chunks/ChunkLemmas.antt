@@ -15,9 +15,6 @@ use Rattle.npm_sets.specs.declared.words.Lead.{Lead}
 pub not-true : (x : Bool) → not x ≡ true → x ≡ false
 not-true x h1 = grind arith
 
-not-false : (x : Bool) → x ≡ false → not x ≡ true
-not-false x h1 = grind arith
-
 -- what does not begin with white space is empty, or begins with another character
 pub solid-start : (b : ℕ) (rest : List ℕ) → BeginsWithNo is_space (b ∷ rest) → BeginsWith is_solid (b ∷ rest)
 solid-start b rest h1 = grind arith

@@ -121,9 +121,6 @@ pub record CharactersPassed (text : List ℕ) (place left : ℕ) (rest : List �
   pub reaches : (before after : List ℕ) → chars text ≡ before ++ after → length (plain_text before) ≡ place
       → (more : List ℕ) × (before ≡ done ++ more) × (length (plain_text more) ≡ left)
 
-pub characters-none : (text : List ℕ) (place : ℕ) → IsUtf8 text → CharactersPassed text place place text
-characters-none text place h1 = grind arith
-
 -- what follows the characters so far
 follows : (text before after done more rest : List ℕ) → chars text ≡ before ++ after → before ≡ done ++ more
     → chars text ≡ done ++ rest → more ++ after ≡ rest

@@ -22,7 +22,6 @@ use Rattle.semver_sets.specs.Merging.{AreSetsOf, none, one_more}
 use Rattle.semver_sets.specs.PartialText.{zeroed}
 use Rattle.semver_sets.specs.RangeSets.{IsRangeSet}
 use Rattle.semver_sets.specs.declared.read.full.FullLead.{FullLead}
-use Rattle.semver_sets.specs.declared.read.full.FullLead.TheVariants as FullLeads
 use Rattle.npm_sets.specs.FullTexts.{IsNpmFullText}
 use Rattle.npm_sets.specs.NpmMeaning.{alternatives_of, chunks_comparators, comparators_of, or_no_alternatives}
 use Rattle.npm_sets.specs.NpmMeaning.{piece_comparators, pieces_alternatives, word_comparator}

@@ -9,7 +9,6 @@ use Rattle.semver_sets.specs.Lemmas.Forms.{IsReadEnds}
 use Rattle.npm_sets.specs.Private.ReadViews.{AreSmallEnds, IsSmallCut, IsSmallVersion, cut_seen, ends_seen}
 use Rattle.npm_sets.specs.Private.ReadViews.{version_seen}
 use Rattle.npm_sets.specs.declared.ends.WordCut.{WordCut}
-use Rattle.npm_sets.specs.declared.ends.WordCut.TheVariants as WordCuts
 use Rattle.npm_sets.specs.declared.ends.WordEnds.{WordEnds}
 use Rattle.npm_sets.specs.declared.ends.WordVersion.{WordVersion}
 use Rattle.npm_sets.specs.declared.ends.WordVersion.TheVariants as WordVersions

@@ -65,7 +65,8 @@ joined-append b c rest end h1 = grind (arith, cases_Bool, joined-space, chunk-so
 
 pub chunks-split : (start end : List ℕ) → IsBorder start end → chunks_of (start ++ end) ≡ chunks_of start ++ chunks_of end
 chunks-split [] end border = grind (arith, chunks-empty)
-chunks-split (b ∷ []) end border = grind (arith, cases_Bool, chunks-space, chunks-empty, chunks-step, alone, last-border)
+chunks-split (b ∷ []) end border =
+    grind (arith, cases_Bool, chunks-space, chunks-empty, chunks-step, alone, last-border)
 chunks-split (b ∷ c ∷ rest) end border =
     grind (
       arith,

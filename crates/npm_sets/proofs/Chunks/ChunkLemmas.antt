@@ -156,7 +156,11 @@ pub word-two : (text chunk rest next others : List ℕ) (lead : Lead) (operand :
 word-two text chunk rest next others lead operand h first after led none second left =
     let whole : chunks_of text ≡ chunk ∷ chunks_of rest = grind (arith, chunk-first text h) in
     let alone : (lead, []) ≡ lead_of chunk = ap (λ (l : List ℕ). (lead, l)) (sym none) ∙ led in
-    grind (arith, next-word chunk rest lead alone (left-solid (rest_of is_solid text) rest after), left-solid (rest_of is_solid text) rest after)
+    grind (
+      arith,
+      next-word chunk rest lead alone (left-solid (rest_of is_solid text) rest after),
+      left-solid (rest_of is_solid text) rest after,
+    )
 
 -- ---- what `is_empty` returns
 

@@ -69,4 +69,5 @@ not-sides text left dash right third h1 h2 = grind (arith, sides-no_right, chunk
 pub both-sides : (text left dash right third : List ℕ)
     → chunks_of text ≡ left ∷ and_more dash (and_more right (chunks_of third)) → is_dash dash ≡ true
     → ¬ (right ≡ []) → third ≡ [] → Some (left, right) ≡ sides_of (chunks_of text)
-both-sides text left dash right third whole is some none = grind (arith, chunks-empty, sides-both left dash right is some)
+both-sides text left dash right third whole is some none =
+    grind (arith, chunks-empty, sides-both left dash right is some)

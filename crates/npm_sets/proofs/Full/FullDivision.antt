@@ -136,4 +136,5 @@ mark-chunk lead operand h1 h2 = grind (arith, full-chunk, mark-some, mark-full)
 
 pub full-word : (lead : FullLead) (operand : List ℕ) → BeginsWith is_digit operand
     → words_of ((full_mark lead ++ operand) ∷ []) ≡ (lead_named lead, operand) ∷ []
-full-word lead operand digit = grind (arith, word-last (full_mark lead ++ operand), full-lead lead operand digit, words-end)
+full-word lead operand digit =
+    grind (arith, word-last (full_mark lead ++ operand), full-lead lead operand digit, words-end)

@@ -91,7 +91,8 @@ one-meaning : (options : NpmOptions) (text : List ℕ) (form : Form) (major mino
     → alternatives_of options text ≡ (full_set form major minor patch ∷ []) ∷ []
     → AreInLimit major minor patch → IsTrue (is_full_form form) → IsAscii text
     → IsNpmFullText options text form major minor patch
-one-meaning options text form major minor patch h1 h2 h3 h4 = grind (arith, set-bounded, one-set, npm-sets-admit, ascii-plain)
+one-meaning options text form major minor patch h1 h2 h3 h4 =
+    grind (arith, set-bounded, one-set, npm-sets-admit, ascii-plain)
 
 -- ---- the text
 

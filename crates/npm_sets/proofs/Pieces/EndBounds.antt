@@ -19,7 +19,8 @@ zero-read = (48 ∷ [], (refl, refl), refl)
 version-read : (v : WordVersion) → IsSmallVersion v → IsRangeEnd (version_seen v)
 version-read (WordVersions.Release major minor patch) small = grind arith
 version-read (WordVersions.Least major minor patch) small = grind (arith, zero-read)
-version-read (WordVersions.Full major minor patch extras) small = grind (arith, extras-takes extras.now, prerelease-read)
+version-read (WordVersions.Full major minor patch extras) small =
+    grind (arith, extras-takes extras.now, prerelease-read)
 
 cut-read : (cut : WordCut) → IsSmallCut cut → IsRangeCut (cut_seen cut)
 cut-read cut h1 = grind (arith, version-read)

@@ -30,8 +30,10 @@ set-bounded : (comparators : List Comparator) (set : Ends VersionValue) → Give
 set-bounded comparators set gives is read =
     grind (
       arith,
-      all_middle IsReadEnds is.lower.before is.lower.after is.lower.span (subst (AllByRecursion IsReadEnds) is.lower.parts read),
-      all_middle IsReadEnds is.upper.before is.upper.after is.upper.span (subst (AllByRecursion IsReadEnds) is.upper.parts read),
+      all_middle IsReadEnds is.lower.before is.lower.after is.lower.span
+          (subst (AllByRecursion IsReadEnds) is.lower.parts read),
+      all_middle IsReadEnds is.upper.before is.upper.after is.upper.span
+          (subst (AllByRecursion IsReadEnds) is.upper.parts read),
       merged-gives comparators set is,
     )
 

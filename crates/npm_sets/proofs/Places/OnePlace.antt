@@ -48,7 +48,13 @@ module _ (options : NpmOptions) where
       let all = all-last_part (λ (w : Word). IsOk (word_comparator options w)) (words_of (chunks_of start))
       (words_of (chunks_of part)) (subst (AreComparators options) words there.comparators) in
       let some = chunks-some part here.solid in
-      grind (arith, words-some some.0 some.1, chunks-split part end (inl border), words-append options (chunks_of part) (chunks_of end) all, both-told)
+      grind (
+        arith,
+        words-some some.0 some.1,
+        chunks-split part end (inl border),
+        words-append options (chunks_of part) (chunks_of end) all,
+        both-told,
+      )
 
   -- so the place of a piece is one
   one-start : (start end other rest : List ℕ) → start ++ end ≡ other ++ rest → IsFirstRefused options start end
@@ -101,7 +107,8 @@ both-bars b c rest both = rw both refl
 total-pieces : (text : List ℕ) → total (pieces_of text) ≡ length text + 2
 total-pieces [] = grind (arith, pieces-nothing)
 total-pieces (b ∷ []) = grind (arith, pieces-short)
-total-pieces (b ∷ c ∷ rest) = grind (arith, cases_Bool, both-bars, piece-step, total-first, total-pieces rest, total-pieces (c ∷ rest))
+total-pieces (b ∷ c ∷ rest) =
+    grind (arith, cases_Bool, both-bars, piece-step, total-first, total-pieces rest, total-pieces (c ∷ rest))
 
 -- texts with the same pieces have the same length
 same-length : (one two : List ℕ) → pieces_of one ≡ pieces_of two → length one ≡ length two
@@ -143,14 +150,20 @@ one-place options text m n here there =
     let whole : here.before ++ here.after ≡ there.before ++ there.after = sym here.whole ∙ there.whole in
     let plain_whole : plain_text here.before ++ plain_text here.after ≡ plain_text there.before ++ plain_text there.after =
     sym (plain-append here.before here.after) ∙ ap plain_text whole ∙ plain-append there.before there.after in
-    grind (arith, one-before options (plain_text here.before) (plain_text here.after) (plain_text there.before) (plain_text there.after) plain_whole here.refused there.refused, same-beginning)
+    grind (
+      arith,
+      one-before options (plain_text here.before) (plain_text here.after) (plain_text there.before)
+          (plain_text there.after) plain_whole here.refused there.refused,
+      same-beginning,
+    )
 
 -- ---- a text with a place is refused
 
 refused-pieces : (options : NpmOptions) (done : List (List ℕ)) (piece : List ℕ) (later : List (List ℕ))
     → piece_comparators options piece ≡ None → pieces_alternatives options (done ++ (piece ∷ later)) ≡ None
 refused-pieces options [] piece later refused = grind (arith, pieces-more)
-refused-pieces options (d ∷ done) piece later refused = grind (arith, pieces-more, refused-pieces options done piece later refused)
+refused-pieces options (d ∷ done) piece later refused =
+    grind (arith, pieces-more, refused-pieces options done piece later refused)
 
 pub place-refused : (options : NpmOptions) (text : List ℕ) (offset : ℕ) → IsRefusedAt options text offset
     → IsNpmRefused options (with_plain_spaces text)

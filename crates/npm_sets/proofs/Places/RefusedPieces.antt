@@ -42,7 +42,8 @@ module _ (options : NpmOptions) (piece text : List ℕ) (skipped : text ≡ rest
   -- words
   value : BeginsWith is_solid text → None ≡ hyphen_range options (sides_of (chunks_of text))
       → piece_comparators options piece ≡ comparators_of options (words_of (chunks_of piece))
-  value solid is = grind (arith, piece-words options piece text skipped solid, text_comparators options text, same-chunks)
+  value solid is =
+      grind (arith, piece-words options piece text skipped solid, text_comparators options text, same-chunks)
 
   words-piece : BeginsWith is_solid text → None ≡ hyphen_range options (sides_of (chunks_of text))
       → AreComparators options (words_of (chunks_of piece)) → IsReadPiece options piece

@@ -107,7 +107,11 @@ pieces-passed options text rest piece (Some others) so here first last = record 
   ascii = ascii-append so.before (piece ++ (bar ∷ bar ∷ [])) so.ascii (ascii-bars piece);
 }
 pieces-passed options text rest piece None so here first last =
-    grind (arith, first-told rest piece None first last, all-append (IsReadPiece options) so.earlier (piece ∷ []) so.read (here, tt))
+    grind (
+      arith,
+      first-told rest piece None first last,
+      all-append (IsReadPiece options) so.earlier (piece ∷ []) so.read (here, tt),
+    )
 
 -- ---- the piece that is refused
 
@@ -163,7 +167,8 @@ place-found options text rest piece end place so one of refused is =
 alternatives-read : (options : NpmOptions) (pieces : List (List ℕ)) → AllByRecursion (IsReadPiece options) pieces
     → (alternatives : List (List Comparator)) × (pieces_alternatives options pieces ≡ Some alternatives)
 alternatives-read options [] all = grind (arith, pieces-end options)
-alternatives-read options (piece ∷ pieces) all = grind (arith, pieces-more options piece pieces, alternatives-read options pieces all.1)
+alternatives-read options (piece ∷ pieces) all =
+    grind (arith, pieces-more options piece pieces, alternatives-read options pieces all.1)
 
 pieces-some : (text : List ℕ) → (piece : List ℕ) × (pieces : List (List ℕ)) × (pieces_of text ≡ piece ∷ pieces)
 unfolding pieces_of

@@ -1,6 +1,7 @@
 -- The words of a piece up to the first that is no comparator.
 use native.Mathlib.Omega.{arith}
-use Rattle.std.proofs.Common.{◌≡◌, ◌∙◌, ℕ, Bool, true, false, List, [], ◌∷◌, ◌++◌, Option, Some, None, Result, Ok, ap, refl}
+use Rattle.std.proofs.Common.{◌≡◌, ◌∙◌, ℕ, Bool, true, false, List, []}
+use Rattle.std.proofs.Common.{◌∷◌, ◌++◌, Option, Some, None, Result, Ok, ap, refl}
 use Rattle.std.proofs.Common.{IsOk, IsErr, sym, subst, inl, inr}
 use Rattle.std.specs.Prelude.{is_ok}
 use Rattle.std.specs.List.{AllByRecursion}
@@ -111,7 +112,8 @@ space-before start rest h1 h2 = grind arith
 pub passed-refused : (options : NpmOptions) (piece rest : List ℕ) (word : Word) (others : List Word)
     → WordsPassed options piece rest → BeginsWith is_solid rest → words_of (chunks_of rest) ≡ word ∷ others
     → IsErr (word_comparator options word) → IsEndOf options piece rest
-passed-refused options piece rest word others so solid words refused = grind (arith, space-before so.start rest so.border solid)
+passed-refused options piece rest word others so solid words refused =
+    grind (arith, space-before so.start rest so.border solid)
 
 -- ---- what the test of a word returns
 

@@ -66,9 +66,9 @@ returns-then-not-found-clause-refused c = λ is.
 
 pub returns-in-Ok-Some : goal.returns-in-Ok-Some
 returns-in-Ok-Some c =
-    let is = some-gathered c.args.options c.args.text.now (some_seen c.loop-left.left) c.loop-left.sets c.loop-left.found
-    c.in-Ok-Some.field-0 c.in-Ok-Some.sets c.loop-left.invariant (ap some_seen c.in_default.is) c.if-not-found.false
-    c.in-Ok-Some.ensures.sets c.in-Ok-Some.ensures.some c.in-Ok-Some.field-0-is in
+    let is = some-gathered c.args.options c.args.text.now (some_seen c.loop-left.left) c.loop-left.sets
+    c.loop-left.found c.in-Ok-Some.field-0 c.in-Ok-Some.sets c.loop-left.invariant (ap some_seen c.in_default.is)
+    c.if-not-found.false c.in-Ok-Some.ensures.sets c.in-Ok-Some.ensures.some c.in-Ok-Some.field-0-is in
     record {
       sets = is.sets_are;
       means = npm-sets-admit c.args.options c.args.text.now (sets_seen c.in-Ok-Some.sets) is.sets_are;

@@ -1,4 +1,5 @@
 -- Texts that are divided where no chunk goes on: the chunks of both are those of the whole.
+use native.Mathlib.Omega.{arith}
 use Rattle.std.proofs.Common.{◌≡◌, ◌∙◌, ℕ, true, false, List, [], ◌∷◌, ◌++◌, ap, refl, sym, subst, inl, inr}
 use Rattle.std.proofs.lemmas.Bool.{and_parts, cases_Bool}
 use Rattle.std.proofs.lemmas.List.{append-nil, append_assoc}
@@ -28,16 +29,11 @@ ends-all [] all = refl
 ends-all (b ∷ []) all = (and_parts (is_space b) true all).0
 ends-all (b ∷ c ∷ rest) all = ends-all (c ∷ rest) (and_parts (is_space b) _ all).1
 
-pub ends-nothing : ends_in_space [] ≡ true
-unfolding ends_in_space
-ends-nothing = refl
-
 -- ---- borders
 
 -- before the rest of a text, and before its first part
 pub border-less : (one two end : List ℕ) → IsBorder one (two ++ end) → IsBorder one two
-border-less one two end (inl space) = inl space
-border-less one two end (inr ends) = inr (prefix_of-no is_solid two end ends)
+border-less one two end h1 = grind (arith, prefix_of-no)
 
 -- after one more part
 pub border-append : (one two end : List ℕ) → IsBorder one (two ++ end) → IsBorder two end → IsBorder (one ++ two) end
@@ -47,22 +43,16 @@ border-append one (b ∷ two) end before (inr ends) = inr ends
 
 tail-border : (b c : ℕ) (rest end : List ℕ) → IsBorder (b ∷ c ∷ rest) end → IsBorder (c ∷ rest) end
 unfolding ends_in_space
-tail-border b c rest end (inl space) = inl space
-tail-border b c rest end (inr ends) = inr ends
+tail-border b c rest end h1 = grind arith
 
 last-border : (b : ℕ) (end : List ℕ) → is_space b ≡ false → IsBorder (b ∷ []) end → BeginsWithNo is_solid end
 unfolding ends_in_space
-last-border b end solid (inl space) = cc (solid, space)
-last-border b end solid (inr ends) = ends
+last-border b end h1 h2 = grind arith
 
 -- ---- chunks on both sides of a border
 
 alone : (b : ℕ) (end : List ℕ) → BeginsWithNo is_solid end → joined b end (chunks_of end) ≡ (b ∷ []) ∷ chunks_of end
-alone b [] ends = refl
-alone b (c ∷ end) ends = elim (cases_Bool (is_space c)) [
-  | inl space ↦ joined-space b c end (chunks_of (c ∷ end)) space
-  | inr solid ↦ absurd (cc (rw solid at ends))
-]
+alone b end h1 = grind (arith, cases_Bool, joined-space)
 
 first-append : (b : ℕ) (x : List ℕ) (xs ys : List (List ℕ))
     → before_first b ((x ∷ xs) ++ ys) ≡ before_first b (x ∷ xs) ++ ys
@@ -71,42 +61,22 @@ first-append b x xs ys = refl
 joined-append : (b c : ℕ) (rest end : List ℕ) → chunks_of (c ∷ (rest ++ end)) ≡ chunks_of (c ∷ rest) ++ chunks_of end
     → joined b (c ∷ (rest ++ end)) (chunks_of (c ∷ (rest ++ end)))
     ≡ joined b (c ∷ rest) (chunks_of (c ∷ rest)) ++ chunks_of end
-joined-append b c rest end same = elim (cases_Bool (is_space c)) [
-  | inl space ↦
-      joined-space b c (rest ++ end) (chunks_of (c ∷ (rest ++ end))) space
-      ∙ ap (λ (l : List (List ℕ)). (b ∷ []) ∷ l) same
-      ∙ sym (ap (λ (l : List (List ℕ)). l ++ chunks_of end) (joined-space b c rest (chunks_of (c ∷ rest)) space))
-  | inr solid ↦
-      let first = chunk-solid c rest solid in
-      joined-solid b c (rest ++ end) (chunks_of (c ∷ (rest ++ end))) solid
-      ∙ ap (before_first b) same
-      ∙ ap (λ (l : List (List ℕ)). before_first b (l ++ chunks_of end)) first
-      ∙ first-append b (c ∷ prefix_of is_solid rest) (chunks_of (rest_of is_solid rest)) (chunks_of end)
-      ∙ sym (ap (λ (l : List (List ℕ)). before_first b l ++ chunks_of end) first)
-      ∙ sym (ap (λ (l : List (List ℕ)). l ++ chunks_of end) (joined-solid b c rest (chunks_of (c ∷ rest)) solid))
-]
+joined-append b c rest end h1 = grind (arith, cases_Bool, joined-space, chunk-solid, joined-solid, first-append)
 
 pub chunks-split : (start end : List ℕ) → IsBorder start end → chunks_of (start ++ end) ≡ chunks_of start ++ chunks_of end
-chunks-split [] end border = ap (λ (l : List (List ℕ)). l ++ chunks_of end) (sym chunks-empty)
-chunks-split (b ∷ []) end border = elim (cases_Bool (is_space b)) [
-  | inl space ↦
-      chunks-space b end space
-      ∙ ap (λ (l : List (List ℕ)). l ++ chunks_of end) (sym (chunks-space b [] space ∙ chunks-empty))
-  | inr solid ↦
-      chunks-step b end solid ∙ alone b end (last-border b end solid border)
-      ∙ sym (ap (λ (l : List (List ℕ)). l ++ chunks_of end)
-      (chunks-step b [] solid ∙ ap (λ (l : List (List ℕ)). (b ∷ []) ∷ l) chunks-empty))
-]
+chunks-split [] end border = grind (arith, chunks-empty)
+chunks-split (b ∷ []) end border =
+    grind (arith, cases_Bool, chunks-space, chunks-empty, chunks-step, alone, last-border)
 chunks-split (b ∷ c ∷ rest) end border =
-    let same = chunks-split (c ∷ rest) end (tail-border b c rest end border) in
-    elim (cases_Bool (is_space b)) [
-      | inl space ↦
-          chunks-space b (c ∷ (rest ++ end)) space ∙ same
-          ∙ ap (λ (l : List (List ℕ)). l ++ chunks_of end) (sym (chunks-space b (c ∷ rest) space))
-      | inr solid ↦
-          chunks-step b (c ∷ (rest ++ end)) solid ∙ joined-append b c rest end same
-          ∙ sym (ap (λ (l : List (List ℕ)). l ++ chunks_of end) (chunks-step b (c ∷ rest) solid))
-    ]
+    grind (
+      arith,
+      tail-border,
+      cases_Bool,
+      chunks-space,
+      chunks-step,
+      joined-append,
+      chunks-split (c ∷ rest) end (tail-border b c rest end border),
+    )
 
 -- ---- the first chunk with the white space after it
 

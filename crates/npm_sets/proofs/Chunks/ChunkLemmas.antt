@@ -13,16 +13,11 @@ use Rattle.npm_sets.specs.declared.words.Lead.{Lead}
 -- ---- one character
 
 pub not-true : (x : Bool) → not x ≡ true → x ≡ false
-not-true true h = cc h
-not-true false h = refl
-
-not-false : (x : Bool) → x ≡ false → not x ≡ true
-not-false true h = cc h
-not-false false h = refl
+not-true x h1 = grind arith
 
 -- what does not begin with white space is empty, or begins with another character
 pub solid-start : (b : ℕ) (rest : List ℕ) → BeginsWithNo is_space (b ∷ rest) → BeginsWith is_solid (b ∷ rest)
-solid-start b rest h = not-false (is_space b) h
+solid-start b rest h1 = grind arith
 
 pub prefix-step : (b : ℕ) (rest : List ℕ) → is_solid b ≡ true
     → prefix_of is_solid (b ∷ rest) ≡ b ∷ prefix_of is_solid rest
@@ -57,11 +52,8 @@ chunks-empty = refl
 
 -- leading white space changes no chunk
 pub chunks-skip : (text : List ℕ) → chunks_of (rest_of is_space text) ≡ chunks_of text
-chunks-skip [] = ap chunks_of (rest_of-none is_space [] tt)
-chunks-skip (b ∷ rest) = elim (cases_Bool (is_space b)) [
-  | inl space ↦ ap chunks_of (rest-step is_space b rest space) ∙ chunks-skip rest ∙ sym (chunks-space b rest space)
-  | inr solid ↦ ap chunks_of (rest_of-none is_space (b ∷ rest) solid)
-]
+chunks-skip [] = grind (arith, rest_of-none is_space)
+chunks-skip (b ∷ rest) = grind (arith, cases_Bool (is_space b), rest-step, chunks-space, rest_of-none, chunks-skip rest)
 
 -- a character before a chunk, or alone
 pub joined-solid : (b c : ℕ) (rest : List ℕ) (chunks : List (List ℕ)) → is_space c ≡ false
@@ -81,29 +73,14 @@ pub chunk-solid : (b : ℕ) (rest : List ℕ) → is_space b ≡ false
     → chunks_of (b ∷ rest) ≡ (b ∷ prefix_of is_solid rest) ∷ chunks_of (rest_of is_solid rest)
 chunk-solid b [] h = chunks-step b [] h ∙ last-chunk b
 chunk-solid b (c ∷ rest) h = elim (cases_Bool (is_space c)) [
-  | inl space ↦
-      let stop : is_solid c ≡ false = rw space refl in
-      chunks-step b (c ∷ rest) h ∙ joined-space b c rest (chunks_of (c ∷ rest)) space
-      ∙ ap (λ (l : List ℕ). (b ∷ l) ∷ chunks_of (c ∷ rest)) (sym (prefix-stop c rest stop))
-      ∙ ap (λ (l : List ℕ). (b ∷ prefix_of is_solid (c ∷ rest)) ∷ chunks_of l)
-      (sym (rest_of-none is_solid (c ∷ rest) stop))
-  | inr solid ↦
-      let go : is_solid c ≡ true = rw solid refl in
-      chunks-step b (c ∷ rest) h ∙ joined-solid b c rest (chunks_of (c ∷ rest)) solid
-      ∙ ap (before_first b) (chunk-solid c rest solid)
-      ∙ ap (λ (l : List ℕ). (b ∷ l) ∷ chunks_of (rest_of is_solid rest)) (sym (prefix-step c rest go))
-      ∙ ap (λ (l : List ℕ). (b ∷ prefix_of is_solid (c ∷ rest)) ∷ chunks_of l) (sym (rest-step is_solid c rest go))
+  | inl space ↦ grind (arith, chunks-step, joined-space, prefix-stop, rest_of-none)
+  | inr solid ↦ grind (arith, chunks-step, joined-solid, prefix-step, rest-step, chunk-solid c rest solid)
 ]
 
 -- the same without the white space after the first
 pub chunk-first : (text : List ℕ) → BeginsWith is_solid text
     → chunks_of text ≡ prefix_of is_solid text ∷ chunks_of (rest_of is_space (rest_of is_solid text))
-chunk-first [] h = absurd h
-chunk-first (b ∷ rest) h =
-    chunk-solid b rest (not-true (is_space b) h)
-    ∙ ap (λ (l : List ℕ). l ∷ chunks_of (rest_of is_solid rest)) (sym (prefix-step b rest h))
-    ∙ ap (λ (l : List (List ℕ)). prefix_of is_solid (b ∷ rest) ∷ l)
-    (sym (chunks-skip (rest_of is_solid (b ∷ rest)) ∙ ap chunks_of (rest-step is_solid b rest h)))
+chunk-first text h1 = grind (arith, chunk-solid, not-true, prefix-step, chunks-skip, rest-step)
 
 -- ---- lengths
 
@@ -111,31 +88,18 @@ pub rest-le : (test : ℕ → Bool) (text : List ℕ) → length (rest_of test t
 rest-le test text = rest-short text (prefix_of test text) (rest_of test text) (sym (prefix_of-rest_of test text))
 
 rest-lt : (test : ℕ → Bool) (text : List ℕ) → BeginsWith test text → length (rest_of test text) < length text
-rest-lt test [] h = absurd h
-rest-lt test (b ∷ rest) h =
-    let same : length (rest_of test (b ∷ rest)) ≡ length (rest_of test rest) = ap length (rest-step test b rest h) in
-    let le = rest-le test rest in
-    omega arith
+rest-lt test text h1 = grind (arith, rest-step, rest-le)
 
 -- what follows the first chunk is shorter
 pub after-shorter : (text rest : List ℕ) → BeginsWith is_solid text
     → rest ≡ rest_of is_space (rest_of is_solid text) → length rest < length text
-after-shorter text rest h same =
-    let lt = rest-lt is_solid text h in
-    let le = rest-le is_space (rest_of is_solid text) in
-    let e : length rest ≡ length (rest_of is_space (rest_of is_solid text)) = ap length same in
-    omega arith
+after-shorter text rest h same = grind (arith, rest-lt is_solid text h, rest-le is_space (rest_of is_solid text))
 
 -- what follows two chunks
 pub both-shorter : (text rest others : List ℕ) → BeginsWith is_solid text
     → rest ≡ rest_of is_space (rest_of is_solid text) → others ≡ rest_of is_space (rest_of is_solid rest)
     → length others < length text
-both-shorter text rest others h same next =
-    let lt = after-shorter text rest h same in
-    let le = rest-le is_solid rest in
-    let le2 = rest-le is_space (rest_of is_solid rest) in
-    let e : length others ≡ length (rest_of is_space (rest_of is_solid rest)) = ap length next in
-    omega arith
+both-shorter text rest others h1 h2 h3 = grind (arith, after-shorter, rest-le)
 
 -- what is left begins with no white space
 pub left-solid : (text rest : List ℕ) → rest ≡ rest_of is_space text → BeginsWithNo is_space rest
@@ -144,15 +108,13 @@ left-solid text rest same = subst (BeginsWithNo is_space) (sym same) (rest_of-no
 -- ---- words
 
 pub some-is : (text : List ℕ) → ¬ (text ≡ []) → is_empty text ≡ false
-some-is [] h = absurd (h refl)
-some-is (b ∷ text) h = refl
+some-is text h1 = grind arith
 
 -- a word whose lead has its operand
 pub word-led : (chunk : List ℕ) (chunks : List (List ℕ)) → is_empty (lead_of chunk).1 ≡ false
     → words_of (chunk ∷ chunks) ≡ lead_of chunk ∷ words_of chunks
 unfolding words_of
-word-led chunk [] h = refl
-word-led chunk (next ∷ rest) h = rw h refl
+word-led chunk chunks h1 = grind arith
 
 -- a lead alone, and the next chunk
 pub word-next : (chunk next : List ℕ) (chunks : List (List ℕ)) → is_empty (lead_of chunk).1 ≡ true
@@ -170,14 +132,7 @@ pub word-one : (text chunk rest : List ℕ) (lead : Lead) (operand : List ℕ) �
     → chunk ≡ prefix_of is_solid text → rest ≡ rest_of is_space (rest_of is_solid text)
     → (lead, operand) ≡ lead_of chunk → ¬ (operand ≡ [])
     → words_of (chunks_of text) ≡ (lead, operand) ∷ words_of (chunks_of rest)
-word-one text chunk rest lead operand h first after led some =
-    let whole : chunks_of text ≡ chunk ∷ chunks_of rest =
-    chunk-first text h ∙ ap (λ (l : List ℕ). l ∷ chunks_of (rest_of is_space (rest_of is_solid text))) (sym first)
-    ∙ ap (λ (l : List ℕ). chunk ∷ chunks_of l) (sym after) in
-    let operand_some : is_empty (lead_of chunk).1 ≡ false =
-    ap (λ (w : Lead × List ℕ). is_empty w.1) (sym led) ∙ some-is operand some in
-    ap words_of whole ∙ word-led chunk (chunks_of rest) operand_some
-    ∙ ap (λ (w : Lead × List ℕ). w ∷ words_of (chunks_of rest)) (sym led)
+word-one text chunk rest lead operand h1 h2 h3 h4 h5 = grind (arith, chunk-first, some-is, word-led)
 
 nothing-left : (lead : Lead) → (lead, []) ∷ words_of []
     ≡ (lead, prefix_of is_solid []) ∷ words_of (chunks_of (rest_of is_space (rest_of is_solid [])))
@@ -188,16 +143,9 @@ nothing-left lead = refl
 next-word : (chunk rest : List ℕ) (lead : Lead) → (lead, []) ≡ lead_of chunk → BeginsWithNo is_space rest
     → words_of (chunk ∷ chunks_of rest)
     ≡ (lead, prefix_of is_solid rest) ∷ words_of (chunks_of (rest_of is_space (rest_of is_solid rest)))
-next-word chunk [] lead led h =
-    ap (λ (l : List (List ℕ)). words_of (chunk ∷ l)) chunks-empty ∙ word-last chunk
-    ∙ ap (λ (w : Lead × List ℕ). w ∷ words_of []) (sym led) ∙ nothing-left lead
+next-word chunk [] lead led h = grind (arith, chunks-empty, word-last chunk, nothing-left lead)
 next-word chunk (b ∷ rest) lead led h =
-    let alone : is_empty (lead_of chunk).1 ≡ true = ap (λ (w : Lead × List ℕ). is_empty w.1) (sym led) in
-    let more = chunk-first (b ∷ rest) (solid-start b rest h) in
-    ap (λ (l : List (List ℕ)). words_of (chunk ∷ l)) more
-    ∙ word-next chunk (prefix_of is_solid (b ∷ rest)) (chunks_of (rest_of is_space (rest_of is_solid (b ∷ rest)))) alone
-    ∙ ap (λ (w : Lead × List ℕ). (w.0, prefix_of is_solid (b ∷ rest))
-    ∷ words_of (chunks_of (rest_of is_space (rest_of is_solid (b ∷ rest))))) (sym led)
+    grind (arith, chunk-first (b ∷ rest) (solid-start b rest h), solid-start b rest h, word-next)
 
 -- the word that is read, with its operand in the next chunk
 pub word-two : (text chunk rest next others : List ℕ) (lead : Lead) (operand : List ℕ) → BeginsWith is_solid text
@@ -206,28 +154,24 @@ pub word-two : (text chunk rest next others : List ℕ) (lead : Lead) (operand :
     → next ≡ prefix_of is_solid rest → others ≡ rest_of is_space (rest_of is_solid rest)
     → words_of (chunks_of text) ≡ (lead, next) ∷ words_of (chunks_of others)
 word-two text chunk rest next others lead operand h first after led none second left =
-    let whole : chunks_of text ≡ chunk ∷ chunks_of rest =
-    chunk-first text h ∙ ap (λ (l : List ℕ). l ∷ chunks_of (rest_of is_space (rest_of is_solid text))) (sym first)
-    ∙ ap (λ (l : List ℕ). chunk ∷ chunks_of l) (sym after) in
+    let whole : chunks_of text ≡ chunk ∷ chunks_of rest = grind (arith, chunk-first text h) in
     let alone : (lead, []) ≡ lead_of chunk = ap (λ (l : List ℕ). (lead, l)) (sym none) ∙ led in
-    ap words_of whole ∙ next-word chunk rest lead alone (left-solid (rest_of is_solid text) rest after)
-    ∙ ap (λ (l : List ℕ). (lead, l) ∷ words_of (chunks_of (rest_of is_space (rest_of is_solid rest)))) (sym second)
-    ∙ ap (λ (l : List ℕ). (lead, next) ∷ words_of (chunks_of l)) (sym left)
+    grind (
+      arith,
+      next-word chunk rest lead alone (left-solid (rest_of is_solid text) rest after),
+      left-solid (rest_of is_solid text) rest after,
+    )
 
 -- ---- what `is_empty` returns
 
 pub no-bytes_told : (text : List ℕ) (r : Bool) → r ≡ (length text == 0) → r ≡ true → text ≡ []
-no-bytes_told [] r told is = refl
-no-bytes_told (b ∷ text) r told is =
-    let none : length (b ∷ text) ≡ 0 = eqb-true (length (b ∷ text)) 0 (sym told ∙ is) in
-    absurd (omega arith)
+no-bytes_told [] r told is = grind arith
+no-bytes_told (b ∷ text) r told is = grind (arith, eqb-true (length (b ∷ text)) 0 (sym told ∙ is))
 
 pub some-bytes_told : (text : List ℕ) (r : Bool) → r ≡ (length text == 0) → r ≡ false → ¬ (text ≡ [])
-some-bytes_told [] r told is = cc (told, is)
-some-bytes_told (b ∷ text) r told is = λ none. cc none
+some-bytes_told text r h1 h2 = grind arith
 
 -- what is not empty and begins with no white space
 pub solid-told : (text : List ℕ) (r : Bool) → r ≡ (length text == 0) → r ≡ false → BeginsWithNo is_space text
     → BeginsWith is_solid text
-solid-told [] r told is h = cc (told, is)
-solid-told (b ∷ text) r told is h = solid-start b text h
+solid-told text r h1 h2 h3 = grind (arith, solid-start)

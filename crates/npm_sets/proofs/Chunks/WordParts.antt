@@ -1,11 +1,12 @@
 -- The part of a text that its first word takes, with the white space after it.
-use Rattle.std.proofs.Common.{◌≡◌, ◌∙◌, ℕ, true, List, [], ◌∷◌, ◌++◌, ap, refl, sym, subst}
+use native.Mathlib.Omega.{arith}
+use Rattle.std.proofs.Common.{◌≡◌, ◌∙◌, ℕ, List, [], ◌∷◌, ◌++◌, ap, refl, sym, subst}
 use Rattle.std.proofs.lemmas.List.{append_assoc}
 use Rattle.semver_versions.specs.Characters.{BeginsWith}
 use Rattle.semver_versions.specs.Lemmas.Public.{prefix_of-begins}
 use Rattle.semver_versions.specs.Reading.{prefix_of, rest_of}
 use Rattle.npm_sets.specs.Private.RefusedViews.{IsBorder, IsReadWord}
-use Rattle.npm_sets.specs.WordTexts.{Word, chunks_of, is_empty, is_solid, is_space, lead_of, words_of}
+use Rattle.npm_sets.specs.WordTexts.{Word, chunks_of, is_solid, is_space, lead_of, words_of}
 use Rattle.npm_sets.specs.declared.words.Lead.{Lead}
 use Rattle.npm_sets.proofs.Chunks.Borders.{border-append, border-less, chunks-split, part-of}
 use Rattle.npm_sets.proofs.Chunks.ChunkLemmas.{word-last, word-next}
@@ -18,19 +19,12 @@ no-words = refl
 -- the word of one chunk
 one-word : (b : ℕ) (chunk : List ℕ) (word : Word) → word ≡ lead_of (b ∷ chunk)
     → words_of ((b ∷ chunk) ∷ []) ≡ word ∷ []
-one-word b chunk word led =
-    word-last (b ∷ chunk) ∙ ap (λ (l : List Word). lead_of (b ∷ chunk) ∷ l) no-words
-    ∙ ap (λ (w : Word). w ∷ []) (sym led)
+one-word b chunk word led = grind (arith, word-last (b ∷ chunk), no-words)
 
 -- that of a lead alone and the next chunk, if there is one
 two-words : (b : ℕ) (chunk next : List ℕ) (lead : Lead) → (lead, []) ≡ lead_of (b ∷ chunk)
     → words_of ((b ∷ chunk) ∷ and_more next []) ≡ (lead, next) ∷ []
-two-words b chunk [] lead led = one-word b chunk (lead, []) led
-two-words b chunk (n ∷ next) lead led =
-    let alone : is_empty (lead_of (b ∷ chunk)).1 ≡ true = ap (λ (w : Word). is_empty w.1) (sym led) in
-    word-next (b ∷ chunk) (n ∷ next) [] alone
-    ∙ ap (λ (l : List Word). ((lead_of (b ∷ chunk)).0, n ∷ next) ∷ l) no-words
-    ∙ ap (λ (w : Word). (w.0, n ∷ next) ∷ []) (sym led)
+two-words b chunk next lead h1 = grind (arith, one-word, word-next, no-words)
 
 -- the first chunk has a character
 chunk-begins : (text chunk : List ℕ) → BeginsWith is_solid text → chunk ≡ prefix_of is_solid text → BeginsWith is_solid chunk
@@ -38,8 +32,7 @@ chunk-begins text chunk solid first = subst (BeginsWith is_solid) (sym first) (p
 
 one-chunk : (chunk : List ℕ) (word : Word) → BeginsWith is_solid chunk → word ≡ lead_of chunk
     → words_of (and_more chunk []) ≡ word ∷ []
-one-chunk [] word solid led = absurd solid
-one-chunk (b ∷ chunk) word solid led = one-word b chunk word led
+one-chunk chunk word h1 h2 = grind (arith, one-word)
 
 two-chunks : (chunk next : List ℕ) (lead : Lead) → BeginsWith is_solid chunk → (lead, []) ≡ lead_of chunk
     → words_of (and_more chunk [] ++ and_more next []) ≡ (lead, next) ∷ []
@@ -50,13 +43,12 @@ two-chunks (b ∷ chunk) next lead solid led = two-words b chunk next lead led
 pub part-one : (text chunk rest : List ℕ) (word : Word) → BeginsWith is_solid text → chunk ≡ prefix_of is_solid text
     → rest ≡ rest_of is_space (rest_of is_solid text) → word ≡ lead_of chunk → IsReadWord text word rest
 part-one text chunk rest word solid first after led =
-    let p = part-of text chunk rest first after in
-    record {
-      part = p.part;
-      whole = p.whole;
-      words = ap words_of p.chunks ∙ one-chunk chunk word (chunk-begins text chunk solid first) led;
-      border = p.border;
-    }
+    grind (
+      arith,
+      part-of text chunk rest first after,
+      one-chunk chunk word (chunk-begins text chunk solid first) led,
+      chunk-begins text chunk solid first,
+    )
 
 -- a word with its operand in the next chunk
 pub part-two : (text chunk rest next others : List ℕ) (lead : Lead) (operand : List ℕ) → BeginsWith is_solid text

@@ -7,7 +7,7 @@ use Rattle.std.specs.List.{list_all}
 use Rattle.std.specs.Prelude.{◌==◌, ◌||◌, IsAscii}
 use Rattle.semver_versions.specs.Characters.{AreAll, BeginsWith, bar, caret, dot, greater_sign, is_digit, tilde}
 use Rattle.semver_versions.specs.Lemmas.Public.{number-takes, prefix_of-again, rest_of-again}
-use Rattle.semver_versions.specs.Reading.{prefix_of, rest_of}
+use Rattle.semver_versions.specs.Reading.{rest_of}
 use Rattle.semver_sets.specs.declared.read.full.FullLead.{FullLead}
 use Rattle.semver_sets.specs.declared.read.full.FullLead.TheVariants as FullLeads
 use Rattle.npm_sets.specs.Private.ReadViews.{IsNumberBefore, full_mark}
@@ -52,16 +52,12 @@ number-full loose text rest number h all =
 pub operand-full : (loose : Bool) (text second third : List ℕ) (major minor patch : ℕ)
     → IsNumberBefore loose text major (dot ∷ second) → IsNumberBefore loose second minor (dot ∷ third)
     → IsNumberBefore loose third patch [] → AreAll is_full_character text
-operand-full loose text second third major minor patch one two three =
-    number-full loose text (dot ∷ second) major one
-    (number-full loose second (dot ∷ third) minor two (number-full loose third [] patch three refl))
+operand-full loose text second third major minor patch h1 h2 h3 = grind (arith, number-full)
 
 -- after a mark
 pub mark-full : (lead : FullLead) (operand : List ℕ) → AreAll is_full_character operand
     → AreAll is_full_character (full_mark lead ++ operand)
-mark-full FullLeads.Caret operand all = all
-mark-full FullLeads.Tilde operand all = all
-mark-full FullLeads.Nothing operand all = all
+mark-full lead operand h1 = grind arith
 
 -- they are in ASCII
 ascii-character : (b : ℕ) → is_full_character b ≡ true → b < 128
@@ -91,8 +87,7 @@ full-solid (b ∷ text) all =
     and_from (is_solid b) _ (solid-character b parts.0) (full-solid text parts.1)
 
 begins-solid : (text : List ℕ) → ¬ (text ≡ []) → AreAll is_solid text → BeginsWith is_solid text
-begins-solid [] some all = absurd (some refl)
-begins-solid (b ∷ text) some all = (and_parts (is_solid b) (list_all is_solid text) all).0
+begins-solid text h1 h2 = grind (arith, and_parts)
 
 rest-none : rest_of is_space [] ≡ []
 unfolding rest_of
@@ -100,15 +95,17 @@ rest-none = refl
 
 pub full-chunk : (text : List ℕ) → ¬ (text ≡ []) → AreAll is_full_character text → chunks_of text ≡ text ∷ []
 full-chunk text some all =
-    let solid = full-solid text all in
-    let first : prefix_of is_solid text ≡ text =
-    ap (prefix_of is_solid) (sym (append-nil text)) ∙ prefix_of-again is_solid text [] solid tt in
-    let after : rest_of is_solid text ≡ [] =
-    ap (rest_of is_solid) (sym (append-nil text)) ∙ rest_of-again is_solid text [] solid tt in
-    chunk-first text (begins-solid text some solid)
-    ∙ ap (λ (l : List ℕ). l ∷ chunks_of (rest_of is_space (rest_of is_solid text))) first
-    ∙ ap (λ (l : List ℕ). text ∷ chunks_of (rest_of is_space l)) after
-    ∙ ap (λ (l : List ℕ). text ∷ chunks_of l) rest-none ∙ ap (λ (l : List (List ℕ)). text ∷ l) chunks-empty
+    grind (
+      arith,
+      full-solid text all,
+      append-nil text,
+      prefix_of-again is_solid text,
+      rest_of-again is_solid text,
+      chunk-first,
+      begins-solid,
+      rest-none,
+      chunks-empty,
+    )
 
 -- ---- one word
 
@@ -122,40 +119,22 @@ lead_named FullLeads.Nothing = Leads.Nothing
 digit-other : (b : ℕ) → is_digit b ≡ true
     → ((b == greater_sign) ≡ false) × ((b == 60) ≡ false) × ((b == 61) ≡ false) × ((b == tilde) ≡ false)
     × ((b == caret) ≡ false)
-digit-other b h = (
-  grind (arith, nat_tests),
-  grind (arith, nat_tests),
-  grind (arith, nat_tests),
-  grind (arith, nat_tests),
-  grind (arith, nat_tests),
-)
+digit-other b h1 = grind (arith, nat_tests)
 
 full-lead : (lead : FullLead) (operand : List ℕ) → BeginsWith is_digit operand
     → lead_of (full_mark lead ++ operand) ≡ (lead_named lead, operand)
-full-lead FullLeads.Caret operand digit = refl
-full-lead FullLeads.Tilde [] digit = absurd digit
-full-lead FullLeads.Tilde (b ∷ operand) digit = rw ((digit-other b digit).0) refl
-full-lead FullLeads.Nothing [] digit = absurd digit
-full-lead FullLeads.Nothing (b ∷ operand) digit =
-    let other = digit-other b digit in
-    rw (other.0, other.1, other.2, other.3, other.4) refl
+full-lead lead operand h1 = grind (arith, digit-other)
 
 mark-some : (lead : FullLead) (operand : List ℕ) → BeginsWith is_digit operand → ¬ (full_mark lead ++ operand ≡ [])
-mark-some FullLeads.Caret operand digit = λ none. cc none
-mark-some FullLeads.Tilde operand digit = λ none. cc none
-mark-some FullLeads.Nothing [] digit = absurd digit
-mark-some FullLeads.Nothing (b ∷ operand) digit = λ none. cc none
+mark-some lead operand h1 = grind arith
 
 -- the chunks of a mark and an operand
 pub mark-chunk : (lead : FullLead) (operand : List ℕ) → BeginsWith is_digit operand
     → AreAll is_full_character operand
     → chunks_of (full_mark lead ++ operand) ≡ (full_mark lead ++ operand) ∷ []
-mark-chunk lead operand digit all =
-    full-chunk (full_mark lead ++ operand) (mark-some lead operand digit) (mark-full lead operand all)
+mark-chunk lead operand h1 h2 = grind (arith, full-chunk, mark-some, mark-full)
 
 pub full-word : (lead : FullLead) (operand : List ℕ) → BeginsWith is_digit operand
     → words_of ((full_mark lead ++ operand) ∷ []) ≡ (lead_named lead, operand) ∷ []
 full-word lead operand digit =
-    word-last (full_mark lead ++ operand)
-    ∙ ap (λ (w : Lead × List ℕ). w ∷ words_of []) (full-lead lead operand digit)
-    ∙ ap (λ (l : List (Lead × List ℕ)). (lead_named lead, operand) ∷ l) words-end
+    grind (arith, word-last (full_mark lead ++ operand), full-lead lead operand digit, words-end)

@@ -1,6 +1,6 @@
 -- The meaning of a full text: its only comparator is its set.
-use Rattle.std.proofs.Common.{◌≡◌, ◌∙◌, ◌≤◌, ℕ, zero, suc, Bool, false, List, [], ◌∷◌, ◌++◌, Option, Some}
-use Rattle.std.proofs.Common.{Result, Ok, ap, arith, inl, length, length-append, refl, sym, subst}
+use Rattle.std.proofs.Common.{◌≡◌, ◌∙◌, ◌≤◌, ℕ, Bool, false, List, [], ◌∷◌, ◌++◌, Some}
+use Rattle.std.proofs.Common.{Ok, ap, arith, length, length-append, refl, sym, subst}
 use Rattle.std.proofs.lemmas.Option.{same_Some}
 use Rattle.std.specs.Prelude.{IsAscii, IsTrue}
 use Rattle.semver_cuts.specs.Lemmas.TwoSpans.{holds-below}
@@ -11,7 +11,6 @@ use Rattle.semver_versions.specs.Lemmas.Public.{clean_extras}
 use Rattle.semver_versions.specs.Reading.{read_extras}
 use Rattle.semver_versions.specs.Version.{release, without_build}
 use Rattle.semver_versions.specs.declared.TheConstants.{MAX_LENGTH}
-use Rattle.semver_versions.specs.declared.parse.fault.Fault.{Fault}
 use Rattle.semver_sets.specs.Comparator.{Comparator}
 use Rattle.semver_sets.specs.FullTexts.{AreInLimit, full_form, full_set, is_full_form}
 use Rattle.semver_sets.specs.Forms.{comparator_of, ends_of}
@@ -23,10 +22,9 @@ use Rattle.semver_sets.specs.Merging.{AreSetsOf, none, one_more}
 use Rattle.semver_sets.specs.PartialText.{zeroed}
 use Rattle.semver_sets.specs.RangeSets.{IsRangeSet}
 use Rattle.semver_sets.specs.declared.read.full.FullLead.{FullLead}
-use Rattle.semver_sets.specs.declared.read.full.FullLead.TheVariants as FullLeads
 use Rattle.npm_sets.specs.FullTexts.{IsNpmFullText}
 use Rattle.npm_sets.specs.NpmMeaning.{alternatives_of, chunks_comparators, comparators_of, or_no_alternatives}
-use Rattle.npm_sets.specs.NpmMeaning.{piece_comparators, pieces_alternatives, with_piece, with_word, word_comparator}
+use Rattle.npm_sets.specs.NpmMeaning.{piece_comparators, pieces_alternatives, word_comparator}
 use Rattle.npm_sets.specs.PartialTexts.{with_extras}
 use Rattle.npm_sets.specs.Private.ReadViews.{IsNumberBefore, full_mark}
 use Rattle.npm_sets.specs.Rows.{lead_comparator, lead_row}
@@ -45,11 +43,7 @@ use Rattle.npm_sets.proofs.Pieces.WordReading.{comparators-end, comparators-step
 full-row : (lead : FullLead) (major minor patch : ℕ)
     → comparator_of (full_form lead major minor patch) (release major minor patch)
     ≡ Some (lead_row false (lead_named lead) (Some major) (Some minor) (Some patch) (release major minor patch))
-full-row FullLeads.Nothing major minor patch = refl
-full-row FullLeads.Tilde major minor patch = refl
-full-row FullLeads.Caret zero zero patch = refl
-full-row FullLeads.Caret zero (suc minor) patch = refl
-full-row FullLeads.Caret (suc major) minor patch = refl
+full-row lead major minor patch = grind arith
 
 no-prerelease : (read_extras []).0.0 ≡ []
 no-prerelease = ap (λ (e : (List IdentifierValue × List IdentifierValue) × List ℕ). e.0.0) (clean_extras [] refl)
@@ -57,8 +51,7 @@ no-prerelease = ap (λ (e : (List IdentifierValue × List IdentifierValue) × Li
 -- without extras it is a release
 full-release : (major minor patch : ℕ)
     → release major minor patch ≡ without_build (zeroed (with_extras (Some major) (Some minor) (Some patch) []))
-full-release major minor patch =
-    ap (λ (l : List IdentifierValue). record (release major minor patch) { pre_release = l }) (sym no-prerelease)
+full-release major minor patch = grind (arith, no-prerelease)
 
 -- the comparator of three numbers
 full-comparator : (pre : Bool) (lead : FullLead) (form : Form) (major minor patch : ℕ) → pre ≡ false
@@ -66,11 +59,7 @@ full-comparator : (pre : Bool) (lead : FullLead) (form : Form) (major minor patc
     → full_set form major minor patch
     ≡ lead_comparator pre (lead_named lead) (with_extras (Some major) (Some minor) (Some patch) [])
 full-comparator pre lead form major minor patch out gives =
-    let given = ap (λ (f : Option Form). comparator_of f (release major minor patch)) (sym gives) in
-    same_Some _ _ (given ∙ full-row lead major minor patch)
-    ∙ ap (lead_row false (lead_named lead) (Some major) (Some minor) (Some patch)) (full-release major minor patch)
-    ∙ ap (λ (p : Bool). lead_comparator p (lead_named lead) (with_extras (Some major) (Some minor) (Some patch) []))
-    (sym out)
+    grind (arith, same_Some, full-row lead major minor patch, lead_named lead, full-release major minor patch)
 
 -- a range can have it
 set-bounded : (form : Form) (major minor patch : ℕ) → AreInLimit major minor patch
@@ -102,35 +91,18 @@ one-meaning : (options : NpmOptions) (text : List ℕ) (form : Form) (major mino
     → alternatives_of options text ≡ (full_set form major minor patch ∷ []) ∷ []
     → AreInLimit major minor patch → IsTrue (is_full_form form) → IsAscii text
     → IsNpmFullText options text form major minor patch
-one-meaning options text form major minor patch alone limit full ascii =
-    let set = full_set form major minor patch in
-    let is = set-bounded form major minor patch limit in
-    let are = subst (λ (l : List (List Comparator)). AreSetsOf l (set ∷ [])) (sym alone) (one-set set is) in
-    record {
-      sets = inl (are, λ e. cc e);
-      means = npm-sets-admit options text (set ∷ []) (inl (are, λ e. cc e));
-      set = is;
-      full = full;
-      limit = limit;
-      accepted = λ refused. cc (sym alone ∙ refused);
-      plain = ascii-plain text ascii;
-    }
+one-meaning options text form major minor patch h1 h2 h3 h4 =
+    grind (arith, set-bounded, one-set, npm-sets-admit, ascii-plain)
 
 -- ---- the text
 
 one-word : (options : NpmOptions) (word : Word) (c : Comparator) → word_comparator options word ≡ Ok c
     → comparators_of options (word ∷ []) ≡ Some (c ∷ [])
-one-word options word c is =
-    comparators-step options word []
-    ∙ ap (λ (r : Result Comparator Fault). with_word options.loose r (comparators_of options [])) is
-    ∙ ap (λ (l : Option (List Comparator)). with_word options.loose (Ok c) l) (comparators-end options)
+one-word options word c is = grind (arith, comparators-step options word, comparators-end options)
 
 one-piece : (options : NpmOptions) (piece : List ℕ) (c : Comparator) → piece_comparators options piece ≡ Some (c ∷ [])
     → pieces_alternatives options (piece ∷ []) ≡ Some ((c ∷ []) ∷ [])
-one-piece options piece c is =
-    pieces-more options piece []
-    ∙ ap (λ (v : Option (List Comparator)). with_piece v (pieces_alternatives options [])) is
-    ∙ ap (with_piece (Some (c ∷ []))) (pieces-end options)
+one-piece options piece c is = grind (arith, pieces-more options piece, pieces-end options)
 
 -- a mark and three numbers
 module _ (options : NpmOptions) (text operand second third : List ℕ) (lead : FullLead) (form : Form) (major minor patch : ℕ)

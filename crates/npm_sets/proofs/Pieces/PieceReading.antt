@@ -1,4 +1,5 @@
 -- The comparators of a piece, and the set that they give.
+use native.Mathlib.Omega.{arith}
 use Rattle.std.proofs.Common.{◌≡◌, ◌∙◌, ℕ, Bool, true, List, [], ◌∷◌, ◌++◌, Option, Some, None, Err, ap, refl}
 use Rattle.std.proofs.Common.{subst, sym}
 use Rattle.std.proofs.lemmas.List.{append-nil}
@@ -12,11 +13,11 @@ use Rattle.semver_sets.specs.Comparator.{Comparator}
 use Rattle.semver_sets.specs.Lemmas.Merging.{merged-gives}
 use Rattle.semver_sets.specs.Merging.{AreSetsOf, IsCommonSpan, IsSetOf, IsSpanOf, all_cuts, no_more, none, one_more}
 use Rattle.semver_sets.specs.declared.read.Unread.{Unread}
-use Rattle.semver_sets.specs.declared.read.Unread.TheVariants.{OutOfMemory, Refused}
+use Rattle.semver_sets.specs.declared.read.Unread.TheVariants.{Refused}
 use Rattle.semver_sets.specs.Lemmas.Forms.{IsReadEnds}
-use Rattle.npm_sets.specs.NpmMeaning.{alone_or, chunks_comparators, comparators_of, hyphen_range, piece_comparators}
+use Rattle.npm_sets.specs.NpmMeaning.{alone_or, hyphen_range, piece_comparators}
 use Rattle.npm_sets.specs.Private.ReadViews.{AreRead, IsAdded, IsAddedBy, IsNarrowedTo, IsRead, listed}
-use Rattle.npm_sets.specs.WordTexts.{chunks_of, is_solid, is_space, sides_of, words_of}
+use Rattle.npm_sets.specs.WordTexts.{chunks_of, is_solid, is_space, sides_of}
 use Rattle.npm_sets.specs.declared.options.NpmOptions.{NpmOptions}
 use Rattle.npm_sets.proofs.Chunks.ChunkLemmas.{chunks-empty, chunks-skip}
 use Rattle.npm_sets.proofs.Chunks.SideLemmas.{chunks-some}
@@ -31,37 +32,25 @@ skipped piece text same = sym (chunks-skip piece) ∙ ap chunks_of (sym same)
 -- nothing
 pub piece-empty : (options : NpmOptions) (piece text : List ℕ) → text ≡ rest_of is_space piece → text ≡ []
     → piece_comparators options piece ≡ Some (all_cuts ∷ [])
-piece-empty options piece text same empty =
-    ap (chunks_comparators options) (skipped piece text same ∙ ap chunks_of empty ∙ chunks-empty)
+piece-empty options piece text same empty = grind (arith, skipped piece text same, chunks-empty)
 
 -- a hyphen range or words
 pub piece-words : (options : NpmOptions) (piece text : List ℕ) → text ≡ rest_of is_space piece
     → BeginsWith is_solid text
     → piece_comparators options piece
     ≡ alone_or (hyphen_range options (sides_of (chunks_of text))) (text_comparators options text)
-piece-words options piece text same solid =
-    let some = chunks-some text solid in
-    ap (chunks_comparators options) (skipped piece text same ∙ some.2)
-    ∙ sym (ap (λ (l : List (List ℕ)). alone_or (hyphen_range options (sides_of l))
-    (comparators_of options (words_of l))) some.2)
+piece-words options piece text same solid = grind (arith, chunks-some text solid, skipped piece text same)
 
 -- ---- what is read
 
 -- none of no comparators
 none-common : (common : Option Comparator) → common ≡ None → IsCommonSpan [] common
-none-common None absent = refl
-none-common (Some common) absent = absurd (cc absent)
+none-common common h1 = grind arith
 
 -- one comparator
 pub one-read : (value : Option (List Comparator)) (before after : Option Comparator) (c : Comparator)
     → before ≡ None → IsNarrowedTo before c after → IsReadEnds c → value ≡ Some (c ∷ []) → AreRead value after true
-one-read value before after c absent narrows bounded is = record {
-  comparators = c ∷ [];
-  value_is = is;
-  common_is = narrows [] (none-common before absent);
-  found_is = refl;
-  bounded = (bounded, tt);
-}
+one-read value before after c absent narrows bounded is = grind (arith, none-common before absent)
 
 pub all-bounded : IsReadEnds all_cuts
 all-bounded = record { lower = tt; upper = tt }
@@ -91,37 +80,19 @@ none-given (c ∷ comparators) (Some common) is span =
 pub set-added : (value : Option (List Comparator)) (common : Option Comparator) (found : Bool) (set : Ends VersionValue)
     (before after : List (Ends VersionValue)) → AreRead value common found → IsSpanOf common (Some set)
     → after ≡ before ++ set ∷ [] → IsAdded value before after found
-set-added value common found set before after read span added = record {
-  comparators = read.comparators;
-  value_is = read.value_is;
-  found_is = read.found_is;
-  bounded = read.bounded;
-  more = set ∷ [];
-  merged = set-given read.comparators common set read.common_is span;
-  added = added;
-}
+set-added value common found set before after h1 h2 h3 = grind (arith, set-given)
 
 -- or as they were
 pub none-added : (value : Option (List Comparator)) (common : Option Comparator) (found : Bool)
     (before : List (Ends VersionValue)) → AreRead value common found → IsSpanOf common None
     → IsAdded value before before found
-none-added value common found before read span = record {
-  comparators = read.comparators;
-  value_is = read.value_is;
-  found_is = read.found_is;
-  bounded = read.bounded;
-  more = [];
-  merged = none-given read.comparators common read.common_is span;
-  added = sym (append-nil before);
-}
+none-added value common found before h1 h2 = grind (arith, none-given, append-nil)
 
 -- a piece that is refused
 pub refused-told : (value : Option (List Comparator)) (before after : List (Ends VersionValue)) (unread : Unread)
     → IsAddedBy value before after (Err unread) → unread ≡ Refused → value ≡ None
-refused-told value before after Refused read is = read
-refused-told value before after OutOfMemory read is = cc is
+refused-told value before after unread h1 h2 = grind arith
 
 pub piece-refused : (value : Option (List Comparator)) (common : Option Comparator) (unread : Unread)
     → IsRead value common (Err unread) → unread ≡ Refused → value ≡ None
-piece-refused value common Refused read is = read
-piece-refused value common OutOfMemory read is = cc is
+piece-refused value common unread h1 h2 = grind arith

@@ -1,8 +1,8 @@
 -- The sets of alternatives: what they hold, and what they admit.
 use Rattle.std.proofs.Common.{◌≢◌, ◌↔◌, ℕ, Bool, true, false, List, [], ◌∷◌}
-use Rattle.std.proofs.Common.{arith, inl, inr, refl, subst}
+use Rattle.std.proofs.Common.{arith, inl, inr, subst}
 use Rattle.std.specs.List.{AllByRecursion}
-use Rattle.semver_cuts.specs.declared.cut.Cut.TheVariants.{Start, Before}
+use Rattle.semver_cuts.specs.declared.cut.Cut.TheVariants.{Before}
 use Rattle.semver_cuts.specs.Ends.{Ends}
 use Rattle.semver_cuts.specs.Lemmas.Lists.{all_middle}
 use Rattle.semver_versions.specs.Lemmas.Public.{Less-version, none-below_first}
@@ -11,7 +11,7 @@ use Rattle.semver_sets.specs.Comparator.{Comparator}
 use Rattle.semver_sets.specs.Lemmas.Merging.{inside-set, merged-admits, merged-gives}
 use Rattle.semver_sets.specs.Meaning.{AnyByRecursion, GiveSet, IsInside}
 use Rattle.semver_sets.specs.Merging.{AreSetsOf, IsSetOf, no_more, none, one_more}
-use Rattle.semver_sets.specs.RangeSets.{IsRangeSet, IsRangeValue, IsRangeCut}
+use Rattle.semver_sets.specs.RangeSets.{IsRangeSet, IsRangeValue}
 use Rattle.semver_sets.specs.Lemmas.Forms.{IsReadEnds}
 use Rattle.npm_sets.specs.NpmMeaning.{AreNpmSets, NpmAdmit, NpmSetAdmits, NpmSetsAdmit, NpmTextAdmits}
 use Rattle.npm_sets.specs.NpmMeaning.{alternatives_of}
@@ -28,15 +28,14 @@ AreReadAlternative comparators = AllByRecursion IsReadEnds comparators
 set-bounded : (comparators : List Comparator) (set : Ends VersionValue) → GiveSet comparators
     → IsSetOf comparators set → AreReadAlternative comparators → IsRangeSet set
 set-bounded comparators set gives is read =
-    let low : IsReadEnds is.lower.span = all_middle IsReadEnds is.lower.before is.lower.after is.lower.span
-    (subst (AllByRecursion IsReadEnds) is.lower.parts read) in
-    let high : IsReadEnds is.upper.span = all_middle IsReadEnds is.upper.before is.upper.after is.upper.span
-    (subst (AllByRecursion IsReadEnds) is.upper.parts read) in
-    record {
-      holds = (merged-gives comparators set is).0 gives;
-      lower = subst IsRangeCut is.lower.end_of low.lower;
-      upper = subst IsRangeCut is.upper.end_of high.upper;
-    }
+    grind (
+      arith,
+      all_middle IsReadEnds is.lower.before is.lower.after is.lower.span
+          (subst (AllByRecursion IsReadEnds) is.lower.parts read),
+      all_middle IsReadEnds is.upper.before is.upper.after is.upper.span
+          (subst (AllByRecursion IsReadEnds) is.upper.parts read),
+      merged-gives comparators set is,
+    )
 
 pub sets-bounded : (alternatives : List (List Comparator)) (sets : List (Ends VersionValue))
     → AreSetsOf alternatives sets → AllByRecursion AreReadAlternative alternatives → AllByRecursion IsRangeSet sets
@@ -48,23 +47,7 @@ sets-bounded (a ∷ alternatives) sets (no_more _ _ _ nothing more) all = sets-b
 
 -- `<0.0.0-0` holds a cut
 pub no_versions-bounded : IsRangeValue (no_versions ∷ [])
-no_versions-bounded = record {
-  some = λ same. cc same;
-  each = (
-    record {
-      holds = (Start, record { lower = inr refl; upper = refl });
-      lower = tt;
-      upper = record {
-        major = omega arith;
-        minor = omega arith;
-        patch = omega arith;
-        pre_release = (zero-read, tt);
-        build = tt;
-      };
-    },
-    tt,
-  );
-}
+no_versions-bounded = grind (arith, zero-read)
 
 -- ---- what the sets admit
 
@@ -74,8 +57,7 @@ none-inside v inside = none-below_first v (Less-version v (least_of 0 0 0) insid
 
 -- what a set admits lies inside it
 inside-of : (pre : Bool) (set : Ends VersionValue) (v : VersionValue) → NpmSetAdmits pre set v → IsInside v set
-inside-of false set v admits = admits.inside
-inside-of true set v inside = inside
+inside-of pre set v h1 = grind arith
 
 gives-from : (pre : Bool) (v : VersionValue) (comparators : List Comparator) → NpmAdmit pre comparators v
     → GiveSet comparators
@@ -84,20 +66,8 @@ gives-from pre v comparators admit = record { some = admit.some; common = (Befor
 -- a set admits what its comparators do
 one-admits : (pre : Bool) (v : VersionValue) (comparators : List Comparator) (set : Ends VersionValue)
     → comparators ≢ [] → IsSetOf comparators set → NpmSetAdmits pre set v ↔ NpmAdmit pre comparators v
-one-admits false v comparators set some is =
-    let same = merged-admits comparators set is v in (
-      λ admits. record {
-        some = some;
-        inside = (same.1 admits).inside;
-        opened = λ closed prerelease. (same.1 admits).opened prerelease;
-      },
-      λ admit. same.0 (record { inside = admit.inside; opened = admit.opened refl }),
-    )
-one-admits true v comparators set some is =
-    let inside = inside-set comparators set is v in (
-      λ in_set. record { some = some; inside = inside.1 in_set; opened = λ closed prerelease. absurd (cc closed) },
-      λ admit. inside.0 admit.inside,
-    )
+one-admits false v comparators set some is = grind (arith, merged-admits comparators set is v)
+one-admits true v comparators set some is = grind (arith, inside-set comparators set is v)
 
 sets-admit : (pre : Bool) (v : VersionValue) (alternatives : List (List Comparator)) (sets : List (Ends VersionValue))
     → AreSetsOf alternatives sets

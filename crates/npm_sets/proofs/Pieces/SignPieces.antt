@@ -1,14 +1,14 @@
 -- A piece that begins with `>`, `<`, `~` or `^` is no hyphen range.
-use Rattle.std.proofs.Common.{◌≡◌, ◌∙◌, ℕ, Bool, true, false, List, [], ◌∷◌, ap, arith, inl, inr, refl, sym}
+use Rattle.std.proofs.Common.{◌≡◌, ℕ, Bool, true, false, List, ◌∷◌, arith, refl}
 use Rattle.std.proofs.lemmas.Bool.{cases_Bool}
 use Rattle.std.proofs.lemmas.Bool.Decides.{nat_tests}
 use Rattle.std.specs.Prelude.{◌==◌, None}
 use Rattle.semver_versions.specs.Characters.{is_digit, is_x}
 use Rattle.semver_versions.specs.Lemmas.Public.{rest_of-none}
-use Rattle.semver_versions.specs.Reading.{begins, is_hyphen, missing, prefix_of, read_number, rest_of}
+use Rattle.semver_versions.specs.Reading.{begins, is_hyphen, missing, prefix_of, read_number}
 use Rattle.npm_sets.specs.NpmMeaning.{hyphen_range}
 use Rattle.npm_sets.specs.PartialTexts.{is_mark, partial_of}
-use Rattle.npm_sets.specs.WordTexts.{chunks_of, is_dash, is_solid, is_space, sides_of}
+use Rattle.npm_sets.specs.WordTexts.{chunks_of, is_dash, is_solid, sides_of}
 use Rattle.npm_sets.specs.declared.options.NpmOptions.{NpmOptions}
 use Rattle.npm_sets.specs.Private.ReadViews.{is_sign}
 use Rattle.npm_sets.proofs.Chunks.ChunkLemmas.{chunk-first, prefix-step}
@@ -45,28 +45,13 @@ sign-no_partial false b rest sign = rw (
 
 no-sides : (options : NpmOptions) (b : ℕ) (rest : List ℕ) (chunks : List (List ℕ)) → is_sign b ≡ true
     → hyphen_range options (sides_of ((b ∷ rest) ∷ chunks)) ≡ None
-no-sides options b rest [] sign = refl
-no-sides options b rest (dash ∷ []) sign = refl
-no-sides options b rest (dash ∷ right ∷ []) sign = elim (cases_Bool (is_dash dash)) [
-  | inl is ↦ rw (is, sign-no_partial options.loose b rest sign) refl
-  | inr is ↦ rw is refl
-]
-no-sides options b rest (dash ∷ right ∷ more ∷ chunks) sign = refl
+no-sides options b rest chunks h1 = grind (arith, cases_Bool, sign-no_partial)
 
 pub sign-no_hyphen : (options : NpmOptions) (text : List ℕ) → begins is_sign text ≡ true
     → None ≡ hyphen_range options (sides_of (chunks_of text))
-sign-no_hyphen options [] sign = cc sign
-sign-no_hyphen options (b ∷ text) sign =
-    let solid = sign-solid b sign in
-    let chunk = ap (λ (l : List ℕ). l ∷ chunks_of (rest_of is_space (rest_of is_solid (b ∷ text)))) (prefix-step b text solid) in
-    sym (ap (λ (l : List (List ℕ)). hyphen_range options (sides_of l)) (chunk-first (b ∷ text) solid ∙ chunk)
-    ∙ no-sides options b (prefix_of is_solid text) (chunks_of (rest_of is_space (rest_of is_solid (b ∷ text)))) sign)
+sign-no_hyphen options text h1 = grind (arith, sign-solid, prefix-step, chunk-first, no-sides)
 
 -- without a hyphen in front, the first chunk is no `-`
 pub no-dash : (text : List ℕ) → begins is_hyphen text ≡ false → is_dash (prefix_of is_solid text) ≡ false
 unfolding prefix_of
-no-dash [] h = refl
-no-dash (b ∷ rest) h = elim (cases_Bool (is_solid b)) [
-  | inl solid ↦ rw (solid, h) refl
-  | inr space ↦ rw space refl
-]
+no-dash text h1 = grind (arith, cases_Bool)

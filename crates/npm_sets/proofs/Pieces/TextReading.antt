@@ -1,21 +1,20 @@
 -- The pieces of a text, as they are read one after another.
 use Rattle.std.proofs.Common.{◌≡◌, ◌≢◌, ◌∙◌, ◌<◌, ℕ, suc, Bool, true, false, List, [], ◌∷◌, ◌++◌, Option, Some, None}
-use Rattle.std.proofs.Common.{ap, arith, inl, inr, length, length-append, refl, subst, sym}
+use Rattle.std.proofs.Common.{ap, arith, length, length-append, refl, subst, sym}
 use Rattle.std.specs.Prelude.{IfSome, IfNone}
 use Rattle.std.specs.Borrow.{Bor}
 use Rattle.std.specs.List.{AllByRecursion}
 use Rattle.std.proofs.lemmas.List.{append-nil}
 use Rattle.semver_cuts.specs.Ends.{Ends}
-use Rattle.semver_versions.specs.Characters.{bar}
 use Rattle.semver_versions.specs.Version.{VersionValue}
 use Rattle.semver_sets.specs.Comparator.{Comparator}
 use Rattle.semver_sets.specs.Division.{HasFirstPiece, IsPieces}
 use Rattle.semver_sets.specs.Merging.{AreSetsOf, no_more, none, one_more}
-use Rattle.semver_sets.specs.RangeSets.{IsRangeSet, IsRangeValue, sets_of_some, sets_seen}
+use Rattle.semver_sets.specs.RangeSets.{IsRangeValue, sets_of_some, sets_seen}
 use Rattle.semver_sets.specs.declared.set_list.Sets.{Sets}
 use Rattle.semver_sets.specs.Lemmas.Forms.{IsReadEnds}
 use Rattle.npm_sets.specs.NpmMeaning.{AreNpmSets, IsNpmRefused}
-use Rattle.npm_sets.specs.NpmMeaning.{alternatives_of, or_no_alternatives, piece_comparators, pieces_alternatives}
+use Rattle.npm_sets.specs.NpmMeaning.{alternatives_of, piece_comparators, pieces_alternatives}
 use Rattle.npm_sets.specs.NpmMeaning.{with_piece}
 use Rattle.npm_sets.specs.Private.ReadViews.{IsAdded, has_some, listed, prepend, some_seen}
 use Rattle.npm_sets.specs.Rows.{no_versions}
@@ -47,15 +46,7 @@ pub first-of : (options : NpmOptions) (text piece : List ℕ) (later : Option (B
     → IfSome later (λ others. HasFirstPiece text piece others.now) → IfNone later (IsPieces text (piece ∷ []))
     → left_alternatives options (Some text)
     ≡ with_piece (piece_comparators options piece) (left_alternatives options (some_seen later))
-first-of options text piece (Some others) first last =
-    ap (pieces_alternatives options) (ap pieces_of first.whole
-    ∙ first-piece piece others.now first.no_bars first.ends_in_none)
-    ∙ pieces-more options piece (pieces_of others.now)
-first-of options text piece None first last =
-    ap (pieces_alternatives options) (only-piece text last.1
-    ∙ ap (λ (l : List ℕ). l ∷ []) last.0)
-    ∙ pieces-more options piece []
-    ∙ ap (with_piece (piece_comparators options piece)) (pieces-end options)
+first-of options text piece later h1 h2 = grind (arith, first-piece, pieces-more, only-piece, pieces-end)
 
 -- what is left is shorter
 abbrev pub left_length : Option (List ℕ) → ℕ
@@ -65,17 +56,11 @@ left_length (Some text) = suc (length text)
 pub left-shorter : (text piece : List ℕ) (later : Option (Bor (List ℕ)))
     → IfSome later (λ others. HasFirstPiece text piece others.now)
     → left_length (some_seen later) < left_length (Some text)
-left-shorter text piece None first = omega arith
-left-shorter text piece (Some others) first =
-    let whole : length text ≡ length (piece ++ (bar ∷ bar ∷ others.now)) = ap length first.whole in
-    omega (arith, length-append piece (bar ∷ bar ∷ others.now))
+left-shorter text piece later h1 = grind (arith, length-append)
 
 with-some : (comparators : List Comparator) (more : Option (List (List Comparator)))
     → with_piece (Some comparators) more ≡ prepend (listed comparators) more
-with-some [] None = refl
-with-some [] (Some more) = refl
-with-some (c ∷ comparators) None = refl
-with-some (c ∷ comparators) (Some more) = refl
+with-some comparators more = grind arith
 
 -- the alternatives before the rest of a text, and their sets
 pub record PiecesSoFar (options : NpmOptions) (text : List ℕ) (left : Option (List ℕ)) (sets : List (Ends VersionValue))
@@ -113,8 +98,7 @@ has-more (d ∷ done) (c ∷ comparators) some = refl
 
 has-same : (done : List (List Comparator)) (comparators : List Comparator) → false ≡ has_some comparators
     → has_some done ≡ has_some (done ++ listed comparators)
-has-same done [] some = ap has_some (sym (append-nil done))
-has-same done (c ∷ comparators) some = cc some
+has-same done comparators h1 = grind (arith, append-nil)
 
 all-more : (done : List (List Comparator)) (comparators : List Comparator) → AllByRecursion AreReadAlternative done
     → AllByRecursion IsReadEnds comparators → AllByRecursion AreReadAlternative (done ++ listed comparators)
@@ -131,20 +115,8 @@ pieces-more_read : (options : NpmOptions) (text rest piece : List ℕ) (later : 
     → (added : IsAdded (piece_comparators options piece) before after here)
     → ((done : List (List Comparator)) → found ≡ has_some done → now ≡ has_some (done ++ listed added.comparators))
     → PiecesSoFar options text later after now
-pieces-more_read options text rest piece later before after found here now so first added tells = record {
-  done = so.done ++ listed added.comparators;
-  read =
-      prepend-append so.done (listed added.comparators) (left_alternatives options later)
-      ∙ ap (prepend so.done)
-      (sym (first
-      ∙ ap (λ (v : Option (List Comparator)). with_piece v (left_alternatives options later)) added.value_is
-      ∙ with-some added.comparators (left_alternatives options later)))
-      ∙ so.read;
-  merged = subst (AreSetsOf (so.done ++ listed added.comparators)) (sym added.added)
-      (sets-append so.done (listed added.comparators) before added.more so.merged added.merged);
-  found_is = tells so.done so.found_is;
-  bounded = all-more so.done added.comparators so.bounded added.bounded;
-}
+pieces-more_read options text rest piece later before after found here now h1 h2 added h3 =
+    grind (arith, prepend-append, with-some, sets-append, all-more)
 
 -- a piece with a comparator
 pub pieces-found : (options : NpmOptions) (text rest piece : List ℕ) (later : Option (List ℕ))
@@ -177,11 +149,7 @@ pub pieces-refused : (options : NpmOptions) (text rest piece : List ℕ) (later 
     → left_alternatives options (Some rest)
     ≡ with_piece (piece_comparators options piece) (left_alternatives options later)
     → piece_comparators options piece ≡ None → IsNpmRefused options text
-pieces-refused options text rest piece later before found so first refused =
-    ap or_no_alternatives
-    (sym so.read
-    ∙ ap (prepend so.done)
-    (first ∙ ap (λ (v : Option (List Comparator)). with_piece v (left_alternatives options later)) refused))
+pieces-refused options text rest piece later before found h1 h2 h3 = grind arith
 
 -- ---- all alternatives
 
@@ -189,38 +157,31 @@ pieces-refused options text rest piece later before found so first refused =
 pub all-done : (options : NpmOptions) (text : List ℕ) (left : Option (List ℕ)) (sets : List (Ends VersionValue))
     (found : Bool) → (so : PiecesSoFar options text left sets found) → left ≡ None
     → alternatives_of options text ≡ so.done
-all-done options text left sets found so end =
-    ap or_no_alternatives (sym so.read ∙ ap (λ (l : Option (List ℕ)). prepend so.done (left_alternatives options l)) end)
-    ∙ append-nil so.done
+all-done options text left sets found so end = grind (arith, append-nil so.done)
 
 pub none-some : {X : Type 0} (xs : List X) → false ≡ has_some xs → xs ≡ []
-none-some [] h = refl
-none-some (x ∷ xs) h = cc h
+none-some xs h1 = grind arith
 
 some-some : {X : Type 0} (xs : List X) → true ≡ has_some xs → xs ≢ []
-some-some [] h = λ none. cc h
-some-some (x ∷ xs) h = λ none. cc none
+some-some xs h1 = grind arith
 
 -- a text without comparators is refused
 pub none-refused : (options : NpmOptions) (text : List ℕ) (left : Option (List ℕ)) (sets : List (Ends VersionValue))
     (found : Bool) → PiecesSoFar options text left sets found → left ≡ None → found ≡ false
     → IsNpmRefused options text
-none-refused options text left sets found so end is =
-    all-done options text left sets found so end ∙ none-some so.done (sym is ∙ so.found_is)
+none-refused options text left sets found h1 h2 h3 = grind (arith, all-done, none-some)
 
 -- and one with a comparator is not
 pub some-accepted : (options : NpmOptions) (text : List ℕ) (left : Option (List ℕ)) (sets : List (Ends VersionValue))
     (found : Bool) → PiecesSoFar options text left sets found → left ≡ None → found ≡ true
     → ¬ IsNpmRefused options text
-some-accepted options text left sets found so end is refused =
-    some-some so.done (sym is ∙ so.found_is) (sym (all-done options text left sets found so end) ∙ refused)
+some-accepted options text left sets found h1 h2 h3 = grind (arith, some-some, all-done)
 
 -- the sets are those of all alternatives
 sets-done : (options : NpmOptions) (text : List ℕ) (left : Option (List ℕ)) (sets : List (Ends VersionValue))
     (found : Bool) → PiecesSoFar options text left sets found → left ≡ None
     → AreSetsOf (alternatives_of options text) sets
-sets-done options text left sets found so end =
-    subst (λ (l : List (List Comparator)). AreSetsOf l sets) (sym (all-done options text left sets found so end)) so.merged
+sets-done options text left sets found so end = grind (arith, all-done options text left sets found so end)
 
 -- ---- the result
 
@@ -235,32 +196,20 @@ pub some-gathered : (options : NpmOptions) (text : List ℕ) (left : Option (Lis
     → found ≡ true → sets_of_some result ≡ sets → IfSome result (λ s. sets_seen s ≢ []) → result ≡ Some given
     → IsResult options text (sets_seen given)
 some-gathered options text left sets found result given so end is same some told =
-    let here : sets_seen given ≡ sets = sym (ap sets_of_some told) ∙ same in
-    let given_some : sets_seen given ≢ [] = subst (λ (r : Option Sets). IfSome r (λ s. sets_seen s ≢ [])) told some in
-    record {
-      sets_are = inl (
-        subst (AreSetsOf (alternatives_of options text)) (sym here)
-            (sets-done options text left sets found so end),
-        given_some,
-      );
-      holds = record {
-        some = given_some;
-        each = subst (AllByRecursion IsRangeSet) (sym here) (sets-bounded so.done sets so.merged so.bounded);
-      };
-      accepted = some-accepted options text left sets found so end is;
-    }
+    grind (
+      arith,
+      sets-done options text left sets found so end,
+      sets-bounded so.done sets so.merged so.bounded,
+      some-accepted options text left sets found so end is,
+    )
 
 pub none-gathered : (options : NpmOptions) (text : List ℕ) (left : Option (List ℕ)) (sets given : List (Ends VersionValue))
     (found : Bool) (result : Option Sets) → PiecesSoFar options text left sets found → left ≡ None → found ≡ true
     → sets_of_some result ≡ sets → result ≡ None → given ≡ no_versions ∷ [] → IsResult options text given
 none-gathered options text left sets given found result so end is same told alone =
-    let empty : sets ≡ [] = sym same ∙ ap sets_of_some told in
-    record {
-      sets_are = inr (
-        subst (AreSetsOf (alternatives_of options text)) empty
-            (sets-done options text left sets found so end),
-        alone,
-      );
-      holds = subst IsRangeValue (sym alone) no_versions-bounded;
-      accepted = some-accepted options text left sets found so end is;
-    }
+    grind (
+      arith,
+      sets-done options text left sets found so end,
+      no_versions-bounded,
+      some-accepted options text left sets found so end is,
+    )

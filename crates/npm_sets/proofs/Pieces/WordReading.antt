@@ -1,6 +1,6 @@
 -- The words of a piece, as they are read one after another.
-use Rattle.std.proofs.Common.{◌≡◌, ◌∙◌, ℕ, Bool, true, false, List, [], ◌∷◌, ◌++◌, Option, Some, None, Result, Ok, Err, ap, refl}
-use Rattle.std.proofs.Common.{subst, sym}
+use native.Mathlib.Omega.{arith}
+use Rattle.std.proofs.Common.{◌≡◌, ℕ, Bool, true, false, List, [], ◌∷◌, ◌++◌, Option, Some, None, Ok, Err, refl}
 use Rattle.std.specs.Prelude.{◌&&◌}
 use Rattle.std.specs.List.{AllByRecursion}
 use Rattle.std.proofs.lemmas.List.{append-nil, append_assoc}
@@ -8,7 +8,6 @@ use Rattle.semver_cuts.specs.declared.cut.Cut.{Cut}
 use Rattle.semver_cuts.specs.Ends.{span_between}
 use Rattle.semver_versions.specs.Characters.{BeginsWithNo}
 use Rattle.semver_versions.specs.Lemmas.Public.{answer}
-use Rattle.semver_versions.specs.Reading.{◌>>=◌}
 use Rattle.semver_versions.specs.Version.{VersionValue}
 use Rattle.semver_versions.specs.declared.parse.fault.Fault.{Fault}
 use Rattle.semver_sets.specs.Comparator.{Comparator}
@@ -30,13 +29,11 @@ use Rattle.npm_sets.proofs.Chunks.ChunkLemmas.{chunks-empty}
 -- ---- lists
 
 pub prepend-none : {X : Type 0} (more : Option (List X)) → prepend [] more ≡ more
-prepend-none None = refl
-prepend-none (Some more) = refl
+prepend-none more = grind arith
 
 pub prepend-append : {X : Type 0} (done next : List X) (more : Option (List X))
     → prepend (done ++ next) more ≡ prepend done (prepend next more)
-prepend-append done next None = refl
-prepend-append done next (Some more) = ap Some (append_assoc done next more)
+prepend-append done next more = grind (arith, append_assoc)
 
 pub has-last : {X : Type 0} (done : List X) (x : X) → true ≡ has_some (done ++ x ∷ [])
 has-last [] x = refl
@@ -54,35 +51,28 @@ pub narrowed : (before after : Option Comparator) (low high : Cut VersionValue) 
     → high ≡ c.upper
     → ((comparators : List Comparator) → IsCommonSpan comparators before
     → IsCommonSpan (comparators ++ span_between low high ∷ []) after) → IsNarrowedTo before c after
-narrowed before after low high c begins ends narrows = λ comparators merged.
-    subst (λ (d : Comparator). IsCommonSpan (comparators ++ d ∷ []) after) (λ i. span_between (begins i) (ends i))
-    (narrows comparators merged)
+narrowed before after low high c h1 h2 h3 = grind arith
 
 -- a word whose operand is a partial gives the comparator of its row
 pub word-read : (options : NpmOptions) (lead : Lead) (operand : List ℕ) (p : Partial) (c : Comparator)
     → answer p ≡ partial_of options.loose operand → c ≡ lead_comparator options.include_prerelease lead p
     → word_comparator options (lead, operand) ≡ Ok c
-word-read options lead operand p c read is =
-    ap (λ (r : Result Partial Fault). r >>= λ q. answer (lead_comparator options.include_prerelease lead q)) (sym read)
-    ∙ ap (λ (d : Comparator). answer d) (sym is)
+word-read options lead operand p c h1 h2 = grind (arith, answer)
 
 -- with a comparator
 with-comparator : (loose : Bool) (c : Comparator) (more : Option (List Comparator))
     → with_word loose (Ok c) more ≡ prepend (c ∷ []) more
-with-comparator loose c None = refl
-with-comparator loose c (Some more) = refl
+with-comparator loose c more = grind arith
 
 -- with a word that is ignored
 with-ignored : (loose : Bool) (fault : Fault) (more : Option (List Comparator)) → (loose && is_unknown fault) ≡ true
     → with_word loose (Err fault) more ≡ more
-with-ignored loose fault None h = refl
-with-ignored loose fault (Some more) h = rw h refl
+with-ignored loose fault more h1 = grind arith
 
 -- with a word that refuses the text
 pub with-refused : (loose : Bool) (fault : Fault) (more : Option (List Comparator)) → (loose && is_unknown fault) ≡ false
     → with_word loose (Err fault) more ≡ None
-with-refused loose fault None h = refl
-with-refused loose fault (Some more) h = rw h refl
+with-refused loose fault more h1 = grind arith
 
 pub comparators-step : (options : NpmOptions) (word : Word) (words : List Word)
     → comparators_of options (word ∷ words)
@@ -119,47 +109,34 @@ rest-step : (options : NpmOptions) (rest others : List ℕ) (word : Word)
     → words_of (chunks_of rest) ≡ word ∷ words_of (chunks_of others)
     → text_comparators options rest
     ≡ with_word options.loose (word_comparator options word) (text_comparators options others)
-rest-step options rest others word first =
-    ap (comparators_of options) first ∙ comparators-step options word (words_of (chunks_of others))
+rest-step options rest others word first = grind (arith, comparators-step options word (words_of (chunks_of others)))
 
 pub words-merged : (options : NpmOptions) (text rest others : List ℕ) (before after : Option Comparator) (found : Bool)
     (word : Word) (c : Comparator) → WordsSoFar options text rest before found
     → words_of (chunks_of rest) ≡ word ∷ words_of (chunks_of others) → BeginsWithNo is_space others
     → word_comparator options word ≡ Ok c → IsNarrowedTo before c after → IsReadEnds c
     → WordsSoFar options text others after true
-words-merged options text rest others before after found word c so first solid is narrows bounded = record {
-  done = so.done ++ c ∷ [];
-  read =
-      prepend-append so.done (c ∷ []) (text_comparators options others)
-      ∙ ap (prepend so.done)
-      (sym (rest-step options rest others word first
-      ∙ ap (λ (r : Result Comparator Fault). with_word options.loose r (text_comparators options others)) is
-      ∙ with-comparator options.loose c (text_comparators options others)))
-      ∙ so.read;
-  common_is = narrows so.done so.common_is;
-  found_is = has-last so.done c;
-  bounded = all-last IsReadEnds so.done c so.bounded bounded;
-  solid = solid;
-}
+words-merged options text rest others before after found word c so first solid is narrows bounded =
+    grind (
+      arith,
+      prepend-append so.done (c ∷ []) (text_comparators options others),
+      rest-step options rest others word first,
+      with-comparator options.loose c (text_comparators options others),
+      has-last so.done c,
+      all-last IsReadEnds so.done c so.bounded bounded,
+    )
 
 pub words-ignored : (options : NpmOptions) (text rest others : List ℕ) (before after : Option Comparator) (found : Bool)
     (word : Word) (fault : Fault) → WordsSoFar options text rest before found
     → words_of (chunks_of rest) ≡ word ∷ words_of (chunks_of others) → BeginsWithNo is_space others
     → word_comparator options word ≡ Err fault → (options.loose && is_unknown fault) ≡ true → after ≡ before
     → WordsSoFar options text others after found
-words-ignored options text rest others before after found word fault so first solid is ignored same = record {
-  done = so.done;
-  read =
-      ap (prepend so.done)
-      (sym (rest-step options rest others word first
-      ∙ ap (λ (r : Result Comparator Fault). with_word options.loose r (text_comparators options others)) is
-      ∙ with-ignored options.loose fault (text_comparators options others) ignored))
-      ∙ so.read;
-  common_is = subst (IsCommonSpan so.done) (sym same) so.common_is;
-  found_is = so.found_is;
-  bounded = so.bounded;
-  solid = solid;
-}
+words-ignored options text rest others before after found word fault so first solid is ignored same =
+    grind (
+      arith,
+      rest-step options rest others word first,
+      with-ignored options.loose fault (text_comparators options others) ignored,
+    )
 
 pub words-refused : (options : NpmOptions) (text rest others : List ℕ) (before : Option Comparator) (found : Bool)
     (word : Word) (fault : Fault) → WordsSoFar options text rest before found
@@ -167,28 +144,16 @@ pub words-refused : (options : NpmOptions) (text rest others : List ℕ) (before
     → word_comparator options word ≡ Err fault → (options.loose && is_unknown fault) ≡ false
     → text_comparators options text ≡ None
 words-refused options text rest others before found word fault so first is refused =
-    sym so.read
-    ∙ ap (prepend so.done)
-    (rest-step options rest others word first
-    ∙ ap (λ (r : Result Comparator Fault). with_word options.loose r (text_comparators options others)) is
-    ∙ with-refused options.loose fault (text_comparators options others) refused)
+    grind (
+      arith,
+      rest-step options rest others word first,
+      with-refused options.loose fault (text_comparators options others) refused,
+    )
 
 pub words-done : (options : NpmOptions) (text rest : List ℕ) (common : Option Comparator) (found : Bool)
     → WordsSoFar options text rest common found → rest ≡ []
     → AreRead (text_comparators options text) common found
-words-done options text rest common found so none = record {
-  comparators = so.done;
-  value_is =
-      sym so.read
-      ∙ ap (λ (l : List ℕ). prepend so.done (text_comparators options l)) none
-      ∙ ap (λ (l : List (List ℕ)). prepend so.done (comparators_of options (words_of l))) chunks-empty
-      ∙ ap (λ (l : List Word). prepend so.done (comparators_of options l)) words-end
-      ∙ ap (prepend so.done) (comparators-end options)
-      ∙ ap Some (append-nil so.done);
-  common_is = so.common_is;
-  found_is = so.found_is;
-  bounded = so.bounded;
-}
+words-done options text rest common found h1 h2 = grind (arith, chunks-empty, words-end, comparators-end, append-nil)
 
 -- ---- what the reader of a word returns
 
@@ -206,9 +171,7 @@ pub words-kept : (options : NpmOptions) (text rest others : List ℕ) (before af
     → words_of (chunks_of rest) ≡ word ∷ words_of (chunks_of others) → BeginsWithNo is_space others
     → IsWordRead options.loose (word_comparator options word) before after (Ok merged) → merged ≡ false
     → WordsSoFar options text others after found
-words-kept options text rest others before after found word true so first solid read is = cc is
-words-kept options text rest others before after found word false so first solid read is =
-    words-ignored options text rest others before after found word read.0 so first solid read.1 read.2 read.3
+words-kept options text rest others before after found word merged h1 h2 h3 h4 h5 = grind (arith, words-ignored)
 
 pub words-failed : (options : NpmOptions) (text rest others : List ℕ) (before after : Option Comparator) (found : Bool)
     (word : Word) (unread : Unread) → WordsSoFar options text rest before found

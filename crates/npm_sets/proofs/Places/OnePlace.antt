@@ -1,14 +1,13 @@
 -- A text has at most one place where reading stops.
-use Rattle.std.proofs.Common.{◌≡◌, ◌∙◌, ◌≤◌, ◌+◌, ℕ, suc, true, List, [], ◌∷◌, ◌++◌, Option, Some, None, ap, refl, sym, subst}
-use Rattle.std.proofs.Common.{Err, IsErr, IsOk, IsSome, Ok, Result, arith, encode_utf8_all, inl, inr, length, length-append, map}
+use Rattle.std.proofs.Common.{◌≡◌, ◌∙◌, ◌≤◌, ◌+◌, ℕ, suc, true, List, [], ◌∷◌, ◌++◌, None, ap, refl, sym, subst}
+use Rattle.std.proofs.Common.{IsErr, IsOk, IsSome, arith, encode_utf8_all, inl, inr, length, length-append, map}
 use Rattle.std.specs.Prelude.{◌⊎◌, ◌==◌, ◌&&◌}
 use Rattle.std.specs.List.{AllByRecursion}
 use Rattle.std.proofs.lemmas.Bool.{cases_Bool}
 use Rattle.std.proofs.lemmas.List.{append-nil, map-append}
 use Rattle.std.proofs.lemmas.Str.{encodes-append, length-le-encodes}
 use Rattle.semver_versions.specs.Characters.{bar}
-use Rattle.semver_sets.specs.Comparator.{Comparator}
-use Rattle.npm_sets.specs.NpmMeaning.{IsNpmRefused, or_no_alternatives, piece_comparators, pieces_alternatives, with_piece}
+use Rattle.npm_sets.specs.NpmMeaning.{IsNpmRefused, piece_comparators, pieces_alternatives}
 use Rattle.npm_sets.specs.NpmMeaning.{word_comparator}
 use Rattle.npm_sets.specs.Private.RefusedViews.{AreComparators}
 use Rattle.npm_sets.specs.RefusedPlace.{HasOnePlace, IsFirstRefused, IsRefusedAt, IsRefusedFrom, ends_in_space}
@@ -30,21 +29,13 @@ pub begins-other : {X : Type 0} (a b c d : List X) → a ++ b ≡ c ++ d
 begins-other [] b c d same = inl (c, refl, same)
 begins-other (h ∷ a) b [] d same = inr (h ∷ a, refl, sym same)
 begins-other (h ∷ a) b (k ∷ c) d same =
-    let parts : (h ≡ k) × (a ++ b ≡ c ++ d) = (cc same, cc same) in
-    elim (begins-other a b c d parts.1) [
-      | inl more ↦ inl (more.0, (λ i. sym parts.0 i ∷ more.1 i), more.2)
-      | inr more ↦ inr (more.0, (λ i. parts.0 i ∷ more.1 i), more.2)
-    ]
+    let parts : (h ≡ k) × (a ++ b ≡ c ++ d) = (cc same, cc same) in grind (arith, begins-other a b c d parts.1)
 
 -- ---- words
 
 module _ (options : NpmOptions) where
   both-told : (word : Word) → IsOk (word_comparator options word) → IsErr (word_comparator options word) → ⊥
-  both-told word ok err = told (word_comparator options word) ok err
-    where
-      told : {T E : Type 0} (r : Result T E) → IsOk r → IsErr r → ⊥
-      told (Ok c) ok err = cc err
-      told (Err fault) ok err = cc ok
+  both-told word h1 h2 = grind arith
 
   -- a beginning whose words are comparators does not go on past the place
   not-past : (start end : List ℕ) (b : ℕ) (more : List ℕ) → IsFirstRefused options start (b ∷ (more ++ end))
@@ -57,15 +48,13 @@ module _ (options : NpmOptions) where
       let all = all-last_part (λ (w : Word). IsOk (word_comparator options w)) (words_of (chunks_of start))
       (words_of (chunks_of part)) (subst (AreComparators options) words there.comparators) in
       let some = chunks-some part here.solid in
-      let word = words-some some.0 some.1 in
-      let first : words_of (chunks_of part) ≡ word.0 ∷ word.1 = ap words_of some.2 ∙ word.2 in
-      let ok = (subst (AreComparators options) first all).0 in
-      let after = ap words_of (chunks-split part end (inl border))
-      ∙ words-append options (chunks_of part) (chunks_of end) all
-      ∙ ap (λ (l : List Word). l ++ words_of (chunks_of end)) first in
-      let same : here.word ∷ here.others ≡ word.0 ∷ (word.1 ++ words_of (chunks_of end)) = sym here.words ∙ after in
-      let one : here.word ≡ word.0 = cc same in
-      both-told word.0 ok (subst (λ (w : Word). IsErr (word_comparator options w)) one here.refused)
+      grind (
+        arith,
+        words-some some.0 some.1,
+        chunks-split part end (inl border),
+        words-append options (chunks_of part) (chunks_of end) all,
+        both-told,
+      )
 
   -- so the place of a piece is one
   one-start : (start end other rest : List ℕ) → start ++ end ≡ other ++ rest → IsFirstRefused options start end
@@ -94,16 +83,11 @@ module _ (options : NpmOptions) where
       → piece_comparators options p ≡ None → piece_comparators options q ≡ None
       → done ++ (p ∷ more) ≡ rest ++ (q ∷ others) → (done ≡ rest) × (p ≡ q)
   one-piece [] [] p q more others all each here there same = (refl, cc same)
-  one-piece [] (r ∷ rest) p q more others all each here there same =
-      let one : p ≡ r = cc same in
-      absurd (none-read r each.0 (subst (λ (l : List ℕ). piece_comparators options l ≡ None) one here))
-  one-piece (d ∷ done) [] p q more others all each here there same =
-      let one : q ≡ d = cc same in
-      absurd (none-read d all.0 (subst (λ (l : List ℕ). piece_comparators options l ≡ None) one there))
+  one-piece [] (r ∷ rest) p q more others all each here there same = grind (arith, none-read)
+  one-piece (d ∷ done) [] p q more others all each here there same = grind (arith, none-read)
   one-piece (d ∷ done) (r ∷ rest) p q more others all each here there same =
       let parts : (d ≡ r) × (done ++ (p ∷ more) ≡ rest ++ (q ∷ others)) = (cc same, cc same) in
-      let next = one-piece done rest p q more others all.1 each.1 here there parts.1 in
-      ((λ i. parts.0 i ∷ next.0 i), next.1)
+      grind (arith, one-piece done rest p q more others all.1 each.1 here there parts.1)
 
 -- ---- the length of a text, from its pieces
 
@@ -113,8 +97,7 @@ total [] = 0
 total (piece ∷ pieces) = length piece + 2 + total pieces
 
 total-first : (b : ℕ) (pieces : List (List ℕ)) → 2 ≤ total pieces → total (before_first b pieces) ≡ suc (total pieces)
-total-first b [] some = absurd (omega arith)
-total-first b (piece ∷ pieces) some = omega arith
+total-first b pieces h1 = grind arith
 
 both-bars : (b c : ℕ) (rest : List ℕ) → ((b == bar) && (c == bar)) ≡ true
     → pieces_of (b ∷ c ∷ rest) ≡ [] ∷ pieces_of rest
@@ -122,27 +105,14 @@ unfolding pieces_of
 both-bars b c rest both = rw both refl
 
 total-pieces : (text : List ℕ) → total (pieces_of text) ≡ length text + 2
-total-pieces [] = ap total pieces-nothing
-total-pieces (b ∷ []) = ap total (pieces-short b)
-total-pieces (b ∷ c ∷ rest) = elim (cases_Bool ((b == bar) && (c == bar))) [
-  | inl both ↦
-      let e = ap total (both-bars b c rest both) in
-      let more = total-pieces rest in
-      omega arith
-  | inr other ↦
-      let e = ap total (piece-step b c rest other) in
-      let more = total-pieces (c ∷ rest) in
-      let step = total-first b (pieces_of (c ∷ rest)) (omega arith) in
-      omega arith
-]
+total-pieces [] = grind (arith, pieces-nothing)
+total-pieces (b ∷ []) = grind (arith, pieces-short)
+total-pieces (b ∷ c ∷ rest) =
+    grind (arith, cases_Bool, both-bars, piece-step, total-first, total-pieces rest, total-pieces (c ∷ rest))
 
 -- texts with the same pieces have the same length
 same-length : (one two : List ℕ) → pieces_of one ≡ pieces_of two → length one ≡ length two
-same-length one two same =
-    let a = total-pieces one in
-    let b = total-pieces two in
-    let e = ap total same in
-    omega arith
+same-length one two same = grind (arith, total-pieces one, total-pieces two)
 
 -- ---- texts
 
@@ -162,57 +132,39 @@ plain-append : (one two : List ℕ) → plain_text (one ++ two) ≡ plain_text o
 plain-append one two = ap encode_utf8_all (map-append plain one two) ∙ encodes-append (map plain one) (map plain two)
 
 plain-none : (one more : List ℕ) → length (plain_text (one ++ more)) ≡ length (plain_text one) → more ≡ []
-plain-none one [] same = refl
+plain-none one [] same = grind arith
 plain-none one (c ∷ more) same =
-    let e = ap length (plain-append one (c ∷ more)) in
-    let parts = length-append (plain_text one) (plain_text (c ∷ more)) in
-    let le = length-le-encodes (map plain (c ∷ more)) in
-    absurd (omega arith)
+    grind (
+      arith,
+      plain-append one (c ∷ more),
+      length-append (plain_text one) (plain_text (c ∷ more)),
+      length-le-encodes (map plain (c ∷ more)),
+    )
 
 same-beginning : (one two other rest : List ℕ) → one ++ two ≡ other ++ rest
     → length (plain_text one) ≡ length (plain_text other) → one ≡ other
-same-beginning one two other rest same lengths = elim (begins-other one two other rest same) [
-  | inl more ↦ longer one other more.0 more.1 lengths
-  | inr more ↦ sym (longer other one more.0 more.1 (sym lengths))
-]
-  where
-    longer : (one other x : List ℕ) → other ≡ one ++ x → length (plain_text one) ≡ length (plain_text other)
-        → one ≡ other
-    longer one other x is lengths =
-        let none = plain-none one x (sym (ap (λ (l : List ℕ). length (plain_text l)) is) ∙ sym lengths) in
-        sym (is ∙ ap (λ (l : List ℕ). one ++ l) none ∙ append-nil one)
+same-beginning one two other rest h1 h2 = grind (arith, begins-other, plain-none, append-nil)
 
 pub one-place : (options : NpmOptions) (text : List ℕ) → HasOnePlace options text
 one-place options text m n here there =
     let whole : here.before ++ here.after ≡ there.before ++ there.after = sym here.whole ∙ there.whole in
     let plain_whole : plain_text here.before ++ plain_text here.after ≡ plain_text there.before ++ plain_text there.after =
     sym (plain-append here.before here.after) ∙ ap plain_text whole ∙ plain-append there.before there.after in
-    let lengths = one-before options (plain_text here.before) (plain_text here.after) (plain_text there.before)
-    (plain_text there.after) plain_whole here.refused there.refused in
-    let same = same-beginning here.before here.after there.before there.after whole lengths in
-    here.offset_is ∙ ap (λ (l : List ℕ). length (encode_utf8_all l)) same ∙ sym there.offset_is
+    grind (
+      arith,
+      one-before options (plain_text here.before) (plain_text here.after) (plain_text there.before)
+          (plain_text there.after) plain_whole here.refused there.refused,
+      same-beginning,
+    )
 
 -- ---- a text with a place is refused
 
 refused-pieces : (options : NpmOptions) (done : List (List ℕ)) (piece : List ℕ) (later : List (List ℕ))
     → piece_comparators options piece ≡ None → pieces_alternatives options (done ++ (piece ∷ later)) ≡ None
-refused-pieces options [] piece later refused =
-    pieces-more options piece later
-    ∙ ap (λ (v : Option (List Comparator)). with_piece v (pieces_alternatives options later)) refused
+refused-pieces options [] piece later refused = grind (arith, pieces-more)
 refused-pieces options (d ∷ done) piece later refused =
-    pieces-more options d (done ++ (piece ∷ later))
-    ∙ ap (with_piece (piece_comparators options d)) (refused-pieces options done piece later refused)
-    ∙ none-with (piece_comparators options d)
-  where
-    none-with : (v : Option (List Comparator)) → with_piece v None ≡ None
-    none-with None = refl
-    none-with (Some comparators) = refl
+    grind (arith, pieces-more, refused-pieces options done piece later refused)
 
 pub place-refused : (options : NpmOptions) (text : List ℕ) (offset : ℕ) → IsRefusedAt options text offset
     → IsNpmRefused options (with_plain_spaces text)
-place-refused options text offset here =
-    let whole : with_plain_spaces text ≡ plain_text here.before ++ plain_text here.after =
-    ap plain_text here.whole ∙ plain-append here.before here.after in
-    ap or_no_alternatives (ap (pieces_alternatives options) (ap pieces_of whole ∙ here.refused.whole)
-    ∙ refused-pieces options here.refused.earlier (here.refused.start ++ here.refused.end) here.refused.later
-    here.refused.refused)
+place-refused options text offset h1 = grind (arith, plain-append, refused-pieces)

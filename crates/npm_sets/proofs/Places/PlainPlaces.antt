@@ -1,5 +1,5 @@
 -- Places in a text, and in the same text with a space for each white space character outside ASCII.
-use Rattle.std.proofs.Common.{◌≡◌, ◌∙◌, ◌<◌, ◌+◌, ◌-◌, ℕ, zero, suc, List, [], ◌∷◌, ◌++◌, ap, refl, sym, subst}
+use Rattle.std.proofs.Common.{◌≡◌, ◌∙◌, ◌<◌, ◌+◌, ◌-◌, ℕ, suc, List, [], ◌∷◌, ◌++◌, ap, refl, sym, subst}
 use Rattle.std.proofs.Common.{IsAscii, IsUtf8, IsCharBoundary, arith, chars, encode_utf8, encode_utf8_all, get_or, inl, inr}
 use Rattle.std.proofs.Common.{length, length-append, map}
 use Rattle.std.proofs.lemmas.List.{append-nil, append_assoc, append_cancel_left, drop_at, take_at}
@@ -7,7 +7,7 @@ use Rattle.std.proofs.lemmas.Str.{IsCharBoundary-after_ascii, IsCharBoundary-sta
 use Rattle.std.proofs.lemmas.Str.{chars-IsAscii, chars_past_char, encodes-IsAscii, encodes-append, encodes-chars, encodes_same}
 use Rattle.std.proofs.lemmas.Str.{length-le-encodes}
 use Rattle.npm_sets.specs.Private.RefusedViews.{IsAsciiEnd, IsLengthBefore, IsPlace}
-use Rattle.npm_sets.specs.RefusedPlace.{IsRefusedAt, IsRefusedFrom}
+use Rattle.npm_sets.specs.RefusedPlace.{IsRefusedAt}
 use Rattle.npm_sets.specs.Spaces.{plain, plain_text, with_plain_spaces}
 use Rattle.npm_sets.specs.declared.options.NpmOptions.{NpmOptions}
 use Rattle.npm_sets.proofs.PlainSpaces.{map-ascii}
@@ -15,8 +15,7 @@ use Rattle.npm_sets.proofs.PlainSpaces.{map-ascii}
 -- ---- texts in ASCII
 
 ascii-cons : (b : ℕ) (rest : List ℕ) → b < 128 → IsAscii rest → IsAscii (b ∷ rest)
-ascii-cons b rest first others zero = first
-ascii-cons b rest first others (suc n) = others n
+ascii-cons b rest h1 h2 = grind arith
 
 ascii-parts : (one two : List ℕ) → IsAscii (one ++ two) → IsAscii one × IsAscii two
 ascii-parts [] two ascii = (λ n. omega arith, ascii)
@@ -30,16 +29,7 @@ plain-same text ascii = ap encode_utf8_all (map-ascii text ascii) ∙ encodes-Is
 -- the place in such a text
 pub ascii-place : (options : NpmOptions) (text : List ℕ) (place : ℕ) → IsAscii text → IsPlace options text place
     → IsRefusedAt options text place
-ascii-place options text place ascii p =
-    let parts = ascii-parts p.before p.after (subst IsAscii p.whole ascii) in
-    record {
-      before = p.before;
-      after = p.after;
-      whole = chars-IsAscii text ascii ∙ p.whole;
-      refused = subst (λ (l : List ℕ). IsRefusedFrom options l (plain_text p.after)) (sym (plain-same p.before parts.0))
-          (subst (λ (l : List ℕ). IsRefusedFrom options p.before l) (sym (plain-same p.after parts.1)) p.refused);
-      offset_is = p.place_is ∙ ap length (sym (encodes-IsAscii p.before parts.0));
-    }
+ascii-place options text place h1 h2 = grind (arith, ascii-parts, chars-IsAscii, plain-same, encodes-IsAscii)
 
 -- ---- other texts
 
@@ -118,16 +108,7 @@ cut-at text before after utf8 same ascii =
 pub wide-place : (options : NpmOptions) (text : List ℕ) (place offset : ℕ) → IsUtf8 (with_plain_spaces text)
     → IsPlace options (with_plain_spaces text) place → IsLengthBefore text place offset
     → IsRefusedAt options text offset
-wide-place options text place offset utf8 p told =
-    let cut = cut-at text p.before p.after utf8 p.whole p.ascii in
-    record {
-      before = cut.first;
-      after = cut.last;
-      whole = cut.whole;
-      refused = subst (λ (l : List ℕ). IsRefusedFrom options l (plain_text cut.last)) (sym cut.first_is)
-          (subst (λ (l : List ℕ). IsRefusedFrom options p.before l) (sym cut.last_is) p.refused);
-      offset_is = told cut.first cut.last cut.whole (ap length cut.first_is ∙ sym p.place_is);
-    }
+wide-place options text place offset utf8 p told = grind (arith, cut-at text p.before p.after utf8 p.whole p.ascii)
 
 -- ---- the characters so far
 
@@ -140,38 +121,19 @@ pub record CharactersPassed (text : List ℕ) (place left : ℕ) (rest : List �
   pub reaches : (before after : List ℕ) → chars text ≡ before ++ after → length (plain_text before) ≡ place
       → (more : List ℕ) × (before ≡ done ++ more) × (length (plain_text more) ≡ left)
 
-pub characters-none : (text : List ℕ) (place : ℕ) → IsUtf8 text → CharactersPassed text place place text
-characters-none text place utf8 = record {
-  done = [];
-  bytes = refl;
-  whole = refl;
-  utf8 = utf8;
-  reaches = λ before after whole size. (before, refl, size);
-}
-
 -- what follows the characters so far
 follows : (text before after done more rest : List ℕ) → chars text ≡ before ++ after → before ≡ done ++ more
     → chars text ≡ done ++ rest → more ++ after ≡ rest
-follows text before after done more rest whole is so =
-    append_cancel_left done (more ++ after) rest
-    (sym (append_assoc done more after) ∙ ap (λ (l : List ℕ). l ++ after) (sym is) ∙ sym whole ∙ so)
+follows text before after done more rest whole is so = grind (arith, append_cancel_left, append_assoc done more after)
 
 -- one character fewer
 one-fewer : (c : ℕ) (rest after more done before : List ℕ) (left : ℕ) → more ++ after ≡ c ∷ rest → 0 < left
     → before ≡ done ++ more → length (plain_text more) ≡ left
     → (others : List ℕ) × (before ≡ (done ++ (c ∷ [])) ++ others)
     × (length (plain_text others) ≡ left - length (encode_utf8 (plain c)))
-one-fewer c rest after [] done before left same some is size = absurd (omega arith)
+one-fewer c rest after [] done before left same some is size = grind arith
 one-fewer c rest after (d ∷ others) done before left same some is size =
-    let first : d ≡ c = cc same in
-    let whole : length (plain_text (d ∷ others)) ≡ length (encode_utf8 (plain d)) + length (plain_text others) =
-    length-append (encode_utf8 (plain d)) (plain_text others) in
-    let one : length (encode_utf8 (plain d)) ≡ length (encode_utf8 (plain c)) =
-    ap (λ (n : ℕ). length (encode_utf8 (plain n))) first in (
-      others,
-      is ∙ ap (λ (n : ℕ). done ++ (n ∷ others)) first ∙ sym (append_assoc done (c ∷ []) others),
-      omega arith,
-    )
+    grind (arith, length-append (encode_utf8 (plain d)) (plain_text others), append_assoc done (c ∷ []) others)
 
 pub characters-more : (text : List ℕ) (place left : ℕ) (rest : List ℕ) (c : ℕ) (later : List ℕ) (now : ℕ)
     → CharactersPassed text place left rest → rest ≡ encode_utf8 c ++ later → 0 < left
@@ -204,24 +166,14 @@ characters-more text place left rest c later now so step some fewer =
         append-nothing (x ∷ l) = ap (λ (k : List ℕ). x ∷ k) (append-nothing l)
 
 none-plain : (more : List ℕ) → length (plain_text more) ≡ 0 → more ≡ []
-none-plain [] none = refl
-none-plain (c ∷ more) none =
-    let le = length-le-encodes (map plain (c ∷ more)) in
-    absurd (omega arith)
+none-plain [] none = grind arith
+none-plain (c ∷ more) none = grind (arith, length-le-encodes (map plain (c ∷ more)))
 
 -- where nothing is left to count
 pub characters-done : (text : List ℕ) (place left : ℕ) (rest : List ℕ) (offset : ℕ)
     → CharactersPassed text place left rest → left ≡ 0 → offset ≡ length text - length rest
     → IsLengthBefore text place offset
-characters-done text place left rest offset so none is = λ before after whole size.
-    let was = so.reaches before after whole size in
-    let nothing = none-plain was.0 (was.2 ∙ none) in
-    let same : before ≡ so.done = was.1 ∙ ap (λ (l : List ℕ). so.done ++ l) nothing ∙ append-nil so.done in
-    let total = ap length so.bytes in
-    let parts = length-append (encode_utf8_all so.done) rest in
-    let here : length (encode_utf8_all before) ≡ length (encode_utf8_all so.done) =
-    ap (λ (l : List ℕ). length (encode_utf8_all l)) same in
-    omega arith
+characters-done text place left rest offset h1 h2 h3 = grind (arith, none-plain, append-nil, length-append)
 
 -- or where no character is left
 pub characters-end : (text : List ℕ) (place left : ℕ) (rest : List ℕ) (offset : ℕ)

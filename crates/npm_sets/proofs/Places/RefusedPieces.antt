@@ -1,10 +1,10 @@
 -- Whether a piece is read, from its words.
-use Rattle.std.proofs.Common.{◌≡◌, ◌∙◌, ℕ, false, List, [], ◌∷◌, ◌++◌, Option, Some, None, ap, sym, subst}
+use native.Mathlib.Omega.{arith}
+use Rattle.std.proofs.Common.{◌≡◌, ◌∙◌, ℕ, false, List, [], ◌∷◌, Option, Some, None, ap, sym, subst}
 use Rattle.semver_versions.specs.Characters.{BeginsWith}
 use Rattle.semver_versions.specs.Reading.{rest_of}
 use Rattle.semver_sets.specs.Comparator.{Comparator}
-use Rattle.semver_sets.specs.Merging.{all_cuts}
-use Rattle.npm_sets.specs.NpmMeaning.{alone_or, comparators_of, hyphen_range, piece_comparators}
+use Rattle.npm_sets.specs.NpmMeaning.{comparators_of, hyphen_range, piece_comparators}
 use Rattle.npm_sets.specs.Private.RefusedViews.{AreComparators, IsEndOf, IsPieceEnd, IsReadPiece, IsWordsEnd}
 use Rattle.npm_sets.specs.WordTexts.{Word, chunks_of, is_solid, is_space, lead_of, sides_of, words_of}
 use Rattle.npm_sets.specs.declared.options.NpmOptions.{NpmOptions}
@@ -32,30 +32,18 @@ module _ (options : NpmOptions) (piece text : List ℕ) (skipped : text ≡ rest
 
   -- nothing
   pub end-nothing : text ≡ [] → IsReadPiece options piece
-  end-nothing none = record {
-    first = all_cuts;
-    others = [];
-    value_is = piece-empty options piece text skipped none;
-  }
+  end-nothing none = grind (arith, piece-empty options piece text skipped none)
 
   -- a hyphen range
   pub end-hyphen : BeginsWith is_solid text → (c : Comparator)
       → Some c ≡ hyphen_range options (sides_of (chunks_of text)) → IsReadPiece options piece
-  end-hyphen solid c is = record {
-    first = c;
-    others = [];
-    value_is =
-        piece-words options piece text skipped solid
-        ∙ ap (λ (h : Option Comparator). alone_or h (text_comparators options text)) (sym is);
-  }
+  end-hyphen solid c is = grind (arith, piece-words options piece text skipped solid, text_comparators options text)
 
   -- words
   value : BeginsWith is_solid text → None ≡ hyphen_range options (sides_of (chunks_of text))
       → piece_comparators options piece ≡ comparators_of options (words_of (chunks_of piece))
   value solid is =
-      piece-words options piece text skipped solid
-      ∙ ap (λ (h : Option Comparator). alone_or h (text_comparators options text)) (sym is)
-      ∙ ap (λ (l : List (List ℕ)). comparators_of options (words_of l)) (sym same-chunks)
+      grind (arith, piece-words options piece text skipped solid, text_comparators options text, same-chunks)
 
   words-piece : BeginsWith is_solid text → None ≡ hyphen_range options (sides_of (chunks_of text))
       → AreComparators options (words_of (chunks_of piece)) → IsReadPiece options piece
@@ -75,14 +63,14 @@ module _ (options : NpmOptions) (piece text : List ℕ) (skipped : text ≡ rest
       → None ≡ hyphen_range options (sides_of (chunks_of text)) → (end : List ℕ) → IsEndOf options piece end
       → piece_comparators options piece ≡ None
   refused-piece strict solid is end of =
-      value solid is
-      ∙ ap (λ (l : List ℕ). comparators_of options (words_of (chunks_of l))) of.whole
-      ∙ ap (comparators_of options) (place-words options of.start end of.first
-      ∙ ap (λ (l : List Word). words_of (chunks_of of.start) ++ l) of.first.words)
-      ∙ words-refused options (words_of (chunks_of of.start)) of.first.word of.first.others strict of.first.refused
+      grind (
+        arith,
+        value solid is,
+        place-words options of.start end of.first,
+        words-refused options (words_of (chunks_of of.start)) of.first.word of.first.others strict of.first.refused,
+      )
 
   pub end-words : options.loose ≡ false → BeginsWith is_solid text
       → None ≡ hyphen_range options (sides_of (chunks_of text)) → (end : Option (List ℕ))
       → IsWordsEnd options piece end → IsPieceEnd options piece end
-  end-words strict solid is None all = words-piece solid is all
-  end-words strict solid is (Some end) of = (of, refused-piece strict solid is end of)
+  end-words h1 h2 h3 end h4 = grind (arith, words-piece, refused-piece)

@@ -1,7 +1,9 @@
 -- The words of a piece up to the first that is no comparator.
-use Rattle.std.proofs.Common.{◌≡◌, ◌∙◌, ℕ, Bool, true, false, List, [], ◌∷◌, ◌++◌, Option, Some, None, Result, Ok, Err, ap, refl}
+use native.Mathlib.Omega.{arith}
+use Rattle.std.proofs.Common.{◌≡◌, ◌∙◌, ℕ, Bool, true, false, List, []}
+use Rattle.std.proofs.Common.{◌∷◌, ◌++◌, Option, Some, None, Result, Ok, ap, refl}
 use Rattle.std.proofs.Common.{IsOk, IsErr, sym, subst, inl, inr}
-use Rattle.std.specs.Prelude.{◌&&◌, is_ok}
+use Rattle.std.specs.Prelude.{is_ok}
 use Rattle.std.specs.List.{AllByRecursion}
 use Rattle.std.proofs.lemmas.Bool.{cases_Bool}
 use Rattle.std.proofs.lemmas.List.{append-nil, append_assoc}
@@ -10,7 +12,7 @@ use Rattle.semver_versions.specs.Reading.{prefix_of, rest_of}
 use Rattle.semver_versions.specs.Lemmas.Public.{prefix_of-all, prefix_of-rest_of, rest_of-no}
 use Rattle.semver_versions.specs.declared.parse.fault.Fault.{Fault}
 use Rattle.semver_sets.specs.Comparator.{Comparator}
-use Rattle.npm_sets.specs.NpmMeaning.{comparators_of, is_unknown, with_word, word_comparator}
+use Rattle.npm_sets.specs.NpmMeaning.{comparators_of, with_word, word_comparator}
 use Rattle.npm_sets.specs.PartialTexts.{partial_of}
 use Rattle.npm_sets.specs.Private.RefusedViews.{AreComparators, IsBorder, IsEndOf, IsReadWord}
 use Rattle.npm_sets.specs.RefusedPlace.{IsFirstRefused, ends_in_space}
@@ -47,26 +49,16 @@ has-operand options (lead, b ∷ operand) ok = refl
 pub words-append : (options : NpmOptions) (chunks more : List (List ℕ)) → AreComparators options (words_of chunks)
     → words_of (chunks ++ more) ≡ words_of chunks ++ words_of more
 words-append options [] more all = ap (λ (l : List Word). l ++ words_of more) (sym words-end)
-words-append options (chunk ∷ []) more all =
-    let here : AreComparators options (lead_of chunk ∷ words_of []) = subst (AreComparators options) (word-last chunk) all in
-    word-led chunk more (has-operand options (lead_of chunk) here.0)
-    ∙ ap (λ (l : List Word). lead_of chunk ∷ l ++ words_of more) (sym words-end)
-    ∙ ap (λ (l : List Word). l ++ words_of more) (sym (word-last chunk))
+words-append options (chunk ∷ []) more all = grind (arith, word-last chunk, word-led, has-operand, words-end)
 words-append options (chunk ∷ next ∷ rest) more all = elim (cases_Bool (is_empty (lead_of chunk).1)) [
   | inl alone ↦
       let step = word-next chunk next rest alone in
       let parts : AreComparators options (((lead_of chunk).0, next) ∷ words_of rest) =
-      subst (AreComparators options) step all in
-      word-next chunk next (rest ++ more) alone
-      ∙ ap (λ (l : List Word). ((lead_of chunk).0, next) ∷ l) (words-append options rest more parts.1)
-      ∙ ap (λ (l : List Word). l ++ words_of more) (sym step)
+      grind arith in grind (arith, word-next, words-append options rest more parts.1)
   | inr led ↦
       let step = word-led chunk (next ∷ rest) led in
       let parts : AreComparators options (lead_of chunk ∷ words_of (next ∷ rest)) =
-      subst (AreComparators options) step all in
-      word-led chunk (next ∷ (rest ++ more)) led
-      ∙ ap (λ (l : List Word). lead_of chunk ∷ l) (words-append options (next ∷ rest) more parts.1)
-      ∙ ap (λ (l : List Word). l ++ words_of more) (sym step)
+      grind arith in grind (arith, word-led, words-append options (next ∷ rest) more parts.1)
 ]
 
 -- ---- the words so far
@@ -97,53 +89,31 @@ pub passed-more : (options : NpmOptions) (piece rest others : List ℕ) (word : 
     → IsReadWord rest word others → IsOk (word_comparator options word) → BeginsWithNo is_space others
     → WordsPassed options piece others
 passed-more options piece rest others word so read ok solid =
-    let border : IsBorder so.start (read.part ++ others) = subst (IsBorder so.start) read.whole so.border in
-    let chunks = chunks-split so.start read.part (border-less so.start read.part others border) in
-    let words : words_of (chunks_of (so.start ++ read.part)) ≡ words_of (chunks_of so.start) ++ (word ∷ []) =
-    ap words_of chunks ∙ words-append options (chunks_of so.start) (chunks_of read.part) so.comparators
-    ∙ ap (λ (l : List Word). words_of (chunks_of so.start) ++ l) read.words in
-    record {
-      start = so.start ++ read.part;
-      whole =
-          so.whole ∙ ap (λ (l : List ℕ). so.start ++ l) read.whole
-          ∙ sym (append_assoc so.start read.part others);
-      comparators = subst (AreComparators options) (sym words)
-          (all-append (λ (w : Word). IsOk (word_comparator options w)) (words_of (chunks_of so.start)) (word ∷ [])
-          so.comparators (ok, tt));
-      border = border-append so.start read.part others border read.border;
-      solid = solid;
-    }
+    grind (
+      arith,
+      chunks-split,
+      border-less,
+      words-append options (chunks_of so.start) (chunks_of read.part) so.comparators,
+      append_assoc so.start read.part others,
+      all-append,
+      border-append,
+    )
 
 -- where nothing is left
 pub passed-all : (options : NpmOptions) (piece rest : List ℕ) → WordsPassed options piece rest → rest ≡ []
     → AreComparators options (words_of (chunks_of piece))
-passed-all options piece rest so none =
-    subst (λ (l : List ℕ). AreComparators options (words_of (chunks_of l)))
-    (sym (so.whole ∙ ap (λ (l : List ℕ). so.start ++ l) none ∙ append-nil so.start)) so.comparators
+passed-all options piece rest so none = grind (arith, append-nil so.start)
 
 -- before more there is white space
 space-before : (start rest : List ℕ) → IsBorder start rest → BeginsWith is_solid rest → ends_in_space start ≡ true
-space-before start rest (inl space) solid = space
-space-before start [] (inr ends) solid = absurd solid
-space-before start (b ∷ rest) (inr ends) solid = cc (ends, solid)
+space-before start rest h1 h2 = grind arith
 
 -- at a word that is no comparator
 pub passed-refused : (options : NpmOptions) (piece rest : List ℕ) (word : Word) (others : List Word)
     → WordsPassed options piece rest → BeginsWith is_solid rest → words_of (chunks_of rest) ≡ word ∷ others
     → IsErr (word_comparator options word) → IsEndOf options piece rest
-passed-refused options piece rest word others so solid words refused = record {
-  start = so.start;
-  whole = so.whole;
-  first = record {
-    comparators = so.comparators;
-    border = space-before so.start rest so.border solid;
-    solid = solid;
-    word = word;
-    others = others;
-    words = words;
-    refused = refused;
-  };
-}
+passed-refused options piece rest word others so solid words refused =
+    grind (arith, space-before so.start rest so.border solid)
 
 -- ---- what the test of a word returns
 
@@ -153,66 +123,43 @@ ok-told options word r told is = sym told ∙ is
 
 pub err-told : (options : NpmOptions) (word : Word) (r : Bool) → r ≡ is_ok (word_comparator options word) → r ≡ false
     → IsErr (word_comparator options word)
-err-told options word r told is = err-of (word_comparator options word) (sym told ∙ is)
-  where
-    err-of : (value : Result Comparator Fault) → is_ok value ≡ false → IsErr value
-    err-of (Ok c) failed = cc failed
-    err-of (Err fault) failed = refl
+err-told options word r h1 h2 = grind arith
 
 -- ---- the comparators of the words
 
 ok-value : (r : Result Comparator Fault) → IsOk r → (c : Comparator) × (r ≡ Ok c)
-ok-value (Ok c) ok = (c, refl)
-ok-value (Err fault) ok = absurd (cc ok)
+ok-value r h1 = grind arith
 
 -- words that are comparators are read
 pub words-read : (options : NpmOptions) (words : List Word) → AreComparators options words
     → (comparators : List Comparator) × (comparators_of options words ≡ Some comparators)
-words-read options [] all = ([], comparators-end options)
+words-read options [] all = grind (arith, comparators-end options)
 words-read options (word ∷ words) all =
-    let more = words-read options words all.1 in
-    let here = ok-value (word_comparator options word) all.0 in (
-      here.0 ∷ more.0,
-      comparators-step options word words
-          ∙ ap (λ (l : Option (List Comparator)). with_word options.loose (word_comparator options word) l) more.1
-          ∙ ap (λ (r : Result Comparator Fault). with_word options.loose r (Some more.0)) here.1,
+    grind (
+      arith,
+      ok-value (word_comparator options word) all.0,
+      comparators-step options word words,
+      words-read options words all.1,
     )
 
 pub some-read : (options : NpmOptions) (word : Word) (words : List Word) → AreComparators options (word ∷ words)
     → (c : Comparator) × (others : List Comparator) × (comparators_of options (word ∷ words) ≡ Some (c ∷ others))
-some-read options word words all =
-    let more = words-read options words all.1 in
-    let here = ok-value (word_comparator options word) all.0 in (
-      here.0,
-      more.0,
-      comparators-step options word words
-          ∙ ap (λ (l : Option (List Comparator)). with_word options.loose (word_comparator options word) l) more.1
-          ∙ ap (λ (r : Result Comparator Fault). with_word options.loose r (Some more.0)) here.1,
-    )
+some-read options word words h1 = grind (arith, words-read, ok-value, comparators-step)
 
 none-with : (loose : Bool) (r : Result Comparator Fault) → with_word loose r None ≡ None
-none-with loose (Ok c) = refl
-none-with loose (Err fault) = refl
+none-with loose r = grind arith
 
 refused-word : (options : NpmOptions) (r : Result Comparator Fault) (more : Option (List Comparator))
     → options.loose ≡ false → IsErr r → with_word options.loose r more ≡ None
-refused-word options (Ok c) more strict refused = absurd (cc refused)
-refused-word options (Err fault) more strict refused =
-    let known : (options.loose && is_unknown fault) ≡ false = rw strict refl in
-    with-refused options.loose fault more known
+refused-word options r more h1 h2 = grind (arith, with-refused)
 
 -- words with one that is no comparator are refused in strict form
 pub words-refused : (options : NpmOptions) (done : List Word) (word : Word) (others : List Word)
     → options.loose ≡ false → IsErr (word_comparator options word)
     → comparators_of options (done ++ (word ∷ others)) ≡ None
-words-refused options [] word others strict refused =
-    comparators-step options word others
-    ∙ refused-word options (word_comparator options word) (comparators_of options others) strict refused
+words-refused options [] word others strict refused = grind (arith, comparators-step, refused-word)
 words-refused options (d ∷ done) word others strict refused =
-    comparators-step options d (done ++ (word ∷ others))
-    ∙ ap (λ (l : Option (List Comparator)). with_word options.loose (word_comparator options d) l)
-    (words-refused options done word others strict refused)
-    ∙ none-with options.loose (word_comparator options d)
+    grind (arith, comparators-step, none-with, words-refused options done word others strict refused)
 
 -- the words on both sides of the place
 pub place-words : (options : NpmOptions) (start end : List ℕ) → IsFirstRefused options start end

@@ -100,11 +100,7 @@ operator-word o v rest c is clean says =
     let none : NoneAt IsHyphenText (text ++ rest) =
     subst (NoneAt IsHyphenText) (sym (append_assoc (operator_text o) (version_text v) rest))
     (operator-no_hyphen o (version_text v ++ rest) ends) in
-    record {
-      word = simple none written clean;
-      no_bar = simple-none text (Some c) written;
-      begins = operator-begins o (version_text v);
-    }
+    grind (arith, simple-none text (Some c) written, operator-begins o (version_text v))
 
 -- the print of a version, and no more: `1.2.3`
 pub version-word : (v : VersionValue) → IsTextVersion v → IsPrintedWord (version_text v) [] (exactly v)

@@ -53,9 +53,7 @@ exists-in text (piece ∷ pieces) d =
     (first.0 ∷ more.0, record { pieces = piece ∷ pieces; divided = d; read = (first.1, more.1) })
 
 pub written-exists : (text : List ℕ) → (alternatives : List (List Comparator)) × IsWritten text alternatives
-written-exists text =
-    let d = pieces-exist text in
-    exists-in text d.0 d.1
+written-exists text = grind (arith, pieces-exist text, exists-in)
 
 alternatives-unique : (pieces : List (List ℕ)) (one other : List (List Comparator)) → AreAlternatives pieces one
     → AreAlternatives pieces other → one ≡ other
@@ -116,8 +114,7 @@ pub reads-more : (text : List ℕ) (done : List (List Comparator)) (rest piece :
     → Reads text (done ++ (a ∷ [])) left
 reads-more text done rest piece left a reads read alternative = record {
   whole = λ later more.
-      let left = left-more rest piece left a later read alternative more in
-      subst (IsWritten text) (sym (append_assoc done (a ∷ []) later)) (reads.whole (a ∷ later) left);
+      let left = left-more rest piece left a later read alternative more in grind (arith, append_assoc);
 }
 
 -- all pieces are read

@@ -96,8 +96,7 @@ division-unique text (w ∷ z ∷ ws) (x ∷ y ∷ xs) d e =
     let behind : one.b ∷ one.behind ≡ two.b ∷ two.behind = ap (λ (p : Word). p.1) same in
     let first : w ≡ x = ap (λ (p : Word). p.0) same in
     let others : z ∷ ws ≡ y ∷ xs = division-unique (rest_of is_blank (two.b ∷ two.behind)) (z ∷ ws) (y ∷ xs)
-    (subst (λ (l : List ℕ). IsDivision (rest_of is_blank l) (z ∷ ws)) behind one.division) two.division in
-    ap (λ (c : Option Comparator). c ∷ z ∷ ws) first ∙ ap (λ (l : List (Option Comparator)). x ∷ l) others
+    (subst (λ (l : List ℕ). IsDivision (rest_of is_blank l) (z ∷ ws)) behind one.division) two.division in grind arith
 
 -- ---- a text read word by word
 
@@ -145,10 +144,7 @@ completes-start (b ∷ rest) none = elim (cases_Bool (is_blank b)) [
         refl,
       );
     }
-    | inr same ↦ record {
-      whole =
-          λ words d. (words, same-first (b ∷ rest) (rest_of is_blank (b ∷ rest)) same words d, refl);
-    }
+    | inr same ↦ grind (arith, same-first)
   ]
 ]
 
@@ -160,22 +156,12 @@ unfolding rest_of
 completes-more text done rest c [] completes read = record {
   whole = λ words d.
       let all = completes.whole (c ∷ []) (divide-last rest c (has-word rest c [] read)) in
-      let none : comparators_of words ≡ [] = division-of_end words d in (
-        all.0,
-        all.1,
-        all.2 ∙ ap (λ (l : List Comparator). done ++ l) (comparators-more c []) ∙ sym (append_assoc done (listed c) [])
-            ∙ ap (λ (l : List Comparator). (done ++ listed c) ++ l) (sym none),
-      );
+      grind (arith, division-of_end words d, comparators-more c, append_assoc done (listed c));
 }
 completes-more text done rest c (b ∷ behind) completes read = record {
   whole = λ words d.
       let rest_divided = divide-more rest c behind b words (has-word rest c (b ∷ behind) read) d in
-      let all = completes.whole (c ∷ words) rest_divided in (
-        all.0,
-        all.1,
-        all.2 ∙ ap (λ (l : List Comparator). done ++ l) (comparators-more c words)
-            ∙ sym (append_assoc done (listed c) (comparators_of words)),
-      );
+      let all = completes.whole (c ∷ words) rest_divided in grind (arith, comparators-more, append_assoc);
 }
 
 -- less is left then
@@ -194,8 +180,7 @@ completes-leading text (Some right) leading rest some read =
 -- all is read
 pub completes-end : (text : List ℕ) (done : List Comparator) → Completes text done [] → IsAlternative text done
 completes-end text done completes =
-    let whole = completes.whole (None ∷ []) empty-ignored in
-    record { words = whole.0; divided = whole.1; kept = sym (whole.2 ∙ append-nil done) }
+    let whole = completes.whole (None ∷ []) empty-ignored in grind (arith, append-nil done)
 
 -- ---- the comparators of an alternative are one list
 

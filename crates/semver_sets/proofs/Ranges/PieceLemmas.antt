@@ -90,10 +90,8 @@ read-step b rest p none read = grind (arith, no-bars-step, ends-step)
 is-read : (text : List ℕ) → IsRead text (piece_at text)
 is-read [] = subst (IsRead []) (sym piece-of_nothing) read-nothing
 is-read (b ∷ rest) = elim (bars-cases (b ∷ rest)) [
-  | inl none ↦ subst (IsRead (b ∷ rest)) (sym (piece-step b rest none))
-      (read-step b rest (piece_at rest) none (is-read rest))
-  | inr some ↦ subst (IsRead (b ∷ rest)) (sym (piece-stop (b ∷ rest) some.0 some.1))
-      (read-bars (b ∷ rest) some.0 some.1)
+  | inl none ↦ grind (arith, piece-step b rest none, read-step b rest (piece_at rest) none (is-read rest), is-read rest)
+  | inr some ↦ grind (arith, piece-stop (b ∷ rest) some.0 some.1, read-bars (b ∷ rest) some.0 some.1)
 ]
 
 -- a piece with more after it
@@ -191,8 +189,7 @@ pieces-unique text (p ∷ n ∷ one) (q ∷ m ∷ other) d e =
     let left : Some d.0 ≡ Some e.0 = ap (λ (r : Piece). r.1) same in
     let rest : d.0 ≡ e.0 = cc left in
     let others : n ∷ one ≡ m ∷ other = pieces-unique e.0 (n ∷ one) (m ∷ other)
-    (subst (λ (l : List ℕ). IsPieces l (n ∷ one)) rest d.2) e.2 in
-    ap (λ (l : List ℕ). l ∷ n ∷ one) first ∙ ap (λ (l : List (List ℕ)). q ∷ l) others
+    (subst (λ (l : List ℕ). IsPieces l (n ∷ one)) rest d.2) e.2 in grind arith
 
 -- ---- the first piece, from place to place
 
@@ -203,15 +200,7 @@ Passed text i = piece_at text ≡ behind (take i text) (piece_at (drop i text))
 -- one character more
 pub seen-step : (text : List ℕ) (i : ℕ) → i < length text → None ≡ bars_after (drop i text) → Passed text i
     → Passed text (i + 1)
-seen-step text i h none passed =
-    let here = drop_more text i 0 h in
-    let more = drop (i + 1) text in
-    let b = get_or text i 0 in
-    let read : piece_at (drop i text) ≡ (b ∷ (piece_at more).0, (piece_at more).1) =
-    ap piece_at here ∙ piece-step b more (sym (none ∙ ap bars_after here)) in
-    passed ∙ ap (behind (take i text)) read
-    ∙ ap (λ (l : List ℕ). (l, (piece_at more).1)) (sym (append_assoc (take i text) (b ∷ []) (piece_at more).0))
-    ∙ ap (λ (l : List ℕ). (l ++ (piece_at more).0, (piece_at more).1)) (sym (take_more text i 0 h))
+seen-step text i h none passed = grind (arith, drop_more text i 0 h, piece-step, append_assoc, take_more text i 0 h)
 
 -- the piece ends where `||` begins
 pub seen-stop : (text after : List ℕ) (i : ℕ) → Some after ≡ bars_after (drop i text) → Passed text i

@@ -1,11 +1,11 @@
 -- Components with dots between them: the reader reads exactly the unmarked partials.
 use native.Mathlib.Omega.{arith}
-use Rattle.std.proofs.Common.{◌≡◌, ℕ, List, [], ◌∷◌, ◌++◌, Option, Some, None, refl, sym, ap, ◌∙◌, inl, inr, subst}
+use Rattle.std.proofs.Common.{◌≡◌, ℕ, List, [], ◌∷◌, ◌++◌, Option, Some, None, refl, sym, ap, ◌∙◌, inl, inr}
 use Rattle.std.proofs.Common.{append_assoc}
 use Rattle.std.proofs.lemmas.Bool.{cases_Bool, eqb-true}
 use Rattle.std.proofs.lemmas.Option.{same_Some}
 use Rattle.std.specs.Prelude.{◌==◌}
-use Rattle.semver_versions.specs.Characters.{BeginsWithNo, dot, is_digit}
+use Rattle.semver_versions.specs.Characters.{dot, is_digit}
 use Rattle.semver_versions.specs.Characters.{IsCleanEnd}
 use Rattle.semver_sets.specs.PartialText.{IsComponentText, IsUnmarkedPartial, Partial, one, plain_partial, three, two}
 use Rattle.semver_versions.specs.Reading.{read_extras}
@@ -67,29 +67,7 @@ third-taken : (first second text : List ℕ) (major minor : Option ℕ) (read : 
 third-taken first second text major minor None p rest one_read two_read r h = cc h
 third-taken first second text major minor (Some c) p rest one_read two_read r h =
     let e = same-read (with_extras major minor c.0 (read_extras c.1).0) p (read_extras c.1).1 rest h in
-    let t = component-takes text c.0 c.1 r in
-    let x = extras-takes c.1 in
-    let split : c.1 ≡ x.taken ++ rest = x.whole ∙ ap (λ (l : List ℕ). x.taken ++ l) e.1 in
-    let taken = first ++ (dot ∷ (second ++ (dot ∷ (t.taken ++ x.taken)))) in
-    record {
-      taken = taken;
-      whole = ap (λ (l : List ℕ). first ++ (dot ∷ (second ++ (dot ∷ l))))
-          (t.whole ∙ ap (λ (l : List ℕ). t.taken ++ l) split)
-          ∙ regroup first second t.taken x.taken rest;
-      read = subst (λ (q : Partial). IsUnmarkedPartial q taken) e.0 (three (record {
-        first = first;
-        second = second;
-        third = t.taken;
-        extras = x.taken;
-        whole = refl;
-        major_text = one_read;
-        minor_text = two_read;
-        patch_text = t.read;
-        digits_end = λ some. prefix_of-no is_digit x.taken rest
-            (subst (λ (l : List ℕ). BeginsWithNo is_digit l) split (t.ends some));
-        extras_text = x.extras;
-      }));
-    }
+    grind (arith, component-takes text c.0 c.1 r, extras-takes c.1, regroup, prefix_of-no)
 
 -- what follows a second component
 from_patch-taken : (first second text : List ℕ) (major minor : Option ℕ) (p : Partial) (rest : List ℕ)
@@ -101,11 +79,9 @@ from_patch-taken first second text major minor p rest h1 h2 h3 = grind (arith, t
 second-taken : (first text : List ℕ) (major : Option ℕ) (read : Component) (p : Partial) (rest : List ℕ)
     → IsComponentText first major → read_component text ≡ read → with_second major read ≡ Some (p, rest)
     → TakesComponents (first ++ (dot ∷ text)) p rest
-second-taken first text major None p rest one_read r h = cc h
+second-taken first text major None p rest one_read r h = grind arith
 second-taken first text major (Some c) p rest one_read r h =
-    let t = component-takes text c.0 c.1 r in
-    subst (λ (l : List ℕ). TakesComponents (first ++ (dot ∷ l)) p rest) (sym t.whole)
-    (from_patch-taken first t.taken c.1 major c.0 p rest one_read t.read h)
+    grind (arith, component-takes text c.0 c.1 r, from_patch-taken)
 
 -- what follows a first component
 from_minor-taken : (first text : List ℕ) (major : Option ℕ) (p : Partial) (rest : List ℕ) → IsComponentText first major
@@ -113,17 +89,14 @@ from_minor-taken : (first text : List ℕ) (major : Option ℕ) (p : Partial) (r
 from_minor-taken first [] major p rest one_read h = one-taken first [] major p rest one_read h
 from_minor-taken first (b ∷ text) major p rest one_read h = elim (cases_Bool (b == dot)) [
   | inr other ↦ one-taken first (b ∷ text) major p rest one_read (rw other at h)
-  | inl here ↦ subst (λ (c : ℕ). TakesComponents (first ++ (c ∷ text)) p rest) (sym (eqb-true b dot here))
-      (second-taken first text major (read_component text) p rest one_read refl (rw here at h))
+  | inl here ↦ grind (arith, eqb-true, second-taken)
 ]
 
 -- a first component and the rest
 first-taken : (text : List ℕ) (read : Component) (p : Partial) (rest : List ℕ) → read_component text ≡ read
     → with_first read ≡ Some (p, rest) → TakesComponents text p rest
-first-taken text None p rest r h = cc h
-first-taken text (Some c) p rest r h =
-    let t = component-takes text c.0 c.1 r in
-    subst (λ (l : List ℕ). TakesComponents l p rest) (sym t.whole) (from_minor-taken t.taken c.1 c.0 p rest t.read h)
+first-taken text None p rest r h = grind arith
+first-taken text (Some c) p rest r h = grind (arith, component-takes text c.0 c.1 r, from_minor-taken)
 
 -- the text before the rest is an unmarked partial
 pub components-takes : (text : List ℕ) (p : Partial) (rest : List ℕ) → read_components text ≡ Some (p, rest)

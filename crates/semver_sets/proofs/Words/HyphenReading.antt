@@ -45,22 +45,15 @@ right_at-takes text (b ∷ behind) p rest some follows h = elim (cases_Bool (b =
     | inr none ↦ cc (rw (here, none) at h)
     | inl blank ↦
         let u = up_to_clean-takes (read_partial (rest_of is_blank behind)) (p, rest) (rw (here, blank) at h) in
-        let t = partial-takes (rest_of is_blank behind) p rest u.0 in
-        let second : behind ≡ prefix_of is_blank behind ++ (t.taken ++ rest) =
-        sym (prefix_of-rest_of is_blank behind) ∙ ap (λ (l : List ℕ). prefix_of is_blank behind ++ l) t.whole in
-        let first : b ∷ behind ≡ hyphen ∷ (prefix_of is_blank behind ++ (t.taken ++ rest)) =
-        ap (λ (c : ℕ). c ∷ behind) (eqb-true b hyphen here) ∙ ap (λ (l : List ℕ). hyphen ∷ l) second in
-        record {
-          left_blanks = prefix_of is_blank text;
-          right_blanks = prefix_of is_blank behind;
-          right_text = t.taken;
-          whole = sym (prefix_of-rest_of is_blank text)
-              ∙ ap (λ (l : List ℕ). prefix_of is_blank text ++ l) (follows ∙ first);
-          left_blank = blanks-taken text some;
-          right_blank = blanks-taken behind blank;
-          read = t.read;
-          clean = u.1;
-        }
+        grind (
+          arith,
+          partial-takes (rest_of is_blank behind) p rest u.0,
+          prefix_of-rest_of is_blank behind,
+          prefix_of-rest_of is_blank text,
+          eqb-true b hyphen here,
+          blanks-taken text some,
+          blanks-taken behind blank,
+        )
   ]
 ]
 
@@ -76,17 +69,16 @@ right-again : (left_blanks right_blanks right_text rest : List ℕ) (p : Partial
 unfolding read_right
 right-again left_blanks right_blanks right_text rest p left right h clean =
     let behind = right_blanks ++ (right_text ++ rest) in
-    let some : begins is_blank (left_blanks ++ (hyphen ∷ behind)) ≡ true =
-    with-begins is_blank (left_blanks ++ (hyphen ∷ behind))
-    (begins-append is_blank left_blanks (hyphen ∷ behind) left.some) in
-    let follows : rest_of is_blank (left_blanks ++ (hyphen ∷ behind)) ≡ hyphen ∷ behind =
-    rest_of-again is_blank left_blanks (hyphen ∷ behind) left.all refl in
-    let blank : begins is_blank behind ≡ true =
-    with-begins is_blank behind (begins-append is_blank right_blanks (right_text ++ rest) right.some) in
-    let read : read_partial (rest_of is_blank behind) ≡ Some (p, rest) =
-    ap read_partial (rest_of-all is_blank right_blanks (right_text ++ rest) right.all)
-    ∙ partial-unblanked (right_text ++ rest) (p, rest) (partial-again right_text rest p h clean) in
-    rw (some, follows, blank, read, true-clean rest clean) refl
+    grind (
+      arith,
+      with-begins,
+      begins-append,
+      rest_of-again is_blank left_blanks (hyphen ∷ behind) left.all refl,
+      rest_of-all is_blank right_blanks (right_text ++ rest) right.all,
+      partial-unblanked (right_text ++ rest) (p, rest) (partial-again right_text rest p h clean),
+      partial-again right_text rest p h clean,
+      true-clean rest clean,
+    )
 
 -- a text that begins with a partial begins with no hyphen range without a left side
 right_at-none : (text : List ℕ) → BeginsWithNo (λ b. b == hyphen) text → right_at text ≡ None
@@ -119,20 +111,7 @@ hyphen-taken left_text text left (Some p) c rest h r e =
     subst (λ (w : Word). TakesHyphen (left_text ++ text) w.0 w.1) same (record {
       taken = taken;
       whole = whole;
-      read = record {
-        left_text = left_text;
-        left_blanks = t.left_blanks;
-        right_blanks = t.right_blanks;
-        right_text = t.right_text;
-        left = left;
-        right = p.0;
-        whole = refl;
-        left_read = h;
-        left_blank = t.left_blank;
-        right_blank = t.right_blank;
-        right_read = t.read;
-        says = refl;
-      };
+      read = grind arith;
       clean = t.clean;
     })
 
@@ -143,8 +122,7 @@ hyphen_left-takes : (text : List ℕ) (read : ReadPartial) (c : Option Comparato
 hyphen_left-takes text None c rest r h = cc h
 hyphen_left-takes text (Some left) c rest r h =
     let t = partial-takes text left.0 left.1 r in
-    subst (λ (l : List ℕ). TakesHyphen l c rest) (sym t.whole)
-    (hyphen-taken t.taken left.1 (Some left.0) (read_right left.1) c rest t.read refl h)
+    grind (arith, hyphen-taken t.taken left.1 (Some left.0) (read_right left.1) c rest t.read refl h)
 
 -- with one or without
 either-takes : (text : List ℕ) (right : ReadPartial) (c : Option Comparator) (rest : List ℕ) → read_right text ≡ right

@@ -1,7 +1,7 @@
 -- The beginning of a word, before its partial: an operator, a tilde, a caret or nothing. The reader reads exactly
 -- these.
 use native.Mathlib.Omega.{arith}
-use Rattle.std.proofs.Common.{◌≡◌, ℕ, List, [], ◌∷◌, ◌++◌, Option, Some, None, refl, sym, ap, ◌∙◌, inl, inr}
+use Rattle.std.proofs.Common.{◌≡◌, ℕ, List, [], ◌∷◌, ◌++◌, Option, Some, None, refl, ap, inl, inr}
 use Rattle.std.proofs.Common.{subst, append_assoc}
 use Rattle.std.proofs.lemmas.Bool.{cases_Bool, eqb-true}
 use Rattle.std.specs.Prelude.{◌==◌}
@@ -85,19 +85,17 @@ tilde-takes text = by_first (rest_of is_blank text) refl
     by_first : (rest : List ℕ) → rest_of is_blank text ≡ rest → Stands (tilde ∷ text) (tilde_at rest)
     by_first [] e = subst (λ (l : List ℕ). IsFollowed (tilde ∷ []) (tilde ∷ text) l) e (unblanked (tilde ∷ []) text)
     by_first (b ∷ rest) e = elim (cases_Bool (b == greater_sign)) [
-      | inr other ↦
-          rw other (subst (λ (l : List ℕ). IsFollowed (tilde ∷ []) (tilde ∷ text) l) e (unblanked (tilde ∷ []) text))
+      | inr other ↦ grind (arith, unblanked (tilde ∷ []) text)
       | inl here ↦
           let blanks = prefix_of is_blank text in
           let lead = tilde ∷ (blanks ++ (greater_sign ∷ [])) in
-          let whole : tilde ∷ text ≡ lead ++ rest =
-          ap (λ (l : List ℕ). tilde ∷ l) (sym (prefix_of-rest_of is_blank text)
-          ∙ ap (λ (l : List ℕ). blanks ++ l) (e ∙ ap (λ (c : ℕ). c ∷ rest) (eqb-true b greater_sign here))
-          ∙ sym (append_assoc blanks (greater_sign ∷ []) rest)) in
-          rw here (
-            blanks,
+          grind (
+            arith,
+            prefix_of-rest_of is_blank text,
+            eqb-true b greater_sign here,
+            append_assoc blanks (greater_sign ∷ []) rest,
             prefix_of-all is_blank text,
-            subst (λ (l : List ℕ). IsFollowed lead l (rest_of is_blank rest)) (sym whole) (unblanked lead rest),
+            unblanked lead rest,
           )
     ]
 
@@ -126,15 +124,11 @@ pub lead-operator : (o : Operator) (behind : List ℕ) → BeginsWithNo (λ b. b
     → read_lead (operator_text o ++ behind) ≡ (operator o, rest_of is_blank behind)
 lead-operator o behind h = rw (operator_text-first o behind, operator-again o behind h) refl
 
--- no `>` follows a tilde and its blanks
-tilde_at-plain : (text : List ℕ) → BeginsWithNo (λ b. b == greater_sign) text → tilde_at text ≡ (tilde_lead, text)
-tilde_at-plain text h1 = grind arith
-
 -- so a tilde is read
 pub lead-tilde : (behind : List ℕ) → BeginsWithNo (λ b. b == greater_sign) (rest_of is_blank behind)
     → read_lead (tilde ∷ behind) ≡ (tilde_lead, rest_of is_blank behind)
 unfolding read_lead
-lead-tilde behind h = tilde_at-plain (rest_of is_blank behind) h
+lead-tilde behind h1 = grind arith
 
 -- a tilde and a `>` are read
 pub lead-tilde_greater : (blanks behind : List ℕ) → AreAll is_blank blanks

@@ -1,6 +1,6 @@
 -- Words of every kind but the hyphen: the reader reads exactly these texts.
 use native.Mathlib.Omega.{arith}
-use Rattle.std.proofs.Common.{◌≡◌, ℕ, List, [], ◌∷◌, ◌++◌, Option, Some, None, refl, sym, ap, ◌∙◌, subst}
+use Rattle.std.proofs.Common.{◌≡◌, ℕ, List, [], ◌∷◌, ◌++◌, Option, Some, None, refl, sym, ap, ◌∙◌}
 use Rattle.std.proofs.Common.{append_assoc}
 use Rattle.std.proofs.lemmas.Bool.{and_parts}
 use Rattle.std.proofs.lemmas.Option.{same_Some}
@@ -58,19 +58,13 @@ said-taken : (lead : Lead) (text behind : List ℕ) (read : ReadPartial) (c : Op
 said-taken lead text behind None c rest f r h = cc h
 said-taken lead text behind (Some p) c rest f r h =
     let e = same_Some (lead_comparator lead p.0, p.1) (c, rest) h in
-    let u = up_to_clean-takes (read_partial behind) p r in
-    let t = partial-takes behind p.0 p.1 u.0 in
-    let before = subst (λ (l : List ℕ). StandsBefore lead text l) t.whole f in
-    let taken = simple-taken lead text t.taken p.1 p.0 before t.read u.1 in
-    subst (λ (w : Word). TakesSimple text w.0 w.1) e taken
+    let u = up_to_clean-takes (read_partial behind) p r in grind (arith, partial-takes behind p.0 p.1 u.0, simple-taken)
 
 -- the text before the rest is such a text with a clean end
 pub simple-takes : (text : List ℕ) (c : Option Comparator) (rest : List ℕ) → read_simple text ≡ Some (c, rest)
     → TakesSimple text c rest
 unfolding read_simple
-simple-takes text c rest h =
-    let read = up_to_clean (read_partial (read_lead text).1) in
-    said-taken (read_lead text).0 text (read_lead text).1 read c rest (lead-takes text) refl h
+simple-takes text c rest h = grind (arith, said-taken, lead-takes text)
 
 -- ---- such a text is read
 

@@ -16,7 +16,6 @@ use Rattle.semver_sets.proofs.Words.HyphenReading.{hyphen-again, hyphen-takes}
 use Rattle.semver_sets.proofs.Words.LeadReading.{lead-none}
 use Rattle.semver_sets.proofs.Words.PartialReading.{partial-unblanked}
 use Rattle.semver_versions.specs.Lemmas.Public.{prefix_of-all, prefix_of-rest_of, rest_of-again, rest_of-no}
-use Rattle.semver_versions.specs.Lemmas.Public.{with_no-begins}
 use Rattle.semver_sets.proofs.Words.SimpleReading.{simple-again, simple-takes}
 
 -- what begins with no solid character is the end or begins with a blank
@@ -104,7 +103,7 @@ has-word text c rest read = subst (λ (w : Word). HasWord text w.0 w.1) read (wo
 -- where a text begins with no blank, no hyphen range without a left side does
 pub right-no_blank : (text : List ℕ) → BeginsWithNo is_blank text → read_right text ≡ None
 unfolding read_right
-right-no_blank text h = rw (with_no-begins is_blank text h) refl
+right-no_blank text h1 = grind arith
 
 pub hyphen-with_left : (text : List ℕ) → read_right text ≡ None → read_hyphen text ≡ with_left (read_partial text)
 unfolding read_hyphen

@@ -1,8 +1,9 @@
-use Rattle.std.proofs.Common.{◌∙◌, List, Option, ap, subst, sym}
+use native.Mathlib.Omega.{arith}
+use Rattle.std.proofs.Common.{◌∙◌, Option, ap, sym}
 use Rattle.semver_sets.specs.Comparator.{Comparator}
 use Rattle.semver_sets.specs.Merging.{all_cuts}
 use Rattle.npm_sets.specs.NpmMeaning.{alone_or, piece_comparators}
-use Rattle.npm_sets.specs.Private.ReadViews.{IsRead, ends_seen}
+use Rattle.npm_sets.specs.Private.ReadViews.{ends_seen}
 use Rattle.npm_sets.proofs.Chunks.ChunkLemmas.{left-solid, no-bytes_told, solid-told}
 use Rattle.npm_sets.proofs.Pieces.EndBounds.{small-read}
 use Rattle.npm_sets.proofs.Pieces.PieceReading.{all-bounded, one-read, piece-empty, piece-words}
@@ -20,16 +21,10 @@ returns-then-is_empty c =
     (no-bytes_told text c.is_empty.result c.is_empty.ensures c.if-is_empty.true))
 
 pub read_hyphen-requires : goal.read_hyphen-requires
-read_hyphen-requires c =
-    let text = c.skip_space-text.result.now in
-    solid-told text c.is_empty.result c.is_empty.ensures c.if-is_empty.false
-    (left-solid c.args.piece.now text c.skip_space-text.ensures)
+read_hyphen-requires c = grind (arith, solid-told, left-solid)
 
 pub merge_words-requires-clause-solid : goal.merge_words-requires-clause-solid
-merge_words-requires-clause-solid c =
-    let text = c.skip_space-text.result.now in
-    solid-told text c.is_empty.result c.is_empty.ensures c.if-is_empty.false
-    (left-solid c.args.piece.now text c.skip_space-text.ensures)
+merge_words-requires-clause-solid c = grind (arith, solid-told, left-solid)
 
 pub returns-in_ok-merge_ends-in-Some : goal.returns-in_ok-merge_ends-in-Some
 returns-in_ok-merge_ends-in-Some c =
@@ -44,13 +39,4 @@ returns-in_ok-merge_ends-in-Some c =
     ∙ ap (λ (h : Option Comparator). alone_or h (text_comparators options text)) (sym c.in-Some.ensures.read))
 
 pub returns-in-None : goal.returns-in-None
-returns-in-None c =
-    let options = c.args.options in
-    let piece = c.args.piece.now in
-    let text = c.skip_space-text.result.now in
-    let solid = solid-told text c.is_empty.result c.is_empty.ensures c.if-is_empty.false
-    (left-solid piece text c.skip_space-text.ensures) in
-    let same = piece-words options piece text c.skip_space-text.ensures solid
-    ∙ ap (λ (h : Option Comparator). alone_or h (text_comparators options text)) (sym c.in-None.ensures.read) in
-    subst (λ (v : Option (List Comparator)). IsRead v c.merge_words.new.common c.merge_words.result) (sym same)
-    c.merge_words.ensures
+returns-in-None c = grind (arith, solid-told, left-solid, piece-words)

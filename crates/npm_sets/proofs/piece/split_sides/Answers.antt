@@ -1,3 +1,4 @@
+use native.Mathlib.Omega.{arith}
 use Rattle.std.proofs.Common.{◌∙◌, inl, inr, refl, sym}
 use Rattle.semver_versions.specs.Reading.{prefix_of, rest_of}
 use Rattle.npm_sets.specs.WordTexts.{is_solid, is_space}
@@ -7,13 +8,7 @@ use Rattle.npm_sets.proofs.Pieces.SignPieces.{no-dash}
 use Rattle.npm_sets.proofs.piece.split_sides.Goals as goal
 
 pub returns-then-not-is_dash : goal.returns-then-not-is_dash
-returns-then-not-is_dash c =
-    let text = c.args.text.now in
-    let first = c.split_chunk.result.1.now in
-    not-dashed text c.split_chunk.result.0.now first c.split_chunk-2.result.0.now c.split_chunk-2.result.1.now
-    (one-chunk text c.split_chunk.result.0.now first c.requires c.split_chunk.ensures.chunk c.split_chunk.ensures.rest)
-    (left-solid (rest_of is_solid text) first c.split_chunk.ensures.rest) c.split_chunk-2.ensures.chunk
-    c.split_chunk-2.ensures.rest (sym c.is_dash.ensures ∙ c.if-not-is_dash.true)
+returns-then-not-is_dash c = grind (arith, not-dashed, one-chunk, left-solid)
 
 pub returns-then-is_empty : goal.returns-then-is_empty
 returns-then-is_empty c =

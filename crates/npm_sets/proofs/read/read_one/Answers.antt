@@ -16,40 +16,26 @@ returns-then-not-found-clause-refused c = λ is.
     one-passed c.args.options c.args.text.now c.requires c.merge_piece.new.common c.in-Ok.found c.in-Ok.ensures
     c.if-not-found.true
 
-pub returns-in-Some-clause-sets : goal.returns-in-Some-clause-sets
-returns-in-Some-clause-sets c =
-    (one-given c.args.options c.args.text.now c.requires c.merge_piece.new.common c.in-Ok.found c.in-Some.set
-    c.in-Ok.ensures c.if-not-found.false c.in-Some.ensures).sets_are
+pub returns-in-Some : goal.returns-in-Some
+returns-in-Some c =
+    let is = one-given c.args.options c.args.text.now c.requires c.merge_piece.new.common c.in-Ok.found c.in-Some.set
+    c.in-Ok.ensures c.if-not-found.false c.in-Some.ensures in
+    record {
+      sets = is.sets_are;
+      means = npm-sets-admit c.args.options c.args.text.now (c.in-Some.set ∷ []) is.sets_are;
+      holds = is.holds;
+      refused = tt;
+      accepted = is.accepted;
+    }
 
-pub returns-in-Some-clause-means : goal.returns-in-Some-clause-means
-returns-in-Some-clause-means c =
-    npm-sets-admit c.args.options c.args.text.now (c.in-Some.set ∷ []) (returns-in-Some-clause-sets c)
-
-pub returns-in-Some-clause-holds : goal.returns-in-Some-clause-holds
-returns-in-Some-clause-holds c =
-    (one-given c.args.options c.args.text.now c.requires c.merge_piece.new.common c.in-Ok.found c.in-Some.set
-    c.in-Ok.ensures c.if-not-found.false c.in-Some.ensures).holds
-
-pub returns-in-Some-clause-accepted : goal.returns-in-Some-clause-accepted
-returns-in-Some-clause-accepted c =
-    (one-given c.args.options c.args.text.now c.requires c.merge_piece.new.common c.in-Ok.found c.in-Some.set
-    c.in-Ok.ensures c.if-not-found.false c.in-Some.ensures).accepted
-
-pub returns-in-None-clause-sets : goal.returns-in-None-clause-sets
-returns-in-None-clause-sets c =
-    (one-crossed c.args.options c.args.text.now c.requires c.merge_piece.new.common c.in-Ok.found c.no_versions.result
-    c.in-Ok.ensures c.if-not-found.false c.in-None.ensures c.no_versions.ensures).sets_are
-
-pub returns-in-None-clause-means : goal.returns-in-None-clause-means
-returns-in-None-clause-means c =
-    npm-sets-admit c.args.options c.args.text.now (c.no_versions.result ∷ []) (returns-in-None-clause-sets c)
-
-pub returns-in-None-clause-holds : goal.returns-in-None-clause-holds
-returns-in-None-clause-holds c =
-    (one-crossed c.args.options c.args.text.now c.requires c.merge_piece.new.common c.in-Ok.found c.no_versions.result
-    c.in-Ok.ensures c.if-not-found.false c.in-None.ensures c.no_versions.ensures).holds
-
-pub returns-in-None-clause-accepted : goal.returns-in-None-clause-accepted
-returns-in-None-clause-accepted c =
-    (one-crossed c.args.options c.args.text.now c.requires c.merge_piece.new.common c.in-Ok.found c.no_versions.result
-    c.in-Ok.ensures c.if-not-found.false c.in-None.ensures c.no_versions.ensures).accepted
+pub returns-in-None : goal.returns-in-None
+returns-in-None c =
+    let is = one-crossed c.args.options c.args.text.now c.requires c.merge_piece.new.common c.in-Ok.found
+    c.no_versions.result c.in-Ok.ensures c.if-not-found.false c.in-None.ensures c.no_versions.ensures in
+    record {
+      sets = is.sets_are;
+      means = npm-sets-admit c.args.options c.args.text.now (c.no_versions.result ∷ []) is.sets_are;
+      holds = is.holds;
+      refused = tt;
+      accepted = is.accepted;
+    }

@@ -64,56 +64,29 @@ returns-then-not-found-clause-refused c = λ is.
     none-refused c.args.options c.args.text.now (some_seen c.loop-left.left) c.loop-left.sets c.loop-left.found
     c.loop-left.invariant (ap some_seen c.in_default.is) c.if-not-found.true
 
-pub returns-in-Ok-Some-clause-sets : goal.returns-in-Ok-Some-clause-sets
-returns-in-Ok-Some-clause-sets c =
-    (some-gathered c.args.options c.args.text.now (some_seen c.loop-left.left) c.loop-left.sets c.loop-left.found
-    c.in-Ok-Some.field-0 c.in-Ok-Some.sets c.loop-left.invariant (ap some_seen c.in_default.is) c.if-not-found.false
-    c.in-Ok-Some.ensures.sets c.in-Ok-Some.ensures.some c.in-Ok-Some.field-0-is).sets_are
+pub returns-in-Ok-Some : goal.returns-in-Ok-Some
+returns-in-Ok-Some c =
+    let is = some-gathered c.args.options c.args.text.now (some_seen c.loop-left.left) c.loop-left.sets
+    c.loop-left.found c.in-Ok-Some.field-0 c.in-Ok-Some.sets c.loop-left.invariant (ap some_seen c.in_default.is)
+    c.if-not-found.false c.in-Ok-Some.ensures.sets c.in-Ok-Some.ensures.some c.in-Ok-Some.field-0-is in
+    record {
+      sets = is.sets_are;
+      means = npm-sets-admit c.args.options c.args.text.now (sets_seen c.in-Ok-Some.sets) is.sets_are;
+      holds = is.holds;
+      refused = tt;
+      accepted = is.accepted;
+    }
 
-pub returns-in-Ok-Some-clause-means : goal.returns-in-Ok-Some-clause-means
-returns-in-Ok-Some-clause-means c =
-    npm-sets-admit c.args.options c.args.text.now (sets_seen c.in-Ok-Some.sets)
-    (some-gathered c.args.options c.args.text.now (some_seen c.loop-left.left) c.loop-left.sets c.loop-left.found
-    c.in-Ok-Some.field-0 c.in-Ok-Some.sets c.loop-left.invariant (ap some_seen c.in_default.is) c.if-not-found.false
-    c.in-Ok-Some.ensures.sets c.in-Ok-Some.ensures.some c.in-Ok-Some.field-0-is).sets_are
-
-pub returns-in-Ok-Some-clause-holds : goal.returns-in-Ok-Some-clause-holds
-returns-in-Ok-Some-clause-holds c =
-    (some-gathered c.args.options c.args.text.now (some_seen c.loop-left.left) c.loop-left.sets c.loop-left.found
-    c.in-Ok-Some.field-0 c.in-Ok-Some.sets c.loop-left.invariant (ap some_seen c.in_default.is) c.if-not-found.false
-    c.in-Ok-Some.ensures.sets c.in-Ok-Some.ensures.some c.in-Ok-Some.field-0-is).holds
-
-pub returns-in-Ok-Some-clause-accepted : goal.returns-in-Ok-Some-clause-accepted
-returns-in-Ok-Some-clause-accepted c =
-    (some-gathered c.args.options c.args.text.now (some_seen c.loop-left.left) c.loop-left.sets c.loop-left.found
-    c.in-Ok-Some.field-0 c.in-Ok-Some.sets c.loop-left.invariant (ap some_seen c.in_default.is) c.if-not-found.false
-    c.in-Ok-Some.ensures.sets c.in-Ok-Some.ensures.some c.in-Ok-Some.field-0-is).accepted
-
-pub returns-in-Ok-None-clause-sets : goal.returns-in-Ok-None-clause-sets
-returns-in-Ok-None-clause-sets c =
-    (none-gathered c.args.options c.args.text.now (some_seen c.loop-left.left) c.loop-left.sets
+pub returns-in-Ok-None : goal.returns-in-Ok-None
+returns-in-Ok-None c =
+    let is = none-gathered c.args.options c.args.text.now (some_seen c.loop-left.left) c.loop-left.sets
     (c.no_versions.result ∷ []) c.loop-left.found c.in-Ok-None.field-0 c.loop-left.invariant
     (ap some_seen c.in_default.is) c.if-not-found.false c.in-Ok-None.ensures.sets c.in-Ok-None.field-0-is
-    (ap (λ (s : Ends VersionValue). s ∷ []) c.no_versions.ensures)).sets_are
-
-pub returns-in-Ok-None-clause-means : goal.returns-in-Ok-None-clause-means
-returns-in-Ok-None-clause-means c =
-    npm-sets-admit c.args.options c.args.text.now (c.no_versions.result ∷ [])
-    (none-gathered c.args.options c.args.text.now (some_seen c.loop-left.left) c.loop-left.sets
-    (c.no_versions.result ∷ []) c.loop-left.found c.in-Ok-None.field-0 c.loop-left.invariant
-    (ap some_seen c.in_default.is) c.if-not-found.false c.in-Ok-None.ensures.sets c.in-Ok-None.field-0-is
-    (ap (λ (s : Ends VersionValue). s ∷ []) c.no_versions.ensures)).sets_are
-
-pub returns-in-Ok-None-clause-holds : goal.returns-in-Ok-None-clause-holds
-returns-in-Ok-None-clause-holds c =
-    (none-gathered c.args.options c.args.text.now (some_seen c.loop-left.left) c.loop-left.sets
-    (c.no_versions.result ∷ []) c.loop-left.found c.in-Ok-None.field-0 c.loop-left.invariant
-    (ap some_seen c.in_default.is) c.if-not-found.false c.in-Ok-None.ensures.sets c.in-Ok-None.field-0-is
-    (ap (λ (s : Ends VersionValue). s ∷ []) c.no_versions.ensures)).holds
-
-pub returns-in-Ok-None-clause-accepted : goal.returns-in-Ok-None-clause-accepted
-returns-in-Ok-None-clause-accepted c =
-    (none-gathered c.args.options c.args.text.now (some_seen c.loop-left.left) c.loop-left.sets
-    (c.no_versions.result ∷ []) c.loop-left.found c.in-Ok-None.field-0 c.loop-left.invariant
-    (ap some_seen c.in_default.is) c.if-not-found.false c.in-Ok-None.ensures.sets c.in-Ok-None.field-0-is
-    (ap (λ (s : Ends VersionValue). s ∷ []) c.no_versions.ensures)).accepted
+    (ap (λ (s : Ends VersionValue). s ∷ []) c.no_versions.ensures) in
+    record {
+      sets = is.sets_are;
+      means = npm-sets-admit c.args.options c.args.text.now (c.no_versions.result ∷ []) is.sets_are;
+      holds = is.holds;
+      refused = tt;
+      accepted = is.accepted;
+    }

@@ -1,5 +1,4 @@
-use Rattle.semver_versions.specs.Reading.{rest_of}
-use Rattle.npm_sets.specs.WordTexts.{is_solid}
+use native.Mathlib.Omega.{arith}
 use Rattle.npm_sets.proofs.Chunks.ChunkLemmas.{after-shorter, both-shorter, left-solid, no-bytes_told, some-bytes_told, word-one}
 use Rattle.npm_sets.proofs.Chunks.ChunkLemmas.{word-two}
 use Rattle.npm_sets.proofs.Chunks.WordParts.{part-one, part-two}
@@ -15,23 +14,13 @@ returns-then-is_empty-clause-word c =
     c.split_chunk-then-is_empty.ensures.chunk c.split_chunk-then-is_empty.ensures.rest
 
 pub returns-then-is_empty-clause-part : goal.returns-then-is_empty-clause-part
-returns-then-is_empty-clause-part c =
-    let operand = c.split_lead-lead.result.1.now in
-    let none = no-bytes_told operand c.is_empty.result c.is_empty.ensures c.if-is_empty.true in
-    part-two c.args.text.now c.split_chunk.result.0.now c.split_chunk.result.1.now
-    c.split_chunk-then-is_empty.result.0.now c.split_chunk-then-is_empty.result.1.now c.split_lead-lead.result.0 operand
-    c.requires c.split_chunk.ensures.chunk c.split_chunk.ensures.rest c.split_lead-lead.ensures none
-    c.split_chunk-then-is_empty.ensures.chunk c.split_chunk-then-is_empty.ensures.rest
+returns-then-is_empty-clause-part c = grind (arith, no-bytes_told, part-two)
 
 pub returns-then-is_empty-clause-rest : goal.returns-then-is_empty-clause-rest
-returns-then-is_empty-clause-rest c =
-    left-solid (rest_of is_solid c.split_chunk.result.1.now) c.split_chunk-then-is_empty.result.1.now
-    c.split_chunk-then-is_empty.ensures.rest
+returns-then-is_empty-clause-rest c = grind (arith, left-solid)
 
 pub returns-then-is_empty-clause-shorter : goal.returns-then-is_empty-clause-shorter
-returns-then-is_empty-clause-shorter c =
-    both-shorter c.args.text.now c.split_chunk.result.1.now c.split_chunk-then-is_empty.result.1.now c.requires
-    c.split_chunk.ensures.rest c.split_chunk-then-is_empty.ensures.rest
+returns-then-is_empty-clause-shorter c = grind (arith, both-shorter)
 
 pub returns-clause-word : goal.returns-clause-word
 returns-clause-word c =
@@ -41,15 +30,10 @@ returns-clause-word c =
     c.requires c.split_chunk.ensures.chunk c.split_chunk.ensures.rest c.split_lead-lead.ensures some
 
 pub returns-clause-part : goal.returns-clause-part
-returns-clause-part c =
-    part-one c.args.text.now c.split_chunk.result.0.now c.split_chunk.result.1.now
-    (c.split_lead-lead.result.0, c.split_lead-lead.result.1.now) c.requires c.split_chunk.ensures.chunk
-    c.split_chunk.ensures.rest c.split_lead-lead.ensures
+returns-clause-part c = grind (arith, part-one)
 
 pub returns-clause-rest : goal.returns-clause-rest
-returns-clause-rest c =
-    left-solid (rest_of is_solid c.args.text.now) c.split_chunk.result.1.now c.split_chunk.ensures.rest
+returns-clause-rest c = grind (arith, left-solid)
 
 pub returns-clause-shorter : goal.returns-clause-shorter
-returns-clause-shorter c =
-    after-shorter c.args.text.now c.split_chunk.result.1.now c.requires c.split_chunk.ensures.rest
+returns-clause-shorter c = grind (arith, after-shorter)

@@ -37,7 +37,7 @@ use Rattle.std.proofs.alloc.Global.TheLaws as heap_laws
 use Rattle.std.proofs.raw_atomic.Walks.{proved_at, leaves}
 use Rattle.node_semver_c.specs.Handles.{owns_held}
 use Rattle.node_semver_c.proofs.OnePointer.{Handle, type_of, row_of, var}
-use Rattle.node_semver_c.proofs.Values.{both, Loose, loose_good, loose_out}
+use Rattle.node_semver_c.proofs.Values.{both, RawBox, raw_box_good, raw_box_out}
 
 module _ (h : Handle) (R : RattleType) (value : h.D → Option R.Denot) where
   abbrev held : h.D → Fml
@@ -47,7 +47,7 @@ module _ (h : Handle) (R : RattleType) (value : h.D → Option R.Denot) where
   H = row_of h held
 
   abbrev Given : RattleType
-  Given = Loose R heap.the_row heap_laws.the_row_laws ghosts
+  Given = RawBox R heap.the_row heap_laws.the_row_laws ghosts
 
   abbrev function : Fn
   function = record {
@@ -105,14 +105,14 @@ module _ (h : Handle) (R : RattleType) (value : h.D → Option R.Denot) where
         let v = z.0.3.0 in let Post : Val → SProp 𝓤 = (walk_of 𝓛 ended hs clauses).post z in let Run : List Val
         → SProp 𝓤 = λ ws. WpFn 𝓤 𝓛.H 𝓣.C 𝓣.Λ function ws Post in
         qed 𝓛 ((‵ ftrue ⊛ ‵ (owns (types_at ended.signature.params z.0.0) z.0.3 z.0.4)) ∷ raw
-        ((clauses z.0.0 z.0.3).requires z.1) ∷ []) ∵ split ! $ drop ! $ fsplit ! $ loose_out R Z LZ ghosts ! v z.0.4.0
+        ((clauses z.0.0 z.0.3).requires z.1) ∷ []) ∵ split ! $ drop ! $ fsplit ! $ raw_box_out R Z LZ ghosts ! v z.0.4.0
         (λ b o u e ws fits.
         let w : Val = both (vptr b o) u in let out : Val = vstruct (vcons (vptr b o) vnil) in
         let p : Ptr = block_ptr b o in let new : h.D = made p (Some v.value) in
         suffices ! (Run (w ∷ [])) (subst (λ (us : List Val). ent 𝓤 (Run (w ∷ [])) (Run us)) (sym (λ i. ws i ++ []))
         (id⊢ 𝓤 (Run (w ∷ [])))) $
         enter ! 𝓣.C 𝓣.Λ function (w ∷ []) Post $ alloc_all !
-        (λ l. pass_all ! refl (loose_good R Z LZ ghosts b o u fits, tt) $
+        (λ l. pass_all ! refl (raw_box_good R Z LZ ghosts b o u fits, tt) $
         sets ! (of_opd ! (get_in ! (fld ! refl (stop !)) (sub ! 0 refl (whole !)))) refl (tt, tt) $ sets !
         (of_opd ! (get ! refl)) refl (tt, tt) $
         sets ! (agg ! (and_then ! (get ! refl) (no_more !))) refl (tt, (tt, tt)) $ returns !

@@ -1,4 +1,4 @@
--- `into_loose` of any handle that owns its value: it hands the pointer over, with the right to free what lies there; or
+-- `into_raw_box` of any handle that owns its value: it hands the pointer over, with the right to free what lies there; or
 -- nothing, where it is null. `function` is its MIR, and `ended` and `clauses` are its contract, over the handle and the
 -- type R that it owns. Assumes `Logic`.
 use Rattle.std.proofs.Common.{◌≡◌, List, [], ◌∷◌, ◌++◌, refl, sym, ap, ◌∙◌, subst}
@@ -45,7 +45,7 @@ use Rattle.std.proofs.raw_atomic.Walks.{proved_at, leaves}
 use Rattle.node_semver_c.specs.Handles.{owns_held}
 use Rattle.node_semver_c.proofs.Held.{boxed_tested, either_held}
 use Rattle.node_semver_c.proofs.OnePointer.{Handle, row_of, word_is, var}
-use Rattle.node_semver_c.proofs.Values.{Loose, both, al, loose_good, loose_in, some_good}
+use Rattle.node_semver_c.proofs.Values.{RawBox, both, al, raw_box_good, raw_box_in, some_good}
 
 module _ (h : Handle) (R : RattleType) (value : h.D → Option R.Denot) where
   abbrev held : h.D → Fml
@@ -61,7 +61,7 @@ module _ (h : Handle) (R : RattleType) (value : h.D → Option R.Denot) where
   LZ = heap_laws.the_row_laws
 
   abbrev L : RattleType
-  L = Loose R Z LZ ghosts
+  L = RawBox R Z LZ ghosts
 
   abbrev after_test : Body
   after_test = seq (assign (place 3 []) (rv_opd (copy (place 1 (field 0 ∷ [])))))
@@ -102,10 +102,10 @@ module _ (h : Handle) (R : RattleType) (value : h.D → Option R.Denot) where
       ensures = λ _ r _. fact 𝓤 (MatchOption r (value a.0 ≡ None) (λ l. value a.0 ≡ Some l.value));
     }
 
-    pub into_loose_meets : (𝓜 : Model 𝓤 𝓛.H) (𝓡 : Running 𝓤 𝓛.H 𝓜) (k : Callee)
+    pub into_raw_box_meets : (𝓜 : Model 𝓤 𝓛.H) (𝓡 : Running 𝓤 𝓛.H 𝓜) (k : Callee)
         → Closed 𝓤 𝓛.H (tables 𝓤 𝓛.H 𝓜 𝓡 𝓡.env).C (tables 𝓤 𝓛.H 𝓜 𝓡 𝓡.env).Λ k function
         → Meets 𝓛 ended.signature ((tables 𝓤 𝓛.H 𝓜 𝓡 𝓡.env).C k) (closing 𝓛 ended clauses)
-    into_loose_meets 𝓜 𝓡 k unfolded =
+    into_raw_box_meets 𝓜 𝓡 k unfolded =
         let 𝓣 = tables 𝓤 𝓛.H 𝓜 𝓡 𝓡.env in let c = clauses in
         let hs : Stays ended.signature.params ended.kept =
         (stay_dropped (plain (λ _. H)) yes, (stay_dropped (plain (λ _. Z)) yes, tt)) in
@@ -159,11 +159,11 @@ module _ (h : Handle) (R : RattleType) (value : h.D → Option R.Denot) where
         sets ! (of_opd ! (get_in ! (fld ! refl (stop !)) (sub ! 0 refl (whole !)))) refl (tt, tt) $ sets !
         (of_opd ! (get ! refl)) refl (tt, tt) $
         sets ! (agg ! (and_then ! (get ! refl) (and_then ! (get ! refl) (no_more !)))) refl
-        (loose_good R Z LZ ghosts b o u fits) $
+        (raw_box_good R Z LZ ghosts b o u fits) $
         sets ! (agg ! (and_then ! (lit ! tt) (and_then ! (get ! refl) (no_more !)))) refl
         (some_good R Z LZ ghosts b o u fits) $ returns ! (look_at ! 0 refl) $ free_all ! refl $ keep ! (0 ∷ 1 ∷ []) $
         use1 𝓛 (‵ (box_owns (ghosts.dealloc_token a) R (block_ptr b o) x)) (id⊢ 𝓤 _) $
-        loose_in R Z LZ ghosts ! b o u a x $
+        raw_box_in R Z LZ ghosts ! b o u a x $
         let made : L.Denot = record { at = block_ptr b o; alloc = a; value = x } in
         let out : Val = live 1 (of_list (both (vptr b o) u ∷ [])) in
         use1 𝓛 (‵ ((option.the_row L).own_val (Some made) (out ∷ []))) (Some-of 𝓛 L made (both (vptr b o) u)) $

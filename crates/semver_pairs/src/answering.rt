@@ -7,7 +7,7 @@ ghost use Rattle.semver_pairs.specs.Answer.{IsBadRange};
 ghost use Rattle.semver_pairs.specs.GaugeValue.{HasFailed};
 ghost use Rattle.semver_pairs.specs.Pairs.{pairs_read};
 ghost use Rattle.semver_pairs.specs.Private.Answering.{AnswersOne, AnswersOneSome, AnswersPast, AnswersRange};
-ghost use Rattle.semver_pairs.specs.Private.Answering.{AnswersRangeSome, AnswersSome, IsAnswerLine, IsReadAs};
+ghost use Rattle.semver_pairs.specs.Private.Answering.{AnswersRangeSome, AnswersSome, IsAnswerLine, IsReadRange};
 ghost use Rattle.semver_pairs.specs.Private.Answering.{TellsFailure};
 ghost use Rattle.semver_pairs.specs.Private.Splitting.{BeginsWithPair, HasNoNewline};
 ghost use Rattle.semver_sets.specs.Meaning.{RangeAdmits};
@@ -144,7 +144,7 @@ fn answer_versions<'b, W: Write>(
 ) -> Result<&'b [u8], RunError>
     requires one_line { HasNoNewline pair.now.range.now }
     requires range { MatchOption range (IsBadRange (strip_carriage_return pair.now.range.now))
-        (λ r. IsReadAs (strip_carriage_return pair.now.range.now) (RangeAdmits r.now)) }
+        (λ r. IsReadRange (strip_carriage_return pair.now.range.now) (RangeAdmits r.now)) }
     requires ascii { IsTrue pair.now.is_ascii → IsAscii pair.now.version.now × IsAscii pair.now.rest.now }
     requires unfailed { ¬ HasFailed writer.old }
     ensures answers { MatchResult result
@@ -185,7 +185,7 @@ fn next_version<'b>(bytes: &'b [u8], range: &[u8]) -> Option<(&'b [u8], &'b [u8]
 fn answer_of(range: Option<&Range>, version: &[u8], is_ascii: bool) -> &'static str
     requires { IsTrue is_ascii → IsAscii version.now }
     ensures answer { (line : List ℕ)
-        → MatchOption range.entry (IsBadRange line) (λ r. IsReadAs line (RangeAdmits r.now))
+        → MatchOption range.entry (IsBadRange line) (λ r. IsReadRange line (RangeAdmits r.now))
         → IsAnswerLine line version.now result.now }
     ensures short { length result.now ≤ 4096 }
 {

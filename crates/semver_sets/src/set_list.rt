@@ -13,13 +13,13 @@ ghost use Rattle.semver_sets.specs.Searching.{IsShortSearch, IsShortSearchInside
 
 pub(crate) mod copy;
 pub mod gathered;
+pub mod indexed;
 mod opened;
-pub mod searched;
 mod union;
 
 use crate::Counts;
 use crate::set::{admits, has_inside};
-use crate::set_list::searched::Searched;
+use crate::set_list::indexed::IndexedSets;
 use semver_cuts::Span;
 use semver_cuts::algebra::MergedSpans;
 use semver_versions::AsVersion;
@@ -33,7 +33,7 @@ pub enum Sets {
     /// One set.
     One(Span<EndVersion>),
     /// A list of sets.
-    Many(Searched),
+    Many(IndexedSets),
 }
 
 impl Sets {

@@ -4,7 +4,7 @@ ghost use Rattle.semver_cuts.specs.Ends.{Ends};
 ghost use Rattle.semver_versions.specs.Version.{VersionValue};
 
 use super::Opaque;
-use crate::loose::Loose;
+use crate::raw_box::RawBox;
 use node_semver::Range;
 use std::alloc::{AllocError, Global};
 use std::marker::Model;
@@ -29,32 +29,32 @@ impl RangeHandle {
         ensures { IfOk result (λ h. h.value ≡ Some range) }
     {
         let range = Box::new(alloc, range)?;
-        Ok(RangeHandle::of(Loose::of(range)))
+        Ok(RangeHandle::of(RawBox::of(range)))
     }
 
-    fn of(range: Loose<Range, Global>) -> RangeHandle
+    fn of(range: RawBox<Range, Global>) -> RangeHandle
         ensures { result.value ≡ Some range.value }
     {
-        let Loose { at, alloc: _ } = range;
+        let RawBox { at, alloc: _ } = range;
         RangeHandle {
             at: at as *mut Opaque,
         }
     }
 
     pub(crate) fn free(self, alloc: Global) {
-        if let Some(held) = self.into_loose(alloc) {
+        if let Some(held) = self.into_raw_box(alloc) {
             drop(held.into_box());
         }
     }
 
-    fn into_loose(self, alloc: Global) -> Option<Loose<Range, Global>>
+    fn into_raw_box(self, alloc: Global) -> Option<RawBox<Range, Global>>
         ensures { MatchOption result (self.value ≡ None) (λ l. self.value ≡ Some l.value) }
     {
         if self.at.is_null() {
             return None;
         }
         let RangeHandle { at } = self;
-        Some(Loose {
+        Some(RawBox {
             at: at as *mut Range,
             alloc,
         })

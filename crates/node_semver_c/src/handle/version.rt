@@ -3,7 +3,7 @@ ghost use Rattle.std.specs.Prelude.{◌≡◌, ℕ, IfOk, MatchOption, Option, S
 ghost use Rattle.semver_versions.specs.Version.{VersionValue};
 
 use super::Opaque;
-use crate::loose::Loose;
+use crate::raw_box::RawBox;
 use node_semver::Version;
 use std::alloc::{AllocError, Global};
 use std::marker::Model;
@@ -28,32 +28,32 @@ impl VersionHandle {
         ensures { IfOk result (λ h. h.value ≡ Some version) }
     {
         let version = Box::new(alloc, version)?;
-        Ok(VersionHandle::of(Loose::of(version)))
+        Ok(VersionHandle::of(RawBox::of(version)))
     }
 
-    fn of(version: Loose<Version, Global>) -> VersionHandle
+    fn of(version: RawBox<Version, Global>) -> VersionHandle
         ensures { result.value ≡ Some version.value }
     {
-        let Loose { at, alloc: _ } = version;
+        let RawBox { at, alloc: _ } = version;
         VersionHandle {
             at: at as *mut Opaque,
         }
     }
 
     pub(crate) fn free(self, alloc: Global) {
-        if let Some(held) = self.into_loose(alloc) {
+        if let Some(held) = self.into_raw_box(alloc) {
             drop(held.into_box());
         }
     }
 
-    fn into_loose(self, alloc: Global) -> Option<Loose<Version, Global>>
+    fn into_raw_box(self, alloc: Global) -> Option<RawBox<Version, Global>>
         ensures { MatchOption result (self.value ≡ None) (λ l. self.value ≡ Some l.value) }
     {
         if self.at.is_null() {
             return None;
         }
         let VersionHandle { at } = self;
-        Some(Loose {
+        Some(RawBox {
             at: at as *mut Version,
             alloc,
         })

@@ -12,8 +12,8 @@ use Rattle.semver_versions.specs.Version.{VersionValue}
 use Rattle.semver_versions.specs.ErrorLocation.{newline}
 
 -- the range line is a good one, and exactly the versions that its text admits are admitted
-abbrev pub IsReadAs : (line : List ℕ) → (Admits : VersionValue → Type 0) → Type 0
-IsReadAs line Admits = IsGoodRange line × ((v : VersionValue) → Admits v ↔ TextAdmits line v)
+abbrev pub IsReadRange : (line : List ℕ) → (Admits : VersionValue → Type 0) → Type 0
+IsReadRange line Admits = IsGoodRange line × ((v : VersionValue) → Admits v ↔ TextAdmits line v)
 
 -- the line is an answer for a range line and a version line, and a newline byte
 abbrev pub IsAnswerLine : (range version line : List ℕ) → Type 0

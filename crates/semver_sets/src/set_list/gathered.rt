@@ -7,7 +7,7 @@ ghost use Rattle.semver_versions.specs.Version.{VersionValue};
 
 use crate::set_list::Sets;
 use crate::set_list::copy::copy_of;
-use crate::set_list::searched::Searched;
+use crate::set_list::indexed::IndexedSets;
 use semver_cuts::algebra::Gather;
 use semver_cuts::{Cut, Span};
 use semver_versions::end::EndVersion;
@@ -96,7 +96,7 @@ impl Gathered {
         match one {
             Some(set) => Ok(Some(Sets::One(set))),
             None if several.is_empty() => Ok(None),
-            None => Ok(Some(Sets::Many(Searched::of(*several.allocator(), several)?))),
+            None => Ok(Some(Sets::Many(IndexedSets::of(*several.allocator(), several)?))),
         }
     }
 }

@@ -4,7 +4,7 @@ ghost use Rattle.semver_sets.specs.RangeSets.{sets_seen};
 
 use crate::set_list::Sets;
 use crate::set_list::copy::push_copies;
-use crate::set_list::searched::Searched;
+use crate::set_list::indexed::IndexedSets;
 use std::alloc::{AllocError, Global};
 
 impl Sets {
@@ -24,6 +24,6 @@ impl Sets {
         let mut sets = Vec::with_capacity(alloc, ones.len() + others.len())?;
         push_copies(&mut sets, ones)?;
         push_copies(&mut sets, others)?;
-        Ok(Sets::Many(Searched::of(alloc, sets)?))
+        Ok(Sets::Many(IndexedSets::of(alloc, sets)?))
     }
 }

@@ -12,7 +12,7 @@ use Rattle.semver_versions.specs.Version.{IsPrerelease, VersionValue}
 use Rattle.semver_sets.specs.Private.SearchViews.{is_opening_of, places_opening}
 use Rattle.semver_sets.specs.declared.set_list.opened.Opening.{Opening}
 use Rattle.semver_sets.proofs.Sets.Openings.{found-admits, found-count, found-within, release-admits}
-use Rattle.semver_sets.proofs.set_list.searched.Searched.admits.Goals as goal
+use Rattle.semver_sets.proofs.set_list.indexed.IndexedSets.admits.Goals as goal
 
 pub returns-then-not-is_prerelease-clause-answer : goal.returns-then-not-is_prerelease-clause-answer
 returns-then-not-is_prerelease-clause-answer g c =
@@ -43,7 +43,7 @@ pub is_in_opened-requires : goal.is_in_opened-requires
 is_in_opened-requires g c =
     let v = g.V.AsVersion.seen c.args.version.now in
     let many : 4 < length c.self.inside.sets.items =
-    omega (arith, c.deref-3.ensures.len, ap length c.deref-3.ensures.value, c.len.ensures, c.if-len-le-FEW.false) in
+    omega (arith, c.deref-3.ensures.len, ap length c.deref-3.ensures.value, c.len.ensures, c.if-len-le-FEW_SETS.false) in
     let found : c.openings_at-openings.result.now ≡ filter
     (is_opening_of v) c.self.inside.openings.items = search rules in
     let places : map (λ (o : Opening). o.place) c.openings_at-openings.result.now ≡ places_opening v 0 c.args.self.now =
@@ -58,7 +58,7 @@ pub returns-clause-answer : goal.returns-clause-answer
 returns-clause-answer g c =
     let v = g.V.AsVersion.seen c.args.version.now in
     let many : 4 < length c.self.inside.sets.items =
-    omega (arith, c.deref-3.ensures.len, ap length c.deref-3.ensures.value, c.len.ensures, c.if-len-le-FEW.false) in
+    omega (arith, c.deref-3.ensures.len, ap length c.deref-3.ensures.value, c.len.ensures, c.if-len-le-FEW_SETS.false) in
     let found = c.openings_at-openings.result.now in
     let filtered : found ≡ filter (is_opening_of v) c.self.inside.openings.items = search rules in
     let places : map (λ (o : Opening). o.place) found ≡ places_opening v 0 c.args.self.now =
@@ -74,7 +74,7 @@ pub returns-clause-short : goal.returns-clause-short
 returns-clause-short g c =
     let v = g.V.AsVersion.seen c.args.version.now in
     let many : 4 < length c.self.inside.sets.items =
-    omega (arith, c.deref-3.ensures.len, ap length c.deref-3.ensures.value, c.len.ensures, c.if-len-le-FEW.false) in
+    omega (arith, c.deref-3.ensures.len, ap length c.deref-3.ensures.value, c.len.ensures, c.if-len-le-FEW_SETS.false) in
     let found = c.openings_at-openings.result.now in
     let filtered : found ≡ filter (is_opening_of v) c.self.inside.openings.items = search rules in
     let places : map (λ (o : Opening). o.place) found ≡ places_opening v 0 c.args.self.now =

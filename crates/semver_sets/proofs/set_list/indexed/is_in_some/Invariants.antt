@@ -4,7 +4,7 @@ use Rattle.semver_cuts.specs.declared.cut.Cut.TheVariants.{Before}
 use Rattle.semver_cuts.specs.Ends.{IsCutAtMost, IsCutBelow}
 use Rattle.semver_versions.specs.Comparison.{version_cmp}
 use Rattle.semver_sets.proofs.Sets.Searching.{IsLeft}
-use Rattle.semver_sets.proofs.set_list.searched.is_in_some.Given as goal
+use Rattle.semver_sets.proofs.set_list.indexed.is_in_some.Given as goal
 
 abbrev pub invariant-loop-low : goal.invariant-loop-low
 invariant-loop-low g l = record {

@@ -5,7 +5,7 @@ use Rattle.std.proofs.lemmas.List.{take_all}
 use Rattle.semver_cuts.specs.Lemmas.Lists.{any-at, none-more}
 use Rattle.semver_sets.specs.Meaning.{SetAdmits}
 use Rattle.semver_sets.proofs.Sets.FewSets.{first-count, more-comparisons}
-use Rattle.semver_sets.proofs.set_list.searched.is_in_few.Goals as goal
+use Rattle.semver_sets.proofs.set_list.indexed.is_in_few.Goals as goal
 
 pub returns-then-admits_opened-clause-answer : goal.returns-then-admits_opened-clause-answer
 returns-then-admits_opened-clause-answer g c = grind (arith, any-at)

@@ -2,7 +2,7 @@
 use Rattle.std.proofs.Common.{◌+◌, ◌*◌, ◌≤◌, take}
 use Rattle.semver_sets.specs.Meaning.{RangeAdmits}
 use Rattle.semver_sets.specs.Searching.{count_of_opening}
-use Rattle.semver_sets.proofs.set_list.searched.is_in_few.Given as goal
+use Rattle.semver_sets.proofs.set_list.indexed.is_in_few.Given as goal
 
 abbrev pub invariant-sets : goal.invariant-sets
 invariant-sets g l = record {

@@ -25,7 +25,7 @@ use std::alloc::{AllocError, Global};
 use std::marker::Model;
 
 // The greatest number of sets that have no list of openings: a prerelease is then looked for in each of them.
-const FEW: usize = 4;
+const FEW_SETS: usize = 4;
 
 /// A list of sets, with an index to find a version in it. The index has two parts: the merged spans of the sets, as
 /// places in the list, and for each triple of which a prerelease is at an end, the sets that have such an end. The
@@ -33,42 +33,42 @@ const FEW: usize = 4;
 ///
 /// A contract sees the list alone.
 #[derive(Debug, Drop)]
-pub struct Searched {
+pub struct IndexedSets {
     sets: Vec<Span<EndVersion>>,
     places: Places,
     openings: Vec<Opening>,
 }
 
-impl Model for Searched {
+impl Model for IndexedSets {
     ghost use Rattle.std.specs.Prelude.{◌<◌, List, length};
     ghost use Rattle.semver_cuts.specs.Ends.{Ends};
     ghost use Rattle.semver_cuts.specs.Places.{IsPlacesOf};
     ghost use Rattle.semver_versions.specs.Comparison.{version_cmp};
     ghost use Rattle.semver_sets.specs.Private.SearchViews.{AreOpeningsOf};
     ghost use Rattle.semver_versions.specs.Version.{VersionValue};
-    ghost use Rattle.semver_sets.specs.declared.set_list.searched.TheConstants.{FEW};
+    ghost use Rattle.semver_sets.specs.declared.set_list.indexed.TheConstants.{FEW_SETS};
 
     ghost Value = { List (Ends VersionValue) };
 
     ghost view = { λ s. s.sets.items };
 
     ghost invariant = { λ s. IsPlacesOf version_cmp s.sets.items s.places
-        × (FEW < length s.sets.items → AreOpeningsOf s.sets.items s.openings.items) };
+        × (FEW_SETS < length s.sets.items → AreOpeningsOf s.sets.items s.openings.items) };
 }
 
-impl Searched {
+impl IndexedSets {
     // The list with its index. The index has no places if the sets ascend and do not touch, and no triples for up to
     // four sets, or if no end is a prerelease.
-    pub(crate) fn of(alloc: Global, sets: Vec<Span<EndVersion>>) -> Result<Searched, AllocError>
-        ensures { IfOk result (λ searched. searched ≡ sets.items) }
+    pub(crate) fn of(alloc: Global, sets: Vec<Span<EndVersion>>) -> Result<IndexedSets, AllocError>
+        ensures { IfOk result (λ indexed. indexed ≡ sets.items) }
     {
         let places = Places::of(alloc, &sets)?;
-        let openings = if sets.len() <= FEW {
+        let openings = if sets.len() <= FEW_SETS {
             Vec::new(alloc)
         } else {
             openings(alloc, &sets)?
         };
-        Ok(Searched {
+        Ok(IndexedSets {
             sets,
             places,
             openings,
@@ -92,13 +92,13 @@ impl Searched {
     }
 
     // A copy of the list and its index.
-    pub(crate) fn copy(&self) -> Result<Searched, AllocError>
+    pub(crate) fn copy(&self) -> Result<IndexedSets, AllocError>
         ensures { IfOk result (λ copy. copy ≡ self.now) }
     {
         let sets = copies_of(&self.sets)?;
         let places = self.places.clone()?;
         let openings = Vec::from_slice(*self.openings.allocator(), &self.openings)?;
-        Ok(Searched {
+        Ok(IndexedSets {
             sets,
             places,
             openings,
@@ -116,7 +116,7 @@ impl Searched {
         if !version.is_prerelease() {
             return is_in_some(&self.merged(), version, comparisons);
         }
-        if self.sets.len() <= FEW {
+        if self.sets.len() <= FEW_SETS {
             return is_in_few(&self.sets, version, comparisons);
         }
         let openings = openings_at(&self.openings, version.triple());

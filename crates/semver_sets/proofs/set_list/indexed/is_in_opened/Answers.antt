@@ -4,7 +4,7 @@ use Rattle.semver_cuts.specs.Places.{span_at}
 use Rattle.semver_sets.specs.Meaning.{AnyByRecursion, IsInside}
 use Rattle.semver_sets.specs.declared.set_list.opened.Opening.{Opening}
 use Rattle.semver_sets.proofs.Sets.Openings.{opening-inside, opening-outside}
-use Rattle.semver_sets.proofs.set_list.searched.is_in_opened.Goals as goal
+use Rattle.semver_sets.proofs.set_list.indexed.is_in_opened.Goals as goal
 
 pub returns-then-has_inside-clause-inside : goal.returns-then-has_inside-clause-inside
 returns-then-has_inside-clause-inside g c = (

@@ -8,7 +8,7 @@ use Rattle.semver_versions.specs.Comparison.{version_cmp}
 use Rattle.semver_versions.specs.Lemmas.Public.{version_total}
 use Rattle.semver_sets.proofs.Sets.Searching.{IsLeft, begun_above, begun_below, begun_last, last_begun, left-first}
 use Rattle.semver_sets.proofs.Sets.Searching.{left-step, none-begun, not-begun}
-use Rattle.semver_sets.proofs.set_list.searched.is_in_some.Goals as goal
+use Rattle.semver_sets.proofs.set_list.indexed.is_in_some.Goals as goal
 
 pub loop-low-init : goal.loop-low-init
 loop-low-init g c = grind (arith, drop_all, left-first)

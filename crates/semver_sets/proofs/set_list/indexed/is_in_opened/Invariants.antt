@@ -1,7 +1,7 @@
 use Rattle.std.proofs.Common.{◌+◌, ◌*◌, ◌≤◌, take}
 use Rattle.semver_cuts.specs.Places.{span_at}
 use Rattle.semver_sets.specs.Meaning.{AnyByRecursion, IsInside}
-use Rattle.semver_sets.proofs.set_list.searched.is_in_opened.Given as goal
+use Rattle.semver_sets.proofs.set_list.indexed.is_in_opened.Given as goal
 
 abbrev pub invariant-openings : goal.invariant-openings
 invariant-openings g l = record {

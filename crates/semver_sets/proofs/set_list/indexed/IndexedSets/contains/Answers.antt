@@ -6,7 +6,7 @@ use Rattle.semver_versions.specs.Comparison.{version_cmp}
 use Rattle.semver_sets.specs.Searching.{HasDigits}
 use Rattle.semver_versions.specs.Version.{VersionValue}
 use Rattle.semver_sets.proofs.Sets.Inside.{inside-contains}
-use Rattle.semver_sets.proofs.set_list.searched.Searched.contains.Goals as goal
+use Rattle.semver_sets.proofs.set_list.indexed.IndexedSets.contains.Goals as goal
 
 pub returns-clause-answer : goal.returns-clause-answer
 returns-clause-answer g c = grind (arith, inside-contains)

@@ -1,5 +1,6 @@
 -- What contracts say about errors and faults of version texts: defined in `semver_versions`, and handed on.
-pub use Rattle.semver_versions.specs.Error.{Kind, context, incomplete, max_int, max_length, no_valid_ranges, other, out_of_memory, parse_int}
+pub use Rattle.semver_versions.specs.Error.{Kind, context, incomplete, max_int, max_length, no_valid_ranges, other}
+pub use Rattle.semver_versions.specs.Error.{out_of_memory, parse_int}
 pub use Rattle.semver_versions.specs.Error.{kind_of, Refusal, refusal_of, IsRefusalAt, IsOutOfMemory, IsReadAs}
 pub use Rattle.semver_versions.specs.Fault.{IsFault, IsFaultOf}
 pub use Rattle.semver_versions.specs.StrictVersionText.{IsStrictFault, IsStrictFaultOf}

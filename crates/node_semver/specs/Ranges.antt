@@ -1,6 +1,8 @@
 -- What contracts say about range texts and their sets: defined in `semver_sets`, and handed on.
-pub use Rattle.semver_sets.specs.Comparator.{Comparator, at_least, above, at_most, below, exactly, from_up_to, with_major, with_minor}
-pub use Rattle.semver_sets.specs.Meaning.{Admit, AnyByRecursion, GiveSet, HasOpenEnd, IsInside, IsRefused, Opens, RangeAdmits, RangeContains, SetAdmits, TextAdmits}
+pub use Rattle.semver_sets.specs.Comparator.{Comparator, at_least, above, at_most, below, exactly, from_up_to}
+pub use Rattle.semver_sets.specs.Comparator.{with_major, with_minor}
+pub use Rattle.semver_sets.specs.Meaning.{Admit, AnyByRecursion, GiveSet, HasOpenEnd, IsInside, IsRefused, Opens}
+pub use Rattle.semver_sets.specs.Meaning.{RangeAdmits, RangeContains, SetAdmits, TextAdmits}
 pub use Rattle.semver_sets.specs.Merging.{AreSetsOfText, all_cuts}
 pub use Rattle.semver_sets.specs.RangeEquality.{AreSameCuts, are_same_cuts}
 pub use Rattle.semver_sets.specs.RangePrint.{range_text}

@@ -1,6 +1,7 @@
 -- What contracts say about versions. It is defined in `semver_versions` and handed on here, so a caller lists
 -- `node_semver` alone.
-pub use Rattle.semver_versions.specs.Version.{VersionValue, IsPrerelease, IsPlain, HasSameTriple, release, with_pre_release, least_of, without_build}
+pub use Rattle.semver_versions.specs.Version.{VersionValue, IsPrerelease, IsPlain, HasSameTriple, release}
+pub use Rattle.semver_versions.specs.Version.{with_pre_release, least_of, without_build}
 pub use Rattle.semver_versions.specs.VersionText.{IsVersionText}
 pub use Rattle.semver_versions.specs.StrictVersionText.{IsStrictVersionText, IsStrictlyWritten}
 pub use Rattle.semver_versions.specs.VersionFault.{IsBorrowedAs}

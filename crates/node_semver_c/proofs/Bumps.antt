@@ -96,7 +96,8 @@ bumped-by bump text base v w identifier given asked =
     subst (λ (b : Bump). IsBumped b identifier base v w) (same_bump asked.by bump asked.code)
     (subst (λ (i : Option IdentifierValue). IsBumped asked.by i base v w)
     (same_identifier text asked.identifier identifier asked.given given)
-    (subst (λ (b : IdentifierBase). IsBumped asked.by asked.identifier b v w) (same_base asked.start base asked.start_code)
+    (subst (λ (b : IdentifierBase). IsBumped asked.by asked.identifier b v w)
+    (same_base asked.start base asked.start_code)
     asked.bumped))
 
 -- the bump of a known identifier, base and bump is the one that was asked for

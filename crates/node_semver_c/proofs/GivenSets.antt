@@ -1,5 +1,6 @@
 -- Sets that C gives: what is given stands for one list of sets at most, and a loop that reads them keeps that list.
-use Rattle.std.proofs.Common.{◌≡◌, ◌↔◌, zero, suc, ◌+◌, ◌<◌, ◌∙◌, ℕ, List, [], ◌∷◌, ◌++◌, Option, Some, None, length, get_or}
+use Rattle.std.proofs.Common.{◌≡◌, ◌↔◌, zero, suc, ◌+◌, ◌<◌, ◌∙◌, ℕ, List, [], ◌∷◌, ◌++◌, Option, Some, None, length}
+use Rattle.std.proofs.Common.{get_or}
 use Rattle.std.proofs.Common.{take, refl, sym, ap, subst, inl, inr, arith}
 use Rattle.std.proofs.lemmas.List.{take_more}
 use Rattle.std.specs.Prelude.{IfSome, IsSome, MatchOption}

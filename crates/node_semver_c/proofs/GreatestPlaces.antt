@@ -17,7 +17,8 @@ module _ (order : Order) (is : IsOrder order) (Wanted : VersionValue → Type 0)
       → length done ≡ place → IsBestAtOrNone order Wanted done best → IsBetterAt order Wanted best place v found
       → IsBestAtOrNone order Wanted (done ++ v ∷ []) found
   more-place done place v None found at none (inl (after, admits, taken)) =
-      subst (IsBestAtOrNone order Wanted (done ++ v ∷ [])) (sym taken) (take-first order is Wanted done v none admits, at)
+      subst (IsBestAtOrNone order Wanted (done ++ v ∷ [])) (sym taken)
+      (take-first order is Wanted done v none admits, at)
   more-place done place v None found at none (inr (not, kept)) =
       subst (IsBestAtOrNone order Wanted (done ++ v ∷ [])) (sym kept)
       (all-append (λ (w : VersionValue). ¬ Wanted w) done (v ∷ []) none

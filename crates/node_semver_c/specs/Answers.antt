@@ -1,6 +1,7 @@
 -- What the exports return, by the clauses of the calls of `node_semver` that they make.
 use Rattle.std.specs.Prelude.{◌≡◌, ◌⊎◌, ◌↔◌, ◌++◌, ℕ, Bool, List, []}
-use Rattle.std.specs.Prelude.{Option, Some, None, IfErr, IfNone, IfOk, IfSome, IsNone, IsOk, IsSome, Result, MatchResult}
+use Rattle.std.specs.Prelude.{Option, Some, None, IfErr, IfNone, IfOk, IfSome, IsNone, IsOk, IsSome, Result}
+use Rattle.std.specs.Prelude.{MatchResult}
 use Rattle.node_semver_c.specs.declared.status.Fault.{Fault}
 use Rattle.node_semver_c.specs.declared.status.TheConstants.{OK, NONE, OUT_OF_MEMORY}
 use Rattle.node_semver_c.specs.Status.{IsKept, IsRefusalReported}

@@ -58,7 +58,8 @@ status_of OutOfMemory = OUT_OF_MEMORY
 abbrev pub IsRefusal : ℕ → Type 0
 IsRefusal status = (status ≡ NO_IDENTIFIER) ⊎ (status ≡ SAME_IDENTIFIER) ⊎ (status ≡ NUMBER_TOO_LARGE)
 
--- The handle has the bumped version. Or it is empty: there is no such version, and the status says why; a code is unknown;
+-- The handle has the bumped version. Or it is empty: there is no such version, and the status says why; a code is
+-- unknown;
 -- the text is no identifier; or an allocation failed.
 pub data IsBumpReported (bump : ℕ) (text : List ℕ) (base : ℕ) (v : VersionValue) (status : ℕ)
     (held : Option VersionValue) : Type 0 where

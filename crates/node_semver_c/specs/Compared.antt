@@ -8,7 +8,8 @@ use Rattle.semver_sets.specs.RangeHash.{range_writes}
 use Rattle.semver_versions.specs.Hash.{version_writes}
 use Rattle.semver_versions.specs.Version.{VersionValue}
 use Rattle.semver_versions.specs.declared.version.bump.Bump.{Bump}
-use Rattle.semver_versions.specs.declared.version.bump.Bump.TheVariants.{Major, PreMajor, Minor, PreMinor, Patch, PrePatch}
+use Rattle.semver_versions.specs.declared.version.bump.Bump.TheVariants.{Major, PreMajor, Minor, PreMinor, Patch}
+use Rattle.semver_versions.specs.declared.version.bump.Bump.TheVariants.{PrePatch}
 use Rattle.semver_versions.specs.declared.version.bump.Bump.TheVariants.{PreRelease, Pre}
 
 -- -1, 0 or 1

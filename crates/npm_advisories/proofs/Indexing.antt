@@ -1,5 +1,6 @@
 -- What an index has at each name.
-use Rattle.std.proofs.Common.{◌≡◌, ◌∙◌, ◌++◌, ℕ, List, [], ◌∷◌, Bool, true, false, cond, Option, Some, None, ap, bytes_eq, refl, sym, subst}
+use Rattle.std.proofs.Common.{◌≡◌, ◌∙◌, ◌++◌, ℕ, List, [], ◌∷◌, Bool, true, false, cond, Option, Some, None, ap}
+use Rattle.std.proofs.Common.{bytes_eq, refl, sym, subst}
 use Rattle.std.proofs.lemmas.List.{append-nil, append_assoc}
 use Rattle.std.proofs.lemmas.List.Elements.{filter-append}
 use Rattle.std.specs.List.{AllZip}
@@ -36,7 +37,8 @@ adds-both a b c first second one other = record {
   read = zip-append IsAdvisory first second one.added other.added one.read other.read;
   now = λ name. other.now name ∙ ap (λ l. l ++ named name other.added) (one.now name)
       ∙ append_assoc (at_name a name) (named name one.added) (named name other.added)
-      ∙ ap (λ l. at_name a name ++ l) (sym (filter-append (λ advisory. bytes_eq advisory.name.now name) one.added other.added));
+      ∙ ap (λ l. at_name a name ++ l) (sym (filter-append (λ advisory. bytes_eq advisory.name.now name) one.added
+      other.added));
 }
 
 -- what was added to an empty index is all that it has

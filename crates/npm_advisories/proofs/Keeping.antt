@@ -1,5 +1,6 @@
 -- Elements that are kept, one after another, and advisories that were read in place of those of a file.
-use Rattle.std.proofs.Common.{◌≡◌, ◌↔◌, ◌++◌, ◌<◌, ◌+◌, ℕ, List, [], ◌∷◌, ap, get_or, inl, inr, length, map, sym, subst, take, true}
+use Rattle.std.proofs.Common.{◌≡◌, ◌↔◌, ◌++◌, ◌<◌, ◌+◌, ℕ, List, [], ◌∷◌, ap, get_or, inl, inr, length, map, sym, subst}
+use Rattle.std.proofs.Common.{take, true}
 use Rattle.std.proofs.lemmas.List.{map-append, take_more}
 use Rattle.std.specs.List.{AllZip}
 use Rattle.node_semver.specs.Versions.{VersionValue}
@@ -17,7 +18,8 @@ module _ {A B : Type 0} (Holds : A → Type 0) (seen : A → B) (x : A) where
   one-kept : (xs : List A) (ys : List B) → AreKept Holds seen xs ys → Holds x
       → AreKept Holds seen (xs ++ x ∷ []) (ys ++ seen x ∷ [])
   one-kept _ _ none holds = kept x [] [] holds none
-  one-kept _ _ (kept a xs ys here more) holds = kept a (xs ++ x ∷ []) (ys ++ seen x ∷ []) here (one-kept xs ys more holds)
+  one-kept _ _ (kept a xs ys here more) holds = kept a (xs ++ x ∷ []) (ys ++ seen x ∷ []) here
+      (one-kept xs ys more holds)
   one-kept _ _ (left a xs ys not more) holds = left a (xs ++ x ∷ []) (ys ++ seen x ∷ []) not (one-kept xs ys more holds)
 
   one-left : (xs : List A) (ys : List B) → AreKept Holds seen xs ys → ¬ Holds x → AreKept Holds seen (xs ++ x ∷ []) ys
@@ -69,7 +71,8 @@ module _ (level : Severity) (v : VersionValue) where
       subst (λ about. AreHits level v (value ∷ values) (about ∷ hits)) (sym are.0.about)
       (kept value values hits ((hit-same value one are.0).0 here) (hits-same values advisories hits are.1 more))
   hits-same (value ∷ values) _ _ are (left one advisories hits not more) =
-      left value values hits (λ hit. not ((hit-same value one are.0).1 hit)) (hits-same values advisories hits are.1 more)
+      left value values hits (λ hit. not ((hit-same value one are.0).1 hit))
+      (hits-same values advisories hits are.1 more)
 
 -- one of the advisories is about a version, as one of those of the file is
 pub affected-same : (values : List AdvisoryValue) (advisories : List Advisory) (v : VersionValue)

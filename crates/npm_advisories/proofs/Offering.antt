@@ -1,5 +1,6 @@
 -- The versions that are offered, by the spans of those that are not.
-use Rattle.std.proofs.Common.{◌≡◌, ◌↔◌, ◌<◌, ◌+◌, ◌≤◌, ℕ, List, [], ◌∷◌, ◌++◌, None, arith, get_or, inl, inr, length, map, refl, suc, sym, take, zero}
+use Rattle.std.proofs.Common.{◌≡◌, ◌↔◌, ◌<◌, ◌+◌, ◌≤◌, ℕ, List, [], ◌∷◌, ◌++◌, None, arith, get_or, inl, inr, length}
+use Rattle.std.proofs.Common.{map, refl, suc, sym, take, zero}
 use Rattle.std.proofs.Common.{subst}
 use Rattle.std.proofs.lemmas.List.{map-append, take_all, take_more}
 use Rattle.std.specs.List.{AllByRecursion}

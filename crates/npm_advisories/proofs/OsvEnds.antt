@@ -52,7 +52,8 @@ module _ (from end : Cut VersionValue) (front : List Mark) (next : IsNextEnd fro
     cut = holds;
   } where
     inr-at : (other : Cut VersionValue) → Ended cut ≡ Ended other → IsCutAtMost version_cmp cut other
-    inr-at other is = let e : cut ≡ other = cc is in subst (IsCutAtMost version_cmp cut) e (at_most_refl version_total cut)
+    inr-at other is = let e : cut ≡ other = cc is in subst (IsCutAtMost version_cmp cut) e
+        (at_most_refl version_total cut)
 
 -- ---- the span from a cut to the next end
 

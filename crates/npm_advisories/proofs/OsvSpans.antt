@@ -1,5 +1,6 @@
 -- Spans of the versions that an element of `affected` is about.
-use Rattle.std.proofs.Common.{◌≡◌, ◌↔◌, ◌∙◌, ◌++◌, ◌∷◌, [], ℕ, List, Option, Some, None, IfSome, IsNone, IsSome, inl, inr, refl, subst, sym}
+use Rattle.std.proofs.Common.{◌≡◌, ◌↔◌, ◌∙◌, ◌++◌, ◌∷◌, [], ℕ, List, Option, Some, None, IfSome, IsNone, IsSome, inl}
+use Rattle.std.proofs.Common.{inr, refl, subst, sym}
 use Rattle.std.specs.Prelude.{◌⊎◌}
 use Rattle.semver_cuts.specs.Ends.{Ends, IsCutBelow, span_between}
 use Rattle.semver_cuts.specs.Lemmas.Lists.{all-append, any-either, any-left, any-right}
@@ -56,7 +57,8 @@ module _ {X : Type 0} (P : X → VersionValue → Type 0) where
           | inr there ↦ any-right (λ x. P x v) front part there
         ],
         λ some. any-either (λ x. P x v) front part some,
-      )) (have-either (λ v. AnyByRecursion (λ x. P x v) front) (λ v. AnyByRecursion (λ x. P x v) part) old more had has))
+      )) (have-either (λ v. AnyByRecursion (λ x. P x v) front) (λ v. AnyByRecursion (λ x. P x v) part) old more had
+      has))
 
 -- the range of such spans; none if there is no span
 pub range-of : (affected : Affected) (spans : List (Ends VersionValue)) (answer : Option (List (Ends VersionValue)))
@@ -111,7 +113,8 @@ have-version text w is = record {
       | inr none ↦ absurd none
     ],
     λ some. elim some [
-      | inl here ↦ inl (same-inside w v (subst (λ x. IsSame x v) (one_reading text here.listed w here.read is) here.same))
+      | inl here ↦ inl (same-inside w v (subst (λ x. IsSame x v) (one_reading text here.listed w here.read is)
+          here.same))
       | inr none ↦ absurd none
     ],
   );

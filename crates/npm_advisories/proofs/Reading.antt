@@ -1,5 +1,6 @@
 -- The fault of an advisory at its place, and lists of advisories of which some are read.
-use Rattle.std.proofs.Common.{◌≡◌, ◌∙◌, ◌++◌, ◌<◌, ◌+◌, ◌≤◌, ℕ, List, [], ◌∷◌, Option, None, add-one, ap, drop, drop-cons, get_or, length, option_map, refl, sym}
+use Rattle.std.proofs.Common.{◌≡◌, ◌∙◌, ◌++◌, ◌<◌, ◌+◌, ◌≤◌, ℕ, List, [], ◌∷◌, Option, None, add-one, ap, drop}
+use Rattle.std.proofs.Common.{drop-cons, get_or, length, option_map, refl, sym}
 use Rattle.std.proofs.lemmas.List.{append_assoc, drop_all}
 use Rattle.std.specs.Option.{option_or}
 use Rattle.serde_json.specs.Data.{item, no_items}

@@ -1,5 +1,6 @@
 -- The spans of versions that are not offered, one advisory after another.
-use Rattle.std.proofs.Common.{◌≡◌, ◌↔◌, ◌<◌, ◌+◌, ◌≤◌, ℕ, List, [], ◌∷◌, ◌++◌, get_or, inl, inr, length, refl, sym, subst, take}
+use Rattle.std.proofs.Common.{◌≡◌, ◌↔◌, ◌<◌, ◌+◌, ◌≤◌, ℕ, List, [], ◌∷◌, ◌++◌, get_or, inl, inr, length, refl, sym}
+use Rattle.std.proofs.Common.{subst, take}
 use Rattle.std.proofs.lemmas.List.{take_all, take_more}
 use Rattle.std.specs.List.{AllByRecursion}
 use Rattle.std.specs.Prelude.{◌≢◌, ◌⊎◌}
@@ -53,7 +54,8 @@ module _ (version : VersionValue) where
   -- one advisory more
   pub more-spans : (advisories : List Advisory) (i : ℕ) (one : Advisory) (old sets new : List (Ends VersionValue))
       → i < length advisories → one ≡ get_or advisories i one → new ≡ old ++ sets → sets ≡ sets_of_answer one.range
-      → AllByRecursion IsRangeSet sets → Contain old (Had (take i advisories)) → Contain new (Had (take (i + 1) advisories))
+      → AllByRecursion IsRangeSet sets → Contain old (Had (take i advisories)) → Contain new
+      (Had (take (i + 1) advisories))
   more-spans advisories i one old sets new lt is e same holds contain =
       rw (e, take_more advisories i one lt, ← is) (record {
         holds = value-more old sets contain.holds holds;
@@ -61,20 +63,22 @@ module _ (version : VersionValue) where
           λ contains. elim (any-either (IsInside v) old sets contains) [
             | inl before ↦ elim ((contain.exact v).0 before) [
               | inl not ↦ inl not
-              | inr some ↦ inr (any-left (λ a. RangeContains (sets_of_answer a.range) v) (take i advisories) (one ∷ []) some)
+              | inr some ↦ inr (any-left (λ a. RangeContains (sets_of_answer a.range) v) (take i advisories) (one ∷ [])
+                  some)
             ]
             | inr here ↦ inr (any-right (λ a. RangeContains (sets_of_answer a.range) v) (take i advisories) (one ∷ [])
                 (inl (subst (λ r. RangeContains r v) same here)))
           ],
           λ has. elim has [
             | inl not ↦ any-left (IsInside v) old sets ((contain.exact v).1 (inl not))
-            | inr some ↦ elim (any-either (λ a. RangeContains (sets_of_answer a.range) v) (take i advisories) (one ∷ []) some) [
-              | inl before ↦ any-left (IsInside v) old sets ((contain.exact v).1 (inr before))
-              | inr here ↦ elim here [
-                | inl inside ↦ any-right (IsInside v) old sets (subst (λ r. RangeContains r v) (sym same) inside)
-                | inr none ↦ absurd none
-              ]
-            ]
+            | inr some ↦ elim (any-either (λ a. RangeContains (sets_of_answer a.range) v) (take i advisories) (one ∷ [])
+                some) [
+                  | inl before ↦ any-left (IsInside v) old sets ((contain.exact v).1 (inr before))
+                  | inr here ↦ elim here [
+                    | inl inside ↦ any-right (IsInside v) old sets (subst (λ r. RangeContains r v) (sym same) inside)
+                    | inr none ↦ absurd none
+                  ]
+                ]
           ],
         );
       })

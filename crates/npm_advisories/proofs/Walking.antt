@@ -1,5 +1,6 @@
 -- Lists of JSON values, one value after another.
-use Rattle.std.proofs.Common.{◌≡◌, ◌∙◌, ◌++◌, ◌<◌, ◌+◌, ◌≤◌, ℕ, List, [], Option, None, ap, append-nil, drop, get_or, length, refl, sym}
+use Rattle.std.proofs.Common.{◌≡◌, ◌∙◌, ◌++◌, ◌<◌, ◌+◌, ◌≤◌, ℕ, List, [], Option, None, ap, append-nil, drop, get_or}
+use Rattle.std.proofs.Common.{length, refl, sym}
 use Rattle.std.proofs.lemmas.List.{append_assoc}
 use Rattle.serde_json.specs.Data.{Data, Items, item, no_items}
 use Rattle.serde_json.specs.View.{items_view, view}
@@ -21,7 +22,8 @@ module _ (entries : List Value) (i : ℕ) (one : Value) (lt : i < length entries
   pub fault-passed : (fault_of : Data → Option FaultKind) (whole : Option FaultKind) → fault_of (view one) ≡ None
       → whole ≡ first_fault fault_of (items_view (drop i entries))
       → whole ≡ first_fault fault_of (items_view (drop (i + 1) entries))
-  fault-passed fault_of whole none before = before ∙ ap (first_fault fault_of) (left [] entries i one lt is_at) ∙ (rw none refl)
+  fault-passed fault_of whole none before = before ∙ ap (first_fault fault_of) (left [] entries i one lt is_at) ∙
+      (rw none refl)
 
   -- the first one with a fault
   pub fault-found : (fault_of : Data → Option FaultKind) (whole : Option FaultKind) (unread : Unread)

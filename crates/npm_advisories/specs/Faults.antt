@@ -1,5 +1,6 @@
 -- Which values are no advisories in npm's form that are read: npm's "npm audit", "Bulk Advisory Endpoint".
-use Rattle.std.specs.Prelude.{◌||◌, ◌+◌, ℕ, List, [], ◌∷◌, Bool, true, false, if◌then◌else◌, Option, Some, None, is_some}
+use Rattle.std.specs.Prelude.{◌||◌, ◌+◌, ℕ, List, [], ◌∷◌, Bool, true, false, if◌then◌else◌, Option, Some, None}
+use Rattle.std.specs.Prelude.{is_some}
 use Rattle.std.specs.Prelude.{option_and_then, option_map, codes}
 use Rattle.std.specs.Option.{option_map_or, option_or}
 use Rattle.serde_json.specs.Data.{Data, Items, Members, item, member, no_items, no_members}
@@ -10,7 +11,8 @@ use Rattle.npm_advisories.specs.declared.fault.Fault.{Fault}
 use Rattle.npm_advisories.specs.declared.fault.FaultKind.{FaultKind}
 use Rattle.npm_advisories.specs.declared.fault.FaultKind.TheVariants as Faults
 
--- What is wrong, and with which advisory. In npm's form this is the name that it stands under, and its place in the list
+-- What is wrong, and with which advisory. In npm's form this is the name that it stands under, and its place in the
+-- list
 -- there, from 0; in OSV's form the empty name, and its place in the list
 pub record FaultValue : Type 0 where
   pub kind : FaultKind

@@ -7,7 +7,8 @@
 --   2.0.0-rc.1 is not admitted: it does not lie inside `below` 2.0.0-0.
 --   3.1.0-rc.1 is not admitted: no end of the second alternative is a prerelease of 3.1.0.
 --   With prereleases included 3.1.0-rc.1 is admitted.
-use Rattle.std.specs.Prelude.{◌≡◌, ◌≢◌, ◌⊎◌, ℕ, ◌&&◌, Bool, true, false, List, [], ◌∷◌, Option, Some, None, Result, Ok, Err}
+use Rattle.std.specs.Prelude.{◌≡◌, ◌≢◌, ◌⊎◌, ℕ, ◌&&◌, Bool, true, false, List, [], ◌∷◌, Option, Some, None, Result, Ok}
+use Rattle.std.specs.Prelude.{Err}
 use Rattle.std.specs.Prelude.{if◌then◌else◌}
 use Rattle.std.specs.List.{AllByRecursion}
 use Rattle.semver_cuts.specs.Ends.{Ends}

@@ -4,7 +4,8 @@
 --   The piece `1 - 2 ` is a hyphen range, so it is read. The piece ` >= 3 foo 4` is refused.
 --   Its words are `>= 3`, `foo` and `4`. `>= 3` is a comparator, and `foo` is none.
 --   So reading stops at `foo`. Before it are `1 - 2 || >= 3 ` and, in its piece, ` >= 3 `.
-use Rattle.std.specs.Prelude.{◌≡◌, ℕ, Bool, true, false, List, [], ◌∷◌, ◌++◌, None, IsErr, IsOk, IsSome, chars, encode_utf8_all}
+use Rattle.std.specs.Prelude.{◌≡◌, ℕ, Bool, true, false, List, [], ◌∷◌, ◌++◌, None, IsErr, IsOk, IsSome, chars}
+use Rattle.std.specs.Prelude.{encode_utf8_all}
 use Rattle.std.specs.Prelude.{length}
 use Rattle.std.specs.List.{AllByRecursion}
 use Rattle.semver_versions.specs.Characters.{BeginsWith}

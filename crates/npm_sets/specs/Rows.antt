@@ -70,7 +70,8 @@ tilde_row (Some major) (Some minor) None z = from_up_to (release major minor 0) 
 tilde_row (Some major) (Some minor) (Some patch) z = from_up_to z (least_of major (minor + 1) 0)
 
 -- `^1.2.3` is `>=1.2.3 <2.0.0-0`, `^1.2` is `>=1.2.0 <2.0.0-0`, `^1` is `>=1.0.0 <2.0.0-0`, `^*` is all versions;
--- `^0.2.3` is `>=0.2.3 <0.3.0-0`, `^0.0.3` is `>=0.0.3 <0.0.4-0`, `^0.2` is `>=0.2.0 <0.3.0-0`, `^0` is `>=0.0.0 <1.0.0-0`
+-- `^0.2.3` is `>=0.2.3 <0.3.0-0`, `^0.0.3` is `>=0.0.3 <0.0.4-0`, `^0.2` is `>=0.2.0 <0.3.0-0`, `^0` is `>=0.0.0
+-- <1.0.0-0`
 abbrev pub caret_row : Bool → (major minor patch : Option ℕ) (z : VersionValue) → Comparator
 caret_row pre None minor patch z = all_cuts
 caret_row pre (Some major) None patch z = from_up_to (first_of pre major 0 0) (least_of (major + 1) 0 0)

@@ -1,5 +1,6 @@
 -- Which error a result tells, and what that says of the writer.
-use Rattle.std.proofs.Common.{◌≡◌, ◌↔◌, Bool, true, false, Result, Ok, Err, IsErr, IsErrAnd, IfErr, OnOk, MatchResult, ap, refl, subst, sym}
+use Rattle.std.proofs.Common.{◌≡◌, ◌↔◌, Bool, true, false, Result, Ok, Err, IsErr, IsErrAnd, IfErr, OnOk, MatchResult}
+use Rattle.std.proofs.Common.{ap, refl, subst, sym}
 use Rattle.std.specs.Result.{IsErrOf}
 use Rattle.std.proofs.lemmas.Bool.{false≢true}
 use Rattle.semver_pairs.specs.declared.run_error.RunError.{RunError}
@@ -41,7 +42,8 @@ tells-not_read Failed (Err Write) tells is = no_other Write Read refl is
 tells-not_read Failed (Err Memory) tells is = no_other Memory Read refl is
 tells-not_read Failed (Err Endless) tells is = tells
 
-pub tells-not_endless : {T : Type 0} (Failed : Type 0) (r : Result T RunError) → TellsFailure r Failed → ¬ IsErrOf r Endless
+pub tells-not_endless : {T : Type 0} (Failed : Type 0) (r : Result T RunError) → TellsFailure r Failed → ¬ IsErrOf r
+    Endless
 tells-not_endless Failed (Ok x) tells is = cc is
 tells-not_endless Failed (Err Read) tells is = tells
 tells-not_endless Failed (Err Write) tells is = no_other Write Endless refl is

@@ -1,6 +1,7 @@
 -- The first line of some bytes.
 use Rattle.std.proofs.Common.{◌≡◌, ◌⊎◌, ℕ, zero, suc, ◌+◌, ◌<◌, ◌==◌, true, false, ap, inl, inr, refl, ◌∙◌, sym}
-use Rattle.std.proofs.Common.{◌≢◌, List, [], ◌∷◌, ◌++◌, length, take, drop, add-one, arith, Option, None, Some, IfNone, IfSome}
+use Rattle.std.proofs.Common.{◌≢◌, List, [], ◌∷◌, ◌++◌, length, take, drop, add-one, arith, Option, None, Some, IfNone}
+use Rattle.std.proofs.Common.{IfSome}
 use Rattle.std.proofs.Common.{◌-◌, eqb-true, length-append, subst, MatchOption}
 use Rattle.std.proofs.lemmas.Slice.Eq.{strip_prefix_is}
 use Rattle.std.proofs.lemmas.Bool.Decides.{Decides-eqb}
@@ -151,7 +152,8 @@ pub line_fewer : {bytes line rest : List ℕ} → BeginsWithLine bytes line rest
 line_fewer {bytes} {line} {rest} begins = rw (begins.split, length-append) (omega arith)
 
 -- both parts of ASCII bytes are ASCII
-pub line_ascii : {bytes line rest : List ℕ} → BeginsWithLine bytes line rest → IsAscii bytes → IsAscii line × IsAscii rest
+pub line_ascii : {bytes line rest : List ℕ} → BeginsWithLine bytes line rest → IsAscii bytes → IsAscii line × IsAscii
+    rest
 line_ascii {bytes} {line} {rest} begins all =
     let both : IsAscii (line ++ (newline ∷ rest)) = subst IsAscii begins.split all in
     let past = ascii-past line (newline ∷ rest) both in
@@ -202,5 +204,6 @@ pub first_newline : (bytes all rest : List ℕ) (r : Option ℕ) → all ≡ pla
 first_newline bytes all rest r is taken =
     let some = search-exists bytes in
     subst (IsFirstByte (is_byte newline) bytes)
-    (IsFirstByte-value (is_byte newline) bytes some.0 some.1 ∙ ap first_of (sym is) ∙ sym (first_taken all rest r taken))
+    (IsFirstByte-value (is_byte newline) bytes some.0 some.1 ∙ ap first_of (sym is) ∙ sym
+    (first_taken all rest r taken))
     some.1

@@ -1,4 +1,5 @@
--- The least version that one range has and another has not, from the best of the candidates; and that a range has a version
+-- The least version that one range has and another has not, from the best of the candidates; and that a range has a
+-- version
 -- or has it not.
 use native.Mathlib.Omega.{arith}
 use Rattle.std.proofs.Common.{◌≡◌, ◌↔◌, ◌⊎◌, Bool, true, false, List, [], ◌∷◌, Option, Some}
@@ -37,9 +38,11 @@ range_contains sets v = list_any (holds (Before v)) sets
 
 pub range_contains-iff : (sets : List (Ends VersionValue)) (v : VersionValue)
     → (range_contains sets v ≡ true) ↔ RangeContains sets v
-range_contains-iff sets v = any-iff (λ (set : Ends VersionValue). IsInside v set) (holds (Before v)) (holds-iff (Before v)) sets
+range_contains-iff sets v = any-iff (λ (set : Ends VersionValue). IsInside v set) (holds (Before v))
+    (holds-iff (Before v)) sets
 
-contained-or_not : (sets : List (Ends VersionValue)) (v : VersionValue) → RangeContains sets v ⊎ (¬ RangeContains sets v)
+contained-or_not : (sets : List (Ends VersionValue)) (v : VersionValue) → RangeContains sets v ⊎
+    (¬ RangeContains sets v)
 contained-or_not sets v = grind (arith, range_contains-iff sets v)
 
 -- prereleases included or not

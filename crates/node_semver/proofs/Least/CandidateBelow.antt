@@ -1,4 +1,5 @@
--- The least version that is wanted, of those that one list of sets admits: for each wanted version some candidate that is
+-- The least version that is wanted, of those that one list of sets admits: for each wanted version some candidate that
+-- is
 -- wanted is not above it.
 use native.Mathlib.Omega.{arith}
 use Rattle.std.proofs.lemmas.Grind.{common_steps}
@@ -17,7 +18,8 @@ use Rattle.semver_versions.specs.Lemmas.Public.{Less-version, none-below_least, 
 use Rattle.node_semver.specs.Private.CandidateViews.{AreEndsTried, IsLeastOrNone, IsNotBelow, IsSetTried}
 use Rattle.node_semver.specs.Private.CandidateViews.{IsTried, candidates_at}
 use Rattle.node_semver.specs.Private.LeastViews.{IsIn, IsInRange}
-use Rattle.node_semver.proofs.Least.Candidates.{floor-candidate, least_of_triple, prerelease-candidate, release-candidate}
+use Rattle.node_semver.proofs.Least.Candidates.{floor-candidate, least_of_triple, prerelease-candidate}
+use Rattle.node_semver.proofs.Least.Candidates.{release-candidate}
 use Rattle.node_semver.proofs.Least.Candidates.{shut-below}
 use Rattle.node_semver.proofs.Least.HighestCut.{AskAlike, IsAlike, both_prereleases, both_releases}
 use Rattle.node_semver.proofs.Least.HighestCut.{highest, set-between, some-along}
@@ -28,10 +30,12 @@ use Rattle.node_semver.proofs.Least.LeastOfSets.{not-below}
 
 -- the first list of sets has what is wanted. What holds of a version holds of a version below it that asks the same of
 -- ends, where no lower end of the first list lies between the two, nor the `end` of a set of the second
-pub record IsQuestion (included : Bool) (sets others : List (Ends VersionValue)) (end : Ends VersionValue → Cut VersionValue)
+pub record IsQuestion (included : Bool) (sets others : List (Ends VersionValue))
+    (end : Ends VersionValue → Cut VersionValue)
     (Wanted : VersionValue → Type 0) : Type 0 where
   pub admitted : (v : VersionValue) → Wanted v → IsInRange included sets v
-  pub between : (c : Cut VersionValue) (x w : VersionValue) → IsAlike included x w → IsCutAtMost version_cmp c (Before x)
+  pub between : (c : Cut VersionValue) (x w : VersionValue) → IsAlike included x w → IsCutAtMost version_cmp c
+      (Before x)
       → IsCutAtMost version_cmp (Before x) (Before w)
       → AllByRecursion (λ (set : Ends VersionValue). IsCutAtMost version_cmp set.lower (Before w)
       → IsCutAtMost version_cmp set.lower c) sets
@@ -92,7 +96,8 @@ module _ (included : Bool) (P Wanted : VersionValue → Type 0) (sets others : L
       (found.first.none_below w last.below)
 
   -- where it is a prerelease and the cut is below its triple: an upper end opens it
-  of-opened : (c : Cut VersionValue) → IsLastCut c → (set : Ends VersionValue) → IsCandidateSet included P set → SetAdmits set w
+  of-opened : (c : Cut VersionValue) → IsLastCut c → (set : Ends VersionValue) → IsCandidateSet included P set →
+      SetAdmits set w
       → IsCutAtMost version_cmp set.lower c → IsPrerelease w
       → IsCutBelow version_cmp c (Before (least_of_triple w)) → CandidateBelow P Wanted w
   of-opened c last set candidates admits lower pre below =
@@ -108,7 +113,8 @@ module _ (included : Bool) (P Wanted : VersionValue → Type 0) (sets others : L
             (shut opens)
         | inr opens ↦ opens
       ] in
-      let admitted = set-between false c zero w (inr alike) (inl below) (at-least zero w above) set (λ _. lower) admits in
+      let admitted = set-between false c zero w (inr alike) (inl below) (at-least zero w above) set (λ _. lower) admits
+      in
       between c last zero (candidates.opened w opens admitted) (inr alike) (inl below) above
 
   by-cut : (c : Cut VersionValue) → IsLastCut c → AllByRecursion P (candidates_at false c) → (set : Ends VersionValue)
@@ -123,14 +129,20 @@ module _ (included : Bool) (P Wanted : VersionValue → Type 0) (sets others : L
       ]
 
   -- with prereleases included, the least version after the cut is one
-  at-cut : (c : Cut VersionValue) → IsLastCut c → AllByRecursion P (candidates_at included c) → (set : Ends VersionValue)
+  at-cut : (c : Cut VersionValue) → IsLastCut c → AllByRecursion P (candidates_at included c) →
+      (set : Ends VersionValue)
       → IsCandidateSet included P set → IsIn included set w → IsCutAtMost version_cmp set.lower c → (b : Bool)
       → included ≡ b → CandidateBelow P Wanted w
   at-cut c last all set candidates is lower true e =
       let found = floor-candidate P c w last.below
       (subst (λ (b : Bool). AllByRecursion P (candidates_at b c)) e all) in
       between c last found.version found.is (inl e) found.first.at (found.first.none_below w last.below)
-  at-cut c last all set candidates is lower false e = grind (arith, by-cut c last (subst (λ (b : Bool). AllByRecursion P (candidates_at b c)) e all) set candidates (subst (λ (b : Bool). IsIn b set w) e is) lower w.pre_release refl)
+  at-cut c last all set candidates is lower false e = grind (
+    arith,
+    by-cut c last
+        (subst (λ (b : Bool). AllByRecursion P (candidates_at b c)) e all) set candidates
+        (subst (λ (b : Bool). IsIn b set w) e is) lower w.pre_release refl,
+  )
 
   pub candidate-below : AllByRecursion (IsCandidateSet included P) sets
       → AllByRecursion (λ (other : Ends VersionValue). AllByRecursion P (candidates_at included (end other))) others
@@ -171,7 +183,8 @@ not-below-best best v w h1 h2 = grind (arith, common_steps, not-below)
 module _ (included : Bool) (Wanted : VersionValue → Type 0) (sets others : List (Ends VersionValue))
     (end : Ends VersionValue → Cut VersionValue) (question : IsQuestion included sets others end Wanted) where
   -- where all candidates were tried, no version that is wanted is below the best
-  all-above : (best : Option VersionValue) → AreEndsTried included Wanted end sets others best → (w : VersionValue) → Wanted w
+  all-above : (best : Option VersionValue) → AreEndsTried included Wanted end sets others best → (w : VersionValue) →
+      Wanted w
       → IsNotBelow best w
   all-above best tried w wanted =
       let P : VersionValue → Type 0 = IsTried Wanted best in

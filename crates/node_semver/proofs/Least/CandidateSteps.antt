@@ -101,18 +101,29 @@ module _ (included : Bool) (Wanted : VersionValue → Type 0) where
   more-taken : (P : Ends VersionValue → Type 0) (all : List (Ends VersionValue)) (k : ℕ) (set : Ends VersionValue)
       → k < length all → set ≡ get_or all k set → AllByRecursion P (take k all) → P set
       → AllByRecursion P (take (k + 1) all)
-  more-taken P all k set lt is each this = grind (arith, take_more all k set lt, all-append P (take k all) (set ∷ []) each (this, tt))
+  more-taken P all k set lt is each this = grind (
+    arith,
+    take_more all k set lt,
+    all-append P (take k all) (set ∷ [])
+        each (this, tt),
+  )
 
   pub sets-more : (all : List (Ends VersionValue)) (k : ℕ) (set : Ends VersionValue)
       (earlier later : Option VersionValue)
       → k < length all → set ≡ get_or all k set → AreSetsTried included Wanted (take k all) earlier
       → IsSetTrial included Wanted earlier set later → AreSetsTried included Wanted (take (k + 1) all) later
-  sets-more all k set earlier later lt is tried trial = grind (arith, more-taken (IsSetTried included Wanted later) all k set lt is (all_map (IsSetTried included Wanted earlier) (IsSetTried included Wanted later) (set-kept earlier later trial.step) (take k all) tried.each) trial.tried)
+  sets-more all k set earlier later lt is tried trial = grind (
+    arith,
+    more-taken (IsSetTried included Wanted later) all k set lt is
+        (all_map (IsSetTried included Wanted earlier) (IsSetTried included Wanted later)
+        (set-kept earlier later trial.step) (take k all) tried.each) trial.tried,
+  )
 
   pub ends-more : (end : Ends VersionValue → Cut VersionValue) (sets all : List (Ends VersionValue)) (k : ℕ)
       (set : Ends VersionValue) (earlier later : Option VersionValue)
       → k < length all → set ≡ get_or all k set → AreEndsTried included Wanted end sets (take k all) earlier
-      → IsCutTrial included Wanted earlier (end set) later → AreEndsTried included Wanted end sets (take (k + 1) all) later
+      → IsCutTrial included Wanted earlier (end set) later → AreEndsTried included Wanted end sets (take (k + 1) all)
+      later
   ends-more end sets all k set earlier later lt is tried trial =
       let Earlier : Ends VersionValue → Type 0 = λ s. IsCutTried included Wanted earlier (end s) in
       let Now : Ends VersionValue → Type 0 = λ s. IsCutTried included Wanted later (end s) in

@@ -1,7 +1,8 @@
 -- The candidates at a cut: the least release that can be after it, and the least version if that is a prerelease.
 use native.Mathlib.Omega.{arith}
 use Rattle.std.proofs.lemmas.Grind.{common_steps}
-use Rattle.std.proofs.Common.{◌≡◌, ◌≢◌, ◌⊎◌, ◌+◌, true, false, List, [], ◌∷◌, ◌++◌, refl, inl, inr, Ordering, Less, Equal, Greater}
+use Rattle.std.proofs.Common.{◌≡◌, ◌≢◌, ◌⊎◌, ◌+◌, true, false, List, [], ◌∷◌, ◌++◌, refl, inl, inr, Ordering, Less}
+use Rattle.std.proofs.Common.{Equal, Greater}
 use Rattle.std.specs.List.{AllByRecursion}
 use Rattle.std.specs.Ordering.{ordering_then}
 use Rattle.semver_cuts.specs.declared.cut.Cut.{Cut}
@@ -32,7 +33,11 @@ pub record IsReleaseFrom (c : Cut VersionValue) (x : VersionValue) : Type 0 wher
 
 release-from : (c : Cut VersionValue) (f x : VersionValue) → IsFloor c f → HasSameTriple f x → ¬ IsPrerelease x
     → IsReleaseFrom c x
-release-from c f x floor triple final = grind (arith, at_most_trans version_total c (Before f) (Before x) floor.at (at-least f x (λ less. final (prerelease-from_below x f (triple-back f x triple) (Less-version x f less)))))
+release-from c f x floor triple final = grind (
+  arith,
+  at_most_trans version_total c (Before f) (Before x) floor.at
+      (at-least f x (λ less. final (prerelease-from_below x f (triple-back f x triple) (Less-version x f less)))),
+)
 
 pub plain-floor : (v : VersionValue) → IsFloor (Before v) (without_build v)
 plain-floor v = grind (arith, before-floor v)
@@ -57,7 +62,8 @@ module _ (P : VersionValue → Type 0) where
       → P (release v.major v.minor v.patch)
   before-release v xs h1 = grind arith
 
-  after-release : (v : VersionValue) (xs : List IdentifierValue) → v.pre_release ≡ xs → AllByRecursion P (after_by false v xs)
+  after-release : (v : VersionValue) (xs : List IdentifierValue) → v.pre_release ≡ xs → AllByRecursion P
+      (after_by false v xs)
       → ReleaseOf P (After v)
   after-release v xs h1 h2 = grind (arith, common_steps, release-from, patch-floor, zero-floor)
 

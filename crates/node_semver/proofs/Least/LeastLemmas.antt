@@ -21,7 +21,8 @@ use Rattle.semver_sets.specs.Lemmas.Convex.{from-cmp}
 use Rattle.node_semver.specs.Least.{build_at}
 use Rattle.semver_versions.specs.VersionSteps.{with_zero}
 use Rattle.node_semver.proofs.Least.OpenTriples.{open_end-in_triple}
-use Rattle.node_semver.specs.Private.LeastViews.{IsIn, IsInsideOrNone, IsLeastInSet, IsLeastOfSet, IsLeastOfTriple, IsOpenIn}
+use Rattle.node_semver.specs.Private.LeastViews.{IsIn, IsInsideOrNone, IsLeastInSet, IsLeastOfSet, IsLeastOfTriple}
+use Rattle.node_semver.specs.Private.LeastViews.{IsOpenIn}
 
 -- ---- versions and ends
 
@@ -118,11 +119,13 @@ pub record IsBeginning (included : Bool) (set : Ends VersionValue) (first : Vers
   pub at : IsCutAtMost version_cmp set.lower (Before first)
   pub none_below : (v : VersionValue) → IsIn included set v → ¬ (version_cmp v first ≡ Less)
 
-from-floor : (included : Bool) (set : Ends VersionValue) (v : VersionValue) → IsFloor set.lower v → IsBeginning included set v
+from-floor : (included : Bool) (set : Ends VersionValue) (v : VersionValue) → IsFloor set.lower v → IsBeginning included
+    set v
 from-floor included set v floor = grind (arith, lies-inside)
 
 -- the least version of a triple that no end opens is not admitted, nor are the prereleases above it
-from-closed : (included : Bool) (set : Ends VersionValue) (m n p : ℕ) (v : VersionValue) → IsFloor set.lower (least_of m n p)
+from-closed : (included : Bool) (set : Ends VersionValue) (m n p : ℕ) (v : VersionValue) → IsFloor set.lower
+    (least_of m n p)
     → HasSameTriple v (least_of m n p) → ¬ IsPrerelease v → ¬ IsOpenIn included set v → IsBeginning included set v
 from-closed included set m n p v floor triple final closed =
     let least = least_of m n p in
@@ -151,15 +154,18 @@ pub least-inside : (included : Bool) (set : Ends VersionValue) (v : VersionValue
 least-inside included set v candidate upper = grind (arith, lies-in)
 
 -- it is the least one if it is inside, and otherwise there is none
-pub candidate-least : (included : Bool) (set : Ends VersionValue) (v : VersionValue) (found : Option VersionValue) → IsCandidate included set v
+pub candidate-least : (included : Bool) (set : Ends VersionValue) (v : VersionValue) (found : Option VersionValue) →
+    IsCandidate included set v
     → IsInsideOrNone set.upper v found → IsLeastOfSet included set found
 candidate-least included set v found candidate (inl (inside, is)) = grind (arith, least-inside)
-candidate-least included set v found candidate (inr (outside, none)) = subst (IsLeastOfSet included set) (sym none) (λ w is.
+candidate-least included set v found candidate (inr (outside, none)) = subst (IsLeastOfSet included set) (sym none)
+    (λ w is.
     outside (at_most-below version_total (Before v) (Before w) set.upper
     (at-least v w (candidate.begins.none_below w is)) (lies-inside included set w is).upper))
 
 -- before a version
-pub before-least : (included : Bool) (set : Ends VersionValue) (v : VersionValue) → HoldsCut version_cmp set → set.lower ≡ Before v
+pub before-least : (included : Bool) (set : Ends VersionValue) (v : VersionValue) → HoldsCut version_cmp set → set.lower
+    ≡ Before v
     → IsLeastInSet included set v
 before-least included set v holds is =
     let floor : IsFloor set.lower v = subst (λ (c : Cut VersionValue). IsFloor c v) (sym is) (before-floor v) in
@@ -172,7 +178,8 @@ before-least included set v holds is =
     (at_most-below version_total set.lower holds.0 set.upper holds.1.lower holds.1.upper))
 
 -- after a prerelease: itself with a 0 more, which the end opens
-pub zero-candidate : (included : Bool) (set : Ends VersionValue) (v w : VersionValue) → set.lower ≡ After v → IsPrerelease v
+pub zero-candidate : (included : Bool) (set : Ends VersionValue) (v w : VersionValue) → set.lower ≡ After v →
+    IsPrerelease v
     → w ≡ record v { pre_release = v.pre_release ++ numeric 0 ∷ [] } → IsCandidate included set w
 zero-candidate included set v w is pre same =
     let zero : VersionValue = record v { pre_release = v.pre_release ++ numeric 0 ∷ [] } in
@@ -191,7 +198,8 @@ zero-candidate included set v w is pre same =
     })
 
 -- a triple whose least version is the floor of a lower end that does not open it
-triple-candidate : (included : Bool) (set : Ends VersionValue) (m n p : ℕ) (build : List IdentifierValue) (w : VersionValue)
+triple-candidate : (included : Bool) (set : Ends VersionValue) (m n p : ℕ) (build : List IdentifierValue)
+    (w : VersionValue)
     → IsFloor set.lower (least_of m n p) → ¬ Opens set.lower (release m n p) → build ≡ build_at set.lower
     → IsLeastOfTriple included set.upper m n p build w → IsCandidate included set w
 triple-candidate included set m n p build w floor closed same (inl (opens, is)) =
@@ -240,7 +248,8 @@ start-candidate included set w is least = triple-candidate included set 0 0 0 []
     (λ opens. subst (λ (c : Cut VersionValue). Opens c (release 0 0 0)) is opens) (ap build_at (sym is)) least
 
 -- after a release: the triple with the next patch
-pub patch-candidate : (included : Bool) (set : Ends VersionValue) (v w : VersionValue) → set.lower ≡ After v → ¬ IsPrerelease v
+pub patch-candidate : (included : Bool) (set : Ends VersionValue) (v w : VersionValue) → set.lower ≡ After v → ¬
+    IsPrerelease v
     → IsLeastOfTriple included set.upper v.major v.minor (v.patch + 1) v.build w → IsCandidate included set w
 patch-candidate included set v w is final least =
     let next = least_of v.major v.minor (v.patch + 1) in

@@ -61,5 +61,6 @@ full-read mean back text bytes form major minor patch set sets same full is alon
     range-read mean back text sets are ((mean text sets are).holds (λ none. cc (none, here)))
 
 -- and of an error
-pub range-refused : PrintsAreReadBack → (text : List ℕ) (e : SemverError) → IsRefusal text e → IsRangeAnswer text (Err e)
+pub range-refused : PrintsAreReadBack → (text : List ℕ) (e : SemverError) → IsRefusal text e → IsRangeAnswer text
+    (Err e)
 range-refused back text e refusal = grind (arith, print-read)

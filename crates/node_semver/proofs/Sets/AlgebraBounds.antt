@@ -47,7 +47,8 @@ pub difference-bounded : (ones others spans : List (Ends VersionValue)) → AreD
 unfolding HasReadEnds
 difference-bounded ones others spans are all all' =
     sets-held spans (difference-hold version_cmp ones others spans are)
-    (difference-ends version_cmp IsRangeCut IsRangeCut ones others spans (ends-read ones all) (ends-read others all') are)
+    (difference-ends version_cmp IsRangeCut IsRangeCut ones others spans (ends-read ones all) (ends-read others all')
+    are)
 
 -- ---- where there is no range
 

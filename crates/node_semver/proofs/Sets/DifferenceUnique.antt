@@ -115,14 +115,25 @@ module _ {T : Type 0} {cmp : T → T → Ordering} (o : IsTotalOrder cmp) where
 
     -- so they are one piece
     touching : (p q : Ends T) (c : Cut T) → Piece p → Piece q → IsInSpan cmp p c → IsInSpan cmp q c → p ≡ q
-    touching p q c is is' in_p in_q = grind (arith, lower-same p.lower q.lower (at_most-both o p.lower q.lower (lower-reach p q c is is' in_p in_q) (lower-reach q p c is' is in_q in_p)) is.lower is'.lower, upper-same p.upper q.upper (at_most-both o p.upper q.upper (upper-reach q p c is' is in_q in_p) (upper-reach p q c is is' in_p in_q)) is.upper is'.upper)
+    touching p q c is is' in_p in_q = grind (
+      arith,
+      lower-same p.lower q.lower
+          (at_most-both o p.lower q.lower (lower-reach p q c is is' in_p in_q) (lower-reach q p c is' is in_q in_p))
+          is.lower is'.lower,
+      upper-same p.upper q.upper (at_most-both o p.upper q.upper
+          (upper-reach q p c is' is in_q in_p) (upper-reach p q c is is' in_p in_q)) is.upper is'.upper,
+    )
 
     -- ---- ascending pieces
 
     -- a cut of a later piece lies above the first one
     later-above : (p : Ends T) (ps : List (Ends T)) (cut : Cut T) → AllByRecursion Piece ps → AreApart cmp (p ∷ ps)
         → IsInSome cmp ps cut → IsCutBelow cmp p.upper cut
-    later-above p ps cut all apart some = grind (arith, some-above o cut p.upper ps (apart-above o p ps apart (all_map Piece (λ (s : Ends T). IsCutBelow cmp s.lower s.upper) rising ps all)) some)
+    later-above p ps cut all apart some = grind (
+      arith,
+      some-above o cut p.upper ps
+          (apart-above o p ps apart (all_map Piece (λ (s : Ends T). IsCutBelow cmp s.lower s.upper) rising ps all)) some,
+    )
 
     -- the cuts of the later pieces
     later-cuts : (p q : Ends T) (ps qs : List (Ends T)) → p ≡ q → AllByRecursion Piece ps → AreApart cmp (p ∷ ps)

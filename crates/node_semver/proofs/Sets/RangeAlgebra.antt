@@ -42,7 +42,12 @@ lesser-by : (one other : Cut VersionValue) (r : Bool) → is_lt (cut_cmp version
 lesser-by one other r h1 = grind (arith, below-from_lt, at_most-from_not_lt, version_total)
 
 pair-merged : (one other : Ends VersionValue) → IsSetOf (one ∷ other ∷ []) (common_ends version_cmp one other)
-pair-merged one other = grind (arith, set-push (one ∷ []) one other (common_ends version_cmp one other) (set-one one) (greater-by one.lower other.lower (is_lt (cut_cmp version_cmp other.lower one.lower)) refl) (lesser-by one.upper other.upper (is_lt (cut_cmp version_cmp other.upper one.upper)) refl))
+pair-merged one other = grind (
+  arith,
+  set-push (one ∷ []) one other (common_ends version_cmp one other) (set-one one)
+      (greater-by one.lower other.lower (is_lt (cut_cmp version_cmp other.lower one.lower)) refl)
+      (lesser-by one.upper other.upper (is_lt (cut_cmp version_cmp other.upper one.upper)) refl),
+)
 
 -- so it admits a version that both together admit
 module _ (v : VersionValue) where
@@ -72,9 +77,23 @@ module _ (v : VersionValue) where
 -- and a release exactly where both do
 pub common-releases : (ones others : List (Ends VersionValue)) (v : VersionValue) → ¬ IsPrerelease v
     → RangeAdmits (common_spans version_cmp ones others) v ↔ (RangeAdmits ones v × RangeAdmits others v)
-common-releases ones others v release = grind (arith, release-admitted (common_spans version_cmp ones others) v release, release-admitted ones v release, release-admitted others v release, common_spans-cuts version_total ones others (Before v))
+common-releases ones others v release = grind (
+  arith,
+  release-admitted (common_spans version_cmp ones others) v release,
+  release-admitted ones v release,
+  release-admitted others v release,
+  common_spans-cuts version_total ones others
+      (Before v),
+)
 
 -- a difference admits a release exactly where the first range does and the second does not
 pub difference-releases : (ones others spans : List (Ends VersionValue)) → AreDifference version_cmp ones others spans
     → (v : VersionValue) → ¬ IsPrerelease v → RangeAdmits spans v ↔ (RangeAdmits ones v × (¬ RangeAdmits others v))
-difference-releases ones others spans are v release = grind (arith, release-admitted spans v release, release-admitted ones v release, release-admitted others v release, difference-cuts version_cmp ones others spans are (Before v))
+difference-releases ones others spans are v release = grind (
+  arith,
+  release-admitted spans v release,
+  release-admitted
+      ones v release,
+  release-admitted others v release,
+  difference-cuts version_cmp ones others spans are (Before v),
+)

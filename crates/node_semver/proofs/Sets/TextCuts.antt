@@ -23,7 +23,8 @@ sets-cut : (alternatives : List (List Comparator)) (sets : List (Ends VersionVal
     → AreSetsOf alternatives sets → IsInSome version_cmp sets cut ↔ AnyByRecursion (HasCutSome cut) alternatives
 sets-cut [] [] cut none = (λ nowhere. nowhere, λ nowhere. nowhere)
 sets-cut [] (s ∷ sets) cut m = elim m [ ]
-sets-cut (c ∷ alternatives) (s ∷ sets) cut (one_more _ _ _ _ g i more) = grind (arith, in_every-between, version_total, sets-cut alternatives sets cut more)
+sets-cut (c ∷ alternatives) (s ∷ sets) cut (one_more _ _ _ _ g i more) = grind
+    (arith, in_every-between, version_total, sets-cut alternatives sets cut more)
 sets-cut (c ∷ alternatives) sets cut (no_more _ _ _ n more) = grind (arith, sets-cut alternatives sets cut more)
 
 -- the cuts of the sets that a text writes are those of the text

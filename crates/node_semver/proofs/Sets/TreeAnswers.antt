@@ -41,7 +41,8 @@ answer-releases tree (Ok answer) has = λ v release.
     (λ a. same.0 (admits.0 a), λ is. admits.1 (same.1 is))
 
 -- a result with the sets of the tree meets the promises
-pub answered : {E : Type 0} → AreWrittenOneWay → (tree : Formula) (result : Result (Option (List (Ends VersionValue))) E)
+pub answered : {E : Type 0} → AreWrittenOneWay → (tree : Formula)
+    (result : Result (Option (List (Ends VersionValue))) E)
     → HasSetsOf tree result → IfOk result (λ answer. IfSome answer IsRangeValue)
     → record {
       sets : HasSetsOf tree result;

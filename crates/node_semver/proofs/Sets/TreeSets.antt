@@ -85,7 +85,8 @@ shared-cuts one other ones others has has' cut = grind (arith, common_spans-cuts
 -- the cuts that the sets of one tree have and those of another have not are those of the one without the other
 left-cuts : (one other : Formula) (ones others sets : Sets) → HaveCutsOf one ones → HaveCutsOf other others
     → AreDifference version_cmp ones others sets → HaveCutsOf (without one other) sets
-left-cuts one other ones others sets has has' spans cut = grind (arith, difference-cuts version_cmp ones others sets spans cut)
+left-cuts one other ones others sets has has' spans cut = grind
+    (arith, difference-cuts version_cmp ones others sets spans cut)
 
 -- each text can be divided into words in one way only
 abbrev pub AreWrittenOneWay : Type 0
@@ -99,4 +100,5 @@ tree-cuts one_way (both one other) sets (inr made) =
     (shared-cuts one other made.0 made.1 (tree-cuts one_way one made.0 made.2) (tree-cuts one_way other made.1 made.3))
 tree-cuts one_way (without one other) sets (inl empty) = grind (arith, tree-cuts one_way one [] empty.0)
 tree-cuts one_way (without one other) sets (inr made) =
-    left-cuts one other made.0 made.1 sets (tree-cuts one_way one made.0 made.2) (tree-cuts one_way other made.1 made.3) made.4
+    left-cuts one other made.0 made.1 sets (tree-cuts one_way one made.0 made.2) (tree-cuts one_way other made.1 made.3)
+    made.4

@@ -37,7 +37,8 @@ abbrev pub first_of : Bool → ℕ → ℕ → ℕ → VersionValue
 first_of true = least_of
 first_of false = release
 
--- at the cut after a prerelease: the next prerelease and the release of its triple; after a release: the first of the next
+-- at the cut after a prerelease: the next prerelease and the release of its triple; after a release: the first of the
+-- next
 -- triple
 abbrev pub after_by : Bool → VersionValue → List IdentifierValue → List VersionValue
 after_by included v [] = first_of included v.major v.minor (v.patch + 1) ∷ []
@@ -72,7 +73,8 @@ IsOpenTried Wanted best set =
     → IsTried Wanted best (least_of v.major v.minor v.patch)
 
 -- the same for a set: for its lower end, and for the triple that its upper end opens
-pub record IsSetTried (included : Bool) (Wanted : VersionValue → Type 0) (best : Option VersionValue) (set : Ends VersionValue)
+pub record IsSetTried (included : Bool) (Wanted : VersionValue → Type 0) (best : Option VersionValue)
+    (set : Ends VersionValue)
     : Type 0 where
   pub lower : IsCutTried included Wanted best set.lower
   pub opened : IsOpenTried Wanted best set
@@ -109,7 +111,8 @@ pub record IsTrial (Wanted : VersionValue → Type 0) (earlier : Option VersionV
   pub tried : IsTried Wanted later v
 
 -- a step that tries the candidates of a cut
-pub record IsCutTrial (included : Bool) (Wanted : VersionValue → Type 0) (earlier : Option VersionValue) (cut : Cut VersionValue)
+pub record IsCutTrial (included : Bool) (Wanted : VersionValue → Type 0) (earlier : Option VersionValue)
+    (cut : Cut VersionValue)
     (later : Option VersionValue) : Type 0 where
   pub step : IsStep Wanted earlier later
   pub tried : IsCutTried included Wanted later cut
@@ -121,7 +124,8 @@ pub record IsOpenTrial (Wanted : VersionValue → Type 0) (earlier : Option Vers
   pub tried : IsOpenTried Wanted later set
 
 -- a step that tries both for a set
-pub record IsSetTrial (included : Bool) (Wanted : VersionValue → Type 0) (earlier : Option VersionValue) (set : Ends VersionValue)
+pub record IsSetTrial (included : Bool) (Wanted : VersionValue → Type 0) (earlier : Option VersionValue)
+    (set : Ends VersionValue)
     (later : Option VersionValue) : Type 0 where
   pub step : IsStep Wanted earlier later
   pub tried : IsSetTried included Wanted later set

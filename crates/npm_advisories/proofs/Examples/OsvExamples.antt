@@ -66,7 +66,8 @@ an_earlier_version_is_not_hit is =
 pub the_fixed_version_is_not_hit : ¬ IsInEvents events (release 2 0 0)
 the_fixed_version_is_not_hit is =
     let later : IsCutBelow version_cmp is.from (Before (release 2 0 0)) =
-    subst (λ c. IsCutBelow version_cmp c (Before (release 2 0 0))) (sym (introduced_at_one is.from is.introduced)) refl in
+    subst (λ c. IsCutBelow version_cmp c (Before (release 2 0 0))) (sym (introduced_at_one is.from is.introduced)) refl
+    in
     cc (is.unended (Before (release 2 0 0)) (inr (inl (release 2 0 0, two, refl))) later)
 
 -- ---- `introduced` 1.0.0 and `last_affected` 2.0.0

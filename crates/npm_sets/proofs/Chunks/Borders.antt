@@ -9,7 +9,8 @@ use Rattle.semver_versions.specs.Lemmas.Public.{prefix_of-all, prefix_of-no, pre
 use Rattle.npm_sets.specs.Private.RefusedViews.{IsBorder}
 use Rattle.npm_sets.specs.RefusedPlace.{ends_in_space}
 use Rattle.npm_sets.specs.WordTexts.{before_first, chunks_of, is_solid, is_space, joined}
-use Rattle.npm_sets.proofs.Chunks.ChunkLemmas.{chunk-solid, chunks-empty, chunks-space, chunks-step, joined-solid, joined-space}
+use Rattle.npm_sets.proofs.Chunks.ChunkLemmas.{chunk-solid, chunks-empty, chunks-space, chunks-step, joined-solid}
+use Rattle.npm_sets.proofs.Chunks.ChunkLemmas.{joined-space}
 use Rattle.npm_sets.proofs.Chunks.ChunkLemmas.{not-true}
 use Rattle.npm_sets.proofs.Chunks.SideLemmas.{and_more}
 
@@ -63,7 +64,8 @@ joined-append : (b c : ℕ) (rest end : List ℕ) → chunks_of (c ∷ (rest ++ 
     ≡ joined b (c ∷ rest) (chunks_of (c ∷ rest)) ++ chunks_of end
 joined-append b c rest end h1 = grind (arith, cases_Bool, joined-space, chunk-solid, joined-solid, first-append)
 
-pub chunks-split : (start end : List ℕ) → IsBorder start end → chunks_of (start ++ end) ≡ chunks_of start ++ chunks_of end
+pub chunks-split : (start end : List ℕ) → IsBorder start end → chunks_of (start ++ end) ≡ chunks_of start ++ chunks_of
+    end
 chunks-split [] end border = grind (arith, chunks-empty)
 chunks-split (b ∷ []) end border =
     grind (arith, cases_Bool, chunks-space, chunks-empty, chunks-step, alone, last-border)
@@ -109,7 +111,8 @@ after-border : (chunk left blanks rest : List ℕ) → blanks ≡ prefix_of is_s
     → BeginsWithNo is_solid left → IsBorder (chunk ++ blanks) rest
 after-border chunk left [] rest are same ends = inr (subst (BeginsWithNo is_solid) same ends)
 after-border chunk left (b ∷ blanks) rest are same ends =
-    inl (ends-last chunk b blanks ∙ ends-all (b ∷ blanks) (subst (AreAll is_space) (sym are) (prefix_of-all is_space left)))
+    inl (ends-last chunk b blanks ∙ ends-all (b ∷ blanks) (subst (AreAll is_space) (sym are)
+    (prefix_of-all is_space left)))
 
 pub part-of : (text chunk rest : List ℕ) → chunk ≡ prefix_of is_solid text
     → rest ≡ rest_of is_space (rest_of is_solid text) → IsPart text chunk rest

@@ -6,7 +6,8 @@ use Rattle.semver_versions.specs.Characters.{BeginsWith, BeginsWithNo}
 use Rattle.semver_versions.specs.Reading.{prefix_of, rest_of}
 use Rattle.npm_sets.specs.WordTexts.{chunks_of, is_dash, is_solid, is_space}
 use Rattle.npm_sets.specs.WordTexts.{sides_of}
-use Rattle.npm_sets.proofs.Chunks.ChunkLemmas.{chunk-first, chunks-empty, left-solid, prefix-empty, prefix-step, solid-start}
+use Rattle.npm_sets.proofs.Chunks.ChunkLemmas.{chunk-first, chunks-empty, left-solid, prefix-empty, prefix-step}
+use Rattle.npm_sets.proofs.Chunks.ChunkLemmas.{solid-start}
 
 -- a chunk and those after it, or none if there is no chunk
 abbrev pub and_more : List ℕ → List (List ℕ) → List (List ℕ)

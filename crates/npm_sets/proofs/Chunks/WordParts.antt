@@ -27,7 +27,8 @@ two-words : (b : ℕ) (chunk next : List ℕ) (lead : Lead) → (lead, []) ≡ l
 two-words b chunk next lead h1 = grind (arith, one-word, word-next, no-words)
 
 -- the first chunk has a character
-chunk-begins : (text chunk : List ℕ) → BeginsWith is_solid text → chunk ≡ prefix_of is_solid text → BeginsWith is_solid chunk
+chunk-begins : (text chunk : List ℕ) → BeginsWith is_solid text → chunk ≡ prefix_of is_solid text → BeginsWith is_solid
+    chunk
 chunk-begins text chunk solid first = subst (BeginsWith is_solid) (sym first) (prefix_of-begins is_solid text solid)
 
 one-chunk : (chunk : List ℕ) (word : Word) → BeginsWith is_solid chunk → word ≡ lead_of chunk

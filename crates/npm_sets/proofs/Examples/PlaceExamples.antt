@@ -16,7 +16,8 @@ strict = record { loose = false; include_prerelease = false }
 
 -- the first word
 first : IsRefusedAt strict (codes "foo") 0
-unfolding pieces_of chunks_of words_of partial_of has_none_padded comparators_of prefix_of rest_of read_number read_extras
+unfolding pieces_of chunks_of words_of partial_of has_none_padded comparators_of prefix_of rest_of read_number
+    read_extras
     read_prerelease read_build list_prefix list_rest skip_one skip_plus ends_in_space chars encode
 first = record {
   before = [];
@@ -46,7 +47,8 @@ first = record {
 
 -- a word after a comparator
 second : IsRefusedAt strict (codes "^1 foo") 3
-unfolding pieces_of chunks_of words_of partial_of has_none_padded comparators_of prefix_of rest_of read_number read_extras
+unfolding pieces_of chunks_of words_of partial_of has_none_padded comparators_of prefix_of rest_of read_number
+    read_extras
     read_prerelease read_build list_prefix list_rest skip_one skip_plus ends_in_space chars encode
 second = record {
   before = codes "^1 ";
@@ -76,7 +78,8 @@ second = record {
 
 -- `-`, since only a whole piece is a hyphen range
 dash : IsRefusedAt strict (codes "1 - 2 3") 2
-unfolding pieces_of chunks_of words_of partial_of has_none_padded comparators_of prefix_of rest_of read_number read_extras
+unfolding pieces_of chunks_of words_of partial_of has_none_padded comparators_of prefix_of rest_of read_number
+    read_extras
     read_prerelease read_build list_prefix list_rest skip_one skip_plus ends_in_space chars encode
 dash = record {
   before = codes "1 ";
@@ -106,7 +109,8 @@ dash = record {
 
 -- `>= a`, after a hyphen range and an empty piece; `bar` is not reached
 later : IsRefusedAt strict (codes "1 - 2||||3  >= a <4||bar") 12
-unfolding pieces_of chunks_of words_of partial_of has_none_padded comparators_of prefix_of rest_of read_number read_extras
+unfolding pieces_of chunks_of words_of partial_of has_none_padded comparators_of prefix_of rest_of read_number
+    read_extras
     read_prerelease read_build list_prefix list_rest skip_one skip_plus ends_in_space chars encode
 later = record {
   before = codes "1 - 2||||3  ";
@@ -136,7 +140,8 @@ later = record {
 
 -- `b` after `1` and a no-break space, which has two bytes
 wide : IsRefusedAt strict (encode_utf8_all (49 ∷ 160 ∷ 98 ∷ [])) 3
-unfolding pieces_of chunks_of words_of partial_of has_none_padded comparators_of prefix_of rest_of read_number read_extras
+unfolding pieces_of chunks_of words_of partial_of has_none_padded comparators_of prefix_of rest_of read_number
+    read_extras
     read_prerelease read_build list_prefix list_rest skip_one skip_plus ends_in_space chars encode
 wide = record {
   before = 49 ∷ 160 ∷ [];

@@ -1,5 +1,6 @@
 -- A full text is one piece of one chunk, and one word: its mark and its operand.
-use Rattle.std.proofs.Common.{◌≡◌, ◌∙◌, ◌<◌, ℕ, zero, suc, Bool, true, false, List, [], ◌∷◌, ◌++◌, ap, arith, refl, sym, subst}
+use Rattle.std.proofs.Common.{◌≡◌, ◌∙◌, ◌<◌, ℕ, zero, suc, Bool, true, false, List, [], ◌∷◌, ◌++◌, ap, arith, refl, sym}
+use Rattle.std.proofs.Common.{subst}
 use Rattle.std.proofs.lemmas.Bool.{and_from, and_parts}
 use Rattle.std.proofs.lemmas.Bool.Decides.{nat_tests}
 use Rattle.std.proofs.lemmas.List.{append-nil}
@@ -65,7 +66,8 @@ ascii-character b h = grind (arith, nat_tests)
 
 pub full-ascii : (text : List ℕ) → AreAll is_full_character text → IsAscii text
 full-ascii [] all i = omega arith
-full-ascii (b ∷ text) all zero = ascii-character b (and_parts (is_full_character b) (list_all is_full_character text) all).0
+full-ascii (b ∷ text) all zero = ascii-character b (and_parts (is_full_character b) (list_all is_full_character text)
+    all).0
 full-ascii (b ∷ text) all (suc i) =
     full-ascii text (and_parts (is_full_character b) (list_all is_full_character text) all).1 i
 

@@ -30,7 +30,8 @@ use Rattle.npm_sets.specs.Private.ReadViews.{IsNumberBefore, full_mark}
 use Rattle.npm_sets.specs.Rows.{lead_comparator, lead_row}
 use Rattle.npm_sets.specs.WordTexts.{Word}
 use Rattle.npm_sets.specs.declared.options.NpmOptions.{NpmOptions}
-use Rattle.npm_sets.proofs.Full.FullDivision.{full-ascii, full-piece, full-word, lead_named, mark-chunk, mark-full, operand-full}
+use Rattle.npm_sets.proofs.Full.FullDivision.{full-ascii, full-piece, full-word, lead_named, mark-chunk, mark-full}
+use Rattle.npm_sets.proofs.Full.FullDivision.{operand-full}
 use Rattle.npm_sets.proofs.Full.FullPartial.{full-partial, number-begins}
 use Rattle.npm_sets.proofs.PlainSpaces.{ascii-plain}
 use Rattle.npm_sets.proofs.Pieces.SetMeaning.{npm-sets-admit}
@@ -105,7 +106,8 @@ one-piece : (options : NpmOptions) (piece : List ℕ) (c : Comparator) → piece
 one-piece options piece c is = grind (arith, pieces-more options piece, pieces-end options)
 
 -- a mark and three numbers
-module _ (options : NpmOptions) (text operand second third : List ℕ) (lead : FullLead) (form : Form) (major minor patch : ℕ)
+module _ (options : NpmOptions) (text operand second third : List ℕ) (lead : FullLead) (form : Form)
+    (major minor patch : ℕ)
     (marked : text ≡ full_mark lead ++ operand) (short : length text ≤ MAX_LENGTH)
     (one : IsNumberBefore options.loose operand major (dot ∷ second))
     (two : IsNumberBefore options.loose second minor (dot ∷ third))

@@ -203,7 +203,8 @@ some-gathered options text left sets found result given so end is same some told
       some-accepted options text left sets found so end is,
     )
 
-pub none-gathered : (options : NpmOptions) (text : List ℕ) (left : Option (List ℕ)) (sets given : List (Ends VersionValue))
+pub none-gathered : (options : NpmOptions) (text : List ℕ) (left : Option (List ℕ))
+    (sets given : List (Ends VersionValue))
     (found : Bool) (result : Option Sets) → PiecesSoFar options text left sets found → left ≡ None → found ≡ true
     → sets_of_some result ≡ sets → result ≡ None → given ≡ no_versions ∷ [] → IsResult options text given
 none-gathered options text left sets given found result so end is same told alone =

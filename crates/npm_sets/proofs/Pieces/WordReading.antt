@@ -70,7 +70,8 @@ with-ignored : (loose : Bool) (fault : Fault) (more : Option (List Comparator)) 
 with-ignored loose fault more h1 = grind arith
 
 -- with a word that refuses the text
-pub with-refused : (loose : Bool) (fault : Fault) (more : Option (List Comparator)) → (loose && is_unknown fault) ≡ false
+pub with-refused : (loose : Bool) (fault : Fault) (more : Option (List Comparator)) → (loose && is_unknown fault) ≡
+    false
     → with_word loose (Err fault) more ≡ None
 with-refused loose fault more h1 = grind arith
 

@@ -148,7 +148,8 @@ same-beginning one two other rest h1 h2 = grind (arith, begins-other, plain-none
 pub one-place : (options : NpmOptions) (text : List ℕ) → HasOnePlace options text
 one-place options text m n here there =
     let whole : here.before ++ here.after ≡ there.before ++ there.after = sym here.whole ∙ there.whole in
-    let plain_whole : plain_text here.before ++ plain_text here.after ≡ plain_text there.before ++ plain_text there.after =
+    let plain_whole : plain_text here.before ++ plain_text here.after ≡ plain_text there.before ++ plain_text
+    there.after =
     sym (plain-append here.before here.after) ∙ ap plain_text whole ∙ plain-append there.before there.after in
     grind (
       arith,

@@ -1,10 +1,13 @@
 -- Places in a text, and in the same text with a space for each white space character outside ASCII.
 use Rattle.std.proofs.Common.{◌≡◌, ◌∙◌, ◌<◌, ◌+◌, ◌-◌, ℕ, suc, List, [], ◌∷◌, ◌++◌, ap, refl, sym, subst}
-use Rattle.std.proofs.Common.{IsAscii, IsUtf8, IsCharBoundary, arith, chars, encode_utf8, encode_utf8_all, get_or, inl, inr}
+use Rattle.std.proofs.Common.{IsAscii, IsUtf8, IsCharBoundary, arith, chars, encode_utf8, encode_utf8_all, get_or, inl}
+use Rattle.std.proofs.Common.{inr}
 use Rattle.std.proofs.Common.{length, length-append, map}
 use Rattle.std.proofs.lemmas.List.{append-nil, append_assoc, append_cancel_left, drop_at, take_at}
-use Rattle.std.proofs.lemmas.Str.{IsCharBoundary-after_ascii, IsCharBoundary-start, IsUtf8-drop, IsUtf8-past_char, IsUtf8-take}
-use Rattle.std.proofs.lemmas.Str.{chars-IsAscii, chars_past_char, encodes-IsAscii, encodes-append, encodes-chars, encodes_same}
+use Rattle.std.proofs.lemmas.Str.{IsCharBoundary-after_ascii, IsCharBoundary-start, IsUtf8-drop, IsUtf8-past_char}
+use Rattle.std.proofs.lemmas.Str.{IsUtf8-take}
+use Rattle.std.proofs.lemmas.Str.{chars-IsAscii, chars_past_char, encodes-IsAscii, encodes-append, encodes-chars}
+use Rattle.std.proofs.lemmas.Str.{encodes_same}
 use Rattle.std.proofs.lemmas.Str.{length-le-encodes}
 use Rattle.npm_sets.specs.Private.RefusedViews.{IsAsciiEnd, IsLengthBefore, IsPlace}
 use Rattle.npm_sets.specs.RefusedPlace.{IsRefusedAt}

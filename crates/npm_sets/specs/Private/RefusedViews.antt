@@ -1,5 +1,6 @@
 -- What the private functions return that look for the first word that is no comparator.
-use Rattle.std.specs.Prelude.{◌≡◌, ◌⊎◌, ℕ, ◌<◌, true, List, [], ◌∷◌, ◌++◌, Option, Some, None, IsOk, chars, encode_utf8_all}
+use Rattle.std.specs.Prelude.{◌≡◌, ◌⊎◌, ℕ, ◌<◌, true, List, [], ◌∷◌, ◌++◌, Option, Some, None, IsOk, chars}
+use Rattle.std.specs.Prelude.{encode_utf8_all}
 use Rattle.std.specs.Prelude.{length}
 use Rattle.std.specs.List.{AllByRecursion}
 use Rattle.semver_versions.specs.Characters.{BeginsWithNo}

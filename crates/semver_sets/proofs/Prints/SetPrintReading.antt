@@ -41,7 +41,12 @@ pub record IsReadAlike (text : List ℕ) (set : Ends VersionValue) : Type 0 wher
   pub begins : BeginsWith is_not_blank text
 
 itself : (set : Ends VersionValue) → AreSameEnds version_cmp set set
-itself set = grind (arith, tied_itself (cut_total version_total) set.lower, tied_itself (cut_total version_total) set.upper)
+itself set = grind (
+  arith,
+  tied_itself (cut_total version_total) set.lower,
+  tied_itself (cut_total version_total)
+      set.upper,
+)
 
 -- of one word
 word-read_alike : (text : List ℕ) (c : Comparator) (set : Ends VersionValue) → IsPrintedWord text [] c
@@ -156,12 +161,28 @@ set_ends-read Start (After w) lt some a b =
     word-read_alike (upper_text (After w)) (at_most w) (at_most w) (at_most-word w b) refl (itself (at_most w))
 set_ends-read Start End lt some a b = absurd (some (refl, refl))
 set_ends-read (Before v) Start lt some a b = cc lt
-set_ends-read (Before v) (Before w) lt some a b = grind (arith, two-read (lower_text (Before v)) (upper_text (Before w)) (Before v) (Before w) (at_least-word v (codes " " ++ upper_text (Before w)) a refl) (below-word w b) refl refl lt)
+set_ends-read (Before v) (Before w) lt some a b = grind (
+  arith,
+  two-read (lower_text (Before v)) (upper_text (Before w))
+      (Before v) (Before w) (at_least-word v (codes " " ++ upper_text (Before w)) a refl) (below-word w b) refl refl lt,
+)
 set_ends-read (Before v) (After w) lt some a b = between-read v w lt a b
-set_ends-read (Before v) End lt some a b = grind (arith, word-read_alike (lower_text (Before v)) (at_least v) (at_least v) (at_least-word v [] a tt) refl (itself (at_least v)))
+set_ends-read (Before v) End lt some a b = grind (
+  arith,
+  word-read_alike (lower_text (Before v)) (at_least v)
+      (at_least v) (at_least-word v [] a tt) refl (itself (at_least v)),
+)
 set_ends-read (After v) Start lt some a b = cc lt
-set_ends-read (After v) (Before w) lt some a b = grind (arith, two-read (lower_text (After v)) (upper_text (Before w)) (After v) (Before w) (above-word v (codes " " ++ upper_text (Before w)) a refl) (below-word w b) refl refl lt)
-set_ends-read (After v) (After w) lt some a b = grind (arith, two-read (lower_text (After v)) (upper_text (After w)) (After v) (After w) (above-word v (codes " " ++ upper_text (After w)) a refl) (at_most-word w b) refl refl lt)
+set_ends-read (After v) (Before w) lt some a b = grind (
+  arith,
+  two-read (lower_text (After v)) (upper_text (Before w))
+      (After v) (Before w) (above-word v (codes " " ++ upper_text (Before w)) a refl) (below-word w b) refl refl lt,
+)
+set_ends-read (After v) (After w) lt some a b = grind (
+  arith,
+  two-read (lower_text (After v)) (upper_text (After w))
+      (After v) (After w) (above-word v (codes " " ++ upper_text (After w)) a refl) (at_most-word w b) refl refl lt,
+)
 set_ends-read (After v) End lt some a b =
     word-read_alike (lower_text (After v)) (above v) (above v) (above-word v [] a tt) refl (itself (above v))
 set_ends-read End Start lt some a b = cc lt

@@ -20,7 +20,13 @@ joined-pieces : (one other : List ℕ) (ones others : List (List ℕ)) → ¬ En
 joined-pieces one other [] others no_end first second = absurd first
 joined-pieces one other (piece ∷ []) [] no_end first second = absurd second
 joined-pieces one other (piece ∷ []) (next ∷ others) no_end first second = grind arith
-joined-pieces one other (piece ∷ next ∷ ones) others no_end first second = grind (arith, append_assoc, later-ends, joined-pieces first.0 other (next ∷ ones) others (λ ends. no_end (later-ends one piece first.0 first.1.whole ends)) first.2 second)
+joined-pieces one other (piece ∷ next ∷ ones) others no_end first second = grind (
+  arith,
+  append_assoc,
+  later-ends,
+  joined-pieces first.0 other (next ∷ ones) others
+      (λ ends. no_end (later-ends one piece first.0 first.1.whole ends)) first.2 second,
+)
 
 -- ---- alternatives
 
@@ -66,4 +72,13 @@ joined-sets _ twos _ others (no_more comparators alternatives sets gives first) 
 pub sets-of_joined : (one other : List ℕ) (sets others : List (Ends VersionValue)) → AreJoinable one other
     → AreSetsOfText one sets → AreSetsOfText other others
     → AreSetsOfText (joined_text one other) (sets ++ others)
-sets-of_joined one other sets others joinable first second = grind (arith, joined-pieces one other first.written.pieces second.written.pieces joinable.ends_in_none first.written.divided second.written.divided, joined-alternatives first.written.pieces second.written.pieces first.alternatives second.alternatives first.written.read (all-later other second.written.pieces second.alternatives second.written.divided joinable.begins_with_none second.written.read), joined-sets first.alternatives second.alternatives sets others first.merged second.merged)
+sets-of_joined one other sets others joinable first second = grind (
+  arith,
+  joined-pieces one other first.written.pieces second.written.pieces joinable.ends_in_none
+      first.written.divided second.written.divided,
+  joined-alternatives first.written.pieces second.written.pieces
+      first.alternatives second.alternatives first.written.read
+      (all-later other second.written.pieces second.alternatives second.written.divided joinable.begins_with_none
+      second.written.read),
+  joined-sets first.alternatives second.alternatives sets others first.merged second.merged,
+)

@@ -28,7 +28,16 @@ led-no_right text h1 = grind (arith, right-no_blank, cases_Bool, blank-lead)
 -- nor is a lead and a partial one, where nothing is left
 only-no_hyphen : (text operand : List ℕ) (l : Lead) (p : Partial) → (l, operand) ≡ read_lead text
     → Some (p, []) ≡ read_partial operand → read_hyphen text ≡ None
-only-no_hyphen text operand l p led read = grind (arith, lead-cases, lead-plain, hyphen-with_left, right-none, left-ends, led-no_right, lead-not_partial)
+only-no_hyphen text operand l p led read = grind (
+  arith,
+  lead-cases,
+  lead-plain,
+  hyphen-with_left,
+  right-none,
+  left-ends,
+  led-no_right,
+  lead-not_partial,
+)
 
 -- ---- the only comparator
 
@@ -60,4 +69,9 @@ pub only-word : (text operand : List ℕ) (l : Lead) (p : Partial) (found : Opti
     → (l, operand) ≡ read_lead text → Some (p, []) ≡ read_partial operand → found ≡ lead_comparator l p
     → IfSome found (IsOnlyComparator text)
 only-word text operand l p None led read found = tt
-only-word text operand l p (Some c) led read found = grind (arith, only-taken text c (only-no_hyphen text operand l p led read) (simple-takes text (Some c) [] (only-simple text operand l p led read ∙ ap (λ (o : Option Comparator). Some (o, [])) (sym found))))
+only-word text operand l p (Some c) led read found = grind (
+  arith,
+  only-taken text c
+      (only-no_hyphen text operand l p led read) (simple-takes text (Some c) []
+      (only-simple text operand l p led read ∙ ap (λ (o : Option Comparator). Some (o, [])) (sym found))),
+)

@@ -231,7 +231,12 @@ pass-free text i (suc n) h free passed =
 
 free-from : (text hay : List ℕ) (i n : ℕ) → hay ≡ drop i text → Nowhere (Passes (is_byte bar) hay) 0 n
     → (k : ℕ) → i ≤ k → k < i + n → (get_or text k 0 == bar) ≡ false
-free-from text hay i n same none k low high = grind (arith, get_or-drop i text (k - i) 0, cases_Bool (get_or text k 0 == bar))
+free-from text hay i n same none k low high = grind (
+  arith,
+  get_or-drop i text (k - i) 0,
+  cases_Bool
+      (get_or text k 0 == bar),
+)
 
 -- up to the first bar of the remaining text
 pub pass-to_bar : (text hay : List ℕ) (i n : ℕ) → hay ≡ drop i text → i + n ≤ length text

@@ -58,7 +58,15 @@ all-bounded (piece ∷ pieces) (a ∷ alternatives) are =
 -- the set of such comparators is one that a range can have
 pub set-bounded : (comparators : List Comparator) (set : Ends VersionValue) → GiveSet comparators
     → IsSetOf comparators set → IsReadAlternative comparators → IsRangeSet set
-set-bounded comparators set gives is read = grind (arith, all_middle IsReadEnds is.lower.before is.lower.after is.lower.span (subst (AllByRecursion IsReadEnds) is.lower.parts read), all_middle IsReadEnds is.upper.before is.upper.after is.upper.span (subst (AllByRecursion IsReadEnds) is.upper.parts read), merged-gives comparators set is)
+set-bounded comparators set gives is read = grind (
+  arith,
+  all_middle IsReadEnds is.lower.before is.lower.after
+      is.lower.span (subst (AllByRecursion IsReadEnds) is.lower.parts read),
+  all_middle IsReadEnds is.upper.before
+      is.upper.after is.upper.span (subst (AllByRecursion IsReadEnds) is.upper.parts read),
+  merged-gives comparators set
+      is,
+)
 
 -- so are the sets of such alternatives
 pub sets-bounded : (alternatives : List (List Comparator)) (sets : List (Ends VersionValue))

@@ -1,4 +1,5 @@
--- A version that is looked for inside the sets, prerelease or not: which sets contain it, and how many comparisons it takes.
+-- A version that is looked for inside the sets, prerelease or not: which sets contain it, and how many comparisons it
+-- takes.
 use native.Mathlib.Omega.{arith}
 use Rattle.std.proofs.Common.{◌↔◌, ℕ, ◌+◌, ◌≤◌, ◌<◌, ◌^◌, List, [], ◌∷◌, inl, inr, subst}
 use Rattle.semver_cuts.specs.declared.cut.Cut.TheVariants.{Before}

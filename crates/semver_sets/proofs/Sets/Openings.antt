@@ -77,7 +77,14 @@ pub named-all : (v : VersionValue) (place : ℕ) (sets : List (Ends VersionValue
     → map (λ (o : Opening). o.place) (filter (is_opening_of v) (openings_from place sets)) ≡ places_opening v place sets
 unfolding named
 named-all v place [] = refl
-named-all v place (set ∷ sets) = grind (arith, named-append v (openings_of place set) (openings_from (place + 1) sets), named-set place v set, place-then place (has_open_end v set) (places_opening v (place + 1) sets), named-all v (place + 1) sets)
+named-all v place (set ∷ sets) = grind (
+  arith,
+  named-append v (openings_of place set) (openings_from (place + 1) sets),
+  named-set place v set,
+  place-then place (has_open_end v set) (places_opening v (place + 1) sets),
+  named-all v
+      (place + 1) sets,
+)
 
 -- ---- what they say of a version
 
@@ -187,7 +194,11 @@ module _ (v : VersionValue) (sets : List (Ends VersionValue)) (openings : List O
 
   pub opening-outside : ¬ AnyByRecursion (λ (o : Opening). IsInside v (span_at sets o.place)) (take k openings)
       → ¬ IsInside v set → ¬ AnyByRecursion (λ (o : Opening). IsInside v (span_at sets o.place)) (take (k + 1) openings)
-  opening-outside none outside = grind (arith, none-more (λ (o : Opening). IsInside v (span_at sets o.place)) openings k (get_or openings k o) within opening-is none (λ inside. outside (subst (IsInside v) (sym set-is) inside)))
+  opening-outside none outside = grind (
+    arith,
+    none-more (λ (o : Opening). IsInside v (span_at sets o.place)) openings k
+        (get_or openings k o) within opening-is none (λ inside. outside (subst (IsInside v) (sym set-is) inside)),
+  )
 
 -- ---- releases
 

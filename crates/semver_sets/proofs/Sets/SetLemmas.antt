@@ -69,8 +69,10 @@ sets-admit : (alternatives : List (List Comparator)) (sets : List (Ends VersionV
     → RangeAdmits sets v ↔ AnyByRecursion (AdmitSome v) alternatives
 sets-admit [] [] v none = (λ nowhere. nowhere, λ nowhere. nowhere)
 sets-admit [] (s ∷ sets) v m = elim m [ ]
-sets-admit (c ∷ alternatives) (s ∷ sets) v (one_more _ _ _ _ g i more) = grind (arith, merged-admits, sets-admit alternatives sets v more)
-sets-admit (c ∷ alternatives) sets v (no_more _ _ _ n more) = grind (arith, gives-from, sets-admit alternatives sets v more)
+sets-admit (c ∷ alternatives) (s ∷ sets) v (one_more _ _ _ _ g i more) = grind
+    (arith, merged-admits, sets-admit alternatives sets v more)
+sets-admit (c ∷ alternatives) sets v (no_more _ _ _ n more) = grind
+    (arith, gives-from, sets-admit alternatives sets v more)
 
 -- the sets of a text admit just what the text admits
 pub text-admits : (text : List ℕ) (sets : List (Ends VersionValue)) → AreSetsOfText text sets → (v : VersionValue)
@@ -90,7 +92,8 @@ sets-unique : (alternatives : List (List Comparator)) (one other : List (Ends Ve
 sets-unique [] [] [] none none = refl
 sets-unique [] [] (t ∷ other) m n = elim n [ ]
 sets-unique [] (s ∷ one) other m n = elim m [ ]
-sets-unique (c ∷ alternatives) (s ∷ one) (t ∷ other) (one_more _ _ _ _ g i more) (one_more _ _ _ _ h j next) = grind (arith, set-unique c s t i j, sets-unique alternatives one other more next)
+sets-unique (c ∷ alternatives) (s ∷ one) (t ∷ other) (one_more _ _ _ _ g i more) (one_more _ _ _ _ h j next) = grind
+    (arith, set-unique c s t i j, sets-unique alternatives one other more next)
 sets-unique (c ∷ alternatives) (s ∷ one) other (one_more _ _ _ _ g i more) (no_more _ _ _ n next) = absurd (n g)
 sets-unique (c ∷ alternatives) one (t ∷ other) (no_more _ _ _ n more) (one_more _ _ _ _ h j next) = absurd (n h)
 sets-unique (c ∷ alternatives) one other (no_more _ _ _ n more) (no_more _ _ _ m next) =
@@ -99,4 +102,9 @@ sets-unique (c ∷ alternatives) one other (no_more _ _ _ n more) (no_more _ _ _
 -- a text writes one list of sets
 pub one-merging : (text : List ℕ) (one other : List (Ends VersionValue)) → AreSetsOfText text one
     → AreSetsOfText text other → one ≡ other
-one-merging text one other m n = grind (arith, sets-unique n.alternatives one other (subst (λ (l : List (List Comparator)). AreSetsOf l one) (written-unique text m.alternatives n.alternatives m.written n.written) m.merged) n.merged)
+one-merging text one other m n = grind (
+  arith,
+  sets-unique n.alternatives one other
+      (subst (λ (l : List (List Comparator)). AreSetsOf l one)
+      (written-unique text m.alternatives n.alternatives m.written n.written) m.merged) n.merged,
+)

@@ -21,7 +21,8 @@ pub record TakesComponent (text : List ℕ) (component : Option ℕ) (rest : Lis
 number_component-takes : (text : List ℕ) (read : Read ℕ) (component : Option ℕ) (rest : List ℕ)
     → read_number text ≡ read → number_component read ≡ Some (component, rest) → TakesComponent text component rest
 number_component-takes text (Err e) component rest r h = cc h
-number_component-takes text (Ok n) component rest r h = grind (arith, same_Some (Some n.0, n.1) (component, rest) h, number-takes text n.0 n.1 r)
+number_component-takes text (Ok n) component rest r h = grind
+    (arith, same_Some (Some n.0, n.1) (component, rest) h, number-takes text n.0 n.1 r)
 
 -- the text before the rest is a component
 pub component-takes : (text : List ℕ) (component : Option ℕ) (rest : List ℕ)

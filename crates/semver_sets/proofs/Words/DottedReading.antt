@@ -73,7 +73,8 @@ third-taken first second text major minor (Some c) p rest one_read two_read r h 
 from_patch-taken : (first second text : List ℕ) (major minor : Option ℕ) (p : Partial) (rest : List ℕ)
     → IsComponentText first major → IsComponentText second minor → read_from_patch major minor text ≡ Some (p, rest)
     → TakesComponents (first ++ (dot ∷ (second ++ text))) p rest
-from_patch-taken first second text major minor p rest h1 h2 h3 = grind (arith, two-taken, cases_Bool, eqb-true, third-taken)
+from_patch-taken first second text major minor p rest h1 h2 h3 = grind
+    (arith, two-taken, cases_Bool, eqb-true, third-taken)
 
 -- a second component and the rest
 second-taken : (first text : List ℕ) (major : Option ℕ) (read : Component) (p : Partial) (rest : List ℕ)
@@ -109,7 +110,8 @@ pub components-again : (text rest : List ℕ) (p : Partial) → IsUnmarkedPartia
     → read_components (text ++ rest) ≡ Some (p, rest)
 unfolding read_components
 components-again text rest p (one major says h) clean = grind (arith, component-again, clean-no_digit)
-components-again text rest p (two major minor says h) clean = grind (arith, append_assoc, component-again, clean-no_digit)
+components-again text rest p (two major minor says h) clean = grind
+    (arith, append_assoc, component-again, clean-no_digit)
 components-again text rest p (three h) clean =
     let whole : text ++ rest ≡ h.first ++ (dot ∷ (h.second ++ (dot ∷ (h.third ++ (h.extras ++ rest))))) =
     ap (λ (l : List ℕ). l ++ rest) h.whole ∙ sym (regroup h.first h.second h.third h.extras rest) in

@@ -101,12 +101,21 @@ unmarked-none text p (three h) =
     (component-none h.first p.major h.major_text) second)
 
 partial-none : (text : List ℕ) (p : Partial) → IsPartialText text p → HasNoBar text
-partial-none text p h = grind (arith, none-append (mark_of is_partial_mark text) (h.blanks ++ h.unmarked) (mark-none is_partial_mark text refl) (none-append h.blanks h.unmarked (all-none is_blank h.blanks refl h.blank) (unmarked-none h.unmarked p h.read)))
+partial-none text p h = grind (
+  arith,
+  none-append (mark_of is_partial_mark text) (h.blanks ++ h.unmarked)
+      (mark-none is_partial_mark text refl) (none-append h.blanks h.unmarked (all-none is_blank h.blanks refl h.blank)
+      (unmarked-none h.unmarked p h.read)),
+)
 
 -- ---- words
 
 led-none : (lead text : List ℕ) (p : Partial) → HasNoBar lead → IsLed lead text p → HasNoBar text
-led-none lead text p none h = grind (arith, none-append lead (h.blanks ++ h.operand) none (none-append h.blanks h.operand (all-none is_blank h.blanks refl h.blank) (partial-none h.operand p h.read)))
+led-none lead text p none h = grind (
+  arith,
+  none-append lead (h.blanks ++ h.operand) none
+      (none-append h.blanks h.operand (all-none is_blank h.blanks refl h.blank) (partial-none h.operand p h.read)),
+)
 
 operator-none : (o : Operator) → HasNoBar (operator_text o)
 operator-none o = grind arith
@@ -116,7 +125,11 @@ simple-none text c (by_operator h) =
     led-none (operator_text h.operator) text h.partial (operator-none h.operator) h.written
 simple-none text c (plain h) = partial-none text h.partial h.written
 simple-none text c (by_tilde (with_tilde p h says)) = led-none (tilde ∷ []) text p refl h
-simple-none text c (by_tilde (with_tilde_greater blanks p all h says)) = grind (arith, led-none (tilde ∷ (blanks ++ (greater_sign ∷ []))) text p (none-append blanks (greater_sign ∷ []) (all-none is_blank blanks refl all) refl) h)
+simple-none text c (by_tilde (with_tilde_greater blanks p all h says)) = grind (
+  arith,
+  led-none (tilde ∷ (blanks ++ (greater_sign ∷ []))) text p
+      (none-append blanks (greater_sign ∷ []) (all-none is_blank blanks refl all) refl) h,
+)
 simple-none text c (by_caret h) = led-none (caret ∷ []) text h.partial refl h.written
 
 -- where there is none, there is no `||`

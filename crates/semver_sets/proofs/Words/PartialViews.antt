@@ -62,7 +62,8 @@ major-alone text rest major p read none whole = rw (← read) (minor-none major 
 
 pub major-and-minor : (text behind second rest : List ℕ) (major minor : Option ℕ) (p : Partial)
     → Some (major, behind) ≡ read_component text → behind ≡ dot ∷ second → Some (minor, rest) ≡ read_component second
-    → None ≡ after_dot rest → p ≡ with_extras major minor None (read_extras []).0 → Some (p, rest) ≡ read_components text
+    → None ≡ after_dot rest → p ≡ with_extras major minor None (read_extras []).0 → Some (p, rest) ≡ read_components
+    text
 unfolding read_components
 major-and-minor text behind second rest major minor p one dotted two none whole = grind (arith, patch-none)
 

@@ -42,7 +42,8 @@ led-taken lead text operand rest p f h = (
 simple-taken : (lead : Lead) (text operand rest : List ℕ) (p : Partial) → StandsBefore lead text (operand ++ rest)
     → IsPartialText operand p → IsCleanEnd rest → TakesSimple text (lead_comparator lead p) rest
 simple-taken no_lead text operand rest p f h clean = grind arith
-simple-taken (operator o) text operand rest p f h clean = grind (arith, led-taken (operator_text o) text operand rest p f h)
+simple-taken (operator o) text operand rest p f h clean = grind
+    (arith, led-taken (operator_text o) text operand rest p f h)
 simple-taken tilde_lead text operand rest p f h clean =
     let t = led-taken (tilde ∷ []) text operand rest p f h in
     record { taken = t.0; whole = t.1; read = by_tilde (with_tilde p t.2 refl); clean = clean }

@@ -71,7 +71,13 @@ record HasEnds (z : VersionValue) : Type 0 where
   from_minor : IsRangeEnd (release z.major (z.minor + 1) 0)
 
 version-ends : (z : VersionValue) → IsReadVersion z → HasEnds z
-version-ends z is = grind (arith, least-end z.major z.minor (z.patch + 1) (omega arith, omega arith, omega arith), release-end z.major 0 0 (omega arith, omega arith, omega arith), release-end z.major z.minor 0 (omega arith, omega arith, omega arith))
+version-ends z is = grind (
+  arith,
+  least-end z.major z.minor (z.patch + 1) (omega arith, omega arith, omega arith),
+  release-end z.major 0 0 (omega arith, omega arith, omega arith),
+  release-end z.major z.minor 0
+      (omega arith, omega arith, omega arith),
+)
 
 form-ends : (form : Form) (z : VersionValue) → HasEnds z → IsReadEnds (ends_of form z)
 form-ends form z h1 = grind (arith, release-end)

@@ -16,7 +16,8 @@ use Rattle.semver_cuts.specs.Lemmas.ChosenEnds.{in_every-between}
 use Rattle.semver_sets.specs.Comparator.{Comparator}
 use Rattle.semver_versions.specs.Comparison.{version_cmp}
 use Rattle.semver_sets.specs.Meaning.{AnyByRecursion, GiveSet, HasOpenEnd, IsInside, Opens}
-use Rattle.semver_sets.specs.Merging.{AdmitsTheSame, AreSetsOf, HasOneSet, IsSetOf, LosesNothing, no_more, none, one_more}
+use Rattle.semver_sets.specs.Merging.{AdmitsTheSame, AreSetsOf, HasOneSet, IsSetOf, LosesNothing, no_more, none}
+use Rattle.semver_sets.specs.Merging.{one_more}
 use Rattle.semver_versions.specs.Version.{IsPrerelease, VersionValue}
 use Rattle.semver_versions.specs.Lemmas.Public.{version_total}
 use Rattle.semver_sets.specs.Lemmas.Convex.{convex-lower, convex-upper}
@@ -31,21 +32,33 @@ set-one c = record { lower = chosen_lower-one version_total c; upper = chosen_up
 pub set-push : (comparators : List Comparator) (earlier later merged : Comparator) → IsSetOf comparators earlier
     → IsLaterGreatest version_cmp earlier.lower later.lower merged.lower
     → IsEarlierLeast version_cmp earlier.upper later.upper merged.upper → IsSetOf (comparators ++ later ∷ []) merged
-set-push comparators earlier later merged is lower upper = grind (arith, chosen_lower-push, version_total, chosen_upper-push)
+set-push comparators earlier later merged is lower upper = grind
+    (arith, chosen_lower-push, version_total, chosen_upper-push)
 
 -- ---- one set
 
 -- comparators have no two sets
 pub set-unique : (comparators : List Comparator) (one other : Ends VersionValue) → IsSetOf comparators one
     → IsSetOf comparators other → one ≡ other
-set-unique comparators one other is is' = grind (arith, chosen_lower-unique version_total comparators one.lower other.lower is.lower is'.lower, chosen_upper-unique version_total comparators one.upper other.upper is.upper is'.upper)
+set-unique comparators one other is is' = grind (
+  arith,
+  chosen_lower-unique version_total comparators one.lower
+      other.lower is.lower is'.lower,
+  chosen_upper-unique version_total comparators one.upper other.upper is.upper
+      is'.upper,
+)
 
 -- ---- the cuts of the set
 
 -- comparators give their set where it holds a cut
 pub merged-gives : (comparators : List Comparator) (set : Ends VersionValue) → IsSetOf comparators set
     → GiveSet comparators ↔ HoldsCut version_cmp set
-merged-gives comparators set is = grind (arith, common-holds version_total comparators set.lower set.upper is.lower is.upper, chosen_lower-some version_total comparators set.lower is.lower)
+merged-gives comparators set is = grind (
+  arith,
+  common-holds version_total comparators set.lower set.upper is.lower
+      is.upper,
+  chosen_lower-some version_total comparators set.lower is.lower,
+)
 
 -- ---- what the set admits
 

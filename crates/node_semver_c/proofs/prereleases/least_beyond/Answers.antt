@@ -7,7 +7,8 @@ use Rattle.semver_versions.specs.Version.{VersionValue}
 
 pub returns-in-Ok : goal.returns-in-Ok
 returns-in-Ok c =
-    subst (λ (sets : List (Ends VersionValue)). IsFound (IsLeastContainedBeyond sets c.args.other.now) c.keep_version_found.result
+    subst (λ (sets : List (Ends VersionValue)). IsFound (IsLeastContainedBeyond sets c.args.other.now)
+    c.keep_version_found.result
     c.keep_version_found.new.held.value) c.with_prereleases.ensures
     (found_of (IsLeastContainedBeyond c.with_prereleases.result c.args.other.now) c.in-Ok.found
     c.keep_version_found.result c.keep_version_found.new.held.value record {

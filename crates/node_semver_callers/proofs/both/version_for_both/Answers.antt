@@ -9,5 +9,6 @@ returns-in-Ok-clause-least c =
 
 pub returns-in-Ok-clause-none : goal.returns-in-Ok-clause-none
 returns-in-Ok-clause-none c =
-    let none = none-of_texts c.args.one.now c.args.other.now _ _ c.in_ok-range.ensures.means c.in_ok-with.ensures.means in
+    let none = none-of_texts c.args.one.now c.args.other.now _ _ c.in_ok-range.ensures.means c.in_ok-with.ensures.means
+    in
     (λ no. none.0 (c.in-Ok.ensures.none.0 no), λ no. c.in-Ok.ensures.none.1 (none.1 no))

@@ -13,7 +13,8 @@ returns-in-Some-clause-newest c =
     subst (λ (l : List VersionValue). IsGreatestAdmitted c.args.range.now l c.in-Some.newest.now)
     (map-id c.deref.result.now ∙ c.deref.ensures.value) c.in-Some.ensures.greatest in
     subst (IsNewest c.args.range.now _) (sym c.in_ok-to_version-in-Some.ensures.copy)
-    (newest-of_texts c.args.range.now _ c.in_ok-versions.versions.items c.in_ok-versions.ensures c.in-Some.newest.now found)
+    (newest-of_texts c.args.range.now _ c.in_ok-versions.versions.items c.in_ok-versions.ensures c.in-Some.newest.now
+    found)
 
 pub returns-in-Some-clause-none : goal.returns-in-Some-clause-none
 returns-in-Some-clause-none c =

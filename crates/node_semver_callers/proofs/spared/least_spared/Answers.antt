@@ -8,13 +8,15 @@ pub returns-in_ok-least_beyond-in-Some-clause-least : goal.returns-in_ok-least_b
 returns-in_ok-least_beyond-in-Some-clause-least c =
     least-spared c.args.range.now c.args.advisory.now _
     (beyond-spared c.args.range.now c.args.advisory.now c.in-Some.hit
-    (hits-some c.args.advisory.now _ c.in-Some.hit c.in-Some.is c.in_ok-hit.ensures.admitted)) _ c.in_ok-least_beyond-in-Some.ensures.least
+    (hits-some c.args.advisory.now _ c.in-Some.hit c.in-Some.is c.in_ok-hit.ensures.admitted)) _
+    c.in_ok-least_beyond-in-Some.ensures.least
 
 pub returns-in_ok-least_beyond-in-Some-clause-none : goal.returns-in_ok-least_beyond-in-Some-clause-none
 returns-in_ok-least_beyond-in-Some-clause-none c =
     none-spared c.args.range.now c.args.advisory.now _
     (beyond-spared c.args.range.now c.args.advisory.now c.in-Some.hit
-    (hits-some c.args.advisory.now _ c.in-Some.hit c.in-Some.is c.in_ok-hit.ensures.admitted)) _ c.in_ok-least_beyond-in-Some.ensures.none
+    (hits-some c.args.advisory.now _ c.in-Some.hit c.in-Some.is c.in_ok-hit.ensures.admitted)) _
+    c.in_ok-least_beyond-in-Some.ensures.none
 
 pub returns-in_ok-min_version-in-None-clause-least : goal.returns-in_ok-min_version-in-None-clause-least
 returns-in_ok-min_version-in-None-clause-least c =

@@ -10,7 +10,8 @@ use Rattle.node_semver_callers.proofs.spared.union_of.Given as goal
 
 abbrev pub invariant-loop-range : goal.invariant-loop-range
 invariant-loop-range l = record {
-  admitted : (v : VersionValue) → IsOfSome (λ range. RangeAdmits range v) l.union (take (suc l.range-index) l.fn.ranges);
+  admitted : (v : VersionValue) → IsOfSome (λ range. RangeAdmits range v) l.union
+      (take (suc l.range-index) l.fn.ranges);
   cuts : (cut : Cut VersionValue) →
       IsOfSome (λ range. IsInSome version_cmp range cut) l.union (take (suc l.range-index) l.fn.ranges);
 }

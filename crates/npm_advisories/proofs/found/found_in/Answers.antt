@@ -15,7 +15,8 @@ loop-one-preserved c = λ values is. elim c.match-branch-2.branch [
       let here = c.in_ok-found.ensures values is in
       next-hit c.args.level values c.args.installed.now c.loop-one.one-index c.one-item.result c.loop-one-test.true
       c.one-item.is c.loop-one.all.items c.match-branch-2.all.items w.in-Some.found
-      (ap (λ v. v.items) w.all-is ∙ w.in_ok-push.ensures.items) (c.loop-one.invariant values is) (rw w.in-Some.is at here)
+      (ap (λ v. v.items) w.all-is ∙ w.in_ok-push.ensures.items) (c.loop-one.invariant values is)
+      (rw w.in-Some.is at here)
   | in_default w ↦
       let here = c.in_ok-found.ensures values is in
       next-spared c.args.level values c.args.installed.now c.loop-one.one-index c.one-item.result c.loop-one-test.true

@@ -9,7 +9,8 @@ use Rattle.npm_advisories.proofs.json.hits_json.Goals as goal
 pub loop-about-preserved : goal.loop-about-preserved
 loop-about-preserved c =
     next-value (λ about. about_data (about_value about)) c.args.hits.now c.loop-about.about-index c.about-item.result
-    _ _ _ c.loop-about-test.true c.about-item.is c.in_ok-push.ensures.items c.in_ok-about_json.ensures c.loop-about.invariant
+    _ _ _ c.loop-about-test.true c.about-item.is c.in_ok-push.ensures.items c.in_ok-about_json.ensures
+    c.loop-about.invariant
 
 pub returns : goal.returns
 returns c =

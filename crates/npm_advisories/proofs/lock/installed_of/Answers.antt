@@ -9,7 +9,11 @@ pub loop-folder-preserved-in-Continue-branch-3 : goal.loop-folder-preserved-in-C
 loop-folder-preserved-in-Continue-branch-3 c = λ later are.
     let here = rw c.in-Some-2.is at c.in_ok-installed.ensures in
     let is = rw c.as_str.ensures.value at here in
-    rw (c.in_ok-push.ensures.items, map-append installed_value c.loop-folder.all.items (c.in-Some-2.installed ∷ []), append_assoc)
+    rw (
+      c.in_ok-push.ensures.items,
+      map-append installed_value c.loop-folder.all.items (c.in-Some-2.installed ∷ []),
+      append_assoc,
+    )
     (c.loop-folder.invariant (installed_value c.in-Some-2.installed ∷ later)
     (rw c.in-Some.ensures.steps (one_more _ _ _ _ _ is are)))
 

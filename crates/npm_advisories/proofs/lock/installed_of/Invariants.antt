@@ -9,4 +9,5 @@ use Rattle.npm_advisories.proofs.lock.installed_of.Given as goal
 abbrev pub invariant-loop-folder : goal.invariant-loop-folder
 invariant-loop-folder l = (later : List InstalledValue)
     → AreInstalled (texts_at l.dependents) (members_view l.folder-iterator) later
-    → AreInstalled (texts_at l.dependents) (members_view l.initial.folder-iterator) (map installed_value l.all.items ++ later)
+    → AreInstalled (texts_at l.dependents) (members_view l.initial.folder-iterator)
+    (map installed_value l.all.items ++ later)

@@ -11,5 +11,6 @@ returns-clause-least c =
 
 pub returns-clause-admitted : goal.returns-clause-admitted
 returns-clause-admitted c =
-    same-offer (outside-admitted c.args.advisories.now c.args.version.now c.in_ok-spans.spans.items c.in_ok-spans.ensures
+    same-offer (outside-admitted c.args.advisories.now c.args.version.now c.in_ok-spans.spans.items
+    c.in_ok-spans.ensures
     (map (λ text. text.now) c.args.asked.now)) c.in_ok-admitted.admitted c.in_ok-admitted.ensures

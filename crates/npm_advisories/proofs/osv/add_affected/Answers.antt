@@ -30,6 +30,8 @@ loop-one-preserved c =
 
 pub returns-in_err-add_one-clause-refused : goal.returns-in_err-add_one-clause-refused
 returns-in_err-add_one-clause-refused c =
-    let fault = fault-found c.args.affected.now c.loop-one.one-index c.one-item.result c.loop-one-test.true c.one-item.is
-    (affected_fault is_version) _ c.in_err-add_one.field-0.0 c.in_err-add_one.ensures.refused c.loop-one.invariant.fault in
+    let fault = fault-found c.args.affected.now c.loop-one.one-index c.one-item.result c.loop-one-test.true
+    c.one-item.is
+    (affected_fault is_version) _ c.in_err-add_one.field-0.0 c.in_err-add_one.ensures.refused c.loop-one.invariant.fault
+    in
     search (rules, fault)

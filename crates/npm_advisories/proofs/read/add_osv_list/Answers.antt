@@ -23,5 +23,6 @@ loop-place-preserved c =
 pub returns-in_err-add_osv_at-clause-refused : goal.returns-in_err-add_osv_at-clause-refused
 returns-in_err-add_osv_at-clause-refused c =
     let fault = osv-found c.args.entries.now c.loop-place.place c.index-entries-place.result c.loop-place-test.true
-    c.index-entries-place.is _ c.in_err-add_osv_at.field-0.0 c.in_err-add_osv_at.ensures.refused c.loop-place.invariant.fault in
+    c.index-entries-place.is _ c.in_err-add_osv_at.field-0.0 c.in_err-add_osv_at.ensures.refused
+    c.loop-place.invariant.fault in
     search (rules, fault)

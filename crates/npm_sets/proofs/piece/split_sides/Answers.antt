@@ -65,7 +65,8 @@ pub returns-then-not-begins_with_dash : goal.returns-then-not-begins_with_dash
 returns-then-not-begins_with_dash c =
     let text = c.args.text.now in
     let first = c.split_chunk.result.1.now in
-    not-dashed text c.split_chunk.result.0.now first (prefix_of is_solid first) (rest_of is_space (rest_of is_solid first))
+    not-dashed text c.split_chunk.result.0.now first (prefix_of is_solid first)
+    (rest_of is_space (rest_of is_solid first))
     (one-chunk text c.split_chunk.result.0.now first c.requires c.split_chunk.ensures.chunk c.split_chunk.ensures.rest)
     (left-solid (rest_of is_solid text) first c.split_chunk.ensures.rest) refl refl
     (no-dash first (sym c.begins_with_dash.ensures ∙ c.if-not-begins_with_dash.true))

@@ -5,7 +5,8 @@ use Rattle.semver_sets.specs.RangeSets.{sets_seen}
 use Rattle.npm_sets.specs.NpmMeaning.{piece_comparators}
 use Rattle.npm_sets.specs.Private.ReadViews.{some_seen}
 use Rattle.npm_sets.proofs.Pieces.PieceReading.{refused-told}
-use Rattle.npm_sets.proofs.Pieces.TextReading.{PiecesSoFar, first-of, left-shorter, left_length, none-gathered, none-refused}
+use Rattle.npm_sets.proofs.Pieces.TextReading.{PiecesSoFar, first-of, left-shorter, left_length, none-gathered}
+use Rattle.npm_sets.proofs.Pieces.TextReading.{none-refused}
 use Rattle.npm_sets.proofs.Pieces.SetMeaning.{npm-sets-admit}
 use Rattle.npm_sets.proofs.Pieces.TextReading.{pieces-found, pieces-passed, pieces-refused, pieces-start}
 use Rattle.npm_sets.proofs.Pieces.TextReading.{some-gathered}
@@ -36,7 +37,8 @@ loop-left-preserved c =
     elim c.if-here.branch [
       | then-here w ↦
           subst (PiecesSoFar options text (some_seen later) c.add_piece.new.sets) (sym w.found-is)
-          (pieces-found options text rest piece (some_seen later) c.loop-left.sets c.add_piece.new.sets c.loop-left.found
+          (pieces-found options text rest piece (some_seen later) c.loop-left.sets c.add_piece.new.sets
+          c.loop-left.found
           c.in-Ok.here so first c.in-Ok.ensures w.if-here.true)
       | else-here w ↦
           subst (PiecesSoFar options text (some_seen later) c.add_piece.new.sets) (sym w.found-is)

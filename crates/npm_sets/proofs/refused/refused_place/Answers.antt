@@ -1,6 +1,7 @@
 use Rattle.std.proofs.Common.{List, Option, ap, refl, subst, ℕ}
 use Rattle.npm_sets.specs.Private.ReadViews.{some_seen}
-use Rattle.npm_sets.proofs.Places.RefusedTexts.{ArePassed, PiecesPassed, all-read, first-told, pieces-none, pieces-passed}
+use Rattle.npm_sets.proofs.Places.RefusedTexts.{ArePassed, PiecesPassed, all-read, first-told, pieces-none}
+use Rattle.npm_sets.proofs.Places.RefusedTexts.{pieces-passed}
 use Rattle.npm_sets.proofs.Places.RefusedTexts.{place-found}
 use Rattle.npm_sets.proofs.refused.refused_place.Goals as goal
 

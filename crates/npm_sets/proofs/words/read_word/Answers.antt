@@ -1,5 +1,6 @@
 use native.Mathlib.Omega.{arith}
-use Rattle.npm_sets.proofs.Chunks.ChunkLemmas.{after-shorter, both-shorter, left-solid, no-bytes_told, some-bytes_told, word-one}
+use Rattle.npm_sets.proofs.Chunks.ChunkLemmas.{after-shorter, both-shorter, left-solid, no-bytes_told, some-bytes_told}
+use Rattle.npm_sets.proofs.Chunks.ChunkLemmas.{word-one}
 use Rattle.npm_sets.proofs.Chunks.ChunkLemmas.{word-two}
 use Rattle.npm_sets.proofs.Chunks.WordParts.{part-one, part-two}
 use Rattle.npm_sets.proofs.words.read_word.Goals as goal

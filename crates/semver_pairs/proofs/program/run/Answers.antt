@@ -1,11 +1,13 @@
-use Rattle.std.proofs.Common.{◌≡◌, ◌↔◌, ◌⊎◌, ◌<◌, ◌≤◌, length, take, Bool, false, IsTrue, arith, inl, inr, refl, sym, ◌∙◌}
+use Rattle.std.proofs.Common.{◌≡◌, ◌↔◌, ◌⊎◌, ◌<◌, ◌≤◌, length, take, Bool, false, IsTrue, arith, inl, inr, refl, sym}
+use Rattle.std.proofs.Common.{◌∙◌}
 use Rattle.std.proofs.KnownBytes.{Keeps-refl}
 use Rattle.std.proofs.lemmas.Grind.{common_steps}
 use Rattle.std.proofs.lemmas.Result.{MatchResult-weaker}
 use Rattle.semver_pairs.specs.Output.{HasEnded}
 use Rattle.semver_pairs.proofs.OutputLemmas.{exchanges-none_back, exchanges-nothing, false_not_true, has_ended}
 use Rattle.semver_pairs.specs.declared.run_error.RunError.TheVariants.{Endless, Read, Write}
-use Rattle.semver_pairs.proofs.FailureLemmas.{no_other, on_err, tells-not_endless, tells-not_read, tells-on, tells-write}
+use Rattle.semver_pairs.proofs.FailureLemmas.{no_other, on_err, tells-not_endless, tells-not_read, tells-on}
+use Rattle.semver_pairs.proofs.FailureLemmas.{tells-write}
 use Rattle.semver_pairs.proofs.RunLemmas.{run_end, run_end_part, run_least, run_more, run_none, run_part, run_stop}
 use Rattle.semver_pairs.proofs.RunLemmas.{run_stop_all}
 use Rattle.semver_pairs.proofs.program.run.Goals as goal
@@ -27,7 +29,11 @@ returns-then-failed g c = record {
   beginning = exchanges-nothing _ _ _;
   complete = λ is. exchanges-none_back _ _;
   read = (λ is. c.failed.ensures.0 c.if-failed.true, λ failed. refl);
-  write = λ unfailed. (λ is. no_other Read Write refl is, λ failed. absurd (unfailed (c.failed.ensures.0 c.if-failed.true)));
+  write = λ unfailed. (
+    λ is. no_other Read Write refl is,
+    λ failed. absurd
+        (unfailed (c.failed.ensures.0 c.if-failed.true)),
+  );
   endless = λ is. no_other Read Endless refl is;
   untouched = λ failed. (refl, refl);
 }
@@ -77,7 +83,8 @@ returns-in-Ok-eq0 g c =
     let failure = c.answer_last.ensures.failure in
     let room : 0 < length c.read.new.piece = omega arith in
     let ended = has_ended g.R.Read.remaining c.read.new.self c.read.new.piece _ c.in-Ok-eq0.field-0-test room
-    c.in-Ok-eq0.ensures.end c.in-Ok-eq0.ensures.bytes.1 (λ failed. false_not_true (c.in-Ok-eq0.ensures.mark.0 failed)) in
+    c.in-Ok-eq0.ensures.end c.in-Ok-eq0.ensures.bytes.1 (λ failed. false_not_true (c.in-Ok-eq0.ensures.mark.0 failed))
+    in
     let taken = rw c.in-Ok-eq0.field-0-test at c.in-Ok-eq0.ensures.bytes.0 in
     record {
       answered = MatchResult-weaker _ answers

@@ -41,11 +41,22 @@ returns-in-124 c =
     let text = c.args.text.now in
     let here = c.bars.passed + c.in-Some.at in
     let to = to-bar text c.bars.passed c.in-Some.at c.bars.invariant.0 c.in-Some.ensures.0 c.bars.invariant.1 in
-    let seen = two-bars (left text here) (omega arith) (omega arith) (omega arith) ∙ ap bars_after (take_rest text here) in
+    let seen = two-bars (left text here) (omega arith) (omega arith) (omega arith) ∙ ap bars_after (take_rest text here)
+    in
     seen-stop text _ here seen to.1
 
 pub bars-preserved : goal.bars-preserved
-bars-preserved c = grind (arith, to-bar, not-bars, then-text-bar-lt2, ltb-true, else-text-bar-lt2+in-124+in_default-1, else-text-bar-lt2+in_default-1, seen-step, take_rest)
+bars-preserved c = grind (
+  arith,
+  to-bar,
+  not-bars,
+  then-text-bar-lt2,
+  ltb-true,
+  else-text-bar-lt2+in-124+in_default-1,
+  else-text-bar-lt2+in_default-1,
+  seen-step,
+  take_rest,
+)
 
 pub returns : goal.returns
 returns c =

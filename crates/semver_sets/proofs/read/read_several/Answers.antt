@@ -46,12 +46,14 @@ loop-left-preserved c = λ text divided.
 pub returns-in-Ok-Some : goal.returns-in-Ok-Some
 returns-in-Ok-Some c = λ text divided.
     let all = c.loop-left.invariant text divided in
-    let are = all-read text all.0 c.loop-left.sets (some_seen c.loop-left.left) all.1 (ap some_seen c.in_default.is) all.2 in
+    let are = all-read text all.0 c.loop-left.sets (some_seen c.loop-left.left) all.1 (ap some_seen c.in_default.is)
+    all.2 in
     some-gathered text c.loop-left.sets _ c.in-Ok-Some.sets are c.in-Ok-Some.ensures.sets c.in-Ok-Some.ensures.some
     c.in-Ok-Some.field-0-is
 
 pub returns-in-Ok-None : goal.returns-in-Ok-None
 returns-in-Ok-None c = λ text divided.
     let all = c.loop-left.invariant text divided in
-    let are = all-read text all.0 c.loop-left.sets (some_seen c.loop-left.left) all.1 (ap some_seen c.in_default.is) all.2 in
+    let are = all-read text all.0 c.loop-left.sets (some_seen c.loop-left.left) all.1 (ap some_seen c.in_default.is)
+    all.2 in
     none-gathered text c.loop-left.sets _ are c.in-Ok-None.ensures.sets c.in-Ok-None.field-0-is

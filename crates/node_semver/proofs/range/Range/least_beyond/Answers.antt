@@ -6,7 +6,8 @@ use Rattle.node_semver.proofs.range.Range.least_beyond.Goals as goal
 
 pub returns-in_ok-built-in-Some-clause-least : goal.returns-in_ok-built-in-Some-clause-least
 returns-in_ok-built-in-Some-clause-least c =
-    let least = beyond-least false c.args.self.now c.args.other.now (Some c.in-Some.least) c.in-Some.ensures in search rules
+    let least = beyond-least false c.args.self.now c.args.other.now (Some c.in-Some.least) c.in-Some.ensures in search
+    rules
 
 pub returns-in_ok-built-in-Some-clause-none : goal.returns-in_ok-built-in-Some-clause-none
 returns-in_ok-built-in-Some-clause-none c =

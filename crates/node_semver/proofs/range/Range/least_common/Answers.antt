@@ -7,7 +7,8 @@ use Rattle.node_semver.proofs.range.Range.least_common.Goals as goal
 
 pub returns-in_ok-built-in-Some-clause-least : goal.returns-in_ok-built-in-Some-clause-least
 returns-in_ok-built-in-Some-clause-least c =
-    let least = common-least false c.args.self.now c.args.other.now (Some c.in-Some.least) c.in-Some.ensures in search rules
+    let least = common-least false c.args.self.now c.args.other.now (Some c.in-Some.least) c.in-Some.ensures in search
+    rules
 
 pub returns-in_ok-built-in-Some-clause-none : goal.returns-in_ok-built-in-Some-clause-none
 returns-in_ok-built-in-Some-clause-none c =

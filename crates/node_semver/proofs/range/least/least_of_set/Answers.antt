@@ -15,7 +15,8 @@ returns-in-Start c =
     candidate-least included set c.least_of_triple.result c.if_inside.result
     (start-candidate included set c.least_of_triple.result (sym c.lower.ensures ∙ c.in-Start.is)
     (subst (λ u. IsLeastOfTriple included u 0 0 0 [] c.least_of_triple.result) c.upper-upper.ensures
-    (subst (λ (t : Triple). IsLeastOfTriple included c.upper-upper.result.now t.major t.minor t.patch [] c.least_of_triple.result)
+    (subst (λ (t : Triple). IsLeastOfTriple included c.upper-upper.result.now t.major t.minor t.patch []
+    c.least_of_triple.result)
     c.new.ensures c.least_of_triple.ensures)))
     (subst (λ u. IsInsideOrNone u c.least_of_triple.result c.if_inside.result)
     c.upper-upper.ensures c.if_inside.ensures)
@@ -46,7 +47,8 @@ returns-in-After-2 c =
     let same : c.in-After-2.end ≡ c.in-After.end = cc (c.in-After.is, c.in-After-2.is) in
     let seen = c.build.ensures ∙ sym (ap (λ (v : VersionValue). v.build) c.end.view_is) in
     let built : IsLeastOfTriple included set.upper e.major e.minor (e.patch + 1) (build_seen e.extras) found =
-    subst (λ u. IsLeastOfTriple included u e.major e.minor (e.patch + 1) (build_seen e.extras) found) c.upper-upper.ensures
+    subst (λ u. IsLeastOfTriple included u e.major e.minor (e.patch + 1) (build_seen e.extras) found)
+    c.upper-upper.ensures
     (subst (λ l. IsLeastOfTriple included c.upper-upper.result.now e.major e.minor (e.patch + 1) l found) seen
     (subst (λ (t : Triple). IsLeastOfTriple included c.upper-upper.result.now t.major t.minor t.patch
     (values_of c.build.result.now) found) c.new-next.ensures c.least_of_triple-in-After-2.ensures)) in

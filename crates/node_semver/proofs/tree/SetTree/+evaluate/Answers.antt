@@ -11,7 +11,8 @@ returns-in-Text t c =
     let found = c.range_of.result in
     let same : of_text c.as_str.result.now ≡ tree =
     ap of_text c.as_str.ensures.value ∙ ap formula_of (sym c.in-Text.is) in
-    answered c.every_range_text_is_written_one_way.ensures.only tree found (subst (λ f. HasSetsOf f found) same c.range_of.ensures.sets) c.range_of.ensures.holds
+    answered c.every_range_text_is_written_one_way.ensures.only tree found
+    (subst (λ f. HasSetsOf f found) same c.range_of.ensures.sets) c.range_of.ensures.holds
 
 pub returns-in_ok-evaluate-in-Some : goal.returns-in_ok-evaluate-in-Some
 returns-in_ok-evaluate-in-Some t c =
@@ -23,7 +24,8 @@ returns-in_ok-evaluate-in-Some t c =
     let same : tree ≡ both one other = cc (c.in-Both.is, c.deref.ensures, c.deref-in-Some.ensures) in
     let has = subst (λ answer. AreSetsOfTree one (sets_of_answer answer)) c.in-Some.is
     c.in_ok-one-in-Both.ensures.sets in
-    answered c.every_range_text_is_written_one_way.ensures.only tree found (both-sets tree one other c.in-Some.one others found same has
+    answered c.every_range_text_is_written_one_way.ensures.only tree found
+    (both-sets tree one other c.in-Some.one others found same has
     c.in_ok-evaluate-in-Some.ensures.sets c.common.ensures.sets) c.common.ensures.holds
 
 pub returns-in_ok-evaluate-in-Some-2 : goal.returns-in_ok-evaluate-in-Some-2
@@ -37,5 +39,6 @@ returns-in_ok-evaluate-in-Some-2 t c =
     cc (c.in-Without.is, c.deref-in-Without.ensures, c.deref-in-Some-2.ensures) in
     let has = subst (λ answer. AreSetsOfTree one (sets_of_answer answer)) c.in-Some-2.is
     c.in_ok-one-in-Without.ensures.sets in
-    answered c.every_range_text_is_written_one_way.ensures.only tree found (without-sets tree one other c.in-Some-2.one others found same has
+    answered c.every_range_text_is_written_one_way.ensures.only tree found
+    (without-sets tree one other c.in-Some-2.one others found same has
     c.in_ok-evaluate-in-Some-2.ensures.sets c.difference.ensures.sets) c.difference.ensures.holds

@@ -37,7 +37,8 @@ loop-range-preserved c =
 
 pub returns-in_err-more-clause-refused : goal.returns-in_err-more-clause-refused
 returns-in_err-more-clause-refused c =
-    let fault = fault-found c.args.ranges.now c.loop-range.range-index c.range-item.result c.loop-range-test.true c.range-item.is
+    let fault = fault-found c.args.ranges.now c.loop-range.range-index c.range-item.result c.loop-range-test.true
+    c.range-item.is
     (osv_range_fault is_version) _ c.in_err-more.field-0.0 c.in_err-more.ensures.refused c.loop-range.invariant.fault in
     search (rules, fault)
 

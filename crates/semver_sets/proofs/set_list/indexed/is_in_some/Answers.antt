@@ -31,7 +31,8 @@ loop-low-preserved-then-is_at_or_before g c =
       steps = λ digits fits.
           subst (λ n. IsLeft (g.C.Counts.count c.args.comparisons.now) n digits (high - (middle + 1)))
           (sym c.is_at_or_before.ensures.counted)
-          (left-step (g.C.Counts.count c.args.comparisons.now) (g.C.Counts.count c.loop-low.comparisons) digits (high - low)
+          (left-step (g.C.Counts.count c.args.comparisons.now) (g.C.Counts.count c.loop-low.comparisons) digits
+          (high - low)
           (high - (middle + 1))
           (omega arith)
           (omega arith) (c.loop-low.invariant.steps digits fits));
@@ -60,7 +61,8 @@ loop-low-preserved g c =
       steps = λ digits fits.
           subst (λ n. IsLeft (g.C.Counts.count c.args.comparisons.now) n digits (middle - low))
           (sym c.is_at_or_before.ensures.counted)
-          (left-step (g.C.Counts.count c.args.comparisons.now) (g.C.Counts.count c.loop-low.comparisons) digits (high - low)
+          (left-step (g.C.Counts.count c.args.comparisons.now) (g.C.Counts.count c.loop-low.comparisons) digits
+          (high - low)
           (middle - low) (omega arith)
           (omega arith) (c.loop-low.invariant.steps digits fits));
       adds = omega arith;

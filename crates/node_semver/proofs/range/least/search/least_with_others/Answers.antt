@@ -13,7 +13,8 @@ sets-init g c = record { first = c.requires.found; each = tt }
 pub sets-preserved : goal.sets-preserved
 sets-preserved g c =
     let Wanted = g.Q.Question.wanted g.I.Inclusion.included c.args.range.now c.args.other.now in
-    ends-more g.I.Inclusion.included Wanted g.Q.Question.end c.args.range.now c.args.sets.now c.sets.set-index c.set-item.result c.sets.best
+    ends-more g.I.Inclusion.included Wanted g.Q.Question.end c.args.range.now c.args.sets.now c.sets.set-index
+    c.set-item.result c.sets.best
     c.try_cut.new.best c.sets-test.true c.set-item.is c.sets.invariant
     (subst (λ (cut : Cut VersionValue). IsCutTrial g.I.Inclusion.included Wanted c.sets.best cut c.try_cut.new.best)
     c.end_of.ensures.end c.try_cut.ensures)

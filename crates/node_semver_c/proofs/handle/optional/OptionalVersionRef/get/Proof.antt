@@ -16,7 +16,8 @@ use sound.WpLaws.{WpFn-mono}
 use types.Kit.{⋆, ‵, ◌⊛◌, later, at_ret, ◌$◌, ◌∵◌, !, qed, by, move, keep, drop, use0, use1, use2, split, join, rewrite}
 use types.Kit.{fsplit, fjoin, fpick, feq_i, feq_l, suffices, frame, await, done}
 use types.Match.{live}
-use types.Run.{load, stop, fld, of_opd, addr, bin, lit, no_more, and_then, first, branches, skips, blocks, exec, returns}
+use types.Run.{load, stop, fld, of_opd, addr, bin, lit, no_more, and_then, first, branches, skips, blocks, exec}
+use types.Run.{returns}
 use types.Run.{returns_within, enter}
 use types.ByLocal.{alloc_all, pass_all, free_all, look_at, get, through, sets, sets_last, env}
 use types.Part.{agg, whole, sub, look_in}
@@ -207,7 +208,8 @@ meets {𝓤 = 𝓤} 𝓛 mem run 𝓣 =
       tt,
     ) (f.clauses 𝓛 mem run) (WpFn 𝓤 𝓛.H 𝓣.C 𝓣.Λ code.function)
     (WpFn-mono 𝓤 𝓛.H 𝓛.laws 𝓣 code.function)
-    (λ z. via 𝓤 _ (fst∗ 𝓤 _ (emp 𝓤)) (entry 𝓛 mem run 𝓣.C 𝓣.Λ z.0.0.0 z.0.1.0 z.0.3.0.ref_ptr.0 z.0.3.0.ref_ptr.1 z.0.3.0.now z.0.4.0))
+    (λ z. via 𝓤 _ (fst∗ 𝓤 _ (emp 𝓤)) (entry 𝓛 mem run 𝓣.C 𝓣.Λ z.0.0.0 z.0.1.0 z.0.3.0.ref_ptr.0 z.0.3.0.ref_ptr.1
+    z.0.3.0.now z.0.4.0))
 
 pub get_spec : {M : Type 1} → statement M
 unfolding tables_of

@@ -43,11 +43,13 @@ pub is_in_opened-requires : goal.is_in_opened-requires
 is_in_opened-requires g c =
     let v = g.V.AsVersion.seen c.args.version.now in
     let many : 4 < length c.self.inside.sets.items =
-    omega (arith, c.deref-3.ensures.len, ap length c.deref-3.ensures.value, c.len.ensures, c.if-len-le-FEW_SETS.false) in
+    omega (arith, c.deref-3.ensures.len, ap length c.deref-3.ensures.value, c.len.ensures, c.if-len-le-FEW_SETS.false)
+    in
     let found : c.openings_at-openings.result.now ≡ filter
     (is_opening_of v) c.self.inside.openings.items = search rules in
     let places : map (λ (o : Opening). o.place) c.openings_at-openings.result.now ≡ places_opening v 0 c.args.self.now =
-    ap (map (λ (o : Opening). o.place)) found ∙ (c.self.invariant.1 many).places v ∙ ap (places_opening v 0) c.self.view_is in
+    ap (map (λ (o : Opening). o.place)) found ∙ (c.self.invariant.1 many).places v ∙ ap (places_opening v 0)
+    c.self.view_is in
     let same = c.deref-3.ensures.value ∙ c.self.view_is in
     subst (λ (l : List (Ends VersionValue)). AllByRecursion
     (λ o. o.place < length l) c.openings_at-openings.result.now) (sym same)
@@ -58,7 +60,8 @@ pub returns-clause-answer : goal.returns-clause-answer
 returns-clause-answer g c =
     let v = g.V.AsVersion.seen c.args.version.now in
     let many : 4 < length c.self.inside.sets.items =
-    omega (arith, c.deref-3.ensures.len, ap length c.deref-3.ensures.value, c.len.ensures, c.if-len-le-FEW_SETS.false) in
+    omega (arith, c.deref-3.ensures.len, ap length c.deref-3.ensures.value, c.len.ensures, c.if-len-le-FEW_SETS.false)
+    in
     let found = c.openings_at-openings.result.now in
     let filtered : found ≡ filter (is_opening_of v) c.self.inside.openings.items = search rules in
     let places : map (λ (o : Opening). o.place) found ≡ places_opening v 0 c.args.self.now =
@@ -74,7 +77,8 @@ pub returns-clause-short : goal.returns-clause-short
 returns-clause-short g c =
     let v = g.V.AsVersion.seen c.args.version.now in
     let many : 4 < length c.self.inside.sets.items =
-    omega (arith, c.deref-3.ensures.len, ap length c.deref-3.ensures.value, c.len.ensures, c.if-len-le-FEW_SETS.false) in
+    omega (arith, c.deref-3.ensures.len, ap length c.deref-3.ensures.value, c.len.ensures, c.if-len-le-FEW_SETS.false)
+    in
     let found = c.openings_at-openings.result.now in
     let filtered : found ≡ filter (is_opening_of v) c.self.inside.openings.items = search rules in
     let places : map (λ (o : Opening). o.place) found ≡ places_opening v 0 c.args.self.now =

@@ -7,4 +7,5 @@ use Rattle.node_semver.proofs.range.least.question.AdmittedInclusion.has.Goals a
 pub returns : goal.returns
 returns g c =
     subst (λ (l : List (Ends VersionValue)).
-    IsTrue c.admits.result ↔ IsInRange false l (g.V.AsVersion.seen c.args.version.now)) c.range.view_is c.admits.ensures.answer
+    IsTrue c.admits.result ↔ IsInRange false l (g.V.AsVersion.seen c.args.version.now)) c.range.view_is
+    c.admits.ensures.answer

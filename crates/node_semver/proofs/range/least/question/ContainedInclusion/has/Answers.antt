@@ -7,4 +7,5 @@ use Rattle.node_semver.proofs.range.least.question.ContainedInclusion.has.Goals 
 pub returns : goal.returns
 returns g c =
     subst (λ (l : List (Ends VersionValue)).
-    IsTrue c.contains.result ↔ IsInRange true l (g.V.AsVersion.seen c.args.version.now)) c.range.view_is c.contains.ensures.answer
+    IsTrue c.contains.result ↔ IsInRange true l (g.V.AsVersion.seen c.args.version.now)) c.range.view_is
+    c.contains.ensures.answer

@@ -1,5 +1,6 @@
 //! Tests of the check: texts of lock files, and the problems of each.
 mod manifest;
+mod overrides;
 mod version_one;
 
 use crate::{CheckError, Fault, Kind, Problem, check};

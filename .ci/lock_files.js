@@ -212,7 +212,18 @@ const manifestRows = [
   [{ dependencies: { a: '1' }, optionalDependencies: { a: '2' } }, { '': { optionalDependencies: { a: '1' } }, ...installed }],
   // What other packages ask for stays.
   [asks('2'), { '': asks('2'), 'node_modules/a': at('1.0.0', asks('3')), 'node_modules/a/node_modules/a': at('2.0.0') }],
-  [{ dependencies: { a: '^2' }, acceptDependencies: { a: '^1' } }, { '': asks('^2'), ...installed }]
+  [{ dependencies: { a: '^2' }, acceptDependencies: { a: '^1' } }, { '': asks('^2'), ...installed }],
+  // `overrides` with a rule for all versions of a name: of peers too, and of what is missing. What a rule says of the root is
+  // what the root asks for, or npm refuses it.
+  ...[{ b: '2.0.0' }, { b: '^2', '@s/c': '2' }, { b: '3.0.0' }, { b: '', '@s/c': '*' }, { b: ' * ', '@s/c': ' ' }, { b: 'npm:x@2' },
+    { '@s/c': '^2', q: '7' }, { a: '^1', b: '>=2' }, { B: '2', s: '2', c: '2' }, { '.': '2' }, {}].map(overrides => [
+    { ...asks('^1'), overrides }, {
+      '': asks('^1'),
+      'node_modules/a': at('1.0.0', { dependencies: { b: '^1', q: '1' }, peerDependencies: { '@s/c': '^1' } }),
+      'node_modules/a/node_modules/d': at('1.0.0', { dependencies: { b: '^1' }, acceptDependencies: { b: '3' } }),
+      'node_modules/b': at('2.0.0', { optionalDependencies: { '@s/c': '^1', q: '1' } }),
+      'node_modules/@s/c': at('2.0.0', { dependencies: { b: '^2' } })
+    }])
 ]
 
 // The member of a lock file for the package in this folder. In version 1 the root has none.
@@ -240,7 +251,7 @@ const npmProblems = async (folder, file) => {
       const marks = marksOf(file, node.location)
       // In version 1 npm calls what a package requires optional if the package that is found is.
       const isOptional = edge.optional && (file.packages || node.isProjectRoot)
-      const problem = { from: node.location, name: edge.name, problem: words[edge.error], spec: edge.rawSpec,
+      const problem = { from: node.location, name: edge.name, problem: words[edge.error], spec: edge.spec,
         dev: !!marks.dev || edge.dev, optional: !!(marks.optional || isOptional), peer: !!marks.peer || edge.peer }
       if (edge.to) {
         problem.to = edge.to.target.location
@@ -270,7 +281,13 @@ const oldRowFiles = () => oldRows.map(([manifest, dependencies]) => ({
 // A lock file of version 3 with a manifest, which has no marks.
 const withManifest = () => {
   const { dev, optional, devOptional, peer, ...manifest } = member()
-  return { file: lockFile(), manifest: { ...manifest, name: 'root' } }
+  const file = lockFile()
+  // npm refuses a rule that changes what the root asks for, and leaves workspaces out.
+  const isAsked = name => groups.some(group => manifest[group]?.[name] !== undefined)
+  if (!Object.keys(file.packages).some(folder => folder.startsWith('w/'))) {
+    manifest.overrides = Object.fromEntries(Object.entries(group()).filter(([name]) => !isAsked(name)))
+  }
+  return { file, manifest: { ...manifest, name: 'root' } }
 }
 
 const manifestRowFiles = () => manifestRows.map(([manifest, packages]) => ({

@@ -2,5 +2,6 @@ pub mod LockExamples
 pub mod FindingExamples
 pub mod OutcomeExamples
 pub mod SpecExamples
+pub mod OverrideExamples
 pub mod WorkspaceExamples
 pub mod VersionOneExamples

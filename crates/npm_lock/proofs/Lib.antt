@@ -3,9 +3,12 @@ pub mod GroupWalk
 pub mod Groups
 pub mod IndexUpdates
 pub mod ManifestWrites
+pub mod MemberLookups
 pub mod MoreFindings
 pub mod NameLists
 pub mod Nearest
+pub mod OverrideNames
+pub mod OverrideRules
 pub mod PackageLists
 pub mod Paths
 pub mod ProblemTexts

@@ -7,13 +7,14 @@ use Rattle.std.specs.Option.{option_map_or, option_or}
 use Rattle.serde_json.specs.Data.{Data, array, boolean, null, number, object, string}
 use Rattle.serde_json.specs.Find.{as_str, get, to_float}
 
--- a package's dependency on a name: its spec, whether it must be found, whether it is a peer, and whether it counts in
--- development alone
+-- a package's dependency on a name: its spec, whether it must be found, whether it is a peer, whether it counts in
+-- development alone, and whether `overrides` change it in a way that is not read here
 pub record AskedValue : Type 0 where
   pub spec : List ℕ
   pub is_needed : Bool
   pub is_peer : Bool
   pub is_dev : Bool
+  pub is_overridden : Bool
 
 -- the spec of a name in a group: `^1` for `a` in `{"dependencies": {"a": "^1"}}`
 abbrev pub spec_in : (member : Data) → (group name : List ℕ) → Option (List ℕ)
@@ -44,7 +45,7 @@ accepted_of member name = spec_in member (codes "acceptDependencies") name
 -- the dependency on a name in a group
 abbrev pub asked_in : (member : Data) → (group name : List ℕ) → (is_needed is_peer is_dev : Bool) → Option AskedValue
 asked_in member group name is_needed is_peer is_dev = option_map
-    (λ spec. record { spec = spec; is_needed = is_needed; is_peer = is_peer; is_dev = is_dev })
+    (λ spec. record { spec = spec; is_needed = is_needed; is_peer = is_peer; is_dev = is_dev; is_overridden = false })
     (spec_in member group name)
 
 -- Of one name the later group counts: `peerDependencies`, `dependencies`, `optionalDependencies` and, for a package in

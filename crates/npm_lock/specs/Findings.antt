@@ -14,6 +14,7 @@ use Rattle.npm_lock.specs.Asked.{AskedValue, asked_of}
 use Rattle.npm_lock.specs.Folders.{IsInstalled}
 use Rattle.npm_lock.specs.Outcomes.{IsEngineOutcome, IsOutcome, JudgementValue, ProblemValue, UncheckedValue, dependency_of}
 use Rattle.npm_lock.specs.Outcomes.{fine, problem_value, unchecked_value, unknown, wrong}
+use Rattle.npm_lock.specs.Overrides.{overridden}
 use Rattle.npm_lock.specs.Packages.{is_link}
 use Rattle.npm_lock.specs.declared.problem.Problems.{Problems}
 
@@ -32,12 +33,13 @@ finding_of folder asker name asked (wrong kind found) =
 finding_of folder asker name asked (unknown reason found) = of_dependency None
     (Some (record { reason = reason; dependency = dependency_of folder asker name asked (Some found) }))
 
--- what is found out about the dependency of the package in this folder on a name
+-- what is found out about the dependency of the package in this folder on a name, as `overrides` change it
 pub data IsDependencyFinding (packages : Data) (folder : List ℕ) (asker : Data) (is_installed : Bool) (name : List ℕ)
     : Finding → Type 0 where
   dependency : (asked : AskedValue) (judgement : JudgementValue) → asked_of asker is_installed name ≡ Some asked
-      → IsOutcome packages folder asker is_installed name asked judgement
-      → IsDependencyFinding packages folder asker is_installed name (finding_of folder asker name asked judgement)
+      → IsOutcome packages folder asker is_installed name (overridden packages folder name asked) judgement
+      → IsDependencyFinding packages folder asker is_installed name
+      (finding_of folder asker name (overridden packages folder name asked) judgement)
 
 -- the names that a package depends on: each once, in the order of their bytes
 pub record AreNames (asker : Data) (is_installed : Bool) (names : List (List ℕ)) : Type 0 where

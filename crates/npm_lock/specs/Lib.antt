@@ -8,6 +8,7 @@ pub mod Folders  -- folders of packages
 pub mod Packages  -- packages, links, and where a name is found
 pub mod Asked  -- what a package depends on
 -- ---- one dependency
+pub mod Overrides  -- which dependencies `overrides` change
 pub mod Workspaces  -- which folders are workspaces of the root
 pub mod RangeText  -- which specs are ranges
 pub mod Verdict  -- whether a version is what a spec asks for

@@ -99,14 +99,18 @@ pub record IsLocalPeer (packages : Data) (folder : List ℕ) (is_installed : Boo
   pub own : IsFoundIn packages name folder package_found
 
 -- The verdict on the package that was found for a dependency of the package in this folder. A workspace of the root is
--- what the root asks for, whatever the spec; if it may be one, the dependency is not checked.
+-- what the root asks for, whatever the spec; if it may be one, the dependency is not checked. Nor is one that `overrides`
+-- change in a way that is not read here.
 pub data IsVerdictOn (folder : List ℕ) (asker : Data) (name : List ℕ) (asked : AskedValue)
     (package_found : Package) : Verdict → Type 0 where
   workspace : IsWorkspace folder asker package_found.folder Workspaces.Is
       → IsVerdictOn folder asker name asked package_found Verdicts.Valid
   unread : IsWorkspace folder asker package_found.folder Workspaces.Unread
       → IsVerdictOn folder asker name asked package_found (Verdicts.Unchecked Reasons.Workspace)
+  overridden : IsWorkspace folder asker package_found.folder Workspaces.IsNot → asked.is_overridden ≡ true
+      → IsVerdictOn folder asker name asked package_found (Verdicts.Unchecked Reasons.Override)
   by_spec : (verdict : Verdict) → IsWorkspace folder asker package_found.folder Workspaces.IsNot
+      → asked.is_overridden ≡ false
       → IsVerdictOfBoth (version_of package_found.member) asked.spec (accepted_of asker name) verdict
       → IsVerdictOn folder asker name asked package_found verdict
 

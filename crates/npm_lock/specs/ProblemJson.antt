@@ -5,7 +5,7 @@ use Rattle.npm_lock.specs.Outcomes.{DependencyValue, ProblemValue, UncheckedValu
 use Rattle.npm_lock.specs.declared.problem.Kind.{Kind}
 use Rattle.npm_lock.specs.declared.problem.Kind.TheVariants.{Engine, Invalid, Missing, PeerLocal}
 use Rattle.npm_lock.specs.declared.problem.Reason.{Reason}
-use Rattle.npm_lock.specs.declared.problem.Reason.TheVariants.{Location, Tag, Workspace}
+use Rattle.npm_lock.specs.declared.problem.Reason.TheVariants.{Location, Override, Tag, Workspace}
 
 -- the word for what is wrong
 abbrev pub kind_text : Kind → List ℕ
@@ -19,6 +19,7 @@ abbrev pub reason_text : Reason → List ℕ
 reason_text Tag = codes "tag"
 reason_text Location = codes "location"
 reason_text Workspace = codes "workspace"
+reason_text Override = codes "override"
 
 -- a member with a text, if there is one
 abbrev pub with_text : (name : List ℕ) → Option (List ℕ) → Members → Members

@@ -19,6 +19,8 @@ pub(crate) struct Asked<'v> {
     pub(crate) is_peer: bool,
     /// It counts in development alone.
     pub(crate) is_dev: bool,
+    /// `overrides` change it in a way that is not read here.
+    pub(crate) is_overridden: bool,
 }
 
 /// What a package asks for, by name.
@@ -65,6 +67,7 @@ fn add_group<'v>(
                 is_needed,
                 is_peer,
                 is_dev,
+                is_overridden: false,
             };
             all.insert(name, asked)?;
         }

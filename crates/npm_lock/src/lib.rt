@@ -13,6 +13,7 @@ mod manifest;
 mod manifest_place;
 mod mismatch;
 mod outcome;
+mod overrides;
 mod place;
 mod problem;
 mod range_text;

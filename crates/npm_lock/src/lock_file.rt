@@ -10,6 +10,7 @@ ghost use Rattle.npm_lock.specs.declared.fault.Fault.{Fault};
 ghost use Rattle.npm_lock.specs.Private.Adding.{Adds};
 ghost use Rattle.npm_lock.specs.Private.Index.{IsComplete};
 ghost use Rattle.npm_lock.specs.Private.PackageValue.{packages_data};
+ghost use Rattle.npm_lock.specs.Private.Rules.{AreRules};
 
 use crate::Result;
 use crate::asked::asked_of;
@@ -17,6 +18,7 @@ use crate::fault::{CheckError, lock_of};
 use crate::folder::is_installed;
 use crate::index::Index;
 use crate::outcome::{add_judgement, engine_problem, judgement_of};
+use crate::overrides::{Rules, overridden, rules_of};
 use crate::place::{Lock, Package, is_link};
 use crate::problem::Problems;
 use crate::search::places_from;
@@ -51,10 +53,17 @@ pub(crate) fn problems_of(lock: Lock<'_>) -> Result<Problems>
         × IsReport found problems) }
 {
     let index = Index::of_lock(lock)?;
+    let rules = rules_of(lock)?;
     let mut problems = Problems::new(lock.alloc);
     for (folder, member) in lock.members.iter() {
         let folder = folder.as_str();
-        check_package(lock, &index, Package { folder, member }, &mut problems)?;
+        check_package(
+            lock,
+            &index,
+            &rules,
+            Package { folder, member },
+            &mut problems,
+        )?;
     }
     Ok(problems)
 }
@@ -63,10 +72,12 @@ pub(crate) fn problems_of(lock: Lock<'_>) -> Result<Problems>
 fn check_package<'v>(
     lock: Lock<'v>,
     index: &Index<'v>,
+    rules: &Rules<'v>,
     asker: Package<'v>,
     problems: &mut Problems,
 ) -> Result<()>
-    requires { IsComplete (packages_data lock) index.now }
+    requires index { IsComplete (packages_data lock) index.now }
+    requires rules { AreRules (packages_data lock) rules.now }
     ensures { OnOk result ((found : List Finding)
         × AreMemberFindings (packages_data lock.entry) (option_map (λ version. version.now) lock.entry.node) asker.entry.folder.now
         (view asker.entry.member.now) found
@@ -80,8 +91,9 @@ fn check_package<'v>(
     let places = places_from(lock, index, asker.folder)?;
     let all = asked_of(lock.alloc, asker.member, is_installed)?;
     for (name, asked) in all.iter() {
-        let judgement = judgement_of(lock, asker, index, &places, is_installed, *name, *asked)?;
-        add_judgement(problems, lock.alloc, asker, *name, *asked, judgement)?;
+        let changed = overridden(rules, asker.folder, *name, *asked);
+        let judgement = judgement_of(lock, asker, index, &places, is_installed, *name, changed)?;
+        add_judgement(problems, lock.alloc, asker, *name, changed, judgement)?;
     }
     Ok(())
 }

@@ -126,6 +126,7 @@ fn verdict_on(
     match workspace_of(asker, found.folder) {
         Workspace::Is => Ok(Verdict::Valid),
         Workspace::Unread => Ok(Verdict::Unchecked(Reason::Workspace)),
+        Workspace::IsNot if asked.is_overridden => Ok(Verdict::Unchecked(Reason::Override)),
         Workspace::IsNot => {
             let version = version_of(found.member);
             verdict_of_both(lock.alloc, asker.member, name, asked.spec, version)

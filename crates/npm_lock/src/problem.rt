@@ -47,6 +47,8 @@ pub enum Reason {
     Location,
     /// The package that was found is linked, and a pattern of `workspaces` is not read here.
     Workspace,
+    /// `overrides` change the dependency in a way that is not read here.
+    Override,
 }
 
 impl Reason {
@@ -58,6 +60,7 @@ impl Reason {
             Reason::Tag => "tag",
             Reason::Location => "location",
             Reason::Workspace => "workspace",
+            Reason::Override => "override",
         }
     }
 }

@@ -1,6 +1,6 @@
 -- What is found out about a lock file, and what is written about it.
 use Rattle.std.specs.Prelude.{◌≡◌, ◌≤◌, ◌&&◌, ℕ, List, [], ◌∷◌, ◌++◌, Bool, false, Option, Some, None, filter, if◌then◌else◌}
-use Rattle.std.specs.Prelude.{codes, is_some, length, map, not, option_and_then, option_map}
+use Rattle.std.specs.Prelude.{codes, is_some, length, map, not, option_map}
 use Rattle.std.specs.Bool.{MatchBool}
 use Rattle.serde_json.specs.Data.{Data, depth}
 use Rattle.serde_json.specs.Find.{get}
@@ -71,10 +71,6 @@ abbrev pub placed : (lock : Data) → (manifest : Option Data) → Data
 placed lock None = lock
 placed lock (Some manifest) = with_manifest [] manifest lock
 
--- the manifest has `overrides`, which are not looked at: what they change may be told as a problem
-abbrev pub has_overrides : (manifest : Option Data) → Bool
-has_overrides manifest = is_some (option_and_then (get (codes "overrides")) manifest)
-
 -- the mismatches of the manifest with the root of the lock file, if they are compared, or none if their kind is left out
 abbrev pub AreLeftMismatches : (lock : Data) → (manifest : Option Data) → (is_ignored : Bool) → List Mismatch → Type 0
 AreLeftMismatches lock None is_ignored list = list ≡ []
@@ -105,7 +101,6 @@ AreHit lock (Some file) level found = (installed : List InstalledValue) × AreIn
 -- it that are hit
 pub record IsReportOf (lock : Data) (wanted : WantedValue) (report : Report) (found : List FoundValue) : Type 0 where
   pub compared : report.compared ≡ is_compared lock wanted.manifest
-  pub overrides : report.overrides ≡ has_overrides wanted.manifest
   pub mismatches : AreLeftMismatches lock wanted.manifest wanted.ignored.group report.mismatches.items
   pub problems : AreLeft (placed lock wanted.manifest) wanted report.problems
   pub hit : AreHit (placed lock wanted.manifest) wanted.advisories wanted.level found

@@ -9,7 +9,7 @@ use Rattle.npm_lock.specs.Texts.{rest_after}
 use Rattle.npm_lock.specs.declared.problem.Kind.{Kind}
 use Rattle.npm_lock.specs.declared.problem.Kind.TheVariants.{Engine, Invalid, Missing, PeerLocal}
 use Rattle.npm_lock.specs.declared.problem.Reason.{Reason}
-use Rattle.npm_lock.specs.declared.problem.Reason.TheVariants.{Location, Tag, Workspace}
+use Rattle.npm_lock.specs.declared.problem.Reason.TheVariants.{Location, Override, Tag, Workspace}
 
 -- ---- texts of the file: a terminal gets printable ASCII alone
 
@@ -47,6 +47,7 @@ abbrev pub reason : Reason → List ℕ
 reason Tag = codes ": a tag"
 reason Location = codes ": a URL, a repository, a file or a folder"
 reason Workspace = codes ": a pattern of workspaces that is not read"
+reason Override = codes ": overrides that are not read"
 
 -- a text after this start, if there is one
 abbrev pub after : (start : List ℕ) → Option (List ℕ) → List ℕ

@@ -15,7 +15,7 @@ use crate::kinds::Kinds;
 use crate::lines::lines_of;
 use crate::report::Report;
 use crate::run_error::{RunError, failure_error, json_error, read_error};
-use crate::sync::{compare, has_overrides, is_compared};
+use crate::sync::{compare, is_compared};
 use crate::wanted::Wanted;
 use npm_lock::{CheckError, Problem, Problems, check_any};
 use serde_json::Value;
@@ -73,7 +73,6 @@ fn report_of(alloc: Global, lock: Value, wanted: Wanted<'_>) -> Result<(Report, 
     };
     let report = Report {
         compared,
-        overrides: has_overrides(wanted.manifest),
         mismatches,
         problems,
         audited: wanted.advisories.is_some(),

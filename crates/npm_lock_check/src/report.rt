@@ -10,8 +10,6 @@ use std::fmt;
 pub struct Report {
     /// The manifest and the lock file were compared.
     pub compared: bool,
-    /// The manifest has `overrides`, which are not looked at.
-    pub overrides: bool,
     /// The mismatches of the manifest, but not if their kind is left out.
     pub mismatches: Vec<Mismatch>,
     /// The problems of the lock file but those of kinds that are left out, with the counts of all.
@@ -48,9 +46,6 @@ impl fmt::Display for Report {
         }
         if self.audited {
             write!(f, ", {} hit", self.hits)?;
-        }
-        if self.overrides {
-            f.write_str(", overrides not looked at")?;
         }
         Ok(())
     }

@@ -94,6 +94,7 @@ fn reason(reason: Reason) -> &'static [u8]
         Reason::Tag => b": a tag",
         Reason::Location => b": a URL, a repository, a file or a folder",
         Reason::Workspace => b": a pattern of workspaces that is not read",
+        Reason::Override => b": overrides that are not read",
     }
 }
 

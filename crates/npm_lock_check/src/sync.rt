@@ -3,7 +3,7 @@ ghost use Rattle.std.specs.Prelude.{◌≡◌, [], IfErr, IfOk, OnOk, Some, opti
 ghost use Rattle.serde_json.specs.View.{view};
 ghost use Rattle.npm_lock.specs.Mismatches.{AreMismatches};
 ghost use Rattle.npm_lock_check.specs.Private.Refusals.{IsCompareRefused, IsManifestRefused};
-ghost use Rattle.npm_lock_check.specs.Report.{AreLeftMismatches, has_overrides, has_packages, is_compared, placed, wanted_value};
+ghost use Rattle.npm_lock_check.specs.Report.{AreLeftMismatches, has_packages, is_compared, placed, wanted_value};
 
 use crate::run_error::RunError;
 use crate::wanted::Wanted;
@@ -23,16 +23,6 @@ pub fn is_compared(lock: &Value, manifest: Option<&Value>) -> bool
     ensures { result ≡ is_compared (view lock.now) (option_map (λ manifest. view manifest.now) manifest.entry) }
 {
     manifest.is_some() && has_packages(lock)
-}
-
-/// Returns `true` if the manifest has `overrides`.
-pub fn has_overrides(manifest: Option<&Value>) -> bool
-    ensures { result ≡ has_overrides (option_map (λ manifest. view manifest.now) manifest.entry) }
-{
-    match manifest {
-        Some(manifest) => manifest.get("overrides").is_some(),
-        None => false,
-    }
 }
 
 /// Compares the manifest and the lock file, and puts the manifest in the root's place. Returns the mismatches, but not if their

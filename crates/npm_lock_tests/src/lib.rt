@@ -6,4 +6,6 @@ mod check;
 #[cfg(test)]
 mod manifest;
 #[cfg(test)]
+mod overrides;
+#[cfg(test)]
 mod version_one;

@@ -78,7 +78,7 @@ nowhere_found = above _ (codes "node_modules") None (inr refl)
 -- ---- the findings
 
 abbrev pub asked : AskedValue
-asked = record { spec = codes "^1"; is_needed = true; is_peer = false; is_dev = false }
+asked = record { spec = codes "^1"; is_needed = true; is_peer = false; is_dev = false; is_overridden = false }
 
 abbrev pub problem : ProblemValue
 problem = record { kind = Missing; dependency = dependency_of (codes "node_modules/p") asker (codes "a") asked None }

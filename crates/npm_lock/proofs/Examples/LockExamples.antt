@@ -76,7 +76,7 @@ abbrev pub with_development : Data
 with_development = object (member (codes "devDependencies") (object specs) no_members)
 
 pub of_a_workspace : asked_of with_development false (codes "a")
-    ≡ Some (record { spec = codes "^1"; is_needed = true; is_peer = false; is_dev = true })
+    ≡ Some (record { spec = codes "^1"; is_needed = true; is_peer = false; is_dev = true; is_overridden = false })
 of_a_workspace = refl
 
 pub of_an_installed_package : asked_of with_development true (codes "a") ≡ None
@@ -89,7 +89,7 @@ with_peer = object (member (codes "peerDependencies") (object specs)
     (object (member (codes "a") (object (member (codes "optional") (boolean true) no_members)) no_members)) no_members))
 
 pub an_optional_peer : asked_of with_peer true (codes "a")
-    ≡ Some (record { spec = codes "^1"; is_needed = false; is_peer = true; is_dev = false })
+    ≡ Some (record { spec = codes "^1"; is_needed = false; is_peer = true; is_dev = false; is_overridden = false })
 an_optional_peer = refl
 
 -- ---- aliases: `npm:` in letters of either case, and before a text that is no name

@@ -12,7 +12,7 @@ abbrev nothing : Data
 nothing = object no_members
 
 abbrev asked : AskedValue
-asked = record { spec = codes "^1"; is_needed = true; is_peer = false; is_dev = false }
+asked = record { spec = codes "^1"; is_needed = true; is_peer = false; is_dev = false; is_overridden = false }
 
 no_package : (name folder : List ℕ) (found : Package) → IsFound nothing name folder (Some found) → ⊥
 no_package name folder found (here _ _ is) = cc is.found

@@ -1,5 +1,5 @@
 -- What a map of names has, and what a group of dependencies adds to it.
-use Rattle.std.specs.Prelude.{◌≡◌, ◌&&◌, ℕ, List, map, Bool, not, Option, Some, option_and_then, option_map}
+use Rattle.std.specs.Prelude.{◌≡◌, ◌&&◌, ℕ, List, map, Bool, false, not, Option, Some, option_and_then, option_map}
 use Rattle.std.specs.BTreeMap.{BTreeMap, get_by}
 use Rattle.std.specs.Cmp.Lexicographic.{slice_cmp}
 use Rattle.std.specs.List.{AllByRecursion}
@@ -27,6 +27,7 @@ asked_among asker is_needed is_peer is_dev name members = option_map
       is_needed = is_needed_in asker is_needed is_peer name;
       is_peer = is_peer;
       is_dev = is_dev;
+      is_overridden = false;
     })
     (option_and_then as_str (get_member name members))
 

@@ -22,13 +22,14 @@ packages_data lock = object (members_view lock.members.now.entries)
 abbrev pub package_value : Package → Packages.Package
 package_value found = record { folder = found.folder.now; member = view found.member.now }
 
--- the spec, whether it must be found, whether it is a peer, and whether it counts in development alone
+-- the spec, and what else is asked
 abbrev pub asked_value : Asked → AskedValue
 asked_value asked = record {
   spec = asked.spec.now;
   is_needed = asked.is_needed;
   is_peer = asked.is_peer;
   is_dev = asked.is_dev;
+  is_overridden = asked.is_overridden;
 }
 
 -- what a spec is

@@ -1,5 +1,5 @@
 -- A member is inserted, and no member after it has its name.
-use Rattle.std.proofs.Common.{◌≡◌, ◌∙◌, not, rules, ap, bytes_eq, Some, None, option_and_then, option_map, refl}
+use Rattle.std.proofs.Common.{◌≡◌, ◌∙◌, false, not, rules, ap, bytes_eq, Some, None, option_and_then, option_map, refl}
 use Rattle.std.proofs.Common.{string_bytes, sym}
 use Rattle.std.proofs.lemmas.Map.Text.{btree_map_updates_str}
 use Rattle.std.specs.List.Sorted.{IsStrictlySortedBy}
@@ -40,7 +40,7 @@ loop-name-preserved-in_ok-insert c =
           let updated = btree_map_updates_str c.as_str-name.result.now c.loop-name.all c.insert.new.self _
           c.in_ok-insert.ensures.updates name in
           let seen = ap (option_map asked_value) updated ∙ seen_update asked_value (bytes_eq c.as_str-name.result.now name) _ _ in
-          with_text (λ n spec. record { spec = spec; is_needed = is_needed_in (view c.args.asker.now) c.args.is_needed c.args.is_peer n; is_peer = c.args.is_peer; is_dev = c.args.is_dev }) _ name (string_bytes c.in-Some-2.name.now) c.in-Some-as_str.spec.now (view c.in-Some-2.spec.now) (members_view c.next.new.self) (at_name c.loop-name.all name) (at_name c.insert.new.self name) refl text
+          with_text (λ n spec. record { spec = spec; is_needed = is_needed_in (view c.args.asker.now) c.args.is_needed c.args.is_peer n; is_peer = c.args.is_peer; is_dev = c.args.is_dev; is_overridden = false }) _ name (string_bytes c.in-Some-2.name.now) c.in-Some-as_str.spec.now (view c.in-Some-2.spec.now) (members_view c.next.new.self) (at_name c.loop-name.all name) (at_name c.insert.new.self name) refl text
           (absent c.in-Some-2.name.now c.next.new.self sorted.0) (rw (needed, c.as_str-name.ensures.value) at seen) ∙ (rw c.in-Some-2.ensures.steps at c.loop-name.invariant.left name);
     }
 
@@ -52,7 +52,7 @@ loop-name-preserved c =
     sym c.as_str.ensures ∙ ap (option_map (λ s. s.now)) c.in_default-as_str.is in
     record {
       sorted = sorted.1;
-      left = λ name. no_text (λ n spec. record { spec = spec; is_needed = is_needed_in (view c.args.asker.now) c.args.is_needed c.args.is_peer n; is_peer = c.args.is_peer; is_dev = c.args.is_dev }) _ name (string_bytes c.in-Some-2.name.now) (view c.in-Some-2.spec.now) (members_view c.next.new.self) (at_name c.loop-name.all name) refl text
+      left = λ name. no_text (λ n spec. record { spec = spec; is_needed = is_needed_in (view c.args.asker.now) c.args.is_needed c.args.is_peer n; is_peer = c.args.is_peer; is_dev = c.args.is_dev; is_overridden = false }) _ name (string_bytes c.in-Some-2.name.now) (view c.in-Some-2.spec.now) (members_view c.next.new.self) (at_name c.loop-name.all name) refl text
           (absent c.in-Some-2.name.now c.next.new.self sorted.0) ∙ (rw c.in-Some-2.ensures.steps at c.loop-name.invariant.left name);
     }
 

@@ -1,10 +1,11 @@
 -- The findings of a name come before those of the names that are left.
-use Rattle.std.proofs.Common.{◌≡◌, ◌∙◌, ◌∷◌, [], false, sym}
+use Rattle.std.proofs.Common.{◌≡◌, ◌∙◌, ◌∷◌, [], ap, false, sym}
 use Rattle.serde_json.specs.View.{view}
 use Rattle.npm_lock.specs.Findings.{dependency}
+use Rattle.npm_lock.specs.Overrides.{changed_by, overridden}
 use Rattle.npm_lock.specs.Packages.{is_link}
 use Rattle.npm_lock.specs.Private.Groups.{names_of}
-use Rattle.npm_lock.specs.Private.PackageValue.{packages_data}
+use Rattle.npm_lock.specs.Private.PackageValue.{asked_value, packages_data}
 use Rattle.npm_lock.proofs.MoreFindings.{member_found}
 use Rattle.npm_lock.proofs.NameLists.{all_asked, are_names}
 use Rattle.npm_lock.proofs.Reports.{adds_both, adds_none}
@@ -22,11 +23,16 @@ loop-name-init c =
 pub loop-name-preserved : goal.loop-name-preserved
 loop-name-preserved c =
     let asked = rw c.in-Some.ensures.steps at c.loop-name.invariant.asked in
+    let changed : asked_value c.overridden-changed.result
+    ≡ overridden (packages_data c.args.lock) c.args.asker.folder.now c.in-Some.name.now.now (asked_value c.in-Some.asked.now) =
+    c.overridden-changed.ensures
+    ∙ ap (λ rule. changed_by rule c.args.asker.folder.now (asked_value c.in-Some.asked.now))
+    (c.requires.rules c.in-Some.name.now.now) in
     record {
       asked = asked.1;
       found = λ later new are adds. c.loop-name.invariant.found (_ ∷ later) new
-          (rw c.in-Some.ensures.steps (dependency _ _ asked.0 c.in_ok-judgement.ensures, are))
-          (adds_both _ _ _ (_ ∷ []) later c.in_ok-add_judgement.ensures adds);
+          (rw c.in-Some.ensures.steps (dependency _ _ asked.0 (rw changed at c.in_ok-judgement.ensures), are))
+          (adds_both _ _ _ (_ ∷ []) later (rw changed at c.in_ok-add_judgement.ensures) adds);
     }
 
 pub returns : goal.returns

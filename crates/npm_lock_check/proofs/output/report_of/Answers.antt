@@ -22,7 +22,6 @@ returns-in-Ok-lines_of-clause-found c = (
   map found_value c.in-Ok.found.items,
   record {
     compared = c.is_compared-compared.ensures;
-    overrides = c.has_overrides.ensures;
     mismatches = c.in_ok-mismatches.ensures.mismatches;
     problems = rw c.in_ok-mismatches.ensures.placed at c.in_ok-problems.ensures.found;
     hit = rw c.in_ok-mismatches.ensures.placed at c.in-Ok.ensures.found;

@@ -1,0 +1,116 @@
+//! Tests of `overrides`: what they say, the packages beside the root, and what is found out.
+use npm_lock::{Problems, Reason, check};
+use serde_json::Value;
+use std::alloc::Global;
+use std::test::Fail;
+
+// `overrides` of the root, which depends on `a`, and what is found out about the dependencies of `a` on `@s/c` and `b`, both
+// `^1`: satisfied (`+`), not satisfied (`-`) or not checked (`?`). Of both 2.0.0 is installed.
+const ROWS: [(&str, &str); 29] = [
+    (r#"{}"#, "--"),
+    // A rule for all versions of a name.
+    (r#"{"b": "2.0.0"}"#, "-+"),
+    (r#"{"b": "^2", "@s/c": "^2"}"#, "++"),
+    (r#"{"b": "3"}"#, "--"),
+    (r#"{"@s/c": "npm:x@2"}"#, "+-"),
+    (r#"{"b": "latest", "@s/c": "github:b/b"}"#, "??"),
+    // What changes nothing, and what looks as if it did not.
+    (r#"{"b": "", "@s/c": "*"}"#, "--"),
+    (r#"{"b": " * ", "@s/c": " "}"#, "++"),
+    // Other names: bytes count, and a part of a name is none.
+    (
+        r#"{"B": "2", "bb": "2", "s/c": "2", "@s": "2", "c": "2"}"#,
+        "--",
+    ),
+    (r#"{".": "2", "": "2"}"#, "--"),
+    // Rules that are not read: for some versions of a name, by another name, with no spec, and inside others.
+    (r#"{"b@^1": "2.0.0"}"#, "-?"),
+    (r#"{"@s/c@1": "2.0.0"}"#, "?-"),
+    (r#"{"b@": "2.0.0", "@s/c@": "2.0.0"}"#, "??"),
+    (r#"{"b": "$b"}"#, "-?"),
+    (r#"{"b": {".": "2.0.0"}}"#, "-?"),
+    (r#"{"b": {}}"#, "-?"),
+    (r#"{"b": null, "@s/c": 2}"#, "??"),
+    (r#"{"a": {"b": "2.0.0"}}"#, "-?"),
+    (r#"{"a": {"x": {"y@1": {"b@2": {"z": "1"}}}}}"#, "-?"),
+    (r#"{"a": {"x": "b"}}"#, "--"),
+    // Two rules for one name.
+    (r#"{"b": "2.0.0", "b@3": "3.0.0"}"#, "-?"),
+    (r#"{"b": "2.0.0", "a": {"b": "2.0.0"}}"#, "-?"),
+    (r#"{"b": "2.0.0", "c": {"a": {"b": "*"}}}"#, "-?"),
+    (r#"{"@s/c": "2.0.0", "b": {"@s/c": "3.0.0"}}"#, "??"),
+    // No rules.
+    (r#"null"#, "--"),
+    (r#""b""#, "--"),
+    (r#"[{"b": "2.0.0"}]"#, "--"),
+    (r#"["b"]"#, "--"),
+    (r#"true"#, "--"),
+];
+
+#[test]
+fn reads_the_rules_of_each_row(rt: HostRuntime) -> Result<(), Fail> {
+    for (overrides, wanted) in ROWS {
+        let text = format!(in rt.alloc();
+            "{{\"lockfileVersion\": 3, \"packages\": {{\"\": {{\"dependencies\": {{\"a\": \"1\"}}, \"overrides\": {overrides}}}, \
+            \"node_modules/a\": {{\"version\": \"1.0.0\", \"dependencies\": {{\"b\": \"^1\", \"@s/c\": \"^1\"}}}}, \
+            \"node_modules/b\": {{\"version\": \"2.0.0\"}}, \"node_modules/@s/c\": {{\"version\": \"2.0.0\"}}}}}}"
+        )?;
+        let lock = Value::from_str(rt.alloc(), text.as_str())?;
+        let found = check(rt.alloc(), &lock, None)?;
+        assert!(rt;
+            is_found(&found, "@s/c", wanted.as_bytes()[0]),
+            "{overrides}: @s/c"
+        );
+        assert!(rt;
+            is_found(&found, "b", wanted.as_bytes()[1]),
+            "{overrides}: b"
+        );
+    }
+    Ok(())
+}
+
+fn is_found(found: &Problems, name: &str, sign: u8) -> bool {
+    let is_wrong = found
+        .list
+        .iter()
+        .any(|problem| problem.dependency.name.as_str() == name);
+    let is_unchecked = found
+        .unchecked
+        .iter()
+        .any(|unchecked| unchecked.dependency.name.as_str() == name);
+    is_wrong == (sign == b'-') && is_unchecked == (sign == b'?')
+}
+
+// The root, peers and what lies in other packages are changed too. What is missing is a problem whatever the spec, and so
+// is a local peer. In a workspace no rule is read, and a workspace is what the root asks for whatever the rule.
+#[test]
+fn changes_each_dependency_of_a_name(rt: HostRuntime) -> Result<(), Fail> {
+    let alloc = rt.alloc();
+    let text =
+        r#"{"lockfileVersion": 3, "packages": {"": {"dependencies": {"b": "^1", "w": "^3"}, "workspaces": ["w"],
+            "overrides": {"b": "2.0.0", "c": "2.0.0", "d@1": "2.0.0", "w": "4", "p": "2.0.0"}},
+        "node_modules/a": {"version": "1.0.0", "peerDependencies": {"b": "^1", "p": "^1"}, "dependencies": {"c": "^1", "d": "^1"}},
+        "node_modules/a/node_modules/e": {"version": "1.0.0", "dependencies": {"b": "^1", "w": "^1"}},
+        "node_modules/a/node_modules/p": {"version": "2.0.0"}, "node_modules/b": {"version": "2.0.0"},
+        "node_modules/w": {"link": true, "resolved": "w"}, "w": {"version": "1.0.0", "dependencies": {"b": "^1"}}}}"#;
+    let lock = Value::from_str(alloc, text)?;
+    let found = check(alloc, &lock, None)?;
+    let wanted = [
+        r#"{"dev":false,"from":"node_modules/a","name":"c","optional":false,"peer":false,"problem":"missing","spec":"2.0.0"}"#,
+        r#"{"dev":false,"from":"node_modules/a","name":"d","optional":false,"peer":false,"problem":"missing","spec":"^1"}"#,
+        r#"{"dev":false,"from":"node_modules/a","name":"p","optional":false,"peer":true,"problem":"peer local","spec":"2.0.0","to":"node_modules/a/node_modules/p","version":"2.0.0"}"#,
+        r#"{"dev":false,"from":"node_modules/a/node_modules/e","name":"w","optional":false,"peer":false,"problem":"invalid","spec":"4","to":"w","version":"1.0.0"}"#,
+    ];
+    assert_eq!(rt; found.list.len(), wanted.len());
+    for (problem, wanted) in found.list.iter().zip(wanted.iter()) {
+        assert_eq!(rt; problem.to_json(alloc)?.to_string(alloc)?.as_str(), *wanted);
+    }
+    assert_eq!(rt; found.dependencies, 9);
+    assert_eq!(rt; found.unchecked.len(), 1);
+    assert_eq!(rt; found.unchecked[0].reason, Reason::Override);
+    let written = found.unchecked[0].to_json(alloc)?.to_string(alloc)?;
+    let wanted =
+        r#"{"dev":false,"from":"w","name":"b","optional":false,"peer":false,"spec":"^1","to":"node_modules/b","unchecked":"override","version":"2.0.0"}"#;
+    assert_eq!(rt; written.as_str(), wanted);
+    Ok(())
+}

@@ -56,7 +56,7 @@ impl Sets {
         match self {
             Sets::One(set) => {
                 let _ends = set.ends();
-                MergedSpans::itself(std::slice::from_ref(set))
+                MergedSpans::of_merged(std::slice::from_ref(set))
             }
             Sets::Many(sets) => sets.merged(),
         }

@@ -1,3 +1,4 @@
+pub mod Converting
 pub mod Examples
 pub mod GroupWalk
 pub mod Groups

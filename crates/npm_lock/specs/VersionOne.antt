@@ -4,7 +4,7 @@ use Rattle.std.specs.Prelude.{◌&&◌, ◌||◌, ◌++◌, ℕ, pos, List, [], 
 use Rattle.std.specs.Prelude.{Option, Some, None, bytes_eq, codes, is_some, option_and_then, option_map, unwrap_or}
 use Rattle.std.specs.Float.Ieee.{Float, binary64, eq, of_int}
 use Rattle.std.specs.Option.{option_map_or, option_or}
-use Rattle.serde_json.specs.Data.{Data, Members, member, no_members, object, put, string}
+use Rattle.serde_json.specs.Data.{Data, Members, member, no_members, number, object, put, string, unsigned}
 use Rattle.serde_json.specs.Find.{as_bool, as_null, as_number, as_object, as_str, get, to_float}
 use Rattle.npm_lock.specs.Faults.{has_text_version, lock_fault, package_fault, specs_fault}
 use Rattle.npm_lock.specs.Folders.{place_in}
@@ -97,11 +97,14 @@ abbrev pub packages_of : (lock : Data) → (manifest : Option Data) → Data
 packages_of lock manifest = object (with_packages (packages_below [] lock)
     (member [] (unwrap_or manifest (object no_members)) no_members))
 
+-- a lock file with these `packages`, of version 3
+abbrev pub file_of : (packages : Data) → Data
+file_of packages = object (member (codes "lockfileVersion") (number (unsigned 3))
+    (member (codes "packages") packages no_members))
+
 -- a lock file of any version, as one with `packages`
 abbrev pub converted : (lock : Data) → (manifest : Option Data) → Data
-converted lock manifest = if is_version_one lock
-    then object (member (codes "packages") (packages_of lock manifest) no_members)
-    else lock
+converted lock manifest = if is_version_one lock then file_of (packages_of lock manifest) else lock
 
 -- ---- their faults
 

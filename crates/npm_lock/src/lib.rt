@@ -24,7 +24,7 @@ mod version_one;
 mod version_one_fault;
 mod workspace;
 
-pub use any_version::check_any;
+pub use any_version::{check_any, convert};
 pub use dependents::Dependents;
 pub use fault::{CheckError, Fault};
 pub use group::Group;

@@ -1,7 +1,7 @@
 //! Tests of lock files of version 1: their texts, and the problems of each.
 use crate::check::are_problems;
 use node_semver::Version;
-use npm_lock::{CheckError, Fault, Kind, check, check_any};
+use npm_lock::{CheckError, Fault, Kind, check, check_any, convert};
 use serde_json::Value;
 use std::alloc::Global;
 use std::test::Fail;
@@ -257,6 +257,49 @@ fn reads_files_of_every_version(rt: HostRuntime) -> Result<(), Fail> {
     }
     let lock = Value::from_str(alloc, rows[0])?;
     assert!(rt; check(alloc, &lock, None) == Err(CheckError::Refused(Fault::Version)));
+    Ok(())
+}
+
+// A file of version 1 becomes one of version 3 with the same problems, and another stays as it is.
+#[test]
+fn converts_files_of_version_one(rt: HostRuntime) -> Result<(), Fail> {
+    let alloc = rt.alloc();
+    let lock = Value::from_str(
+        alloc,
+        r#"{"dependencies": {"a": {"version": "1.0.0", "dev": true, "requires": {"b": "^2"},
+            "dependencies": {"b": {"version": "npm:c@1.0.0", "requires": true}}}}}"#,
+    )?;
+    let manifest = Value::from_str(alloc, r#"{"dependencies": {"a": "^1"}}"#)?;
+    let made = convert(alloc, lock, Some(&manifest))?;
+    let wanted = Value::from_str(
+        alloc,
+        r#"{"lockfileVersion": 3, "packages": {"": {"dependencies": {"a": "^1"}},
+            "node_modules/a": {"dependencies": {"b": "^2"}, "dev": true, "version": "1.0.0"},
+            "node_modules/a/node_modules/b": {"version": "1.0.0"}}}"#,
+    )?;
+    assert_eq!(rt;
+        made.to_string(alloc)?.as_str(),
+        wanted.to_string(alloc)?.as_str()
+    );
+    let found = check(alloc, &made, None)?;
+    assert!(rt;
+        are_problems(
+            found.list.as_slice(),
+            &[(Kind::Invalid, "node_modules/a", "b")]
+        )
+    );
+    let stays = convert(
+        alloc,
+        Value::from_str(alloc, r#"{"lockfileVersion": 4}"#)?,
+        None,
+    )?;
+    assert_eq!(rt;
+        stays.to_string(alloc)?.as_str(),
+        r#"{"lockfileVersion":4}"#
+    );
+    let lock = Value::from_str(alloc, r#"{"dependencies": {"a": 1}}"#)?;
+    let refused = convert(alloc, lock, None).err();
+    assert!(rt; refused == Some(CheckError::Refused(Fault::Entry)));
     Ok(())
 }
 

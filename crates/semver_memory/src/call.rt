@@ -233,6 +233,7 @@ fn call_of_made(alloc: Global, name: &str, one: &str, other: &str) -> Result<Cal
         | "Version::coerce_with_prerelease"
         | "npm_lock::check"
         | "npm_lock::check_any"
+        | "npm_lock::convert"
         | "npm_lock::mismatches_of"
         | "npm_lock::put_manifest"
         | "Mismatch::to_json"

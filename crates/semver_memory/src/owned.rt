@@ -28,6 +28,8 @@ pub(crate) enum Making {
     Problems(Value),
     /// The problems of a lock file of any version, with the manifest in its member `manifest`.
     AnyProblems(Value),
+    /// A lock file of any version as one with `packages`, with the same manifest.
+    Converted(Value),
     /// The JSON of the last of these problems.
     Json(Problem),
     /// The JSON of the last dependency that is not checked.
@@ -60,6 +62,7 @@ impl Making {
                 let manifest = lock.get("manifest");
                 answer::problems(npm_lock::check_any(alloc, lock, manifest, None))
             }
+            Making::Converted(lock) => converted(alloc, lock),
             Making::Json(problem) => answer::json(problem.to_json(alloc)),
             Making::UncheckedJson(unchecked) => answer::json(unchecked.to_json(alloc)),
             Making::Mismatches(lock) => answer::mismatches(mismatches_of(alloc, lock)),
@@ -83,6 +86,7 @@ impl Making {
             | Making::Error(text) => text.clone(),
             Making::Problems(value)
             | Making::AnyProblems(value)
+            | Making::Converted(value)
             | Making::Mismatches(value)
             | Making::Put(value)
             | Making::Audit(value) => value.to_string(alloc),
@@ -123,6 +127,17 @@ fn fully_coerced(alloc: Global, text: &str) -> Answer {
     }
 }
 
+fn converted(alloc: Global, lock: &Value) -> Answer {
+    let Ok(copy) = lock.clone() else {
+        return Answer::OutOfMemory;
+    };
+    match npm_lock::convert(alloc, copy, lock.get("manifest")) {
+        Ok(made) => Answer::Json(made),
+        Err(CheckError::Refused(fault)) => Answer::NoLock(fault),
+        Err(CheckError::Memory) => Answer::OutOfMemory,
+    }
+}
+
 fn audited(alloc: Global, input: &Value) -> Answer {
     let (Some(lock), Some(advisories)) = (input.get("lock"), input.get("advisories")) else {
         return Answer::Nothing;
@@ -142,6 +157,7 @@ pub(crate) fn making_of(alloc: Global, name: &str, text: &str) -> Result<Making,
     match name {
         "npm_lock::check" => Ok(Making::Problems(lock_of(alloc, text)?)),
         "npm_lock::check_any" => Ok(Making::AnyProblems(lock_of(alloc, text)?)),
+        "npm_lock::convert" => Ok(Making::Converted(lock_of(alloc, text)?)),
         "Problem::to_json" => problem_of(alloc, text),
         "Unchecked::to_json" => unchecked_of(alloc, text),
         "npm_lock::mismatches_of" => Ok(Making::Mismatches(lock_of(alloc, text)?)),

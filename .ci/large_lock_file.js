@@ -1,8 +1,10 @@
-// node large_lock_file.js [tree]: writes a lock file of 2,001 packages.
+// node large_lock_file.js [tree [COUNT]]: writes a lock file of COUNT packages and the root; COUNT is 2,000 if it is not given.
+// node large_lock_file.js advisories COUNT: writes advisories that hit each second package of such a file.
 // Without `tree` a package has six dependencies, mostly on packages that come after it: about 12,000 in all, at random.
 // With `tree` the graph is like a real one: a package is a dependency of one package before it, each second package
 // depends also on one of 200 packages that many share, and each hundredth on a package before it, which makes a cycle.
-const isTree = process.argv[2] === 'tree'
+const shape = process.argv[2]
+const isTree = shape === 'tree'
 let seed = 20111
 const below = n => {
   seed = (seed * 1103515245 + 12345) % 2147483648
@@ -14,7 +16,7 @@ const ranges = i =>
   [`^${version(i)}`, `^${1 + i % 9}.0.0`, `~${version(i)}`, `>=${1 + i % 9}`, version(i), '*']
 const range = i => ranges(i)[below(6)]
 
-const count = 2000
+const count = Number(process.argv[3] || 2000)
 const direct = 60
 const shared = 200
 function * others (i) {
@@ -28,18 +30,34 @@ function * others (i) {
     yield below(50) === 0 ? below(count) : i + 1 + below(Math.min(300, count - i - 1))
   }
 }
-const packages = { '': { name: 'large', version: '1.0.0', dependencies: {} } }
-for (let i = 0; i < direct; i++) packages[''].dependencies[name(i)] = range(i)
-for (let i = 0; i < count; i++) {
-  const member = {
-    version: version(i),
-    resolved: `https://registry.npmjs.org/${name(i)}/-/package-${i}-${version(i)}.tgz`,
-    integrity: `sha512-${Buffer.from(`${i}`.repeat(64).slice(0, 64)).toString('base64')}`,
-    license: 'MIT',
-    dependencies: {},
-    engines: { node: '>=14' }
+function lockFile () {
+  const packages = { '': { name: 'large', version: '1.0.0', dependencies: {} } }
+  for (let i = 0; i < direct; i++) packages[''].dependencies[name(i)] = range(i)
+  for (let i = 0; i < count; i++) {
+    const member = {
+      version: version(i),
+      resolved: `https://registry.npmjs.org/${name(i)}/-/package-${i}-${version(i)}.tgz`,
+      integrity: `sha512-${Buffer.from(`${i}`.repeat(64).slice(0, 64)).toString('base64')}`,
+      license: 'MIT',
+      dependencies: {},
+      engines: { node: '>=14' }
+    }
+    for (const j of others(i)) member.dependencies[name(j)] = range(j)
+    packages[`node_modules/${name(i)}`] = member
   }
-  for (const j of others(i)) member.dependencies[name(j)] = range(j)
-  packages[`node_modules/${name(i)}`] = member
+  return { name: 'large', version: '1.0.0', lockfileVersion: 3, requires: true, packages }
 }
-console.log(JSON.stringify({ name: 'large', version: '1.0.0', lockfileVersion: 3, requires: true, packages }, null, 2))
+function advisories () {
+  const made = {}
+  for (let i = 0; i < count; i += 2) {
+    made[name(i)] = [{
+      id: i,
+      title: `What ${name(i)} does`,
+      severity: 'high',
+      vulnerable_versions: `<=${version(i)}`,
+      url: `https://advisories.example/${i}`
+    }]
+  }
+  return made
+}
+console.log(JSON.stringify(shape === 'advisories' ? advisories() : lockFile(), null, 2))

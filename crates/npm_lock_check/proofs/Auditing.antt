@@ -1,29 +1,41 @@
 -- Why advisories are not looked up, and what is counted.
-use Rattle.std.proofs.Common.{◌≡◌, List, None, Option, Some, inl, inr, is_some, length, map, option_map, refl}
+use Rattle.std.proofs.Common.{◌≡◌, ◌∙◌, List, None, Option, Some, inl, inr, is_some, length, map, option_map, refl, sym}
 use Rattle.std.proofs.lemmas.List.{length-map}
 use Rattle.serde_json.specs.Data.{Data}
 use Rattle.npm_advisories.specs.Faults.{FaultValue}
 use Rattle.npm_advisories.specs.Files.{IsFileFault}
-use Rattle.npm_lock_check.specs.Private.Refusals.{AreRefusedAs, IsAuditRefused, IsLockRefused, IsRefused}
+use Rattle.npm_lock.specs.Faults.{lock_fault}
+use Rattle.npm_lock.specs.VersionOne.{any_fault, converted}
+use Rattle.npm_lock_check.specs.Private.Refusals.{AreRefusedAs, IsAuditRefused, IsCheckRefused, IsLockRefused, IsRefused}
 use Rattle.npm_lock_check.specs.Report.{WantedValue}
 use Rattle.npm_lock_check.specs.declared.run_error.RunError.{RunError}
 
 -- the advisories have this fault
-pub refused_as : (placed file : Data) (wanted : WantedValue) (fault : FaultValue) (error : RunError)
-    → wanted.advisories ≡ Some file → IsFileFault file (Some fault) → AreRefusedAs fault error
-    → IsAuditRefused placed wanted error
-refused_as placed file wanted fault error is told (inl (name, same, text)) =
-    inr (inl (fault.kind, name, fault.place, same, (file, is, rw text told)))
-refused_as placed file wanted fault error is told (inr memory) = inr (inr (inr memory))
+pub refused_as : (checked file : Data) (advisories : Option Data) (fault : FaultValue) (error : RunError)
+    → advisories ≡ Some file → IsFileFault file (Some fault) → AreRefusedAs fault error
+    → IsAuditRefused checked advisories error
+refused_as checked file advisories fault error is told (inl (name, same, text)) =
+    inl (fault.kind, name, fault.place, same, (file, is, rw text told))
+refused_as checked file advisories fault error is told (inr memory) = inr (inr memory)
 
--- the lock file is refused, by the check or by the audit
+-- what is checked has the fault of the lock file
+module _ (lock placed checked : Data) (wanted : WantedValue) (error : RunError)
+    (is : checked ≡ converted placed wanted.manifest)
+    (sound : lock_fault (converted placed wanted.manifest) ≡ any_fault placed wanted.manifest) where
+  same_refused : IsCheckRefused checked error → IsLockRefused placed wanted.manifest error
+  same_refused (inl (fault, same, told)) = inl (fault, same, sym sound ∙ rw is at told)
+  same_refused (inr memory) = inr memory
+
+  pub refused_check : IsCheckRefused checked error → IsRefused lock placed wanted error
+  refused_check told = inr (inr (same_refused told))
+
+  pub refused_audit : IsAuditRefused checked wanted.advisories error → IsRefused lock placed wanted error
+  refused_audit (inl told) = inr (inl told)
+  refused_audit (inr told) = refused_check told
+
 pub refused_lock : (lock placed : Data) (wanted : WantedValue) (error : RunError)
     → IsLockRefused placed wanted.manifest error → IsRefused lock placed wanted error
-refused_lock lock placed wanted error told = inr (inr (inr told))
-
-pub refused_audit : (lock placed : Data) (wanted : WantedValue) (error : RunError) → IsAuditRefused placed wanted error
-    → IsRefused lock placed wanted error
-refused_audit lock placed wanted error told = inr told
+refused_lock lock placed wanted error told = inr (inr told)
 
 -- what is seen of a value is there where the value is, and of a list it has the same length
 pub some_same : {A B : Type 0} (f : A → B) (value : Option A) → is_some value ≡ is_some (option_map f value)

@@ -32,22 +32,19 @@ pub refused : {R : Type 0} (remaining : R → Option (List ℕ)) (wanted : Wante
     → IsRefused lock (placed lock wanted.manifest) wanted error → IsStopped remaining wanted old new error
 refused remaining wanted old new lock error input (inl (inl (fault, is, told))) = rw is (lock, input, told)
 refused remaining wanted old new lock error input (inl (inr is)) = rw is (later remaining wanted old new lock input)
-refused remaining wanted old new lock error input (inr (inl (is, told))) = rw is (lock, input, told)
-refused remaining wanted old new lock error input (inr (inr (inl (kind, name, place, is, told)))) =
+refused remaining wanted old new lock error input (inr (inl (kind, name, place, is, told))) =
     rw is (lock, input, told)
-refused remaining wanted old new lock error input (inr (inr (inr (inl (fault, is, told))))) =
-    rw is (lock, input, told)
-refused remaining wanted old new lock error input (inr (inr (inr (inr is)))) =
+refused remaining wanted old new lock error input (inr (inr (inl (fault, is, told)))) = rw is (lock, input, told)
+refused remaining wanted old new lock error input (inr (inr (inr is))) =
     rw is (later remaining wanted old new lock input)
 
 -- the check writes nothing, so no write of it fails
 pub unwritten : (lock placed : Data) (wanted : WantedValue) → ¬ IsRefused lock placed wanted Write
 unwritten lock placed wanted (inl (inl told)) = cc told.1
 unwritten lock placed wanted (inl (inr is)) = cc is
-unwritten lock placed wanted (inr (inl told)) = cc told.0
-unwritten lock placed wanted (inr (inr (inl told))) = cc told.3
-unwritten lock placed wanted (inr (inr (inr (inl told)))) = cc told.1
-unwritten lock placed wanted (inr (inr (inr (inr is)))) = cc is
+unwritten lock placed wanted (inr (inl told)) = cc told.3
+unwritten lock placed wanted (inr (inr (inl told))) = cc told.1
+unwritten lock placed wanted (inr (inr (inr is))) = cc is
 
 module _ {T E F : Type 0} (Q : E → F → Type 0) where
   -- the error before its type changed

@@ -20,7 +20,7 @@ use Rattle.npm_lock_check.specs.declared.run_error.RunError.{RunError}
 use Rattle.npm_lock_check.specs.declared.run_error.RunError.TheVariants as Errors
 use Rattle.npm_lock_check.specs.declared.run_error.RunError.TheVariants.{ByteOrderMark, Memory, NoAdvisories, NodeVersion}
 use Rattle.npm_lock_check.specs.declared.run_error.RunError.TheVariants.{NoFile, NoJson, NoLockFile, NoManifest, NoUtf8, NoValue}
-use Rattle.npm_lock_check.specs.declared.run_error.RunError.TheVariants.{OldLockFile, Open, Read, SecondFile, TooManyWords}
+use Rattle.npm_lock_check.specs.declared.run_error.RunError.TheVariants.{Open, Read, SecondFile, TooManyWords}
 use Rattle.npm_lock_check.specs.declared.run_error.RunError.TheVariants.{UnknownOption, Write}
 
 -- the JSON text of this value, in UTF-8
@@ -62,10 +62,6 @@ IsNoManifest lock manifest fault =
 abbrev pub IsNoLockFile : (placed : Data) → (manifest : Option Data) → Fault → Type 0
 IsNoLockFile placed manifest fault = any_fault placed manifest ≡ Some fault
 
--- there are advisories, and the lock file has no `packages`: it is of version 1, which is not audited
-abbrev pub IsOldLockFile : (placed : Data) → (advisories : Option Data) → Type 0
-IsOldLockFile placed advisories = IsSome advisories × (has_packages placed ≡ false)
-
 -- the value of the advisories has a fault, at this place in the list under this name
 abbrev pub AreNoAdvisories : (advisories : Option Data) → FaultKind → ListName → (place : ℕ) → Type 0
 AreNoAdvisories advisories kind name place = (file : Data) × (advisories ≡ Some file)
@@ -85,8 +81,6 @@ IsStopped remaining wanted old new (NoLockFile fault) =
     (lock : Data) × IsInput remaining old new lock × IsNoLockFile (placed lock wanted.manifest) wanted.manifest fault
 IsStopped remaining wanted old new (NoManifest fault) =
     (lock : Data) × IsInput remaining old new lock × IsNoManifest lock wanted.manifest fault
-IsStopped remaining wanted old new OldLockFile =
-    (lock : Data) × IsInput remaining old new lock × IsOldLockFile (placed lock wanted.manifest) wanted.advisories
 IsStopped remaining wanted old new (NoAdvisories kind name place) =
     (lock : Data) × IsInput remaining old new lock × AreNoAdvisories wanted.advisories kind name place
 IsStopped remaining wanted old new Read = IsSome new.failure × (new.failure ≢ Some OutOfMemory)

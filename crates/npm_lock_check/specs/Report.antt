@@ -80,10 +80,14 @@ AreLeftMismatches lock (Some manifest) is_ignored list = MatchBool (has_packages
 
 -- ---- the problems and the advisories
 
+-- the lock file that is checked: with the manifest in the root's place, and converted if it is of version 1
+abbrev pub checked_lock : (lock : Data) → (manifest : Option Data) → Data
+checked_lock lock manifest = converted (placed lock manifest) manifest
+
 -- the problems of the lock file without those of ignored kinds, in their order, and the counts of all of it
 pub record AreLeft (lock : Data) (wanted : WantedValue) (problems : Problems) : Type 0 where
   pub all : Problems
-  pub found : Findings.IsChecked (converted lock wanted.manifest) wanted.node all
+  pub found : Findings.IsChecked lock wanted.node all
   pub left : problems.list.items ≡ filter (λ problem. not (has wanted.ignored problem.kind)) all.list.items
   pub packages : problems.packages ≡ all.packages
   pub dependencies : problems.dependencies ≡ all.dependencies
@@ -97,13 +101,12 @@ AreHit lock (Some file) level found = (installed : List InstalledValue) × AreIn
 
 -- ---- all of it
 
--- the mismatches of the manifest, the problems of the lock file with that manifest in the root's place, and the packages of
--- it that are hit
+-- the mismatches of the manifest, the problems of the lock file that is checked, and the packages of it that are hit
 pub record IsReportOf (lock : Data) (wanted : WantedValue) (report : Report) (found : List FoundValue) : Type 0 where
   pub compared : report.compared ≡ is_compared lock wanted.manifest
   pub mismatches : AreLeftMismatches lock wanted.manifest wanted.ignored.group report.mismatches.items
-  pub problems : AreLeft (placed lock wanted.manifest) wanted report.problems
-  pub hit : AreHit (placed lock wanted.manifest) wanted.advisories wanted.level found
+  pub problems : AreLeft (checked_lock lock wanted.manifest) wanted report.problems
+  pub hit : AreHit (checked_lock lock wanted.manifest) wanted.advisories wanted.level found
   pub audited : report.audited ≡ is_some wanted.advisories
   pub hits : report.hits ≡ length found
 

@@ -8,7 +8,6 @@ ghost use Rattle.npm_lock_check.specs.Report.{AreHit, wanted_value};
 
 use crate::list_name::ListName;
 use crate::run_error::RunError;
-use crate::sync::has_packages;
 use crate::wanted::Wanted;
 use npm_advisories::{Fault, Found, LockError, audit_lock};
 use serde_json::Value;
@@ -22,14 +21,11 @@ pub fn hits_of<'f, 'v>(
 ) -> Result<Vec<Found<'f, 'v>>, RunError>
     ensures found { IfOk result (λ found. AreHit (view lock.now) (wanted_value wanted.entry).advisories
         wanted.entry.level (map found_value found.items)) }
-    ensures refused { IfErr result (IsAuditRefused (view lock.now) (wanted_value wanted.entry)) }
+    ensures refused { IfErr result (IsAuditRefused (view lock.now) (wanted_value wanted.entry).advisories) }
 {
     let Some(file) = wanted.advisories else {
         return Ok(Vec::new(alloc));
     };
-    if !has_packages(lock) {
-        return Err(RunError::OldLockFile);
-    }
     match audit_lock(alloc, file, wanted.level, lock) {
         Ok(found) => Ok(found),
         Err(LockError::Lock(fault)) => Err(RunError::NoLockFile(fault)),

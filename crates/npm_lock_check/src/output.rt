@@ -1,11 +1,13 @@
 //! What the program reads, and what it writes for it.
-ghost use Rattle.std.specs.Prelude.{◌≡◌, ◌≢◌, List, ℕ, IfErr, IfOk, IsErrOf, IsSome, filter, map, not};
+ghost use Rattle.std.specs.Prelude.{◌≡◌, ◌≢◌, List, ℕ, IfErr, IfOk, IsErrOf, IsSome, OnOk, filter, map, not, option_map};
 ghost use Rattle.std.specs.Io.KnownBytes.{Appends};
 ghost use Rattle.serde_json.specs.View.{view};
+ghost use Rattle.npm_lock.specs.Faults.{lock_fault};
+ghost use Rattle.npm_lock.specs.VersionOne.{any_fault, converted};
 ghost use Rattle.npm_advisories.specs.Audit.{FoundValue};
 ghost use Rattle.npm_lock_check.specs.Kinds.{has};
 ghost use Rattle.npm_lock_check.specs.Output.{IsInput, IsReported, IsStopped};
-ghost use Rattle.npm_lock_check.specs.Private.Refusals.{IsLockRefused, IsRefused};
+ghost use Rattle.npm_lock_check.specs.Private.Refusals.{IsCheckRefused, IsLockRefused, IsRefused};
 ghost use Rattle.npm_lock_check.specs.Report.{AreLeft, IsReportOf, IsReportText, WantedValue, placed, wanted_value};
 ghost use Rattle.npm_lock_check.specs.declared.report.Report.{Report};
 
@@ -17,7 +19,7 @@ use crate::report::Report;
 use crate::run_error::{RunError, failure_error, json_error, read_error};
 use crate::sync::{compare, is_compared};
 use crate::wanted::Wanted;
-use npm_lock::{CheckError, Problem, Problems, check_any};
+use npm_lock::{CheckError, Problem, Problems, check, convert};
 use serde_json::Value;
 use std::alloc::Global;
 use std::io::{Read, Write};
@@ -66,6 +68,7 @@ fn report_of(alloc: Global, lock: Value, wanted: Wanted<'_>) -> Result<(Report, 
     let compared = is_compared(&lock, wanted.manifest);
     let mut lock = lock;
     let mismatches = compare(alloc, &mut lock, wanted)?;
+    let lock = converted(alloc, lock, wanted.manifest)?;
     let problems = problems_of(alloc, &lock, wanted)?;
     let found = match hits_of(alloc, &lock, wanted) {
         Ok(found) => found,
@@ -84,12 +87,29 @@ fn report_of(alloc: Global, lock: Value, wanted: Wanted<'_>) -> Result<(Report, 
     }
 }
 
+/// The lock file as one with `packages`, whose root is the manifest if it is of version 1.
+fn converted(alloc: Global, lock: Value, manifest: Option<&Value>) -> Result<Value, RunError>
+    ensures made { IfOk result (λ made. view made
+        ≡ converted (view lock) (option_map (λ manifest. view manifest.now) manifest.entry)) }
+    ensures sound { OnOk result
+        (lock_fault (converted (view lock) (option_map (λ manifest. view manifest.now) manifest.entry))
+        ≡ any_fault (view lock) (option_map (λ manifest. view manifest.now) manifest.entry)) }
+    ensures refused { IfErr result
+        (IsLockRefused (view lock) (option_map (λ manifest. view manifest.now) manifest.entry)) }
+{
+    match convert(alloc, lock, manifest) {
+        Ok(made) => Ok(made),
+        Err(CheckError::Refused(fault)) => Err(RunError::NoLockFile(fault)),
+        Err(CheckError::Memory) => Err(RunError::Memory),
+    }
+}
+
 /// The problems of a lock file but those of ignored kinds.
 fn problems_of(alloc: Global, lock: &Value, wanted: Wanted<'_>) -> Result<Problems, RunError>
     ensures found { IfOk result (AreLeft (view lock.now) (wanted_value wanted.entry)) }
-    ensures refused { IfErr result (IsLockRefused (view lock.now) (wanted_value wanted.entry).manifest) }
+    ensures refused { IfErr result (IsCheckRefused (view lock.now)) }
 {
-    let mut problems = match check_any(alloc, lock, wanted.manifest, wanted.node) {
+    let mut problems = match check(alloc, lock, wanted.node) {
         Ok(problems) => problems,
         Err(CheckError::Refused(fault)) => return Err(RunError::NoLockFile(fault)),
         Err(CheckError::Memory) => return Err(RunError::Memory),

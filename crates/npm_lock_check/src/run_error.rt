@@ -68,9 +68,6 @@ pub enum RunError {
     /// The manifest has a fault.
     #[error("the manifest is not read: {0}")]
     NoManifest(Fault),
-    /// There are advisories, and a lock file of version 1.
-    #[error("advisories are looked up for lock files of version 2 or 3, and the input is of version 1")]
-    OldLockFile,
     /// The advisories have a fault: its kind, the name that the advisory stands under, and its place in the list there.
     #[error("the advisories are not read: {0}; advisory {2}, counted from 0{1}")]
     NoAdvisories(FaultKind, ListName, usize),

@@ -1,16 +1,16 @@
 -- Why the values of a lock file, of a manifest and of advisories are refused: one of them has a fault, or memory ran out.
 use Rattle.std.specs.Prelude.{◌≡◌, ◌⊎◌, ℕ, Option, Some, string_bytes}
 use Rattle.serde_json.specs.Data.{Data}
+use Rattle.npm_lock.specs.Faults.{lock_fault}
 use Rattle.npm_lock.specs.Mismatches.{manifest_fault}
 use Rattle.npm_lock.specs.declared.fault.Fault.{Fault}
 use Rattle.npm_advisories.specs.Faults.{FaultValue}
 use Rattle.npm_advisories.specs.declared.fault.FaultKind.{FaultKind}
-use Rattle.npm_lock_check.specs.Output.{AreNoAdvisories, IsNoLockFile, IsNoManifest, IsOldLockFile}
+use Rattle.npm_lock_check.specs.Output.{AreNoAdvisories, IsNoLockFile, IsNoManifest}
 use Rattle.npm_lock_check.specs.Report.{WantedValue}
 use Rattle.npm_lock_check.specs.declared.list_name.ListName.{ListName}
 use Rattle.npm_lock_check.specs.declared.run_error.RunError.{RunError}
 use Rattle.npm_lock_check.specs.declared.run_error.RunError.TheVariants.{Memory, NoAdvisories, NoLockFile, NoManifest}
-use Rattle.npm_lock_check.specs.declared.run_error.RunError.TheVariants.{OldLockFile}
 
 -- the manifest
 abbrev pub IsManifestRefused : (manifest : Data) → RunError → Type 0
@@ -27,18 +27,26 @@ abbrev pub IsLockRefused : (placed : Data) → (manifest : Option Data) → RunE
 IsLockRefused placed manifest error =
     ((fault : Fault) × (error ≡ NoLockFile fault) × IsNoLockFile placed manifest fault) ⊎ (error ≡ Memory)
 
+-- the lock file that is checked
+abbrev pub IsCheckRefused : (checked : Data) → RunError → Type 0
+IsCheckRefused checked error =
+    ((fault : Fault) × (error ≡ NoLockFile fault) × (lock_fault checked ≡ Some fault)) ⊎ (error ≡ Memory)
+
 -- the advisories, with this fault
 abbrev pub AreRefusedAs : FaultValue → RunError → Type 0
 AreRefusedAs fault error = ((name : ListName) × (error ≡ NoAdvisories fault.kind name fault.place)
     × (string_bytes name.text ≡ fault.name)) ⊎ (error ≡ Memory)
 
+-- the advisories of a check
+abbrev pub AreAdvisoriesRefused : (advisories : Option Data) → RunError → Type 0
+AreAdvisoriesRefused advisories error = (kind : FaultKind) × (name : ListName) × (place : ℕ)
+    × (error ≡ NoAdvisories kind name place) × AreNoAdvisories advisories kind name place
+
 -- the advisories, or the lock file for them
-abbrev pub IsAuditRefused : (placed : Data) → WantedValue → RunError → Type 0
-IsAuditRefused placed wanted error = ((error ≡ OldLockFile) × IsOldLockFile placed wanted.advisories)
-    ⊎ ((kind : FaultKind) × (name : ListName) × (place : ℕ) × (error ≡ NoAdvisories kind name place)
-    × AreNoAdvisories wanted.advisories kind name place) ⊎ IsLockRefused placed wanted.manifest error
+abbrev pub IsAuditRefused : (checked : Data) → (advisories : Option Data) → RunError → Type 0
+IsAuditRefused checked advisories error = AreAdvisoriesRefused advisories error ⊎ IsCheckRefused checked error
 
 -- any of them
 abbrev pub IsRefused : (lock placed : Data) → WantedValue → RunError → Type 0
-IsRefused lock placed wanted error =
-    IsCompareRefused lock wanted.manifest error ⊎ IsAuditRefused placed wanted error
+IsRefused lock placed wanted error = IsCompareRefused lock wanted.manifest error
+    ⊎ AreAdvisoriesRefused wanted.advisories error ⊎ IsLockRefused placed wanted.manifest error

@@ -13,5 +13,5 @@ returns-in-Err-Advisories-clause-refused c =
     rw c.in-Err-Advisories.field-0-is at c.in-Err-Advisories.ensures.refused in
     let there : (wanted_value c.args.wanted).advisories ≡ Some (view c.in-Some.file.now) =
     ap (option_map (λ file. view file.now)) c.in-Some.is in
-    refused_as (view c.args.lock.now) (view c.in-Some.file.now) (wanted_value c.args.wanted)
+    refused_as (view c.args.lock.now) (view c.in-Some.file.now) (wanted_value c.args.wanted).advisories
     (fault_value c.in-Err-Advisories.fault) c.no_advisories.result there told c.no_advisories.ensures

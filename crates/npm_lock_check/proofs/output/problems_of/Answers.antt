@@ -1,13 +1,12 @@
 -- The check refuses the value.
 use Rattle.std.proofs.Common.{◌≡◌, ◌∙◌, Some, ap, Err, inl, refl}
 use Rattle.serde_json.specs.View.{view}
-use Rattle.npm_lock.specs.VersionOne.{any_fault}
-use Rattle.npm_lock_check.specs.Report.{wanted_value}
+use Rattle.npm_lock.specs.Faults.{lock_fault}
 use Rattle.npm_lock_check.proofs.output.problems_of.Goals as goal
 
 pub returns-in-Err-Refused-clause-refused : goal.returns-in-Err-Refused-clause-refused
 returns-in-Err-Refused-clause-refused c =
-    let told : any_fault (view c.args.lock.now) (wanted_value c.args.wanted).manifest ≡ Some c.in-Err-Refused.fault =
-    (c.check_any.ensures.refused c.in-Err-Refused.fault).0
+    let told : lock_fault (view c.args.lock.now) ≡ Some c.in-Err-Refused.fault =
+    (c.check.ensures.refused c.in-Err-Refused.fault).0
     (c.in-Err-Refused.is ∙ ap Err c.in-Err-Refused.field-0-is) in
     inl (c.in-Err-Refused.fault, refl, told)

@@ -3,30 +3,42 @@ use Rattle.std.proofs.Common.{◌∙◌, map, rules, sym}
 use Rattle.serde_json.specs.View.{view}
 use Rattle.npm_advisories.specs.Audit.{found_value}
 use Rattle.npm_lock_check.specs.Report.{placed, wanted_value}
-use Rattle.npm_lock_check.proofs.Auditing.{length_same, refused_audit, refused_lock, some_same}
+use Rattle.npm_lock_check.proofs.Auditing.{length_same, refused_audit, refused_check, refused_lock, some_same}
 use Rattle.npm_lock_check.proofs.output.report_of.Goals as goal
+
+pub returns-in_err-lock-clause-refused : goal.returns-in_err-lock-clause-refused
+returns-in_err-lock-clause-refused c =
+    let told = refused_lock (view c.args.lock) (placed (view c.args.lock) (wanted_value c.args.wanted).manifest)
+    (wanted_value c.args.wanted) _ (rw c.in_ok-mismatches.ensures.placed at c.in_err-lock.ensures.refused) in
+    search (rules, told)
 
 pub returns-in_err-problems-clause-refused : goal.returns-in_err-problems-clause-refused
 returns-in_err-problems-clause-refused c =
-    let told = refused_lock (view c.args.lock) (placed (view c.args.lock) (wanted_value c.args.wanted).manifest)
-    (wanted_value c.args.wanted) _ (rw c.in_ok-mismatches.ensures.placed at c.in_err-problems.ensures.refused) in
+    let told = refused_check (view c.args.lock) (placed (view c.args.lock) (wanted_value c.args.wanted).manifest)
+    (view c.in_ok-lock.lock) (wanted_value c.args.wanted) _
+    (rw c.in_ok-mismatches.ensures.placed at c.in_ok-lock.ensures.made)
+    (rw c.in_ok-mismatches.ensures.placed at c.in_ok-lock.ensures.sound) c.in_err-problems.ensures.refused in
     search (rules, told)
 
 pub returns-in-Err-clause-refused : goal.returns-in-Err-clause-refused
 returns-in-Err-clause-refused c =
     refused_audit (view c.args.lock) (placed (view c.args.lock) (wanted_value c.args.wanted).manifest)
-    (wanted_value c.args.wanted) c.in-Err.error (rw c.in_ok-mismatches.ensures.placed at c.in-Err.ensures.refused)
+    (view c.in_ok-lock.lock) (wanted_value c.args.wanted) c.in-Err.error
+    (rw c.in_ok-mismatches.ensures.placed at c.in_ok-lock.ensures.made)
+    (rw c.in_ok-mismatches.ensures.placed at c.in_ok-lock.ensures.sound) c.in-Err.ensures.refused
 
 pub returns-in-Ok-lines_of-clause-found : goal.returns-in-Ok-lines_of-clause-found
-returns-in-Ok-lines_of-clause-found c = (
-  map found_value c.in-Ok.found.items,
-  record {
-    compared = c.is_compared-compared.ensures;
-    mismatches = c.in_ok-mismatches.ensures.mismatches;
-    problems = rw c.in_ok-mismatches.ensures.placed at c.in_ok-problems.ensures.found;
-    hit = rw c.in_ok-mismatches.ensures.placed at c.in-Ok.ensures.found;
-    audited = c.is_some.ensures ∙ some_same (λ file. view file.now) c.args.wanted.advisories;
-    hits = c.len.ensures ∙ sym (rw c.deref.ensures.value at c.deref.ensures.len) ∙ length_same found_value c.in-Ok.found.items;
-  },
-  rw c.deref.ensures.value at c.in-Ok-lines_of.ensures,
-)
+returns-in-Ok-lines_of-clause-found c =
+    let made = rw c.in_ok-mismatches.ensures.placed at c.in_ok-lock.ensures.made in (
+      map found_value c.in-Ok.found.items,
+      record {
+        compared = c.is_compared-compared.ensures;
+        overrides = c.has_overrides.ensures;
+        mismatches = c.in_ok-mismatches.ensures.mismatches;
+        problems = rw made at c.in_ok-problems.ensures.found;
+        hit = rw made at c.in-Ok.ensures.found;
+        audited = c.is_some.ensures ∙ some_same (λ file. view file.now) c.args.wanted.advisories;
+        hits = c.len.ensures ∙ sym (rw c.deref.ensures.value at c.deref.ensures.len) ∙ length_same found_value c.in-Ok.found.items;
+      },
+      rw c.deref.ensures.value at c.in-Ok-lines_of.ensures,
+    )

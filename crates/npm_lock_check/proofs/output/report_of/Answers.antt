@@ -33,7 +33,6 @@ returns-in-Ok-lines_of-clause-found c =
       map found_value c.in-Ok.found.items,
       record {
         compared = c.is_compared-compared.ensures;
-        overrides = c.has_overrides.ensures;
         mismatches = c.in_ok-mismatches.ensures.mismatches;
         problems = rw made at c.in_ok-problems.ensures.found;
         hit = rw made at c.in-Ok.ensures.found;

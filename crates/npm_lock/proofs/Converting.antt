@@ -14,7 +14,8 @@ use Rattle.npm_lock.specs.Faults.{specs_fault}
 use Rattle.npm_lock.specs.Packages.{Package, is_link}
 use Rattle.npm_lock.specs.VersionOne as VersionOne
 use Rattle.npm_lock.specs.VersionOne.{any_fault, converted, entry_fault, file_of, has_named, is_version_one}
-use Rattle.npm_lock.specs.VersionOne.{manifest_fault, member_of, packages_below, packages_of, required_of, requires_fault}
+use Rattle.npm_lock.specs.VersionOne.{manifest_fault, member_of, packages_below, packages_of, required_of}
+use Rattle.npm_lock.specs.VersionOne.{requires_fault}
 use Rattle.npm_lock.specs.VersionOne.{version_in, version_one_fault, with_packages, with_some}
 use Rattle.npm_lock.specs.declared.fault.Fault.{Fault}
 use Rattle.npm_lock.specs.declared.fault.Fault.TheVariants as Faults

@@ -1,5 +1,6 @@
 -- A walk along two groups: what is left after a name is taken, and which names both have.
-use Rattle.std.proofs.Common.{◌≡◌, ◌≢◌, ◌∙◌, ◌⊎◌, ℕ, zero, suc, List, [], ◌∷◌, ◌++◌, Bool, true, false, Option, Some, None}
+use Rattle.std.proofs.Common.{◌≡◌, ◌≢◌, ◌∙◌, ◌⊎◌, ℕ, zero, suc, List, [], ◌∷◌, ◌++◌, Bool, true, false, Option, Some}
+use Rattle.std.proofs.Common.{None}
 use Rattle.std.proofs.Common.{IsTrue, Ordering, Less, Equal, Greater, ap, arith, bytes_eq, inl, inr, is_eq, nat_cmp}
 use Rattle.std.proofs.Common.{option_and_then, option_map, refl, sym, unwrap_or}
 use Rattle.std.proofs.Common.{BTreeMap, Global, String, append_assoc, append-nil}
@@ -144,12 +145,13 @@ all_of (first ∷ names) holds = (
 after_taken : (name n : List ℕ) (ms : Members) → AllByRecursion (IsAfter name) (keys_of ms)
     → IsSome (get_member n ms) → IsAfter name n
 after_taken name n no_members after some = cc some
-after_taken name n (member k v ms) after some = at (slice_cmp nat_cmp n k) refl some (after_taken name n ms after.1) where
-  at : (o : Ordering) → slice_cmp nat_cmp n k ≡ o → IsSome (get_member n (member k v ms))
-      → (IsSome (get_member n ms) → IsAfter name n) → IsAfter name n
-  at Less is some others = others (rw is at some)
-  at Equal is some others = let same : n ≡ k = exact n k (ap is_eq is) in rw same after.0
-  at Greater is some others = others (rw is at some)
+after_taken name n (member k v ms) after some = at (slice_cmp nat_cmp n k) refl some (after_taken name n ms after.1)
+  where
+    at : (o : Ordering) → slice_cmp nat_cmp n k ≡ o → IsSome (get_member n (member k v ms))
+        → (IsSome (get_member n ms) → IsAfter name n) → IsAfter name n
+    at Less is some others = others (rw is at some)
+    at Equal is some others = let same : n ≡ k = exact n k (ap is_eq is) in rw same after.0
+    at Greater is some others = others (rw is at some)
 
 module _ (name : List ℕ) (specs locked left left_locked : Members) (taken : IsLeft name specs left)
     (taken_locked : IsLeft name locked left_locked) where
@@ -201,7 +203,8 @@ is_there name specs locked first =
       key_there name (member k v ms) is = let same : k ≡ name = cc is in rw (← first_value name k v ms same) refl
 
 -- the first of two names
-under : (name k : List ℕ) (ms : Members) → first_key ms ≡ Some k → IsTrue (is_le (slice_cmp nat_cmp name k)) → IsFirst name ms
+under : (name k : List ℕ) (ms : Members) → first_key ms ≡ Some k → IsTrue (is_le (slice_cmp nat_cmp name k)) → IsFirst
+    name ms
 under name k no_members is le = tt
 under name k (member key v ms) is le = let same : key ≡ k = cc is in rw same le
 
@@ -219,12 +222,22 @@ under_none name (member key v ms) is = cc is
 pub first_alone : (name : List ℕ) (specs locked : Members) → first_key specs ≡ Some name → first_key locked ≡ None
     → IsFirstOf name specs locked
 first_alone name specs locked is none =
-    record { first = under name name specs is (under_itself name); first_locked = under_none name locked none; is = inl is }
+    record {
+      first = under name name specs is (under_itself name);
+      first_locked = under_none name locked none;
+      is = inl
+          is;
+    }
 
 pub first_locked : (name : List ℕ) (specs locked : Members) → first_key specs ≡ None → first_key locked ≡ Some name
     → IsFirstOf name specs locked
 first_locked name specs locked none is =
-    record { first = under_none name specs none; first_locked = under name name locked is (under_itself name); is = inr is }
+    record {
+      first = under_none name specs none;
+      first_locked = under name name locked is (under_itself name);
+      is = inr
+          is;
+    }
 
 pub first_of_locked : (name other : List ℕ) (specs locked : Members) → first_key specs ≡ Some name
     → first_key locked ≡ Some other → is_lt (slice_cmp nat_cmp other name) ≡ true → IsFirstOf other specs locked
@@ -242,7 +255,8 @@ pub first_of_specs : (name other : List ℕ) (specs locked : Members) → first_
     → first_key locked ≡ Some other → is_lt (slice_cmp nat_cmp other name) ≡ false → IsFirstOf name specs locked
 first_of_specs name other specs locked is is_other not_less = record {
   first = under name name specs is (under_itself name);
-  first_locked = under name other locked is_other (rw ((lists_total nat_cmp_total).antisymm name other) (le _ not_less));
+  first_locked = under name other locked is_other (rw ((lists_total nat_cmp_total).antisymm name other)
+      (le _ not_less));
   is = inl is;
 } where
   le : (o : Ordering) → is_lt o ≡ false → IsTrue (is_le (ordering_reverse o))

@@ -1,5 +1,6 @@
 -- The members of a group of dependencies, and what a map of names has after one more of them.
-use Rattle.std.proofs.Common.{◌≡◌, ◌&&◌, ℕ, List, [], ◌∷◌, not, Bool, true, false, cond, Option, Some, None, String, Global}
+use Rattle.std.proofs.Common.{◌≡◌, ◌&&◌, ℕ, List, [], ◌∷◌, not, Bool, true, false, cond, Option, Some, None, String}
+use Rattle.std.proofs.Common.{Global}
 use Rattle.std.proofs.Common.{Ordering, Less, Equal, Greater, ap, bytes_eq, is_eq, nat_cmp, option_and_then, option_map}
 use Rattle.std.proofs.Common.{refl, string_bytes, string_cmp, sym}
 use Rattle.std.proofs.lemmas.Slice.Eq.{bytes_eq-Decides}

@@ -68,7 +68,8 @@ has_next old new path key value rest grows has before = elim before [
   by_order Equal is left = let same : path ≡ key = exact path key (ap is_eq is) in inl (rw same has)
   by_order Greater is left = inr (rw is at left)
 
-pub kept_by : (index : Index) (above : ℕ) (part : List ℕ) (found entry made : Entry) → at_part index above part ≡ Some found
+pub kept_by : (index : Index) (above : ℕ) (part : List ℕ) (found entry made : Entry) → at_part index above part ≡ Some
+    found
     → at_part index above part ≡ Some entry → made.number ≡ found.number → made.is_package ≡ true
     → IsKept entry made
 kept_by index above part found entry made first second number marked =

@@ -1,5 +1,6 @@
 -- Lists of packages of a file of version 1, one after the other.
-use Rattle.std.proofs.Common.{◌≡◌, ◌++◌, ◌∙◌, ℕ, List, [], ◌∷◌, true, false, Option, Some, None, ap, bytes_eq, codes, refl}
+use Rattle.std.proofs.Common.{◌≡◌, ◌++◌, ◌∙◌, ℕ, List, [], ◌∷◌, true, false, Option, Some, None, ap, bytes_eq, codes}
+use Rattle.std.proofs.Common.{refl}
 use Rattle.std.proofs.Common.{BTreeMap, Global, String, sym}
 use Rattle.std.specs.Option.{option_or}
 use Rattle.serde_json.proofs.Views.{view-Object}

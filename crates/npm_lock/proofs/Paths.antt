@@ -2,7 +2,8 @@
 use Rattle.std.proofs.Common.{◌≡◌, ◌∙◌, ◌==◌, ℕ, suc, List, [], ◌∷◌, ◌++◌, Bool, true, false}
 use Rattle.std.proofs.Common.{Option, Some, None, arith, option_and_then, refl}
 use Rattle.std.proofs.lemmas.Bool.{ne_eqb}
-use Rattle.npm_lock.specs.Private.Index.{Grows, HasNoSlash, HasPackage, IsKept, Leads, at_part, entry_at, led, longer, parts_of, root}
+use Rattle.npm_lock.specs.Private.Index.{Grows, HasNoSlash, HasPackage, IsKept, Leads, at_part, entry_at, led, longer}
+use Rattle.npm_lock.specs.Private.Index.{parts_of, root}
 use Rattle.npm_lock.specs.declared.index.Entry.{Entry}
 use Rattle.npm_lock.specs.declared.index.Index.{Index}
 
@@ -55,7 +56,8 @@ led_nowhere index (part ∷ parts) = led_nowhere index parts
 pub led-append : (index : Index) (from : Option Entry) (ps qs : List (List ℕ))
     → led index from (ps ++ qs) ≡ led index (led index from ps) qs
 led-append index from [] qs = refl
-led-append index from (p ∷ ps) qs = led-append index (option_and_then (λ entry. at_part index entry.number p) from) ps qs
+led-append index from (p ∷ ps) qs = led-append index (option_and_then (λ entry. at_part index entry.number p) from) ps
+    qs
 
 module _ (old new : Index) (grows : Grows old new) where
   -- what parts lead to is kept
@@ -76,7 +78,8 @@ module _ (old new : Index) (grows : Grows old new) where
 
   pub has_on : (path : List ℕ) → HasPackage old path → HasPackage new path
   has_on path has =
-      let found = led_on (parts_of path) root root has.entry (record { number = refl; package_stays = λ yes. yes }) has.there in
+      let found = led_on (parts_of path) root root has.entry (record { number = refl; package_stays = λ yes. yes })
+      has.there in
       record { entry = found.0; there = found.1; marked = found.2.package_stays has.marked }
 
 pub grows_not : (index : Index) → Grows index index
@@ -86,7 +89,13 @@ pub leads_on : (old new : Index) (above : ℕ) (part : List ℕ) (number : ℕ) 
     → Leads old above part number is_package → Leads new above part number is_package
 leads_on old new above part number is_package grows leads =
     let more = grows above part leads.entry leads.there in
-    record { entry = more.entry; there = more.there; same = more.same ∙ leads.same; marked = λ yes. more.marked (leads.marked yes) }
+    record {
+      entry = more.entry;
+      there = more.there;
+      same = more.same ∙ leads.same;
+      marked = λ yes. more.marked
+          (leads.marked yes);
+    }
 
 pub grows_twice : (a b c : Index) → Grows a b → Grows b c → Grows a c
 grows_twice a b c first second above part entry is =

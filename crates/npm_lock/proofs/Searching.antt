@@ -59,7 +59,8 @@ shorter folder above is = elim is.whole [
   | inl inside ↦
       let whole : length folder ≡ length above + length (codes "/" ++ is.name) =
       ap (λ t. length t) inside ∙ length-append above (codes "/" ++ is.name) in
-      let rest : length (codes "/" ++ is.name) ≡ length (codes "/") + length is.name = length-append (codes "/") is.name in
+      let rest : length (codes "/" ++ is.name) ≡ length (codes "/") + length is.name = length-append (codes "/") is.name
+      in
       omega (arith, whole, rest)
   | inr first ↦ let some = some_length folder first.1 in rw first.0 some
 ]

@@ -1,5 +1,6 @@
 -- From the folder so far to the next one, with one more part.
-use Rattle.std.proofs.Common.{◌≡◌, ◌≢◌, ◌∙◌, ◌⊎◌, ℕ, List, [], ◌∷◌, ◌++◌, Bool, true, false, None, Option, Some, ap, arith}
+use Rattle.std.proofs.Common.{◌≡◌, ◌≢◌, ◌∙◌, ◌⊎◌, ℕ, List, [], ◌∷◌, ◌++◌, Bool, true, false, None, Option, Some, ap}
+use Rattle.std.proofs.Common.{arith}
 use Rattle.std.proofs.Common.{codes, inl, inr, length, option_and_then, refl, sym, take}
 use Rattle.std.proofs.Math.Seq.{take-append_seam}
 use Rattle.std.proofs.lemmas.List.{length-append}
@@ -85,7 +86,8 @@ entry_of index at part next above entry none step is = elim step [
 ]
 
 -- that entry leads to the names in its `node_modules`
-pub of_next : (index : Index) (next : List ℕ) (entry : Option Entry) → next ≢ [] → entry ≡ entry_at index (Some root) next
+pub of_next : (index : Index) (next : List ℕ) (entry : Option Entry) → next ≢ [] → entry ≡ entry_at index (Some root)
+    next
     → IsEntryOf index next entry
 of_next index [] entry some is name = absurd (some refl)
 of_next index (b ∷ next) entry some is name =

@@ -1,5 +1,6 @@
 -- By which range texts other packages ask for an installed package: npm's "npm explain".
-use Rattle.std.specs.Prelude.{◌≡◌, ◌↔◌, ℕ, List, [], ◌∷◌, ◌++◌, Bool, IsTrue, Option, Some, None, bytes_eq, codes, filter, map}
+use Rattle.std.specs.Prelude.{◌≡◌, ◌↔◌, ℕ, List, [], ◌∷◌, ◌++◌, Bool, IsTrue, Option, Some, None, bytes_eq, codes}
+use Rattle.std.specs.Prelude.{filter, map}
 use Rattle.std.specs.BTreeMap.{get_by}
 use Rattle.std.specs.Bool.{MatchBool}
 use Rattle.std.specs.Cmp.Lexicographic.{slice_cmp}
@@ -15,7 +16,8 @@ use Rattle.npm_lock.specs.Packages.{IsFound, Package, is_link}
 use Rattle.npm_lock.specs.declared.dependents.Dependents.{Dependents}
 use Rattle.npm_lock.specs.RangeText.{SpecValue, in_registry, location, refused, spec_of}
 
--- The range or the tag that a spec asks for. A URL, a repository, a file or a folder is no range, and neither is a refused
+-- The range or the tag that a spec asks for. A URL, a repository, a file or a folder is no range, and neither is a
+-- refused
 -- spec: both stand as `no range`, which npm refuses as a range
 abbrev pub text_of_spec : SpecValue → List ℕ
 text_of_spec (in_registry text) = text
@@ -36,7 +38,8 @@ pub data IsRequest (packages : Data) (folder : List ℕ) (asker : Data) (is_inst
   unmet : IsFound packages name folder None → IsRequest packages folder asker is_installed name None
   met : (asked : AskedValue) (found : Package) → asked_of asker is_installed name ≡ Some asked
       → IsFound packages name folder (Some found)
-      → IsRequest packages folder asker is_installed name (Some (record { to = found.folder; text = asked_text asked.spec }))
+      → IsRequest packages folder asker is_installed name (Some
+      (record { to = found.folder; text = asked_text asked.spec }))
 
 -- what the package in this folder asks for, name by name
 pub record ArePackageRequests (packages : Data) (folder : List ℕ) (asker : Data) (requests : List Request)

@@ -12,7 +12,8 @@ use Rattle.serde_json.specs.Find.{get}
 use Rattle.node_semver.specs.Versions.{VersionValue}
 use Rattle.npm_lock.specs.Asked.{AskedValue, asked_of}
 use Rattle.npm_lock.specs.Folders.{IsInstalled}
-use Rattle.npm_lock.specs.Outcomes.{IsEngineOutcome, IsOutcome, JudgementValue, ProblemValue, UncheckedValue, dependency_of}
+use Rattle.npm_lock.specs.Outcomes.{IsEngineOutcome, IsOutcome, JudgementValue, ProblemValue, UncheckedValue}
+use Rattle.npm_lock.specs.Outcomes.{dependency_of}
 use Rattle.npm_lock.specs.Outcomes.{fine, problem_value, unchecked_value, unknown, wrong}
 use Rattle.npm_lock.specs.Overrides.{overridden}
 use Rattle.npm_lock.specs.Packages.{is_link}

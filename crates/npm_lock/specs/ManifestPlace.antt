@@ -1,4 +1,5 @@
--- A manifest in the place of a package of the lock file: npm's "npm ls" and "npm ci" read the root and each workspace from
+-- A manifest in the place of a package of the lock file: npm's "npm ls" and "npm ci" read the root and each workspace
+-- from
 -- their manifests.
 use Rattle.std.specs.Prelude.{ℕ, List, false, if◌then◌else◌, bytes_eq, codes}
 use Rattle.serde_json.specs.Data.{Data, Members, array, boolean, member, no_members, null, number, object, put, string}
@@ -12,9 +13,11 @@ with_member name value (string text) = string text
 with_member name value (array items) = array items
 with_member name value (object members) = object (put name value members)
 
--- A manifest as a package of the lock file. `link` and `optional` are of lock files alone, and mean nothing in a manifest.
+-- A manifest as a package of the lock file. `link` and `optional` are of lock files alone, and mean nothing in a
+-- manifest.
 abbrev pub as_package : (manifest : Data) → Data
-as_package manifest = with_member (codes "optional") (boolean false) (with_member (codes "link") (boolean false) manifest)
+as_package manifest = with_member (codes "optional") (boolean false)
+    (with_member (codes "link") (boolean false) manifest)
 
 -- the value of a name, changed so
 abbrev pub changed_at : (name : List ℕ) → (change : Data → Data) → Members → Members

@@ -1,7 +1,8 @@
 -- Where a manifest, `package.json`, and the lock file do not ask for the same: npm's "npm ci", and "package.json", from
 -- "dependencies" to "optionalDependencies".
 use Rattle.std.specs.Prelude.{◌≡◌, ◌↔◌, ◌⊎◌, ◌||◌, ◌&&◌, ℕ, List, ◌++◌, Bool, true, false, not, if◌then◌else◌}
-use Rattle.std.specs.Prelude.{Option, Some, None, is_some, bytes_eq, codes, map, option_and_then, option_map, string_bytes}
+use Rattle.std.specs.Prelude.{Option, Some, None, is_some, bytes_eq, codes, map, option_and_then, option_map}
+use Rattle.std.specs.Prelude.{string_bytes}
 use Rattle.std.specs.Prelude.{unwrap_or}
 use Rattle.std.specs.Cmp.Lexicographic.{slice_cmp}
 use Rattle.std.specs.List.{Contains, filter_map}
@@ -63,7 +64,8 @@ is_same None (Some locked) = false
 is_same (Some spec) None = false
 is_same (Some spec) (Some locked) = bytes_eq spec locked
 
--- A name of `optionalDependencies` is compared there, and not in `dependencies`: npm takes it out of these when it reads
+-- A name of `optionalDependencies` is compared there, and not in `dependencies`: npm takes it out of these when it
+-- reads
 -- a manifest.
 abbrev pub is_compared : (manifest entry : Data) → Group → (name : List ℕ) → Bool
 is_compared manifest entry Dependencies name = not (is_some (spec_of manifest OptionalDependencies name)

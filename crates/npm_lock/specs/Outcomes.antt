@@ -1,5 +1,6 @@
 -- What is wrong with a dependency, and with the version of Node: npm's "npm ls" and "package.json", "engines".
-use Rattle.std.specs.Prelude.{◌≡◌, ◌||◌, not, ℕ, List, Bool, true, false, Option, Some, None, option_and_then, option_map}
+use Rattle.std.specs.Prelude.{◌≡◌, ◌||◌, not, ℕ, List, Bool, true, false, Option, Some, None, option_and_then}
+use Rattle.std.specs.Prelude.{option_map}
 use Rattle.std.specs.Prelude.{if◌then◌else◌, string_bytes, codes}
 use Rattle.serde_json.specs.Data.{Data}
 use Rattle.serde_json.specs.Find.{as_str, get}
@@ -20,7 +21,8 @@ use Rattle.npm_lock.specs.Verdict.{IsContained, IsVerdictOfBoth}
 use Rattle.npm_lock.specs.Workspaces.{IsWorkspace}
 use Rattle.npm_lock.specs.declared.workspace.Workspace.TheVariants as Workspaces
 
--- A dependency of a package, and what was found for it: the package in the folder `from` depends on the name by this spec,
+-- A dependency of a package, and what was found for it: the package in the folder `from` depends on the name by this
+-- spec,
 -- and the package in `to` was found.
 pub record DependencyValue : Type 0 where
   pub from : List ℕ
@@ -74,8 +76,10 @@ version_of member = option_and_then as_str (get (codes "version") member)
 abbrev pub is_marked : (mark : List ℕ) → (member : Data) → (is_so : Bool) → Bool
 is_marked mark member is_so = has_true mark member || is_so
 
--- The dependency of the package in this folder on a name, and the package that was found, if one was. It is `dev` if the lock
--- file marks the package so, or the name is in `devDependencies`; `optional` if it marks the package so, or the name need
+-- The dependency of the package in this folder on a name, and the package that was found, if one was. It is `dev` if
+-- the lock
+-- file marks the package so, or the name is in `devDependencies`; `optional` if it marks the package so, or the name
+-- need
 -- not be found; and `peer` if it marks the package so, or the name is in `peerDependencies`.
 abbrev pub dependency_of : (folder : List ℕ) → (asker : Data) → (name : List ℕ) → AskedValue → Option Package
     → DependencyValue
@@ -99,7 +103,8 @@ pub record IsLocalPeer (packages : Data) (folder : List ℕ) (is_installed : Boo
   pub own : IsFoundIn packages name folder package_found
 
 -- The verdict on the package that was found for a dependency of the package in this folder. A workspace of the root is
--- what the root asks for, whatever the spec; if it may be one, the dependency is not checked. Nor is one that `overrides`
+-- what the root asks for, whatever the spec; if it may be one, the dependency is not checked. Nor is one that
+-- `overrides`
 -- change in a way that is not read here.
 pub data IsVerdictOn (folder : List ℕ) (asker : Data) (name : List ℕ) (asked : AskedValue)
     (package_found : Package) : Verdict → Type 0 where
@@ -114,7 +119,8 @@ pub data IsVerdictOn (folder : List ℕ) (asker : Data) (name : List ℕ) (asked
       → IsVerdictOfBoth (version_of package_found.member) asked.spec (accepted_of asker name) verdict
       → IsVerdictOn folder asker name asked package_found verdict
 
--- what is found out about a dependency: nothing is wrong; something is, with the package that was found, if one was; or it
+-- what is found out about a dependency: nothing is wrong; something is, with the package that was found, if one was; or
+-- it
 -- is not checked
 pub data JudgementValue : Type 0 where
   fine : JudgementValue
@@ -152,7 +158,8 @@ abbrev pub engine_of : (member : Data) → Option (List ℕ)
 engine_of member = if has_true (codes "optional") member then None
     else option_and_then as_str (option_and_then (get (codes "node")) (get (codes "engines") member))
 
--- The version of Node does not satisfy the range that the package in this folder has for it. The lock file alone says whether
+-- The version of Node does not satisfy the range that the package in this folder has for it. The lock file alone says
+-- whether
 -- this is `dev`, `optional` or `peer`.
 abbrev pub engine_problem : (folder : List ℕ) → (member : Data) → (spec : List ℕ) → VersionValue → ProblemValue
 engine_problem folder member spec node = record {

@@ -53,7 +53,8 @@ pub data IsVerdictOfText (version : Option (List ℕ)) (text : List ℕ) : Verdi
 pub data IsVerdict (version : Option (List ℕ)) (spec : List ℕ) : Verdict → Type 0 where
   elsewhere : spec_of spec ≡ location → IsVerdict version spec (Unchecked Location)
   never : spec_of spec ≡ refused → IsVerdict version spec Invalid
-  of_text : (range : List ℕ) (verdict : Verdict) → spec_of spec ≡ in_registry range → IsVerdictOfText version range verdict
+  of_text : (range : List ℕ) (verdict : Verdict) → spec_of spec ≡ in_registry range → IsVerdictOfText version range
+      verdict
       → IsVerdict version spec verdict
 
 -- the better of two verdicts: `Valid` before `Unchecked` before `Invalid`, and of two that are not checked the first
@@ -65,12 +66,13 @@ better (Unchecked reason) Invalid = Unchecked reason
 better Invalid second = second
 
 -- the verdict on a spec, beside which another may be accepted: the better one counts
-pub data IsVerdictOfBoth (version : Option (List ℕ)) (spec : List ℕ) (accepted : Option (List ℕ)) : Verdict → Type 0 where
-  alone : (verdict : Verdict) → accepted ≡ None → IsVerdict version spec verdict
-      → IsVerdictOfBoth version spec accepted verdict
-  valid : IsVerdict version spec Valid → IsVerdictOfBoth version spec accepted Valid
-  both : (other : List ℕ) (first second : Verdict) → accepted ≡ Some other → IsVerdict version spec first
-      → IsVerdict version other second → IsVerdictOfBoth version spec accepted (better first second)
+pub data IsVerdictOfBoth (version : Option (List ℕ)) (spec : List ℕ) (accepted : Option (List ℕ)) : Verdict → Type 0
+  where
+    alone : (verdict : Verdict) → accepted ≡ None → IsVerdict version spec verdict
+        → IsVerdictOfBoth version spec accepted verdict
+    valid : IsVerdict version spec Valid → IsVerdictOfBoth version spec accepted Valid
+    both : (other : List ℕ) (first second : Verdict) → accepted ≡ Some other → IsVerdict version spec first
+        → IsVerdict version other second → IsVerdictOfBoth version spec accepted (better first second)
 
 -- ---- engines
 

@@ -1,7 +1,8 @@
 -- Arguments, one at a time.
 use Rattle.std.proofs.Common.{◌≡◌, ◌∙◌, List, [], ◌∷◌, None, Some, Ok, Err, Result, map, refl, sym, ap, true, false}
 use Rattle.std.proofs.Common.{String, Global, string_bytes}
-use Rattle.npm_lock_check.specs.Arguments.{ArgumentValue, AskedValue, arguments_of, asked_by, asked_with, takes_value}
+use Rattle.npm_lock_check.specs.Arguments.{ArgumentValue, ArgumentsValue, arguments_of, asked_by, asked_with}
+use Rattle.npm_lock_check.specs.Arguments.{takes_value}
 use Rattle.npm_lock_check.specs.declared.run_error.RunError.{RunError}
 
 -- ---- the first argument of some words
@@ -32,8 +33,8 @@ pub stays : (error : RunError) (arguments : List ArgumentValue) → asked_by (Er
 stays error [] = refl
 stays error (argument ∷ arguments) = refl
 
-pub one_more : (asked : AskedValue) (argument : ArgumentValue) (all rest : List ArgumentValue)
-    (next whole : Result AskedValue RunError) → all ≡ argument ∷ rest → next ≡ asked_with asked argument
+pub one_more : (asked : ArgumentsValue) (argument : ArgumentValue) (all rest : List ArgumentValue)
+    (next whole : Result ArgumentsValue RunError) → all ≡ argument ∷ rest → next ≡ asked_with asked argument
     → whole ≡ asked_by next rest → whole ≡ asked_by (Ok asked) all
 one_more asked argument all rest next whole first is_next is =
     is ∙ ap (λ more. asked_by more rest) is_next ∙ sym (ap (asked_by (Ok asked)) first)

@@ -6,7 +6,8 @@ use Rattle.npm_advisories.specs.Faults.{FaultValue}
 use Rattle.npm_advisories.specs.Files.{IsFileFault}
 use Rattle.npm_lock.specs.Faults.{lock_fault}
 use Rattle.npm_lock.specs.VersionOne.{any_fault, converted}
-use Rattle.npm_lock_check.specs.Private.Refusals.{AreRefusedAs, IsAuditRefused, IsCheckRefused, IsLockRefused, IsRefused}
+use Rattle.npm_lock_check.specs.Private.Refusals.{AreRefusedAs, IsAuditRefused, IsCheckRefused, IsLockRefused}
+use Rattle.npm_lock_check.specs.Private.Refusals.{IsRefused}
 use Rattle.npm_lock_check.specs.Report.{WantedValue}
 use Rattle.npm_lock_check.specs.declared.run_error.RunError.{RunError}
 

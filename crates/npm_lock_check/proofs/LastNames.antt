@@ -1,5 +1,6 @@
 -- What follows the last `node_modules/` of a folder.
-use Rattle.std.proofs.Common.{◌≡◌, ◌<◌, ◌≤◌, ◌++◌, ◌∷◌, [], ℕ, List, None, Option, Some, arith, codes, drop, false, length}
+use Rattle.std.proofs.Common.{◌≡◌, ◌<◌, ◌≤◌, ◌++◌, ◌∷◌, [], ℕ, List, None, Option, Some, arith, codes, drop, false}
+use Rattle.std.proofs.Common.{length}
 use Rattle.std.proofs.Common.{option_map, refl, suc, zero}
 use Rattle.std.specs.List.{starts_with}
 use Rattle.std.specs.Option.{MatchOption}

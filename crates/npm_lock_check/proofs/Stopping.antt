@@ -4,7 +4,7 @@ use Rattle.std.specs.Result.{IsErrAnd, MatchResult}
 use Rattle.serde_json.proofs.OnLiterals.{serde_json_on_literals}
 use Rattle.serde_json.specs.Data.{Data}
 use Rattle.serde_json.specs.Read.{read}
-use Rattle.npm_lock_check.specs.GaugeValue.{GaugeValue}
+use Rattle.npm_lock_check.specs.WatchedValue.{WatchedValue}
 use Rattle.npm_lock_check.specs.Output.{IsInput, IsStopped}
 use Rattle.npm_lock_check.specs.Private.Refusals.{IsRefused}
 use Rattle.npm_lock_check.specs.Report.{WantedValue, placed}
@@ -16,7 +16,8 @@ unfolding serde_json_on_literals
 no_value lock is = cc is
 
 -- memory ran out after the input was read
-pub later : {R : Type 0} (remaining : R → Option (List ℕ)) (wanted : WantedValue) (old new : GaugeValue R) (lock : Data)
+pub later : {R : Type 0} (remaining : R → Option (List ℕ)) (wanted : WantedValue) (old new : WatchedValue R)
+    (lock : Data)
     → IsInput remaining old new lock → IsStopped remaining wanted old new Memory
 later remaining wanted old new lock input = inr (record {
   bytes = input.bytes;
@@ -27,7 +28,7 @@ later remaining wanted old new lock input = inr (record {
 })
 
 -- a value was refused, or memory ran out in the check
-pub refused : {R : Type 0} (remaining : R → Option (List ℕ)) (wanted : WantedValue) (old new : GaugeValue R)
+pub refused : {R : Type 0} (remaining : R → Option (List ℕ)) (wanted : WantedValue) (old new : WatchedValue R)
     (lock : Data) (error : RunError) → IsInput remaining old new lock
     → IsRefused lock (placed lock wanted.manifest) wanted error → IsStopped remaining wanted old new error
 refused remaining wanted old new lock error input (inl (inl (fault, is, told))) = rw is (lock, input, told)

@@ -1,5 +1,6 @@
 -- What the arguments of the program ask for.
-use Rattle.std.specs.Prelude.{◌&&◌, ◌||◌, ℕ, List, [], ◌∷◌, Bool, true, false, not, if◌then◌else◌, length, nat_eq, nat_lt}
+use Rattle.std.specs.Prelude.{◌&&◌, ◌||◌, ℕ, List, [], ◌∷◌, Bool, true, false, not, if◌then◌else◌, length, nat_eq}
+use Rattle.std.specs.Prelude.{nat_lt}
 use Rattle.std.specs.Prelude.{Option, Some, None, is_some, option_map, Result, Ok, Err, codes}
 use Rattle.std.specs.List.{starts_with}
 use Rattle.std.specs.Result.{result_map_both}
@@ -10,7 +11,7 @@ use Rattle.npm_advisories.specs.declared.severity.Severity.TheVariants.{Critical
 use Rattle.npm_lock_check.specs.Kinds.{named_by, no_kinds, with_named}
 use Rattle.npm_lock_check.specs.declared.arguments.TheConstants.{MAX_WORDS}
 use Rattle.npm_lock_check.specs.declared.arguments.Argument.{Argument}
-use Rattle.npm_lock_check.specs.declared.arguments.Asked.{Asked}
+use Rattle.npm_lock_check.specs.declared.arguments.Arguments.{Arguments}
 use Rattle.npm_lock_check.specs.declared.arguments.Format.{Format}
 use Rattle.npm_lock_check.specs.declared.arguments.Format.TheVariants as Formats
 use Rattle.npm_lock_check.specs.declared.arguments.Name.{Name}
@@ -69,10 +70,12 @@ arguments_of (word ∷ text ∷ rest) = if takes_value word
 
 -- ---- what they ask for
 
--- What is shown in place of a check, the text after `--node`, the format, the kinds after `--ignore`, whether dependencies
--- that are not checked are listed, the texts after `--manifest` and `--advisories`, the least severity of advisories, and the
+-- What is shown in place of a check, the text after `--node`, the format, the kinds after `--ignore`, whether
+-- dependencies
+-- that are not checked are listed, the texts after `--manifest` and `--advisories`, the least severity of advisories,
+-- and the
 -- file.
-pub record AskedValue : Type 0 where
+pub record ArgumentsValue : Type 0 where
   pub shown : Option Shown
   pub node : Option (List ℕ)
   pub format : Option Format
@@ -84,7 +87,7 @@ pub record AskedValue : Type 0 where
   pub file : Option (List ℕ)
 
 -- what no argument asks for: `info` is the least severity, so all advisories count
-abbrev pub nothing_asked : AskedValue
+abbrev pub nothing_asked : ArgumentsValue
 nothing_asked = record {
   shown = None;
   node = None;
@@ -104,15 +107,15 @@ format_of text = if bytes_eq text (codes "text") then Some Formats.Text
     else None
 
 -- with one more format, with one more kind that is left out, and with another least severity
-abbrev pub with_format : AskedValue → Option Format → Result AskedValue RunError
+abbrev pub with_format : ArgumentsValue → Option Format → Result ArgumentsValue RunError
 with_format asked None = Err Errors.Format
 with_format asked (Some format) = Ok (record asked { format = Some format })
 
-abbrev pub with_ignored : AskedValue → Option Ignorable → Result AskedValue RunError
+abbrev pub with_ignored : ArgumentsValue → Option Ignorable → Result ArgumentsValue RunError
 with_ignored asked None = Err Errors.Kind
 with_ignored asked (Some named) = Ok (record asked { ignored = with_named asked.ignored named })
 
-abbrev pub with_level : AskedValue → Severity → Result AskedValue RunError
+abbrev pub with_level : ArgumentsValue → Severity → Result ArgumentsValue RunError
 with_level asked Unknown = Err Errors.Severity
 with_level asked Info = Ok (record asked { level = Info })
 with_level asked Low = Ok (record asked { level = Low })
@@ -121,7 +124,7 @@ with_level asked High = Ok (record asked { level = High })
 with_level asked Critical = Ok (record asked { level = Critical })
 
 -- with one more option that has a value
-abbrev pub with_value : AskedValue → Setting → (text : List ℕ) → Result AskedValue RunError
+abbrev pub with_value : ArgumentsValue → Setting → (text : List ℕ) → Result ArgumentsValue RunError
 with_value asked Settings.Node text = Ok (record asked { node = Some text })
 with_value asked Settings.Format text = with_format asked (format_of text)
 with_value asked Settings.Ignore text = with_ignored asked (named_by text)
@@ -130,14 +133,15 @@ with_value asked Settings.Advisories text = Ok (record asked { advisories = Some
 with_value asked Settings.Severity text = with_level asked (severity_of_text text)
 
 -- with one more word that is no option, which is the file; `-` is one too
-abbrev pub with_file : AskedValue → (word : List ℕ) → Result AskedValue RunError
+abbrev pub with_file : ArgumentsValue → (word : List ℕ) → Result ArgumentsValue RunError
 with_file asked word = if starts_with nat_eq word (codes "-") && not (bytes_eq word (codes "-"))
     then Err Errors.UnknownOption
     else if is_some asked.file then Err Errors.SecondFile
     else Ok (record asked { file = Some word })
 
 -- with one more argument, of this name and value
-abbrev pub with_argument : AskedValue → (word : List ℕ) → Option Name → Option (List ℕ) → Result AskedValue RunError
+abbrev pub with_argument : ArgumentsValue → (word : List ℕ) → Option Name → Option (List ℕ) → Result ArgumentsValue
+    RunError
 with_argument asked word None value = with_file asked word
 with_argument asked word (Some (Names.Alone shown)) value = Ok (record asked { shown = Some shown })
 with_argument asked word (Some Names.Unchecked) value = Ok (record asked { unchecked = true })
@@ -145,18 +149,18 @@ with_argument asked word (Some (Names.Valued setting)) None = Err Errors.NoValue
 with_argument asked word (Some (Names.Valued setting)) (Some text) = with_value asked setting text
 
 -- with one more argument
-abbrev pub asked_with : AskedValue → ArgumentValue → Result AskedValue RunError
+abbrev pub asked_with : ArgumentsValue → ArgumentValue → Result ArgumentsValue RunError
 asked_with asked argument = with_argument asked argument.word (name_of argument.word) argument.value
 
 -- what all these arguments ask for, after others: the first error counts
-abbrev pub asked_by : Result AskedValue RunError → List ArgumentValue → Result AskedValue RunError
+abbrev pub asked_by : Result ArgumentsValue RunError → List ArgumentValue → Result ArgumentsValue RunError
 asked_by asked [] = asked
 asked_by (Err error) (argument ∷ rest) = Err error
 asked_by (Ok asked) (argument ∷ rest) = asked_by (asked_with asked argument) rest
 
 -- what the words after the program's name ask for, of which there are at most 1,000
-abbrev pub asked_of : (words : List (List ℕ)) → Result AskedValue RunError
-asked_of words = if nat_lt MAX_WORDS (length words) then Err Errors.TooManyWords
+abbrev pub arguments_of : (words : List (List ℕ)) → Result ArgumentsValue RunError
+arguments_of words = if nat_lt MAX_WORDS (length words) then Err Errors.TooManyWords
     else asked_by (Ok nothing_asked) (arguments_of words)
 
 -- ---- what contracts see
@@ -164,8 +168,8 @@ asked_of words = if nat_lt MAX_WORDS (length words) then Err Errors.TooManyWords
 abbrev pub argument_value : Argument → ArgumentValue
 argument_value argument = record { word = argument.word.now; value = option_map (λ text. text.now) argument.value }
 
-abbrev pub asked_value : Asked → AskedValue
-asked_value asked = record {
+abbrev pub arguments_value : Arguments → ArgumentsValue
+arguments_value asked = record {
   shown = asked.shown;
   node = option_map (λ text. text.now) asked.node;
   format = asked.format;
@@ -177,5 +181,5 @@ asked_value asked = record {
   file = option_map (λ word. word.now) asked.file;
 }
 
-abbrev pub asked_result : Result Asked RunError → Result AskedValue RunError
-asked_result = result_map_both asked_value (λ error. error)
+abbrev pub arguments_result : Result Arguments RunError → Result ArgumentsValue RunError
+arguments_result = result_map_both arguments_value (λ error. error)

@@ -23,7 +23,8 @@ abbrev pub joined : (before : List ℕ) → List AboutValue → List ℕ
 joined before [] = []
 joined before (about ∷ others) = before ++ (advisory_words about ++ joined (codes ", and by ") others)
 
--- the version that is offered: the least that no advisory hits and all that ask for the package admit, or else the least
+-- the version that is offered: the least that no advisory hits and all that ask for the package admit, or else the
+-- least
 -- that no advisory hits
 abbrev pub offer_words : (least admitted : Option VersionValue) → List ℕ
 offer_words least (Some v) = codes "; " ++ (version_text v ++ codes " is not, and satisfies all that ask for it")

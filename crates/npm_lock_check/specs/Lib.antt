@@ -3,7 +3,7 @@
 pub mod Kinds  -- sets of kinds of problems
 pub mod Arguments  -- what the arguments ask for
 pub mod NodeVersion  -- the version of Node that an argument names
-pub mod GaugeValue  -- readers and writers that remember that a call failed
+pub mod WatchedValue  -- readers and writers that remember that a call failed
 pub mod Sentence  -- a problem, or a mismatch, as a sentence
 pub mod HitSentence  -- a package that is hit as a sentence
 pub mod Report  -- what is found out about a lock file, and the lines of it

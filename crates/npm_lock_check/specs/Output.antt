@@ -12,14 +12,16 @@ use Rattle.npm_lock.specs.declared.fault.Fault.{Fault}
 use Rattle.npm_advisories.specs.Audit.{FoundValue}
 use Rattle.npm_advisories.specs.Files.{IsFileFault}
 use Rattle.npm_advisories.specs.declared.fault.FaultKind.{FaultKind}
-use Rattle.npm_lock_check.specs.GaugeValue.{GaugeValue}
+use Rattle.npm_lock_check.specs.WatchedValue.{WatchedValue}
 use Rattle.npm_lock_check.specs.Report.{IsReportOf, WantedValue, has_packages, placed}
 use Rattle.npm_lock_check.specs.declared.list_name.ListName.{ListName}
 use Rattle.npm_lock_check.specs.declared.report.Report.{Report}
 use Rattle.npm_lock_check.specs.declared.run_error.RunError.{RunError}
 use Rattle.npm_lock_check.specs.declared.run_error.RunError.TheVariants as Errors
-use Rattle.npm_lock_check.specs.declared.run_error.RunError.TheVariants.{ByteOrderMark, Memory, NoAdvisories, NodeVersion}
-use Rattle.npm_lock_check.specs.declared.run_error.RunError.TheVariants.{NoFile, NoJson, NoLockFile, NoManifest, NoUtf8, NoValue}
+use Rattle.npm_lock_check.specs.declared.run_error.RunError.TheVariants.{ByteOrderMark, Memory, NoAdvisories}
+use Rattle.npm_lock_check.specs.declared.run_error.RunError.TheVariants.{NodeVersion}
+use Rattle.npm_lock_check.specs.declared.run_error.RunError.TheVariants.{NoFile, NoJson, NoLockFile, NoManifest, NoUtf8}
+use Rattle.npm_lock_check.specs.declared.run_error.RunError.TheVariants.{NoValue}
 use Rattle.npm_lock_check.specs.declared.run_error.RunError.TheVariants.{Open, Read, SecondFile, TooManyWords}
 use Rattle.npm_lock_check.specs.declared.run_error.RunError.TheVariants.{UnknownOption, Write}
 
@@ -31,8 +33,9 @@ IsTextOf bytes value = IsUtf8 bytes × (read bytes ≡ Some value)
 abbrev pub has_mark : (bytes : List ℕ) → Bool
 has_mark bytes = starts_with nat_eq bytes (239 ∷ 187 ∷ 191 ∷ [])
 
--- all that the reader had left was read, no call through the gauge failed, and what was read is such
-pub record IsReadAs {R : Type 0} (remaining : R → Option (List ℕ)) (old new : GaugeValue R) (IsSuch : List ℕ → Type 0)
+-- all that the reader had left was read, no call of it failed, and what was read is such
+pub record IsWholeInput {R : Type 0} (remaining : R → Option (List ℕ)) (old new : WatchedValue R)
+    (IsSuch : List ℕ → Type 0)
     : Type 0 where
   pub bytes : List ℕ
   pub taken : Consumes (remaining old.inner) (remaining new.inner) bytes
@@ -41,11 +44,11 @@ pub record IsReadAs {R : Type 0} (remaining : R → Option (List ℕ)) (old new 
   pub such : IsSuch bytes
 
 -- the JSON value that was read
-abbrev pub IsInput : {R : Type 0} → (remaining : R → Option (List ℕ)) → (old new : GaugeValue R) → Data → Type 0
-IsInput remaining old new value = IsReadAs remaining old new (λ bytes. IsTextOf bytes value)
+abbrev pub IsInput : {R : Type 0} → (remaining : R → Option (List ℕ)) → (old new : WatchedValue R) → Data → Type 0
+IsInput remaining old new value = IsWholeInput remaining old new (λ bytes. IsTextOf bytes value)
 
 -- a lock file was read, and this is the report of it
-pub record IsReported {R : Type 0} (remaining : R → Option (List ℕ)) (old new : GaugeValue R)
+pub record IsReported {R : Type 0} (remaining : R → Option (List ℕ)) (old new : WatchedValue R)
     (wanted : WantedValue) (report : Report) (found : List FoundValue) : Type 0 where
   pub lock : Data
   pub input : IsInput remaining old new lock
@@ -68,15 +71,16 @@ AreNoAdvisories advisories kind name place = (file : Data) × (advisories ≡ So
     × IsFileFault file (Some (record { kind = kind; name = string_bytes name.text; place = place }))
 
 -- Why a lock file was not checked: what was read begins with a byte order mark, or is not in UTF-8, or is no JSON text,
--- or its value, the manifest or the advisories have a fault, or a read failed, or memory ran out. It ran out in a read whose
+-- or its value, the manifest or the advisories have a fault, or a read failed, or memory ran out. It ran out in a read
+-- whose
 -- error says so, or later: then all was read, and it is in UTF-8 and not empty.
 abbrev pub IsStopped : {R : Type 0} → (remaining : R → Option (List ℕ)) → (wanted : WantedValue)
-    → (old new : GaugeValue R) → RunError → Type 0
+    → (old new : WatchedValue R) → RunError → Type 0
 IsStopped remaining wanted old new NoUtf8 =
-    IsReadAs remaining old new (λ bytes. (has_mark bytes ≡ false) × ¬ IsUtf8 bytes)
-IsStopped remaining wanted old new (NoJson line column) = IsReadAs remaining old new
+    IsWholeInput remaining old new (λ bytes. (has_mark bytes ≡ false) × ¬ IsUtf8 bytes)
+IsStopped remaining wanted old new (NoJson line column) = IsWholeInput remaining old new
     (λ bytes. (has_mark bytes ≡ false) × IsUtf8 bytes × ((lock : Data) → ¬ IsTextOf bytes lock))
-IsStopped remaining wanted old new ByteOrderMark = IsReadAs remaining old new (λ bytes. has_mark bytes ≡ true)
+IsStopped remaining wanted old new ByteOrderMark = IsWholeInput remaining old new (λ bytes. has_mark bytes ≡ true)
 IsStopped remaining wanted old new (NoLockFile fault) =
     (lock : Data) × IsInput remaining old new lock × IsNoLockFile (placed lock wanted.manifest) wanted.manifest fault
 IsStopped remaining wanted old new (NoManifest fault) =
@@ -85,7 +89,7 @@ IsStopped remaining wanted old new (NoAdvisories kind name place) =
     (lock : Data) × IsInput remaining old new lock × AreNoAdvisories wanted.advisories kind name place
 IsStopped remaining wanted old new Read = IsSome new.failure × (new.failure ≢ Some OutOfMemory)
 IsStopped remaining wanted old new Memory = (new.failure ≡ Some OutOfMemory)
-    ⊎ IsReadAs remaining old new (λ bytes. IsUtf8 bytes × (bytes ≢ []))
+    ⊎ IsWholeInput remaining old new (λ bytes. IsUtf8 bytes × (bytes ≢ []))
 IsStopped remaining wanted old new Write = ⊥
 IsStopped remaining wanted old new TooManyWords = ⊥
 IsStopped remaining wanted old new UnknownOption = ⊥

@@ -1,5 +1,6 @@
 -- What is found out about a lock file, and what is written about it.
-use Rattle.std.specs.Prelude.{◌≡◌, ◌≤◌, ◌&&◌, ℕ, List, [], ◌∷◌, ◌++◌, Bool, false, Option, Some, None, filter, if◌then◌else◌}
+use Rattle.std.specs.Prelude.{◌≡◌, ◌≤◌, ◌&&◌, ℕ, List, [], ◌∷◌, ◌++◌, Bool, false, Option, Some, None, filter}
+use Rattle.std.specs.Prelude.{if◌then◌else◌}
 use Rattle.std.specs.Prelude.{codes, is_some, length, map, not, option_map}
 use Rattle.std.specs.Bool.{MatchBool}
 use Rattle.serde_json.specs.Data.{Data, depth}
@@ -32,7 +33,8 @@ use Rattle.npm_lock_check.specs.declared.report.Report.{Report}
 use Rattle.npm_lock_check.specs.declared.wanted.Wanted.{Wanted}
 
 -- what a check is asked for: the manifest of the root, the advisories, and the least severity of those that count; the
--- version of Node that each package is checked with, the kinds of problems that are left out, whether dependencies that are
+-- version of Node that each package is checked with, the kinds of problems that are left out, whether dependencies that
+-- are
 -- not checked are listed, and the format
 pub record WantedValue : Type 0 where
   pub manifest : Option Data
@@ -57,7 +59,8 @@ wanted_value wanted = record {
 
 -- ---- the manifest
 
--- the lock file has `packages`, as one of version 2 or 3 has; one of version 1 has none, and does not say what its root asks
+-- the lock file has `packages`, as one of version 2 or 3 has; one of version 1 has none, and does not say what its root
+-- asks
 -- for
 abbrev pub has_packages : (lock : Data) → Bool
 has_packages lock = is_some (get (codes "packages") lock)
@@ -71,7 +74,8 @@ abbrev pub placed : (lock : Data) → (manifest : Option Data) → Data
 placed lock None = lock
 placed lock (Some manifest) = with_manifest [] manifest lock
 
--- the mismatches of the manifest with the root of the lock file, if they are compared, or none if their kind is left out
+-- the mismatches of the manifest with the root of the lock file, if they are compared, or none if their kind is left
+-- out
 abbrev pub AreLeftMismatches : (lock : Data) → (manifest : Option Data) → (is_ignored : Bool) → List Mismatch → Type 0
 AreLeftMismatches lock None is_ignored list = list ≡ []
 AreLeftMismatches lock (Some manifest) is_ignored list = MatchBool (has_packages lock)
@@ -133,7 +137,8 @@ abbrev pub unchecked_text : Format → UncheckedValue → List ℕ
 unchecked_text Text unchecked = unchecked_sentence unchecked
 unchecked_text Json unchecked = compact_text (unchecked_data unchecked)
 
--- The line of a package that is hit. An advisory may have a number with a fraction as its `id`: then the JSON text is not
+-- The line of a package that is hit. An advisory may have a number with a fraction as its `id`: then the JSON text is
+-- not
 -- fixed here, but it reads back as the object.
 pub record IsJsonLine (value : Data) (line : List ℕ) : Type 0 where
   pub compact : has_float value ≡ false → line ≡ compact_text value
@@ -154,7 +159,8 @@ pub data AreLines {V : Type 0} (IsLine : V → List ℕ → Type 0) : List V →
   one_more : (one : V) (line : List ℕ) (others : List V) (text : List ℕ) → IsLine one line → AreLines IsLine others text
       → AreLines IsLine (one ∷ others) (line ++ (10 ∷ text))
 
--- All that is written: a line for each mismatch, for each problem, for each package that is hit and, if that is asked for,
+-- All that is written: a line for each mismatch, for each problem, for each package that is hit and, if that is asked
+-- for,
 -- for each dependency that is not checked.
 abbrev pub report_text : WantedValue → Report → (hit_lines : List ℕ) → List ℕ
 report_text wanted report hit_lines = lines (mismatch_text wanted.format) (map mismatch_value report.mismatches.items)

@@ -79,7 +79,8 @@ said verdict dependency = shown dependency.name ++ after (codes " ") dependency.
 abbrev pub sentence : ProblemValue → List ℕ
 sentence problem = said (verdict problem.kind) problem.dependency
 
--- the sentence of a dependency that is not checked: `a 1.0.0 is not checked against latest, which the root asks for: a tag`
+-- the sentence of a dependency that is not checked: `a 1.0.0 is not checked against latest, which the root asks for: a
+-- tag`
 abbrev pub unchecked_sentence : UncheckedValue → List ℕ
 unchecked_sentence unchecked =
     said (codes " is not checked against ") unchecked.dependency ++ reason unchecked.reason

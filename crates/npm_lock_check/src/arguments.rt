@@ -3,8 +3,8 @@
 //! See docs/DECISIONS.md, "The arguments of `npm_lock_check` are read by hand".
 ghost use Rattle.std.specs.Prelude.{◌≡◌, ◌<◌, [], ◌∷◌, length, map, option_map, string_bytes, MatchOption};
 ghost use Rattle.npm_lock_check.specs.Kinds as KindSets;
-ghost use Rattle.npm_lock_check.specs.Arguments as Arguments;
-ghost use Rattle.npm_lock_check.specs.Arguments.{argument_value, arguments_of, asked_by, asked_result, asked_value};
+ghost use Rattle.npm_lock_check.specs.Arguments as ArgumentRules;
+ghost use Rattle.npm_lock_check.specs.Arguments.{argument_value, arguments_of, asked_by, arguments_result, arguments_value};
 
 use crate::kinds::{Kinds, named_by};
 use crate::run_error::RunError;
@@ -28,7 +28,7 @@ pub enum Shown {
 
 /// What the arguments ask for.
 #[derive(Clone, Copy, Drop)]
-pub struct Asked<'a> {
+pub struct Arguments<'a> {
     pub shown: Option<Shown>,
     /// The text after `--node`.
     pub node: Option<&'a str>,
@@ -76,8 +76,8 @@ enum Name {
 const MAX_WORDS: usize = 1000;
 
 /// Returns what the words after the program's name ask for. Of two values of an option the last one counts.
-pub fn asked_of<'a>(words: &'a [String]) -> Result<Asked<'a>, RunError>
-    ensures { asked_result result ≡ Arguments.asked_of (map string_bytes words.now) }
+pub fn arguments_of<'a>(words: &'a [String]) -> Result<Arguments<'a>, RunError>
+    ensures { arguments_result result ≡ ArgumentRules.arguments_of (map string_bytes words.now) }
 {
     if MAX_WORDS < words.len() {
         return Err(RunError::TooManyWords);
@@ -86,9 +86,9 @@ pub fn asked_of<'a>(words: &'a [String]) -> Result<Asked<'a>, RunError>
 }
 
 /// What these words ask for, after others.
-fn asked_from<'a>(asked: Asked<'a>, words: &'a [String]) -> Result<Asked<'a>, RunError>
-    ensures { asked_result result
-        ≡ asked_by (Ok (asked_value asked.entry)) (arguments_of (map string_bytes words.now)) }
+fn asked_from<'a>(asked: Arguments<'a>, words: &'a [String]) -> Result<Arguments<'a>, RunError>
+    ensures { arguments_result result
+        ≡ asked_by (Ok (arguments_value asked.entry)) (arguments_of (map string_bytes words.now)) }
 {
     match first_argument(words) {
         Some((argument, rest)) => asked_from(asked_with(asked, argument)?, rest),
@@ -97,10 +97,10 @@ fn asked_from<'a>(asked: Asked<'a>, words: &'a [String]) -> Result<Asked<'a>, Ru
 }
 
 /// What no argument asks for.
-fn nothing_asked<'a>() -> Asked<'a>
-    ensures { asked_value result ≡ Arguments.nothing_asked }
+fn nothing_asked<'a>() -> Arguments<'a>
+    ensures { arguments_value result ≡ ArgumentRules.nothing_asked }
 {
-    Asked {
+    Arguments {
         shown: None,
         node: None,
         format: None,
@@ -132,14 +132,14 @@ fn first_argument<'a>(words: &'a [String]) -> Option<(Argument<'a>, &'a [String]
 
 /// Returns `true` if the word is an option with a value.
 fn takes_value(word: &str) -> bool
-    ensures { result ≡ Arguments.takes_value word.now }
+    ensures { result ≡ ArgumentRules.takes_value word.now }
 {
     matches!(name_of(word), Some(Name::Valued(_)))
 }
 
 /// The option that the word names.
 fn name_of(word: &str) -> Option<Name>
-    ensures { result ≡ Arguments.name_of word.now }
+    ensures { result ≡ ArgumentRules.name_of word.now }
 {
     if word == "--help" || word == "-h" {
         Some(Name::Alone(Shown::Help))
@@ -158,7 +158,7 @@ fn name_of(word: &str) -> Option<Name>
 
 /// The option that the word names, of those that add to a check.
 fn input_name_of(word: &str) -> Option<Name>
-    ensures { result ≡ Arguments.input_name_of word.now }
+    ensures { result ≡ ArgumentRules.input_name_of word.now }
 {
     if word == "--unchecked" {
         Some(Name::Unchecked)
@@ -174,17 +174,17 @@ fn input_name_of(word: &str) -> Option<Name>
 }
 
 /// What is asked for with one more argument.
-fn asked_with<'a>(asked: Asked<'a>, argument: Argument<'a>) -> Result<Asked<'a>, RunError>
-    ensures { asked_result result
-        ≡ Arguments.asked_with (asked_value asked.entry) (argument_value argument.entry) }
+fn asked_with<'a>(asked: Arguments<'a>, argument: Argument<'a>) -> Result<Arguments<'a>, RunError>
+    ensures { arguments_result result
+        ≡ ArgumentRules.asked_with (arguments_value asked.entry) (argument_value argument.entry) }
 {
     match name_of(argument.word) {
         None => with_file(asked, argument.word),
-        Some(Name::Alone(shown)) => Ok(Asked {
+        Some(Name::Alone(shown)) => Ok(Arguments {
             shown: Some(shown),
             ..asked
         }),
-        Some(Name::Unchecked) => Ok(Asked {
+        Some(Name::Unchecked) => Ok(Arguments {
             unchecked: true,
             ..asked
         }),
@@ -196,19 +196,23 @@ fn asked_with<'a>(asked: Asked<'a>, argument: Argument<'a>) -> Result<Asked<'a>,
 }
 
 /// What is asked for with one more option that has a value.
-fn with_value<'a>(asked: Asked<'a>, setting: Setting, text: &'a str) -> Result<Asked<'a>, RunError>
-    ensures { asked_result result ≡ Arguments.with_value (asked_value asked.entry) setting text.now }
+fn with_value<'a>(
+    asked: Arguments<'a>,
+    setting: Setting,
+    text: &'a str,
+) -> Result<Arguments<'a>, RunError>
+    ensures { arguments_result result ≡ ArgumentRules.with_value (arguments_value asked.entry) setting text.now }
 {
     match setting {
-        Setting::Node => Ok(Asked {
+        Setting::Node => Ok(Arguments {
             node: Some(text),
             ..asked
         }),
-        Setting::Manifest => Ok(Asked {
+        Setting::Manifest => Ok(Arguments {
             manifest: Some(text),
             ..asked
         }),
-        Setting::Advisories => Ok(Asked {
+        Setting::Advisories => Ok(Arguments {
             advisories: Some(text),
             ..asked
         }),
@@ -219,11 +223,11 @@ fn with_value<'a>(asked: Asked<'a>, setting: Setting, text: &'a str) -> Result<A
 }
 
 /// What is asked for with one more format.
-fn with_format<'a>(asked: Asked<'a>, format: Option<Format>) -> Result<Asked<'a>, RunError>
-    ensures { asked_result result ≡ Arguments.with_format (asked_value asked.entry) format }
+fn with_format<'a>(asked: Arguments<'a>, format: Option<Format>) -> Result<Arguments<'a>, RunError>
+    ensures { arguments_result result ≡ ArgumentRules.with_format (arguments_value asked.entry) format }
 {
     match format {
-        Some(format) => Ok(Asked {
+        Some(format) => Ok(Arguments {
             format: Some(format),
             ..asked
         }),
@@ -232,11 +236,11 @@ fn with_format<'a>(asked: Asked<'a>, format: Option<Format>) -> Result<Asked<'a>
 }
 
 /// What is asked for with one more kind that is left out.
-fn with_ignored<'a>(asked: Asked<'a>, text: &str) -> Result<Asked<'a>, RunError>
-    ensures { asked_result result ≡ Arguments.with_ignored (asked_value asked.entry) (KindSets.named_by text.now) }
+fn with_ignored<'a>(asked: Arguments<'a>, text: &str) -> Result<Arguments<'a>, RunError>
+    ensures { arguments_result result ≡ ArgumentRules.with_ignored (arguments_value asked.entry) (KindSets.named_by text.now) }
 {
     match named_by(text) {
-        Some(named) => Ok(Asked {
+        Some(named) => Ok(Arguments {
             ignored: asked.ignored.with(named),
             ..asked
         }),
@@ -245,18 +249,18 @@ fn with_ignored<'a>(asked: Asked<'a>, text: &str) -> Result<Asked<'a>, RunError>
 }
 
 /// What is asked for with another least severity.
-fn with_level<'a>(asked: Asked<'a>, level: Severity) -> Result<Asked<'a>, RunError>
-    ensures { asked_result result ≡ Arguments.with_level (asked_value asked.entry) level }
+fn with_level<'a>(asked: Arguments<'a>, level: Severity) -> Result<Arguments<'a>, RunError>
+    ensures { arguments_result result ≡ ArgumentRules.with_level (arguments_value asked.entry) level }
 {
     match level {
         Severity::Unknown => Err(RunError::Severity),
-        _ => Ok(Asked { level, ..asked }),
+        _ => Ok(Arguments { level, ..asked }),
     }
 }
 
 /// The format that the text names.
 fn format_of(text: &str) -> Option<Format>
-    ensures { result ≡ Arguments.format_of text.now }
+    ensures { result ≡ ArgumentRules.format_of text.now }
 {
     if text == "text" {
         Some(Format::Text)
@@ -268,15 +272,15 @@ fn format_of(text: &str) -> Option<Format>
 }
 
 /// What is asked for with one more word that is no option: the file, of which there is one.
-fn with_file<'a>(asked: Asked<'a>, word: &'a str) -> Result<Asked<'a>, RunError>
-    ensures { asked_result result ≡ Arguments.with_file (asked_value asked.entry) word.now }
+fn with_file<'a>(asked: Arguments<'a>, word: &'a str) -> Result<Arguments<'a>, RunError>
+    ensures { arguments_result result ≡ ArgumentRules.with_file (arguments_value asked.entry) word.now }
 {
     if word.starts_with("-") && word != "-" {
         Err(RunError::UnknownOption)
     } else if asked.file.is_some() {
         Err(RunError::SecondFile)
     } else {
-        Ok(Asked {
+        Ok(Arguments {
             file: Some(word),
             ..asked
         })

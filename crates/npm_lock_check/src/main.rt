@@ -10,7 +10,6 @@ ghost use Rattle.std.specs.Prelude.{◌≡◌, ◌↔◌, IfErr, None, Some};
 ghost use Rattle.npm_lock_check.specs.Report.{IsClean};
 
 mod arguments;
-mod gauge;
 mod help;
 mod hit_sentence;
 mod hits;
@@ -24,9 +23,9 @@ mod run_error;
 mod sentence;
 mod sync;
 mod wanted;
+mod watched;
 
-use arguments::{Asked, Format, Shown, asked_of};
-use gauge::Gauge;
+use arguments::{Arguments, Format, Shown, arguments_of};
 use help::{HELP, VERSION};
 use node::node_of;
 use output::{read_json, run};
@@ -38,6 +37,7 @@ use std::fs::File;
 use std::io::{IsTerminal, Read};
 use std::process::ExitCode;
 use wanted::Wanted;
+use watched::Watched;
 
 /// Ends with the status of `status_of`. A line on standard error that cannot be written is dropped.
 fn main(rt: HostRuntime) -> ExitCode {
@@ -58,7 +58,7 @@ fn answered(rt: &HostRuntime) -> Result<Option<Report>, StopError> {
         .skip(1)
         .collect(rt.alloc())
         .map_err(|_| StopError::Check(RunError::Memory))?;
-    let asked = asked_of(&words).map_err(StopError::Check)?;
+    let asked = arguments_of(&words).map_err(StopError::Check)?;
     if let Some(shown) = asked.shown {
         show(rt, shown).map_err(StopError::Check)?;
         return Ok(None);
@@ -85,7 +85,7 @@ fn show(rt: &HostRuntime, shown: Shown) -> Result<(), RunError> {
 fn checked<R: Read + Drop>(
     rt: &HostRuntime,
     reader: R,
-    asked: Asked<'_>,
+    asked: Arguments<'_>,
 ) -> Result<Report, StopError> {
     let node = match asked.node {
         Some(text) => Some(node_of(rt.alloc(), text).map_err(StopError::Check)?),
@@ -99,8 +99,8 @@ fn checked<R: Read + Drop>(
         None if stdout.is_terminal() => Format::Text,
         None => Format::Json,
     };
-    let mut reader = Gauge::new(reader);
-    let mut writer = Gauge::new(stdout);
+    let mut reader = Watched::new(reader);
+    let mut writer = Watched::new(stdout);
     let wanted = Wanted {
         manifest: manifest.as_ref(),
         advisories: advisories.as_ref(),
@@ -119,7 +119,7 @@ fn value_at(rt: &HostRuntime, path: Option<&str>) -> Result<Option<Value>, RunEr
         return Ok(None);
     };
     let file = File::open(rt, path).map_err(open_error)?;
-    read_json(rt.alloc(), &mut Gauge::new(file)).map(Some)
+    read_json(rt.alloc(), &mut Watched::new(file)).map(Some)
 }
 
 /// Returns the exit status: 0 if nothing was found, 1 if something was, and 2 if the file was not checked.

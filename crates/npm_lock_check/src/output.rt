@@ -11,7 +11,6 @@ ghost use Rattle.npm_lock_check.specs.Private.Refusals.{IsCheckRefused, IsLockRe
 ghost use Rattle.npm_lock_check.specs.Report.{AreLeft, IsReportOf, IsReportText, WantedValue, placed, wanted_value};
 ghost use Rattle.npm_lock_check.specs.declared.report.Report.{Report};
 
-use crate::gauge::Gauge;
 use crate::hits::hits_of;
 use crate::kinds::Kinds;
 use crate::lines::lines_of;
@@ -19,6 +18,7 @@ use crate::report::Report;
 use crate::run_error::{RunError, failure_error, json_error, read_error};
 use crate::sync::{compare, is_compared};
 use crate::wanted::Wanted;
+use crate::watched::Watched;
 use npm_lock::{CheckError, Problem, Problems, check, convert};
 use serde_json::Value;
 use std::alloc::Global;
@@ -34,8 +34,8 @@ use std::str;
 /// Nothing was written, but after `Write`: then a beginning of the lines was.
 pub fn run<R: Read, W: Write>(
     alloc: Global,
-    reader: &mut Gauge<R>,
-    writer: &mut Gauge<W>,
+    reader: &mut Watched<R>,
+    writer: &mut Watched<W>,
     wanted: Wanted<'_>,
 ) -> Result<Report, RunError>
     ensures written { IfOk result (λ report. (found : List FoundValue) × (text : List ℕ)
@@ -130,7 +130,7 @@ fn leave_out(list: &mut Vec<Problem>, ignored: Kinds)
 /// # Errors
 ///
 /// `ByteOrderMark`, `NoUtf8` and `NoJson` are true of all of the input. `Read` and `Memory`: a read failed, or an allocation.
-pub fn read_json<R: Read>(alloc: Global, reader: &mut Gauge<R>) -> Result<Value, RunError>
+pub fn read_json<R: Read>(alloc: Global, reader: &mut Watched<R>) -> Result<Value, RunError>
     ensures value { IfOk result (λ value. IsInput R.remaining reader.old reader.new (view value)) }
     ensures refused { (wanted : WantedValue) → IfErr result (IsStopped R.remaining wanted reader.old reader.new) }
 {

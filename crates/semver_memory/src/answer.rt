@@ -20,7 +20,7 @@ pub(crate) enum Answer {
     Json(Value),
     NotAString,
     Problems(Problems),
-    NoLock(npm_lock::Fault),
+    NoLock(npm_lock::CallError),
 }
 
 impl Answer {

@@ -1,7 +1,7 @@
 //! Calls and their arguments.
 use crate::answer;
 use crate::answer::{Answer, print_of_error};
-use crate::fault::Fault;
+use crate::fault::CallError;
 use crate::included::{Included, included_of};
 use crate::owned::{Making, making_of};
 use crate::question::{Question, error_of, question_of};
@@ -162,7 +162,7 @@ fn print_of_tree(alloc: Global, tree: &SetTree) -> Result<String, AllocError> {
 }
 
 /// The call with this name, which begins with the type, and these words as arguments.
-pub(crate) fn call_of(alloc: Global, name: &str, words: &[String]) -> Result<Call, Fault> {
+pub(crate) fn call_of(alloc: Global, name: &str, words: &[String]) -> Result<Call, CallError> {
     match name {
         "Range::any" => Ok(Call::Any),
         "join" => Ok(Call::Join),
@@ -180,7 +180,7 @@ fn word_at(words: &[String], place: usize) -> &str {
     }
 }
 
-fn call_of_text(alloc: Global, name: &str, text: &str) -> Result<Call, Fault> {
+fn call_of_text(alloc: Global, name: &str, text: &str) -> Result<Call, CallError> {
     let text = String::from_str(alloc, text)?;
     Ok(match name {
         "Version::parse" => Call::ReadVersion(text),
@@ -190,13 +190,13 @@ fn call_of_text(alloc: Global, name: &str, text: &str) -> Result<Call, Fault> {
     })
 }
 
-fn read_and_ask(alloc: Global, text: &str, version: &str) -> Result<Call, Fault> {
+fn read_and_ask(alloc: Global, text: &str, version: &str) -> Result<Call, CallError> {
     let version = Version::parse(alloc, version)?;
     Ok(Call::ReadAndAsk(String::from_str(alloc, text)?, version))
 }
 
 /// The same for calls whose arguments are read from texts. Each kind of argument is read in one place.
-fn call_of_value(alloc: Global, name: &str, one: &str, other: &str) -> Result<Call, Fault> {
+fn call_of_value(alloc: Global, name: &str, one: &str, other: &str) -> Result<Call, CallError> {
     match name {
         "Version::parse" | "Version::parse_strict" | "Range::parse" | "Range::parse_npm" => {
             call_of_text(alloc, name, one)
@@ -222,7 +222,7 @@ fn call_of_value(alloc: Global, name: &str, one: &str, other: &str) -> Result<Ca
 }
 
 /// The same for calls on what is made of a text, and for questions.
-fn call_of_made(alloc: Global, name: &str, one: &str, other: &str) -> Result<Call, Fault> {
+fn call_of_made(alloc: Global, name: &str, one: &str, other: &str) -> Result<Call, CallError> {
     match name {
         "VersionRef::to_version"
         | "VersionFault::into_error"
@@ -249,16 +249,16 @@ fn call_of_made(alloc: Global, name: &str, one: &str, other: &str) -> Result<Cal
     }
 }
 
-fn copy_of_identifier(alloc: Global, text: &str) -> Result<Call, Fault> {
+fn copy_of_identifier(alloc: Global, text: &str) -> Result<Call, CallError> {
     let text = String::from_str(alloc, text)?;
     Ok(Call::CopyIdentifier(Identifier::AlphaNumeric(text)))
 }
 
-fn copy_of_error(alloc: Global, text: &str) -> Result<Call, Fault> {
+fn copy_of_error(alloc: Global, text: &str) -> Result<Call, CallError> {
     Ok(Call::CopyError(error_of(alloc, text)?))
 }
 
-fn call_of_version(alloc: Global, name: &str, text: &str) -> Result<Call, Fault> {
+fn call_of_version(alloc: Global, name: &str, text: &str) -> Result<Call, CallError> {
     let version = Version::parse(alloc, text)?;
     Ok(match name {
         "Version::clone" => Call::CopyVersion(version),
@@ -266,7 +266,7 @@ fn call_of_version(alloc: Global, name: &str, text: &str) -> Result<Call, Fault>
     })
 }
 
-fn call_of_range(alloc: Global, name: &str, text: &str) -> Result<Call, Fault> {
+fn call_of_range(alloc: Global, name: &str, text: &str) -> Result<Call, CallError> {
     let range = Range::parse(alloc, text)?;
     Ok(match name {
         "Range::clone" => Call::CopyRange(range),
@@ -278,7 +278,7 @@ fn call_of_range(alloc: Global, name: &str, text: &str) -> Result<Call, Fault> {
     })
 }
 
-fn call_of_ranges(alloc: Global, name: &str, one: &str, other: &str) -> Result<Call, Fault> {
+fn call_of_ranges(alloc: Global, name: &str, one: &str, other: &str) -> Result<Call, CallError> {
     let one = Range::parse(alloc, one)?;
     let other = Range::parse(alloc, other)?;
     Ok(match name {
@@ -290,7 +290,7 @@ fn call_of_ranges(alloc: Global, name: &str, one: &str, other: &str) -> Result<C
     })
 }
 
-fn call_of_json(alloc: Global, name: &str, text: &str) -> Result<Call, Fault> {
+fn call_of_json(alloc: Global, name: &str, text: &str) -> Result<Call, CallError> {
     let value = Value::String(String::from_str(alloc, text)?);
     Ok(match name {
         "Version::from_json" => Call::VersionFromJson(value),
@@ -298,10 +298,10 @@ fn call_of_json(alloc: Global, name: &str, text: &str) -> Result<Call, Fault> {
     })
 }
 
-fn call_of_making(alloc: Global, name: &str, text: &str) -> Result<Call, Fault> {
+fn call_of_making(alloc: Global, name: &str, text: &str) -> Result<Call, CallError> {
     Ok(Call::Make(making_of(alloc, name, text)?))
 }
 
-fn call_of_question(alloc: Global, name: &str, one: &str, other: &str) -> Result<Call, Fault> {
+fn call_of_question(alloc: Global, name: &str, one: &str, other: &str) -> Result<Call, CallError> {
     Ok(Call::Ask(question_of(alloc, name, one, other)?))
 }

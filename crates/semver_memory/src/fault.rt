@@ -5,7 +5,7 @@ use std::io;
 
 /// Why no call was made, or nothing was written.
 #[derive(Drop)]
-pub(crate) enum Fault {
+pub(crate) enum CallError {
     /// The words are not a number, the name of a call and its arguments.
     Words,
     /// An allocation failed before or after the call.
@@ -16,26 +16,26 @@ pub(crate) enum Fault {
     Output,
 }
 
-impl From<AllocError> for Fault {
-    fn from(_: AllocError) -> Fault {
-        Fault::Memory
+impl From<AllocError> for CallError {
+    fn from(_: AllocError) -> CallError {
+        CallError::Memory
     }
 }
 
-impl<T: Drop> From<AllocFailed<T>> for Fault {
-    fn from(_: AllocFailed<T>) -> Fault {
-        Fault::Memory
+impl<T: Drop> From<AllocFailed<T>> for CallError {
+    fn from(_: AllocFailed<T>) -> CallError {
+        CallError::Memory
     }
 }
 
-impl From<SemverError> for Fault {
-    fn from(_: SemverError) -> Fault {
-        Fault::Text
+impl From<SemverError> for CallError {
+    fn from(_: SemverError) -> CallError {
+        CallError::Text
     }
 }
 
-impl From<io::Error> for Fault {
-    fn from(_: io::Error) -> Fault {
-        Fault::Output
+impl From<io::Error> for CallError {
+    fn from(_: io::Error) -> CallError {
+        CallError::Output
     }
 }

@@ -1,7 +1,7 @@
 //! Calls of a range that is asked with prereleases included.
 use crate::answer;
 use crate::answer::Answer;
-use crate::fault::Fault;
+use crate::fault::CallError;
 use node_semver::Range;
 use std::alloc::{AllocError, Global};
 
@@ -40,7 +40,7 @@ pub(crate) fn included_of(
     name: &str,
     one: &str,
     other: &str,
-) -> Result<Included, Fault> {
+) -> Result<Included, CallError> {
     let range = Range::parse(alloc, one)?;
     Ok(match name {
         "WithPrereleases::min_version" => Included::MinVersion(range),

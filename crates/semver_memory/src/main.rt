@@ -17,7 +17,7 @@ mod trees;
 
 use answer::Answer;
 use call::{Call, call_of};
-use fault::Fault;
+use fault::CallError;
 use requests::{MANY, granted};
 use std::alloc::AllocGlobal;
 use std::env;
@@ -33,13 +33,13 @@ fn main(rt: HostRuntime) -> ExitCode {
 }
 
 /// Makes the call that the words name.
-fn made(rt: &(impl Print + Env + AllocGlobal)) -> Result<bool, Fault> {
+fn made(rt: &(impl Print + Env + AllocGlobal)) -> Result<bool, CallError> {
     let words = words_of(rt)?;
     made_of(rt, &words)
 }
 
 /// The program's words, of which the first is its name.
-fn words_of(rt: &(impl Env + AllocGlobal)) -> Result<Vec<String>, Fault> {
+fn words_of(rt: &(impl Env + AllocGlobal)) -> Result<Vec<String>, CallError> {
     let mut words = Vec::new(rt.alloc());
     for word in env::args(rt)? {
         words.push(word)?;
@@ -48,10 +48,10 @@ fn words_of(rt: &(impl Env + AllocGlobal)) -> Result<Vec<String>, Fault> {
 }
 
 /// Makes the call that these words name.
-fn made_of(rt: &(impl Print + AllocGlobal), words: &[String]) -> Result<bool, Fault> {
+fn made_of(rt: &(impl Print + AllocGlobal), words: &[String]) -> Result<bool, CallError> {
     match words {
         [_, count, name, arguments @ ..] => made_after(rt, count, name, arguments),
-        _ => Err(Fault::Words),
+        _ => Err(CallError::Words),
     }
 }
 
@@ -61,10 +61,10 @@ fn made_after(
     count: &str,
     name: &str,
     arguments: &[String],
-) -> Result<bool, Fault> {
+) -> Result<bool, CallError> {
     match count.parse::<usize>() {
         Ok(count) => made_by_name(rt, count, name, arguments),
-        Err(_) => Err(Fault::Words),
+        Err(_) => Err(CallError::Words),
     }
 }
 
@@ -75,20 +75,28 @@ fn made_by_name(
     count: usize,
     name: &str,
     arguments: &[String],
-) -> Result<bool, Fault> {
+) -> Result<bool, CallError> {
     let call = call_of(rt.alloc(), name, arguments)?;
     is_unchanged(rt, count, &call)
 }
 
 /// Makes the call twice. Returns `true` if its arguments have not changed.
-fn is_unchanged(rt: &(impl Print + AllocGlobal), count: usize, call: &Call) -> Result<bool, Fault> {
+fn is_unchanged(
+    rt: &(impl Print + AllocGlobal),
+    count: usize,
+    call: &Call,
+) -> Result<bool, CallError> {
     let print = call.print(rt.alloc())?;
     write_answers(rt, count, call)?;
     Ok(call.print(rt.alloc())? == print)
 }
 
 /// Makes the call twice, and writes its results.
-fn write_answers(rt: &(impl Print + AllocGlobal), count: usize, call: &Call) -> Result<(), Fault> {
+fn write_answers(
+    rt: &(impl Print + AllocGlobal),
+    count: usize,
+    call: &Call,
+) -> Result<(), CallError> {
     let before = granted(rt.alloc(), count);
     let first = call.answer(rt.alloc());
     let after = granted(rt.alloc(), MANY);
@@ -104,7 +112,7 @@ fn write_lines(
     first: &Answer,
     after: usize,
     second: &Answer,
-) -> Result<(), Fault> {
+) -> Result<(), CallError> {
     let first = first.print(rt.alloc())?;
     let second = second.print(rt.alloc())?;
     println!(rt; "{before}\n{first}\n{after}\n{second}")?;

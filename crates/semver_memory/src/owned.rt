@@ -1,7 +1,7 @@
 //! What is made of a text, of its borrowed parts, and of a lock file, also with a manifest or with advisories.
 use crate::answer;
 use crate::answer::Answer;
-use crate::fault::Fault;
+use crate::fault::CallError;
 use node_semver::{
     Bump, CoerceOptions, Identifier, IdentifierBase, SemverError, SemverErrorKind, Version,
     VersionRef,
@@ -153,7 +153,7 @@ fn audited(alloc: Global, input: &Value) -> Answer {
 }
 
 /// The call with this name.
-pub(crate) fn making_of(alloc: Global, name: &str, text: &str) -> Result<Making, Fault> {
+pub(crate) fn making_of(alloc: Global, name: &str, text: &str) -> Result<Making, CallError> {
     match name {
         "npm_lock::check" => Ok(Making::Problems(lock_of(alloc, text)?)),
         "npm_lock::check_any" => Ok(Making::AnyProblems(lock_of(alloc, text)?)),
@@ -176,7 +176,7 @@ pub(crate) fn making_of(alloc: Global, name: &str, text: &str) -> Result<Making,
 }
 
 /// A version, or a version, a blank and an identifier.
-fn bump_of(alloc: Global, text: &str) -> Result<Making, Fault> {
+fn bump_of(alloc: Global, text: &str) -> Result<Making, CallError> {
     match text.split_once(' ') {
         Some((version, identifier)) => {
             let version = Version::parse(alloc, version)?;
@@ -187,41 +187,41 @@ fn bump_of(alloc: Global, text: &str) -> Result<Making, Fault> {
     }
 }
 
-fn lock_of(alloc: Global, text: &str) -> Result<Value, Fault> {
+fn lock_of(alloc: Global, text: &str) -> Result<Value, CallError> {
     match Value::from_str(alloc, text) {
         Ok(lock) => Ok(lock),
-        Err(_) => Err(Fault::Text),
+        Err(_) => Err(CallError::Text),
     }
 }
 
-fn problem_of(alloc: Global, text: &str) -> Result<Making, Fault> {
+fn problem_of(alloc: Global, text: &str) -> Result<Making, CallError> {
     let lock = lock_of(alloc, text)?;
     match npm_lock::check(alloc, &lock, None) {
         Ok(mut problems) => match problems.list.pop() {
             Some(problem) => Ok(Making::Json(problem)),
-            None => Err(Fault::Text),
+            None => Err(CallError::Text),
         },
-        Err(_) => Err(Fault::Text),
+        Err(_) => Err(CallError::Text),
     }
 }
 
-fn unchecked_of(alloc: Global, text: &str) -> Result<Making, Fault> {
+fn unchecked_of(alloc: Global, text: &str) -> Result<Making, CallError> {
     match npm_lock::check(alloc, &lock_of(alloc, text)?, None) {
         Ok(mut problems) => match problems.unchecked.pop() {
             Some(unchecked) => Ok(Making::UncheckedJson(unchecked)),
-            None => Err(Fault::Text),
+            None => Err(CallError::Text),
         },
-        Err(_) => Err(Fault::Text),
+        Err(_) => Err(CallError::Text),
     }
 }
 
-fn mismatch_of(alloc: Global, text: &str) -> Result<Making, Fault> {
+fn mismatch_of(alloc: Global, text: &str) -> Result<Making, CallError> {
     match mismatches_of(alloc, &lock_of(alloc, text)?) {
         Ok(mut mismatches) => match mismatches.pop() {
             Some(mismatch) => Ok(Making::MismatchJson(mismatch)),
-            None => Err(Fault::Text),
+            None => Err(CallError::Text),
         },
-        Err(_) => Err(Fault::Text),
+        Err(_) => Err(CallError::Text),
     }
 }
 

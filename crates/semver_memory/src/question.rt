@@ -1,6 +1,6 @@
 //! Calls that do not allocate.
 use crate::answer::{Answer, print_of_error};
-use crate::fault::Fault;
+use crate::fault::CallError;
 use node_semver::{
     AllOf, Comparisons, Identifier, Range, SemverError, Version, max_satisfying, min_satisfying,
 };
@@ -135,7 +135,7 @@ pub(crate) fn question_of(
     name: &str,
     one: &str,
     other: &str,
-) -> Result<Question, Fault> {
+) -> Result<Question, CallError> {
     match name {
         "Version::new" => Ok(Question::New),
         "Identifier: order and hash" => of_identifiers(alloc, one, other),
@@ -144,35 +144,35 @@ pub(crate) fn question_of(
         "Range::satisfies" => satisfies(alloc, one, other),
         "SemverError: its parts" => Ok(Question::OfError(error_of(alloc, one)?)),
         "Span and covers: all calls" => Ok(Question::OfSpans),
-        _ => Err(Fault::Words),
+        _ => Err(CallError::Words),
     }
 }
 
-fn of_identifiers(alloc: Global, one: &str, other: &str) -> Result<Question, Fault> {
+fn of_identifiers(alloc: Global, one: &str, other: &str) -> Result<Question, CallError> {
     let one = Identifier::AlphaNumeric(String::from_str(alloc, one)?);
     let other = Identifier::AlphaNumeric(String::from_str(alloc, other)?);
     Ok(Question::OfIdentifiers(one, other))
 }
 
-fn of_versions(alloc: Global, one: &str, other: &str) -> Result<Question, Fault> {
+fn of_versions(alloc: Global, one: &str, other: &str) -> Result<Question, CallError> {
     let one = Version::parse(alloc, one)?;
     Ok(Question::OfVersions(one, Version::parse(alloc, other)?))
 }
 
-fn of_ranges(alloc: Global, one: &str, other: &str) -> Result<Question, Fault> {
+fn of_ranges(alloc: Global, one: &str, other: &str) -> Result<Question, CallError> {
     let one = Range::parse(alloc, one)?;
     Ok(Question::OfRanges(one, Range::parse(alloc, other)?))
 }
 
-fn satisfies(alloc: Global, range: &str, version: &str) -> Result<Question, Fault> {
+fn satisfies(alloc: Global, range: &str, version: &str) -> Result<Question, CallError> {
     let range = Range::parse(alloc, range)?;
     Ok(Question::Satisfies(range, Version::parse(alloc, version)?))
 }
 
 /// The error for a text that is not a version.
-pub(crate) fn error_of(alloc: Global, text: &str) -> Result<SemverError, Fault> {
+pub(crate) fn error_of(alloc: Global, text: &str) -> Result<SemverError, CallError> {
     match Version::parse(alloc, text) {
-        Ok(_) => Err(Fault::Text),
+        Ok(_) => Err(CallError::Text),
         Err(error) => Ok(error),
     }
 }

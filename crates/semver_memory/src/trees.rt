@@ -1,20 +1,20 @@
 //! Trees of range texts, written with `Both` and `Without` after their two sides.
-use crate::fault::Fault;
+use crate::fault::CallError;
 use node_semver::SetTree;
 use std::alloc::{AllocError, Global};
 
 /// The tree that these words write: `1`, `1.5.0`, `Without`.
-pub(crate) fn tree_of(alloc: Global, words: &[String]) -> Result<SetTree, Fault> {
+pub(crate) fn tree_of(alloc: Global, words: &[String]) -> Result<SetTree, CallError> {
     let mut trees = Vec::new(alloc);
     for word in words {
         let tree = tree_of_word(alloc, word.as_str(), &mut trees)?;
         trees.push(tree)?;
     }
-    trees.pop().ok_or(Fault::Words)
+    trees.pop().ok_or(CallError::Words)
 }
 
 /// The tree that ends with this word.
-fn tree_of_word(alloc: Global, word: &str, trees: &mut Vec<SetTree>) -> Result<SetTree, Fault> {
+fn tree_of_word(alloc: Global, word: &str, trees: &mut Vec<SetTree>) -> Result<SetTree, CallError> {
     match word {
         "Both" => {
             let other = side(alloc, trees)?;
@@ -29,8 +29,8 @@ fn tree_of_word(alloc: Global, word: &str, trees: &mut Vec<SetTree>) -> Result<S
 }
 
 /// Takes the last tree.
-fn side(alloc: Global, trees: &mut Vec<SetTree>) -> Result<Box<SetTree>, Fault> {
-    let tree = trees.pop().ok_or(Fault::Words)?;
+fn side(alloc: Global, trees: &mut Vec<SetTree>) -> Result<Box<SetTree>, CallError> {
+    let tree = trees.pop().ok_or(CallError::Words)?;
     Ok(Box::new(alloc, tree)?)
 }
 

@@ -3,7 +3,8 @@ use Rattle.std.proofs.Common.{◌≡◌, true, false, codes, inl, refl, Some, No
 use lib.Utf8.{encode}
 use Rattle.std.specs.Float.Ieee.{eq, of_int}
 use Rattle.std.specs.Str.{chars, trim_end, trim_start}
-use Rattle.serde_json.specs.Data.{Data, Members, Num, boolean, member, no_members, null, number, object, string, unsigned}
+use Rattle.serde_json.specs.Data.{Data, Members, Num, boolean, member, no_members, null, number, object, string}
+use Rattle.serde_json.specs.Data.{unsigned}
 use Rattle.npm_lock.specs.Asked.{asked_of, is_optional_peer}
 use Rattle.npm_lock.specs.Faults.{group_fault, has_format}
 use Rattle.npm_lock.specs.Outcomes.{engine_of}
@@ -161,7 +162,8 @@ pub four_is_none : has_format (of_version (unsigned 4)) ≡ false
 unfolding eq of_int
 four_is_none = refl
 
-pub null_is_no_group : group_fault (object (member (codes "dependencies") null no_members)) (codes "dependencies") ≡ None
+pub null_is_no_group : group_fault (object (member (codes "dependencies") null no_members)) (codes "dependencies") ≡
+    None
 null_is_no_group = refl
 
 pub false_is_a_fault : group_fault (object (member (codes "dependencies") (boolean false) no_members))

@@ -30,7 +30,8 @@ with_overrides overrides = object (member [] (object (member (codes "overrides")
 -- `{"a": {"b": "3", ".": "4"}, "b": "2", "c": "2", "d@1": "2", "e": "$f"}`
 abbrev packages : Data
 packages = with_overrides (object
-    (member (codes "a") (object (member (codes "b") (string (codes "3")) (member (codes ".") (string (codes "4")) no_members)))
+    (member (codes "a") (object (member (codes "b") (string (codes "3"))
+    (member (codes ".") (string (codes "4")) no_members)))
     (member (codes "b") (string (codes "2"))
     (member (codes "c") (string (codes "2"))
     (member (codes "d@1") (string (codes "2"))
@@ -68,7 +69,8 @@ no_rule_in_a_file_without_a_root = refl
 abbrev asked : AskedValue
 asked = record { spec = codes "^1"; is_needed = true; is_peer = false; is_dev = false; is_overridden = false }
 
-pub the_spec_of_the_rule : overridden packages (codes "node_modules/z") (codes "c") asked ≡ record asked { spec = codes "2" }
+pub the_spec_of_the_rule : overridden packages (codes "node_modules/z") (codes "c") asked ≡ record asked
+    { spec = codes "2" }
 the_spec_of_the_rule = refl
 
 pub also_for_the_root : overridden packages [] (codes "c") asked ≡ record asked { spec = codes "2" }
@@ -85,6 +87,7 @@ no_change_of_another_name = refl
 
 -- what is not known is no problem
 pub no_problem_where_the_rule_is_not_read : (found : Package)
-    → ¬ IsVerdictOn (codes "node_modules/z") null (codes "b") (overridden packages (codes "node_modules/z") (codes "b") asked)
+    → ¬ IsVerdictOn (codes "node_modules/z") null (codes "b")
+    (overridden packages (codes "node_modules/z") (codes "b") asked)
     found Invalid
 no_problem_where_the_rule_is_not_read found (by_spec verdict outside known both) = cc known

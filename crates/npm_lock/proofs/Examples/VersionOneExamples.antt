@@ -1,10 +1,12 @@
 -- What the definitions say of some lock files of version 1.
 use Rattle.std.proofs.Common.{◌≡◌, ℕ, List, [], ◌∷◌, true, false, codes, refl, Some, None}
 use Rattle.std.specs.Float.Ieee.{eq, of_int}
-use Rattle.serde_json.specs.Data.{Data, array, boolean, member, no_items, no_members, null, number, object, string, unsigned}
+use Rattle.serde_json.specs.Data.{Data, array, boolean, member, no_items, no_members, null, number, object, string}
+use Rattle.serde_json.specs.Data.{unsigned}
 use Rattle.npm_lock.specs.VersionOne.{any_fault, converted, entry_fault, is_version_one, manifest_fault, member_of}
 use Rattle.npm_lock.specs.VersionOne.{packages_below, packages_of, requires_fault, version_in, version_one_fault}
-use Rattle.npm_lock.specs.declared.fault.Fault.TheVariants.{Dependencies, Entry, Manifest, PackageVersion, Spec, Version}
+use Rattle.npm_lock.specs.declared.fault.Fault.TheVariants.{Dependencies, Entry, Manifest, PackageVersion, Spec}
+use Rattle.npm_lock.specs.declared.fault.Fault.TheVariants.{Version}
 
 -- an object with one member
 abbrev one : (key : List ℕ) → Data → Data

@@ -20,7 +20,8 @@ abbrev pub is_needed_in : (asker : Data) → (is_needed is_peer : Bool) → (nam
 is_needed_in asker is_needed is_peer name = is_needed && not (is_peer && is_optional_peer asker name)
 
 -- what these members of a group ask for by a name
-abbrev pub asked_among : (asker : Data) → (is_needed is_peer is_dev : Bool) → (name : List ℕ) → Members → Option AskedValue
+abbrev pub asked_among : (asker : Data) → (is_needed is_peer is_dev : Bool) → (name : List ℕ) → Members → Option
+    AskedValue
 asked_among asker is_needed is_peer is_dev name members = option_map
     (λ spec. record {
       spec = spec;

@@ -1,58 +1,59 @@
 -- What the definitions say of some arguments.
 use Rattle.std.proofs.Common.{◌≡◌, ◌∷◌, [], Err, Ok, Some, codes, refl, true}
 use Rattle.npm_lock.specs.declared.problem.Kind.TheVariants.{Engine, Missing, PeerLocal}
-use Rattle.npm_lock_check.specs.Arguments.{asked_of, nothing_asked}
+use Rattle.npm_lock_check.specs.Arguments.{arguments_of, nothing_asked}
 use Rattle.npm_lock_check.specs.Kinds.{named_by, no_kinds, with_kind}
 use Rattle.npm_lock_check.specs.declared.arguments.Format.TheVariants.{Json}
 use Rattle.npm_lock_check.specs.declared.arguments.Shown.TheVariants.{Help}
 use Rattle.npm_lock_check.specs.declared.kinds.Ignorable.TheVariants.{Problem}
 use Rattle.npm_lock_check.specs.declared.run_error.RunError.TheVariants.{Kind, NoValue, SecondFile, UnknownOption}
 
-pub no_word : asked_of [] ≡ Ok nothing_asked
+pub no_word : arguments_of [] ≡ Ok nothing_asked
 no_word = refl
 
-pub options_and_a_file : asked_of (codes "--node" ∷ codes "20" ∷ codes "a.json" ∷ codes "--format" ∷ codes "json" ∷ [])
+pub options_and_a_file : arguments_of (codes "--node" ∷ codes "20" ∷ codes "a.json" ∷ codes "--format" ∷ codes "json" ∷
+    [])
     ≡ Ok (record nothing_asked { node = Some (codes "20"); file = Some (codes "a.json"); format = Some Json })
 options_and_a_file = refl
 
-pub two_kinds : asked_of (codes "--ignore" ∷ codes "missing" ∷ codes "--ignore" ∷ codes "peer-local" ∷ [])
+pub two_kinds : arguments_of (codes "--ignore" ∷ codes "missing" ∷ codes "--ignore" ∷ codes "peer-local" ∷ [])
     ≡ Ok (record nothing_asked { ignored = with_kind (with_kind no_kinds Missing) PeerLocal })
 two_kinds = refl
 
-pub the_last_value_counts : asked_of (codes "--node" ∷ codes "18" ∷ codes "--node" ∷ codes "20" ∷ [])
+pub the_last_value_counts : arguments_of (codes "--node" ∷ codes "18" ∷ codes "--node" ∷ codes "20" ∷ [])
     ≡ Ok (record nothing_asked { node = Some (codes "20") })
 the_last_value_counts = refl
 
 -- an option takes the word after it, whatever that is
-pub a_value_that_looks_like_an_option : asked_of (codes "--node" ∷ codes "--help" ∷ [])
+pub a_value_that_looks_like_an_option : arguments_of (codes "--node" ∷ codes "--help" ∷ [])
     ≡ Ok (record nothing_asked { node = Some (codes "--help") })
 a_value_that_looks_like_an_option = refl
 
-pub help : asked_of (codes "-h" ∷ []) ≡ Ok (record nothing_asked { shown = Some Help })
+pub help : arguments_of (codes "-h" ∷ []) ≡ Ok (record nothing_asked { shown = Some Help })
 help = refl
 
 -- `-` is standard input, by its name
-pub a_hyphen_is_a_file : asked_of (codes "-" ∷ []) ≡ Ok (record nothing_asked { file = Some (codes "-") })
+pub a_hyphen_is_a_file : arguments_of (codes "-" ∷ []) ≡ Ok (record nothing_asked { file = Some (codes "-") })
 a_hyphen_is_a_file = refl
 
-pub two_files : asked_of (codes "-" ∷ codes "a.json" ∷ []) ≡ Err SecondFile
+pub two_files : arguments_of (codes "-" ∷ codes "a.json" ∷ []) ≡ Err SecondFile
 two_files = refl
 
-pub no_value : asked_of (codes "a.json" ∷ codes "--node" ∷ []) ≡ Err NoValue
+pub no_value : arguments_of (codes "a.json" ∷ codes "--node" ∷ []) ≡ Err NoValue
 no_value = refl
 
-pub the_first_error_counts : asked_of (codes "--nodes" ∷ codes "--ignore" ∷ codes "all" ∷ []) ≡ Err UnknownOption
+pub the_first_error_counts : arguments_of (codes "--nodes" ∷ codes "--ignore" ∷ codes "all" ∷ []) ≡ Err UnknownOption
 the_first_error_counts = refl
 
 -- the word of the JSON object has a blank, and is no word of the command line
-pub no_kind : asked_of (codes "--ignore" ∷ codes "peer local" ∷ []) ≡ Err Kind
+pub no_kind : arguments_of (codes "--ignore" ∷ codes "peer local" ∷ []) ≡ Err Kind
 no_kind = refl
 
 pub a_kind_is_not_left_out_by_another : named_by (codes "engine") ≡ Some (Problem Engine)
 a_kind_is_not_left_out_by_another = refl
 
 -- `--unchecked` has no value, so the word after it is the file
-pub more_options : asked_of (codes "--unchecked" ∷ codes "a.json" ∷ codes "--manifest"
+pub more_options : arguments_of (codes "--unchecked" ∷ codes "a.json" ∷ codes "--manifest"
     ∷ codes "package.json" ∷ [])
     ≡ Ok (record nothing_asked {
       unchecked = true;

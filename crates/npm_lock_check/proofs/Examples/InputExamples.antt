@@ -2,30 +2,34 @@
 use Rattle.std.proofs.Common.{◌≡◌, ◌∷◌, ℕ, List, [], Option, Some, codes, false, refl, true}
 use Rattle.std.specs.declared.io.ErrorKind.TheVariants.{Other, OutOfMemory}
 use Rattle.serde_json.specs.Data.{Data}
-use Rattle.npm_lock_check.specs.GaugeValue.{GaugeValue}
+use Rattle.npm_lock_check.specs.WatchedValue.{WatchedValue}
 use Rattle.npm_lock_check.specs.Output.{IsInput, IsStopped, has_mark}
 use Rattle.npm_lock_check.specs.Report.{WantedValue}
 use Rattle.npm_lock_check.specs.declared.run_error.RunError.TheVariants.{NoJson, NoUtf8, Read}
 
 -- ---- what was read
 
-module _ (remaining : List ℕ → Option (List ℕ)) (wanted : WantedValue) (old : GaugeValue (List ℕ)) where
+module _ (remaining : List ℕ → Option (List ℕ)) (wanted : WantedValue) (old : WatchedValue (List ℕ)) where
   -- a read that failed for want of memory is no failed read of another kind
-  pub no_memory_is_no_failed_read : ¬ IsStopped remaining wanted old (record { inner = []; failure = Some OutOfMemory }) Read
+  pub no_memory_is_no_failed_read : ¬ IsStopped remaining wanted old (record { inner = []; failure = Some OutOfMemory })
+      Read
   no_memory_is_no_failed_read stopped = stopped.1 refl
 
-  pub another_failure_is_a_failed_read : IsStopped remaining wanted old (record { inner = []; failure = Some Other }) Read
+  pub another_failure_is_a_failed_read : IsStopped remaining wanted old (record { inner = []; failure = Some Other })
+      Read
   another_failure_is_a_failed_read = (refl, λ same. cc same)
 
   -- after a failed call nothing was read, and no input is called no JSON
-  pub after_a_failure_nothing_was_read : (lock : Data) → ¬ IsInput remaining old (record { inner = []; failure = Some Other }) lock
+  pub after_a_failure_nothing_was_read : (lock : Data) → ¬ IsInput remaining old
+      (record { inner = []; failure = Some Other }) lock
   after_a_failure_nothing_was_read lock input = cc input.unfailed
 
   pub after_a_failure_nothing_is_no_json : (line column : ℕ)
       → ¬ IsStopped remaining wanted old (record { inner = []; failure = Some Other }) (NoJson line column)
   after_a_failure_nothing_is_no_json line column stopped = cc stopped.unfailed
 
-  pub after_a_failure_nothing_is_no_text : ¬ IsStopped remaining wanted old (record { inner = []; failure = Some Other }) NoUtf8
+  pub after_a_failure_nothing_is_no_text : ¬ IsStopped remaining wanted old
+      (record { inner = []; failure = Some Other }) NoUtf8
   after_a_failure_nothing_is_no_text stopped = cc stopped.unfailed
 
 pub a_mark : has_mark (239 ∷ 187 ∷ 191 ∷ codes "{}") ≡ true

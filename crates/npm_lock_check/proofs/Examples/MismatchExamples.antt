@@ -1,5 +1,6 @@
 -- What the definitions say of a manifest and a lock file.
-use Rattle.std.proofs.Common.{◌≡◌, ◌∙◌, ◌∷◌, ◌++◌, ℕ, List, [], None, Option, Some, arith, codes, false, inl, refl, suc, sym, true, zero}
+use Rattle.std.proofs.Common.{◌≡◌, ◌∙◌, ◌∷◌, ◌++◌, ℕ, List, [], None, Option, Some, arith, codes, false, inl, refl, suc}
+use Rattle.std.proofs.Common.{sym, true, zero}
 use Rattle.std.specs.List.{Contains, cons_option, filter_map}
 use Rattle.serde_json.specs.Data.{Data, member, no_members, number, object, string, unsigned}
 use Rattle.npm_lock.specs.ManifestPlace.{as_package}
@@ -95,11 +96,13 @@ module _ {X Y : Type 0} (f : X → Option Y) (x : X) (y : Y) (gives : f x ≡ So
   found_there : (xs : List X) → Contains xs x → ¬ (filter_map f xs ≡ [])
   found_there [] (k, small, is) none = absurd (omega (arith, small))
   found_there (first ∷ rest) (zero, small, is) none = cc (gives, is, none)
-  found_there (first ∷ rest) (suc k, small, is) none = found_there rest (k, omega arith, is) (rest_none (f first) (filter_map f rest) none)
+  found_there (first ∷ rest) (suc k, small, is) none = found_there rest (k, omega arith, is)
+      (rest_none (f first) (filter_map f rest) none)
 
 pub a_mismatch_is_not_left_out : ¬ AreMismatches (lock_of (asks (codes "^1"))) [] (asks (codes "^2")) []
 a_mismatch_is_not_left_out found =
     let none = first_none found.dependencies found.development found.optional found.peers found.whole in
     found_there (mismatch_of [] (asks (codes "^2")) (asks (codes "^1")) Dependencies)
     (codes "a") (on_a (Some (codes "^2")) (Some (codes "^1"))) refl
-    found.of_dependencies.names ((found.of_dependencies.are_names.all (codes "a")).1 (inl refl)) (sym found.of_dependencies.each ∙ none)
+    found.of_dependencies.names ((found.of_dependencies.are_names.all (codes "a")).1 (inl refl))
+    (sym found.of_dependencies.each ∙ none)

@@ -42,7 +42,10 @@ pub a_version_of_node : sentence (record {
 }) ≡ codes "node 20.11.1 does not satisfy >=22, which the root asks for"
 a_version_of_node = refl
 
-pub a_tag : unchecked_sentence (record { reason = Tag; dependency = on_a [] None (codes "latest") (Some (codes "1.0.0")) })
+pub a_tag : unchecked_sentence (record {
+  reason = Tag;
+  dependency = on_a [] None (codes "latest") (Some (codes "1.0.0"));
+})
     ≡ codes "a 1.0.0 is not checked against latest, which the root asks for: a tag"
 a_tag = refl
 

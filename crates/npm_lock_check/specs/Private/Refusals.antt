@@ -1,4 +1,5 @@
--- Why the values of a lock file, of a manifest and of advisories are refused: one of them has a fault, or memory ran out.
+-- Why the values of a lock file, of a manifest and of advisories are refused: one of them has a fault, or memory ran
+-- out.
 use Rattle.std.specs.Prelude.{◌≡◌, ◌⊎◌, ℕ, Option, Some, string_bytes}
 use Rattle.serde_json.specs.Data.{Data}
 use Rattle.npm_lock.specs.Faults.{lock_fault}
@@ -14,7 +15,8 @@ use Rattle.npm_lock_check.specs.declared.run_error.RunError.TheVariants.{Memory,
 
 -- the manifest
 abbrev pub IsManifestRefused : (manifest : Data) → RunError → Type 0
-IsManifestRefused manifest error = ((fault : Fault) × (error ≡ NoManifest fault) × (manifest_fault manifest ≡ Some fault))
+IsManifestRefused manifest error = ((fault : Fault) × (error ≡ NoManifest fault) ×
+    (manifest_fault manifest ≡ Some fault))
     ⊎ (error ≡ Memory)
 
 -- the manifest that is compared with the lock file

@@ -13,6 +13,7 @@ invariant-loop-name l = record {
   left : (name : List ℕ)
       → option_or (asked_among (view l.asker) l.is_needed l.is_peer l.is_dev name (members_view l.name-iterator))
       (at_name l.all name)
-      ≡ option_or (asked_among (view l.asker) l.is_needed l.is_peer l.is_dev name (members_view l.initial.name-iterator))
+      ≡ option_or (asked_among (view l.asker) l.is_needed l.is_peer l.is_dev name
+      (members_view l.initial.name-iterator))
       (at_name l.fn.all name);
 }

@@ -19,14 +19,17 @@ refused lock packages members fault format at is held =
 
 pub returns-in_err-check_member-clause-refused : goal.returns-in_err-check_member-clause-refused
 returns-in_err-check_member-clause-refused c =
-    let format : Faults.has_format (view c.args.lock.now) ≡ true = sym c.has_format.ensures ∙ c.if-not-has_format.false in
+    let format : Faults.has_format (view c.args.lock.now) ≡ true = sym c.has_format.ensures ∙ c.if-not-has_format.false
+    in
     let at : get (codes "packages") (view c.args.lock.now) ≡ Some (view c.in_ok-packages.packages.now) = search rules in
     let is : as_object (view c.in_ok-packages.packages.now) ≡ Some (members_view c.in_ok-members.members.now.entries) =
     search rules in
     let entries : c.into_iter-member-iterator.result ≡ c.in_ok-members.members.now.entries = cc in
-    let here : Faults.member_fault (object (members_view c.in_ok-members.members.now.entries)) (view c.in-Some.member.now)
+    let here : Faults.member_fault (object (members_view c.in_ok-members.members.now.entries))
+    (view c.in-Some.member.now)
     ≡ Some c.in_err-check_member.field-0.0 = sym c.check_member.ensures ∙ ap result_err c.in_err-check_member.was in
     let first = rw (entries, c.in-Some.ensures.steps) at c.loop-member.invariant in
-    let fault : Faults.lock_fault (view c.args.lock.now) ≡ Some c.in_err-check_member.field-0.0 = refused (view c.args.lock.now) (view c.in_ok-packages.packages.now)
+    let fault : Faults.lock_fault (view c.args.lock.now) ≡ Some c.in_err-check_member.field-0.0 = refused
+    (view c.args.lock.now) (view c.in_ok-packages.packages.now)
     (members_view c.in_ok-members.members.now.entries) _ format at is (first ∙ (rw here refl)) in
     search (rules, fault)

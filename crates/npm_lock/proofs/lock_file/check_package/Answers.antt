@@ -24,7 +24,8 @@ pub loop-name-preserved : goal.loop-name-preserved
 loop-name-preserved c =
     let asked = rw c.in-Some.ensures.steps at c.loop-name.invariant.asked in
     let changed : asked_value c.overridden-changed.result
-    ≡ overridden (packages_data c.args.lock) c.args.asker.folder.now c.in-Some.name.now.now (asked_value c.in-Some.asked.now) =
+    ≡ overridden (packages_data c.args.lock) c.args.asker.folder.now c.in-Some.name.now.now
+    (asked_value c.in-Some.asked.now) =
     c.overridden-changed.ensures
     ∙ ap (λ rule. changed_by rule c.args.asker.folder.now (asked_value c.in-Some.asked.now))
     (c.requires.rules c.in-Some.name.now.now) in

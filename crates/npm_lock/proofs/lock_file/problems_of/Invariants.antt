@@ -9,7 +9,8 @@ use Rattle.npm_lock.proofs.lock_file.problems_of.Given as goal
 
 abbrev pub invariant-loop-folder : goal.invariant-loop-folder
 invariant-loop-folder l = (later : List Finding) (new : Problems)
-    → AreFindings (packages_data l.lock) (option_map (λ version. version.now) l.lock.node) (members_view l.folder-iterator) later
+    → AreFindings (packages_data l.lock) (option_map (λ version. version.now) l.lock.node)
+    (members_view l.folder-iterator) later
     → Adds l.problems new later
     → (found : List Finding)
     × AreFindings (packages_data l.lock) (option_map (λ version. version.now) l.lock.node)

@@ -1,5 +1,6 @@
 -- Each name is the first that is left of both groups.
-use Rattle.std.proofs.Common.{◌≡◌, ◌∙◌, ◌∷◌, ◌++◌, [], ℕ, List, Option, Some, None, ap, append_assoc, append-nil, arith, inl, inr}
+use Rattle.std.proofs.Common.{◌≡◌, ◌∙◌, ◌∷◌, ◌++◌, [], ℕ, List, Option, Some, None, ap, append_assoc, append-nil, arith}
+use Rattle.std.proofs.Common.{inl, inr}
 use Rattle.std.proofs.Common.{map, option_and_then, option_map, refl, rules, sym, unwrap_or}
 use Rattle.std.specs.List.{filter_map}
 use Rattle.std.specs.Option.{option_to_list}
@@ -13,10 +14,12 @@ use Rattle.npm_lock.proofs.manifest.add_group.Goals as goal
 
 pub names-init : goal.names-init
 names-init c =
-    let at = λ (name : List ℕ). in_members (get (group_text c.args.group) (view c.args.sides.manifest.now)) c.group_in.result _ _
+    let at = λ (name : List ℕ). in_members (get (group_text c.args.group) (view c.args.sides.manifest.now))
+    c.group_in.result _ _
     (left_of c.of_group-specs.result) name c.group_in.ensures c.unwrap_or.ensures c.new-none.ensures.empty
     c.of_group-specs.ensures.left in
-    let at_locked = λ (name : List ℕ). in_members (get (group_text c.args.group) (view c.args.sides.entry.now)) c.group_in-2.result _ _
+    let at_locked = λ (name : List ℕ). in_members (get (group_text c.args.group) (view c.args.sides.entry.now))
+    c.group_in-2.result _ _
     (left_of c.of_group-locked.result) name c.group_in-2.ensures c.unwrap_or-2.ensures c.new-none.ensures.empty
     c.of_group-locked.ensures.left in
     record {
@@ -56,7 +59,8 @@ names-preserved c =
     let taken = c.take.ensures.left in
     let taken_locked = c.take-in-Some.ensures.left in
     let added : map mismatch_value c.add_found.new.list.items ≡ map mismatch_value c.names.list.items
-    ++ option_to_list (mismatch_of c.args.sides.folder.now (view c.args.sides.manifest.now) (view c.args.sides.entry.now)
+    ++ option_to_list (mismatch_of c.args.sides.folder.now (view c.args.sides.manifest.now)
+    (view c.args.sides.entry.now)
     c.args.group c.in-Some.name.now) = rw c.in_ok-mismatch_of.ensures at c.in_ok-add_found.ensures in
     record {
       sorted = taken.sorted;
@@ -75,7 +79,8 @@ pub returns : goal.returns
 returns c =
     let none = rw c.in_default.is at c.first_name.ensures in
     let all = c.names.invariant.found [] (rw (none.0, none.1) none_left) in (
-      filter_map (mismatch_of c.args.sides.folder.now (view c.args.sides.manifest.now) (view c.args.sides.entry.now) c.args.group) all.0,
+      filter_map (mismatch_of c.args.sides.folder.now (view c.args.sides.manifest.now) (view c.args.sides.entry.now)
+          c.args.group) all.0,
       record { names = all.0; are_names = all.1; each = refl },
       sym (rw append-nil at all.2),
     )

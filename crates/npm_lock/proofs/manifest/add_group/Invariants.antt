@@ -16,13 +16,17 @@ invariant-names l = record {
   sorted_locked : AreSorted (left_of l.locked);
   at : (name : List ℕ)
       → IsSome (get_member name (left_of l.specs)) ⊎ IsSome (get_member name (left_of l.locked))
-      → (option_and_then (get name) (get (group_text l.group) (view l.sides.manifest.now)) ≡ get_member name (left_of l.specs))
-      × (option_and_then (get name) (get (group_text l.group) (view l.sides.entry.now)) ≡ get_member name (left_of l.locked));
+      → (option_and_then (get name) (get (group_text l.group) (view l.sides.manifest.now)) ≡ get_member name
+      (left_of l.specs))
+      × (option_and_then (get name) (get (group_text l.group) (view l.sides.entry.now)) ≡ get_member name
+      (left_of l.locked));
   found : (later : List (List ℕ)) → AreNamesOf (left_of l.specs) (left_of l.locked) later
       → (names : List (List ℕ))
       × AreGroupNames (view l.sides.manifest.now) (view l.sides.entry.now) l.group names
-      × (map mismatch_value l.initial.list.items ++ filter_map (mismatch_of l.sides.folder.now (view l.sides.manifest.now) (view l.sides.entry.now) l.group) names
-      ≡ map mismatch_value l.list.items ++ filter_map (mismatch_of l.sides.folder.now (view l.sides.manifest.now) (view l.sides.entry.now) l.group) later);
+      × (map mismatch_value l.initial.list.items ++ filter_map
+      (mismatch_of l.sides.folder.now (view l.sides.manifest.now) (view l.sides.entry.now) l.group) names
+      ≡ map mismatch_value l.list.items ++ filter_map (mismatch_of l.sides.folder.now (view l.sides.manifest.now)
+      (view l.sides.entry.now) l.group) later);
 }
 
 abbrev pub decreases-names : goal.decreases-names

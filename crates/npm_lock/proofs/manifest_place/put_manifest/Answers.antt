@@ -10,5 +10,7 @@ use Rattle.npm_lock.proofs.manifest_place.put_manifest.Goals as goal
 pub returns-in-Some : goal.returns-in-Some
 returns-in-Some c =
     let lock : view c.args.lock.now ≡ object (members_view c.in-Some.members.now.entries) =
-    is_object_of _ _ (sym c.as_object_mut.ensures.value ∙ ap (option_map (λ m. members_view m.now.entries)) c.in-Some.is) in
-    on_ok c.put_inside.result c.put_inside.ensures (λ is. rw (lock, view-Object c.put_inside.new.members, is, c.in_ok-made.ensures) refl)
+    is_object_of _ _ (sym c.as_object_mut.ensures.value ∙ ap (option_map (λ m. members_view m.now.entries))
+    c.in-Some.is) in
+    on_ok c.put_inside.result c.put_inside.ensures (λ is. rw
+    (lock, view-Object c.put_inside.new.members, is, c.in_ok-made.ensures) refl)

@@ -8,7 +8,8 @@ use Rattle.npm_lock.specs.Private.PackageValue.{asked_value, package_value, pack
 use Rattle.npm_lock.proofs.outcome.judgement_of.Goals as goal
 use Rattle.npm_lock.proofs.outcome.judgement_of.Goals.{then-asked, else-asked}
 use Rattle.npm_lock.proofs.outcome.judgement_of.Goals.{else-asked-2-via-then-asked-2+then-is_installed+else-is_own}
-use Rattle.npm_lock.proofs.outcome.judgement_of.Goals.{else-asked-2-via-then-asked-2+else-is_installed, else-asked-2-via-else-asked-2}
+use Rattle.npm_lock.proofs.outcome.judgement_of.Goals.{else-asked-2-via-then-asked-2+else-is_installed}
+use Rattle.npm_lock.proofs.outcome.judgement_of.Goals.{else-asked-2-via-else-asked-2}
 
 module _ (packages : Data) (folder : List ℕ) (is_installed : Bool) (name : List ℕ) (asked : AskedValue) where
   elsewhere : (found : Package) (is_own : Bool) → is_own ≡ false

@@ -11,7 +11,8 @@ pub loop-key-preserved : goal.loop-key-preserved
 loop-key-preserved t c = λ name.
     let first = rw c.in-Some.ensures.steps at c.loop-key.invariant name in
     let named = rw (c.name_of.ensures, c.as_str.ensures.value) at c.in_ok-add_rule.ensures name in
-    two_added (rule_at c.loop-key.rules name) _ _ (rule_if (bytes_eq (name_of (string_bytes c.in-Some.key.now)) name) unread)
+    two_added (rule_at c.loop-key.rules name) _ _ (rule_if (bytes_eq (name_of (string_bytes c.in-Some.key.now)) name)
+    unread)
     (rule_if (is_named_in name (view c.in-Some.value.now)) unread)
     (rule_if (is_named_among name (members_view c.next.new.self)) unread) named (c.in_ok-add_inside.ensures name)
     ∙ ap (both (rule_at c.loop-key.rules name)) (any_unread (bytes_eq (name_of (string_bytes c.in-Some.key.now)) name)

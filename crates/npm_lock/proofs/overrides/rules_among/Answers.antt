@@ -14,11 +14,13 @@ loop-key-init c = λ name.
 pub loop-key-preserved : goal.loop-key-preserved
 loop-key-preserved c = λ name.
     let first = rw c.in-Some.ensures.steps at c.loop-key.invariant name in
-    let named = rw (c.name_of.ensures, c.rule_of.ensures, c.as_str-key.ensures.value) at c.in_ok-add_rule.ensures name in
+    let named = rw (c.name_of.ensures, c.rule_of.ensures, c.as_str-key.ensures.value) at c.in_ok-add_rule.ensures name
+    in
     two_added (rule_at c.loop-key.rules name) _ _
     (rule_if (bytes_eq (name_of (string_bytes c.in-Some.key.now)) name)
     (rule_of (string_bytes c.in-Some.key.now) (view c.in-Some.value.now)))
-    (rule_if (is_named_in name (view c.in-Some.value.now)) unread) (rule_among name (members_view c.next.new.self)) named
+    (rule_if (is_named_in name (view c.in-Some.value.now)) unread) (rule_among name (members_view c.next.new.self))
+    named
     (c.in_ok-add_inside.ensures name) ∙ first
 
 pub returns : goal.returns

@@ -3,7 +3,8 @@ use Rattle.std.proofs.Common.{◌≡◌, ◌≢◌, ◌∙◌, [], Some, length,
 use Rattle.npm_lock.specs.Private.Index.{at_part, entry_at, root}
 use Rattle.npm_lock.specs.Private.PackageValue.{packages_data}
 use Rattle.npm_lock.specs.Private.Search.{IsSearch}
-use Rattle.npm_lock.proofs.Stepping.{IsStep, empty_of, entry_of, front_of, is_next, of_next, so_far_on, step_of, still_root}
+use Rattle.npm_lock.proofs.Stepping.{IsStep, empty_of, entry_of, front_of, is_next, of_next, so_far_on, step_of}
+use Rattle.npm_lock.proofs.Stepping.{still_root}
 use Rattle.npm_lock.proofs.search.places_from.Goals as goal
 use Rattle.npm_lock.proofs.search.places_from.Goals.{in-Some-above, in-None}
 use Rattle.npm_lock.proofs.search.places_from.Goals.{then-not-is_empty+in_ok-add_place-2, else-not-is_empty}

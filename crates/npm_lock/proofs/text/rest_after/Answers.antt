@@ -1,5 +1,6 @@
 -- What `strip_prefix` gives, or nothing.
-use Rattle.std.proofs.Common.{◌≡◌, ◌∙◌, ◌+◌, ℕ, List, true, false, Option, Some, None, ap, drop, length, option_map, refl}
+use Rattle.std.proofs.Common.{◌≡◌, ◌∙◌, ◌+◌, ℕ, List, true, false, Option, Some, None, ap, drop, length, option_map}
+use Rattle.std.proofs.Common.{refl}
 use Rattle.std.specs.List.{starts_with}
 use Rattle.std.specs.Option.{MatchOption}
 use Rattle.std.specs.Prelude.{nat_eq}

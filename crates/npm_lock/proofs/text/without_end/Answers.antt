@@ -1,5 +1,6 @@
 -- What `strip_suffix` gives, or the whole text.
-use Rattle.std.proofs.Common.{◌≡◌, ◌∙◌, ◌+◌, ◌-◌, ℕ, List, true, false, Option, Some, None, ap, arith, length, refl, take}
+use Rattle.std.proofs.Common.{◌≡◌, ◌∙◌, ◌+◌, ◌-◌, ℕ, List, true, false, Option, Some, None, ap, arith, length, refl}
+use Rattle.std.proofs.Common.{take}
 use Rattle.std.specs.List.{ends_with}
 use Rattle.std.specs.Option.{MatchOption}
 use Rattle.std.specs.Prelude.{nat_eq}

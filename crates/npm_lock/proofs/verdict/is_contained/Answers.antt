@@ -15,7 +15,10 @@ pub returns-in-Some : goal.returns-in-Some
 returns-in-Some c =
     let means = rw c.in-Some.is at c.in_ok-range.ensures.means in
     let told = c.contains.ensures in
-    contained _ _ _ ((λ yes. (means c.args.version.now).0 (told.0 yes)), (λ admits. told.1 ((means c.args.version.now).1 admits)))
+    contained _ _ _ (
+      (λ yes. (means c.args.version.now).0 (told.0 yes)),
+      (λ admits. told.1 ((means c.args.version.now).1 admits)),
+    )
 
 pub returns-in-None : goal.returns-in-None
 returns-in-None c = outside (no_range _ _ (rw c.in-None.is at c.in_ok-range.ensures.refused))

@@ -2,7 +2,8 @@ use Rattle.std.proofs.Common.{◌≡◌, ◌↔◌, ℕ, List, Bool, IsTrue, Opt
 use Rattle.std.proofs.Common.{Err, IfOk, Ok, Result, option_map, refl, rules}
 use Rattle.node_semver.specs.Ranges.{RangeAdmits}
 use Rattle.node_semver.specs.Versions.{IsVersionText, VersionValue}
-use Rattle.npm_lock.specs.Verdict.{Admits, IsNoRange, IsVerdictOfText, asks_for_any, no_version, of_dependencies, satisfied, unsatisfied}
+use Rattle.npm_lock.specs.Verdict.{Admits, IsNoRange, IsVerdictOfText, asks_for_any, no_version, of_dependencies}
+use Rattle.npm_lock.specs.Verdict.{satisfied, unsatisfied}
 use Rattle.npm_lock.specs.declared.verdict.Verdict.TheVariants.{Invalid, Valid}
 use Rattle.npm_lock.proofs.verdict.is_satisfied.Goals as goal
 
@@ -14,7 +15,8 @@ decided version text written v false some good is reads means = unsatisfied writ
     (λ h. let no : false ≡ true = means.1 h in cc no)
 
 judged : {E : Type 0} (version : Option (List ℕ)) (text written : List ℕ) (answer : Bool)
-    (parsed : Result VersionValue E) → asks_for_any text ≡ false → ¬ IsNoRange of_dependencies text → version ≡ Some written
+    (parsed : Result VersionValue E) → asks_for_any text ≡ false → ¬ IsNoRange of_dependencies text → version ≡ Some
+    written
     → IfOk parsed (λ v. IsVersionText written v)
     → ((e : E) → parsed ≡ Err e → (v : VersionValue) → ¬ IsVersionText written v)
     → ((v : VersionValue) → parsed ≡ Ok v → IsTrue answer ↔ Admits of_dependencies text v)

@@ -3,7 +3,8 @@ use Rattle.std.proofs.Common.{◌≡◌, ◌∙◌, Some, ap, bytes_eq, codes, r
 use Rattle.serde_json.specs.View.{members_view, view}
 use Rattle.npm_lock.specs.Folders.{place_in}
 use Rattle.npm_lock.specs.VersionOne.{packages_below, packages_fault, packages_named}
-use Rattle.npm_lock.proofs.PackageLists.{entry_found, entry_passed, fault_found, fault_passed, inside_found, is_object, none_named}
+use Rattle.npm_lock.proofs.PackageLists.{entry_found, entry_passed, fault_found, fault_passed, inside_found, is_object}
+use Rattle.npm_lock.proofs.PackageLists.{none_named}
 use Rattle.npm_lock.proofs.version_one_fault.+faults.Goals as goal
 
 pub check_below-loop-key-preserved-in-Continue-1 :

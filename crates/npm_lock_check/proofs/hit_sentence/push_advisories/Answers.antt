@@ -1,5 +1,6 @@
 -- One advisory more.
-use Rattle.std.proofs.Common.{◌≡◌, ◌∙◌, ◌+◌, ◌<◌, ◌++◌, ◌∷◌, ℕ, List, ap, append_assoc, codes, drop, get_or, length, map, sym}
+use Rattle.std.proofs.Common.{◌≡◌, ◌∙◌, ◌+◌, ◌<◌, ◌++◌, ◌∷◌, ℕ, List, ap, append_assoc, codes, drop, get_or, length}
+use Rattle.std.proofs.Common.{map, sym}
 use Rattle.std.proofs.lemmas.List.{drop_more}
 use Rattle.npm_advisories.specs.Advisories.{about_value}
 use Rattle.npm_advisories.specs.declared.advisory.About.{About}

@@ -16,7 +16,8 @@ returns c =
     let least = seen_values c.as_ref.result c.args.found.now.least c.as_ref.ensures.value in
     let admitted = seen_values c.as_ref-2.result c.args.found.now.admitted c.as_ref-2.ensures.value in
     let joint : c.push_shown-3.new.line.items ++ codes ")"
-    ≡ (((((((c.args.line.now.items ++ shown c.args.found.now.name.now) ++ codes " ") ++ shown c.args.found.now.version.now)
+    ≡ (((((((c.args.line.now.items ++ shown c.args.found.now.name.now) ++ codes " ") ++ shown
+    c.args.found.now.version.now)
     ++ joined (codes " is hit by ") (map about_value c.args.found.now.hits.items))
     ++ offer_words c.args.found.now.least c.args.found.now.admitted) ++ codes " (")
     ++ shown c.args.found.now.folder.now) ++ codes ")" =

@@ -7,7 +7,9 @@ use Rattle.npm_lock_check.proofs.lines.push_all_unchecked.Goals as goal
 pub loop-unchecked-preserved : goal.loop-unchecked-preserved
 loop-unchecked-preserved c =
     let more : c.extend_from_slice.new.self.items
-    ≡ (c.loop-unchecked.lines.items ++ unchecked_text c.args.format (unchecked_value c.unchecked-item.result)) ++ (10 ∷ []) =
+    ≡ (c.loop-unchecked.lines.items ++ unchecked_text c.args.format (unchecked_value c.unchecked-item.result)) ++
+    (10 ∷ []) =
     rw (c.in_ok-push_unchecked.ensures) at c.in_ok-extend_from_slice.ensures.items in
-    line_more unchecked_value (unchecked_text c.args.format) _ _ _ _ _ c.unchecked-item.result c.loop-unchecked-test.true
+    line_more unchecked_value (unchecked_text c.args.format) _ _ _ _ _ c.unchecked-item.result
+    c.loop-unchecked-test.true
     c.unchecked-item.is more c.loop-unchecked.invariant

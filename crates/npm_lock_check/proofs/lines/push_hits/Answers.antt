@@ -11,7 +11,8 @@ loop-one-preserved c =
     let made = c.in_ok-push_hit.ensures in
     let more : c.extend_from_slice.new.self.items ≡ (c.loop-one.lines.items ++ made.0) ++ (10 ∷ []) =
     rw made.2 at c.in_ok-extend_from_slice.ensures.items in
-    lines_more found_value (IsHitLine c.args.format) _ _ _ _ _ _ c.one-item.result c.loop-one-test.true c.one-item.is made.1 more
+    lines_more found_value (IsHitLine c.args.format) _ _ _ _ _ _ c.one-item.result c.loop-one-test.true c.one-item.is
+    made.1 more
     c.loop-one.invariant
 
 pub returns : goal.returns

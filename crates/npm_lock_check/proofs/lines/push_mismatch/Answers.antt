@@ -9,7 +9,9 @@ use Rattle.npm_lock_check.proofs.lines.push_mismatch.Goals as goal
 
 pub returns-in_ok-text-in-Json : goal.returns-in_ok-text-in-Json
 returns-in_ok-text-in-Json c =
-    let text : string_bytes c.in_ok-text-in-Json.text ≡ compact_text (mismatch_data (mismatch_value c.args.mismatch.now)) =
+    let text : string_bytes c.in_ok-text-in-Json.text ≡ compact_text
+    (mismatch_data (mismatch_value c.args.mismatch.now)) =
     rw c.in_ok-to_json-in-Json.ensures
-    at (c.in_ok-text-in-Json.ensures.text (rw c.in_ok-to_json-in-Json.ensures (no_float_mismatch (mismatch_value c.args.mismatch.now)))) in
+    at (c.in_ok-text-in-Json.ensures.text (rw c.in_ok-to_json-in-Json.ensures
+    (no_float_mismatch (mismatch_value c.args.mismatch.now)))) in
     grind (arith, common_steps, text, c.as_bytes.ensures.value)

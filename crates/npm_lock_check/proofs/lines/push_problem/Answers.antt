@@ -11,5 +11,6 @@ pub returns-in_ok-text-in-Json : goal.returns-in_ok-text-in-Json
 returns-in_ok-text-in-Json c =
     let text : string_bytes c.in_ok-text-in-Json.text ≡ compact_text (problem_data (problem_value c.args.problem.now)) =
     rw c.in_ok-to_json-in-Json.ensures
-    at (c.in_ok-text-in-Json.ensures.text (rw c.in_ok-to_json-in-Json.ensures (no_float (problem_value c.args.problem.now)))) in
+    at (c.in_ok-text-in-Json.ensures.text (rw c.in_ok-to_json-in-Json.ensures
+    (no_float (problem_value c.args.problem.now)))) in
     grind (arith, common_steps, text, c.as_bytes.ensures.value)

@@ -9,7 +9,9 @@ use Rattle.npm_lock_check.proofs.lines.push_unchecked.Goals as goal
 
 pub returns-in_ok-text-in-Json : goal.returns-in_ok-text-in-Json
 returns-in_ok-text-in-Json c =
-    let text : string_bytes c.in_ok-text-in-Json.text ≡ compact_text (unchecked_data (unchecked_value c.args.unchecked.now)) =
+    let text : string_bytes c.in_ok-text-in-Json.text ≡ compact_text
+    (unchecked_data (unchecked_value c.args.unchecked.now)) =
     rw c.in_ok-to_json-in-Json.ensures
-    at (c.in_ok-text-in-Json.ensures.text (rw c.in_ok-to_json-in-Json.ensures (no_float_unchecked (unchecked_value c.args.unchecked.now)))) in
+    at (c.in_ok-text-in-Json.ensures.text (rw c.in_ok-to_json-in-Json.ensures
+    (no_float_unchecked (unchecked_value c.args.unchecked.now)))) in
     grind (arith, common_steps, text, c.as_bytes.ensures.value)

@@ -1,5 +1,6 @@
 -- The first of three texts that is a version counts.
-use Rattle.std.proofs.Common.{◌≡◌, ◌++◌, [], ℕ, List, Option, Some, None, Result, Err, MatchOption, codes, rules, append-nil}
+use Rattle.std.proofs.Common.{◌≡◌, ◌++◌, [], ℕ, List, Option, Some, None, Result, Err, MatchOption, codes, rules}
+use Rattle.std.proofs.Common.{append-nil}
 use Rattle.std.specs.Option.{ok_or}
 use Rattle.node_semver.specs.Versions.{IsVersionText, VersionValue}
 use Rattle.npm_lock_check.specs.NodeVersion.{IsNode, IsNoVersion, no_memory, no_minor, no_patch, no_version, whole}
@@ -41,6 +42,7 @@ ended text (Some v) r first second third is = rw is (no_minor v first second thi
 pub returns : goal.returns
 returns c =
     let first : IsNoVersion (c.args.text.now ++ []) = rw c.in_default.is at c.in_ok-version.ensures.version in
-    let second : IsNoVersion (c.args.text.now ++ codes ".0") = rw c.in_default-2.is at c.in_ok-version-2.ensures.version in
+    let second : IsNoVersion (c.args.text.now ++ codes ".0") = rw c.in_default-2.is at c.in_ok-version-2.ensures.version
+    in
     ended c.args.text.now c.in_ok-version_with.field-0 c.ok_or.result (rw (append-nil c.args.text.now) at first) second
     c.in_ok-version_with.ensures.version c.ok_or.ensures.value

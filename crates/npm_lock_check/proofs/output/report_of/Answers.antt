@@ -37,7 +37,8 @@ returns-in-Ok-lines_of-clause-found c =
         problems = rw made at c.in_ok-problems.ensures.found;
         hit = rw made at c.in-Ok.ensures.found;
         audited = c.is_some.ensures ∙ some_same (λ file. view file.now) c.args.wanted.advisories;
-        hits = c.len.ensures ∙ sym (rw c.deref.ensures.value at c.deref.ensures.len) ∙ length_same found_value c.in-Ok.found.items;
+        hits = c.len.ensures ∙ sym (rw c.deref.ensures.value at c.deref.ensures.len) ∙ length_same found_value
+            c.in-Ok.found.items;
       },
       rw c.deref.ensures.value at c.in-Ok-lines_of.ensures,
     )

@@ -30,7 +30,8 @@ returns-in_err-report-clause-refused g c =
 pub returns-in_err-map_err-clause-write : goal.returns-in_err-map_err-clause-write
 returns-in_err-map_err-clause-write g c = λ told.
     let error = was_err _ c.write_all.result c.map_err.result _ c.map_err.ensures.cases c.in_err-map_err.was in
-    let failed : IsSome c.write_all.new.self.failure = rw (c.write_all.ensures.failure, error.1) (some_of c.args.writer.now.failure _) in
+    let failed : IsSome c.write_all.new.self.failure = rw (c.write_all.ensures.failure, error.1)
+    (some_of c.args.writer.now.failure _) in
     let made = c.in_ok-report.ensures.found in
     let reported : IsReported g.R.Read.remaining c.args.reader.now c.read_json.new.reader (wanted_value c.args.wanted)
     c.in_ok-report.report made.0 = record {

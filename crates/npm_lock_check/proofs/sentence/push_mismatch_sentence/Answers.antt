@@ -33,7 +33,8 @@ returns c =
       c.as_str.ensures.value,
     ) refl in
     let all = joint ∙ regroup c.args.line.now.items (shown (string_bytes c.args.mismatch.now.name)) (codes " in ")
-    (group_text c.args.mismatch.now.group) (codes " is ") (spec_words (option_map string_bytes c.args.mismatch.now.spec))
+    (group_text c.args.mismatch.now.group) (codes " is ") (spec_words
+    (option_map string_bytes c.args.mismatch.now.spec))
     (codes " in package.json, and ") (spec_words (option_map string_bytes c.args.mismatch.now.locked))
     (codes " in the lock file") in
     last c.extend_from_slice-5.result c.extend_from_slice-5.new.self.items c.push_side-2.new.line.items

@@ -31,7 +31,8 @@ returns c =
       c.in_ok-push_shown.ensures,
       c.as_str.ensures.value,
     ) refl in
-    then_same c.push_asker.result _ _ (c.args.line.now.items ++ said c.args.verdict.now (dependency_value c.args.dependency.now))
+    then_same c.push_asker.result _ _ (c.args.line.now.items ++ said c.args.verdict.now
+    (dependency_value c.args.dependency.now))
     c.push_asker.ensures
     (made ∙ regroup c.args.line.now.items (shown (string_bytes c.args.dependency.now.name))
     (after (codes " ") (option_map string_bytes c.args.dependency.now.version)) c.args.verdict.now

@@ -7,5 +7,6 @@ use Rattle.npm_lock_check.proofs.sync.all_mismatches.Goals as goal
 pub returns-in-Err-Refused-clause-refused : goal.returns-in-Err-Refused-clause-refused
 returns-in-Err-Refused-clause-refused c =
     let told : manifest_fault (view c.args.manifest.now) ≡ Some c.in-Err-Refused.fault =
-    (c.mismatches_of.ensures.refused c.in-Err-Refused.fault).0 (c.in-Err-Refused.is ∙ ap Err c.in-Err-Refused.field-0-is) in
+    (c.mismatches_of.ensures.refused c.in-Err-Refused.fault).0
+    (c.in-Err-Refused.is ∙ ap Err c.in-Err-Refused.field-0-is) in
     inl (c.in-Err-Refused.fault, refl, told)

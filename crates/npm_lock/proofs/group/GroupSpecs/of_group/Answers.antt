@@ -6,6 +6,7 @@ use Rattle.npm_lock.proofs.group.GroupSpecs.of_group.Goals as goal
 
 pub returns-clause-sorted : goal.returns-clause-sorted
 returns-clause-sorted c =
-    let left : left_of (record { next = c.next.result; rest = c.next.new.self }) ≡ members_view c.args.members.now.entries =
+    let left : left_of (record { next = c.next.result; rest = c.next.new.self }) ≡ members_view
+    c.args.members.now.entries =
     search (rules, c.next.ensures.steps, c.iter-rest.ensures.rest) in
     rw left (sorted_keys c.args.members.now.entries c.iter-rest.ensures.ordered)

@@ -27,7 +27,8 @@ returns-in-Some-clause-left c =
     let next : left_of (record { next = c.next-self.result; rest = c.next-self.new.self })
     ≡ members_view c.args.self.now.rest = search (rules, c.next-self.ensures.steps) in
     let sorted = rw c.in-Some.is at c.requires.sorted in
-    rw (c.in-Some.is, next, ← same) (first_taken _ (view c.in-Some.value.now) (members_view c.args.self.now.rest) sorted)
+    rw (c.in-Some.is, next, ← same) (first_taken _ (view c.in-Some.value.now) (members_view c.args.self.now.rest)
+    sorted)
 
 pub returns-in_default-clause-value : goal.returns-in_default-clause-value
 returns-in_default-clause-value c = elim c.in_default.branch [

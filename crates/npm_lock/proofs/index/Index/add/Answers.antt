@@ -27,7 +27,8 @@ loop-part-preserved c =
     }
 
 pub returns-clause-grows : goal.returns-clause-grows
-returns-clause-grows c = grows_twice c.args.self.now c.loop-part.self c.add_part-2.new.self c.loop-part.invariant.grows c.in_ok-add_part.ensures.grows
+returns-clause-grows c = grows_twice c.args.self.now c.loop-part.self c.add_part-2.new.self c.loop-part.invariant.grows
+    c.in_ok-add_part.ensures.grows
 
 pub returns-clause-has : goal.returns-clause-has
 returns-clause-has c =

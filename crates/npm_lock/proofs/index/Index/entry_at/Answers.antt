@@ -22,7 +22,8 @@ loop-part-preserved c =
     let parts = split_parts 47 c.loop-part.rest.now c.split_once.result c.split_once.ensures.cases (omega arith) in
     let cut = rw c.in-Some.is at parts in
     let some : c.part_of.result ≡ Some c.in_ok-at.at = search rules in
-    let there : at_part c.args.self.now c.loop-part.at.number c.in-Some.part.now ≡ Some c.in_ok-at.at = sym c.part_of.ensures ∙ some in
+    let there : at_part c.args.self.now c.loop-part.at.number c.in-Some.part.now ≡ Some c.in_ok-at.at = sym
+    c.part_of.ensures ∙ some in
     record {
       text = search rules;
       led = c.loop-part.invariant.led
@@ -34,4 +35,5 @@ pub returns : goal.returns
 returns c =
     let parts = split_parts 47 c.loop-part.rest.now c.split_once.result c.split_once.ensures.cases (omega arith) in
     let none = rw c.in_default.is at parts in
-    c.part_of-2.ensures ∙ sym (c.loop-part.invariant.led ∙ entry_last c.args.self.now c.loop-part.at c.loop-part.rest.now none)
+    c.part_of-2.ensures ∙ sym (c.loop-part.invariant.led ∙ entry_last c.args.self.now c.loop-part.at
+    c.loop-part.rest.now none)

@@ -32,5 +32,9 @@ places-preserved c =
       own = own_at (packages_data c.args.self) c.args.name.now c.args.places.now c.places.count _ some
           c.places.invariant.within c.args.from.now none c.places.invariant.own;
       each = all_at (IsPlace (packages_data c.args.self) c.args.index.now c.args.from.now) c.args.places.now
-          c.places.count (record { folder = record { ref_ptr = (0, 0); now = [] }; modules = record { number = 0; is_package = false } }) some c.places.invariant.within c.places.invariant.each;
+          c.places.count (record {
+            folder = record { ref_ptr = (0, 0); now = [] };
+            modules = record
+                { number = 0; is_package = false };
+          }) some c.places.invariant.within c.places.invariant.each;
     }

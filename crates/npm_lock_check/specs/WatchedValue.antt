@@ -5,8 +5,8 @@ use Rattle.std.specs.IoError.{error_kind}
 use Rattle.std.specs.declared.io.Error.{Error}
 use Rattle.std.specs.declared.io.ErrorKind.{ErrorKind}
 
--- the reader or writer, and the kind of error of the first call through the gauge that failed, if one did
-pub record GaugeValue (T : Type 0) : Type 0 where
+-- the reader or writer, and the kind of error of the first call that failed, if one did
+pub record WatchedValue (T : Type 0) : Type 0 where
   pub inner : T
   pub failure : Option ErrorKind
 

@@ -3,31 +3,31 @@ ghost use Rattle.std.specs.Prelude.{◌≡◌, ◌+◌, IfOk, None, OnOk, vec_le
 ghost use Rattle.std.specs.Option.{option_or};
 ghost use Rattle.std.specs.Io.{StartsWith, appended_bytes};
 ghost use Rattle.std.specs.Io.KnownBytes.{Appends, Consumes, IsAtEnd};
-ghost use Rattle.npm_lock_check.specs.GaugeValue.{GaugeValue, failure_of};
+ghost use Rattle.npm_lock_check.specs.WatchedValue.{WatchedValue, failure_of};
 
 use std::io;
 use std::io::{ErrorKind, Read, Write};
 use std::marker::Model;
 
-/// A reader or writer, and the kind of error of the first call through the gauge that failed, if one did.
+/// A reader or writer, and the kind of error of the first call through this one that failed, if one did.
 #[derive(Drop)]
-pub struct Gauge<T> {
+pub struct Watched<T> {
     inner: T,
     failure: Option<ErrorKind>,
 }
 
-impl<T> Model for Gauge<T> {
-    ghost Value = { GaugeValue T };
+impl<T> Model for Watched<T> {
+    ghost Value = { WatchedValue T };
 
-    ghost view = { λ gauge. record { inner = gauge.inner; failure = gauge.failure } };
+    ghost view = { λ watched. record { inner = watched.inner; failure = watched.failure } };
 }
 
-impl<T> Gauge<T> {
-    /// Returns a gauge through which no call has failed.
-    pub fn new(inner: T) -> Gauge<T>
+impl<T> Watched<T> {
+    /// Returns one through which no call has failed.
+    pub fn new(inner: T) -> Watched<T>
         ensures { result ≡ (record { inner = inner; failure = None }) }
     {
-        Gauge {
+        Watched {
             inner,
             failure: None,
         }
@@ -49,7 +49,7 @@ impl<T> Gauge<T> {
     }
 }
 
-impl<R: Read> Gauge<R> {
+impl<R: Read> Watched<R> {
     /// Reads to the end.
     pub fn read_to_end(&mut self, bytes: &mut Vec<u8>) -> io::Result<usize>
         ensures count { IfOk result (λ count. vec_len bytes.new ≡ vec_len bytes.old + count) }
@@ -65,7 +65,7 @@ impl<R: Read> Gauge<R> {
     }
 }
 
-impl<W: Write> Gauge<W> {
+impl<W: Write> Watched<W> {
     /// Writes all of these bytes.
     pub fn write_all(&mut self, bytes: &[u8]) -> io::Result<()>
         ensures written { OnOk result (Appends (W.contents self.old.inner) (W.contents self.new.inner) bytes.now) }

@@ -10,8 +10,7 @@ use Rattle.semver_versions.specs.Order.{IsBelow, IsSame}
 use Rattle.semver_versions.specs.Version.{VersionValue}
 
 -- the version is in the list and is wanted. No wanted version of the list is better, and no wanted one before it has
--- the
--- same precedence
+-- the same precedence
 pub record IsFirstBest (IsBetter : VersionValue → VersionValue → Type 0) (Wanted : VersionValue → Type 0)
     (versions : List VersionValue) (best : VersionValue)
     : Type 0 where

@@ -18,8 +18,7 @@ pub record IsNpmRefusal (options : NpmOptions) (text : List ℕ) (e : SemverErro
 
 -- White space outside ASCII counts as a space. Unless it is out of memory, the text is refused exactly where npm's
 -- reading refuses it; otherwise a version satisfies the range, or with prereleases included lies inside one of its
--- sets,
--- exactly where the text admits it
+-- sets, exactly where the text admits it
 pub record IsNpmRangeAnswer (options : NpmOptions) (text : List ℕ)
     (answer : Result (List (Ends VersionValue)) SemverError) : Type 0 where
   pub refused : IfErr answer (λ e. IsOutOfMemory e

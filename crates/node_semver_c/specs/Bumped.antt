@@ -59,8 +59,7 @@ abbrev pub IsRefusal : ℕ → Type 0
 IsRefusal status = (status ≡ NO_IDENTIFIER) ⊎ (status ≡ SAME_IDENTIFIER) ⊎ (status ≡ NUMBER_TOO_LARGE)
 
 -- The handle has the bumped version. Or it is empty: there is no such version, and the status says why; a code is
--- unknown;
--- the text is no identifier; or an allocation failed.
+-- unknown; the text is no identifier; or an allocation failed.
 pub data IsBumpReported (bump : ℕ) (text : List ℕ) (base : ℕ) (v : VersionValue) (status : ℕ)
     (held : Option VersionValue) : Type 0 where
   bumped : (w : VersionValue) → IsBumpedAs bump text base v w → status ≡ OK → held ≡ Some w

@@ -1,6 +1,5 @@
 -- The greatest and the least of the versions of an array that are wanted, by their places. A range wants the versions
--- that
--- it admits or, with prereleases included, those that it contains.
+-- that it admits or, with prereleases included, those that it contains.
 use Rattle.std.specs.Prelude.{◌≡◌, ◌⊎◌, ℕ, List, [], ◌∷◌, length, Option, Some, None}
 use Rattle.std.specs.Option.{option_map}
 use Rattle.std.specs.declared.cmp.Ordering.TheVariants.{Less}

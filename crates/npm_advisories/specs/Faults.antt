@@ -12,8 +12,7 @@ use Rattle.npm_advisories.specs.declared.fault.FaultKind.{FaultKind}
 use Rattle.npm_advisories.specs.declared.fault.FaultKind.TheVariants as Faults
 
 -- What is wrong, and with which advisory. In npm's form this is the name that it stands under, and its place in the
--- list
--- there, from 0; in OSV's form the empty name, and its place in the list
+-- list there, from 0; in OSV's form the empty name, and its place in the list
 pub record FaultValue : Type 0 where
   pub kind : FaultKind
   pub name : List ℕ

@@ -1,7 +1,6 @@
 -- What the contracts of this crate say: all of it that is trusted, in reading order.
 -- `IsAudit` of Audit is the claim of `audit`, `file_fault` of Files says what it refuses, and `found_data` of FoundJson
--- is
--- what is written for a package. All other words are there for these three.
+-- is what is written for a package. All other words are there for these three.
 
 -- ---- the advisories of a file
 pub mod Severities  -- how severe an advisory is

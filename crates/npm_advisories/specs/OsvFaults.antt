@@ -1,6 +1,5 @@
 -- Which values are no OSV advisories that are read. What says which versions are hit has to be as the OSV schema says;
--- what
--- only describes an advisory is passed over if it is not.
+-- what only describes an advisory is passed over if it is not.
 -- See docs/DECISIONS.md, "The faults of a file are a function of a test for version texts".
 use Rattle.std.specs.Prelude.{◌≡◌, ◌||◌, ◌&&◌, ◌+◌, ℕ, List, [], Bool, true, if◌then◌else◌, Option, Some, None}
 use Rattle.std.specs.Prelude.{bytes_eq, codes, is_some, option_and_then, option_map}

@@ -26,8 +26,7 @@ EndsAt (fixed text) cut = (v : VersionValue) × IsVersionText text v × (cut ≡
 EndsAt (last_affected text) cut = (v : VersionValue) × IsVersionText text v × (cut ≡ After v)
 
 -- The version is not before a cut where a fault is introduced, and no end lies after this cut and not after the
--- version:
--- 1.5.0 for `introduced` 1.0.0 and `fixed` 2.0.0, and neither 0.9.0 nor 2.0.0
+-- version: 1.5.0 for `introduced` 1.0.0 and `fixed` 2.0.0, and neither 0.9.0 nor 2.0.0
 pub record IsInEvents (events : List EventValue) (v : VersionValue) : Type 0 where
   pub from : Cut VersionValue
   pub introduced : AnyByRecursion (λ event. Introduces event from) events

@@ -17,8 +17,7 @@ use Rattle.npm_lock.specs.declared.dependents.Dependents.{Dependents}
 use Rattle.npm_lock.specs.RangeText.{SpecValue, in_registry, location, refused, spec_of}
 
 -- The range or the tag that a spec asks for. A URL, a repository, a file or a folder is no range, and neither is a
--- refused
--- spec: both stand as `no range`, which npm refuses as a range
+-- refused spec: both stand as `no range`, which npm refuses as a range
 abbrev pub text_of_spec : SpecValue → List ℕ
 text_of_spec (in_registry text) = text
 text_of_spec location = codes "no range"

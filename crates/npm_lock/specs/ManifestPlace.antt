@@ -1,6 +1,5 @@
 -- A manifest in the place of a package of the lock file: npm's "npm ls" and "npm ci" read the root and each workspace
--- from
--- their manifests.
+-- from their manifests.
 use Rattle.std.specs.Prelude.{ℕ, List, false, if◌then◌else◌, bytes_eq, codes}
 use Rattle.serde_json.specs.Data.{Data, Members, array, boolean, member, no_members, null, number, object, put, string}
 

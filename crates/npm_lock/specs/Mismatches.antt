@@ -65,8 +65,7 @@ is_same (Some spec) None = false
 is_same (Some spec) (Some locked) = bytes_eq spec locked
 
 -- A name of `optionalDependencies` is compared there, and not in `dependencies`: npm takes it out of these when it
--- reads
--- a manifest.
+-- reads a manifest.
 abbrev pub is_compared : (manifest entry : Data) → Group → (name : List ℕ) → Bool
 is_compared manifest entry Dependencies name = not (is_some (spec_of manifest OptionalDependencies name)
     || is_some (spec_of entry OptionalDependencies name))

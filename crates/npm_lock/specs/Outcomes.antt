@@ -22,8 +22,7 @@ use Rattle.npm_lock.specs.Workspaces.{IsWorkspace}
 use Rattle.npm_lock.specs.declared.workspace.Workspace.TheVariants as Workspaces
 
 -- A dependency of a package, and what was found for it: the package in the folder `from` depends on the name by this
--- spec,
--- and the package in `to` was found.
+-- spec, and the package in `to` was found.
 pub record DependencyValue : Type 0 where
   pub from : List ℕ
   pub from_version : Option (List ℕ)
@@ -77,10 +76,9 @@ abbrev pub is_marked : (mark : List ℕ) → (member : Data) → (is_so : Bool) 
 is_marked mark member is_so = has_true mark member || is_so
 
 -- The dependency of the package in this folder on a name, and the package that was found, if one was. It is `dev` if
--- the lock
--- file marks the package so, or the name is in `devDependencies`; `optional` if it marks the package so, or the name
--- need
--- not be found; and `peer` if it marks the package so, or the name is in `peerDependencies`.
+-- the lock file marks the package so, or the name is in `devDependencies`; `optional` if it marks the package so, or
+-- the name
+-- need not be found; and `peer` if it marks the package so, or the name is in `peerDependencies`.
 abbrev pub dependency_of : (folder : List ℕ) → (asker : Data) → (name : List ℕ) → AskedValue → Option Package
     → DependencyValue
 dependency_of folder asker name asked found = record {
@@ -104,8 +102,7 @@ pub record IsLocalPeer (packages : Data) (folder : List ℕ) (is_installed : Boo
 
 -- The verdict on the package that was found for a dependency of the package in this folder. A workspace of the root is
 -- what the root asks for, whatever the spec; if it may be one, the dependency is not checked. Nor is one that
--- `overrides`
--- change in a way that is not read here.
+-- `overrides` change in a way that is not read here.
 pub data IsVerdictOn (folder : List ℕ) (asker : Data) (name : List ℕ) (asked : AskedValue)
     (package_found : Package) : Verdict → Type 0 where
   workspace : IsWorkspace folder asker package_found.folder Workspaces.Is
@@ -120,8 +117,7 @@ pub data IsVerdictOn (folder : List ℕ) (asker : Data) (name : List ℕ) (asked
       → IsVerdictOn folder asker name asked package_found verdict
 
 -- what is found out about a dependency: nothing is wrong; something is, with the package that was found, if one was; or
--- it
--- is not checked
+-- it is not checked
 pub data JudgementValue : Type 0 where
   fine : JudgementValue
   wrong : Kind → Option Package → JudgementValue
@@ -159,8 +155,7 @@ engine_of member = if has_true (codes "optional") member then None
     else option_and_then as_str (option_and_then (get (codes "node")) (get (codes "engines") member))
 
 -- The version of Node does not satisfy the range that the package in this folder has for it. The lock file alone says
--- whether
--- this is `dev`, `optional` or `peer`.
+-- whether this is `dev`, `optional` or `peer`.
 abbrev pub engine_problem : (folder : List ℕ) → (member : Data) → (spec : List ℕ) → VersionValue → ProblemValue
 engine_problem folder member spec node = record {
   kind = Engine;

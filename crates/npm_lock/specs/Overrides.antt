@@ -1,7 +1,6 @@
 -- Which dependencies the `overrides` of the root change: npm's "package.json", "overrides".
 use Rattle.std.specs.Prelude.{◌==◌, ◌||◌, ◌&&◌, not, ℕ, List, [], ◌∷◌, Bool, true, false, if◌then◌else◌, Option, Some}
-use Rattle.std.specs.Prelude.{None}
-use Rattle.std.specs.Prelude.{bytes_eq, codes, length, nat_eq, option_and_then}
+use Rattle.std.specs.Prelude.{None, bytes_eq, codes, length, nat_eq, option_and_then}
 use Rattle.std.specs.List.{starts_with}
 use Rattle.std.specs.Option.{option_map_or}
 use Rattle.serde_json.specs.Data.{Data, Members, member, no_members, object}
@@ -26,8 +25,7 @@ name_of [] = []
 name_of (b ∷ key) = b ∷ before_at_sign key
 
 -- a spec for all versions of a name, as in `{"a": "1.0.0"}`: the key has no range, and the spec is not that of another
--- name,
--- as `$b` is
+-- name, as `$b` is
 abbrev pub is_plain : (key spec : List ℕ) → Bool
 is_plain key spec = bytes_eq (name_of key) key && not (starts_with nat_eq spec (codes "$"))
 

@@ -24,8 +24,7 @@ joined before [] = []
 joined before (about ∷ others) = before ++ (advisory_words about ++ joined (codes ", and by ") others)
 
 -- the version that is offered: the least that no advisory hits and all that ask for the package admit, or else the
--- least
--- that no advisory hits
+-- least that no advisory hits
 abbrev pub offer_words : (least admitted : Option VersionValue) → List ℕ
 offer_words least (Some v) = codes "; " ++ (version_text v ++ codes " is not, and satisfies all that ask for it")
 offer_words (Some v) None = codes "; " ++ (version_text v ++ codes " is not, but may not satisfy all that ask for it")

@@ -72,8 +72,7 @@ AreNoAdvisories advisories kind name place = (file : Data) × (advisories ≡ So
 
 -- Why a lock file was not checked: what was read begins with a byte order mark, or is not in UTF-8, or is no JSON text,
 -- or its value, the manifest or the advisories have a fault, or a read failed, or memory ran out. It ran out in a read
--- whose
--- error says so, or later: then all was read, and it is in UTF-8 and not empty.
+-- whose error says so, or later: then all was read, and it is in UTF-8 and not empty.
 abbrev pub IsStopped : {R : Type 0} → (remaining : R → Option (List ℕ)) → (wanted : WantedValue)
     → (old new : WatchedValue R) → RunError → Type 0
 IsStopped remaining wanted old new NoUtf8 =

@@ -34,8 +34,7 @@ use Rattle.npm_lock_check.specs.declared.wanted.Wanted.{Wanted}
 
 -- what a check is asked for: the manifest of the root, the advisories, and the least severity of those that count; the
 -- version of Node that each package is checked with, the kinds of problems that are left out, whether dependencies that
--- are
--- not checked are listed, and the format
+-- are not checked are listed, and the format
 pub record WantedValue : Type 0 where
   pub manifest : Option Data
   pub advisories : Option Data
@@ -60,8 +59,7 @@ wanted_value wanted = record {
 -- ---- the manifest
 
 -- the lock file has `packages`, as one of version 2 or 3 has; one of version 1 has none, and does not say what its root
--- asks
--- for
+-- asks for
 abbrev pub has_packages : (lock : Data) → Bool
 has_packages lock = is_some (get (codes "packages") lock)
 
@@ -138,8 +136,7 @@ unchecked_text Text unchecked = unchecked_sentence unchecked
 unchecked_text Json unchecked = compact_text (unchecked_data unchecked)
 
 -- The line of a package that is hit. An advisory may have a number with a fraction as its `id`: then the JSON text is
--- not
--- fixed here, but it reads back as the object.
+-- not fixed here, but it reads back as the object.
 pub record IsJsonLine (value : Data) (line : List ℕ) : Type 0 where
   pub compact : has_float value ≡ false → line ≡ compact_text value
   pub reads : depth value ≤ max_depth → read line ≡ Some value
@@ -160,8 +157,7 @@ pub data AreLines {V : Type 0} (IsLine : V → List ℕ → Type 0) : List V →
       → AreLines IsLine (one ∷ others) (line ++ (10 ∷ text))
 
 -- All that is written: a line for each mismatch, for each problem, for each package that is hit and, if that is asked
--- for,
--- for each dependency that is not checked.
+-- for, for each dependency that is not checked.
 abbrev pub report_text : WantedValue → Report → (hit_lines : List ℕ) → List ℕ
 report_text wanted report hit_lines = lines (mismatch_text wanted.format) (map mismatch_value report.mismatches.items)
     ++ (lines (line_text wanted.format) (map problem_value report.problems.list.items)

@@ -52,8 +52,7 @@ pub record IsShortSearch (sets : List (Ends VersionValue)) (v : VersionValue) (b
   pub admitted : RangeAdmits sets v → before + 2 ≤ after
 
 -- The count never falls. For any version, also a prerelease, it grows by at most the number of binary digits of the
--- number
--- of merged spans, plus one. For a version that the range contains it grows by at least two.
+-- number of merged spans, plus one. For a version that the range contains it grows by at least two.
 pub record IsShortSearchInside (sets : List (Ends VersionValue)) (v : VersionValue) (before after : ℕ) : Type 0 where
   pub adds : before ≤ after
   pub short : (digits : ℕ) → HasDigits (count_of_starts version_cmp sets) digits → after ≤ before + digits + 1

@@ -1,6 +1,5 @@
 -- The least version that one range has and another has not, from the best of the candidates; and that a range has a
--- version
--- or has it not.
+-- version or has it not.
 use native.Mathlib.Omega.{arith}
 use Rattle.std.proofs.Common.{◌≡◌, ◌↔◌, ◌⊎◌, Bool, true, false, List, [], ◌∷◌, Option, Some}
 use Rattle.std.specs.List.{list_any}

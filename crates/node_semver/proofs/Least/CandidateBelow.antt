@@ -1,6 +1,5 @@
 -- The least version that is wanted, of those that one list of sets admits: for each wanted version some candidate that
--- is
--- wanted is not above it.
+-- is wanted is not above it.
 use native.Mathlib.Omega.{arith}
 use Rattle.std.proofs.lemmas.Grind.{common_steps}
 use Rattle.std.proofs.Common.{◌≡◌, Bool, true, false, List, [], ◌∷◌, Option, Some, None, refl, inl, inr, subst, Less}

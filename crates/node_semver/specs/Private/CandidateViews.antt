@@ -38,8 +38,7 @@ first_of true = least_of
 first_of false = release
 
 -- at the cut after a prerelease: the next prerelease and the release of its triple; after a release: the first of the
--- next
--- triple
+-- next triple
 abbrev pub after_by : Bool → VersionValue → List IdentifierValue → List VersionValue
 after_by included v [] = first_of included v.major v.minor (v.patch + 1) ∷ []
 after_by included v (identifier ∷ identifiers) = with_zero v ∷ release v.major v.minor v.patch ∷ []

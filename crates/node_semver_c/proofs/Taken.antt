@@ -1,7 +1,6 @@
 -- `into_raw_box` of any handle that owns its value: it hands the pointer over, with the right to free what lies there;
 -- or nothing, where it is null. `function` is its MIR, and `ended` and `clauses` are its contract, over the handle and
--- the
--- type R that it owns. Assumes `Logic`.
+-- the type R that it owns. Assumes `Logic`.
 use Rattle.std.proofs.Common.{◌≡◌, List, [], ◌∷◌, ◌++◌, refl, sym, ap, ◌∙◌, subst}
 use lib.Dec.{lit<}
 use seplogic.Ra.Ura.{Ura}

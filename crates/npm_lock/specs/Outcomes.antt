@@ -77,8 +77,7 @@ is_marked mark member is_so = has_true mark member || is_so
 
 -- The dependency of the package in this folder on a name, and the package that was found, if one was. It is `dev` if
 -- the lock file marks the package so, or the name is in `devDependencies`; `optional` if it marks the package so, or
--- the name
--- need not be found; and `peer` if it marks the package so, or the name is in `peerDependencies`.
+-- the name need not be found; and `peer` if it marks the package so, or the name is in `peerDependencies`.
 abbrev pub dependency_of : (folder : List ℕ) → (asker : Data) → (name : List ℕ) → AskedValue → Option Package
     → DependencyValue
 dependency_of folder asker name asked found = record {

@@ -72,8 +72,7 @@ arguments_of (word ∷ text ∷ rest) = if takes_value word
 
 -- What is shown in place of a check, the text after `--node`, the format, the kinds after `--ignore`, whether
 -- dependencies that are not checked are listed, the texts after `--manifest` and `--advisories`, the least severity of
--- advisories,
--- and the file.
+-- advisories, and the file.
 pub record ArgumentsValue : Type 0 where
   pub shown : Option Shown
   pub node : Option (List ℕ)

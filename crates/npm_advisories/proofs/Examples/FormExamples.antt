@@ -62,8 +62,7 @@ a_list_is_osvs_form = refl
 
 pub the_database_gives_the_severity : advisories_of (object (member (codes "affected") (array
     (item (element (codes "npm") no_items) no_items)) (member (codes "database_specific")
-    (only (codes "severity") (string (codes "HIGH"))) (member (codes "id") (string (codes "O")) no_members)))) ≡ record
-        {
+    (only (codes "severity") (string (codes "HIGH"))) (member (codes "id") (string (codes "O")) no_members)))) ≡ record {
       name = codes "a";
       about = record { id = string (codes "O"); severity = High; title = None; url = None };
       affected = in_osv [] [];

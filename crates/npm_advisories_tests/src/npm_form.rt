@@ -74,7 +74,14 @@ fn finds_the_advisories_that_hit(rt: HostRuntime) -> Result<(), Fail> {
         high.as_str(),
         r#"{"advisories":[{"id":3,"severity":"unknown"}],"folder":"lodash","least":"4.17.22","name":"lodash","version":"4.17.11"};"#
     );
-    // A prerelease inside the range is hit, and a release is offered.
+    Ok(())
+}
+
+// A prerelease inside the range is hit, and a release is offered.
+#[test]
+fn offers_a_release_for_a_prerelease(rt: HostRuntime) -> Result<(), Fail> {
+    let alloc = rt.alloc();
+    let file = Value::from_str(alloc, FILE)?;
     let prerelease = found(
         alloc,
         &file,
@@ -126,46 +133,47 @@ fn fault(alloc: Global, text: &str) -> Result<String, Fail> {
     Ok(answer)
 }
 
+const FAULTS: [(&str, &str); 13] = [
+    ("{}", "read"),
+    ("1", "File  0"),
+    ("[]", "read"),
+    (r#"{"a": {}}"#, "List a 0"),
+    (r#"{"a": [], "b": [1]}"#, "Advisory b 0"),
+    (r#"{"a": [{"vulnerable_versions": "*"}]}"#, "Id a 0"),
+    (
+        r#"{"a": [{"id": [], "vulnerable_versions": "*"}]}"#,
+        "Id a 0",
+    ),
+    (
+        r#"{"a": [{"id": 1, "vulnerable_versions": "*"}, {"id": 1}]}"#,
+        "RangeText a 1",
+    ),
+    (
+        r#"{"a": [{"id": 1, "vulnerable_versions": "foo"}]}"#,
+        "Range a 0",
+    ),
+    (
+        r#"{"a": [{"id": 1, "vulnerable_versions": "<1", "severity": 1}]}"#,
+        "Severity a 0",
+    ),
+    (
+        r#"{"a": [{"id": 1, "vulnerable_versions": "<1", "title": {}}]}"#,
+        "Title a 0",
+    ),
+    (
+        r#"{"a": [{"id": 1, "vulnerable_versions": "<1", "url": []}]}"#,
+        "Url a 0",
+    ),
+    (
+        r#"{"a": [{"id": 1, "vulnerable_versions": "<1", "url": null}]}"#,
+        "read",
+    ),
+];
+
 #[test]
 fn refuses_what_are_no_advisories(rt: HostRuntime) -> Result<(), Fail> {
     let alloc = rt.alloc();
-    let rows = [
-        ("{}", "read"),
-        ("1", "File  0"),
-        ("[]", "read"),
-        (r#"{"a": {}}"#, "List a 0"),
-        (r#"{"a": [], "b": [1]}"#, "Advisory b 0"),
-        (r#"{"a": [{"vulnerable_versions": "*"}]}"#, "Id a 0"),
-        (
-            r#"{"a": [{"id": [], "vulnerable_versions": "*"}]}"#,
-            "Id a 0",
-        ),
-        (
-            r#"{"a": [{"id": 1, "vulnerable_versions": "*"}, {"id": 1}]}"#,
-            "RangeText a 1",
-        ),
-        (
-            r#"{"a": [{"id": 1, "vulnerable_versions": "foo"}]}"#,
-            "Range a 0",
-        ),
-        (
-            r#"{"a": [{"id": 1, "vulnerable_versions": "<1", "severity": 1}]}"#,
-            "Severity a 0",
-        ),
-        (
-            r#"{"a": [{"id": 1, "vulnerable_versions": "<1", "title": {}}]}"#,
-            "Title a 0",
-        ),
-        (
-            r#"{"a": [{"id": 1, "vulnerable_versions": "<1", "url": []}]}"#,
-            "Url a 0",
-        ),
-        (
-            r#"{"a": [{"id": 1, "vulnerable_versions": "<1", "url": null}]}"#,
-            "read",
-        ),
-    ];
-    for (text, wanted) in &rows {
+    for (text, wanted) in &FAULTS {
         assert_eq!(rt; fault(alloc, text)?.as_str(), *wanted, "{text}");
     }
     Ok(())

@@ -42,44 +42,45 @@ fn about_a(alloc: Global, members: &str) -> Result<Value, Fail> {
     Ok(Value::from_str(alloc, text.as_str())?)
 }
 
+// events; versions that are hit; versions that are not
+const EVENTS: [(&str, &str, &str); 8] = [
+    (
+        r#"{"introduced": "1.0.0"}, {"fixed": "2.0.0"}"#,
+        "1.0.0 1.0.1-a 1.5.0+b 2.0.0-rc.1",
+        "0.9.9 1.0.0-rc.1 2.0.0 2.0.1",
+    ),
+    (
+        r#"{"introduced": "0"}, {"fixed": "1.2.3-b"}"#,
+        "0.0.0-0 1.2.3-a",
+        "1.2.3-b 1.2.3",
+    ),
+    (
+        r#"{"introduced": "1.0.0"}, {"last_affected": "1.2.0"}"#,
+        "1.0.0 1.2.0 1.2.0+b",
+        "1.2.1-0 0.1.0",
+    ),
+    (r#"{"introduced": "1.0.0"}"#, "1.0.0 99.0.0", "0.9.9"),
+    // The order of the events does not matter.
+    (
+        r#"{"fixed": "4.0.0"}, {"fixed": "2.0.0"}, {"introduced": "3.0.0"}, {"introduced": "1.0.0"}"#,
+        "1.0.0 1.9.9 3.0.0 3.9.9",
+        "0.9.9 2.0.0 2.9.9 4.0.0",
+    ),
+    // An end at the place where a fault is introduced lies not after it.
+    (
+        r#"{"introduced": "1.0.0"}, {"fixed": "2.0.0"}, {"introduced": "2.0.0"}, {"fixed": "3.0.0"}"#,
+        "1.0.0 2.0.0 2.5.0",
+        "3.0.0",
+    ),
+    (r#"{"fixed": "2.0.0"}"#, "", "1.0.0 2.0.0"),
+    ("", "", "1.0.0"),
+];
+
 // OSV schema, "affected[].ranges[].events" and "Evaluation".
 #[test]
 fn hits_what_lies_between_events(rt: HostRuntime) -> Result<(), Fail> {
     let alloc = rt.alloc();
-    // events; versions that are hit; versions that are not
-    let rows = [
-        (
-            r#"{"introduced": "1.0.0"}, {"fixed": "2.0.0"}"#,
-            "1.0.0 1.0.1-a 1.5.0+b 2.0.0-rc.1",
-            "0.9.9 1.0.0-rc.1 2.0.0 2.0.1",
-        ),
-        (
-            r#"{"introduced": "0"}, {"fixed": "1.2.3-b"}"#,
-            "0.0.0-0 1.2.3-a",
-            "1.2.3-b 1.2.3",
-        ),
-        (
-            r#"{"introduced": "1.0.0"}, {"last_affected": "1.2.0"}"#,
-            "1.0.0 1.2.0 1.2.0+b",
-            "1.2.1-0 0.1.0",
-        ),
-        (r#"{"introduced": "1.0.0"}"#, "1.0.0 99.0.0", "0.9.9"),
-        // The order of the events does not matter.
-        (
-            r#"{"fixed": "4.0.0"}, {"fixed": "2.0.0"}, {"introduced": "3.0.0"}, {"introduced": "1.0.0"}"#,
-            "1.0.0 1.9.9 3.0.0 3.9.9",
-            "0.9.9 2.0.0 2.9.9 4.0.0",
-        ),
-        // An end at the place where a fault is introduced lies not after it.
-        (
-            r#"{"introduced": "1.0.0"}, {"fixed": "2.0.0"}, {"introduced": "2.0.0"}, {"fixed": "3.0.0"}"#,
-            "1.0.0 2.0.0 2.5.0",
-            "3.0.0",
-        ),
-        (r#"{"fixed": "2.0.0"}"#, "", "1.0.0 2.0.0"),
-        ("", "", "1.0.0"),
-    ];
-    for (events, hit, spared) in &rows {
+    for (events, hit, spared) in &EVENTS {
         let members = format!(in alloc;
             r#""ranges": [{{"type": "SEMVER", "events": [{}]}}]"#,
             events

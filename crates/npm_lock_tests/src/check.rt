@@ -331,60 +331,61 @@ fn is_problem(found: &Problem, wanted: &(Kind, &str, &str)) -> bool {
         && found.dependency.name.as_str() == wanted.2
 }
 
+const FAULTS: [(&str, Fault); 15] = [
+    ("{}", Fault::Version),
+    ("[]", Fault::Version),
+    (
+        r#"{"lockfileVersion": "3", "packages": {}}"#,
+        Fault::Version,
+    ),
+    (
+        r#"{"lockfileVersion": 1, "dependencies": {}}"#,
+        Fault::Version,
+    ),
+    (
+        r#"{"lockfileVersion": 3.5, "packages": {}}"#,
+        Fault::Version,
+    ),
+    (r#"{"lockfileVersion": 2}"#, Fault::Packages),
+    (r#"{"lockfileVersion": 2, "packages": []}"#, Fault::Packages),
+    (
+        r#"{"lockfileVersion": 2, "packages": {"": 1}}"#,
+        Fault::Package,
+    ),
+    (
+        r#"{"lockfileVersion": 2, "packages": {"a": {"link": true}}}"#,
+        Fault::Link,
+    ),
+    (
+        r#"{"lockfileVersion": 2, "packages": {"a": {"link": true, "resolved": "b"}}}"#,
+        Fault::Link,
+    ),
+    (
+        r#"{"lockfileVersion": 2, "packages": {"a": {"link": true, "resolved": "a"}}}"#,
+        Fault::Link,
+    ),
+    (
+        r#"{"lockfileVersion": 2, "packages": {"": {"version": 1}}}"#,
+        Fault::PackageVersion,
+    ),
+    (
+        r#"{"lockfileVersion": 2, "packages": {"": {"dependencies": []}}}"#,
+        Fault::Dependencies,
+    ),
+    (
+        r#"{"lockfileVersion": 3.0, "packages": {"": {"dependencies": false}}}"#,
+        Fault::Dependencies,
+    ),
+    (
+        r#"{"lockfileVersion": 2, "packages": {"": {"dependencies": {"a": 1}}}}"#,
+        Fault::Spec,
+    ),
+];
+
 // The texts are no lock files, each for its fault.
 #[test]
 fn refuses_what_is_no_lock_file(rt: HostRuntime) -> Result<(), Fail> {
-    let rows = [
-        ("{}", Fault::Version),
-        ("[]", Fault::Version),
-        (
-            r#"{"lockfileVersion": "3", "packages": {}}"#,
-            Fault::Version,
-        ),
-        (
-            r#"{"lockfileVersion": 1, "dependencies": {}}"#,
-            Fault::Version,
-        ),
-        (
-            r#"{"lockfileVersion": 3.5, "packages": {}}"#,
-            Fault::Version,
-        ),
-        (r#"{"lockfileVersion": 2}"#, Fault::Packages),
-        (r#"{"lockfileVersion": 2, "packages": []}"#, Fault::Packages),
-        (
-            r#"{"lockfileVersion": 2, "packages": {"": 1}}"#,
-            Fault::Package,
-        ),
-        (
-            r#"{"lockfileVersion": 2, "packages": {"a": {"link": true}}}"#,
-            Fault::Link,
-        ),
-        (
-            r#"{"lockfileVersion": 2, "packages": {"a": {"link": true, "resolved": "b"}}}"#,
-            Fault::Link,
-        ),
-        (
-            r#"{"lockfileVersion": 2, "packages": {"a": {"link": true, "resolved": "a"}}}"#,
-            Fault::Link,
-        ),
-        (
-            r#"{"lockfileVersion": 2, "packages": {"": {"version": 1}}}"#,
-            Fault::PackageVersion,
-        ),
-        (
-            r#"{"lockfileVersion": 2, "packages": {"": {"dependencies": []}}}"#,
-            Fault::Dependencies,
-        ),
-        (
-            r#"{"lockfileVersion": 3.0, "packages": {"": {"dependencies": false}}}"#,
-            Fault::Dependencies,
-        ),
-        (
-            r#"{"lockfileVersion": 2, "packages": {"": {"dependencies": {"a": 1}}}}"#,
-            Fault::Spec,
-        ),
-    ];
-    for (text, fault) in rows {
+    for (text, fault) in FAULTS {
         let lock = Value::from_str(rt.alloc(), text)?;
         assert!(rt;
             check(rt.alloc(), &lock, None) == Err(CheckError::Refused(fault)),

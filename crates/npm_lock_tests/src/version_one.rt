@@ -124,105 +124,106 @@ fn finds_the_problems_of_version_one(rt: HostRuntime) -> Result<(), Fail> {
     Ok(())
 }
 
+const FAULTS: [(&str, &str, Fault); 24] = [
+    ("{}", "{}", Fault::Version),
+    ("null", "{}", Fault::Version),
+    (r#"{"lockfileVersion": 0}"#, "{}", Fault::Version),
+    (r#"{"lockfileVersion": "1"}"#, "{}", Fault::Version),
+    (
+        r#"{"lockfileVersion": null, "dependencies": {}}"#,
+        "{}",
+        Fault::Version,
+    ),
+    (
+        r#"{"lockfileVersion": 1, "packages": {}}"#,
+        "{}",
+        Fault::Version,
+    ),
+    (
+        r#"{"dependencies": {}, "packages": {}}"#,
+        "{}",
+        Fault::Version,
+    ),
+    (
+        r#"{"lockfileVersion": 3, "dependencies": {}}"#,
+        "{}",
+        Fault::Packages,
+    ),
+    (
+        r#"{"lockfileVersion": 1, "dependencies": []}"#,
+        "{}",
+        Fault::Dependencies,
+    ),
+    (r#"{"dependencies": 1}"#, "{}", Fault::Dependencies),
+    (r#"{"dependencies": {"a": "^1"}}"#, "{}", Fault::Entry),
+    (
+        r#"{"dependencies": {"a": {"dependencies": {"b": null}}}}"#,
+        "{}",
+        Fault::Entry,
+    ),
+    (
+        r#"{"dependencies": {"a": {"dependencies": {"b": {"dependencies": ""}}}}}"#,
+        "{}",
+        Fault::Dependencies,
+    ),
+    (
+        r#"{"dependencies": {"a": {"version": 1}}}"#,
+        "{}",
+        Fault::PackageVersion,
+    ),
+    (
+        r#"{"dependencies": {"a": {"version": null}}}"#,
+        "{}",
+        Fault::PackageVersion,
+    ),
+    (
+        r#"{"dependencies": {"a": {"requires": []}}}"#,
+        "{}",
+        Fault::Dependencies,
+    ),
+    (
+        r#"{"dependencies": {"a": {"requires": {"b": true}}}}"#,
+        "{}",
+        Fault::Spec,
+    ),
+    (
+        r#"{"dependencies": {"a": {"requires": []}, "b": 1}}"#,
+        "{}",
+        Fault::Dependencies,
+    ),
+    (
+        r#"{"dependencies": {"a": {"dependencies": {"b": {}}}, "c": 1}}"#,
+        "[]",
+        Fault::Entry,
+    ),
+    (r#"{"dependencies": {}}"#, "[]", Fault::Manifest),
+    (
+        r#"{"dependencies": {}}"#,
+        r#"{"link": true}"#,
+        Fault::Manifest,
+    ),
+    (
+        r#"{"dependencies": {}}"#,
+        r#"{"version": 1}"#,
+        Fault::PackageVersion,
+    ),
+    (
+        r#"{"dependencies": {}}"#,
+        r#"{"devDependencies": []}"#,
+        Fault::Dependencies,
+    ),
+    (
+        r#"{"dependencies": {}}"#,
+        r#"{"dependencies": {"a": 1}}"#,
+        Fault::Spec,
+    ),
+];
+
 // Each row is a lock file, its manifest, and the fault.
 #[test]
 fn refuses_what_is_no_version_one(rt: HostRuntime) -> Result<(), Fail> {
     let alloc = rt.alloc();
-    let rows = [
-        ("{}", "{}", Fault::Version),
-        ("null", "{}", Fault::Version),
-        (r#"{"lockfileVersion": 0}"#, "{}", Fault::Version),
-        (r#"{"lockfileVersion": "1"}"#, "{}", Fault::Version),
-        (
-            r#"{"lockfileVersion": null, "dependencies": {}}"#,
-            "{}",
-            Fault::Version,
-        ),
-        (
-            r#"{"lockfileVersion": 1, "packages": {}}"#,
-            "{}",
-            Fault::Version,
-        ),
-        (
-            r#"{"dependencies": {}, "packages": {}}"#,
-            "{}",
-            Fault::Version,
-        ),
-        (
-            r#"{"lockfileVersion": 3, "dependencies": {}}"#,
-            "{}",
-            Fault::Packages,
-        ),
-        (
-            r#"{"lockfileVersion": 1, "dependencies": []}"#,
-            "{}",
-            Fault::Dependencies,
-        ),
-        (r#"{"dependencies": 1}"#, "{}", Fault::Dependencies),
-        (r#"{"dependencies": {"a": "^1"}}"#, "{}", Fault::Entry),
-        (
-            r#"{"dependencies": {"a": {"dependencies": {"b": null}}}}"#,
-            "{}",
-            Fault::Entry,
-        ),
-        (
-            r#"{"dependencies": {"a": {"dependencies": {"b": {"dependencies": ""}}}}}"#,
-            "{}",
-            Fault::Dependencies,
-        ),
-        (
-            r#"{"dependencies": {"a": {"version": 1}}}"#,
-            "{}",
-            Fault::PackageVersion,
-        ),
-        (
-            r#"{"dependencies": {"a": {"version": null}}}"#,
-            "{}",
-            Fault::PackageVersion,
-        ),
-        (
-            r#"{"dependencies": {"a": {"requires": []}}}"#,
-            "{}",
-            Fault::Dependencies,
-        ),
-        (
-            r#"{"dependencies": {"a": {"requires": {"b": true}}}}"#,
-            "{}",
-            Fault::Spec,
-        ),
-        (
-            r#"{"dependencies": {"a": {"requires": []}, "b": 1}}"#,
-            "{}",
-            Fault::Dependencies,
-        ),
-        (
-            r#"{"dependencies": {"a": {"dependencies": {"b": {}}}, "c": 1}}"#,
-            "[]",
-            Fault::Entry,
-        ),
-        (r#"{"dependencies": {}}"#, "[]", Fault::Manifest),
-        (
-            r#"{"dependencies": {}}"#,
-            r#"{"link": true}"#,
-            Fault::Manifest,
-        ),
-        (
-            r#"{"dependencies": {}}"#,
-            r#"{"version": 1}"#,
-            Fault::PackageVersion,
-        ),
-        (
-            r#"{"dependencies": {}}"#,
-            r#"{"devDependencies": []}"#,
-            Fault::Dependencies,
-        ),
-        (
-            r#"{"dependencies": {}}"#,
-            r#"{"dependencies": {"a": 1}}"#,
-            Fault::Spec,
-        ),
-    ];
-    for (text, manifest, fault) in rows {
+    for (text, manifest, fault) in FAULTS {
         let lock = Value::from_str(alloc, text)?;
         let manifest = Value::from_str(alloc, manifest)?;
         assert!(rt;

@@ -157,8 +157,8 @@ asked_by (Err error) (argument ∷ rest) = Err error
 asked_by (Ok asked) (argument ∷ rest) = asked_by (asked_with asked argument) rest
 
 -- what the words after the program's name ask for, of which there are at most 1,000
-abbrev pub arguments_of : (words : List (List ℕ)) → Result ArgumentsValue RunError
-arguments_of words = if nat_lt MAX_WORDS (length words) then Err Errors.TooManyWords
+abbrev pub read_arguments : (words : List (List ℕ)) → Result ArgumentsValue RunError
+read_arguments words = if nat_lt MAX_WORDS (length words) then Err Errors.TooManyWords
     else asked_by (Ok nothing_asked) (arguments_of words)
 
 -- ---- what contracts see

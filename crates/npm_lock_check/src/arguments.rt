@@ -76,8 +76,8 @@ enum Name {
 const MAX_WORDS: usize = 1000;
 
 /// Returns what the words after the program's name ask for. Of two values of an option the last one counts.
-pub fn arguments_of<'a>(words: &'a [String]) -> Result<Arguments<'a>, RunError>
-    ensures { arguments_result result ≡ ArgumentRules.arguments_of (map string_bytes words.now) }
+pub fn read_arguments<'a>(words: &'a [String]) -> Result<Arguments<'a>, RunError>
+    ensures { arguments_result result ≡ ArgumentRules.read_arguments (map string_bytes words.now) }
 {
     if MAX_WORDS < words.len() {
         return Err(RunError::TooManyWords);

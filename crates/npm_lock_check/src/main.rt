@@ -25,7 +25,7 @@ mod sync;
 mod wanted;
 mod watched;
 
-use arguments::{Arguments, Format, Shown, arguments_of};
+use arguments::{Arguments, Format, Shown, read_arguments};
 use help::{HELP, VERSION};
 use node::node_of;
 use output::{read_json, run};
@@ -58,7 +58,7 @@ fn answered(rt: &HostRuntime) -> Result<Option<Report>, StopError> {
         .skip(1)
         .collect(rt.alloc())
         .map_err(|_| StopError::Check(RunError::Memory))?;
-    let asked = arguments_of(&words).map_err(StopError::Check)?;
+    let asked = read_arguments(&words).map_err(StopError::Check)?;
     if let Some(shown) = asked.shown {
         show(rt, shown).map_err(StopError::Check)?;
         return Ok(None);

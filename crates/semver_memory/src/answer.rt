@@ -20,7 +20,7 @@ pub(crate) enum Answer {
     Json(Value),
     NotAString,
     Problems(Problems),
-    NoLock(npm_lock::CallError),
+    NoLock(npm_lock::Fault),
 }
 
 impl Answer {

@@ -58,18 +58,18 @@ fn reads_the_rules_of_each_row(rt: HostRuntime) -> Result<(), Fail> {
         let lock = Value::from_str(rt.alloc(), text.as_str())?;
         let found = check(rt.alloc(), &lock, None)?;
         assert!(rt;
-            is_found(&found, "@s/c", wanted.as_bytes()[0]),
+            is_found(&found, "@s/c", wanted.as_bytes().first().copied()),
             "{overrides}: @s/c"
         );
         assert!(rt;
-            is_found(&found, "b", wanted.as_bytes()[1]),
+            is_found(&found, "b", wanted.as_bytes().get(1).copied()),
             "{overrides}: b"
         );
     }
     Ok(())
 }
 
-fn is_found(found: &Problems, name: &str, sign: u8) -> bool {
+fn is_found(found: &Problems, name: &str, sign: Option<u8>) -> bool {
     let is_wrong = found
         .list
         .iter()
@@ -78,7 +78,7 @@ fn is_found(found: &Problems, name: &str, sign: u8) -> bool {
         .unchecked
         .iter()
         .any(|unchecked| unchecked.dependency.name.as_str() == name);
-    is_wrong == (sign == b'-') && is_unchecked == (sign == b'?')
+    is_wrong == (sign == Some(b'-')) && is_unchecked == (sign == Some(b'?'))
 }
 
 // The root, peers and what lies in other packages are changed too. What is missing is a problem whatever the spec, and so

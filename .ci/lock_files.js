@@ -137,6 +137,7 @@ const rows = [
   workspaces(['w'], 'w'), workspaces(['w'], 'w', { version: '2.1.0-alpha.1' }), workspaces({ packages: ['w'] }, 'w'),
   workspaces(['./w'], 'w'), workspaces(['*'], 'w'), workspaces(['*'], 'v/w'), workspaces(['v/*'], 'v/w'),
   workspaces(['v/*'], 'v/u/w'), workspaces(['v/**'], 'v/u/w'), workspaces(['**'], 'v/u/w'), workspaces(['*'], '.w'),
+  workspaces(['v/**'], 'v'), workspaces(['v/*'], 'v'), workspaces(['v/**'], 'v/.u/w'), workspaces(['v/**'], 'v/u/.w'), workspaces(['.v/**'], '.v/w'),
   workspaces(['v', 'w'], 'w'), workspaces(['v'], 'w'), workspaces([], 'w'), workspaces(['../w'], '../w'),
   workspaces(['*'], '../w'), workspaces(['**'], '../w'),
   { ...workspaces(['w'], 'w'), 'node_modules/a': { dependencies: { w: '^2' } } },

@@ -1,5 +1,5 @@
 -- Which folders are workspaces of the root: npm's "package.json", "workspaces".
-use Rattle.std.specs.Prelude.{◌≡◌, ◌≢◌, ◌==◌, ◌||◌, ◌&&◌, ℕ, List, [], Bool, false, not, if◌then◌else◌}
+use Rattle.std.specs.Prelude.{◌≡◌, ◌≢◌, ◌==◌, ◌||◌, ◌&&◌, ℕ, List, [], ◌∷◌, Bool, false, true, not, if◌then◌else◌}
 use Rattle.std.specs.Prelude.{Option, Some, None, option_and_then, bytes_eq, codes, length, nat_eq}
 use Rattle.std.specs.List.{ends_with, list_any, starts_with}
 use Rattle.std.specs.Option.{option_map_or, option_or}
@@ -39,9 +39,14 @@ abbrev pub is_read : (pattern : List ℕ) → Bool
 is_read pattern = not (has_glob_byte (stem_of pattern))
     && (if ends_with nat_eq pattern (codes "*") then is_whole (stem_of pattern) else not (is_whole (stem_of pattern)))
 
--- what `**` stands for: some parts of a folder, of which the first does not begin with a dot
+-- A part begins with a dot: `.git` in `a/.git`. `is_start` says that a part begins at the first byte.
+abbrev pub has_dot_part : (is_start : Bool) → (path : List ℕ) → Bool
+has_dot_part is_start [] = false
+has_dot_part is_start (b ∷ path) = (is_start && (b == 46)) || has_dot_part (b == 47) path
+
+-- what `**` stands for: some parts of a folder, of which none begins with a dot
 abbrev pub are_parts : (rest : List ℕ) → Bool
-are_parts rest = not (length rest == 0) && not (starts_with nat_eq rest (codes "."))
+are_parts rest = not (length rest == 0) && not (has_dot_part true rest)
 
 abbrev pub has_slash : (rest : List ℕ) → Bool
 has_slash rest = list_any (λ b. b == 47) rest
@@ -50,12 +55,18 @@ has_slash rest = list_any (λ b. b == 47) rest
 abbrev pub is_part : (rest : List ℕ) → Bool
 is_part rest = are_parts rest && not (has_slash rest)
 
--- the pattern is that of this folder: `packages/*` of `packages/a`
+-- the folder whose parts the stars stand for: `packages` of `packages/*`
+abbrev pub is_base : (folder stem : List ℕ) → Bool
+is_base folder stem = not (length stem == 0) && bytes_eq folder (without_end (codes "/") stem)
+
+-- The pattern is that of this folder: `packages/*` of `packages/a`, and `packages/**` of `packages/a/b` and of
+-- `packages`.
 abbrev pub is_matched : (folder pattern : List ℕ) → Bool
-is_matched folder pattern = if ends_with nat_eq pattern (codes "*")
-    then option_map_or (if ends_with nat_eq pattern (codes "**") then are_parts else is_part)
-    (rest_after (stem_of pattern) folder) false
-    else bytes_eq folder pattern
+is_matched folder pattern = if ends_with nat_eq pattern (codes "**")
+    then is_base folder (stem_of pattern) || option_map_or are_parts (rest_after (stem_of pattern) folder) false
+    else (if ends_with nat_eq pattern (codes "*")
+    then option_map_or is_part (rest_after (stem_of pattern) folder) false
+    else bytes_eq folder pattern)
 
 -- ---- all patterns
 

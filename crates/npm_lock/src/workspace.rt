@@ -1,5 +1,5 @@
 //! Which folders are workspaces of the root.
-ghost use Rattle.std.specs.Prelude.{◌≡◌, option_map};
+ghost use Rattle.std.specs.Prelude.{◌≡◌, option_map, true};
 ghost use Rattle.serde_json.specs.View.{items_view, view};
 ghost use Rattle.npm_lock.specs.Workspaces as Workspaces;
 ghost use Rattle.npm_lock.specs.Workspaces.{IsWorkspace};
@@ -119,14 +119,21 @@ fn is_whole(stem: &str) -> bool
 fn is_matched_text(folder: &str, pattern: &str) -> bool
     ensures { result ≡ Workspaces.is_matched folder.now pattern.now }
 {
-    if !ends_with(pattern, "*") {
-        return folder == pattern;
+    if ends_with(pattern, "**") {
+        let stem = stem_of(pattern);
+        is_base(folder, stem) || rest_after(folder, stem).is_some_and(are_parts)
+    } else if ends_with(pattern, "*") {
+        rest_after(folder, stem_of(pattern)).is_some_and(is_part)
+    } else {
+        folder == pattern
     }
-    match rest_after(folder, stem_of(pattern)) {
-        Some(rest) if ends_with(pattern, "**") => are_parts(rest),
-        Some(rest) => is_part(rest),
-        None => false,
-    }
+}
+
+/// Returns `true` for `packages`, if the stem is `packages/`.
+fn is_base(folder: &str, stem: &str) -> bool
+    ensures { result ≡ Workspaces.is_base folder.now stem.now }
+{
+    !stem.is_empty() && folder == without_end(stem, "/")
 }
 
 /// The pattern without `*` or `**` at its end.
@@ -157,5 +164,19 @@ fn has_slash(rest: &str) -> bool
 fn are_parts(rest: &str) -> bool
     ensures { result ≡ Workspaces.are_parts rest.now }
 {
-    !rest.is_empty() && !rest.starts_with(".")
+    !rest.is_empty() && !has_dot_part(rest)
+}
+
+/// Returns `true` if a part of the path begins with a dot.
+fn has_dot_part(path: &str) -> bool
+    ensures { result ≡ Workspaces.has_dot_part true path.now }
+{
+    let mut is_start = true;
+    for byte in path.as_bytes() {
+        if is_start && *byte == b'.' {
+            return true;
+        }
+        is_start = *byte == b'/';
+    }
+    false
 }

@@ -25,6 +25,15 @@ a_star_hides_no_dot = refl
 pub two_stars_are_some_parts : by_patterns (codes "packages/a/b") (one (codes "packages/**")) ≡ Is
 two_stars_are_some_parts = refl
 
+pub two_stars_are_no_part_too : by_patterns (codes "packages") (one (codes "packages/**")) ≡ Is
+two_stars_are_no_part_too = refl
+
+pub two_stars_hide_no_dot : by_patterns (codes "packages/a/.b") (one (codes "packages/**")) ≡ IsNot
+two_stars_hide_no_dot = refl
+
+pub one_star_is_a_part : by_patterns (codes "packages") (one (codes "packages/*")) ≡ IsNot
+one_star_is_a_part = refl
+
 pub a_folder_that_is_left_out : by_patterns (codes "w") (item (string (codes "*")) (one (codes "!w"))) ≡ Unread
 a_folder_that_is_left_out = refl
 

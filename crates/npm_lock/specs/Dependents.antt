@@ -1,5 +1,5 @@
 -- By which range texts other packages ask for an installed package: npm's "npm explain".
-use Rattle.std.specs.Prelude.{◌≡◌, ◌↔◌, ℕ, List, [], ◌∷◌, ◌++◌, Bool, IsTrue, Option, Some, None, bytes_eq, codes}
+use Rattle.std.specs.Prelude.{◌≡◌, ◌↔◌, ℕ, List, [], ◌++◌, Bool, IsTrue, Option, Some, None, bytes_eq, codes}
 use Rattle.std.specs.Prelude.{filter, map}
 use Rattle.std.specs.BTreeMap.{get_by}
 use Rattle.std.specs.Bool.{MatchBool}

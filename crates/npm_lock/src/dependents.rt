@@ -5,10 +5,10 @@ ghost use Rattle.serde_json.specs.View.{members_view, view};
 ghost use Rattle.npm_lock.specs.Dependents.{AreDependents, AreMemberRequests, AreRequests, IsRequest, Request, texts_of};
 ghost use Rattle.npm_lock.specs.Dependents.{asked_text, texts_at};
 ghost use Rattle.npm_lock.specs.Faults as Faults;
-ghost use Rattle.npm_lock.specs.Private.Index.{IsComplete};
+ghost use Rattle.npm_lock.specs.Private.Index.{IsIndexOf};
 ghost use Rattle.npm_lock.specs.Private.PackageValue.{packages_data};
 ghost use Rattle.npm_lock.specs.Private.Requests.{AddsRequests};
-ghost use Rattle.npm_lock.specs.Private.Search.{IsSearch};
+ghost use Rattle.npm_lock.specs.Private.Search.{IsOutermostFrom};
 ghost use Rattle.npm_lock.specs.Asked.{asked_of as asked_by};
 ghost use Rattle.npm_lock.specs.Private.PackageValue.{asked_value};
 ghost use Rattle.npm_lock.specs.declared.fault.Fault.{Fault};
@@ -20,7 +20,7 @@ use crate::folder::is_installed;
 use crate::index::Index;
 use crate::place::{Lock, Package, is_link};
 use crate::range_text::{Spec, spec_of};
-use crate::search::{Place, places_from};
+use crate::search::outermost_of;
 use serde_json::Value;
 use std::alloc::Global;
 use std::collections::BTreeMap;
@@ -101,7 +101,7 @@ fn add_requests<'v>(
     asker: Package<'v>,
     dependents: &mut Dependents<'v>,
 ) -> Result<()>
-    requires { IsComplete (packages_data lock) index.now }
+    requires { IsIndexOf (packages_data lock) index.now }
     ensures { OnOk result ((requests : List Request)
         × AreMemberRequests (packages_data lock.entry) asker.entry.folder.now (view asker.entry.member.now) requests
         × AddsRequests dependents.old dependents.new requests) }
@@ -110,10 +110,10 @@ fn add_requests<'v>(
         return Ok(());
     }
     let is_installed = is_installed(asker.folder);
-    let places = places_from(lock, index, asker.folder)?;
+    let outermost = outermost_of(asker.folder);
     let all = asked_of(lock.alloc, asker.member, is_installed)?;
     for (name, asked) in all.iter() {
-        add_request(lock, asker, index, &places, *name, *asked, dependents)?;
+        add_request(lock, asker, index, outermost, *name, *asked, dependents)?;
     }
     Ok(())
 }
@@ -123,12 +123,13 @@ fn add_request<'v>(
     lock: Lock<'v>,
     asker: Package<'v>,
     index: &Index<'v>,
-    places: &[Place<'v>],
+    outermost: &str,
     name: &'v str,
     asked: Asked<'v>,
     dependents: &mut Dependents<'v>,
 ) -> Result<()>
-    requires { IsSearch (packages_data lock) index.now asker.folder.now places.now }
+    requires index { IsIndexOf (packages_data lock) index.now }
+    requires outermost { IsOutermostFrom asker.folder.now outermost.now }
     ensures { OnOk result ((request : Option Request)
         × ((is_installed : Bool)
         → asked_by (view asker.entry.member.now) is_installed name.now ≡ Some (asked_value asked.entry)
@@ -136,7 +137,7 @@ fn add_request<'v>(
         name.now request)
         × AddsRequests dependents.old dependents.new (option_to_list request)) }
 {
-    match lock.find(index, places, asker.folder, name)? {
+    match lock.find(index, asker.folder, outermost, name)? {
         Some((found, _)) => dependents.add(lock.alloc, found.folder, asked_text(asked.spec)),
         None => Ok(()),
     }

@@ -1,109 +1,92 @@
-//! The index of all folders of a lock file: which names may be in which folder.
+//! The index of a lock file: which packages a name may lead to.
 //!
-//! See docs/DECISIONS.md, "The index of folders leaves no package out, and promises no more".
-ghost use Rattle.std.specs.Prelude.{◌≡◌, IfOk, OnOk, Some, false};
+//! See docs/DECISIONS.md, "The index has packages by the last part of their folders".
+ghost use Rattle.std.specs.Prelude.{◌≡◌, [], ℕ, List, IfOk, OnOk, Some};
 ghost use Rattle.std.specs.Option.{option_map_or};
-ghost use Rattle.npm_lock.specs.Private.Index.{Grows, HasPackage, IsComplete, Leads, at_part, entry_at};
+ghost use Rattle.serde_json.specs.Find.{get};
+ghost use Rattle.serde_json.specs.View.{view};
+ghost use Rattle.npm_lock.specs.Private.Index.{IsAdded, IsIndexOf, IsLast, IsMore, at_last};
 ghost use Rattle.npm_lock.specs.Private.PackageValue.{packages_data};
 
 use crate::Result;
-use crate::place::Lock;
+use crate::place::{Lock, Package};
+use crate::search::split_last;
 use std::alloc::Global;
 use std::collections::BTreeMap;
 
-/// A folder in the index.
-#[derive(Clone, Copy, Debug, PartialEq, Eq, Drop)]
-pub(crate) struct Entry {
-    pub(crate) number: usize,
-    /// It is a key of `packages`, and not only a folder above one.
-    pub(crate) is_package: bool,
+/// What is at a key of `packages`.
+#[derive(Clone, Copy)]
+pub(crate) struct Candidate<'v> {
+    /// The key.
+    pub(crate) place: &'v str,
+    /// The package there, or the target of a link there.
+    pub(crate) found: Package<'v>,
 }
 
-/// The root, which stands for the folder above the first part of each path.
-pub(crate) const ROOT: Entry = Entry {
-    number: 0,
-    is_package: false,
-};
-
-/// All folders, by the number of the folder above and their last part. A path is looked up part by part, so that a long
-/// one costs no more than its bytes.
+/// All packages, by the last parts of their keys.
 #[derive(Drop)]
 pub(crate) struct Index<'v> {
-    entries: BTreeMap<(usize, &'v str), Entry>,
+    by_last: BTreeMap<&'v str, Vec<Candidate<'v>>>,
 }
 
 impl<'v> Index<'v> {
     /// The index of the packages of a lock file.
     pub(crate) fn of_lock(lock: Lock<'v>) -> Result<Index<'v>>
-        ensures { IfOk result (λ index. IsComplete (packages_data lock.entry) index) }
+        ensures { IfOk result (λ index. IsIndexOf (packages_data lock.entry) index) }
     {
         let mut index = Index {
-            entries: BTreeMap::new(lock.alloc),
+            by_last: BTreeMap::new(lock.alloc),
         };
-        for (folder, _) in lock.members.iter() {
-            index.add(folder.as_str())?;
+        for (folder, member) in lock.members.iter() {
+            let folder = folder.as_str();
+            index.add_member(lock, Package { folder, member })?;
         }
         Ok(index)
     }
 
-    /// Adds a package, and each folder above it.
-    fn add(&mut self, folder: &'v str) -> Result<()>
-        ensures grows { OnOk result (Grows self.old self.new) }
-        ensures has { OnOk result (HasPackage self.new folder.now) }
+    /// Adds a member of `packages`, but not a link whose target is not there.
+    fn add_member(&mut self, lock: Lock<'v>, placed: Package<'v>) -> Result<()>
+        requires { get placed.folder.now (packages_data lock) ≡ Some (view placed.member.now) }
+        ensures { OnOk result (IsMore (packages_data lock.entry) placed.entry.folder.now self.old self.new) }
     {
-        let (mut at, mut rest) = (ROOT, folder);
-        while let Some((part, more)) = rest.split_once('/') {
-            at = self.add_part(at, part, false)?;
-            rest = more;
+        match lock.found_at(placed) {
+            Some(found) => {
+                let place = placed.folder;
+                self.add(lock.alloc, Candidate { place, found })
+            }
+            None => Ok(()),
         }
-        self.add_part(at, rest, true)?;
+    }
+
+    /// Adds what is at a key.
+    fn add(&mut self, alloc: Global, candidate: Candidate<'v>) -> Result<()>
+        ensures { OnOk result (IsAdded candidate.entry self.old self.new) }
+    {
+        let last = last_of(candidate.place);
+        if let Some(list) = self.by_last.get_mut(&last) {
+            list.push(candidate)?;
+            return Ok(());
+        }
+        let mut list = Vec::with_capacity(alloc, 1)?;
+        list.push(candidate)?;
+        self.by_last.insert(last, list)?;
         Ok(())
     }
 
-    /// Adds a part of a path after the folder that is there already, if it is not there yet.
-    fn add_part(&mut self, above: Entry, part: &'v str, is_package: bool) -> Result<Entry>
-        ensures grows { OnOk result (Grows self.old self.new) }
-        ensures leads { IfOk result (λ entry. Leads self.new above.number part.now entry.number is_package) }
+    /// The packages whose keys have the last part of this name, or `None` if there are none.
+    pub(crate) fn candidates(&self, name: &'v str) -> Option<&[Candidate<'v>]>
+        ensures { (last : List ℕ) × IsLast name.now last × (option_map_or (λ list. list.now) result [] ≡ at_last self.now last) }
     {
-        let entry = match self.part_of(above, part) {
-            Some(entry) if !is_package => return Ok(entry),
-            Some(entry) => Entry {
-                is_package,
-                number: entry.number,
-            },
-            None => Entry {
-                is_package,
-                number: self.entries.len() + 1,
-            },
-        };
-        self.entries.insert((above.number, part), entry)?;
-        Ok(entry)
+        Some(self.by_last.get(&last_of(name))?.as_slice())
     }
+}
 
-    /// The folder that a part of a path leads to.
-    pub(crate) fn part_of(&self, above: Entry, part: &'v str) -> Option<Entry>
-        ensures { result ≡ at_part self.now above.number part.now }
-    {
-        self.entries.get(&(above.number, part)).copied()
-    }
-
-    /// The folder that a path leads to.
-    fn entry_at(&self, from: Entry, path: &'v str) -> Option<Entry>
-        ensures { result ≡ entry_at self.now (Some from) path.now }
-    {
-        let (mut at, mut rest) = (from, path);
-        while let Some((part, more)) = rest.split_once('/') {
-            at = self.part_of(at, part)?;
-            rest = more;
-        }
-        self.part_of(at, rest)
-    }
-
-    /// Returns `true` if a path leads to a package.
-    pub(crate) fn has_package(&self, from: Entry, path: &'v str) -> bool
-        ensures { result ≡ option_map_or (λ entry. entry.is_package) (entry_at self.now (Some from) path.now) false }
-    {
-        self.entry_at(from, path)
-            .is_some_and(|entry| entry.is_package)
+/// The last part of a path.
+fn last_of(path: &str) -> &str
+    ensures { IsLast path.now result.now }
+{
+    match split_last(path) {
+        Some((_, last)) => last,
+        None => path,
     }
 }

@@ -8,7 +8,7 @@ ghost use Rattle.npm_lock.specs.Faults as Faults;
 ghost use Rattle.npm_lock.specs.Findings.{AreFindings, AreMemberFindings, Finding, IsChecked, IsReport, keys_of};
 ghost use Rattle.npm_lock.specs.declared.fault.Fault.{Fault};
 ghost use Rattle.npm_lock.specs.Private.Adding.{Adds};
-ghost use Rattle.npm_lock.specs.Private.Index.{IsComplete};
+ghost use Rattle.npm_lock.specs.Private.Index.{IsIndexOf};
 ghost use Rattle.npm_lock.specs.Private.PackageValue.{packages_data};
 ghost use Rattle.npm_lock.specs.Private.Rules.{AreRules};
 
@@ -21,7 +21,7 @@ use crate::outcome::{add_judgement, engine_problem, judgement_of};
 use crate::overrides::{Rules, overridden, rules_of};
 use crate::place::{Lock, Package, is_link};
 use crate::problem::Problems;
-use crate::search::places_from;
+use crate::search::outermost_of;
 use node_semver::Version;
 use serde_json::Value;
 use std::alloc::Global;
@@ -76,7 +76,7 @@ fn check_package<'v>(
     asker: Package<'v>,
     problems: &mut Problems,
 ) -> Result<()>
-    requires index { IsComplete (packages_data lock) index.now }
+    requires index { IsIndexOf (packages_data lock) index.now }
     requires rules { AreRules (packages_data lock) rules.now }
     ensures { OnOk result ((found : List Finding)
         × AreMemberFindings (packages_data lock.entry) (option_map (λ version. version.now) lock.entry.node) asker.entry.folder.now
@@ -88,11 +88,11 @@ fn check_package<'v>(
     }
     problems.add_package(engine_problem(lock, asker)?)?;
     let is_installed = is_installed(asker.folder);
-    let places = places_from(lock, index, asker.folder)?;
+    let outermost = outermost_of(asker.folder);
     let all = asked_of(lock.alloc, asker.member, is_installed)?;
     for (name, asked) in all.iter() {
         let changed = overridden(rules, asker.folder, *name, *asked);
-        let judgement = judgement_of(lock, asker, index, &places, is_installed, *name, changed)?;
+        let judgement = judgement_of(lock, asker, index, outermost, is_installed, *name, changed)?;
         add_judgement(problems, lock.alloc, asker, *name, changed, judgement)?;
     }
     Ok(())

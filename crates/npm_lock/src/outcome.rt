@@ -6,14 +6,14 @@ ghost use Rattle.npm_lock.specs.Outcomes as Outcomes;
 ghost use Rattle.npm_lock.specs.Outcomes.{IsOutcome, IsVerdictOn, dependency_value, problem_value};
 ghost use Rattle.npm_lock.specs.Private.Adding.{Adds};
 ghost use Rattle.npm_lock.specs.Private.PackageValue.{asked_value, judgement_value, package_value, packages_data};
-ghost use Rattle.npm_lock.specs.Private.Search.{IsSearch};
+ghost use Rattle.npm_lock.specs.Private.Index.{IsIndexOf};
+ghost use Rattle.npm_lock.specs.Private.Search.{IsOutermostFrom};
 
 use crate::Result;
 use crate::asked::{Asked, has_true};
 use crate::index::Index;
 use crate::place::{Lock, Package};
 use crate::problem::{Dependency, Kind, Problem, Problems, Reason, Unchecked};
-use crate::search::Place;
 use crate::verdict::{Verdict, is_contained, verdict_of_both};
 use crate::workspace::{Workspace, workspace_of};
 use node_semver::Version;
@@ -35,16 +35,17 @@ pub(crate) fn judgement_of<'v>(
     lock: Lock<'v>,
     asker: Package<'v>,
     index: &Index<'v>,
-    places: &[Place<'v>],
+    outermost: &str,
     is_installed: bool,
     name: &'v str,
     asked: Asked<'v>,
 ) -> Result<Judgement<'v>>
-    requires { IsSearch (packages_data lock) index.now asker.folder.now places.now }
+    requires index { IsIndexOf (packages_data lock) index.now }
+    requires outermost { IsOutermostFrom asker.folder.now outermost.now }
     ensures { IfOk result (λ judgement. IsOutcome (packages_data lock.entry) asker.entry.folder.now
         (view asker.entry.member.now) is_installed name.now (asked_value asked.entry) (judgement_value judgement)) }
 {
-    let Some((found, is_own)) = lock.find(index, places, asker.folder, name)? else {
+    let Some((found, is_own)) = lock.find(index, asker.folder, outermost, name)? else {
         return Ok(if asked.is_needed {
             Judgement::Wrong(Kind::Missing, None)
         } else {
@@ -74,7 +75,10 @@ pub(crate) fn add_judgement(
         (view asker.entry.member.now) name.now (asked_value asked.entry) (judgement_value judgement.entry) ∷ [])) }
 {
     match judgement {
-        Judgement::Fine => problems.add_dependency(None, None),
+        Judgement::Fine => {
+            problems.add_fine();
+            Ok(())
+        }
         Judgement::Wrong(kind, found) => {
             let dependency = dependency_of(alloc, asker, name, asked, found)?;
             problems.add_dependency(Some(Problem { kind, dependency }), None)

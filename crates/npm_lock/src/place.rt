@@ -1,16 +1,19 @@
 //! Where a name is found.
-ghost use Rattle.std.specs.Prelude.{◌≡◌, ◌↔◌, ℕ, List, IfOk, IfSome, IsTrue, option_map, string_bytes};
+ghost use Rattle.std.specs.Prelude.{◌≡◌, ◌↔◌, IfOk, IfSome, IsTrue, Some, option_map, string_bytes};
+ghost use Rattle.std.specs.Option.{MatchOption};
 ghost use Rattle.serde_json.specs.Find.{get};
 ghost use Rattle.serde_json.specs.View.{view};
 ghost use Rattle.npm_lock.specs.Folders as Folders;
-ghost use Rattle.npm_lock.specs.Packages.{IsFound, IsFoundIn};
+ghost use Rattle.npm_lock.specs.Packages.{IsFound, IsFoundIn, IsPassed};
 ghost use Rattle.npm_lock.specs.Packages as Packages;
+ghost use Rattle.npm_lock.specs.Private.Index.{IsIndexOf};
 ghost use Rattle.npm_lock.specs.Private.PackageValue.{package_value, packages_data};
-ghost use Rattle.npm_lock.specs.Private.Search.{IsPlace, IsSearch};
+ghost use Rattle.npm_lock.specs.Private.Search.{IsOutermostFrom};
 
 use crate::Result;
+use crate::folder::is_modules;
 use crate::index::Index;
-use crate::search::Place;
+use crate::search::{above_of, nearest};
 use node_semver::Version;
 use serde_json::{Map, Value};
 use std::alloc::Global;
@@ -32,61 +35,86 @@ pub(crate) struct Package<'v> {
     pub(crate) member: &'v Value,
 }
 
+/// Up to so many packages of one name are looked at one by one, and one more for each byte of a folder.
+const MANY: usize = 32;
+
 impl<'v> Lock<'v> {
     /// Finds a name in the `node_modules` of the package's folder, or else of the next folder above. Also returns `true`
     /// if that is the `node_modules` of the folder itself.
     pub(crate) fn find(
         self,
         index: &Index<'v>,
-        places: &[Place<'v>],
         from: &str,
+        outermost: &str,
         name: &'v str,
     ) -> Result<Option<(Package<'v>, bool)>>
-        requires { IsSearch (packages_data self) index.now from.now places.now }
+        requires index { IsIndexOf (packages_data self) index.now }
+        requires outermost { IsOutermostFrom from.now outermost.now }
         ensures found { IfOk result (λ found. IsFound (packages_data self.entry) name.now from.now
             (option_map (λ f. package_value f.0) found)) }
         ensures own { IfOk result (λ found. IfSome found (λ f. IsTrue f.1
             ↔ IsFoundIn (packages_data self.entry) name.now from.now (package_value f.0))) }
     {
-        let mut count = places.len();
-        'places: while count > 0 {
-            count -= 1;
-            let place = places[count];
-            if let Some(found) = self.find_in(index, place, name)? {
-                return Ok(Some((found, place.folder.len() == from.len())));
-            }
+        let Some(candidates) = index.candidates(name) else {
+            return Ok(None);
+        };
+        if candidates.len().saturating_sub(MANY) > from.len() {
+            return self.find_above(from, name);
         }
-        Ok(None)
+        match nearest(candidates, from, outermost, name) {
+            Some(hit) => Ok(Some((hit.found, hit.folder.len() == from.len()))),
+            None => Ok(None),
+        }
     }
 
-    /// Finds a name in the `node_modules` of one folder. The index says which names are not there, and no text is built
-    /// for these.
-    fn find_in(
-        self,
-        index: &Index<'v>,
-        place: Place<'v>,
-        name: &'v str,
-    ) -> Result<Option<Package<'v>>>
-        requires { (from : List ℕ) × IsPlace (packages_data self) index.now from place }
-        ensures { IfOk result (λ found. option_map package_value found
-            ≡ Packages.package_at (packages_data self.entry) (Folders.place_in place.entry.folder.now name.now)) }
+    /// The same, folder by folder: this takes less time where many packages have the name.
+    fn find_above(self, from: &str, name: &str) -> Result<Option<(Package<'v>, bool)>>
+        ensures found { IfOk result (λ found. IsFound (packages_data self.entry) name.now from.now
+            (option_map (λ f. package_value f.0) found)) }
+        ensures own { IfOk result (λ found. IfSome found (λ f. IsTrue f.1
+            ↔ IsFoundIn (packages_data self.entry) name.now from.now (package_value f.0))) }
     {
-        if !index.has_package(place.modules, name) {
+        let mut at = from;
+        'folders: loop {
+            if let Some(found) = self.find_in(at, name)? {
+                return Ok(Some((found, at.len() == from.len())));
+            }
+            let Some(above) = above_of(at) else {
+                return Ok(None);
+            };
+            at = above;
+        }
+    }
+
+    /// Finds a name in the `node_modules` of one folder.
+    fn find_in(self, folder: &str, name: &str) -> Result<Option<Package<'v>>>
+        ensures { IfOk result (λ found. MatchOption found (IsPassed (packages_data self.entry) name.now folder.now)
+            (λ found. IsFoundIn (packages_data self.entry) name.now folder.now (package_value found))) }
+    {
+        if is_modules(folder) {
             return Ok(None);
         }
-        let text = place_text(self.alloc, place.folder, name)?;
-        Ok(self.package_at(text.as_str()))
+        let place = place_text(self.alloc, folder, name)?;
+        Ok(self.package_at(place.as_str()))
     }
 
     /// The package at a place, which is the target if a link is there.
     fn package_at(self, place: &str) -> Option<Package<'v>>
         ensures { option_map package_value result ≡ Packages.package_at (packages_data self.entry) place.now }
     {
-        let found = self.package_in(place)?;
-        if is_link(found.member) {
-            self.target_of(found.member)
+        self.found_at(self.package_in(place)?)
+    }
+
+    /// The package at a place, of which this is the member: the member, or the target of a link.
+    pub(crate) fn found_at(self, placed: Package<'v>) -> Option<Package<'v>>
+        requires { get placed.folder.now (packages_data self) ≡ Some (view placed.member.now) }
+        ensures { option_map package_value result
+            ≡ Packages.package_at (packages_data self.entry) placed.entry.folder.now }
+    {
+        if is_link(placed.member) {
+            self.target_of(placed.member)
         } else {
-            Some(found)
+            Some(placed)
         }
     }
 

@@ -1,5 +1,5 @@
 //! What is wrong with a dependency, or not known of it, and its JSON object.
-ghost use Rattle.std.specs.Prelude.{◌≡◌, [], ◌∷◌, IfOk, OnOk, option_map};
+ghost use Rattle.std.specs.Prelude.{◌≡◌, [], ◌∷◌, IfOk, OnOk, None, option_map};
 ghost use Rattle.serde_json.specs.Data.{boolean, put as with_member, string};
 ghost use Rattle.serde_json.specs.View.{members_view, view};
 ghost use Rattle.npm_lock.specs.Findings.{IsReport, of_dependency, of_package};
@@ -199,6 +199,13 @@ impl Problems {
     {
         self.packages = self.packages.saturating_add(1);
         self.list.extend(problem)
+    }
+
+    /// Adds a dependency with nothing wrong.
+    pub(crate) fn add_fine(&mut self)
+        ensures { Adds self.old self.new (of_dependency None None ∷ []) }
+    {
+        self.dependencies = self.dependencies.saturating_add(1);
     }
 
     /// Adds a dependency, with its problem, or as one that is not checked.

@@ -1,107 +1,139 @@
 //! Where the names of a package are looked up.
-ghost use Rattle.std.specs.Prelude.{◌≡◌, [], ◌∷◌, ◌++◌, ℕ, List, IfOk, IfSome, OnOk, if◌then◌else◌};
+ghost use Rattle.std.specs.Prelude.{◌≡◌, ◌≢◌, ◌↔◌, ◌++◌, ◌∷◌, ℕ, List, IsTrue};
+ghost use Rattle.std.specs.List.{AllByRecursion};
 ghost use Rattle.std.specs.Option.{MatchOption};
 ghost use Rattle.serde_json.specs.Data.{Data};
-ghost use Rattle.npm_lock.specs.Folders as Folders;
-ghost use Rattle.npm_lock.specs.Private.Index.{HasNoSlash, IsComplete};
-ghost use Rattle.npm_lock.specs.Private.PackageValue.{packages_data};
-ghost use Rattle.npm_lock.specs.Private.Search.{IsEntryOf, IsNext, IsSearch};
+ghost use Rattle.npm_lock.specs.Folders.{IsAbove, IsOutermost, place_in};
+ghost use Rattle.npm_lock.specs.Private.Index.{HasNoSlash, IsAt};
+ghost use Rattle.npm_lock.specs.Private.Search as Search;
+ghost use Rattle.npm_lock.specs.Private.Search.{IsFront, IsNearest, IsOutermostFrom, IsPlaceOf, IsReached};
 
-use crate::Result;
 use crate::folder::{is_modules, is_up};
-use crate::index::{Entry, Index, ROOT};
-use crate::place::Lock;
-use std::alloc::Global;
+use crate::index::Candidate;
+use crate::place::Package;
 
-/// A folder that has a `node_modules`, and where that is in the index.
-#[derive(Clone, Copy, Drop)]
-pub(crate) struct Place<'v> {
+/// A package that is found for a name, and the folder in whose `node_modules` it is.
+#[derive(Clone, Copy)]
+pub(crate) struct Hit<'v> {
     pub(crate) folder: &'v str,
-    pub(crate) modules: Entry,
+    pub(crate) found: Package<'v>,
 }
 
-/// The folders in whose `node_modules` the names of a package are looked up: its own and each above it. The nearest is
-/// last.
-pub(crate) fn places_from<'v>(
-    lock: Lock<'v>,
-    index: &Index<'v>,
-    folder: &'v str,
-) -> Result<Vec<Place<'v>>>
-    requires { IsComplete (packages_data lock) index.now }
-    ensures { IfOk result (λ places. IsSearch (packages_data lock.entry) index.now folder.now places.items) }
+/// The last folder above this one in which names are looked up.
+pub(crate) fn outermost_of(folder: &str) -> &str
+    ensures { IsOutermostFrom folder.now result.now }
 {
-    let mut places = Vec::new(lock.alloc);
-    add_place(&mut places, index, "", Some(ROOT))?;
-    let (mut above, mut rest) = (Some(ROOT), Some(folder));
-    while let Some(text) = rest {
-        let (part, more) = next_part(text);
-        let at = front_before(folder, more);
-        let entry = match above {
-            Some(above) => index.part_of(above, part),
-            None => None,
-        };
-        if !at.is_empty() {
-            add_place(&mut places, index, at, entry)?;
-        }
-        (above, rest) = (entry, more);
+    let mut at = folder;
+    'folders: while let Some(above) = above_of(at) {
+        at = above;
     }
-    Ok(places)
+    at
 }
 
-/// Adds a folder to those above it, if it has a `node_modules` and is none.
-fn add_place<'v>(
-    places: &mut Vec<Place<'v>>,
-    index: &Index<'v>,
-    folder: &'v str,
-    entry: Option<Entry>,
-) -> Result<()>
-    ensures { OnOk result ((packages : Data) → IsComplete packages index.now → IsEntryOf index.now folder.now entry
-        → IsNext packages index.now places.old.items folder.now
-        → IsSearch packages index.now folder.now places.new.items) }
+/// The folder above, if names are looked up there.
+pub(crate) fn above_of(folder: &str) -> Option<&str>
+    ensures { MatchOption result (IsOutermost folder.now) (λ above. IsAbove folder.now above.now) }
 {
-    keep_above(places, folder);
-    if is_modules(folder) {
-        return Ok(());
+    if folder.is_empty() || is_up(folder) {
+        return None;
     }
-    let Some(entry) = entry else {
-        return Ok(());
-    };
-    let Some(modules) = index.part_of(entry, "node_modules") else {
-        return Ok(());
-    };
-    places.push(Place { folder, modules })?;
-    Ok(())
-}
-
-/// Leaves out all places where no folder is above this one.
-fn keep_above(places: &mut Vec<Place<'_>>, folder: &str)
-    ensures { places.new.items ≡ (if Folders.is_up folder.now then [] else places.old.items) }
-{
-    if is_up(folder) {
-        places.clear();
+    match split_last(folder) {
+        Some((above, _)) => Some(above),
+        None => Some(""),
     }
 }
 
-/// The first part of a path, and what comes after its `/`.
-fn next_part(path: &str) -> (&str, Option<&str>)
-    ensures part { HasNoSlash result.0.now }
-    ensures whole { MatchOption result.1 (path.now ≡ result.0.now)
-        (λ more. path.now ≡ result.0.now ++ (47 ∷ more.now)) }
+/// What comes before the last `/` of a path, and the part after it.
+pub(crate) fn split_last(path: &str) -> Option<(&str, &str)>
+    ensures { MatchOption result (HasNoSlash path.now)
+        (λ parts. (path.now ≡ parts.0.now ++ (47 ∷ parts.1.now)) × HasNoSlash parts.1.now) }
 {
-    match path.split_once('/') {
-        Some((part, more)) => (part, Some(more)),
-        None => (path, None),
+    path.rsplit_once('/')
+}
+
+/// The nearest package of these that is found for a name.
+pub(crate) fn nearest<'v>(
+    candidates: &[Candidate<'v>],
+    from: &str,
+    outermost: &str,
+    name: &str,
+) -> Option<Hit<'v>>
+    requires { IsOutermostFrom from.now outermost.now }
+    ensures { (packages : Data) → AllByRecursion (IsAt packages) candidates.now
+        → IsNearest packages from.now name.now candidates.now result }
+{
+    let mut best = None;
+    for candidate in candidates {
+        best = nearer(best, hit_of(*candidate, from, outermost, name));
+    }
+    best
+}
+
+/// The nearer of two.
+fn nearer<'v>(first: Option<Hit<'v>>, second: Option<Hit<'v>>) -> Option<Hit<'v>>
+    ensures { result ≡ Search.nearer first.entry second.entry }
+{
+    match (first, second) {
+        (Some(first), Some(second)) if first.folder.len() < second.folder.len() => Some(second),
+        (Some(first), _) => Some(first),
+        (None, second) => second,
     }
 }
 
-/// The folder without these last parts and the `/` before them.
-fn front_before<'v>(folder: &'v str, more: Option<&str>) -> &'v str
-    requires { IfSome more (λ more. (front : List ℕ) × (folder.now ≡ front ++ (47 ∷ more.now))) }
-    ensures { MatchOption more.entry (result.now ≡ folder.now)
-        (λ more. folder.now ≡ result.now ++ (47 ∷ more.now)) }
+/// What is found at a key for a name, if names are looked up there.
+fn hit_of<'v>(candidate: Candidate<'v>, from: &str, outermost: &str, name: &str) -> Option<Hit<'v>>
+    requires { IsOutermostFrom from.now outermost.now }
+    ensures { MatchOption result
+        ((folder : List ℕ) → ¬ IsPlaceOf from.now name.now candidate.entry.place.now folder)
+        (λ hit. IsPlaceOf from.now name.now candidate.entry.place.now hit.folder.now
+        × (hit.found ≡ candidate.entry.found)) }
 {
-    match more {
-        Some(more) => &folder[..folder.len() - more.len() - 1],
-        None => folder,
+    let folder = inside(candidate.place, name)?;
+    if is_modules(folder) || !is_reached(from, outermost, folder) {
+        return None;
     }
+    let found = candidate.found;
+    Some(Hit { folder, found })
+}
+
+/// Returns `true` if the folder is this one, or above it and not above the outermost one.
+fn is_reached(from: &str, outermost: &str, folder: &str) -> bool
+    requires { IsOutermostFrom from.now outermost.now }
+    ensures { IsTrue result ↔ IsReached from.now folder.now }
+{
+    outermost.len() <= folder.len() && is_front(from, folder)
+}
+
+/// Returns `true` if a path is this one, or begins so before a `/`. Each path begins with the empty one.
+fn is_front(path: &str, front: &str) -> bool
+    ensures { IsTrue result ↔ IsFront path.now front.now }
+{
+    match path.strip_prefix(front) {
+        Some(rest) => front.is_empty() || rest.is_empty() || rest.starts_with('/'),
+        None => false,
+    }
+}
+
+/// The folder in whose `node_modules` a name has this place, if that is its place in one.
+fn inside<'v>(place: &'v str, name: &str) -> Option<&'v str>
+    ensures { MatchOption result ((folder : List ℕ) → place.now ≢ place_in folder name.now)
+        (λ folder. place.now ≡ place_in folder.now name.now) }
+{
+    let modules = front_of(front_of(place, name)?, "node_modules/")?;
+    if modules.is_empty() {
+        return Some(modules);
+    }
+    let folder = modules.strip_suffix('/')?;
+    if folder.is_empty() {
+        return None;
+    }
+    Some(folder)
+}
+
+/// The text before this end, if it ends so.
+fn front_of<'v>(text: &'v str, end: &str) -> Option<&'v str>
+    ensures { MatchOption result ((front : List ℕ) → text.now ≢ front ++ end.now)
+        (λ front. text.now ≡ front.now ++ end.now) }
+{
+    text.strip_suffix(end)
 }

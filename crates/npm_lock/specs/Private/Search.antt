@@ -1,55 +1,64 @@
--- The folders in which the names of a package are looked up.
-use Rattle.std.specs.Prelude.{◌≡◌, ◌⊎◌, ◌≤◌, ℕ, List, [], ◌∷◌, ◌++◌, true, false, Option, Some, None, codes, length}
+-- The folders in which a name is looked up, and what is found there.
+use Rattle.std.specs.Prelude.{◌≡◌, ◌⊎◌, ◌≤◌, ℕ, List, [], ◌∷◌, ◌++◌, false, Option, Some, None, length}
+use Rattle.std.specs.Prelude.{if◌then◌else◌, nat_lt}
 use Rattle.std.specs.List.{AllByRecursion}
-use Rattle.std.specs.Option.{IsSome, option_or}
+use Rattle.std.specs.Option.{IfSome}
 use Rattle.serde_json.specs.Data.{Data}
-use Rattle.serde_json.specs.Find.{get}
-use Rattle.npm_lock.specs.Folders.{IsAbove, is_modules, is_up, place_in}
-use Rattle.npm_lock.specs.Packages.{IsFound, IsPassed, Package, package_at}
-use Rattle.npm_lock.specs.Private.Index.{entry_at, led, parts_of, root}
-use Rattle.npm_lock.specs.declared.index.Entry.{Entry}
-use Rattle.npm_lock.specs.declared.index.Index.{Index}
-use Rattle.npm_lock.specs.declared.search.Place.{Place}
+use Rattle.npm_lock.specs.Folders.{IsAbove, IsOutermost, is_modules, place_in}
+use Rattle.npm_lock.specs.Packages.{package_at}
+use Rattle.npm_lock.specs.Private.Index.{HasPlace, IsAt}
+use Rattle.npm_lock.specs.Private.PackageValue.{package_value}
+use Rattle.npm_lock.specs.declared.index.Candidate.{Candidate}
+use Rattle.npm_lock.specs.declared.search.Hit.{Hit}
 
--- the entry of a folder leads to the entry of each place in its `node_modules`
-abbrev pub IsEntryOf : Index → (folder : List ℕ) → Option Entry → Type 0
-IsEntryOf index folder entry = (name : List ℕ) → entry_at index (Some root) (place_in folder name)
-    ≡ led index entry (codes "node_modules" ∷ parts_of name)
+-- a folder in which names are looked up from another: that one, or one above it
+pub data IsReached : (from to : List ℕ) → Type 0 where
+  itself : (folder : List ℕ) → IsReached folder folder
+  above : (folder parent to : List ℕ) → IsAbove folder parent → IsReached parent to → IsReached folder to
 
--- what is found for a name in the last of these folders that has it
-abbrev pub found_among : (packages : Data) → (name : List ℕ) → Option Package → List Place → Option Package
-found_among packages name found [] = found
-found_among packages name found (place ∷ places) =
-    found_among packages name (option_or (package_at packages (place_in place.folder.now name)) found) places
+-- the last one
+pub record IsOutermostFrom (from outermost : List ℕ) : Type 0 where
+  pub reached : IsReached from outermost
+  pub last : IsOutermost outermost
 
--- the path leads to a package from this entry
-pub record LeadsTo (index : Index) (from : Entry) (path : List ℕ) : Type 0 where
-  pub entry : Entry
-  pub there : entry_at index (Some from) path ≡ Some entry
-  pub marked : entry.is_package ≡ true
+-- a path, or its beginning before a `/`, or the empty path
+abbrev pub IsFront : (path front : List ℕ) → Type 0
+IsFront path front = (front ≡ []) ⊎ (path ≡ front) ⊎ ((rest : List ℕ) × (path ≡ front ++ (47 ∷ rest)))
 
--- a folder whose `node_modules` is this entry: this folder, or one that is shorter
-pub record IsPlace (packages : Data) (index : Index) (from : List ℕ) (place : Place) : Type 0 where
-  pub no_modules : is_modules place.folder.now ≡ false
-  pub no_longer : length place.folder.now ≤ length from
-  pub itself : length place.folder.now ≡ length from → place.folder.now ≡ from
-  pub leads : (name : List ℕ) → IsSome (get (place_in place.folder.now name) packages)
-      → LeadsTo index place.modules name
+-- the name has this place in the `node_modules` of a folder in which it is looked up
+pub record IsPlaceOf (from name place folder : List ℕ) : Type 0 where
+  pub is : place ≡ place_in folder name
+  pub reached : IsReached from folder
+  pub no_modules : is_modules folder ≡ false
 
--- the last of these is the folder itself
-pub record EndsAt (from : List ℕ) (places : List Place) : Type 0 where
-  pub before : List Place
-  pub last : Place
-  pub whole : places ≡ before ++ (last ∷ [])
-  pub is : last.folder.now ≡ from
+-- the package of a hit is in the `node_modules` of its folder, in which the name is looked up
+pub record IsHit (packages : Data) (from name : List ℕ) (hit : Hit) : Type 0 where
+  pub reached : IsReached from hit.folder.now
+  pub no_modules : is_modules hit.folder.now ≡ false
+  pub there : package_at packages (place_in hit.folder.now name) ≡ Some (package_value hit.found)
 
--- what is found from a folder is what is found in the last of these that has it
-pub record IsSearch (packages : Data) (index : Index) (from : List ℕ) (places : List Place) : Type 0 where
-  pub found : (name : List ℕ) → IsFound packages name from (found_among packages name None places)
-  pub own : (name : List ℕ) → IsPassed packages name from ⊎ EndsAt from places
-  pub each : AllByRecursion (IsPlace packages index from) places
+-- the hit is at least as near as this folder
+abbrev pub IsCovered : Option Hit → (folder : List ℕ) → Type 0
+IsCovered best folder = (hit : Hit) × (best ≡ Some hit) × (length folder ≤ length hit.folder.now)
 
--- the folder comes after those above it: it is the root, it leads up from it, or its names are looked up there
-abbrev pub IsNext : (packages : Data) → Index → List Place → (folder : List ℕ) → Type 0
-IsNext packages index places folder = ((folder ≡ []) × (places ≡ [])) ⊎ (is_up folder ≡ true)
-    ⊎ ((above : List ℕ) × IsAbove folder above × IsSearch packages index above places)
+-- the nearest hit among these candidates
+pub record IsNearest (packages : Data) (from name : List ℕ) (candidates : List Candidate) (best : Option Hit)
+    : Type 0 where
+  pub hit : IfSome best (IsHit packages from name)
+  pub nearest : (place folder : List ℕ) → HasPlace place candidates → IsPlaceOf from name place folder
+      → IsCovered best folder
+
+-- the nearest hit among the candidates so far, and those that are left
+pub record IsNearestSoFar (packages : Data) (from name : List ℕ) (candidates left : List Candidate)
+    (best : Option Hit) : Type 0 where
+  pub right : AllByRecursion (IsAt packages) left
+  pub hit : IfSome best (IsHit packages from name)
+  pub nearest : (place folder : List ℕ) → HasPlace place candidates → IsPlaceOf from name place folder
+      → IsCovered best folder ⊎ HasPlace place left
+
+-- the nearer of two
+abbrev pub nearer : Option Hit → Option Hit → Option Hit
+nearer None second = second
+nearer (Some first) None = Some first
+nearer (Some first) (Some second) =
+    if nat_lt (length first.folder.now) (length second.folder.now) then Some second else Some first

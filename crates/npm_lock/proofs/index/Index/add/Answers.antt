@@ -1,38 +1,42 @@
--- A part leads on, and what was there is kept.
-use Rattle.std.proofs.Common.{arith, refl, rules}
-use Rattle.std.proofs.lemmas.Str.Pattern.{split_parts}
-use Rattle.npm_lock.specs.Private.Index.{root}
-use Rattle.npm_lock.proofs.Paths.{grows_not, grows_twice, leads_on, rest_last, rest_next}
+-- The list of the last part has one candidate more, or is made.
+use Rattle.std.proofs.Common.{◌≡◌, ◌∙◌, ◌++◌, [], ◌∷◌, None, Some, ap, bytes_eq, nat_cmp, rules, sym}
+use Rattle.std.proofs.lemmas.Map.Text.{btree_map_updates_str}
+use Rattle.std.proofs.lemmas.Slice.Eq.{bytes_eq-Decides}
+use Rattle.std.specs.BTreeMap.{get_by}
+use Rattle.std.specs.Cmp.Lexicographic.{slice_cmp}
+use Rattle.npm_lock.proofs.Candidates.{put_more}
 use Rattle.npm_lock.proofs.index.Index.add.Goals as goal
 
-pub loop-part-init : goal.loop-part-init
-loop-part-init c = record {
-  text = search rules;
-  grows = grows_not c.args.self.now;
-  led = λ next grows. (root, refl, refl);
-}
-
-pub loop-part-preserved : goal.loop-part-preserved
-loop-part-preserved c =
-    let parts = split_parts 47 c.loop-part.rest.now c.split_once.result c.split_once.ensures.cases (omega arith) in
-    let cut = rw c.in-Some.is at parts in
+pub returns-in-Some : goal.returns-in-Some
+returns-in-Some c =
+    let last = c.last_of-last.result.now in
+    let old = c.args.self.now.by_last in
+    let there : get_by (λ k. slice_cmp nat_cmp last k.now) old ≡ Some c.in-Some.list.now =
+    sym (rw c.in-Some.is at c.get_mut.ensures.value) in
     record {
-      text = search rules;
-      grows = grows_twice c.args.self.now c.loop-part.self c.add_part.new.self c.loop-part.invariant.grows
-          c.in_ok-at.ensures.grows;
-      led = λ next grows. rest_next next c.args.folder.now c.loop-part.rest.now _ c.in-Some.more.now _ _ cut.0 cut.1
-          (c.loop-part.invariant.led next
-          (grows_twice c.loop-part.self c.add_part.new.self next c.in_ok-at.ensures.grows grows))
-          (leads_on c.add_part.new.self next _ _ _ _ grows c.in_ok-at.ensures.leads);
+      last = last;
+      is_last = c.last_of-last.ensures;
+      lists = λ other. put_more (λ list. list.items) (bytes_eq last other) _ _
+          (get_by (λ k. slice_cmp nat_cmp last k.now) old) c.push.new.self c.args.candidate
+          (btree_map_updates_str last old (c.get_mut.follows.lender c.push.new.self) _
+          ((c.get_mut.follows.holds c.push.new.self).3 (search rules)) other)
+          (rw there c.in_ok-push.ensures.items)
+          (λ same. ap (λ key. get_by (λ k. slice_cmp nat_cmp key k.now) old) ((bytes_eq-Decides last other).0 same));
     }
 
-pub returns-clause-grows : goal.returns-clause-grows
-returns-clause-grows c = grows_twice c.args.self.now c.loop-part.self c.add_part-2.new.self c.loop-part.invariant.grows
-    c.in_ok-add_part.ensures.grows
-
-pub returns-clause-has : goal.returns-clause-has
-returns-clause-has c =
-    let parts = split_parts 47 c.loop-part.rest.now c.split_once.result c.split_once.ensures.cases (omega arith) in
-    let none = rw c.in_default.is at parts in
-    rest_last c.add_part-2.new.self c.args.folder.now c.loop-part.rest.now _ _ none
-    (c.loop-part.invariant.led c.add_part-2.new.self c.in_ok-add_part.ensures.grows) c.in_ok-add_part.ensures.leads
+pub returns : goal.returns
+returns c =
+    let last = c.last_of-last.result.now in
+    let old = c.args.self.now.by_last in
+    let none : get_by (λ k. slice_cmp nat_cmp last k.now) old ≡ None =
+    sym (rw c.in_default.is at c.get_mut.ensures.value) in
+    record {
+      last = last;
+      is_last = c.last_of-last.ensures;
+      lists = λ other. put_more (λ list. list.items) (bytes_eq last other) _ _
+          (get_by (λ k. slice_cmp nat_cmp last k.now) old) c.push-2.new.self c.args.candidate
+          (btree_map_updates_str last old c.insert.new.self _
+          (rw c.get_mut.follows.holds-at-none at c.in_ok-insert.ensures.updates) other)
+          (rw none (c.in_ok-push-2.ensures.items ∙ ap (λ items. items ++ (c.args.candidate ∷ [])) c.in_ok-list.ensures.items))
+          (λ same. ap (λ key. get_by (λ k. slice_cmp nat_cmp key k.now) old) ((bytes_eq-Decides last other).0 same));
+    }

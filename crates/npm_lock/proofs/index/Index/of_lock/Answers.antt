@@ -1,22 +1,54 @@
 -- Each member is added in turn.
-use Rattle.std.proofs.Common.{◌≡◌, inl, inr}
-use Rattle.serde_json.specs.View.{members_view}
-use Rattle.npm_lock.proofs.IndexUpdates.{has_next}
+use Rattle.std.proofs.Common.{◌≡◌, inl, inr, string_bytes}
+use Rattle.std.specs.List.Sorted.{IsStrictlySortedBy}
+use Rattle.serde_json.specs.View.{members_view, view}
+use Rattle.npm_lock.specs.Private.PackageValue.{packages_data}
+use Rattle.npm_lock.proofs.Candidates.{first_member, has_next, later_member, some_member}
+use Rattle.npm_lock.proofs.Groups.{absent}
 use Rattle.npm_lock.proofs.index.Index.of_lock.Goals as goal
 
 pub loop-folder-init : goal.loop-folder-init
-loop-folder-init c = λ path some. inr some
+loop-folder-init c =
+    let entries : c.into_iter-folder-iterator.result ≡ c.args.lock.members.now.entries = cc in
+    record {
+      sorted = rw entries c.iter-folder-items.ensures.ordered;
+      members = λ key value is. is;
+      sound = λ last. rw c.new.ensures.empty tt;
+      complete = λ place last found is is_last.
+          inr (rw entries (some_member (packages_data c.args.lock) place found is));
+    }
+
+pub add_member-requires : goal.add_member-requires
+add_member-requires c =
+    let entries : c.into_iter-folder-iterator.result ≡ c.args.lock.members.now.entries = cc in
+    let here = c.loop-folder.invariant.members (string_bytes c.in-Some.folder.now) (view c.in-Some.member.now)
+    (rw c.in-Some.ensures.steps (first_member (string_bytes c.in-Some.folder.now) (view c.in-Some.member.now)
+    (members_view c.next.new.self))) in
+    rw (c.as_str-folder.ensures.value, ← entries) here
 
 pub loop-folder-preserved : goal.loop-folder-preserved
-loop-folder-preserved c = λ path some.
-    let before = rw c.in-Some.ensures.steps at c.loop-folder.invariant path some in
-    has_next c.loop-folder.index _ path _ _ (members_view c.next.new.self) c.in_ok-add.ensures.grows
-    (rw c.as_str.ensures.value at c.in_ok-add.ensures.has) before
+unfolding IsStrictlySortedBy
+loop-folder-preserved c =
+    let sorted = rw c.in-Some.ensures.steps at c.loop-folder.invariant.sorted in
+    let more = rw c.as_str-folder.ensures.value at c.in_ok-add_member.ensures in
+    record {
+      sorted = sorted.1;
+      members = λ key value is. c.loop-folder.invariant.members key value
+          (rw c.in-Some.ensures.steps (later_member key (string_bytes c.in-Some.folder.now)
+          (view c.in-Some.member.now) value (members_view c.next.new.self)
+          (absent c.in-Some.folder.now c.next.new.self sorted.0) is));
+      sound = more.sound c.loop-folder.invariant.sound;
+      complete = λ place last found is is_last. has_next (packages_data c.args.lock) c.loop-folder.index _ place last _ _
+          (members_view c.next.new.self) found is is_last more
+          (rw c.in-Some.ensures.steps at (c.loop-folder.invariant.complete place last found is is_last));
+    }
 
 pub returns : goal.returns
-returns c = λ path some.
-    let entries : c.into_iter-folder-iterator.result ≡ c.args.lock.members.now.entries = cc in
-    elim (rw c.in-None.ensures.steps.0 at c.loop-folder.invariant path (rw entries some)) [
-      | inl there ↦ there
-      | inr left ↦ cc left
-    ]
+returns c = record {
+  sound = c.loop-folder.invariant.sound;
+  complete = λ place last found is is_last. elim
+      (rw c.in-None.ensures.steps.0 at (c.loop-folder.invariant.complete place last found is is_last)) [
+        | inl there ↦ there
+        | inr left ↦ cc left
+      ];
+}

@@ -1,11 +1,24 @@
--- A package that is not in the index yet is left.
-use Rattle.std.proofs.Common.{◌⊎◌, ℕ, List}
+-- What the index has is right, and a package that it does not have is left.
+use Rattle.std.proofs.Common.{◌≡◌, ◌⊎◌, ℕ, List, Some, string_cmp}
+use Rattle.std.specs.List.{AllByRecursion}
+use Rattle.std.specs.List.Sorted.{IsStrictlySortedBy}
+use Rattle.std.specs.Map.{keys_of}
 use Rattle.std.specs.Option.{IsSome}
+use Rattle.serde_json.specs.Data.{Data}
 use Rattle.serde_json.specs.Find.{get_member}
 use Rattle.serde_json.specs.View.{members_view}
-use Rattle.npm_lock.specs.Private.Index.{HasPackage}
+use Rattle.npm_lock.specs.Packages.{Package, package_at}
+use Rattle.npm_lock.specs.Private.Index.{HasPlace, IsAt, IsLast, at_last}
+use Rattle.npm_lock.specs.Private.PackageValue.{packages_data}
 use Rattle.npm_lock.proofs.index.Index.of_lock.Given as goal
 
 abbrev pub invariant-loop-folder : goal.invariant-loop-folder
-invariant-loop-folder l = (path : List ℕ) → IsSome (get_member path (members_view l.initial.folder-iterator))
-    → HasPackage l.index path ⊎ IsSome (get_member path (members_view l.folder-iterator))
+invariant-loop-folder l = record {
+  sorted : IsStrictlySortedBy string_cmp (keys_of l.folder-iterator);
+  members : (key : List ℕ) (value : Data) → get_member key (members_view l.folder-iterator) ≡ Some value
+      → get_member key (members_view l.initial.folder-iterator) ≡ Some value;
+  sound : (last : List ℕ) → AllByRecursion (IsAt (packages_data l.lock)) (at_last l.index last);
+  complete : (place last : List ℕ) (found : Package) → package_at (packages_data l.lock) place ≡ Some found
+      → IsLast place last
+      → HasPlace place (at_last l.index last) ⊎ IsSome (get_member place (members_view l.folder-iterator));
+}

@@ -1,40 +1,42 @@
--- The nearest place that has the name is the last.
-use Rattle.std.proofs.Common.{◌<◌, [], arith, false, refl, rules}
-use Rattle.std.proofs.Math.Seq.{take-length}
-use Rattle.npm_lock.specs.Private.PackageValue.{package_value, packages_data}
-use Rattle.npm_lock.specs.Private.Search.{IsPlace}
-use Rattle.npm_lock.proofs.Nearest.{all_at, found_at, own_at, passed_at}
+-- The nearest candidate is what is found.
+use Rattle.std.proofs.Common.{◌≡◌, [], None, Some, length}
+use Rattle.npm_lock.specs.Private.Index.{at_last}
+use Rattle.npm_lock.specs.Private.PackageValue.{packages_data}
+use Rattle.npm_lock.proofs.Nearest.{equal_lengths, found_by, own_by}
 use Rattle.npm_lock.proofs.place.Lock.find.Goals as goal
 
-pub places-init : goal.places-init
-places-init c = record {
-  within = omega arith;
-  found = rw (take-length c.args.places.now) refl;
-  own = rw (take-length c.args.places.now) (c.requires.own c.args.name.now);
-  each = rw (take-length c.args.places.now) c.requires.each;
-}
+pub returns-in_default-clause-found : goal.returns-in_default-clause-found
+returns-in_default-clause-found c =
+    let last = c.candidates.ensures.0 in
+    let none = rw c.in_default.is at c.candidates.ensures.2 in
+    found_by (packages_data c.args.self) c.args.from.now c.args.outermost.now c.args.name.now last c.args.index.now
+    c.requires.outermost c.requires.index c.candidates.ensures.1 [] None none
+    (record { hit = tt; nearest = λ place folder has at. absurd has })
 
-pub returns-in-Some-clause-found : goal.returns-in-Some-clause-found
-returns-in-Some-clause-found c =
-    let some : 0 < c.places.count = search (rules, c.places-test.true) in
-    found_at (packages_data c.args.self) c.args.name.now c.args.places.now c.places.count _ some
-    c.places.invariant.within c.args.from.now (package_value c.in-Some.found) (c.requires.found c.args.name.now)
-    c.places.invariant.found (rw c.in-Some.is at c.in_ok-found.ensures)
+pub returns-in-Some-nearest-clause-found : goal.returns-in-Some-nearest-clause-found
+returns-in-Some-nearest-clause-found c =
+    let last = c.candidates.ensures.0 in
+    let are : c.in-Some.candidates.now ≡ at_last c.args.index.now last = rw c.in-Some.is at c.candidates.ensures.2 in
+    let nearest = c.nearest.ensures (packages_data c.args.self) (rw are (c.requires.index.sound last)) in
+    found_by (packages_data c.args.self) c.args.from.now c.args.outermost.now c.args.name.now last c.args.index.now
+    c.requires.outermost c.requires.index c.candidates.ensures.1 c.in-Some.candidates.now (Some c.in-Some-nearest.hit)
+    are (rw c.in-Some-nearest.is at nearest)
 
-pub places-preserved : goal.places-preserved
-places-preserved c =
-    let some : 0 < c.places.count = search (rules, c.places-test.true) in
-    let none = rw c.in_default.is at c.in_ok-found.ensures in
-    record {
-      within = omega (arith, c.places.invariant.within);
-      found = passed_at (packages_data c.args.self) c.args.name.now c.args.places.now c.places.count _ some
-          c.places.invariant.within none c.places.invariant.found;
-      own = own_at (packages_data c.args.self) c.args.name.now c.args.places.now c.places.count _ some
-          c.places.invariant.within c.args.from.now none c.places.invariant.own;
-      each = all_at (IsPlace (packages_data c.args.self) c.args.index.now c.args.from.now) c.args.places.now
-          c.places.count (record {
-            folder = record { ref_ptr = (0, 0); now = [] };
-            modules = record
-                { number = 0; is_package = false };
-          }) some c.places.invariant.within c.places.invariant.each;
-    }
+pub returns-in-Some-nearest-clause-own : goal.returns-in-Some-nearest-clause-own
+returns-in-Some-nearest-clause-own c =
+    let last = c.candidates.ensures.0 in
+    let are : c.in-Some.candidates.now ≡ at_last c.args.index.now last = rw c.in-Some.is at c.candidates.ensures.2 in
+    let nearest = c.nearest.ensures (packages_data c.args.self) (rw are (c.requires.index.sound last)) in
+    equal_lengths (length c.in-Some-nearest.hit.folder.now) (length c.args.from.now)
+    (own_by (packages_data c.args.self) c.args.from.now c.args.outermost.now c.args.name.now last c.args.index.now
+    c.requires.outermost c.requires.index c.candidates.ensures.1 c.in-Some.candidates.now c.in-Some-nearest.hit
+    are (rw c.in-Some-nearest.is at nearest))
+
+pub returns-in-None-clause-found : goal.returns-in-None-clause-found
+returns-in-None-clause-found c =
+    let last = c.candidates.ensures.0 in
+    let are : c.in-Some.candidates.now ≡ at_last c.args.index.now last = rw c.in-Some.is at c.candidates.ensures.2 in
+    let nearest = c.nearest.ensures (packages_data c.args.self) (rw are (c.requires.index.sound last)) in
+    found_by (packages_data c.args.self) c.args.from.now c.args.outermost.now c.args.name.now last c.args.index.now
+    c.requires.outermost c.requires.index c.candidates.ensures.1 c.in-Some.candidates.now None are
+    (rw c.in-None.is at nearest)

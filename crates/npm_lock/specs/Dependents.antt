@@ -1,6 +1,6 @@
 -- By which range texts other packages ask for an installed package: npm's "npm explain".
 use Rattle.std.specs.Prelude.{◌≡◌, ◌↔◌, ℕ, List, [], ◌++◌, Bool, IsTrue, Option, Some, None, bytes_eq, codes}
-use Rattle.std.specs.Prelude.{filter, map}
+use Rattle.std.specs.Prelude.{filter, if◌then◌else◌, map}
 use Rattle.std.specs.BTreeMap.{get_by}
 use Rattle.std.specs.Bool.{MatchBool}
 use Rattle.std.specs.Cmp.Lexicographic.{slice_cmp}
@@ -12,6 +12,7 @@ use Rattle.serde_json.specs.Find.{get}
 use Rattle.npm_lock.specs.Asked.{AskedValue, asked_of}
 use Rattle.npm_lock.specs.Findings.{AreNames}
 use Rattle.npm_lock.specs.Folders.{IsInstalled}
+use Rattle.npm_lock.specs.Overrides.{overridden}
 use Rattle.npm_lock.specs.Packages.{IsFound, Package, is_link}
 use Rattle.npm_lock.specs.declared.dependents.Dependents.{Dependents}
 use Rattle.npm_lock.specs.RangeText.{SpecValue, in_registry, location, refused, spec_of}
@@ -26,19 +27,23 @@ text_of_spec refused = codes "no range"
 abbrev pub asked_text : (spec : List ℕ) → List ℕ
 asked_text spec = text_of_spec (spec_of spec)
 
+-- the text of a dependency: `no range` too if `overrides` change it in a way that is not read here
+abbrev pub request_text : AskedValue → List ℕ
+request_text asked = if asked.is_overridden then codes "no range" else asked_text asked.spec
+
 -- a dependency for which a package is found: its folder, and the text that is asked for
 pub record Request : Type 0 where
   pub to : List ℕ
   pub text : List ℕ
 
--- what the package in this folder asks for by a name, if a package is found for it
+-- what the package in this folder asks for by a name, as `overrides` change it, if a package is found for it
 pub data IsRequest (packages : Data) (folder : List ℕ) (asker : Data) (is_installed : Bool) (name : List ℕ)
     : Option Request → Type 0 where
   unmet : IsFound packages name folder None → IsRequest packages folder asker is_installed name None
   met : (asked : AskedValue) (found : Package) → asked_of asker is_installed name ≡ Some asked
       → IsFound packages name folder (Some found)
       → IsRequest packages folder asker is_installed name (Some
-      (record { to = found.folder; text = asked_text asked.spec }))
+      (record { to = found.folder; text = request_text (overridden packages folder name asked) }))
 
 -- what the package in this folder asks for, name by name
 pub record ArePackageRequests (packages : Data) (folder : List ℕ) (asker : Data) (requests : List Request)

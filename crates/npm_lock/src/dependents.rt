@@ -3,13 +3,15 @@ ghost use Rattle.std.specs.Prelude.{◌≡◌, ◌↔◌, ◌∷◌, [], ℕ, Bo
 ghost use Rattle.std.specs.Option.{option_map_or, option_to_list};
 ghost use Rattle.serde_json.specs.View.{members_view, view};
 ghost use Rattle.npm_lock.specs.Dependents.{AreDependents, AreMemberRequests, AreRequests, IsRequest, Request, texts_of};
-ghost use Rattle.npm_lock.specs.Dependents.{asked_text, texts_at};
+ghost use Rattle.npm_lock.specs.Dependents.{asked_text, request_text, texts_at};
 ghost use Rattle.npm_lock.specs.Faults as Faults;
 ghost use Rattle.npm_lock.specs.Private.Index.{IsIndexOf};
 ghost use Rattle.npm_lock.specs.Private.PackageValue.{packages_data};
 ghost use Rattle.npm_lock.specs.Private.Requests.{AddsRequests};
 ghost use Rattle.npm_lock.specs.Private.Search.{IsOutermostFrom};
-ghost use Rattle.npm_lock.specs.Asked.{asked_of as asked_by};
+ghost use Rattle.npm_lock.specs.Private.Rules.{AreRules};
+ghost use Rattle.npm_lock.specs.Asked.{AskedValue, asked_of as asked_by};
+ghost use Rattle.npm_lock.specs.Overrides as Overrides;
 ghost use Rattle.npm_lock.specs.Private.PackageValue.{asked_value};
 ghost use Rattle.npm_lock.specs.declared.fault.Fault.{Fault};
 
@@ -18,6 +20,7 @@ use crate::asked::{Asked, asked_of};
 use crate::fault::{CheckError, lock_of};
 use crate::folder::is_installed;
 use crate::index::Index;
+use crate::overrides::{Rules, overridden, rules_of};
 use crate::place::{Lock, Package, is_link};
 use crate::range_text::{Spec, spec_of};
 use crate::search::outermost_of;
@@ -25,8 +28,9 @@ use serde_json::Value;
 use std::alloc::Global;
 use std::collections::BTreeMap;
 
-/// The range texts by which other packages of a lock file ask for each installed package. A spec that is no range and no tag
-/// counts as the text `no range`, which is no range.
+/// The range texts by which other packages of a lock file ask for each installed package, as `overrides` change them. A spec that
+/// is no range and no tag counts as the text `no range`, which is no range, and so does one that `overrides` change in a way
+/// that is not read here.
 #[derive(Drop)]
 pub struct Dependents<'v> {
     by_folder: BTreeMap<&'v str, Vec<&'v str>>,
@@ -86,10 +90,12 @@ fn dependents_of(lock: Lock<'_>) -> Result<Dependents<'_>>
         × ((folder : List ℕ) → texts_at dependents folder ≡ texts_of folder requests)) }
 {
     let index = Index::of_lock(lock)?;
+    let rules = rules_of(lock)?;
     let mut dependents = Dependents::new(lock.alloc);
     for (folder, member) in lock.members.iter() {
         let folder = folder.as_str();
-        add_requests(lock, &index, Package { folder, member }, &mut dependents)?;
+        let asker = Package { folder, member };
+        add_requests(lock, &index, &rules, asker, &mut dependents)?;
     }
     Ok(dependents)
 }
@@ -98,10 +104,12 @@ fn dependents_of(lock: Lock<'_>) -> Result<Dependents<'_>>
 fn add_requests<'v>(
     lock: Lock<'v>,
     index: &Index<'v>,
+    rules: &Rules<'v>,
     asker: Package<'v>,
     dependents: &mut Dependents<'v>,
 ) -> Result<()>
-    requires { IsIndexOf (packages_data lock) index.now }
+    requires index { IsIndexOf (packages_data lock) index.now }
+    requires rules { AreRules (packages_data lock) rules.now }
     ensures { OnOk result ((requests : List Request)
         × AreMemberRequests (packages_data lock.entry) asker.entry.folder.now (view asker.entry.member.now) requests
         × AddsRequests dependents.old dependents.new requests) }
@@ -113,7 +121,8 @@ fn add_requests<'v>(
     let outermost = outermost_of(asker.folder);
     let all = asked_of(lock.alloc, asker.member, is_installed)?;
     for (name, asked) in all.iter() {
-        add_request(lock, asker, index, outermost, *name, *asked, dependents)?;
+        let changed = overridden(rules, asker.folder, *name, *asked);
+        add_request(lock, asker, index, outermost, *name, changed, dependents)?;
     }
     Ok(())
 }
@@ -131,15 +140,27 @@ fn add_request<'v>(
     requires index { IsIndexOf (packages_data lock) index.now }
     requires outermost { IsOutermostFrom asker.folder.now outermost.now }
     ensures { OnOk result ((request : Option Request)
-        × ((is_installed : Bool)
-        → asked_by (view asker.entry.member.now) is_installed name.now ≡ Some (asked_value asked.entry)
+        × ((is_installed : Bool) (before : AskedValue)
+        → asked_by (view asker.entry.member.now) is_installed name.now ≡ Some before
+        → asked_value asked.entry ≡ Overrides.overridden (packages_data lock.entry) asker.entry.folder.now name.now before
         → IsRequest (packages_data lock.entry) asker.entry.folder.now (view asker.entry.member.now) is_installed
         name.now request)
         × AddsRequests dependents.old dependents.new (option_to_list request)) }
 {
     match lock.find(index, asker.folder, outermost, name)? {
-        Some((found, _)) => dependents.add(lock.alloc, found.folder, asked_text(asked.spec)),
+        Some((found, _)) => dependents.add(lock.alloc, found.folder, request_text(asked)),
         None => Ok(()),
+    }
+}
+
+/// The text of a dependency, or one that is no range if `overrides` change it in a way that is not read here.
+fn request_text(asked: Asked<'_>) -> &str
+    ensures { result.now ≡ request_text (asked_value asked.entry) }
+{
+    if asked.is_overridden {
+        NO_RANGE
+    } else {
+        asked_text(asked.spec)
     }
 }
 

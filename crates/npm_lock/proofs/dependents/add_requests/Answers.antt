@@ -1,8 +1,10 @@
 -- The request of a name comes before those of the names that are left.
-use Rattle.std.proofs.Common.{◌≡◌, ◌∙◌, ◌∷◌, [], false, refl, sym}
+use Rattle.std.proofs.Common.{◌≡◌, ◌∙◌, ◌∷◌, [], ap, false, refl, sym}
 use Rattle.serde_json.specs.View.{view}
+use Rattle.npm_lock.specs.Overrides.{changed_by, overridden}
 use Rattle.npm_lock.specs.Packages.{is_link}
 use Rattle.npm_lock.specs.Private.Groups.{names_of}
+use Rattle.npm_lock.specs.Private.PackageValue.{asked_value, packages_data}
 use Rattle.npm_lock.proofs.NameLists.{all_asked, are_names}
 use Rattle.npm_lock.proofs.Requesting.{no-requests, option-requests}
 use Rattle.npm_lock.proofs.dependents.add_requests.Goals as goal
@@ -20,10 +22,16 @@ pub loop-name-preserved : goal.loop-name-preserved
 loop-name-preserved c =
     let asked = rw c.in-Some.ensures.steps at c.loop-name.invariant.asked in
     let here = c.in_ok-add_request.ensures in
+    let changed : asked_value c.overridden-changed.result
+    ≡ overridden (packages_data c.args.lock) c.args.asker.folder.now c.in-Some.name.now.now
+    (asked_value c.in-Some.asked.now) =
+    c.overridden-changed.ensures
+    ∙ ap (λ rule. changed_by rule c.args.asker.folder.now (asked_value c.in-Some.asked.now))
+    (c.requires.rules c.in-Some.name.now.now) in
     record {
       asked = asked.1;
       found = λ later new are adds. c.loop-name.invariant.found (here.0 ∷ later) new
-          (rw c.in-Some.ensures.steps (here.1 c.is_installed-is_installed.result asked.0, are))
+          (rw c.in-Some.ensures.steps (here.1 c.is_installed-is_installed.result _ asked.0 changed, are))
           (option-requests c.loop-name.dependents c.add_request.new.dependents new here.0 later here.2 adds);
     }
 

@@ -35,8 +35,11 @@ pub(crate) struct Package<'v> {
     pub(crate) member: &'v Value,
 }
 
-/// Up to so many packages of one name are looked at one by one, and one more for each byte of a folder.
+/// Up to so many packages of one name are looked at one by one, and more for a long folder: going up from it builds a text for
+/// each folder above, which takes time that grows with the square of its bytes.
 const MANY: usize = 32;
+
+const BYTES_PER_PACKAGE: usize = 512;
 
 impl<'v> Lock<'v> {
     /// Finds a name in the `node_modules` of the package's folder, or else of the next folder above. Also returns `true`
@@ -58,7 +61,9 @@ impl<'v> Lock<'v> {
         let Some(candidates) = index.candidates(name) else {
             return Ok(None);
         };
-        if candidates.len().saturating_sub(MANY) > from.len() {
+        let bytes = from.len();
+        let more = bytes.saturating_add(bytes.saturating_mul(bytes) / BYTES_PER_PACKAGE);
+        if candidates.len().saturating_sub(MANY) > more {
             return self.find_above(from, name);
         }
         match nearest(candidates, from, outermost, name) {

@@ -62,14 +62,15 @@ impl<'v> Index<'v> {
     fn add(&mut self, alloc: Global, candidate: Candidate<'v>) -> Result<()>
         ensures { OnOk result (IsAdded candidate.entry self.old self.new) }
     {
-        let last = last_of(candidate.place);
-        if let Some(list) = self.by_last.get_mut(&last) {
-            list.push(candidate)?;
-            return Ok(());
+        let list = self
+            .by_last
+            .entry(last_of(candidate.place))?
+            .or_insert(Vec::new(alloc));
+        if list.is_empty() {
+            // Mostly it stays alone, and a list that grows from nothing takes room for four.
+            list.reserve_exact(1)?;
         }
-        let mut list = Vec::with_capacity(alloc, 1)?;
         list.push(candidate)?;
-        self.by_last.insert(last, list)?;
         Ok(())
     }
 

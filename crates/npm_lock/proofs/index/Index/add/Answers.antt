@@ -1,7 +1,7 @@
--- The list of the last part has one candidate more.
+-- The list of the end has one candidate more.
 use Rattle.std.proofs.Common.{arith}
 use Rattle.std.proofs.lemmas.Map.Text.{text_keys}
 use Rattle.npm_lock.proofs.index.Index.add.Goals as goal
 
 pub returns : goal.returns
-returns c = record { last = c.last_of.result.now; is_last = c.last_of.ensures; lists = λ other. grind (arith, text_keys) }
+returns c = record { end = c.end_of.result.now; is_end = c.end_of.ensures; lists = λ other. grind (arith, text_keys) }

@@ -1,21 +1,37 @@
-"""deep_lock_file.py SHAPE N: writes a lock file whose folders are deep.
+"""deep_lock_file.py SHAPE N: writes a lock file whose folders are deep, or that has many of something.
 
     path      a package in a folder `f/f/f/..` of N parts asks for N names: half are found in the root, the others nowhere
+    modules   the same in a folder `node_modules/a/node_modules/a/..`, with no package in the folders between
     nested    N packages, each in the `node_modules` of the one before, ask for a name in the root and for one that is nowhere
+    wide      one package asks for N names, which are installed
+    links     one package asks for N names, which are links
+    copies    N packages, each with a copy of one name in its own `node_modules`, ask for that name
 """
 import json
 import sys
 
 shape, count = sys.argv[1], int(sys.argv[2])
 packages = {"": {"name": "deep", "version": "1.0.0"}}
-if shape == "path":
-    wanted, optional = ({f"name-{i}": "^1.0.0" for i in range(first, count, 2)} for first in (0, 1))
-    packages["/".join(["f"] * count)] = {"dependencies": wanted, "optionalDependencies": optional}
-    packages.update({f"node_modules/name-{i}": {"version": "1.2.3"} for i in range(0, count, 2)})
-else:
+names = [f"name-{i}" for i in range(count)]
+if shape in ("path", "modules"):
+    wanted, optional = ({name: "^1.0.0" for name in names[first::2]} for first in (0, 1))
+    folder = "/".join(["f"] * count if shape == "path" else ["node_modules/a"] * count)
+    packages[folder] = {"dependencies": wanted, "optionalDependencies": optional}
+    packages.update({f"node_modules/{name}": {"version": "1.2.3"} for name in wanted})
+elif shape == "nested":
     folder = "node_modules/a"
     for _ in range(count):
         packages[folder] = {"version": "1.2.3", "dependencies": {"found": "^1.0.0"}, "peerDependencies": {"gone": "1"}}
         folder += "/node_modules/a"
     packages["node_modules/found"] = {"version": "1.2.3"}
+elif shape == "copies":
+    for name in names:
+        packages[f"node_modules/{name}"] = {"version": "1.2.3", "dependencies": {"copied": "^1.0.0"}}
+        packages[f"node_modules/{name}/node_modules/copied"] = {"version": "1.2.3"}
+else:
+    packages[""]["dependencies"] = {name: "^1.0.0" for name in names}
+    for name in names:
+        if shape == "links":
+            packages[f"node_modules/{name}"] = {"link": True, "resolved": f"linked/{name}"}
+        packages[f"linked/{name}" if shape == "links" else f"node_modules/{name}"] = {"version": "1.2.3"}
 json.dump({"lockfileVersion": 3, "packages": packages}, sys.stdout)

@@ -74,22 +74,12 @@ pub index-named : (name : List ℕ) (values : List AdvisoryValue) (index : Index
 index-named name values index is =
     subst (AllZip IsAdvisory (about_name name values)) (sym (is.now name)) (zip-named name values is.added is.read)
 
-module _ {V X : Type 0} (items : V → List X) where
-  -- a list that was taken out, or an empty one
-  pub taken-some : (taken : Option V) (list found : V) → taken ≡ Some found → list ≡ found
-      → items list ≡ option_map_or items taken []
-  taken-some taken list found is same = rw (is, same) refl
-
-  pub taken-none : (taken : Option V) (list empty : V) → taken ≡ None → list ≡ empty → items empty ≡ []
-      → items list ≡ option_map_or items taken []
-  taken-none taken list empty is same none = rw (is, same) none
-
-  -- it is put back with one more element
-  pub put-back : (same : Bool) (old removed new taken : Option V) (list pushed : V) (one : X)
-      → removed ≡ cond same None old → new ≡ cond same (Some pushed) removed → items list ≡ option_map_or items taken []
-      → items pushed ≡ items list ++ one ∷ [] → (same ≡ true → taken ≡ old)
-      → option_map_or items new [] ≡ option_map_or items old [] ++ cond same (one ∷ []) []
-  put-back true old removed new taken list pushed one gone put from more key =
-      rw (put, more, from, key refl) refl
-  put-back false old removed new taken list pushed one gone put from more key =
-      rw (put, gone) (sym (append-nil (option_map_or items old [])))
+-- one more advisory, if it is about the package with this name
+pub one-named : (old : Index) (name : List ℕ) (one : Advisory)
+    → at_name old name ++ named name (one ∷ [])
+    ≡ cond (bytes_eq one.name.now name) (at_name old name ++ (one ∷ [])) (at_name old name)
+one-named old name one = by_name (bytes_eq one.name.now name) refl where
+  by_name : (same : Bool) → bytes_eq one.name.now name ≡ same
+      → at_name old name ++ named name (one ∷ []) ≡ cond same (at_name old name ++ (one ∷ [])) (at_name old name)
+  by_name true is = rw is refl
+  by_name false is = rw is (append-nil (at_name old name))

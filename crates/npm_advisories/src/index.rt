@@ -29,12 +29,8 @@ impl<'v> Index<'v> {
             ≡ at_name self.old name ++ named name (advisory.entry ∷ [])) }
     {
         let name = advisory.name;
-        let mut list = match self.by_name.remove(&name) {
-            Some(list) => list,
-            None => Vec::new(alloc),
-        };
+        let list = self.by_name.entry(name)?.or_insert(Vec::new(alloc));
         list.push(advisory)?;
-        self.by_name.insert(name, list)?;
         Ok(())
     }
 

@@ -8,10 +8,10 @@ use Rattle.std.specs.Option.{IsSome, option_map_or}
 use Rattle.serde_json.specs.Data.{Data, Members, member}
 use Rattle.serde_json.specs.Find.{get, get_member}
 use Rattle.npm_lock.specs.Packages.{Package, package_at}
-use Rattle.npm_lock.specs.Private.Index.{HasPlace, IsAdded, IsAt, IsLast, IsMore, at_last}
+use Rattle.npm_lock.specs.Private.Index.{HasPlace, IsAdded, IsAt, IsEnd, IsMore, at_end}
 use Rattle.npm_lock.specs.declared.index.Candidate.{Candidate}
 use Rattle.npm_lock.specs.declared.index.Index.{Index}
-use Rattle.npm_lock.proofs.Fronts.{same_last}
+use Rattle.npm_lock.proofs.Fronts.{same_end}
 use Rattle.npm_lock.proofs.NameLists.{exact, itself}
 
 -- ---- one more candidate
@@ -47,22 +47,22 @@ has_last place (first ∷ candidates) one is = inr (has_last place candidates on
 pub is_more : (packages : Data) (candidate : Candidate) (old new : Index) → IsAt packages candidate
     → IsAdded candidate old new → IsMore packages candidate.place.now old new
 is_more packages candidate old new right added = record {
-  sound = λ all last. by_sound last (all last) (bytes_eq added.last last) refl;
-  stays = λ other last has. by_stays other last has (bytes_eq added.last last) refl;
+  sound = λ all last. by_sound last (all last) (bytes_eq added.end last) refl;
+  stays = λ other last has. by_stays other last has (bytes_eq added.end last) refl;
   has = λ last found is is_last.
-      let same : added.last ≡ last = same_last candidate.place.now added.last last added.is_last is_last in
-      let equal : bytes_eq added.last last ≡ true = (bytes_eq-Decides added.last last).1 same in
-      rw (added.lists last, equal) (has_last candidate.place.now (at_last old last) candidate refl);
+      let same : added.end ≡ last = same_end candidate.place.now added.end last added.is_end is_last in
+      let equal : bytes_eq added.end last ≡ true = (bytes_eq-Decides added.end last).1 same in
+      rw (added.lists last, equal) (has_last candidate.place.now (at_end old last) candidate refl);
 } where
-  by_sound : (last : List ℕ) → AllByRecursion (IsAt packages) (at_last old last) → (same : Bool)
-      → bytes_eq added.last last ≡ same → AllByRecursion (IsAt packages) (at_last new last)
+  by_sound : (last : List ℕ) → AllByRecursion (IsAt packages) (at_end old last) → (same : Bool)
+      → bytes_eq added.end last ≡ same → AllByRecursion (IsAt packages) (at_end new last)
   by_sound last all true is =
-      rw (added.lists last, is) (all_and_one (IsAt packages) (at_last old last) candidate all right)
+      rw (added.lists last, is) (all_and_one (IsAt packages) (at_end old last) candidate all right)
   by_sound last all false is = rw (added.lists last, is) all
 
-  by_stays : (other last : List ℕ) → HasPlace other (at_last old last) → (same : Bool)
-      → bytes_eq added.last last ≡ same → HasPlace other (at_last new last)
-  by_stays other last has true is = rw (added.lists last, is) (has_before other (at_last old last) candidate has)
+  by_stays : (other last : List ℕ) → HasPlace other (at_end old last) → (same : Bool)
+      → bytes_eq added.end last ≡ same → HasPlace other (at_end new last)
+  by_stays other last has true is = rw (added.lists last, is) (has_before other (at_end old last) candidate has)
   by_stays other last has false is = rw (added.lists last, is) has
 
 -- ---- one more member of `packages`
@@ -97,19 +97,19 @@ some_member packages place found is = by_member (get place packages) refl where
 
 -- the package of a member is in the index, and the others are left
 pub has_next : (packages : Data) (old new : Index) (place last key : List ℕ) (value : Data) (rest : Members)
-    (found : Package) → package_at packages place ≡ Some found → IsLast place last → IsMore packages key old new
-    → HasPlace place (at_last old last) ⊎ IsSome (get_member place (member key value rest))
-    → HasPlace place (at_last new last) ⊎ IsSome (get_member place rest)
+    (found : Package) → package_at packages place ≡ Some found → IsEnd place last → IsMore packages key old new
+    → HasPlace place (at_end old last) ⊎ IsSome (get_member place (member key value rest))
+    → HasPlace place (at_end new last) ⊎ IsSome (get_member place rest)
 has_next packages old new place last key value rest found is is_last more before = elim before [
   | inl there ↦ inl (more.stays place last there)
   | inr left ↦ by_order (slice_cmp nat_cmp place key) refl left
 ] where
   by_order : (o : Ordering) → slice_cmp nat_cmp place key ≡ o → IsSome (get_member place (member key value rest))
-      → HasPlace place (at_last new last) ⊎ IsSome (get_member place rest)
+      → HasPlace place (at_end new last) ⊎ IsSome (get_member place rest)
   by_order Less order left = inr (rw order at left)
   by_order Equal order left =
       let same : place ≡ key = exact place key (ap is_eq order) in
       let there : package_at packages key ≡ Some found = rw same at is in
-      let of_key : IsLast key last = rw same at is_last in
+      let of_key : IsEnd key last = rw same at is_last in
       inl (rw same (more.has last found there of_key))
   by_order Greater order left = inr (rw order at left)

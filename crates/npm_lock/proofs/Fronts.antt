@@ -1,13 +1,15 @@
 -- Paths that are parted at a `/`, and the places of names in folders.
 use Rattle.std.proofs.Common.{◌≡◌, ◌≢◌, ◌∙◌, ◌⊎◌, ℕ, suc, List, [], ◌∷◌, ◌++◌, Option, Some, None, ap, arith}
-use Rattle.std.proofs.Common.{append_assoc, codes, drop, inl, inr, length, refl, sym, take}
-use Rattle.std.proofs.lemmas.List.{append_cancel_right, length-append, take-append-drop}
+use Rattle.std.proofs.Common.{◌==◌, append_assoc, codes, drop, false, true, inl, inr, length, refl, sym, take}
+use Rattle.std.proofs.lemmas.List.{append_cancel_left, append_cancel_right, length-append, take-append-drop}
+use Rattle.std.proofs.lemmas.List.Folds.{list_any_at}
 use Rattle.std.proofs.lemmas.Str.Pattern.{NoCharPasses-char, drop_at_char}
+use Rattle.std.specs.List.{list_any}
 use Rattle.std.specs.Option.{MatchOption}
 use Rattle.std.specs.Str.Pattern.{RFindsChar, SplitsAroundMatch}
 use denote.Ref.{Bor}
 use Rattle.npm_lock.specs.Folders.{place_in}
-use Rattle.npm_lock.specs.Private.Index.{HasNoSlash, IsLast}
+use Rattle.npm_lock.specs.Private.Index.{HasNoSlash, IsEnd, IsLast, alone, plain, scoped}
 
 -- ---- parts
 
@@ -139,9 +141,79 @@ last_after front name last is = record {
   ];
 }
 
--- the last part of a name is that of its place
-pub last_of_place : (folder name last : List ℕ) → IsLast name last → IsLast (place_in folder name) last
-last_of_place [] name last is = last_after (codes "node_modules") name last is
-last_of_place (b ∷ folder) name last is =
-    rw (append_assoc (b ∷ folder) (codes "/node_modules") (47 ∷ name)) at
-    (last_after ((b ∷ folder) ++ codes "/node_modules") name last is)
+no_slash_in : (xs : List ℕ) → list_any (λ b. b == 47) xs ≡ false → HasNoSlash xs
+no_slash_in xs none i small is = let found : list_any (λ b. b == 47) xs ≡ true = list_any_at (λ b. b == 47) xs i 0 small (rw is refl) in cc (found, none)
+
+-- the folder that holds packages, and the place of a name behind it
+modules_in : List ℕ → List ℕ
+modules_in [] = codes "node_modules"
+modules_in (b ∷ folder) = (b ∷ folder) ++ codes "/node_modules"
+
+place_behind : (folder name : List ℕ) → place_in folder name ≡ modules_in folder ++ (47 ∷ name)
+unfolding modules_in
+place_behind [] name = refl
+place_behind (b ∷ folder) name = sym (append_assoc (b ∷ folder) (codes "/node_modules") (47 ∷ name))
+
+last_modules : (folder : List ℕ) → IsLast (modules_in folder) (codes "node_modules")
+unfolding modules_in
+last_modules [] = record { no_slash = no_slash_in (codes "node_modules") refl; whole = inl refl }
+last_modules (b ∷ folder) =
+    record { no_slash = no_slash_in (codes "node_modules") refl; whole = inr (b ∷ folder, refl) }
+
+-- the end of a name is that of its place
+pub end_of_place : (folder name end : List ℕ) → IsEnd name end → IsEnd (place_in folder name) end
+end_of_place folder name end (alone none is) =
+    plain (modules_in folder) (codes "node_modules") (rw is (place_behind folder name)) (rw is none) (last_modules folder)
+    refl
+end_of_place folder name end (plain above part whole none is_last is) =
+    plain (modules_in folder ++ (47 ∷ above)) part
+    (place_behind folder name ∙ ap (λ t. modules_in folder ++ (47 ∷ t)) whole
+    ∙ sym (append_assoc (modules_in folder) (47 ∷ above) (47 ∷ end))) none
+    (last_after (modules_in folder) above part is_last) is
+end_of_place folder name end (scoped above part last whole none is_last is is_end) =
+    scoped (modules_in folder ++ (47 ∷ above)) part last
+    (place_behind folder name ∙ ap (λ t. modules_in folder ++ (47 ∷ t)) whole
+    ∙ sym (append_assoc (modules_in folder) (47 ∷ above) (47 ∷ last))) none
+    (last_after (modules_in folder) above part is_last) is is_end
+
+-- a path has one end
+pub same_end : (path a b : List ℕ) → IsEnd path a → IsEnd path b → a ≡ b
+same_end path a b (alone none is) (alone none' is') = is ∙ sym is'
+same_end path a b (alone none is) (plain above part whole none' is_last is_plain) =
+    absurd (has_slash above b (rw whole at none))
+same_end path a b (alone none is) (scoped above part last whole none' is_last is_scoped is') =
+    absurd (has_slash above last (rw whole at none))
+same_end path a b (plain above part whole none is_last is_plain) (alone none' is') =
+    absurd (has_slash above a (rw whole at none'))
+same_end path a b (plain above part whole none is_last is_plain) (plain above' part' whole' none' is_last' is_plain') =
+    (same_cut above above' a b (sym whole ∙ whole') none none').1
+same_end path a b (plain above part whole none is_last is_plain)
+    (scoped above' part' last whole' none' is_last' is_scoped is') =
+    let cut = same_cut above above' a last (sym whole ∙ whole') none none' in
+    let same : part ≡ part' = same_last above part part' is_last (rw (sym cut.0) at is_last') in
+    cc (same, is_plain, is_scoped)
+same_end path a b (scoped above part last whole none is_last is_scoped is) (alone none' is') =
+    absurd (has_slash above last (rw whole at none'))
+same_end path a b (scoped above part last whole none is_last is_scoped is)
+    (plain above' part' whole' none' is_last' is_plain) =
+    let cut = same_cut above above' last b (sym whole ∙ whole') none none' in
+    let same : part ≡ part' = same_last above part part' is_last (rw (sym cut.0) at is_last') in
+    cc (same, is_plain, is_scoped)
+same_end path a b (scoped above part last whole none is_last is_scoped is)
+    (scoped above' part' last' whole' none' is_last' is_scoped' is') =
+    let cut = same_cut above above' last last' (sym whole ∙ whole') none none' in
+    let same : part ≡ part' = same_last above part part' is_last (rw (sym cut.0) at is_last') in
+    is ∙ ap (λ t. t ++ (47 ∷ last)) same ∙ ap (λ t. part' ++ (47 ∷ t)) cut.1 ∙ sym is'
+
+-- the part and what comes after it, behind what comes before it
+pub scoped_end : (path above part last front rest : List ℕ) → path ≡ above ++ (47 ∷ last) → above ≡ front ++ part
+    → path ≡ front ++ rest → rest ≡ part ++ (47 ∷ last)
+scoped_end path above part last front rest whole is_part is_rest = append_cancel_left front rest (part ++ (47 ∷ last))
+    (sym is_rest ∙ whole ∙ ap (λ t. t ++ (47 ∷ last)) is_part ∙ append_assoc front part (47 ∷ last))
+
+-- what is above ends with its last part
+pub front_of_last : (above part : List ℕ) → IsLast above part → (front : List ℕ) × (above ≡ front ++ part)
+front_of_last above part is = elim is.whole [
+  | inl same ↦ ([], same)
+  | inr more ↦ (more.0 ++ (47 ∷ []), more.1 ∙ sym (append_assoc more.0 (47 ∷ []) part))
+]

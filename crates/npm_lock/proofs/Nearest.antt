@@ -7,14 +7,14 @@ use Rattle.std.specs.Option.{IfSome, MatchOption}
 use Rattle.serde_json.specs.Data.{Data}
 use Rattle.npm_lock.specs.Folders.{IsAbove, is_modules, place_in}
 use Rattle.npm_lock.specs.Packages.{IsFound, IsFoundIn, IsPassed, Package, package_at}
-use Rattle.npm_lock.specs.Private.Index.{IsAt, IsIndexOf, IsLast, at_last}
+use Rattle.npm_lock.specs.Private.Index.{IsAt, IsIndexOf, IsEnd, at_end}
 use Rattle.npm_lock.specs.Private.PackageValue.{package_value}
 use Rattle.npm_lock.specs.Private.Search.{IsCovered, IsHit, IsNearest, IsNearestSoFar, IsOutermostFrom, IsPlaceOf}
 use Rattle.npm_lock.specs.Private.Search.{IsReached, itself, nearer}
 use Rattle.npm_lock.specs.declared.index.Candidate.{Candidate}
 use Rattle.npm_lock.specs.declared.index.Index.{Index}
 use Rattle.npm_lock.specs.declared.search.Hit.{Hit}
-use Rattle.npm_lock.proofs.Fronts.{last_of_place, same_place}
+use Rattle.npm_lock.proofs.Fronts.{end_of_place, same_place}
 use Rattle.npm_lock.proofs.Reaching.{found_in_nearest, found_in_none, reached_same, reached_shorter, shorter}
 
 -- ---- lists
@@ -110,17 +110,17 @@ module _ (packages : Data) (from name : List ℕ) where
 -- ---- what the nearest candidate says
 
 module _ (packages : Data) (from outermost name last : List ℕ) (index : Index)
-    (is_outermost : IsOutermostFrom from outermost) (is_index : IsIndexOf packages index) (is_last : IsLast name last)
+    (is_outermost : IsOutermostFrom from outermost) (is_index : IsIndexOf packages index) (is_last : IsEnd name last)
   where
-    covered_if : (candidates : List Candidate) (best : Option Hit) → candidates ≡ at_last index last
+    covered_if : (candidates : List Candidate) (best : Option Hit) → candidates ≡ at_end index last
         → IsNearest packages from name candidates best → (folder : List ℕ) (found : Package) → IsReached from folder
         → is_modules folder ≡ false → package_at packages (place_in folder name) ≡ Some found → IsCovered best folder
     covered_if candidates best are nearest folder found reached no_modules there =
         nearest.nearest (place_in folder name) folder
-        (rw are (is_index.complete (place_in folder name) last found there (last_of_place folder name last is_last)))
+        (rw are (is_index.complete (place_in folder name) last found there (end_of_place folder name last is_last)))
         (record { is = refl; reached = reached; no_modules = no_modules })
 
-    passed_at : (candidates : List Candidate) (best : Option Hit) → candidates ≡ at_last index last
+    passed_at : (candidates : List Candidate) (best : Option Hit) → candidates ≡ at_end index last
         → IsNearest packages from name candidates best → (folder : List ℕ) → IsReached from folder
         → (IsCovered best folder → ⊥) → IsPassed packages name folder
     passed_at candidates best are nearest folder reached none = by_kind (is_modules folder) refl where
@@ -134,7 +134,7 @@ module _ (packages : Data) (from outermost name last : List ℕ) (index : Index)
       by_kind true is = inl is
       by_kind false is = by_found is _ refl
 
-    pub found_by : (candidates : List Candidate) (best : Option Hit) → candidates ≡ at_last index last
+    pub found_by : (candidates : List Candidate) (best : Option Hit) → candidates ≡ at_end index last
         → IsNearest packages from name candidates best
         → IsFound packages name from (option_map (λ h. package_value h.found) best)
     found_by candidates None are nearest = found_in_none packages name is_outermost.reached is_outermost.last
@@ -146,7 +146,7 @@ module _ (packages : Data) (from outermost name last : List ℕ) (index : Index)
         let short : length nearer ≤ length h.folder.now = rw same at covered.2 in
         absurd (omega (arith, long, short))))
 
-    pub own_by : (candidates : List Candidate) (h : Hit) → candidates ≡ at_last index last
+    pub own_by : (candidates : List Candidate) (h : Hit) → candidates ≡ at_end index last
         → IsNearest packages from name candidates (Some h)
         → (length h.folder.now ≡ length from) ↔ IsFoundIn packages name from (package_value h.found)
     own_by candidates h are nearest = (

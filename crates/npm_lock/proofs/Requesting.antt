@@ -33,27 +33,13 @@ option-requests old between new None later one other = both-requests old between
 option-requests old between new (Some request) later one other =
     both-requests old between new (request ∷ []) _ one other
 
-module _ {V X : Type 0} (items : V → List X) where
-  -- a list that was taken out, or an empty one
-  pub taken_some : (taken : Option V) (list found : V) → taken ≡ Some found → list ≡ found
-      → items list ≡ option_map_or items taken []
-  taken_some taken list found is same = rw (is, same) refl
-
-  pub taken_none : (taken : Option V) (list empty : V) → taken ≡ None → list ≡ empty → items empty ≡ []
-      → items list ≡ option_map_or items taken []
-  taken_none taken list empty is same none = rw (is, same) none
-
-  -- it is put back with one more element
-  pub put_back : (same : Bool) (old removed new taken : Option V) (list pushed : V) (one : X)
-      → removed ≡ cond same None old → new ≡ cond same (Some pushed) removed → items list ≡ option_map_or items taken []
-      → items pushed ≡ items list ++ one ∷ [] → (same ≡ true → taken ≡ old)
-      → option_map_or items new [] ≡ option_map_or items old [] ++ cond same (one ∷ []) []
-  put_back true old removed new taken list pushed one gone put from more key = rw (put, more, from, key refl) refl
-  put_back false old removed new taken list pushed one gone put from more key =
-      rw (put, gone) (sym (append-nil (option_map_or items old [])))
-
--- the texts of one request
-pub one-text : (same : Bool) (request : Request) → map (λ (r : Request). r.text) (cond same (request ∷ []) [])
-    ≡ cond same (request.text ∷ []) []
-one-text true request = refl
-one-text false request = refl
+-- one more text, if the request is for this folder
+pub more-text : (old : Dependents) (folder : List ℕ) (request : Request)
+    → texts_at old folder ++ texts_of folder (request ∷ [])
+    ≡ cond (bytes_eq request.to folder) (texts_at old folder ++ (request.text ∷ [])) (texts_at old folder)
+more-text old folder request = by_folder (bytes_eq request.to folder) refl where
+  by_folder : (same : Bool) → bytes_eq request.to folder ≡ same
+      → texts_at old folder ++ texts_of folder (request ∷ [])
+      ≡ cond same (texts_at old folder ++ (request.text ∷ [])) (texts_at old folder)
+  by_folder true is = rw is refl
+  by_folder false is = rw is (append-nil (texts_at old folder))

@@ -6,6 +6,7 @@ use Rattle.std.specs.Option.{option_map_or}
 use Rattle.serde_json.specs.Data.{Data, Members, member, no_members, object}
 use Rattle.serde_json.specs.Find.{as_object, as_str, get}
 use Rattle.npm_lock.specs.Asked.{AskedValue}
+use Rattle.npm_lock.specs.RangeText.{is_at_sign}
 
 -- what `overrides` say of a name: the spec that counts in place of others, or that it is not read here
 pub data RuleValue : Type 0 where
@@ -17,7 +18,7 @@ pub data RuleValue : Type 0 where
 -- the text before its first `@`, or the whole of it if it has none
 abbrev pub before_at_sign : List ℕ → List ℕ
 before_at_sign [] = []
-before_at_sign (b ∷ text) = if b == 64 then [] else b ∷ before_at_sign text
+before_at_sign (b ∷ text) = if is_at_sign b then [] else b ∷ before_at_sign text
 
 -- the name that a key is for, up to an `@` that is not its first byte: `a` of `a` and of `a@^1`, `@s/a` of `@s/a@1`
 abbrev pub name_of : (key : List ℕ) → List ℕ

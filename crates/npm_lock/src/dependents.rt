@@ -73,12 +73,8 @@ impl<'v> Dependents<'v> {
     fn add(&mut self, alloc: Global, to: &'v str, text: &'v str) -> Result<()>
         ensures { OnOk result (AddsRequests self.old self.new (record { to = to.now; text = text.now } ∷ [])) }
     {
-        let mut list = match self.by_folder.remove(&to) {
-            Some(list) => list,
-            None => Vec::new(alloc),
-        };
+        let list = self.by_folder.entry(to)?.or_insert(Vec::new(alloc));
         list.push(text)?;
-        self.by_folder.insert(to, list)?;
         Ok(())
     }
 }

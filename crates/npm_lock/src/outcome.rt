@@ -1,5 +1,5 @@
 //! What is wrong with one dependency, and with the version of Node.
-ghost use Rattle.std.specs.Prelude.{◌≡◌, [], ◌∷◌, IfOk, OnOk, option_map, string_bytes};
+ghost use Rattle.std.specs.Prelude.{◌≡◌, ◌&&◌, [], ◌∷◌, IfOk, OnOk, option_map, string_bytes};
 ghost use Rattle.serde_json.specs.View.{view};
 ghost use Rattle.npm_lock.specs.Findings.{IsNodeOutcome, finding_of};
 ghost use Rattle.npm_lock.specs.Outcomes as Outcomes;
@@ -52,7 +52,7 @@ pub(crate) fn judgement_of<'v>(
             Judgement::Fine
         });
     };
-    if asked.is_peer && is_installed && is_own {
+    if is_local_peer(asked, is_installed, is_own) {
         return Ok(Judgement::Wrong(Kind::PeerLocal, Some(found)));
     }
     match verdict_on(lock, asker, name, asked, found)? {
@@ -60,6 +60,13 @@ pub(crate) fn judgement_of<'v>(
         Verdict::Unchecked(reason) => Ok(Judgement::Unknown(reason, found)),
         Verdict::Invalid => Ok(Judgement::Wrong(Kind::Invalid, Some(found))),
     }
+}
+
+/// Returns `true` for a peer of an installed package that is found in that package's own `node_modules`.
+fn is_local_peer(asked: Asked<'_>, is_installed: bool, is_own: bool) -> bool
+    ensures { result ≡ (asked.entry.is_peer && (is_installed && is_own)) }
+{
+    asked.is_peer && is_installed && is_own
 }
 
 /// Adds what is found out about a dependency of a package.

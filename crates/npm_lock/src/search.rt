@@ -131,9 +131,17 @@ fn inside<'v>(place: &'v str, name: &str) -> Option<&'v str>
 }
 
 /// The text before this end, if it ends so.
-fn front_of<'v>(text: &'v str, end: &str) -> Option<&'v str>
+pub(crate) fn front_of<'v>(text: &'v str, end: &str) -> Option<&'v str>
     ensures { MatchOption result ((front : List ℕ) → text.now ≢ front ++ end.now)
         (λ front. text.now ≡ front.now ++ end.now) }
 {
     text.strip_suffix(end)
+}
+
+/// The text after this start, if it begins so.
+pub(crate) fn rest_of<'v>(text: &'v str, start: &str) -> Option<&'v str>
+    ensures { MatchOption result ((rest : List ℕ) → text.now ≢ start.now ++ rest)
+        (λ rest. text.now ≡ start.now ++ rest.now) }
+{
+    text.strip_prefix(start)
 }

@@ -1,6 +1,6 @@
 -- What the index of a lock file has.
 use Rattle.std.specs.Prelude.{◌≡◌, ◌≢◌, ◌<◌, ◌⊎◌, ℕ, List, [], ◌∷◌, ◌++◌, Some, length, slice_index}
-use Rattle.std.specs.Prelude.{bytes_eq, if◌then◌else◌}
+use Rattle.std.specs.Prelude.{◌==◌, Bool, true, false, bytes_eq, if◌then◌else◌}
 use Rattle.std.specs.BTreeMap.{get_by}
 use Rattle.std.specs.Cmp.Lexicographic.{slice_cmp}
 use Rattle.std.specs.List.{AllByRecursion}
@@ -22,11 +22,23 @@ pub record IsLast (path last : List ℕ) : Type 0 where
   pub no_slash : HasNoSlash last
   pub whole : (path ≡ last) ⊎ ((front : List ℕ) × (path ≡ front ++ (47 ∷ last)))
 
+-- a scope of names: `@s` of `@s/b`
+abbrev pub is_scope : List ℕ → Bool
+is_scope part = slice_index part 0 == 64
+
+-- the last part, with the scope before it: `b` of `a/b` and of `b`, and `@s/b` of `a/@s/b` and of `@s/b`
+pub data IsEnd (path end : List ℕ) : Type 0 where
+  alone : HasNoSlash path → end ≡ path → IsEnd path end
+  plain : (above part : List ℕ) → path ≡ above ++ (47 ∷ end) → HasNoSlash end → IsLast above part
+      → is_scope part ≡ false → IsEnd path end
+  scoped : (above part last : List ℕ) → path ≡ above ++ (47 ∷ last) → HasNoSlash last → IsLast above part
+      → is_scope part ≡ true → end ≡ part ++ (47 ∷ last) → IsEnd path end
+
 -- ---- what the index has
 
-abbrev pub at_last : Index → (last : List ℕ) → List Candidate
-at_last index last =
-    option_map_or (λ list. list.items) (get_by (λ k. slice_cmp nat_cmp last k.now) index.by_last) []
+abbrev pub at_end : Index → (end : List ℕ) → List Candidate
+at_end index end =
+    option_map_or (λ list. list.items) (get_by (λ k. slice_cmp nat_cmp end k.now) index.by_end) []
 
 -- one of these is at this key
 abbrev pub HasPlace : (place : List ℕ) → List Candidate → Type 0
@@ -39,21 +51,21 @@ IsAt packages candidate = package_at packages candidate.place.now ≡ Some (pack
 
 -- each candidate is right, and no package is left out
 pub record IsIndexOf (packages : Data) (index : Index) : Type 0 where
-  pub sound : (last : List ℕ) → AllByRecursion (IsAt packages) (at_last index last)
-  pub complete : (place last : List ℕ) (found : Package) → package_at packages place ≡ Some found → IsLast place last
-      → HasPlace place (at_last index last)
+  pub sound : (end : List ℕ) → AllByRecursion (IsAt packages) (at_end index end)
+  pub complete : (place end : List ℕ) (found : Package) → package_at packages place ≡ Some found → IsEnd place end
+      → HasPlace place (at_end index end)
 
--- a candidate is added to those of its last part
+-- a candidate is added to those of its end
 pub record IsAdded (candidate : Candidate) (old new : Index) : Type 0 where
-  pub last : List ℕ
-  pub is_last : IsLast candidate.place.now last
-  pub lists : (other : List ℕ) → at_last new other
-      ≡ (if bytes_eq last other then at_last old other ++ (candidate ∷ []) else at_last old other)
+  pub end : List ℕ
+  pub is_end : IsEnd candidate.place.now end
+  pub lists : (other : List ℕ) → at_end new other
+      ≡ (if bytes_eq end other then at_end old other ++ (candidate ∷ []) else at_end old other)
 
 -- the index is right as before, has what it had, and the package at one more place
 pub record IsMore (packages : Data) (place : List ℕ) (old new : Index) : Type 0 where
-  pub sound : ((last : List ℕ) → AllByRecursion (IsAt packages) (at_last old last))
-      → (last : List ℕ) → AllByRecursion (IsAt packages) (at_last new last)
-  pub stays : (other last : List ℕ) → HasPlace other (at_last old last) → HasPlace other (at_last new last)
-  pub has : (last : List ℕ) (found : Package) → package_at packages place ≡ Some found → IsLast place last
-      → HasPlace place (at_last new last)
+  pub sound : ((end : List ℕ) → AllByRecursion (IsAt packages) (at_end old end))
+      → (end : List ℕ) → AllByRecursion (IsAt packages) (at_end new end)
+  pub stays : (other end : List ℕ) → HasPlace other (at_end old end) → HasPlace other (at_end new end)
+  pub has : (end : List ℕ) (found : Package) → package_at packages place ≡ Some found → IsEnd place end
+      → HasPlace place (at_end new end)

@@ -3,6 +3,7 @@ pub mod Examples
 pub mod GroupWalk
 pub mod Groups
 pub mod IndexUpdates
+pub mod LinkedLists
 pub mod ManifestWrites
 pub mod MemberLookups
 pub mod MoreFindings

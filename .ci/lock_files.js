@@ -103,7 +103,7 @@ const oldFile = () => {
   file.dependencies = oldMembers(4 + below(6), 3, below(4) === 0)
   // A manifest has no marks.
   const { dev, optional, devOptional, peer, ...manifest } = member()
-  return { file, manifest: { ...manifest, name: 'root' }, linked }
+  return { file, manifest: { ...manifest, name: 'root' } }
 }
 
 const words = { MISSING: 'missing', INVALID: 'invalid', 'PEER LOCAL': 'peer local' }
@@ -233,7 +233,8 @@ const manifestRows = [
       { [folder]: { name: 'w', ...at('1.0.0', { peerDependencies: { a: '^2', c: '1' }, peerDependenciesMeta: { c: { optional: true } } }) } },
       { [folder]: { name: 'w' } }, {}].map(linked => [
       { dependencies: { a: '^1', w: '^1' } },
-      { '': { dependencies: { a: '^1', w: '^1' } }, ...installed, 'node_modules/w': link(resolved), [folder]: at('1.0.0', asks('^1')) },
+      { '': { dependencies: { a: '^1', w: '^1' } }, ...installed, 'node_modules/w': link(resolved), v: at('1.0.0'),
+        [folder]: at('1.0.0', asks('^1')) },
       linked])),
   // Two links to one package, and a workspace that asks for another.
   [asks('^1'), { '': asks('^1'), ...installed, 'node_modules/v': link('w'), 'node_modules/w': link('w'), w: at('1.0.0') },
@@ -320,9 +321,10 @@ const oldRowFiles = () => oldRows.map(([manifest, dependencies]) => ({
 const withManifest = () => {
   const manifest = manifestOf(member())
   const file = lockFile()
-  if (below(3) === 0) {
+  const place = `node_modules/${pick(names)}`
+  if (below(2) && !file.packages[place]) {
     file.packages['../x'] = member()
-    file.packages[`node_modules/${pick(names)}`] = { resolved: '../x', link: true }
+    file.packages[place] = { resolved: '../x', link: true }
     if (below(2)) file.packages[`../x/node_modules/${pick(names)}`] = member()
   }
   const linked = linkedManifests(file.packages)

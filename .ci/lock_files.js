@@ -7,6 +7,7 @@
 // node lock_files.js PROGRAM rows-old: on the rows of version 1.
 // node lock_files.js PROGRAM made-manifest COUNT: on COUNT lock files of version 3 that are made here, each with a manifest.
 // node lock_files.js PROGRAM rows-manifest: on the rows with a manifest; also whether the two ask for the same.
+// Both of these also with the manifests of packages that links name, on disk.
 const { spawnSync } = require('node:child_process')
 const fs = require('node:fs')
 const os = require('node:os')
@@ -224,7 +225,26 @@ const manifestRows = [
       'node_modules/a/node_modules/d': at('1.0.0', { dependencies: { b: '^1' }, acceptDependencies: { b: '3' } }),
       'node_modules/b': at('2.0.0', { optionalDependencies: { '@s/c': '^1', q: '1' } }),
       'node_modules/@s/c': at('2.0.0', { dependencies: { b: '^2' } })
-    }])
+    }]),
+  // The manifests of packages that links name: workspaces, in whichever folder, and one that is not there.
+  ...[['w', 'w'], ['./w', 'w'], ['packages/w', 'packages/w'], ['../w', '../w'], ['../../w', '../../w'], ['node_modules/b', 'node_modules/b'],
+    ['v/node_modules/w', 'v/node_modules/w']].flatMap(([resolved, folder]) =>
+    [{ [folder]: { name: 'w', ...at('1.0.0', asks('^2')) } }, { [folder]: { name: 'w', ...at('2.0.0', asks('^1')) } },
+      { [folder]: { name: 'w', ...at('2.0.0', { devDependencies: { a: '^2', b: '^1' }, optionalDependencies: { c: '1' } }) } },
+      { [folder]: { name: 'w', ...at('1.0.0', { peerDependencies: { a: '^2', c: '1' }, peerDependenciesMeta: { c: { optional: true } } }) } },
+      { [folder]: { name: 'w' } }, {}].map(linked => [
+      { dependencies: { a: '^1', w: '^1' } },
+      { '': { dependencies: { a: '^1', w: '^1' } }, ...installed, 'node_modules/w': link(resolved), v: at('1.0.0'),
+        [folder]: at('1.0.0', asks('^1')) },
+      linked])),
+  // Two links to one package, and a workspace that asks for another.
+  [asks('^1'), { '': asks('^1'), ...installed, 'node_modules/v': link('w'), 'node_modules/w': link('w'), w: at('1.0.0') },
+    { w: { name: 'w', ...at('1.1.0', asks('^2')) } }],
+  [{ dependencies: { v: '1' } }, { '': { dependencies: { v: '1' } }, 'node_modules/v': link('v'), 'node_modules/w': link('w'),
+    v: at('1.0.0', { dependencies: { w: '1' } }), w: at('1.0.0') },
+  { v: { name: 'v', ...at('1.0.0', { dependencies: { w: '^2' } }) }, w: { name: 'w', ...at('3.0.0') } }],
+  [{ workspaces: ['w'], dependencies: { a: '^1' } }, { '': { workspaces: ['w'], dependencies: { a: '^1' } }, ...installed,
+    'node_modules/w': link('w'), w: { name: 'w', ...at('1.0.0', asks('^1')) } }, { w: { name: 'w', ...at('1.0.0', asks('^2')) } }]
 ]
 
 // The member of a lock file for the package in this folder. In version 1 the root has none.
@@ -274,27 +294,55 @@ const writeFolders = (root, packages) => {
   }
 }
 
+// A member of `packages` as a manifest, which has no marks.
+const manifestOf = ({ dev, optional, devOptional, peer, ...manifest }) => manifest
+
+// Manifests of the packages that links name, of which some are not there, and some ask for something else than the lock file.
+const linkedManifests = packages => {
+  const linked = {}
+  for (const { link, resolved } of Object.values(packages)) {
+    if (link && below(4)) linked[resolved] = manifestOf(below(3) ? { ...member(), name: path.basename(resolved) } : packages[resolved])
+  }
+  return linked
+}
+
+const writeManifests = (root, linked) => {
+  for (const [folder, manifest] of Object.entries(linked)) {
+    fs.mkdirSync(path.join(root, folder), { recursive: true })
+    fs.writeFileSync(path.join(root, folder, 'package.json'), JSON.stringify(manifest))
+  }
+}
+
 const oldRowFiles = () => oldRows.map(([manifest, dependencies]) => ({
   manifest: { name: 'root', ...manifest },
   file: { name: 'root', version: '1.0.0', lockfileVersion: 1, requires: true, dependencies }
 }))
 
-// A lock file of version 3 with a manifest, which has no marks.
+// A lock file of version 3 with a manifest, and with the manifests of its workspaces and of a package outside the root.
 const withManifest = () => {
-  const { dev, optional, devOptional, peer, ...manifest } = member()
+  const manifest = manifestOf(member())
   const file = lockFile()
+  const place = `node_modules/${pick(names)}`
+  if (below(2) && !file.packages[place]) {
+    file.packages['../x'] = member()
+    file.packages[place] = { resolved: '../x', link: true }
+    if (below(2)) file.packages[`../x/node_modules/${pick(names)}`] = member()
+  }
+  const linked = linkedManifests(file.packages)
   // npm refuses a rule that changes what the root asks for, and leaves workspaces out.
   const isAsked = name => groups.some(group => manifest[group]?.[name] !== undefined)
-  if (!Object.keys(file.packages).some(folder => folder.startsWith('w/'))) {
+  if (!Object.keys(linked).length && !Object.keys(file.packages).some(folder => /^(w|\.\.)\//.test(folder))) {
     manifest.overrides = Object.fromEntries(Object.entries(group()).filter(([name]) => !isAsked(name)))
   }
-  return { file, manifest: { ...manifest, name: 'root' } }
+  return { file, manifest: { ...manifest, name: 'root' }, linked }
 }
 
-const manifestRowFiles = () => manifestRows.map(([manifest, packages]) => ({
+const manifestRowFiles = () => manifestRows.map(([manifest, packages, linked]) => ({
   manifest: { name: 'root', ...manifest },
   file: { name: 'root', version: '1.0.0', lockfileVersion: 3, requires: true, packages },
-  isCompared: true
+  // npm compares the root alone.
+  isCompared: !linked,
+  linked
 }))
 
 const rowFiles = () => rows.map(packages => ({
@@ -365,18 +413,22 @@ const main = async () => {
   const program = process.argv[2]
   const { files, packages } = wanted()
   let differ = 0, dependencies = 0, problems = 0
-  for (const [i, { file, manifest, isCompared }] of files.entries()) {
+  for (const [i, { file, manifest, isCompared, linked }] of files.entries()) {
     const room = fs.mkdtempSync(path.join(os.tmpdir(), 'lock_files-'))
     const folder = path.join(room, 'above', 'root')
     fs.mkdirSync(folder, { recursive: true })
     const text = JSON.stringify(file, null, 2)
     fs.writeFileSync(path.join(folder, 'package-lock.json'), text)
-    if (file.packages) writeFolders(folder, file.packages)
+    if (linked) writeManifests(folder, linked)
+    else if (file.packages) writeFolders(folder, file.packages)
     const beside = path.join(folder, 'package.json')
     if (manifest) fs.writeFileSync(beside, JSON.stringify(manifest))
     const version = file.packages && nodes[i % nodes.length]
-    // npm reads the root from its manifest.
-    const seen = manifest && file.packages ? { ...file, packages: { ...file.packages, '': manifest } } : file
+    // npm reads the root from its manifest, and also packages that links name, if they are in no `node_modules`.
+    const read = Object.entries(linked || {}).filter(([place]) => !place.split('/').includes('node_modules'))
+    const seen = manifest && file.packages
+      ? { ...file, packages: { ...file.packages, '': manifest, ...Object.fromEntries(read) } }
+      : file
     const npm = await npmProblems(folder, seen)
     if (version) npm.found.push(...engineProblems(seen, version))
     npm.found.sort()
@@ -404,7 +456,7 @@ const main = async () => {
         console.log(`WRONG: lock file ${i}: ${counted} dependencies here, ${npm.count} in npm's tree`)
         for (const line of sorted) if (!npm.found.includes(line)) console.log(`  here alone: ${line}`)
         for (const line of npm.found) if (!sorted.includes(line)) console.log(`  npm alone: ${line}`)
-        if (process.env.KEEP) fs.writeFileSync(process.env.KEEP, JSON.stringify({ file, manifest }, null, 2))
+        if (process.env.KEEP) fs.writeFileSync(process.env.KEEP, JSON.stringify({ file, manifest, linked }, null, 2))
       }
     }
   }

@@ -1,5 +1,6 @@
 pub mod LockExamples
 pub mod FindingExamples
+pub mod LinkedFolderExamples
 pub mod OutcomeExamples
 pub mod SpecExamples
 pub mod OverrideExamples

@@ -4,6 +4,7 @@ pub mod Examples
 pub mod Fronts
 pub mod GroupWalk
 pub mod Groups
+pub mod LinkedLists
 pub mod ManifestWrites
 pub mod MemberLookups
 pub mod MoreFindings

@@ -23,5 +23,6 @@ pub mod VersionOne  -- lock files of version 1, and the `packages` that they sta
 pub mod Mismatches  -- where a manifest and the lock file do not ask for the same
 pub mod MismatchJson  -- such a mismatch as a JSON object
 pub mod ManifestPlace  -- a manifest in the place of a package
+pub mod LinkedFolders  -- the folders of packages that links name
 -- ---- not part of any public contract: what private functions compute
 pub mod Private

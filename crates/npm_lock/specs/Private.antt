@@ -2,6 +2,7 @@ pub mod Adding  -- what a call adds to the problems
 pub mod GroupSpecs  -- what is left of a group
 pub mod Groups  -- what a map of names has
 pub mod Index  -- what the index of the folders has
+pub mod Linked  -- what a map of folders has
 pub mod PackageValue  -- what is seen of a package, and of what it asks for
 pub mod Rules  -- what a map of rules of `overrides` has
 pub mod Requests  -- what is added to a map of dependents

@@ -6,6 +6,7 @@ use Rattle.npm_advisories.specs.Faults.{FaultValue}
 use Rattle.npm_advisories.specs.Files.{IsFileFault}
 use Rattle.npm_lock.specs.Faults.{lock_fault}
 use Rattle.npm_lock.specs.VersionOne.{any_fault, converted}
+use Rattle.npm_lock_check.specs.Linked.{LinkedValue}
 use Rattle.npm_lock_check.specs.Private.Refusals.{AreRefusedAs, IsAuditRefused, IsCheckRefused, IsLockRefused}
 use Rattle.npm_lock_check.specs.Private.Refusals.{IsRefused}
 use Rattle.npm_lock_check.specs.Report.{WantedValue}
@@ -20,23 +21,23 @@ refused_as checked file advisories fault error is told (inl (name, same, text)) 
 refused_as checked file advisories fault error is told (inr memory) = inr (inr memory)
 
 -- what is checked has the fault of the lock file
-module _ (lock placed checked : Data) (wanted : WantedValue) (error : RunError)
+module _ (lock placed checked : Data) (linked : List LinkedValue) (wanted : WantedValue) (error : RunError)
     (is : checked ≡ converted placed wanted.manifest)
     (sound : lock_fault (converted placed wanted.manifest) ≡ any_fault placed wanted.manifest) where
   same_refused : IsCheckRefused checked error → IsLockRefused placed wanted.manifest error
   same_refused (inl (fault, same, told)) = inl (fault, same, sym sound ∙ rw is at told)
   same_refused (inr memory) = inr memory
 
-  pub refused_check : IsCheckRefused checked error → IsRefused lock placed wanted error
+  pub refused_check : IsCheckRefused checked error → IsRefused lock placed linked wanted error
   refused_check told = inr (inr (same_refused told))
 
-  pub refused_audit : IsAuditRefused checked wanted.advisories error → IsRefused lock placed wanted error
+  pub refused_audit : IsAuditRefused checked wanted.advisories error → IsRefused lock placed linked wanted error
   refused_audit (inl told) = inr (inl told)
   refused_audit (inr told) = refused_check told
 
-pub refused_lock : (lock placed : Data) (wanted : WantedValue) (error : RunError)
-    → IsLockRefused placed wanted.manifest error → IsRefused lock placed wanted error
-refused_lock lock placed wanted error told = inr (inr told)
+pub refused_lock : (lock placed : Data) (linked : List LinkedValue) (wanted : WantedValue) (error : RunError)
+    → IsLockRefused placed wanted.manifest error → IsRefused lock placed linked wanted error
+refused_lock lock placed linked wanted error told = inr (inr told)
 
 -- what is seen of a value is there where the value is, and of a list it has the same length
 pub some_same : {A B : Type 0} (f : A → B) (value : Option A) → is_some value ≡ is_some (option_map f value)

@@ -1,6 +1,7 @@
 pub mod ArgumentExamples
 pub mod HitExamples
 pub mod InputExamples
+pub mod LinkedExamples
 pub mod MismatchExamples
 pub mod NodeExamples
 pub mod SentenceExamples

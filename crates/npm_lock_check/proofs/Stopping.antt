@@ -1,25 +1,33 @@
 -- Why a lock file was not checked.
 use Rattle.std.proofs.Common.{◌≡◌, ◌∙◌, ℕ, List, [], Option, Some, Result, Ok, Err, inl, inr, refl, sym}
+use Rattle.std.proofs.Common.{IfErr}
+use Rattle.std.specs.Global.{Vec}
 use Rattle.std.specs.Result.{IsErrAnd, MatchResult}
 use Rattle.serde_json.proofs.OnLiterals.{serde_json_on_literals}
 use Rattle.serde_json.specs.Data.{Data}
 use Rattle.serde_json.specs.Read.{read}
+use Rattle.serde_json.specs.View.{view}
+use Rattle.serde_json.specs.declared.value.Value.{Value}
+use Rattle.npm_lock_check.specs.Linked.{LinkedValue}
 use Rattle.npm_lock_check.specs.WatchedValue.{WatchedValue}
-use Rattle.npm_lock_check.specs.Output.{IsInput, IsStopped}
+use Rattle.npm_lock_check.specs.Output.{IsInput, IsRefusedAs, IsStopped, IsUnread}
 use Rattle.npm_lock_check.specs.Private.Refusals.{IsRefused}
-use Rattle.npm_lock_check.specs.Report.{WantedValue, placed}
+use Rattle.npm_lock_check.specs.Report.{AreLoaded, WantedValue, manifests_of, placed}
+use Rattle.npm_lock_check.specs.declared.linked.Linked.{Linked}
+use Rattle.npm_lock_check.specs.declared.run_error.LoadError.{LoadError}
 use Rattle.npm_lock_check.specs.declared.run_error.RunError.{RunError}
-use Rattle.npm_lock_check.specs.declared.run_error.RunError.TheVariants.{Memory, Write}
+use Rattle.npm_lock_check.specs.declared.run_error.RunError.TheVariants.{Memory, NoAdvisories, NoLinked, NoLockFile}
+use Rattle.npm_lock_check.specs.declared.run_error.RunError.TheVariants.{NoManifest, Write}
+use Rattle.npm_lock_check.specs.declared.run_error.StopError.TheVariants.{Check}
 
 no_value : (lock : Data) → read [] ≡ Some lock → ⊥
 unfolding serde_json_on_literals
 no_value lock is = cc is
 
 -- memory ran out after the input was read
-pub later : {R : Type 0} (remaining : R → Option (List ℕ)) (wanted : WantedValue) (old new : WatchedValue R)
-    (lock : Data)
-    → IsInput remaining old new lock → IsStopped remaining wanted old new Memory
-later remaining wanted old new lock input = inr (record {
+pub later : {R : Type 0} (remaining : R → Option (List ℕ)) (old new : WatchedValue R) (lock : Data)
+    → IsInput remaining old new lock → IsUnread remaining old new Memory
+later remaining old new lock input = inr (record {
   bytes = input.bytes;
   taken = input.taken;
   ended = input.ended;
@@ -27,25 +35,45 @@ later remaining wanted old new lock input = inr (record {
   such = (input.such.0, λ empty. no_value lock (rw empty at input.such.1));
 })
 
--- a value was refused, or memory ran out in the check
-pub refused : {R : Type 0} (remaining : R → Option (List ℕ)) (wanted : WantedValue) (old new : WatchedValue R)
-    (lock : Data) (error : RunError) → IsInput remaining old new lock
-    → IsRefused lock (placed lock wanted.manifest) wanted error → IsStopped remaining wanted old new error
-refused remaining wanted old new lock error input (inl (inl (fault, is, told))) = rw is (lock, input, told)
-refused remaining wanted old new lock error input (inl (inr is)) = rw is (later remaining wanted old new lock input)
-refused remaining wanted old new lock error input (inr (inl (kind, name, place, is, told))) =
-    rw is (lock, input, told)
-refused remaining wanted old new lock error input (inr (inr (inl (fault, is, told)))) = rw is (lock, input, told)
-refused remaining wanted old new lock error input (inr (inr (inr is))) =
-    rw is (later remaining wanted old new lock input)
+module _ {R : Type 0} (remaining : R → Option (List ℕ)) (old new : WatchedValue R)
+    (Gives : Value → Result (Vec Linked) LoadError → Type 0) (wanted : WantedValue) (lock : Value)
+    (linked : List LinkedValue) (input : IsInput remaining old new (view lock))
+    (loaded : AreLoaded Gives lock wanted.manifest linked) where
+  -- a value has a fault
+  faulty : (error : RunError) → IsRefusedAs (view lock) linked wanted error
+      → IsStopped remaining Gives wanted old new (Check error)
+  faulty error told = inr (record {
+    lock = lock;
+    linked = linked;
+    input = input;
+    loaded = loaded;
+    refused = told;
+  })
+
+  -- memory ran out in the check
+  out : (error : RunError) → error ≡ Memory → IsStopped remaining Gives wanted old new (Check error)
+  out error is = rw is (inl (later remaining old new (view lock) input))
+
+  -- a value was refused, or memory ran out in the check
+  pub refused : (error : RunError)
+      → IsRefused (view lock) (placed (view lock) (manifests_of wanted.manifest linked)) linked wanted error
+      → IsStopped remaining Gives wanted old new (Check error)
+  refused error (inl (inl (fault, is, told))) = rw is (faulty (NoManifest fault) told)
+  refused error (inl (inr (inl (name, fault, is, told)))) = rw is (faulty (NoLinked name fault) told)
+  refused error (inl (inr (inr is))) = out error is
+  refused error (inr (inl (kind, name, place, is, told))) = rw is (faulty (NoAdvisories kind name place) told)
+  refused error (inr (inr (inl (fault, is, told)))) = rw is (faulty (NoLockFile fault) told)
+  refused error (inr (inr (inr is))) = out error is
 
 -- the check writes nothing, so no write of it fails
-pub unwritten : (lock placed : Data) (wanted : WantedValue) → ¬ IsRefused lock placed wanted Write
-unwritten lock placed wanted (inl (inl told)) = cc told.1
-unwritten lock placed wanted (inl (inr is)) = cc is
-unwritten lock placed wanted (inr (inl told)) = cc told.3
-unwritten lock placed wanted (inr (inr (inl told))) = cc told.1
-unwritten lock placed wanted (inr (inr (inr is))) = cc is
+pub unwritten : (lock placed : Data) (linked : List LinkedValue) (wanted : WantedValue)
+    → ¬ IsRefused lock placed linked wanted Write
+unwritten lock placed linked wanted (inl (inl told)) = cc told.1
+unwritten lock placed linked wanted (inl (inr (inl told))) = cc told.2
+unwritten lock placed linked wanted (inl (inr (inr is))) = cc is
+unwritten lock placed linked wanted (inr (inl told)) = cc told.3
+unwritten lock placed linked wanted (inr (inr (inl told))) = cc told.1
+unwritten lock placed linked wanted (inr (inr (inr is))) = cc is
 
 module _ {T E F : Type 0} (Q : E → F → Type 0) where
   -- the error before its type changed
@@ -54,3 +82,9 @@ module _ {T E F : Type 0} (Q : E → F → Type 0) where
       → (e : E) × (before ≡ Err e)
   was_err (Ok x) after f cases is = let no : Ok x ≡ Err f = sym cases ∙ is in cc no
   was_err (Err e) after f cases is = (e, refl)
+
+-- what holds of an error holds where the error is passed on
+pub passed_on : {T E : Type 0} (result : Result T E) (P Q : E → Type 0) → IsErrAnd result P
+    → ((error : E) → P error → Q error) → IfErr result Q
+passed_on (Ok x) P Q is then = tt
+passed_on (Err error) P Q is then = then error is

@@ -6,6 +6,8 @@ pub mod NodeVersion  -- the version of Node that an argument names
 pub mod WatchedValue  -- readers and writers that remember that a call failed
 pub mod Sentence  -- a problem, or a mismatch, as a sentence
 pub mod HitSentence  -- a package that is hit as a sentence
+pub mod ManifestFile  -- where the manifest of a workspace is
+pub mod Linked  -- the manifests of workspaces
 pub mod Report  -- what is found out about a lock file, and the lines of it
 pub mod Output  -- what is read, and why nothing is written for it
 -- ---- not part of any public contract: what private functions compute

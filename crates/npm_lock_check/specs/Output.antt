@@ -1,29 +1,35 @@
 -- What the program reads, and what it writes for it.
 use Rattle.std.specs.Prelude.{◌≡◌, ◌≢◌, ◌⊎◌, ℕ, List, [], ◌∷◌, Bool, true, false, IsSome, IsUtf8, Option, None, Some}
-use Rattle.std.specs.Prelude.{nat_eq, option_and_then, string_bytes}
+use Rattle.std.specs.Prelude.{Result, nat_eq, option_and_then, option_map, string_bytes}
+use Rattle.std.specs.Global.{Vec}
 use Rattle.std.specs.List.{starts_with}
+use Rattle.std.specs.Option.{option_or}
 use Rattle.std.specs.Io.KnownBytes.{Consumes, IsAtEnd}
 use Rattle.std.specs.declared.io.ErrorKind.TheVariants.{OutOfMemory}
 use Rattle.serde_json.specs.Data.{Data}
 use Rattle.serde_json.specs.Read.{read}
+use Rattle.serde_json.specs.View.{view}
+use Rattle.serde_json.specs.declared.value.Value.{Value}
 use Rattle.npm_lock.specs.Mismatches.{manifest_fault}
 use Rattle.npm_lock.specs.VersionOne.{any_fault}
 use Rattle.npm_lock.specs.declared.fault.Fault.{Fault}
 use Rattle.npm_advisories.specs.Audit.{FoundValue}
 use Rattle.npm_advisories.specs.Files.{IsFileFault}
 use Rattle.npm_advisories.specs.declared.fault.FaultKind.{FaultKind}
+use Rattle.npm_lock_check.specs.Linked.{LinkedValue}
 use Rattle.npm_lock_check.specs.WatchedValue.{WatchedValue}
-use Rattle.npm_lock_check.specs.Report.{IsReportOf, WantedValue, has_packages, placed}
+use Rattle.npm_lock_check.specs.Report.{AreLoaded, IsNotLoaded, IsReportOf, WantedValue, has_packages, manifests_of}
+use Rattle.npm_lock_check.specs.Report.{placed}
+use Rattle.npm_lock_check.specs.declared.folder_name.FolderName.{FolderName}
+use Rattle.npm_lock_check.specs.declared.linked.Linked.{Linked}
 use Rattle.npm_lock_check.specs.declared.list_name.ListName.{ListName}
 use Rattle.npm_lock_check.specs.declared.report.Report.{Report}
+use Rattle.npm_lock_check.specs.declared.run_error.LoadError.{LoadError}
 use Rattle.npm_lock_check.specs.declared.run_error.RunError.{RunError}
-use Rattle.npm_lock_check.specs.declared.run_error.RunError.TheVariants as Errors
-use Rattle.npm_lock_check.specs.declared.run_error.RunError.TheVariants.{ByteOrderMark, Memory, NoAdvisories}
-use Rattle.npm_lock_check.specs.declared.run_error.RunError.TheVariants.{NodeVersion}
-use Rattle.npm_lock_check.specs.declared.run_error.RunError.TheVariants.{NoFile, NoJson, NoLockFile, NoManifest, NoUtf8}
-use Rattle.npm_lock_check.specs.declared.run_error.RunError.TheVariants.{NoValue}
-use Rattle.npm_lock_check.specs.declared.run_error.RunError.TheVariants.{Open, Read, SecondFile, TooManyWords}
-use Rattle.npm_lock_check.specs.declared.run_error.RunError.TheVariants.{UnknownOption, Write}
+use Rattle.npm_lock_check.specs.declared.run_error.RunError.TheVariants.{ByteOrderMark, Memory, NoAdvisories, NoJson}
+use Rattle.npm_lock_check.specs.declared.run_error.RunError.TheVariants.{NoLinked, NoLockFile, NoManifest, NoUtf8, Read}
+use Rattle.npm_lock_check.specs.declared.run_error.StopError.{StopError}
+use Rattle.npm_lock_check.specs.declared.run_error.StopError.TheVariants.{Advisories, Check, Load, Manifest}
 
 -- the JSON text of this value, in UTF-8
 abbrev pub IsTextOf : (bytes : List ℕ) → (value : Data) → Type 0
@@ -47,12 +53,15 @@ pub record IsWholeInput {R : Type 0} (remaining : R → Option (List ℕ)) (old 
 abbrev pub IsInput : {R : Type 0} → (remaining : R → Option (List ℕ)) → (old new : WatchedValue R) → Data → Type 0
 IsInput remaining old new value = IsWholeInput remaining old new (λ bytes. IsTextOf bytes value)
 
--- a lock file was read, and this is the report of it
+-- a lock file was read, and the manifests of linked folders were loaded, and this is the report of all
 pub record IsReported {R : Type 0} (remaining : R → Option (List ℕ)) (old new : WatchedValue R)
-    (wanted : WantedValue) (report : Report) (found : List FoundValue) : Type 0 where
-  pub lock : Data
-  pub input : IsInput remaining old new lock
-  pub report_of : IsReportOf lock wanted report found
+    (Gives : Value → Result (Vec Linked) LoadError → Type 0) (wanted : WantedValue) (report : Report)
+    (found : List FoundValue) : Type 0 where
+  pub lock : Value
+  pub linked : List LinkedValue
+  pub input : IsInput remaining old new (view lock)
+  pub loaded : AreLoaded Gives lock wanted.manifest linked
+  pub report_of : IsReportOf (view lock) linked wanted report found
 
 -- ---- why nothing was written
 
@@ -61,7 +70,23 @@ abbrev pub IsNoManifest : (lock : Data) → (manifest : Option Data) → Fault �
 IsNoManifest lock manifest fault =
     (has_packages lock ≡ true) × (option_and_then manifest_fault manifest ≡ Some fault)
 
--- the value, with the manifest in the root's place, is no lock file
+-- the fault of a manifest, and the folder of its package
+pub record LinkedFault : Type 0 where
+  pub folder : List ℕ
+  pub fault : Fault
+
+-- the first of these manifests with a fault, if there is one
+abbrev pub linked_fault : List LinkedValue → Option LinkedFault
+linked_fault [] = None
+linked_fault (one ∷ others) = option_or
+    (option_map (λ fault. record { folder = one.folder; fault = fault }) (manifest_fault one.manifest))
+    (linked_fault others)
+
+-- the manifest in the folder of this name is the first with a fault
+abbrev pub IsNoLinked : List LinkedValue → FolderName → Fault → Type 0
+IsNoLinked linked name fault = linked_fault linked ≡ Some (record { folder = string_bytes name.text; fault = fault })
+
+-- the value, with the manifests in their places, is no lock file
 abbrev pub IsNoLockFile : (placed : Data) → (manifest : Option Data) → Fault → Type 0
 IsNoLockFile placed manifest fault = any_fault placed manifest ≡ Some fault
 
@@ -70,33 +95,51 @@ abbrev pub AreNoAdvisories : (advisories : Option Data) → FaultKind → ListNa
 AreNoAdvisories advisories kind name place = (file : Data) × (advisories ≡ Some file)
     × IsFileFault file (Some (record { kind = kind; name = string_bytes name.text; place = place }))
 
--- Why a lock file was not checked: what was read begins with a byte order mark, or is not in UTF-8, or is no JSON text,
--- or its value, the manifest or the advisories have a fault, or a read failed, or memory ran out. It ran out in a read
--- whose error says so, or later: then all was read, and it is in UTF-8 and not empty.
-abbrev pub IsStopped : {R : Type 0} → (remaining : R → Option (List ℕ)) → (wanted : WantedValue)
-    → (old new : WatchedValue R) → RunError → Type 0
-IsStopped remaining wanted old new NoUtf8 =
+-- Why no value was read: what was read begins with a byte order mark, or is not in UTF-8, or is no JSON text, or a read
+-- failed, or memory ran out. It ran out in a read whose error says so, or later: then all was read, and it is in UTF-8
+-- and not empty.
+abbrev pub IsUnread : {R : Type 0} → (remaining : R → Option (List ℕ)) → (old new : WatchedValue R) → RunError → Type 0
+IsUnread remaining old new NoUtf8 =
     IsWholeInput remaining old new (λ bytes. (has_mark bytes ≡ false) × ¬ IsUtf8 bytes)
-IsStopped remaining wanted old new (NoJson line column) = IsWholeInput remaining old new
+IsUnread remaining old new (NoJson line column) = IsWholeInput remaining old new
     (λ bytes. (has_mark bytes ≡ false) × IsUtf8 bytes × ((lock : Data) → ¬ IsTextOf bytes lock))
-IsStopped remaining wanted old new ByteOrderMark = IsWholeInput remaining old new (λ bytes. has_mark bytes ≡ true)
-IsStopped remaining wanted old new (NoLockFile fault) =
-    (lock : Data) × IsInput remaining old new lock × IsNoLockFile (placed lock wanted.manifest) wanted.manifest fault
-IsStopped remaining wanted old new (NoManifest fault) =
-    (lock : Data) × IsInput remaining old new lock × IsNoManifest lock wanted.manifest fault
-IsStopped remaining wanted old new (NoAdvisories kind name place) =
-    (lock : Data) × IsInput remaining old new lock × AreNoAdvisories wanted.advisories kind name place
-IsStopped remaining wanted old new Read = IsSome new.failure × (new.failure ≢ Some OutOfMemory)
-IsStopped remaining wanted old new Memory = (new.failure ≡ Some OutOfMemory)
+IsUnread remaining old new ByteOrderMark = IsWholeInput remaining old new (λ bytes. has_mark bytes ≡ true)
+IsUnread remaining old new Read = IsSome new.failure × (new.failure ≢ Some OutOfMemory)
+IsUnread remaining old new Memory = (new.failure ≡ Some OutOfMemory)
     ⊎ IsWholeInput remaining old new (λ bytes. IsUtf8 bytes × (bytes ≢ []))
-IsStopped remaining wanted old new Write = ⊥
-IsStopped remaining wanted old new TooManyWords = ⊥
-IsStopped remaining wanted old new UnknownOption = ⊥
-IsStopped remaining wanted old new SecondFile = ⊥
-IsStopped remaining wanted old new NoValue = ⊥
-IsStopped remaining wanted old new Errors.Format = ⊥
-IsStopped remaining wanted old new Errors.Kind = ⊥
-IsStopped remaining wanted old new Errors.Severity = ⊥
-IsStopped remaining wanted old new NodeVersion = ⊥
-IsStopped remaining wanted old new NoFile = ⊥
-IsStopped remaining wanted old new Open = ⊥
+IsUnread remaining old new _ = ⊥
+
+-- Why a lock file that was read is not checked: its value, a manifest or the advisories have a fault.
+abbrev pub IsRefusedAs : (lock : Data) → (linked : List LinkedValue) → WantedValue → RunError → Type 0
+IsRefusedAs lock linked wanted (NoLockFile fault) =
+    IsNoLockFile (placed lock (manifests_of wanted.manifest linked)) wanted.manifest fault
+IsRefusedAs lock linked wanted (NoManifest fault) = IsNoManifest lock wanted.manifest fault
+IsRefusedAs lock linked wanted (NoLinked name fault) = IsNoLinked linked name fault
+IsRefusedAs lock linked wanted (NoAdvisories kind name place) = AreNoAdvisories wanted.advisories kind name place
+IsRefusedAs lock linked wanted _ = ⊥
+
+-- a lock file was read, and the manifests of linked folders were loaded, and one of these values has a fault
+pub record IsFaulty {R : Type 0} (remaining : R → Option (List ℕ)) (old new : WatchedValue R)
+    (Gives : Value → Result (Vec Linked) LoadError → Type 0) (wanted : WantedValue) (error : RunError) : Type 0 where
+  pub lock : Value
+  pub linked : List LinkedValue
+  pub input : IsInput remaining old new (view lock)
+  pub loaded : AreLoaded Gives lock wanted.manifest linked
+  pub refused : IsRefusedAs (view lock) linked wanted error
+
+-- a lock file was read, and the manifests of linked folders were not loaded
+pub record IsUnloaded {R : Type 0} (remaining : R → Option (List ℕ)) (old new : WatchedValue R)
+    (Gives : Value → Result (Vec Linked) LoadError → Type 0) (wanted : WantedValue) (error : LoadError) : Type 0 where
+  pub lock : Value
+  pub input : IsInput remaining old new (view lock)
+  pub failed : IsNotLoaded Gives lock wanted.manifest error
+
+-- why a lock file was not checked
+abbrev pub IsStopped : {R : Type 0} → (remaining : R → Option (List ℕ))
+    → (Gives : Value → Result (Vec Linked) LoadError → Type 0) → (wanted : WantedValue) → (old new : WatchedValue R)
+    → StopError → Type 0
+IsStopped remaining Gives wanted old new (Check error) =
+    IsUnread remaining old new error ⊎ IsFaulty remaining old new Gives wanted error
+IsStopped remaining Gives wanted old new (Load error) = IsUnloaded remaining old new Gives wanted error
+IsStopped remaining Gives wanted old new (Manifest error) = ⊥
+IsStopped remaining Gives wanted old new (Advisories error) = ⊥

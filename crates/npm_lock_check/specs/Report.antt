@@ -2,12 +2,15 @@
 use Rattle.std.specs.Prelude.{◌≡◌, ◌≤◌, ◌&&◌, ℕ, List, [], ◌∷◌, ◌++◌, Bool, false, Option, Some, None, filter}
 use Rattle.std.specs.Prelude.{if◌then◌else◌}
 use Rattle.std.specs.Prelude.{codes, is_some, length, map, not, option_map}
+use Rattle.std.specs.Prelude.{true, Result, Ok, Err}
 use Rattle.std.specs.Bool.{MatchBool}
+use Rattle.std.specs.Global.{Vec}
 use Rattle.serde_json.specs.Data.{Data, depth}
 use Rattle.serde_json.specs.Find.{get}
 use Rattle.serde_json.specs.Read.{max_depth, read}
 use Rattle.serde_json.specs.View.{view}
 use Rattle.serde_json.specs.Written.{compact_text, has_float}
+use Rattle.serde_json.specs.declared.value.Value.{Value}
 use Rattle.node_semver.specs.Versions.{VersionValue}
 use Rattle.npm_lock.specs.Findings as Findings
 use Rattle.npm_lock.specs.ManifestPlace.{with_manifest}
@@ -25,11 +28,14 @@ use Rattle.npm_advisories.specs.LockFile.{AreInstalledOf}
 use Rattle.npm_advisories.specs.declared.severity.Severity.{Severity}
 use Rattle.npm_lock_check.specs.HitSentence.{hit_sentence}
 use Rattle.npm_lock_check.specs.Kinds.{has}
+use Rattle.npm_lock_check.specs.Linked.{LinkedValue, linked_value}
 use Rattle.npm_lock_check.specs.Sentence.{mismatch_sentence, sentence, unchecked_sentence}
 use Rattle.npm_lock_check.specs.declared.arguments.Format.{Format}
 use Rattle.npm_lock_check.specs.declared.arguments.Format.TheVariants.{Json, Text}
 use Rattle.npm_lock_check.specs.declared.kinds.Kinds.{Kinds}
+use Rattle.npm_lock_check.specs.declared.linked.Linked.{Linked}
 use Rattle.npm_lock_check.specs.declared.report.Report.{Report}
+use Rattle.npm_lock_check.specs.declared.run_error.LoadError.{LoadError}
 use Rattle.npm_lock_check.specs.declared.wanted.Wanted.{Wanted}
 
 -- what a check is asked for: the manifest of the root, the advisories, and the least severity of those that count; the
@@ -56,7 +62,7 @@ wanted_value wanted = record {
   format = wanted.format;
 }
 
--- ---- the manifest
+-- ---- the manifests
 
 -- the lock file has `packages`, as one of version 2 or 3 has; one of version 1 has none, and does not say what its root
 -- asks for
@@ -67,24 +73,45 @@ has_packages lock = is_some (get (codes "packages") lock)
 abbrev pub is_compared : (lock : Data) → (manifest : Option Data) → Bool
 is_compared lock manifest = is_some manifest && has_packages lock
 
--- the lock file with the manifest in the root's place; one without `packages` stays as it is
-abbrev pub placed : (lock : Data) → (manifest : Option Data) → Data
-placed lock None = lock
-placed lock (Some manifest) = with_manifest [] manifest lock
+-- What loading the manifests of linked folders gave for the lock file, if it is compared. Otherwise there are none.
+abbrev pub AreLoaded : (Gives : Value → Result (Vec Linked) LoadError → Type 0) → (lock : Value)
+    → (manifest : Option Data) → List LinkedValue → Type 0
+AreLoaded Gives lock manifest linked = MatchBool (is_compared (view lock) manifest)
+    ((list : Vec Linked) × Gives lock (Ok list) × (linked ≡ map linked_value list.items)) (linked ≡ [])
 
--- the mismatches of the manifest with the root of the lock file, if they are compared, or none if their kind is left
--- out
-abbrev pub AreLeftMismatches : (lock : Data) → (manifest : Option Data) → (is_ignored : Bool) → List Mismatch → Type 0
-AreLeftMismatches lock None is_ignored list = list ≡ []
-AreLeftMismatches lock (Some manifest) is_ignored list = MatchBool (has_packages lock)
-    ((all : List Mismatch) × AreMismatches lock [] manifest all × (list ≡ (if is_ignored then [] else all)))
+-- loading them failed
+abbrev pub IsNotLoaded : (Gives : Value → Result (Vec Linked) LoadError → Type 0) → (lock : Value)
+    → (manifest : Option Data) → LoadError → Type 0
+IsNotLoaded Gives lock manifest error = (is_compared (view lock) manifest ≡ true) × Gives lock (Err error)
+
+-- all manifests beside a lock file: that of the root first, and then those of linked folders
+abbrev pub manifests_of : (manifest : Option Data) → (linked : List LinkedValue) → List LinkedValue
+manifests_of None linked = []
+manifests_of (Some manifest) linked = record { folder = []; manifest = manifest } ∷ linked
+
+-- the lock file with each manifest in the place of its package; one without `packages` stays as it is
+abbrev pub placed : (lock : Data) → (manifests : List LinkedValue) → Data
+placed lock [] = lock
+placed lock (one ∷ others) = placed (with_manifest one.folder one.manifest lock) others
+
+-- the mismatches of each manifest with the package in its folder, of one manifest after another
+abbrev pub AreAllMismatches : (lock : Data) → (manifests : List LinkedValue) → List Mismatch → Type 0
+AreAllMismatches lock [] list = list ≡ []
+AreAllMismatches lock (one ∷ others) list = (here : List Mismatch) × (later : List Mismatch)
+    × AreMismatches lock one.folder one.manifest here × AreAllMismatches lock others later × (list ≡ here ++ later)
+
+-- the mismatches of the manifests, if they are compared, or none if their kind is left out
+abbrev pub AreLeftMismatches : (lock : Data) → (manifests : List LinkedValue) → (is_ignored : Bool) → List Mismatch
+    → Type 0
+AreLeftMismatches lock manifests is_ignored list = MatchBool (has_packages lock)
+    ((all : List Mismatch) × AreAllMismatches lock manifests all × (list ≡ (if is_ignored then [] else all)))
     (list ≡ [])
 
 -- ---- the problems and the advisories
 
--- the lock file that is checked: with the manifest in the root's place, and converted if it is of version 1
-abbrev pub checked_lock : (lock : Data) → (manifest : Option Data) → Data
-checked_lock lock manifest = converted (placed lock manifest) manifest
+-- the lock file that is checked: with the manifests in their places, and converted if it is of version 1
+abbrev pub checked_lock : (lock : Data) → (manifest : Option Data) → (linked : List LinkedValue) → Data
+checked_lock lock manifest linked = converted (placed lock (manifests_of manifest linked)) manifest
 
 -- the problems of the lock file without those of ignored kinds, in their order, and the counts of all of it
 pub record AreLeft (lock : Data) (wanted : WantedValue) (problems : Problems) : Type 0 where
@@ -103,12 +130,14 @@ AreHit lock (Some file) level found = (installed : List InstalledValue) × AreIn
 
 -- ---- all of it
 
--- the mismatches of the manifest, the problems of the lock file that is checked, and the packages of it that are hit
-pub record IsReportOf (lock : Data) (wanted : WantedValue) (report : Report) (found : List FoundValue) : Type 0 where
+-- the mismatches of the manifests, the problems of the lock file that is checked, and the packages of it that are hit
+pub record IsReportOf (lock : Data) (linked : List LinkedValue) (wanted : WantedValue) (report : Report)
+    (found : List FoundValue) : Type 0 where
   pub compared : report.compared ≡ is_compared lock wanted.manifest
-  pub mismatches : AreLeftMismatches lock wanted.manifest wanted.ignored.group report.mismatches.items
-  pub problems : AreLeft (checked_lock lock wanted.manifest) wanted report.problems
-  pub hit : AreHit (checked_lock lock wanted.manifest) wanted.advisories wanted.level found
+  pub mismatches : AreLeftMismatches lock (manifests_of wanted.manifest linked) wanted.ignored.group
+      report.mismatches.items
+  pub problems : AreLeft (checked_lock lock wanted.manifest linked) wanted report.problems
+  pub hit : AreHit (checked_lock lock wanted.manifest linked) wanted.advisories wanted.level found
   pub audited : report.audited ≡ is_some wanted.advisories
   pub hits : report.hits ≡ length found
 

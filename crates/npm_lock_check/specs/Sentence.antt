@@ -92,8 +92,13 @@ abbrev pub spec_words : Option (List ℕ) → List ℕ
 spec_words None = codes "absent"
 spec_words (Some spec) = codes "\"" ++ (shown spec ++ codes "\"")
 
+-- the manifest in a folder: `package.json` of the root, and `w/package.json`
+abbrev pub manifest_words : (folder : List ℕ) → List ℕ
+manifest_words [] = codes "package.json"
+manifest_words (byte ∷ folder) = shown (byte ∷ folder) ++ codes "/package.json"
+
 -- the sentence: `a in dependencies is "^2" in package.json, and "^1" in the lock file`
 abbrev pub mismatch_sentence : MismatchValue → List ℕ
 mismatch_sentence mismatch = shown mismatch.name ++ (codes " in " ++ (group_text mismatch.group ++ (codes " is "
-    ++ (spec_words mismatch.spec ++ (codes " in package.json, and " ++ (spec_words mismatch.locked
-    ++ codes " in the lock file"))))))
+    ++ (spec_words mismatch.spec ++ (codes " in " ++ (manifest_words mismatch.from ++ (codes ", and "
+    ++ (spec_words mismatch.locked ++ codes " in the lock file"))))))))

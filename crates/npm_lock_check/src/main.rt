@@ -10,12 +10,15 @@ ghost use Rattle.std.specs.Prelude.{◌≡◌, ◌↔◌, IfErr, None, Some};
 ghost use Rattle.npm_lock_check.specs.Report.{IsClean};
 
 mod arguments;
+mod folder_name;
 mod help;
 mod hit_sentence;
 mod hits;
 mod kinds;
 mod lines;
+mod linked;
 mod list_name;
+mod manifest_file;
 mod node;
 mod output;
 mod report;
@@ -27,10 +30,12 @@ mod watched;
 
 use arguments::{Arguments, Format, Shown, read_arguments};
 use help::{HELP, VERSION};
+use linked::manifests_of;
+use manifest_file::{folder_of, no_file, not_read, path_of};
 use node::node_of;
 use output::{read_json, run};
 use report::Report;
-use run_error::{RunError, StopError, open_error, read_error};
+use run_error::{LoadError, RunError, StopError, open_error, read_error};
 use serde_json::Value;
 use std::env;
 use std::fs::File;
@@ -110,7 +115,23 @@ fn checked<R: Read + Drop>(
         unchecked: asked.unchecked,
         format,
     };
-    run(rt.alloc(), &mut reader, &mut writer, wanted).map_err(StopError::Check)
+    let folder = asked.manifest.map_or(".", folder_of);
+    run(rt.alloc(), &mut reader, &mut writer, wanted, |lock| {
+        manifests_of(rt.alloc(), lock, |linked| manifest_in(rt, folder, linked))
+    })
+}
+
+/// Reads the manifest of the package in a folder, which is inside another. Returns `None` if it is not there.
+fn manifest_in(rt: &HostRuntime, outer: &str, folder: &str) -> Result<Option<Value>, LoadError> {
+    let path = path_of(rt.alloc(), outer, folder).map_err(|_| LoadError::Memory)?;
+    let file = match File::open(rt, path.as_str()) {
+        Ok(file) => file,
+        Err(error) => return no_file(rt.alloc(), folder, error.kind()),
+    };
+    match read_json(rt.alloc(), &mut Watched::new(file)) {
+        Ok(manifest) => Ok(Some(manifest)),
+        Err(error) => Err(not_read(rt.alloc(), folder, error)),
+    }
 }
 
 /// Reads the JSON value of a file, if there is one.

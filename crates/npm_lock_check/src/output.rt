@@ -1,21 +1,25 @@
 //! What the program reads, and what it writes for it.
 ghost use Rattle.std.specs.Prelude.{◌≡◌, ◌≢◌, List, ℕ, IfErr, IfOk, IsErrOf, IsSome, OnOk, filter, map, not, option_map};
+ghost use Rattle.std.specs.Fn.{FnOnceReturnsAt};
 ghost use Rattle.std.specs.Io.KnownBytes.{Appends};
 ghost use Rattle.serde_json.specs.View.{view};
 ghost use Rattle.npm_lock.specs.Faults.{lock_fault};
 ghost use Rattle.npm_lock.specs.VersionOne.{any_fault, converted};
 ghost use Rattle.npm_advisories.specs.Audit.{FoundValue};
 ghost use Rattle.npm_lock_check.specs.Kinds.{has};
-ghost use Rattle.npm_lock_check.specs.Output.{IsInput, IsReported, IsStopped};
+ghost use Rattle.npm_lock_check.specs.Linked.{linked_value};
+ghost use Rattle.npm_lock_check.specs.Output.{IsInput, IsReported, IsStopped, IsUnread};
 ghost use Rattle.npm_lock_check.specs.Private.Refusals.{IsCheckRefused, IsLockRefused, IsRefused};
-ghost use Rattle.npm_lock_check.specs.Report.{AreLeft, IsReportOf, IsReportText, WantedValue, placed, wanted_value};
+ghost use Rattle.npm_lock_check.specs.Report.{AreLeft, IsReportOf, IsReportText, manifests_of, placed};
+ghost use Rattle.npm_lock_check.specs.Report.{wanted_value};
 ghost use Rattle.npm_lock_check.specs.declared.report.Report.{Report};
 
 use crate::hits::hits_of;
 use crate::kinds::Kinds;
 use crate::lines::lines_of;
+use crate::linked::{Linked, loaded};
 use crate::report::Report;
-use crate::run_error::{RunError, failure_error, json_error, read_error};
+use crate::run_error::{LoadError, RunError, StopError, failure_error, json_error, read_error};
 use crate::sync::{compare, is_compared};
 use crate::wanted::Wanted;
 use crate::watched::Watched;
@@ -25,49 +29,73 @@ use std::alloc::Global;
 use std::io::{Read, Write};
 use std::str;
 
-/// Reads a lock file to the end, and writes what is found out about it, a line each: the mismatches of the manifest, the
+/// Reads a lock file to the end, and writes what is found out about it, a line each: the mismatches of the manifests, the
 /// problems but those of ignored kinds, the packages that an advisory hits, and the dependencies that are not checked if they
 /// are asked for. Returns what was written, with the counts of all.
+///
+/// `load` is called with the lock file if that is compared with a manifest, and not otherwise. It returns the manifests of
+/// workspaces and of other packages that links name.
 ///
 /// # Errors
 ///
 /// Nothing was written, but after `Write`: then a beginning of the lines was.
-pub fn run<R: Read, W: Write>(
+pub fn run<R: Read, W: Write, F: FnOnce(&Value) -> Result<Vec<Linked>, LoadError>>(
     alloc: Global,
     reader: &mut Watched<R>,
     writer: &mut Watched<W>,
     wanted: Wanted<'_>,
-) -> Result<Report, RunError>
+    load: F,
+) -> Result<Report, StopError>
+    requires { F.IsAlwaysCallable load }
     ensures written { IfOk result (λ report. (found : List FoundValue) × (text : List ℕ)
-        × IsReported R.remaining reader.old reader.new (wanted_value wanted.entry) report found
+        × IsReported R.remaining reader.old reader.new (FnOnceReturnsAt F.FnOnce load) (wanted_value wanted.entry)
+        report found
         × IsReportText (wanted_value wanted.entry) report found text
         × Appends (W.contents writer.old.inner) (W.contents writer.new.inner) text) }
-    ensures refused { IfErr result (λ error. error ≢ RunError.Write
-        → IsStopped R.remaining (wanted_value wanted.entry) reader.old reader.new error) }
-    ensures unwritten { IfErr result (λ error. error ≢ RunError.Write → writer.new ≡ writer.old) }
-    ensures write { IsErrOf result RunError.Write → IsSome writer.new.failure
+    ensures refused { IfErr result (λ error. error ≢ StopError.Check RunError.Write
+        → IsStopped R.remaining (FnOnceReturnsAt F.FnOnce load) (wanted_value wanted.entry) reader.old reader.new
+        error) }
+    ensures unwritten { IfErr result (λ error. error ≢ StopError.Check RunError.Write → writer.new ≡ writer.old) }
+    ensures write { IsErrOf result (StopError.Check RunError.Write) → IsSome writer.new.failure
         × ((report : Report) × (found : List FoundValue)
-        × IsReported R.remaining reader.old reader.new (wanted_value wanted.entry) report found) }
+        × IsReported R.remaining reader.old reader.new (FnOnceReturnsAt F.FnOnce load) (wanted_value wanted.entry)
+        report found) }
 {
-    let lock = read_json(alloc, reader)?;
-    let (report, lines) = report_of(alloc, lock, wanted)?;
-    writer
-        .write_all(lines.as_slice())
-        .map_err(|_| RunError::Write)?;
-    Ok(report)
+    let lock = match read_json(alloc, reader) {
+        Ok(lock) => lock,
+        Err(error) => return Err(StopError::Check(error)),
+    };
+    let linked = match loaded(alloc, &lock, wanted.manifest, load) {
+        Ok(linked) => linked,
+        Err(error) => return Err(StopError::Load(error)),
+    };
+    let (report, lines) = match report_of(alloc, lock, linked, wanted) {
+        Ok(made) => made,
+        Err(error) => return Err(StopError::Check(error)),
+    };
+    match writer.write_all(lines.as_slice()) {
+        Ok(()) => Ok(report),
+        Err(_) => Err(StopError::Check(RunError::Write)),
+    }
 }
 
 /// The report of a lock file, and its lines.
-fn report_of(alloc: Global, lock: Value, wanted: Wanted<'_>) -> Result<(Report, Vec<u8>), RunError>
+fn report_of(
+    alloc: Global,
+    lock: Value,
+    linked: Vec<Linked>,
+    wanted: Wanted<'_>,
+) -> Result<(Report, Vec<u8>), RunError>
     ensures found { IfOk result (λ made. (found : List FoundValue)
-        × IsReportOf (view lock) (wanted_value wanted.entry) made.0 found
+        × IsReportOf (view lock) (map linked_value linked.items) (wanted_value wanted.entry) made.0 found
         × IsReportText (wanted_value wanted.entry) made.0 found made.1.items) }
-    ensures refused { IfErr result (IsRefused (view lock)
-        (placed (view lock) (wanted_value wanted.entry).manifest) (wanted_value wanted.entry)) }
+    ensures refused { IfErr result (IsRefused (view lock) (placed (view lock)
+        (manifests_of (wanted_value wanted.entry).manifest (map linked_value linked.items)))
+        (map linked_value linked.items) (wanted_value wanted.entry)) }
 {
     let compared = is_compared(&lock, wanted.manifest);
     let mut lock = lock;
-    let mismatches = compare(alloc, &mut lock, wanted)?;
+    let mismatches = compare(alloc, &mut lock, linked, wanted)?;
     let lock = converted(alloc, lock, wanted.manifest)?;
     let problems = problems_of(alloc, &lock, wanted)?;
     let found = match hits_of(alloc, &lock, wanted) {
@@ -132,7 +160,7 @@ fn leave_out(list: &mut Vec<Problem>, ignored: Kinds)
 /// `ByteOrderMark`, `NoUtf8` and `NoJson` are true of all of the input. `Read` and `Memory`: a read failed, or an allocation.
 pub fn read_json<R: Read>(alloc: Global, reader: &mut Watched<R>) -> Result<Value, RunError>
     ensures value { IfOk result (λ value. IsInput R.remaining reader.old reader.new (view value)) }
-    ensures refused { (wanted : WantedValue) → IfErr result (IsStopped R.remaining wanted reader.old reader.new) }
+    ensures refused { IfErr result (IsUnread R.remaining reader.old reader.new) }
 {
     // A reader that had failed before is not read.
     if let Some(kind) = reader.failure() {

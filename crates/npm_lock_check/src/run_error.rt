@@ -4,6 +4,7 @@ ghost use Rattle.std.specs.IoError.{error_kind};
 ghost use Rattle.std.specs.declared.io.ErrorKind.{ErrorKind};
 ghost use Rattle.serde_json.specs.Errors.{IsMemory};
 
+use crate::folder_name::FolderName;
 use crate::list_name::ListName;
 use npm_advisories::FaultKind;
 use npm_lock::Fault;
@@ -68,9 +69,26 @@ pub enum RunError {
     /// The manifest has a fault.
     #[error("the manifest is not read: {0}")]
     NoManifest(Fault),
+    /// The manifest of the package in this folder has a fault.
+    #[error("{0}/package.json is not read: {1}")]
+    NoLinked(FolderName, Fault),
     /// The advisories have a fault: its kind, the name that the advisory stands under, and its place in the list there.
     #[error("the advisories are not read: {0}; advisory {2}, counted from 0{1}")]
     NoAdvisories(FaultKind, ListName, usize),
+}
+
+/// Why the manifest of a workspace, or of another package that a link names, was not read.
+#[derive(Debug, PartialEq, Eq, Drop, Error)]
+pub enum LoadError {
+    /// The manifest in this folder cannot be opened.
+    #[error("{0}/package.json cannot be opened")]
+    Open(FolderName),
+    /// The manifest in this folder was not read.
+    #[error("{0}/package.json: {1}")]
+    Read(FolderName, RunError),
+    /// An allocation failed.
+    #[error("out of memory")]
+    Memory,
 }
 
 /// Why the program stopped.
@@ -85,6 +103,9 @@ pub enum StopError {
     /// The file after `--advisories` was not read.
     #[error("--advisories: {0}")]
     Advisories(RunError),
+    /// The manifest of a workspace, or of another package that a link names, was not read.
+    #[error("{0}")]
+    Load(LoadError),
 }
 
 /// Why a read failed: `Memory` if the buffer could not grow.

@@ -38,9 +38,22 @@ pub fn push_mismatch_sentence(line: &mut Vec<u8>, mismatch: &Mismatch) -> Result
     line.extend_from_slice(mismatch.group.as_str().as_bytes())?;
     line.extend_from_slice(b" is ")?;
     push_side(line, mismatch.spec.as_ref())?;
-    line.extend_from_slice(b" in package.json, and ")?;
+    line.extend_from_slice(b" in ")?;
+    push_manifest(line, mismatch.from.as_str())?;
+    line.extend_from_slice(b", and ")?;
     push_side(line, mismatch.locked.as_ref())?;
     line.extend_from_slice(b" in the lock file")
+}
+
+/// Adds the manifest in a folder: `package.json` of the root, and `w/package.json`.
+fn push_manifest(line: &mut Vec<u8>, folder: &str) -> Result<(), AllocError>
+    ensures { OnOk result (line.new.items ≡ line.old.items ++ Sentence.manifest_words folder.now) }
+{
+    if folder.is_empty() {
+        return line.extend_from_slice(b"package.json");
+    }
+    push_shown(line, folder)?;
+    line.extend_from_slice(b"/package.json")
 }
 
 /// Adds the spec of one side, or that there is none.

@@ -1,13 +1,17 @@
-//! The manifest of the root, beside a lock file.
-ghost use Rattle.std.specs.Prelude.{◌≡◌, [], IfErr, IfOk, OnOk, Some, option_map};
+//! The manifests of the root and of linked folders, beside a lock file.
+ghost use Rattle.std.specs.Prelude.{◌≡◌, ◌++◌, [], List, None, IfErr, IfOk, OnOk, Some, map, option_map};
 ghost use Rattle.serde_json.specs.View.{view};
-ghost use Rattle.npm_lock.specs.Mismatches.{AreMismatches};
-ghost use Rattle.npm_lock_check.specs.Private.Refusals.{IsCompareRefused, IsManifestRefused};
-ghost use Rattle.npm_lock_check.specs.Report.{AreLeftMismatches, has_packages, is_compared, placed, wanted_value};
+ghost use Rattle.npm_lock.specs.Mismatches.{AreMismatches, manifest_fault};
+ghost use Rattle.npm_lock_check.specs.Linked.{linked_value};
+ghost use Rattle.npm_lock_check.specs.Private.Refusals.{AreLinkedRefused, IsCompareRefused, IsManifestRefused, IsOneRefused};
+ghost use Rattle.npm_lock_check.specs.Report.{AreAllMismatches, AreLeftMismatches, has_packages, is_compared, manifests_of};
+ghost use Rattle.npm_lock_check.specs.Report.{placed, wanted_value};
 
+use crate::folder_name::FolderName;
+use crate::linked::Linked;
 use crate::run_error::RunError;
 use crate::wanted::Wanted;
-use npm_lock::{CheckError, Mismatch, mismatches_of, put_manifest};
+use npm_lock::{CheckError, Fault, Mismatch, mismatches_of, put_manifest};
 use serde_json::Value;
 use std::alloc::Global;
 
@@ -25,25 +29,42 @@ pub fn is_compared(lock: &Value, manifest: Option<&Value>) -> bool
     manifest.is_some() && has_packages(lock)
 }
 
-/// Compares the manifest and the lock file, and puts the manifest in the root's place. Returns the mismatches, but not if their
-/// kind is left out. A lock file of version 1 stays as it is.
+/// Compares the manifests and the lock file, and puts each manifest in the place of its package. Returns the mismatches, but not
+/// if their kind is left out. A lock file of version 1 stays as it is.
 pub fn compare(
     alloc: Global,
     lock: &mut Value,
+    linked: Vec<Linked>,
     wanted: Wanted<'_>,
 ) -> Result<Vec<Mismatch>, RunError>
-    ensures placed { OnOk result (view lock.new ≡ placed (view lock.old) (wanted_value wanted.entry).manifest) }
-    ensures mismatches { IfOk result (λ list. AreLeftMismatches (view lock.old) (wanted_value wanted.entry).manifest
+    ensures placed { OnOk result (view lock.new ≡ placed (view lock.old)
+        (manifests_of (wanted_value wanted.entry).manifest (map linked_value linked.items))) }
+    ensures mismatches { IfOk result (λ list. AreLeftMismatches (view lock.old)
+        (manifests_of (wanted_value wanted.entry).manifest (map linked_value linked.items))
         wanted.entry.ignored.group list.items) }
-    ensures refused { IfErr result (IsCompareRefused (view lock.old) (wanted_value wanted.entry).manifest) }
+    ensures refused { IfErr result (IsCompareRefused (view lock.old) (wanted_value wanted.entry).manifest
+        (map linked_value linked.items)) }
 {
     let Some(manifest) = wanted.manifest else {
         return Ok(Vec::new(alloc));
     };
-    let mismatches = left_mismatches(alloc, lock, manifest, wanted.ignored.group)?;
+    let mismatches = left_mismatches(alloc, lock, manifest, &linked, wanted.ignored.group)?;
     let copy = manifest.clone().map_err(|_| RunError::Memory)?;
     put_manifest(alloc, lock, "", copy).map_err(|_| RunError::Memory)?;
+    place(alloc, lock, linked)?;
     Ok(mismatches)
+}
+
+/// Puts each manifest in the place of its package.
+fn place(alloc: Global, lock: &mut Value, linked: Vec<Linked>) -> Result<(), RunError>
+    ensures placed { OnOk result (view lock.new ≡ placed (view lock.old) (map linked_value linked.items)) }
+    ensures memory { IfErr result (λ error. error ≡ RunError.Memory) }
+{
+    for one in linked {
+        let Linked { folder, manifest } = one;
+        put_manifest(alloc, lock, folder.as_str(), manifest).map_err(|_| RunError::Memory)?;
+    }
+    Ok(())
 }
 
 /// The mismatches that are not left out.
@@ -51,16 +72,21 @@ fn left_mismatches(
     alloc: Global,
     lock: &Value,
     manifest: &Value,
+    linked: &[Linked],
     is_ignored: bool,
 ) -> Result<Vec<Mismatch>, RunError>
-    ensures found { IfOk result (λ list. AreLeftMismatches (view lock.now) (Some (view manifest.now)) is_ignored
-        list.items) }
-    ensures refused { IfErr result (IsCompareRefused (view lock.now) (Some (view manifest.now))) }
+    ensures found { IfOk result (λ list. AreLeftMismatches (view lock.now)
+        (manifests_of (Some (view manifest.now)) (map linked_value linked.now)) is_ignored list.items) }
+    ensures refused { IfErr result (IsCompareRefused (view lock.now) (Some (view manifest.now))
+        (map linked_value linked.now)) }
 {
     if !has_packages(lock) {
         return Ok(Vec::new(alloc));
     }
-    let all = all_mismatches(alloc, lock, manifest)?;
+    let mut all = root_mismatches(alloc, lock, manifest)?;
+    if let Err(error) = add_linked(alloc, &mut all, lock, linked) {
+        return Err(error);
+    }
     if is_ignored {
         Ok(Vec::new(alloc))
     } else {
@@ -69,7 +95,7 @@ fn left_mismatches(
 }
 
 /// The mismatches of the root's manifest.
-fn all_mismatches(alloc: Global, lock: &Value, manifest: &Value) -> Result<Vec<Mismatch>, RunError>
+fn root_mismatches(alloc: Global, lock: &Value, manifest: &Value) -> Result<Vec<Mismatch>, RunError>
     ensures found { IfOk result (λ list. AreMismatches (view lock.now) [] (view manifest.now) list.items) }
     ensures refused { IfErr result (IsManifestRefused (view manifest.now)) }
 {
@@ -77,5 +103,52 @@ fn all_mismatches(alloc: Global, lock: &Value, manifest: &Value) -> Result<Vec<M
         Ok(mismatches) => Ok(mismatches),
         Err(CheckError::Refused(fault)) => Err(RunError::NoManifest(fault)),
         Err(CheckError::Memory) => Err(RunError::Memory),
+    }
+}
+
+/// Adds the mismatches of the manifests of linked folders.
+fn add_linked(
+    alloc: Global,
+    all: &mut Vec<Mismatch>,
+    lock: &Value,
+    linked: &[Linked],
+) -> Result<(), RunError>
+    ensures found { OnOk result ((list : List Mismatch)
+        × AreAllMismatches (view lock.now) (map linked_value linked.now) list
+        × (all.new.items ≡ all.old.items ++ list)) }
+    ensures refused { IfErr result (AreLinkedRefused (map linked_value linked.now)) }
+{
+    for one in linked {
+        let mut list = match linked_mismatches(alloc, lock, one) {
+            Ok(list) => list,
+            Err(error) => return Err(error),
+        };
+        all.append(&mut list).map_err(|_| RunError::Memory)?;
+    }
+    Ok(())
+}
+
+/// The mismatches of the manifest in a linked folder.
+fn linked_mismatches(alloc: Global, lock: &Value, one: &Linked) -> Result<Vec<Mismatch>, RunError>
+    ensures found { IfOk result (λ list. AreMismatches (view lock.now) (linked_value one.now).folder
+        (linked_value one.now).manifest list.items) }
+    ensures sound { OnOk result (manifest_fault (linked_value one.now).manifest ≡ None) }
+    ensures refused { IfErr result (IsOneRefused (linked_value one.now)) }
+{
+    match mismatches_of(alloc, lock, one.folder.as_str(), &one.manifest) {
+        Ok(mismatches) => Ok(mismatches),
+        Err(CheckError::Refused(fault)) => Err(no_linked(alloc, one, fault)),
+        Err(CheckError::Memory) => Err(RunError::Memory),
+    }
+}
+
+/// The error of the manifest in a linked folder with a fault.
+fn no_linked(alloc: Global, one: &Linked, fault: Fault) -> RunError
+    requires { manifest_fault (linked_value one.now).manifest ≡ Some fault }
+    ensures { IsOneRefused (linked_value one.now) result }
+{
+    match String::from_str(alloc, one.folder.as_str()) {
+        Ok(text) => RunError::NoLinked(FolderName { text }, fault),
+        Err(_) => RunError::Memory,
     }
 }

@@ -1,8 +1,11 @@
-//! Tests of the public calls of `npm_lock`: lock files of version 2 and 3, of version 1, and manifests.
+//! Tests of the public calls of `npm_lock`: lock files of version 2 and 3, of version 1, manifests, and the
+//! folders that links name.
 #![tactic(auto)]
 
 #[cfg(test)]
 mod check;
+#[cfg(test)]
+mod linked;
 #[cfg(test)]
 mod manifest;
 #[cfg(test)]

@@ -173,6 +173,14 @@ pub(crate) fn mismatches(found: Result<Vec<Mismatch>, CheckError>) -> Answer {
     }
 }
 
+/// How many folders were given.
+pub(crate) fn folders(found: Result<Vec<&str>, AllocError>) -> Answer {
+    match found {
+        Ok(folders) => Answer::Count(folders.len()),
+        Err(_) => Answer::OutOfMemory,
+    }
+}
+
 /// How many identifiers were given.
 pub(crate) fn identifiers(found: Result<Vec<Identifier>, AllocError>) -> Answer {
     match found {

@@ -236,6 +236,7 @@ fn call_of_made(alloc: Global, name: &str, one: &str, other: &str) -> Result<Cal
         | "npm_lock::convert"
         | "npm_lock::mismatches_of"
         | "npm_lock::put_manifest"
+        | "npm_lock::linked_folders"
         | "Mismatch::to_json"
         | "npm_advisories::audit_lock"
         | "Unchecked::to_json"

@@ -40,6 +40,8 @@ pub(crate) enum Making {
     MismatchJson(Mismatch),
     /// A lock file with its member `manifest` in the place of the root.
     Put(Value),
+    /// The folders that links of a lock file name.
+    Folders(Value),
     /// The first package that is hit, of an object with a `lock` and its `advisories`.
     Audit(Value),
     /// The next prerelease after a version, with an identifier or without.
@@ -68,6 +70,7 @@ impl Making {
             Making::Mismatches(lock) => answer::mismatches(mismatches_of(alloc, lock)),
             Making::MismatchJson(mismatch) => answer::json(mismatch.to_json(alloc)),
             Making::Put(lock) => answer::json(with_manifest(alloc, lock)),
+            Making::Folders(lock) => answer::folders(npm_lock::linked_folders(alloc, lock)),
             Making::Audit(input) => audited(alloc, input),
             Making::Bumped(version, identifier) => {
                 let base = IdentifierBase::Zero;
@@ -89,6 +92,7 @@ impl Making {
             | Making::Converted(value)
             | Making::Mismatches(value)
             | Making::Put(value)
+            | Making::Folders(value)
             | Making::Audit(value) => value.to_string(alloc),
             Making::MismatchJson(mismatch) => mismatch.name.clone(),
             Making::UncheckedJson(unchecked) => unchecked.dependency.name.clone(),
@@ -162,6 +166,7 @@ pub(crate) fn making_of(alloc: Global, name: &str, text: &str) -> Result<Making,
         "Unchecked::to_json" => unchecked_of(alloc, text),
         "npm_lock::mismatches_of" => Ok(Making::Mismatches(lock_of(alloc, text)?)),
         "npm_lock::put_manifest" => Ok(Making::Put(lock_of(alloc, text)?)),
+        "npm_lock::linked_folders" => Ok(Making::Folders(lock_of(alloc, text)?)),
         "Mismatch::to_json" => mismatch_of(alloc, text),
         "npm_advisories::audit_lock" => Ok(Making::Audit(lock_of(alloc, text)?)),
         "Version::bump" => bump_of(alloc, text),

@@ -1,22 +1,25 @@
 -- What the definitions say of what was read.
-use Rattle.std.proofs.Common.{◌≡◌, ◌∷◌, ℕ, List, [], Option, Some, codes, false, refl, true}
+use Rattle.std.proofs.Common.{◌≡◌, ◌∷◌, ℕ, List, [], Option, Result, Some, codes, false, inl, inr, refl, true}
+use Rattle.std.specs.Global.{Vec}
 use Rattle.std.specs.declared.io.ErrorKind.TheVariants.{Other, OutOfMemory}
 use Rattle.serde_json.specs.Data.{Data}
+use Rattle.serde_json.specs.declared.value.Value.{Value}
 use Rattle.npm_lock_check.specs.WatchedValue.{WatchedValue}
-use Rattle.npm_lock_check.specs.Output.{IsInput, IsStopped, has_mark}
+use Rattle.npm_lock_check.specs.Output.{IsInput, IsStopped, IsUnread, has_mark}
 use Rattle.npm_lock_check.specs.Report.{WantedValue}
+use Rattle.npm_lock_check.specs.declared.linked.Linked.{Linked}
+use Rattle.npm_lock_check.specs.declared.run_error.LoadError.{LoadError}
 use Rattle.npm_lock_check.specs.declared.run_error.RunError.TheVariants.{NoJson, NoUtf8, Read}
+use Rattle.npm_lock_check.specs.declared.run_error.StopError.TheVariants.{Check, Load}
 
 -- ---- what was read
 
-module _ (remaining : List ℕ → Option (List ℕ)) (wanted : WantedValue) (old : WatchedValue (List ℕ)) where
+module _ (remaining : List ℕ → Option (List ℕ)) (old : WatchedValue (List ℕ)) where
   -- a read that failed for want of memory is no failed read of another kind
-  pub no_memory_is_no_failed_read : ¬ IsStopped remaining wanted old (record { inner = []; failure = Some OutOfMemory })
-      Read
+  pub no_memory_is_no_failed_read : ¬ IsUnread remaining old (record { inner = []; failure = Some OutOfMemory }) Read
   no_memory_is_no_failed_read stopped = stopped.1 refl
 
-  pub another_failure_is_a_failed_read : IsStopped remaining wanted old (record { inner = []; failure = Some Other })
-      Read
+  pub another_failure_is_a_failed_read : IsUnread remaining old (record { inner = []; failure = Some Other }) Read
   another_failure_is_a_failed_read = (refl, λ same. cc same)
 
   -- after a failed call nothing was read, and no input is called no JSON
@@ -24,13 +27,23 @@ module _ (remaining : List ℕ → Option (List ℕ)) (wanted : WantedValue) (ol
       (record { inner = []; failure = Some Other }) lock
   after_a_failure_nothing_was_read lock input = cc input.unfailed
 
+module _ (remaining : List ℕ → Option (List ℕ)) (Gives : Value → Result (Vec Linked) LoadError → Type 0)
+    (wanted : WantedValue) (old : WatchedValue (List ℕ)) where
   pub after_a_failure_nothing_is_no_json : (line column : ℕ)
-      → ¬ IsStopped remaining wanted old (record { inner = []; failure = Some Other }) (NoJson line column)
-  after_a_failure_nothing_is_no_json line column stopped = cc stopped.unfailed
+      → ¬ IsStopped remaining Gives wanted old (record { inner = []; failure = Some Other })
+      (Check (NoJson line column))
+  after_a_failure_nothing_is_no_json line column (inl stopped) = cc stopped.unfailed
+  after_a_failure_nothing_is_no_json line column (inr faulty) = faulty.refused
 
-  pub after_a_failure_nothing_is_no_text : ¬ IsStopped remaining wanted old
-      (record { inner = []; failure = Some Other }) NoUtf8
-  after_a_failure_nothing_is_no_text stopped = cc stopped.unfailed
+  pub after_a_failure_nothing_is_no_text : ¬ IsStopped remaining Gives wanted old
+      (record { inner = []; failure = Some Other }) (Check NoUtf8)
+  after_a_failure_nothing_is_no_text (inl stopped) = cc stopped.unfailed
+  after_a_failure_nothing_is_no_text (inr faulty) = faulty.refused
+
+  -- after a failed call no manifest is loaded
+  pub after_a_failure_nothing_is_loaded : (error : LoadError) → ¬ IsStopped remaining Gives wanted old
+      (record { inner = []; failure = Some Other }) (Load error)
+  after_a_failure_nothing_is_loaded error stopped = cc stopped.input.unfailed
 
 pub a_mark : has_mark (239 ∷ 187 ∷ 191 ∷ codes "{}") ≡ true
 a_mark = refl

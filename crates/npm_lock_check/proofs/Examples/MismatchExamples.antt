@@ -6,7 +6,7 @@ use Rattle.serde_json.specs.Data.{Data, member, no_members, number, object, stri
 use Rattle.npm_lock.specs.ManifestPlace.{as_package}
 use Rattle.npm_lock.specs.Mismatches.{AreMismatches, MismatchValue, mismatch_of}
 use Rattle.npm_lock.specs.declared.group.Group.TheVariants.{Dependencies, DevDependencies}
-use Rattle.npm_lock_check.specs.Report.{is_compared, placed}
+use Rattle.npm_lock_check.specs.Report.{is_compared, manifests_of, placed}
 use Rattle.npm_lock_check.specs.Sentence.{mismatch_sentence}
 
 -- an object with one member, a package that asks for `a`, and a lock file whose root asks for it
@@ -64,9 +64,15 @@ pub an_empty_spec : mismatch_sentence (on_a (Some []) None)
     ≡ codes "a in dependencies is \"\" in package.json, and absent in the lock file"
 an_empty_spec = refl
 
+-- the manifest of a workspace
+pub in_a_workspace : mismatch_sentence (record (on_a (Some (codes "^2")) (Some (codes "^1"))) { from = codes "w" })
+    ≡ codes "a in dependencies is \"^2\" in w/package.json, and \"^1\" in the lock file"
+in_a_workspace = refl
+
 -- ---- a manifest and a lock file
 
-pub the_manifest_is_in_the_roots_place : placed (lock_of (asks (codes "^1"))) (Some (asks (codes "^2")))
+pub the_manifest_is_in_the_roots_place : placed (lock_of (asks (codes "^1")))
+    (manifests_of (Some (asks (codes "^2"))) [])
     ≡ lock_of (as_package (asks (codes "^2")))
 the_manifest_is_in_the_roots_place = refl
 
@@ -76,7 +82,7 @@ they_are_compared = refl
 pub version_one_is_not_compared : is_compared old_lock (Some (asks (codes "^2"))) ≡ false
 version_one_is_not_compared = refl
 
-pub version_one_stays : placed old_lock (Some (asks (codes "^2"))) ≡ old_lock
+pub version_one_stays : placed old_lock (manifests_of (Some (asks (codes "^2"))) []) ≡ old_lock
 version_one_stays = refl
 
 pub nothing_is_compared_without_a_manifest : is_compared (lock_of (asks (codes "^1"))) None ≡ false

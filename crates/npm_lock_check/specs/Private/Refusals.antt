@@ -1,17 +1,20 @@
 -- Why the values of a lock file, of a manifest and of advisories are refused: one of them has a fault, or memory ran
 -- out.
-use Rattle.std.specs.Prelude.{◌≡◌, ◌⊎◌, ℕ, Option, Some, string_bytes}
+use Rattle.std.specs.Prelude.{◌≡◌, ◌⊎◌, ℕ, List, Option, Some, string_bytes}
 use Rattle.serde_json.specs.Data.{Data}
 use Rattle.npm_lock.specs.Faults.{lock_fault}
 use Rattle.npm_lock.specs.Mismatches.{manifest_fault}
 use Rattle.npm_lock.specs.declared.fault.Fault.{Fault}
 use Rattle.npm_advisories.specs.Faults.{FaultValue}
 use Rattle.npm_advisories.specs.declared.fault.FaultKind.{FaultKind}
-use Rattle.npm_lock_check.specs.Output.{AreNoAdvisories, IsNoLockFile, IsNoManifest}
+use Rattle.npm_lock_check.specs.Linked.{LinkedValue}
+use Rattle.npm_lock_check.specs.Output.{AreNoAdvisories, IsNoLinked, IsNoLockFile, IsNoManifest}
 use Rattle.npm_lock_check.specs.Report.{WantedValue}
+use Rattle.npm_lock_check.specs.declared.folder_name.FolderName.{FolderName}
 use Rattle.npm_lock_check.specs.declared.list_name.ListName.{ListName}
 use Rattle.npm_lock_check.specs.declared.run_error.RunError.{RunError}
-use Rattle.npm_lock_check.specs.declared.run_error.RunError.TheVariants.{Memory, NoAdvisories, NoLockFile, NoManifest}
+use Rattle.npm_lock_check.specs.declared.run_error.RunError.TheVariants.{Memory, NoAdvisories, NoLinked, NoLockFile}
+use Rattle.npm_lock_check.specs.declared.run_error.RunError.TheVariants.{NoManifest}
 
 -- the manifest
 abbrev pub IsManifestRefused : (manifest : Data) → RunError → Type 0
@@ -19,12 +22,25 @@ IsManifestRefused manifest error = ((fault : Fault) × (error ≡ NoManifest fau
     (manifest_fault manifest ≡ Some fault))
     ⊎ (error ≡ Memory)
 
--- the manifest that is compared with the lock file
-abbrev pub IsCompareRefused : (lock : Data) → (manifest : Option Data) → RunError → Type 0
-IsCompareRefused lock manifest error =
-    ((fault : Fault) × (error ≡ NoManifest fault) × IsNoManifest lock manifest fault) ⊎ (error ≡ Memory)
+-- the manifest in this folder of a link
+abbrev pub IsOneRefused : LinkedValue → RunError → Type 0
+IsOneRefused one error = ((name : FolderName) × (fault : Fault) × (error ≡ NoLinked name fault)
+    × (string_bytes name.text ≡ one.folder) × (manifest_fault one.manifest ≡ Some fault))
+    ⊎ (error ≡ Memory)
 
--- the lock file, with the manifest in the root's place
+-- the manifests in folders of links
+abbrev pub AreLinkedRefused : List LinkedValue → RunError → Type 0
+AreLinkedRefused linked error =
+    ((name : FolderName) × (fault : Fault) × (error ≡ NoLinked name fault) × IsNoLinked linked name fault)
+    ⊎ (error ≡ Memory)
+
+-- the manifests that are compared with the lock file
+abbrev pub IsCompareRefused : (lock : Data) → (manifest : Option Data) → (linked : List LinkedValue) → RunError
+    → Type 0
+IsCompareRefused lock manifest linked error =
+    ((fault : Fault) × (error ≡ NoManifest fault) × IsNoManifest lock manifest fault) ⊎ AreLinkedRefused linked error
+
+-- the lock file, with the manifests in their places
 abbrev pub IsLockRefused : (placed : Data) → (manifest : Option Data) → RunError → Type 0
 IsLockRefused placed manifest error =
     ((fault : Fault) × (error ≡ NoLockFile fault) × IsNoLockFile placed manifest fault) ⊎ (error ≡ Memory)
@@ -49,6 +65,6 @@ abbrev pub IsAuditRefused : (checked : Data) → (advisories : Option Data) → 
 IsAuditRefused checked advisories error = AreAdvisoriesRefused advisories error ⊎ IsCheckRefused checked error
 
 -- any of them
-abbrev pub IsRefused : (lock placed : Data) → WantedValue → RunError → Type 0
-IsRefused lock placed wanted error = IsCompareRefused lock wanted.manifest error
+abbrev pub IsRefused : (lock placed : Data) → (linked : List LinkedValue) → WantedValue → RunError → Type 0
+IsRefused lock placed linked wanted error = IsCompareRefused lock wanted.manifest linked error
     ⊎ AreAdvisoriesRefused wanted.advisories error ⊎ IsLockRefused placed wanted.manifest error

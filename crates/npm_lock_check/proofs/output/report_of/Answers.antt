@@ -1,29 +1,41 @@
 -- The lock file is refused, or the report is made of its parts.
-use Rattle.std.proofs.Common.{◌∙◌, map, rules, sym}
+use Rattle.std.proofs.Common.{◌∙◌, inl, map, sym}
 use Rattle.serde_json.specs.View.{view}
 use Rattle.npm_advisories.specs.Audit.{found_value}
-use Rattle.npm_lock_check.specs.Report.{placed, wanted_value}
+use Rattle.npm_lock_check.specs.Linked.{linked_value}
+use Rattle.npm_lock_check.specs.Report.{manifests_of, placed, wanted_value}
 use Rattle.npm_lock_check.proofs.Auditing.{length_same, refused_audit, refused_check, refused_lock, some_same}
+use Rattle.npm_lock_check.proofs.Stopping.{passed_on}
 use Rattle.npm_lock_check.proofs.output.report_of.Goals as goal
+
+pub returns-in_err-mismatches-clause-refused : goal.returns-in_err-mismatches-clause-refused
+returns-in_err-mismatches-clause-refused c =
+    passed_on c.from_residual.result _ _ c.from_residual.ensures.1
+    (λ error same. rw same (inl c.in_err-mismatches.ensures.refused))
 
 pub returns-in_err-lock-clause-refused : goal.returns-in_err-lock-clause-refused
 returns-in_err-lock-clause-refused c =
-    let told = refused_lock (view c.args.lock) (placed (view c.args.lock) (wanted_value c.args.wanted).manifest)
-    (wanted_value c.args.wanted) _ (rw c.in_ok-mismatches.ensures.placed at c.in_err-lock.ensures.refused) in
-    search (rules, told)
+    let told = refused_lock (view c.args.lock) (placed (view c.args.lock)
+    (manifests_of (wanted_value c.args.wanted).manifest (map linked_value c.args.linked.items)))
+    (map linked_value c.args.linked.items) (wanted_value c.args.wanted) _
+    (rw c.in_ok-mismatches.ensures.placed at c.in_err-lock.ensures.refused) in
+    passed_on c.from_residual-in_err-lock.result _ _ c.from_residual-in_err-lock.ensures.1 (λ error same. rw same told)
 
 pub returns-in_err-problems-clause-refused : goal.returns-in_err-problems-clause-refused
 returns-in_err-problems-clause-refused c =
-    let told = refused_check (view c.args.lock) (placed (view c.args.lock) (wanted_value c.args.wanted).manifest)
-    (view c.in_ok-lock.lock) (wanted_value c.args.wanted) _
+    let told = refused_check (view c.args.lock) (placed (view c.args.lock)
+    (manifests_of (wanted_value c.args.wanted).manifest (map linked_value c.args.linked.items)))
+    (view c.in_ok-lock.lock) (map linked_value c.args.linked.items) (wanted_value c.args.wanted) _
     (rw c.in_ok-mismatches.ensures.placed at c.in_ok-lock.ensures.made)
     (rw c.in_ok-mismatches.ensures.placed at c.in_ok-lock.ensures.sound) c.in_err-problems.ensures.refused in
-    search (rules, told)
+    passed_on c.from_residual-in_err-problems.result _ _ c.from_residual-in_err-problems.ensures.1
+    (λ error same. rw same told)
 
 pub returns-in-Err-clause-refused : goal.returns-in-Err-clause-refused
 returns-in-Err-clause-refused c =
-    refused_audit (view c.args.lock) (placed (view c.args.lock) (wanted_value c.args.wanted).manifest)
-    (view c.in_ok-lock.lock) (wanted_value c.args.wanted) c.in-Err.error
+    refused_audit (view c.args.lock) (placed (view c.args.lock)
+    (manifests_of (wanted_value c.args.wanted).manifest (map linked_value c.args.linked.items)))
+    (view c.in_ok-lock.lock) (map linked_value c.args.linked.items) (wanted_value c.args.wanted) c.in-Err.error
     (rw c.in_ok-mismatches.ensures.placed at c.in_ok-lock.ensures.made)
     (rw c.in_ok-mismatches.ensures.placed at c.in_ok-lock.ensures.sound) c.in-Err.ensures.refused
 

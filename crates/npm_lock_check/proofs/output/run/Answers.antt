@@ -1,42 +1,34 @@
 -- The input was read, and a value was refused, or memory ran out, or the lines were not written.
-use Rattle.std.proofs.Common.{IsSome, None, Option, Some, refl, rules}
+use Rattle.std.proofs.Common.{IsSome, None, Option, Some, map, refl}
+use Rattle.std.specs.Fn.{FnOnceReturnsAt}
 use Rattle.std.specs.Option.{option_or}
-use Rattle.serde_json.specs.View.{view}
+use Rattle.npm_lock_check.specs.Linked.{linked_value}
 use Rattle.npm_lock_check.specs.Output.{IsReported}
 use Rattle.npm_lock_check.specs.Report.{wanted_value}
-use Rattle.npm_lock_check.proofs.Stopping.{refused, was_err}
+use Rattle.npm_lock_check.proofs.Stopping.{refused}
 use Rattle.npm_lock_check.proofs.output.run.Goals as goal
 
 some_of : {X : Type 0} (first : Option X) (second : X) → IsSome (option_or first (Some second))
 some_of None second = refl
 some_of (Some first) second = refl
 
-pub returns-in_err-lock-clause-refused : goal.returns-in_err-lock-clause-refused
-returns-in_err-lock-clause-refused g c =
-    let stopped = c.in_err-lock.ensures.refused (wanted_value c.args.wanted) in
-    search (rules, stopped)
+pub returns-in-Err-report_of-clause-refused : goal.returns-in-Err-report_of-clause-refused
+returns-in-Err-report_of-clause-refused g c = λ other.
+    refused g.R.Read.remaining c.args.reader.now c.read_json.new.reader (FnOnceReturnsAt g.F.FnOnce c.args.load)
+    (wanted_value c.args.wanted) c.in-Ok.lock (map linked_value c.in-Ok-loaded.linked.items) c.in-Ok.ensures.value
+    c.in-Ok-loaded.ensures.found c.in-Err-report_of.error c.in-Err-report_of.ensures.refused
 
-pub returns-in_err-lock-clause-write : goal.returns-in_err-lock-clause-write
-returns-in_err-lock-clause-write g c =
-    let stopped = c.in_err-lock.ensures.refused (wanted_value c.args.wanted) in
-    search (rules, stopped)
-
-pub returns-in_err-report-clause-refused : goal.returns-in_err-report-clause-refused
-returns-in_err-report-clause-refused g c =
-    let stopped = refused _ (wanted_value c.args.wanted) _ _ (view c.in_ok-lock.lock) _ c.in_ok-lock.ensures.value
-    c.in_err-report.ensures.refused in
-    search (rules, stopped)
-
-pub returns-in_err-map_err-clause-write : goal.returns-in_err-map_err-clause-write
-returns-in_err-map_err-clause-write g c = λ told.
-    let error = was_err _ c.write_all.result c.map_err.result _ c.map_err.ensures.cases c.in_err-map_err.was in
-    let failed : IsSome c.write_all.new.self.failure = rw (c.write_all.ensures.failure, error.1)
+pub returns-in-Err-write_all-clause-write : goal.returns-in-Err-write_all-clause-write
+returns-in-Err-write_all-clause-write g c = λ told.
+    let failed : IsSome c.write_all.new.self.failure = rw (c.write_all.ensures.failure, c.in-Err-write_all.is)
     (some_of c.args.writer.now.failure _) in
-    let made = c.in_ok-report.ensures.found in
-    let reported : IsReported g.R.Read.remaining c.args.reader.now c.read_json.new.reader (wanted_value c.args.wanted)
-    c.in_ok-report.report made.0 = record {
-      lock = view c.in_ok-lock.lock;
-      input = c.in_ok-lock.ensures.value;
+    let made = c.in-Ok-report_of.ensures.found in
+    let reported : IsReported g.R.Read.remaining c.args.reader.now c.read_json.new.reader
+    (FnOnceReturnsAt g.F.FnOnce c.args.load) (wanted_value c.args.wanted) c.in-Ok-report_of.made.0 made.0 = record {
+      lock = c.in-Ok.lock;
+      linked = map linked_value c.in-Ok-loaded.linked.items;
+      input = c.in-Ok.ensures.value;
+      loaded = c.in-Ok-loaded.ensures.found;
       report_of = made.1;
     } in
-    (failed, (c.in_ok-report.report, made.0, reported))
+    (failed, (c.in-Ok-report_of.made.0, made.0, reported))

@@ -1,0 +1,72 @@
+-- What the definitions say of the manifests of linked folders.
+use Rattle.std.proofs.Common.{◌≡◌, ◌∷◌, ◌++◌, ℕ, List, [], None, Option, Result, Ok, Some, codes, refl}
+use Rattle.serde_json.specs.Data.{Data, member, no_members, object, string}
+use Rattle.serde_json.specs.declared.value.Value.{Value}
+use Rattle.npm_lock.specs.ManifestPlace.{as_package}
+use Rattle.npm_lock.specs.declared.fault.Fault.TheVariants as Faults
+use Rattle.npm_lock_check.specs.Linked.{AreRead, LinkedValue}
+use Rattle.npm_lock_check.specs.ManifestFile.{HasNoSlash, IsFolderOf, above, current, path_of}
+use Rattle.npm_lock_check.specs.Output.{linked_fault}
+use Rattle.npm_lock_check.specs.Report.{manifests_of, placed}
+use Rattle.npm_lock_check.specs.declared.run_error.LoadError.{LoadError}
+
+abbrev one : (key : List ℕ) → Data → Data
+one key value = object (member key value no_members)
+
+abbrev asks : (spec : List ℕ) → Data
+asks spec = one (codes "dependencies") (one (codes "a") (string spec))
+
+abbrev lock_of : (root workspace : Data) → Data
+lock_of root workspace = one (codes "packages") (object (member [] root (member (codes "w") workspace no_members)))
+
+abbrev at_w : Data → LinkedValue
+at_w manifest = record { folder = codes "w"; manifest = manifest }
+
+-- ---- manifests in their places
+
+pub each_is_in_its_own_place : placed (lock_of (asks (codes "^1")) (asks (codes "^1")))
+    (manifests_of (Some (asks (codes "^2"))) (at_w (asks (codes "^3")) ∷ []))
+    ≡ lock_of (as_package (asks (codes "^2"))) (as_package (asks (codes "^3")))
+each_is_in_its_own_place = refl
+
+-- without a manifest of the root no other counts
+pub none_counts_alone : manifests_of None (at_w (asks (codes "^3")) ∷ []) ≡ []
+none_counts_alone = refl
+
+-- the entry of the lock file stays where no manifest is
+pub what_is_not_there_stays : placed (lock_of (asks (codes "^1")) (asks (codes "^1")))
+    (manifests_of (Some (asks (codes "^2"))) [])
+    ≡ lock_of (as_package (asks (codes "^2"))) (asks (codes "^1"))
+what_is_not_there_stays = refl
+
+-- ---- manifests with a fault
+
+pub the_first_fault : linked_fault (at_w (asks (codes "^1")) ∷ at_w (object no_members)
+    ∷ record { folder = codes "v"; manifest = string [] } ∷ at_w (string []) ∷ [])
+    ≡ Some (record { folder = codes "v"; fault = Faults.Manifest })
+the_first_fault = refl
+
+pub no_fault : linked_fault (at_w (asks (codes "^1")) ∷ []) ≡ None
+no_fault = refl
+
+-- ---- manifests that are read
+
+module _ (Gives : (folder : List ℕ) → Result (Option Value) LoadError → Type 0) where
+  -- no manifest is left out
+  pub what_is_there_counts : ((folder : List ℕ) → ¬ Gives folder (Ok None)) → ¬ AreRead Gives (codes "w" ∷ []) []
+  what_is_there_counts never (AreRead.absent folder folders linked gives rest) = never folder gives
+
+-- ---- files
+
+pub beside_the_root : path_of (codes "..") (codes "w") ≡ codes "../w/package.json"
+beside_the_root = refl
+
+no_slash : HasNoSlash []
+no_slash [] back is = cc is
+no_slash (x ∷ front) back is = cc is
+
+pub the_folder_of_a_path : IsFolderOf (codes "a/") (codes "a")
+the_folder_of_a_path = above (codes "a") [] refl no_slash
+
+pub the_folder_of_a_name : IsFolderOf [] (codes ".")
+the_folder_of_a_name = current no_slash

@@ -1,0 +1,131 @@
+-- Manifests of linked folders, one more at a time.
+use Rattle.std.proofs.Common.{◌≡◌, ◌↔◌, ◌∙◌, ◌++◌, ℕ, ◌+◌, ◌<◌, List, [], ◌∷◌, Option, Some, None, Result, Ok, Err, ap}
+use Rattle.std.proofs.Common.{Bool, append_assoc, drop, get_or, if◌then◌else◌, inl, inr, length, map, refl, sym, true}
+use Rattle.std.proofs.Common.{IfErr, IfOk}
+use denote.Ref.{Bor}
+use Rattle.std.proofs.lemmas.List.{drop_more, map-append}
+use Rattle.std.specs.Global.{Vec}
+use Rattle.serde_json.specs.Data.{Data}
+use Rattle.serde_json.specs.View.{view}
+use Rattle.serde_json.specs.declared.value.Value.{Value}
+use Rattle.npm_lock.specs.Mismatches.{AreMismatches, manifest_fault}
+use Rattle.npm_lock.specs.declared.fault.CheckError.{CheckError}
+use Rattle.npm_lock.specs.declared.fault.CheckError.TheVariants.{Refused}
+use Rattle.npm_lock.specs.declared.fault.Fault.{Fault}
+use Rattle.npm_lock.specs.declared.mismatch.Mismatch.{Mismatch}
+use Rattle.npm_lock_check.specs.Linked.{AreRead, LinkedValue, absent, linked_value, present}
+use Rattle.npm_lock_check.specs.Output.{linked_fault}
+use Rattle.npm_lock_check.specs.Private.Refusals.{AreLinkedRefused, IsOneRefused}
+use Rattle.npm_lock_check.specs.Report.{AreAllMismatches, AreLeftMismatches, AreLoaded, IsNotLoaded, has_packages}
+use Rattle.npm_lock_check.specs.Report.{is_compared}
+use Rattle.npm_lock_check.specs.declared.linked.Linked.{Linked}
+use Rattle.npm_lock_check.specs.declared.run_error.LoadError.{LoadError}
+use Rattle.npm_lock_check.specs.declared.run_error.RunError.{RunError}
+
+-- a manifest that is not refused has no fault
+pub no_fault : {T : Type 0} (found : Option Fault) (result : Result T CheckError) (value : T)
+    → ((fault : Fault) → (result ≡ Err (Refused fault)) ↔ (found ≡ Some fault)) → result ≡ Ok value → found ≡ None
+no_fault None result value refused is = refl
+no_fault (Some fault) result value refused is =
+    let never : Ok value ≡ Err (Refused fault) = sym is ∙ (refused fault).1 refl in cc never
+
+module _ (all : List Linked) (i : ℕ) (one : Linked) (small : i < length all) (is : one ≡ get_or all i one) where
+  -- it is the first of those that are left
+  left : drop i all ≡ one ∷ drop (i + 1) all
+  left = drop_more all i one small ∙ ap (λ x. x ∷ drop (i + 1) all) (sym is)
+
+  -- the mismatches of one manifest more
+  pub mismatches_more : (lock : Data) (done more start here : List Mismatch)
+      → AreMismatches lock (linked_value one).folder (linked_value one).manifest here → more ≡ done ++ here
+      → ((rest : List Mismatch) → AreAllMismatches lock (map linked_value (drop i all)) rest
+      → (list : List Mismatch) × AreAllMismatches lock (map linked_value all) list × (done ++ rest ≡ start ++ list))
+      → (rest : List Mismatch) → AreAllMismatches lock (map linked_value (drop (i + 1) all)) rest
+      → (list : List Mismatch) × AreAllMismatches lock (map linked_value all) list × (more ++ rest ≡ start ++ list)
+  mismatches_more lock done more start here are is_more held rest later =
+      let whole : AreAllMismatches lock (map linked_value (drop i all)) (here ++ rest) =
+      rw left (here, rest, are, later, refl) in
+      let made = held (here ++ rest) whole in
+      (made.0, made.1, ap (λ list. list ++ rest) is_more ∙ append_assoc done here rest ∙ made.2)
+
+  -- a manifest without a fault is passed
+  pub fault_passed : manifest_fault (linked_value one).manifest ≡ None
+      → linked_fault (map linked_value (drop i all)) ≡ linked_fault (map linked_value (drop (i + 1) all))
+  fault_passed none = rw (left, none) refl
+
+  -- the first manifest with a fault
+  pub fault_found : (fault : Fault) → manifest_fault (linked_value one).manifest ≡ Some fault
+      → linked_fault (map linked_value (drop i all))
+      ≡ Some (record { folder = (linked_value one).folder; fault = fault })
+  fault_found fault some = rw (left, some) refl
+
+  -- the manifest that is refused is the first with a fault, or memory ran out
+  pub first_refused : (error : RunError) → linked_fault (map linked_value all) ≡ linked_fault (map linked_value (drop i all))
+      → IsOneRefused (linked_value one) error → AreLinkedRefused (map linked_value all) error
+  first_refused error sound (inl (name, fault, same, text, told)) = inl (
+    name,
+    fault,
+    same,
+    sound ∙ fault_found fault told
+        ∙ ap (λ folder. Some (record { folder = folder; fault = fault })) (sym text),
+  )
+  first_refused error sound (inr memory) = inr memory
+
+-- the mismatches of manifests that are compared
+pub left_of : (lock : Data) (manifests : List LinkedValue) (is_ignored : Bool) (all list : List Mismatch)
+    → has_packages lock ≡ true → AreAllMismatches lock manifests all → list ≡ (if is_ignored then [] else all)
+    → AreLeftMismatches lock manifests is_ignored list
+left_of lock manifests is_ignored all list has are is = rw has (all, are, is)
+
+-- ---- manifests that are read
+
+module _ (Gives : (folder : List ℕ) → Result (Option Value) LoadError → Type 0) (all : List (Bor (List ℕ))) (i : ℕ)
+    (none : Bor (List ℕ)) (small : i < length all) (done : List LinkedValue)
+    (held : (rest : List LinkedValue) → AreRead Gives (map (λ folder. folder.now) (drop i all)) rest
+    → AreRead Gives (map (λ folder. folder.now) all) (done ++ rest)) where
+  abbrev one : Bor (List ℕ)
+  one = get_or all i none
+
+  first_left : drop i all ≡ one ∷ drop (i + 1) all
+  first_left = drop_more all i none small
+
+  -- the manifest is not there
+  pub absent_read : Gives one.now (Ok None) → (rest : List LinkedValue)
+      → AreRead Gives (map (λ folder. folder.now) (drop (i + 1) all)) rest
+      → AreRead Gives (map (λ folder. folder.now) all) (done ++ rest)
+  absent_read gives rest later =
+      let whole : AreRead Gives (map (λ folder. folder.now) (drop i all)) rest =
+      rw first_left (absent one.now (map (λ folder. folder.now) (drop (i + 1) all)) rest gives later) in
+      held rest whole
+
+  -- the manifest is there
+  pub present_read : (manifest : Value) (added : LinkedValue) (more : List LinkedValue)
+      → Gives one.now (Ok (Some manifest)) → added ≡ record { folder = one.now; manifest = view manifest }
+      → more ≡ done ++ (added ∷ []) → (rest : List LinkedValue)
+      → AreRead Gives (map (λ folder. folder.now) (drop (i + 1) all)) rest
+      → AreRead Gives (map (λ folder. folder.now) all) (more ++ rest)
+  present_read manifest added more gives same is_more rest later =
+      let whole : AreRead Gives (map (λ folder. folder.now) (drop i all)) (added ∷ rest) =
+      rw (first_left, same)
+      (present one.now (map (λ folder. folder.now) (drop (i + 1) all)) rest manifest gives later) in
+      let list : more ++ rest ≡ done ++ (added ∷ rest) =
+      ap (λ list. list ++ rest) is_more ∙ append_assoc done (added ∷ []) rest in
+      rw list (held (added ∷ rest) whole)
+
+-- ---- manifests that are loaded
+
+module _ (Gives : Value → Result (Vec Linked) LoadError → Type 0) (lock : Value) (manifest : Option Data)
+    (is : is_compared (view lock) manifest ≡ true) where
+  pub are_loaded : (result : Result (Vec Linked) LoadError) → Gives lock result
+      → IfOk result (λ list. AreLoaded Gives lock manifest (map linked_value list.items))
+  are_loaded (Ok list) gives = rw is (list, gives, refl)
+  are_loaded (Err error) gives = tt
+
+  pub are_not_loaded : (result : Result (Vec Linked) LoadError) → Gives lock result
+      → IfErr result (λ error. IsNotLoaded Gives lock manifest error)
+  are_not_loaded (Ok list) gives = tt
+  are_not_loaded (Err error) gives = (is, gives)
+
+-- one more manifest in the list
+pub pushed : (items more : List Linked) (added : Linked) → more ≡ items ++ (added ∷ [])
+    → map linked_value more ≡ map linked_value items ++ (linked_value added ∷ [])
+pushed items more added is = rw is (map-append linked_value items (added ∷ []))

@@ -140,6 +140,7 @@ pub record IsReportOf (lock : Data) (linked : List LinkedValue) (wanted : Wanted
   pub hit : AreHit (checked_lock lock wanted.manifest linked) wanted.advisories wanted.level found
   pub audited : report.audited ≡ is_some wanted.advisories
   pub hits : report.hits ≡ length found
+  pub listed : report.listed ≡ wanted.unchecked
 
 -- a report of nothing
 pub record IsClean (report : Report) : Type 0 where

@@ -108,6 +108,7 @@ fn report_of(
         problems,
         audited: wanted.advisories.is_some(),
         hits: found.len(),
+        listed: wanted.unchecked,
     };
     match lines_of(alloc, &report, &found, wanted) {
         Ok(lines) => Ok((report, lines)),

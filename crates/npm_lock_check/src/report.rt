@@ -18,6 +18,8 @@ pub struct Report {
     pub audited: bool,
     /// How many installed packages an advisory hits.
     pub hits: usize,
+    /// A line was written for each dependency that is not checked.
+    pub listed: bool,
 }
 
 impl Report {
@@ -29,7 +31,8 @@ impl Report {
     }
 }
 
-/// Prints the counts. Those of mismatches and of packages that are hit are left out if nothing was looked for.
+/// Prints the counts. Those of mismatches and of packages that are hit are left out if nothing was looked for. If dependencies
+/// that are not checked were not listed, names the option that lists them.
 impl fmt::Display for Report {
     fn fmt<W: fmt::Write>(&self, f: &mut fmt::Formatter<W>) -> fmt::Result {
         let problems = &self.problems;
@@ -41,6 +44,9 @@ impl fmt::Display for Report {
             problems.list.len(),
             problems.unchecked.len()
         )?;
+        if !self.listed && !problems.unchecked.is_empty() {
+            write!(f, " (see --unchecked)")?;
+        }
         if self.compared {
             write!(f, ", {} mismatches", self.mismatches.len())?;
         }

@@ -1,5 +1,5 @@
 -- The lock file is refused, or the report is made of its parts.
-use Rattle.std.proofs.Common.{◌∙◌, inl, map, sym}
+use Rattle.std.proofs.Common.{◌∙◌, inl, map, refl, sym}
 use Rattle.serde_json.specs.View.{view}
 use Rattle.npm_advisories.specs.Audit.{found_value}
 use Rattle.npm_lock_check.specs.Linked.{linked_value}
@@ -51,6 +51,7 @@ returns-in-Ok-lines_of-clause-found c =
         audited = c.is_some.ensures ∙ some_same (λ file. view file.now) c.args.wanted.advisories;
         hits = c.len.ensures ∙ sym (rw c.deref.ensures.value at c.deref.ensures.len) ∙ length_same found_value
             c.in-Ok.found.items;
+        listed = refl;
       },
       rw c.deref.ensures.value at c.in-Ok-lines_of.ensures,
     )

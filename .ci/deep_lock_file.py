@@ -1,7 +1,8 @@
 """deep_lock_file.py SHAPE N: writes a lock file whose folders are deep, or that has many of something.
 
     path      a package in a folder `f/f/f/..` of N parts asks for N names: half are found in the root, the others nowhere
-    modules   the same in a folder `node_modules/a/node_modules/a/..`, with no package in the folders between
+    modules   the same in a folder `node_modules/a/node_modules/a/..`, with no package in the folders between, and with names
+              that differ in their scopes alone
     nested    N packages, each in the `node_modules` of the one before, ask for a name in the root and for one that is nowhere
     wide      one package asks for N names, which are installed
     links     one package asks for N names, which are links
@@ -12,7 +13,7 @@ import sys
 
 shape, count = sys.argv[1], int(sys.argv[2])
 packages = {"": {"name": "deep", "version": "1.0.0"}}
-names = [f"name-{i}" for i in range(count)]
+names = [f"@scope-{i}/name" if shape == "modules" else f"name-{i}" for i in range(count)]
 if shape in ("path", "modules"):
     wanted, optional = ({name: "^1.0.0" for name in names[first::2]} for first in (0, 1))
     folder = "/".join(["f"] * count if shape == "path" else ["node_modules/a"] * count)

@@ -4,6 +4,8 @@
 #[cfg(test)]
 mod check;
 #[cfg(test)]
+mod checks;
+#[cfg(test)]
 mod manifest;
 #[cfg(test)]
 mod overrides;

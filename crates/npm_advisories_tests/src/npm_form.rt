@@ -4,6 +4,7 @@ use crate::checks::{finds, is_text};
 use npm_advisories::{Found, Installed, LockError, Severity, audit_lock};
 use serde_json::Value;
 use std::alloc::{AllocError, Global};
+use std::fmt::Display;
 
 /// Advisories on two packages, as npm's registry returns them.
 pub(crate) const FILE: &str = r#"{
@@ -193,16 +194,27 @@ fn offers_text(alloc: Global, answer: Result<Vec<Found<'_, '_>>, LockError<'_>>)
 fn offers(alloc: Global, all: &[Found<'_, '_>]) -> Result<String, AllocError> {
     let mut text = String::new(alloc);
     for found in all {
-        text.push_str(offer(alloc, found)?.as_str())?;
+        push_offer(alloc, &mut text, found)?;
     }
     Ok(text)
 }
 
-fn offer(alloc: Global, found: &Found<'_, '_>) -> Result<String, AllocError> {
-    match (&found.least, &found.admitted) {
-        (Some(least), Some(admitted)) => {
-            format!(in alloc; "{} {} {least} {admitted};", found.folder, found.name)
-        }
-        _ => String::from_str(alloc, "none"),
+fn push_offer(alloc: Global, text: &mut String, found: &Found<'_, '_>) -> Result<(), AllocError> {
+    text.push_str(found.folder)?;
+    text.push_str(" ")?;
+    text.push_str(found.name)?;
+    push_version(alloc, text, found.least.as_ref())?;
+    push_version(alloc, text, found.admitted.as_ref())?;
+    text.push_str(";")
+}
+
+fn push_version(
+    alloc: Global,
+    text: &mut String,
+    version: Option<&impl Display>,
+) -> Result<(), AllocError> {
+    match version {
+        Some(version) => text.push_str(format!(in alloc; " {version}")?.as_str()),
+        None => text.push_str(" none"),
     }
 }
